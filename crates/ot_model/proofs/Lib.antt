@@ -1,0 +1,3 @@
+pub mod CellsLemmas
+pub mod NamesLemmas
+pub mod CountsLemmas

@@ -1,0 +1,12 @@
+pub mod Tree
+pub mod View
+pub mod Cells
+pub mod Value
+pub mod Uses
+pub mod Shapes
+pub mod ShapeView
+pub mod Counts
+pub mod Serial
+pub mod Names
+pub mod Runs
+pub mod Programs

@@ -1,0 +1,17 @@
+//! Task programs as trees, their cells, and the plain evaluator: each task is executed where it is
+//! created.
+#![tactic(auto)]
+
+pub mod cells;
+pub mod expr;
+pub mod plain;
+pub mod program;
+pub mod shape;
+pub mod stmt;
+
+pub use cells::Cells;
+pub use expr::{Cell, Expr, Look, Op, Section, value};
+pub use plain::{Counts, plain_run};
+pub use program::Program;
+pub use shape::{ArrayShape, Shape};
+pub use stmt::{Decl, Mode, Stmt, Use};

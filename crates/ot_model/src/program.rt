@@ -1,0 +1,19 @@
+ghost use Rattle.std.specs.Prelude.{◌≡◌, ◌≤◌};
+ghost use Rattle.ot_model.specs.View.{stmts_of};
+ghost use Rattle.ot_model.specs.Counts.{size, tasks_in};
+
+use crate::expr::Section;
+use crate::stmt::Stmt;
+
+/// An expanded program: what is shown after it, and its body. It has at most 20,000 statements, and
+/// its two counts are those of its body.
+#[derive(Debug, Drop)]
+pub struct Program {
+    pub shows: Vec<Section>,
+    pub body: Vec<Stmt>,
+    pub statements: u32,
+    pub tasks: u32,
+    ghost statements_are: { statements ≡ size (stmts_of body.items) },
+    ghost tasks_are: { tasks ≡ tasks_in (stmts_of body.items) },
+    ghost few: { statements ≤ 20000 },
+}
