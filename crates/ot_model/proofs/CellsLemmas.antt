@@ -1,6 +1,8 @@
 -- Cells: what a write does, and what it keeps.
-use Rattle.std.proofs.Common.{◌≡◌, ℕ, zero, suc, List, [], ◌∷◌, length, map, get_or, set, refl, sym, ap, ◌∙◌}
-use Rattle.std.specs.Prelude.{Option, Some, None, option_and_then, slice_get}
+use Rattle.std.proofs.Common.{◌≡◌, ◌≢◌, ℕ, zero, suc, List, [], ◌∷◌, length, map, get_or, set, refl, sym, ap, ◌∙◌, ◌⊎◌, inl, inr}
+use Rattle.std.proofs.lemmas.Bool.{cases_eq}
+use Rattle.std.proofs.lemmas.Option.{none-some, same_Some}
+use Rattle.std.specs.Prelude.{Option, Some, None, IsSome, option_and_then, option_map, slice_get}
 use Rattle.ot_model.specs.Cells.{cell_of, with_cell, updated, lengths}
 use Rattle.ot_model.specs.declared.expr.Cell.{Cell}
 
@@ -56,3 +58,134 @@ pub with_cell-read : (cells : List (List ℕ)) (c : Cell) (m n : ℕ) (f : ℕ �
 with_cell-read cells c m n f there is =
     updated-rows cells c.array (λ row. updated row c.index (λ _. n)) (λ row. updated row c.index f)
     (with_row-read (slice_get cells c.array) c.index m (λ _. n) f there is)
+
+-- two cells of one array and one index are one cell
+pub same_cell : (c d : Cell) → c.array ≡ d.array → c.index ≡ d.index → c ≡ d
+same_cell c d array index =
+    let at : ℕ → ℕ → Cell = λ a i. record { array = a; index = i } in
+    ap (λ a. at a c.index) array ∙ ap (at d.array) index
+
+-- two cells are apart by their arrays, or by their indices in one array
+pub cells_apart : (c d : Cell) → c ≢ d → (c.array ≢ d.array) ⊎ ((c.array ≡ d.array) × (c.index ≢ d.index))
+cells_apart c d apart =
+    elim (cases_eq c.array d.array) [
+      | inl array ↦ inr (array, λ index. apart (same_cell c d array index))
+      | inr other ↦ inl other
+    ]
+
+pub slice_get-updated : {A : Type 0} (xs : List A) (i : ℕ) (f : A → A) → slice_get (updated xs i f) i ≡ option_map f (slice_get xs i)
+slice_get-updated [] i f = refl
+slice_get-updated (x ∷ xs) zero f = refl
+slice_get-updated (x ∷ xs) (suc i) f = slice_get-updated xs i f
+
+pub slice_get-updated-other : {A : Type 0} (xs : List A) (i j : ℕ) (f : A → A) → i ≢ j → slice_get (updated xs i f) j ≡ slice_get xs j
+slice_get-updated-other [] i j f apart = refl
+slice_get-updated-other (x ∷ xs) zero zero f apart = absurd (apart refl)
+slice_get-updated-other (x ∷ xs) zero (suc j) f apart = refl
+slice_get-updated-other (x ∷ xs) (suc i) zero f apart = refl
+slice_get-updated-other (x ∷ xs) (suc i) (suc j) f apart = slice_get-updated-other xs i j f (λ e. apart (ap suc e))
+
+row-updated : (o : Option (List ℕ)) (i : ℕ) (f : ℕ → ℕ) →
+    option_and_then (λ row. slice_get row i) (option_map (λ row. updated row i f) o) ≡ option_map f (option_and_then (λ row. slice_get row i) o)
+row-updated None i f = refl
+row-updated (Some row) i f = slice_get-updated row i f
+
+row-updated-other : (o : Option (List ℕ)) (i j : ℕ) (f : ℕ → ℕ) → i ≢ j →
+    option_and_then (λ row. slice_get row j) (option_map (λ row. updated row i f) o) ≡ option_and_then (λ row. slice_get row j) o
+row-updated-other None i j f apart = refl
+row-updated-other (Some row) i j f apart = slice_get-updated-other row i j f apart
+
+option_map-const : (o : Option ℕ) (n : ℕ) → IsSome o → option_map (λ _. n) o ≡ Some n
+option_map-const None n there = cc
+option_map-const (Some m) n there = refl
+
+-- the changed cell has f of what it had
+pub cell_of-with_cell : (cells : List (List ℕ)) (c : Cell) (f : ℕ → ℕ) → cell_of (with_cell cells c f) c ≡ option_map f (cell_of cells c)
+cell_of-with_cell cells c f =
+    ap (option_and_then (λ row. slice_get row c.index)) (slice_get-updated cells c.array (λ row. updated row c.index f))
+    ∙ row-updated (slice_get cells c.array) c.index f
+
+-- the changed cell, where it is there
+pub cell_of-with_cell-some : (cells : List (List ℕ)) (c : Cell) (f : ℕ → ℕ) (n : ℕ) → cell_of cells c ≡ Some n → cell_of (with_cell cells c f) c ≡ Some (f n)
+cell_of-with_cell-some cells c f n there = cell_of-with_cell cells c f ∙ ap (option_map f) there
+
+-- a cell that is there, once a number was written to it
+pub cell_of-with_cell-written : (cells : List (List ℕ)) (c : Cell) (n : ℕ) → IsSome (cell_of cells c) → cell_of (with_cell cells c (λ _. n)) c ≡ Some n
+cell_of-with_cell-written cells c n there = cell_of-with_cell cells c (λ _. n) ∙ option_map-const (cell_of cells c) n there
+
+-- another cell has what it had
+pub cell_of-with_cell-other : (cells : List (List ℕ)) (c d : Cell) (f : ℕ → ℕ) → c ≢ d → cell_of (with_cell cells c f) d ≡ cell_of cells d
+cell_of-with_cell-other cells c d f apart =
+    let change : List ℕ → List ℕ = λ row. updated row c.index f in
+    let found : Option (List ℕ) → Option ℕ = option_and_then (λ row. slice_get row d.index) in
+    elim (cells_apart c d apart) [
+      | inl other ↦ ap found (slice_get-updated-other cells c.array d.array change other)
+      | inr both ↦
+          ap (λ a. found (slice_get (updated cells c.array change) a)) (sym both.0)
+          ∙ ap found (slice_get-updated cells c.array change)
+          ∙ row-updated-other (slice_get cells c.array) c.index d.index f both.1
+          ∙ ap (λ a. found (slice_get cells a)) both.0
+    ]
+
+pub updated-updated : {A : Type 0} (xs : List A) (i : ℕ) (f g : A → A) → updated (updated xs i f) i g ≡ updated xs i (λ x. g (f x))
+updated-updated [] i f g = refl
+updated-updated (x ∷ xs) zero f g = refl
+updated-updated (x ∷ xs) (suc i) f g = ap (λ zs. x ∷ zs) (updated-updated xs i f g)
+
+pub updated-swap : {A : Type 0} (xs : List A) (i j : ℕ) (f g : A → A) → i ≢ j → updated (updated xs i f) j g ≡ updated (updated xs j g) i f
+updated-swap [] i j f g apart = refl
+updated-swap (x ∷ xs) zero zero f g apart = absurd (apart refl)
+updated-swap (x ∷ xs) zero (suc j) f g apart = refl
+updated-swap (x ∷ xs) (suc i) zero f g apart = refl
+updated-swap (x ∷ xs) (suc i) (suc j) f g apart = ap (λ zs. x ∷ zs) (updated-swap xs i j f g (λ e. apart (ap suc e)))
+
+-- equal functions change a list in the same way
+pub updated-same : {A : Type 0} (xs : List A) (i : ℕ) (f g : A → A) → ((x : A) → f x ≡ g x) → updated xs i f ≡ updated xs i g
+updated-same xs i f g same = updated-rows xs i f g (λ x here. same x)
+
+-- two changes of one cell are one
+pub with_cell-with_cell : (cells : List (List ℕ)) (c : Cell) (f g : ℕ → ℕ) → with_cell (with_cell cells c f) c g ≡ with_cell cells c (λ n. g (f n))
+with_cell-with_cell cells c f g =
+    updated-updated cells c.array (λ row. updated row c.index f) (λ row. updated row c.index g)
+    ∙ updated-same cells c.array _ _ (λ row. updated-updated row c.index f g)
+
+-- changes of two cells may be made in either order
+pub with_cell-swap : (cells : List (List ℕ)) (c d : Cell) (f g : ℕ → ℕ) → c ≢ d → with_cell (with_cell cells c f) d g ≡ with_cell (with_cell cells d g) c f
+with_cell-swap cells c d f g apart =
+    let one : List ℕ → List ℕ = λ row. updated row c.index f in
+    let two : List ℕ → List ℕ = λ row. updated row d.index g in
+    elim (cells_apart c d apart) [
+      | inl other ↦ updated-swap cells c.array d.array one two other
+      | inr both ↦
+          ap (λ a. updated (updated cells c.array one) a two) (sym both.0)
+          ∙ updated-updated cells c.array one two
+          ∙ updated-same cells c.array _ _ (λ row. updated-swap row c.index d.index f g both.1)
+          ∙ sym (updated-updated cells c.array two one)
+          ∙ ap (λ a. updated (updated cells a two) c.array one) both.0
+    ]
+
+-- and so may changes of one cell that commute
+pub with_cell-commute : (cells : List (List ℕ)) (c : Cell) (f g : ℕ → ℕ) → ((n : ℕ) → g (f n) ≡ f (g n)) → with_cell (with_cell cells c f) c g ≡ with_cell (with_cell cells c g) c f
+with_cell-commute cells c f g same =
+    with_cell-with_cell cells c f g
+    ∙ updated-same cells c.array _ _ (λ row. updated-same row c.index _ _ same)
+    ∙ sym (with_cell-with_cell cells c g f)
+
+-- lists with the same elements at all places are the same
+pub same_list : {A : Type 0} (xs ys : List A) → ((i : ℕ) → slice_get xs i ≡ slice_get ys i) → xs ≡ ys
+same_list [] [] same = refl
+same_list [] (y ∷ ys) same = absurd (none-some y (same 0))
+same_list (x ∷ xs) [] same = absurd (none-some x (sym (same 0)))
+same_list (x ∷ xs) (y ∷ ys) same =
+    ap (λ z. z ∷ xs) (same_Some x y (same 0)) ∙ ap (λ zs. y ∷ zs) (same_list xs ys (λ i. same (suc i)))
+
+-- cells of the same lengths with the same number in each cell are the same
+pub same_cells : (cells others : List (List ℕ)) → lengths cells ≡ lengths others → ((c : Cell) → cell_of cells c ≡ cell_of others c) → cells ≡ others
+same_cells [] [] long same = refl
+same_cells [] (other ∷ others) long same = cc
+same_cells (row ∷ cells) [] long same = cc
+same_cells (row ∷ cells) (other ∷ others) long same =
+    let at : ℕ → ℕ → Cell = λ a i. record { array = a; index = i } in
+    let rest : lengths cells ≡ lengths others = cc in
+    ap (λ r. r ∷ cells) (same_list row other (λ i. same (at 0 i)))
+    ∙ ap (λ rs. other ∷ rs) (same_cells cells others rest (λ c. same (at (suc c.array) c.index)))

@@ -1,12 +1,13 @@
 -- A cell that is named in the shape is there.
-use Rattle.std.proofs.Common.{◌≡◌, ℕ, ◌<◌, List, length, sym, ap, ◌∙◌, arith}
+use Rattle.std.proofs.Common.{◌≡◌, ℕ, ◌+◌, ◌^◌, ◌<◌, ◌≤◌, List, [], ◌∷◌, length, sym, ap, ◌∙◌, arith}
 use Rattle.std.specs.Prelude.{Option, Some, None, IsSome, is_some, option_map, option_and_then, slice_get}
 use Rattle.std.proofs.lemmas.Option.{slice_get-map, slice_get-get_or}
-use Rattle.ot_model.specs.Tree.{E, Literal, CellAt, Apply, PickFrom}
+use Rattle.ot_model.specs.Tree.{E, Literal, CellAt, Apply, PickFrom, Body, End, Next, append}
 use Rattle.ot_model.specs.Cells.{cell_of, lengths}
 use Rattle.ot_model.specs.Value.{HasAll, cell_at}
-use Rattle.ot_model.specs.Names.{IsInShape, ValueNamedIn}
+use Rattle.ot_model.specs.Names.{IsInShape, FitsShape, ValueNamedIn, NamedIn}
 use Rattle.ot_model.specs.declared.expr.Cell.{Cell}
+use Rattle.ot_model.specs.declared.expr.Section.{Section}
 
 found_row : (o : Option (List ℕ)) (len i : ℕ) → option_map length o ≡ Some len → i < len → IsSome (option_and_then (λ row. slice_get row i) o)
 found_row None len i there within = cc
@@ -31,3 +32,17 @@ all_from_names cells (PickFrom s e) h =
       (λ k below. found_from_in cells (cell_at s k) (record { len = f.len; array = f.array; within = omega (arith, f.within) })),
       all_from_names cells e h.1,
     )
+
+-- two bodies in the shape, one after the other, are in it
+pub NamedIn-append : (lens : List ℕ) (a b : Body) → NamedIn lens a → NamedIn lens b → NamedIn lens (append a b)
+NamedIn-append lens End b h k = k
+NamedIn-append lens (Next x rest) b h k = (h.0, NamedIn-append lens rest b h.1 k)
+
+-- a cell of a shape of one array
+pub in_one_array : (n : ℕ) (c : Cell) → c.array ≡ 0 → c.index < n → IsInShape (n ∷ []) c
+in_one_array n c array within = record { len = n; array = ap (slice_get (n ∷ [])) array; within = within }
+
+-- a section of a shape of one array
+pub fits_one_array : (n : ℕ) (s : Section) → s.array ≡ 0 → s.start + s.len ≤ n → n ≤ 2 ^ 32 → 0 < s.len → FitsShape (n ∷ []) s
+fits_one_array n s array within short some =
+    record { len = n; array = ap (slice_get (n ∷ [])) array; within = within; short = short; some = some }

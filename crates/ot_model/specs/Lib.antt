@@ -7,6 +7,8 @@ pub mod Shapes
 pub mod ShapeView
 pub mod Counts
 pub mod Serial
+pub mod Writes
+pub mod Laws
 pub mod Names
 pub mod Runs
 pub mod Programs

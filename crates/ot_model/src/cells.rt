@@ -1,4 +1,5 @@
 use crate::expr::{Cell, Look};
+use std::alloc::{AllocError, Global};
 use std::marker::Model;
 
 /// The numbers of all cells: a list for each array of the shape.
@@ -16,8 +17,9 @@ impl Model for Cells {
 }
 
 impl Cells {
-    ghost use Rattle.std.specs.Prelude.{◌≡◌, map, IsSome, slice_get, Some};
+    ghost use Rattle.std.specs.Prelude.{◌≡◌, ◌≢◌, map, IsSome, IfOk, Some};
     ghost use Rattle.ot_model.specs.Cells.{cell_of, with_cell, lengths};
+    ghost use Rattle.ot_model.specs.declared.expr.Cell.{Cell};
 
     /// The cells of these arrays. It takes no memory.
     pub fn new(arrays: Vec<Vec<u64>>) -> Cells
@@ -30,7 +32,8 @@ impl Cells {
     pub fn into_arrays(self) -> Vec<Vec<u64>>
         ensures { map (λ a. a.items) result.items ≡ self }
     {
-        self.arrays
+        let Cells { arrays } = self;
+        arrays
     }
 
     /// The arrays in order of the shape.
@@ -40,11 +43,24 @@ impl Cells {
         self.arrays.as_slice()
     }
 
+    /// The same cells once more.
+    pub fn copy(&self, alloc: Global) -> Result<Cells, AllocError>
+        ensures { IfOk result (λ copied. copied ≡ self.now) }
+    {
+        let mut arrays = Vec::with_capacity(alloc, self.arrays.len())?;
+        for array in &self.arrays {
+            arrays.push(array.as_slice().to_vec(alloc)?)?;
+        }
+        Ok(Cells { arrays })
+    }
+
     /// Writes `number` to a cell that is there.
     pub fn set(&mut self, cell: Cell, number: u64)
         requires { IsSome (cell_of self.old cell) }
         ensures written { self.new ≡ with_cell self.old cell (λ _. number) }
         ensures kept { lengths self.new ≡ lengths self.old }
+        ensures found { cell_of self.new cell ≡ Some number }
+        ensures others { (other : Cell) → cell ≢ other → cell_of self.new other ≡ cell_of self.old other }
     {
         let array = &mut self.arrays[cell.array as usize];
         array[cell.index as usize] = number;

@@ -1,6 +1,8 @@
-ghost use Rattle.std.specs.Prelude.{◌≡◌, ℕ, ◌<◌, Option, Some, IsSome};
+ghost use Rattle.std.specs.Prelude.{◌≡◌, ℕ, ◌<◌, Option, Some, IsSome, IfOk};
 ghost use Rattle.ot_model.specs.View.{expr_of};
 ghost use Rattle.ot_model.specs.Value.{val, HasAll};
+
+use std::alloc::{AllocError, Global};
 
 /// One cell: the position of its array in the shape, and its place in the array, from 0.
 #[derive(Clone, Copy, Debug, PartialEq, Eq)]
@@ -50,6 +52,26 @@ pub enum Expr {
     Op(Op, Box<Expr>, Box<Expr>),
     /// The cell of the section at the value modulo its length.
     Pick(Section, Box<Expr>),
+}
+
+impl Expr {
+    /// The same expression once more.
+    pub fn copy(&self, alloc: Global) -> Result<Expr, AllocError>
+        ensures { IfOk result (λ copied. expr_of copied ≡ expr_of self.now) }
+    {
+        match self {
+            Expr::Number(n) => Ok(Expr::Number(*n)),
+            Expr::Cell(cell) => Ok(Expr::Cell(*cell)),
+            Expr::Op(op, one, two) => {
+                let one = Box::new(alloc, one.copy(alloc)?)?;
+                let two = Box::new(alloc, two.copy(alloc)?)?;
+                Ok(Expr::Op(*op, one, two))
+            }
+            Expr::Pick(section, chosen) => {
+                Ok(Expr::Pick(*section, Box::new(alloc, chosen.copy(alloc)?)?))
+            }
+        }
+    }
 }
 
 /// What a value is read from.

@@ -4,6 +4,7 @@
 
 pub mod cells;
 pub mod expr;
+pub mod laws;
 pub mod plain;
 pub mod program;
 pub mod shape;
@@ -14,4 +15,7 @@ pub use expr::{Cell, Expr, Look, Op, Section, value};
 pub use plain::{Counts, plain_run};
 pub use program::Program;
 pub use shape::{ArrayShape, Shape};
-pub use stmt::{Decl, Mode, Stmt, Use};
+pub use stmt::{Decl, Mode, Stmt, Use, copy_stmts};
+
+#[cfg(test)]
+mod tests;

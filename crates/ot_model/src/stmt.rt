@@ -1,8 +1,12 @@
+ghost use Rattle.std.specs.Prelude.{◌≡◌, IfOk, map};
+ghost use Rattle.ot_model.specs.View.{stmt_of};
+
 use crate::expr::{Cell, Expr};
+use std::alloc::{AllocError, Global};
 use std::marker::Model;
 
 /// What a task does with a cell that it declares (`depend` and `in_reduction`, OpenMP API 5.2,
-/// sections 15.9.5 and 5.5.8).
+/// sections 15.9.5 and 5.5.10).
 #[derive(Clone, Copy, Debug, PartialEq, Eq)]
 pub enum Mode {
     /// `in` alone: it only reads the cell.
@@ -11,6 +15,57 @@ pub enum Mode {
     Writes,
     /// `red`: it only adds to the cell, in the reduction of an open group.
     Adds,
+}
+
+impl Mode {
+    ghost use Rattle.std.specs.Prelude.{ℕ};
+    ghost use Rattle.ot_model.specs.declared.stmt.Mode.TheVariants.{Adds};
+    ghost use Rattle.ot_model.specs.Uses.{conflicts, one_writes, first_of, joined};
+
+    /// Whether uses of one cell in these modes conflict: they do unless both read or both add.
+    pub fn conflicts(self, other: Mode) -> bool
+        ensures exact { result ≡ conflicts self other }
+        ensures either_way { result ≡ conflicts other self }
+    {
+        !matches!(
+            (self, other),
+            (Mode::Reads, Mode::Reads) | (Mode::Adds, Mode::Adds)
+        )
+    }
+
+    /// Whether at least one of two uses of a cell is a write. Then the later sibling depends on the
+    /// earlier one.
+    pub fn one_writes(self, other: Mode) -> bool
+        ensures exact { result ≡ one_writes self other }
+        ensures either_way { result ≡ one_writes other self }
+    {
+        matches!(self, Mode::Writes) || matches!(other, Mode::Writes)
+    }
+
+    /// What a copy that is lent in this mode starts at: the stored number, but the identity of the
+    /// sum under `Adds`.
+    pub fn first(self, stored: u64) -> u64
+        ensures { result ≡ first_of self stored }
+    {
+        match self {
+            Mode::Reads | Mode::Writes => stored,
+            Mode::Adds => 0,
+        }
+    }
+
+    /// The stored number once a copy has come back. Copies that add come back in any order.
+    pub fn joined(self, stored: u64, copy: u64) -> u64
+        ensures exact { result ≡ joined self stored copy }
+        ensures unchanged { copy ≡ first_of self stored → result ≡ stored }
+        ensures any_order { self ≡ Adds → (other : ℕ)
+            → joined self result other ≡ joined self (joined self stored other) copy }
+    {
+        match self {
+            Mode::Reads => stored,
+            Mode::Writes => copy,
+            Mode::Adds => stored.wrapping_add(copy),
+        }
+    }
 }
 
 /// A cell with what is done with it.
@@ -39,8 +94,8 @@ impl Model for Decl {
 }
 
 impl Decl {
-    ghost use Rattle.std.specs.Prelude.{◌≡◌};
-    ghost use Rattle.ot_model.specs.Uses.{AreInOrder};
+    ghost use Rattle.std.specs.Prelude.{IsTrue, ◌↔◌};
+    ghost use Rattle.ot_model.specs.Uses.{AreInOrder, DependsOn, Conflict};
 
     /// The declaration of these uses, which are to be in order, each cell once. It takes no memory.
     pub fn new(uses: Vec<Use>) -> Decl
@@ -56,6 +111,36 @@ impl Decl {
         ensures ordered { AreInOrder self.now }
     {
         self.uses.as_slice()
+    }
+
+    /// Whether a task with this declaration depends on an earlier sibling with that one: they share
+    /// a cell that at least one of the two writes.
+    pub fn depends_on(&self, earlier: &Decl) -> bool
+        ensures { IsTrue result ↔ DependsOn earlier.now self.now }
+    {
+        earlier.uses.iter().any(|one| {
+            self.uses.iter().any(|two| one.cell == two.cell && one.mode.one_writes(two.mode))
+        })
+    }
+
+    /// Whether the two conflict at a cell.
+    pub fn conflicts(&self, other: &Decl) -> bool
+        ensures { IsTrue result ↔ Conflict self.now other.now }
+    {
+        self.uses.iter().any(|one| {
+            other
+                .uses
+                .iter()
+                .any(|two| one.cell == two.cell && one.mode.conflicts(two.mode))
+        })
+    }
+
+    /// The same declaration once more.
+    pub fn copy(&self, alloc: Global) -> Result<Decl, AllocError>
+        ensures { IfOk result (λ copied. copied ≡ self.now) }
+    {
+        let uses = Vec::from_slice(alloc, &self.uses)?;
+        Ok(Decl { uses })
     }
 }
 
@@ -75,4 +160,44 @@ pub enum Stmt {
     /// A region whose end waits for all tasks created in it, with a reduction over these cells
     /// (`taskgroup` with `task_reduction`, OpenMP API 5.2, section 15.4).
     Group(Vec<Cell>, Vec<Stmt>),
+}
+
+impl Stmt {
+    /// The same statement once more.
+    #[cycle(copy)]
+    pub fn copy(&self, alloc: Global) -> Result<Stmt, AllocError>
+        ensures { IfOk result (λ copied. stmt_of copied ≡ stmt_of self.now) }
+    {
+        match self {
+            Stmt::Set(cell, expr) => Ok(Stmt::Set(*cell, expr.copy(alloc)?)),
+            Stmt::Add(cell, expr) => Ok(Stmt::Add(*cell, expr.copy(alloc)?)),
+            Stmt::If(expr, one, two) => {
+                let expr = expr.copy(alloc)?;
+                let one = copy_stmts(alloc, one)?;
+                let two = copy_stmts(alloc, two)?;
+                Ok(Stmt::If(expr, one, two))
+            }
+            Stmt::Task(decl, body) => {
+                let decl = decl.copy(alloc)?;
+                Ok(Stmt::Task(decl, copy_stmts(alloc, body)?))
+            }
+            Stmt::Wait => Ok(Stmt::Wait),
+            Stmt::Group(cells, body) => {
+                let cells = cells.as_slice().to_vec(alloc)?;
+                Ok(Stmt::Group(cells, copy_stmts(alloc, body)?))
+            }
+        }
+    }
+}
+
+/// The same statements once more.
+#[cycle(copy)]
+pub fn copy_stmts(alloc: Global, stmts: &[Stmt]) -> Result<Vec<Stmt>, AllocError>
+    ensures { IfOk result (λ copies. map stmt_of copies.items ≡ map stmt_of stmts.now) }
+{
+    let mut copies = Vec::with_capacity(alloc, stmts.len())?;
+    for stmt in stmts {
+        copies.push(stmt.copy(alloc)?)?;
+    }
+    Ok(copies)
 }

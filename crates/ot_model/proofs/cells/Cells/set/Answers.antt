@@ -1,8 +1,8 @@
 use Rattle.std.proofs.Common.{◌≡◌, map, get_or, sym, ap, ◌∙◌}
 use Rattle.std.proofs.lemmas.List.{map-set}
 use Rattle.std.proofs.Math.ListN.{get_or-map}
-use Rattle.ot_model.specs.Cells.{with_cell, lengths}
-use Rattle.ot_model.proofs.CellsLemmas.{set-with_cell, lengths-with_cell}
+use Rattle.ot_model.specs.Cells.{cell_of, with_cell, lengths}
+use Rattle.ot_model.proofs.CellsLemmas.{set-with_cell, lengths-with_cell, cell_of-with_cell-written, cell_of-with_cell-other}
 use Rattle.ot_model.proofs.cells.Cells.set.Goals as goal
 
 pub returns-clause-written : goal.returns-clause-written
@@ -17,3 +17,13 @@ returns-clause-written c =
 pub returns-clause-kept : goal.returns-clause-kept
 returns-clause-kept c =
     ap lengths (returns-clause-written c) ∙ lengths-with_cell c.args.self.now c.args.cell (λ _. c.args.number)
+
+pub returns-clause-found : goal.returns-clause-found
+returns-clause-found c =
+    ap (λ cells. cell_of cells c.args.cell) (returns-clause-written c)
+    ∙ cell_of-with_cell-written c.args.self.now c.args.cell c.args.number c.requires
+
+pub returns-clause-others : goal.returns-clause-others
+returns-clause-others c = λ other apart.
+    ap (λ cells. cell_of cells other) (returns-clause-written c)
+    ∙ cell_of-with_cell-other c.args.self.now c.args.cell other (λ _. c.args.number) apart
