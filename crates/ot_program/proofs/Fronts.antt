@@ -1,0 +1,81 @@
+-- A loop over statements has read a front of what there is to read.
+use Rattle.std.proofs.Common.{◌≡◌, ℕ, ◌+◌, ◌<◌, ◌≤◌, List, [], ◌++◌, length, get_or, drop, Ok, Err, refl, sym, ap, ◌∙◌, append_assoc, append-nil, add-one}
+use Rattle.std.proofs.Math.Seq.{drop-cons}
+use Rattle.std.proofs.lemmas.List.{drop_all}
+use Rattle.serde_json.specs.View.{view, items_view}
+use Rattle.serde_json.specs.declared.value.Value.{Value}
+use Rattle.ot_model.specs.Shapes.{Arrays}
+use Rattle.ot_model.specs.Tree.{S}
+use Rattle.ot_program.specs.declared.counts.Counts.{Counts}
+use Rattle.ot_program.specs.declared.fault.ProgramFault.{ProgramFault}
+use Rattle.ot_program.specs.declared.fault.ProgramFault.TheVariants.{Memory, Refused}
+use Rattle.ot_program.specs.Reading.{◌>>=◌, Fails}
+use Rattle.ot_program.specs.Statements.{Read, Reader, one_then, one_in, all_in, Added}
+
+abbrev pub behind : List S → Read → Read
+behind front rest = rest >>= λ q. Ok (front ++ q.0, q.1)
+
+pub record Front (old now : List S) (rest whole : Read) : Type 0 where
+  pub front : List S
+  pub list : now ≡ old ++ front
+  pub whole_is : whole ≡ behind front rest
+
+behind-nothing : (r : Read) → r ≡ behind [] r
+behind-nothing (Ok q) = refl
+behind-nothing (Err c) = refl
+
+pub front_none : (list : List S) (r : Read) → Front list list r r
+front_none list r = record { front = []; list = sym (append-nil list); whole_is = behind-nothing r }
+
+behind-behind : (front added : List S) (r : Read) → behind front (behind added r) ≡ behind (front ++ added) r
+behind-behind front added (Ok q) = ap (λ (xs : List S). Ok (xs, q.1)) (sym (append_assoc front added q.0))
+behind-behind front added (Err c) = refl
+
+-- one more was read
+pub front_more : (old now next : List S) (first rest : Reader) (n m : Counts) (whole : Read)
+    → Front old now (one_then first rest n) whole → Added now next m (first n) → Front old next (rest m) whole
+front_more old now next first rest n m whole h a = record {
+  front = h.front ++ a.added;
+  list = a.list ∙ ap (λ (xs : List S). xs ++ a.added) h.list ∙ append_assoc old h.front a.added;
+  whole_is = h.whole_is ∙ ap (λ (r : Read). behind h.front (r >>= λ p. behind p.0 (rest p.1))) a.is ∙ behind-behind h.front a.added (rest m);
+}
+
+-- a fault of the next one is that of the whole
+pub front_fails : (old now : List S) (first rest : Reader) (n : Counts) (whole : Read) (e : ProgramFault)
+    → Front old now (one_then first rest n) whole → Fails e (first n) → Fails e whole
+front_fails old now first rest n whole Memory h f = tt
+front_fails old now first rest n whole (Refused c) h f =
+    h.whole_is ∙ ap (λ (r : Read). behind h.front (r >>= λ p. behind p.0 (rest p.1))) f
+
+-- all were read
+pub front_all : (old now : List S) (n : Counts) (whole : Read) → Front old now (Ok ([], n)) whole → Added old now n whole
+front_all old now n whole h = record {
+  added = h.front;
+  is = h.whole_is ∙ ap (λ (xs : List S). Ok (xs, n)) (append-nil h.front);
+  list = h.list;
+}
+
+-- the same over a list of values from an index on
+all_in-drop : (shape : Arrays) (vs : List Value) (i : ℕ) (v : Value) (n : Counts) → i < length vs → v ≡ get_or vs i v
+    → all_in shape (items_view (drop i vs)) n ≡ one_then (one_in shape (view v)) (all_in shape (items_view (drop (i + 1) vs))) n
+unfolding all_in
+all_in-drop shape vs i v n within is = rw (drop-cons vs i v within, ← is, add-one) refl
+
+pub all_step : (old now next : List S) (shape : Arrays) (vs : List Value) (i : ℕ) (v : Value) (n m : Counts) (whole : Read)
+    → i < length vs → v ≡ get_or vs i v → Front old now (all_in shape (items_view (drop i vs)) n) whole
+    → Added now next m (one_in shape (view v) n) → Front old next (all_in shape (items_view (drop (i + 1) vs)) m) whole
+all_step old now next shape vs i v n m whole within is h a =
+    front_more old now next (one_in shape (view v)) (all_in shape (items_view (drop (i + 1) vs))) n m whole
+    (rw (all_in-drop shape vs i v n within is) at h) a
+
+pub all_fails : (old now : List S) (shape : Arrays) (vs : List Value) (i : ℕ) (v : Value) (n : Counts) (whole : Read) (e : ProgramFault)
+    → i < length vs → v ≡ get_or vs i v → Front old now (all_in shape (items_view (drop i vs)) n) whole
+    → Fails e (one_in shape (view v) n) → Fails e whole
+all_fails old now shape vs i v n whole e within is h f =
+    front_fails old now (one_in shape (view v)) (all_in shape (items_view (drop (i + 1) vs))) n whole e
+    (rw (all_in-drop shape vs i v n within is) at h) f
+
+pub all_ends : (old now : List S) (shape : Arrays) (vs : List Value) (i : ℕ) (n : Counts) (whole : Read)
+    → length vs ≤ i → Front old now (all_in shape (items_view (drop i vs)) n) whole → Added old now n whole
+unfolding all_in
+all_ends old now shape vs i n whole past h = front_all old now n whole (rw (drop_all i vs past) at h)

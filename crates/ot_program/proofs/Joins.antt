@@ -1,0 +1,27 @@
+-- What is returned for two parts is what is told of two parts.
+use Rattle.std.proofs.Common.{◌≡◌, Result, Ok, Err, refl}
+use Rattle.ot_program.specs.declared.fault.Refusal.{Refusal}
+use Rattle.ot_program.specs.declared.fault.ProgramFault.{ProgramFault}
+use Rattle.ot_program.specs.declared.fault.ProgramFault.TheVariants.{Memory, Refused}
+use Rattle.ot_program.specs.Reading.{◌>>=◌, both_of, Fails, Gives, join}
+
+pub join_gives : {X Y A B : Type 0} (f : X → A) (g : Y → B) (x : Result X ProgramFault) (y : Result Y ProgramFault)
+    (r : Result A Refusal) (s : Result B Refusal) → Gives f x r → Gives g y s → Gives (λ (p : X × Y). (f p.0, g p.1)) (join x y) (both_of r s)
+join_gives f g (Ok x) (Ok y) r s p q = rw (p, q) refl
+join_gives f g (Ok x) (Err Memory) r s p q = tt
+join_gives f g (Ok x) (Err (Refused c)) r s p q = rw (p, q) refl
+join_gives f g (Err Memory) (Ok y) r s p q = tt
+join_gives f g (Err (Refused c)) (Ok y) r s p q = rw (p, q) refl
+join_gives f g (Err Memory) (Err e) r s p q = tt
+join_gives f g (Err (Refused c)) (Err Memory) r s p q = tt
+join_gives f g (Err (Refused c)) (Err (Refused d)) r s p q = rw (p, q) refl
+
+-- a reading that fails goes on to nothing
+pub Fails-then : {A B : Type 0} (e : ProgramFault) (r : Result A Refusal) (k : A → Result B Refusal) → Fails e r → Fails e (r >>= k)
+Fails-then Memory r k h = tt
+Fails-then (Refused c) r k h = rw h refl
+
+pub join_fails : {X Y A B C : Type 0} (f : X → A) (g : Y → B) (x : Result X ProgramFault) (y : Result Y ProgramFault)
+    (r : Result A Refusal) (s : Result B Refusal) (k : A × B → Result C Refusal) (e : ProgramFault)
+    → join x y ≡ Err e → Gives f x r → Gives g y s → Fails e (both_of r s >>= k)
+join_fails f g x y r s k e is p q = Fails-then e (both_of r s) k (rw is at (join_gives f g x y r s p q))

@@ -1,0 +1,11 @@
+pub mod Forms
+pub mod ValueForms
+pub mod Joins
+pub mod StatementForms
+pub mod Fronts
+pub mod Lists
+pub mod Readings
+pub mod Counted
+pub mod Named
+pub mod Told
+pub mod StatementsTold

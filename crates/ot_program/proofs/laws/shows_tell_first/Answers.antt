@@ -1,0 +1,5 @@
+use Rattle.ot_program.proofs.StatementsTold.{shows_tell_first}
+use Rattle.ot_program.proofs.laws.shows_tell_first.Goals as goal
+
+pub returns : goal.returns
+returns c = shows_tell_first

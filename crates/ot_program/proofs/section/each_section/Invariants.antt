@@ -1,0 +1,12 @@
+use Rattle.std.proofs.Common.{◌≡◌, drop}
+use Rattle.serde_json.specs.View.{items_view}
+use Rattle.ot_program.specs.Reading.{each_of}
+use Rattle.ot_program.specs.Parts.{section_of}
+use Rattle.ot_program.proofs.Lists.{so_far, then_more}
+use Rattle.ot_program.proofs.section.each_section.Given as goal
+
+-- what was read, with what is left, is all
+abbrev pub invariant-loop-item : goal.invariant-loop-item
+invariant-loop-item l =
+    then_more (so_far l.fault l.sections.items) (each_of (section_of l.shape) (items_view (drop l.item-index l.items)))
+    ≡ each_of (section_of l.shape) (items_view l.items)

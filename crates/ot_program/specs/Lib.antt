@@ -1,0 +1,12 @@
+pub mod Refusals
+pub mod Limits
+pub mod Names
+pub mod Numbers
+pub mod Reading
+pub mod Parts
+pub mod Values
+pub mod Counting
+pub mod Statements
+pub mod Programs
+pub mod Faults
+pub mod Laws

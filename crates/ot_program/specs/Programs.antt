@@ -1,0 +1,42 @@
+-- Programs.
+use Rattle.std.specs.Prelude.{if◌then◌else◌, List, Result, Ok, Err, codes}
+use Rattle.serde_json.specs.Data.{Data, array, Items, no_items, item}
+use Rattle.ot_model.specs.Shapes.{Arrays}
+use Rattle.ot_model.specs.Tree.{S, body_of}
+use Rattle.ot_model.specs.Programs.{Expanded}
+use Rattle.ot_model.specs.declared.expr.Section.{Section}
+use Rattle.ot_program.specs.declared.counts.Counts.{Counts}
+use Rattle.ot_program.specs.declared.fault.Refusal.{Refusal}
+use Rattle.ot_program.specs.declared.fault.Refusal.TheVariants.{Form}
+use Rattle.ot_program.specs.Names.{is_word}
+use Rattle.ot_program.specs.Reading.{◌>>=◌, both_of}
+use Rattle.ot_program.specs.Counting.{no_counts, counted, within_limits, cells_in}
+use Rattle.ot_program.specs.Parts.{sections_of}
+use Rattle.ot_program.specs.Statements.{body_in, list_of}
+
+-- The program's own form with its shows is one statement before all others, and then come those of
+-- its body.
+abbrev pub shows_of : Arrays → Data → Data → Result (List Section × Counts) Refusal
+shows_of shape shows body = do
+  p ← both_of (sections_of shape shows) (list_of body)
+  n ← within_limits (counted no_counts 0 0 (cells_in p.0))
+  Ok (p.0, n)
+
+abbrev pub expanded : List Section → List S × Counts → Expanded
+expanded shows read = record { shows = shows; body = body_of read.0; statements = read.1.statements; tasks = read.1.tasks }
+
+abbrev pub program_at : Arrays → Data → Data → Result Expanded Refusal
+program_at shape shows body = do
+  p ← shows_of shape shows body
+  read ← body_in shape body p.1
+  Ok (expanded p.0 read)
+
+-- `["program", [section, ..], body]`
+abbrev pub program_form : Arrays → Items → Result Expanded Refusal
+program_form shape (item t (item a (item b no_items))) = if is_word t (codes "program") then program_at shape a b else Err Form
+program_form shape _ = Err Form
+
+-- what a text is as a program over a shape: its expansion, or why it is refused
+abbrev pub program_of : Arrays → Data → Result Expanded Refusal
+program_of shape (array ds) = program_form shape ds
+program_of shape _ = Err Form

@@ -1,0 +1,67 @@
+use crate::fault::Refusal;
+use ot_model::Section;
+
+const MAX_STATEMENTS: u64 = 20_000;
+
+const MAX_NODES: u64 = 200_000;
+
+const MAX_CELLS: u64 = 1_048_576;
+
+/// What was counted of a program so far: its statements, its task statements, the nodes of its
+/// values, and the cells of its sections.
+#[derive(Clone, Copy, Debug, PartialEq, Eq)]
+pub(crate) struct Counts {
+    pub(crate) statements: u32,
+    pub(crate) tasks: u32,
+    pub(crate) nodes: u32,
+    pub(crate) cells: u32,
+}
+
+impl Counts {
+    ghost use Rattle.std.specs.Prelude.{◌≡◌};
+    ghost use Rattle.ot_program.specs.Counting.{no_counts, counted, within_limits};
+
+    pub(crate) fn none() -> Counts
+        ensures { result ≡ no_counts }
+    {
+        Counts {
+            statements: 0,
+            tasks: 0,
+            nodes: 0,
+            cells: 0,
+        }
+    }
+
+    /// The counts with so many statements, nodes and cells more, where none passes its limit.
+    pub(crate) fn plus(self, statements: u32, nodes: u32, cells: u32) -> Result<Counts, Refusal>
+        ensures { result ≡ within_limits (counted self statements nodes cells) }
+    {
+        let statements = u64::from(self.statements) + u64::from(statements);
+        let nodes = u64::from(self.nodes) + u64::from(nodes);
+        let cells = u64::from(self.cells) + u64::from(cells);
+        if statements <= MAX_STATEMENTS && nodes <= MAX_NODES && cells <= MAX_CELLS {
+            Ok(Counts {
+                statements: statements as u32,
+                tasks: self.tasks,
+                nodes: nodes as u32,
+                cells: cells as u32,
+            })
+        } else {
+            Err(Refusal::TooLarge)
+        }
+    }
+}
+
+ghost use Rattle.std.specs.Prelude.{◌≡◌, ◌-◌, ◌^◌, min};
+ghost use Rattle.ot_program.specs.Counting.{cells_in};
+
+/// How many cells sections have, or the greatest number of 32 bits where they have more.
+pub(crate) fn cells(sections: &[Section]) -> u32
+    ensures { result ≡ min (cells_in sections.now) (2 ^ 32 - 1) }
+{
+    let mut total: u32 = 0;
+    for section in sections {
+        total = total.saturating_add(section.len);
+    }
+    total
+}

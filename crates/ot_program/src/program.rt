@@ -1,0 +1,66 @@
+ghost use Rattle.std.specs.Prelude.{IfOk};
+ghost use Rattle.serde_json.specs.View.{view, items_view};
+ghost use Rattle.ot_model.specs.Shapes.{array_lengths};
+ghost use Rattle.ot_model.specs.Programs.{expanded_of, IsNamedIn};
+ghost use Rattle.ot_program.specs.Reading.{Gives};
+ghost use Rattle.ot_program.specs.Programs.{program_of, program_form, program_at};
+
+use crate::both::join;
+use crate::counts::{Counts, cells};
+use crate::fault::{ProgramFault, Refusal};
+use crate::name::is_word;
+use crate::section::read_sections;
+use crate::statement::{read_body, read_list};
+use ot_model::{Program, Shape};
+use serde_json::Value;
+use std::alloc::Global;
+
+/// Reads a program over the arrays of `shape`: its expansion, or the first fault of its first
+/// statement that has one.
+pub fn read_program(alloc: Global, text: &Value, shape: &Shape) -> Result<Program, ProgramFault>
+    ensures read { Gives expanded_of result (program_of shape.now (view text.now)) }
+    // Each cell that the program names is in the shape.
+    ensures named { IfOk result (λ program. IsNamedIn (array_lengths shape.now) (expanded_of program)) }
+{
+    // The shape's lengths fit 32 bits.
+    let _arrays = shape.arrays();
+    match text {
+        Value::Array(items) => program_form(alloc, shape, items),
+        _ => Err(ProgramFault::Refused(Refusal::Form)),
+    }
+}
+
+#[tactic(auto, using(crate::proofs::Forms::program_form_but_three))]
+fn program_form(alloc: Global, shape: &Shape, items: &[Value]) -> Result<Program, ProgramFault>
+    ensures { Gives expanded_of result (program_form shape.now (items_view items.now)) }
+{
+    if items.len() != 3 {
+        return Err(ProgramFault::Refused(Refusal::Form));
+    }
+    match items {
+        [tag, shows, body] if is_word(tag, "program") => program_at(alloc, shape, shows, body),
+        [_, _, _] => Err(ProgramFault::Refused(Refusal::Form)),
+        _ => unreachable!(),
+    }
+}
+
+fn program_at(
+    alloc: Global,
+    shape: &Shape,
+    shows: &Value,
+    body: &Value,
+) -> Result<Program, ProgramFault>
+    ensures { Gives expanded_of result (program_at shape.now (view shows.now) (view body.now)) }
+{
+    let list = read_list(body).map_err(ProgramFault::Refused);
+    let (shows, _) = join(read_sections(alloc, shape, shows), list)?;
+    let mut counts = Counts::none().plus(0, 0, cells(&shows))?;
+    let mut statements = Vec::new(alloc);
+    read_body(alloc, shape, body, &mut counts, &mut statements)?;
+    Ok(Program {
+        shows,
+        body: statements,
+        statements: counts.statements,
+        tasks: counts.tasks,
+    })
+}

@@ -1,0 +1,138 @@
+ghost use Rattle.std.specs.Prelude.{◌≡◌, min, ◌-◌, ◌^◌, Result};
+ghost use Rattle.serde_json.specs.View.{view, items_view};
+ghost use Rattle.ot_model.specs.Tree.{E};
+ghost use Rattle.ot_model.specs.View.{expr_of};
+ghost use Rattle.ot_program.specs.declared.fault.Refusal.{Refusal};
+ghost use Rattle.ot_program.specs.Reading.{Gives};
+ghost use Rattle.ot_program.specs.Values.{op_named, op_of, operation, value_of, value_form, expression_of, depth_of, nodes_of};
+
+use crate::both::join;
+use crate::fault::{ProgramFault, Refusal};
+use crate::name::is_word;
+use crate::number::whole_number;
+use crate::part::cell_at;
+use ot_model::{Expr, Op, Shape};
+use serde_json::Value;
+use std::alloc::Global;
+
+const MAX_DEPTH: u32 = 24;
+
+/// A value as a part of a statement.
+pub(crate) fn read_expression(
+    alloc: Global,
+    shape: &Shape,
+    value: &Value,
+) -> Result<Expr, ProgramFault>
+    ensures { Gives expr_of result (expression_of shape.now (view value.now)) }
+{
+    let expr = read_value(alloc, shape, value)?;
+    if depth(&expr) <= MAX_DEPTH {
+        Ok(expr)
+    } else {
+        Err(ProgramFault::Refused(Refusal::TooLarge))
+    }
+}
+
+#[cycle(value)]
+#[tactic(auto, unfolding(crate::specs::Values::value_of))]
+fn read_value(alloc: Global, shape: &Shape, value: &Value) -> Result<Expr, ProgramFault>
+    ensures { Gives expr_of result (value_of shape.now (view value.now)) }
+{
+    match value {
+        Value::Number(number) => match whole_number(number) {
+            Some(number) => Ok(Expr::Number(number)),
+            None => Err(ProgramFault::Refused(Refusal::Form)),
+        },
+        Value::Array(items) => value_form(alloc, shape, items),
+        _ => Err(ProgramFault::Refused(Refusal::Form)),
+    }
+}
+
+// `["c", name, size]`, `[op, value, value]`
+#[cycle(value)]
+#[tactic(auto, using(crate::proofs::ValueForms::value_form_but_three), unfolding(crate::specs::Values::value_of))]
+fn value_form(alloc: Global, shape: &Shape, items: &[Value]) -> Result<Expr, ProgramFault>
+    ensures { Gives expr_of result (value_form shape.now (items_view items.now)) }
+{
+    if items.len() != 3 {
+        return Err(ProgramFault::Refused(Refusal::Form));
+    }
+    match items {
+        [tag, one, two] => {
+            if is_word(tag, "c") {
+                return Ok(Expr::Cell(cell_at(shape, one, two)?));
+            }
+            let Some(op) = read_op(tag) else {
+                return Err(ProgramFault::Refused(Refusal::Form));
+            };
+            let one = read_value(alloc, shape, one);
+            let two = read_value(alloc, shape, two);
+            operation(alloc, op, one, two)
+        }
+        _ => unreachable!(),
+    }
+}
+
+// What the two sides of an operation may be is any reading that they give.
+fn operation(
+    alloc: Global,
+    op: Op,
+    one: Result<Expr, ProgramFault>,
+    two: Result<Expr, ProgramFault>,
+) -> Result<Expr, ProgramFault>
+    ensures { (r s : Result E Refusal) → Gives expr_of one r → Gives expr_of two s
+        → Gives expr_of result (operation (Some op) r s) }
+{
+    let (one, two) = join(one, two)?;
+    Ok(Expr::Op(op, Box::new(alloc, one)?, Box::new(alloc, two)?))
+}
+
+fn read_op(tag: &Value) -> Option<Op>
+    ensures { result ≡ op_of (view tag.now) }
+{
+    match tag {
+        Value::String(text) => op_named(text.as_str()),
+        _ => None,
+    }
+}
+
+fn op_named(text: &str) -> Option<Op>
+    ensures { result ≡ op_named text.now }
+{
+    match text {
+        "+" => Some(Op::Plus),
+        "-" => Some(Op::Minus),
+        "*" => Some(Op::Times),
+        "&" => Some(Op::And),
+        "|" => Some(Op::Or),
+        "^" => Some(Op::Xor),
+        "<" => Some(Op::Less),
+        "=" => Some(Op::Equal),
+        "min" => Some(Op::Min),
+        "max" => Some(Op::Max),
+        _ => None,
+    }
+}
+
+// The depth of an expression, or the greatest number of 32 bits where it has more.
+fn depth(expr: &Expr) -> u32
+    ensures { result ≡ min (depth_of (expr_of expr.now)) (2 ^ 32 - 1) }
+{
+    match expr {
+        Expr::Number(_) | Expr::Cell(_) => 1,
+        Expr::Op(_, one, two) => depth(one).max(depth(two)).saturating_add(1),
+        Expr::Pick(_, value) => depth(value).saturating_add(1),
+    }
+}
+
+/// How many numbers, cells and operations an expression has, or the greatest number of 32 bits
+/// where it has more.
+pub(crate) fn nodes(expr: &Expr) -> u32
+    ensures { result ≡ min (nodes_of (expr_of expr.now)) (2 ^ 32 - 1) }
+{
+    match expr {
+        Expr::Number(_) | Expr::Cell(_) => 1,
+        Expr::Op(_, one, two) => nodes(one).saturating_add(nodes(two)).saturating_add(1),
+        Expr::Pick(_, value) => nodes(value).saturating_add(1),
+    }
+}
