@@ -1,0 +1,15 @@
+pub mod Usual
+pub mod Arrays
+pub mod Stores
+pub mod Jobs
+pub mod Outcomes
+pub mod Replies
+pub mod Codes
+pub mod ReplyView
+pub mod Requests
+pub mod RequestView
+pub mod Answers
+pub mod Books
+pub mod Considering
+pub mod BookView
+pub mod Opening

@@ -1,0 +1,12 @@
+-- The request that a value of the code stands for.
+use Rattle.std.specs.Prelude.{ℕ, List}
+use Rattle.serde_json.specs.View.{view}
+use Rattle.ot_book.specs.Requests as r
+use Rattle.ot_book.specs.declared.request.Request.{Request}
+use Rattle.ot_book.specs.declared.request.Request.TheVariants as v
+
+abbrev pub asked_by : Request → r.Request
+asked_by (v.New name len) = r.New name.now len
+asked_by (v.Put name start values) = r.Put name.now start values.items
+asked_by (v.Get name start len) = r.Get name.now start len
+asked_by (v.Run text) = r.Run (view text.now)

@@ -1,0 +1,236 @@
+ghost use Rattle.std.specs.Prelude.{◌≡◌, ◌+◌, ◌≤◌, map, length, vec_len, slice_range, All};
+ghost use Rattle.ot_model.specs.Cells.{lengths};
+ghost use Rattle.ot_model.specs.Names.{FitsShape};
+ghost use Rattle.ot_book.specs.Answers.{shown};
+
+use crate::job::{JobSpec, Outcome};
+use crate::limits::Limits;
+use crate::reply::{Code, Reply};
+use crate::step::{Considered, consider};
+use crate::store::Store;
+use ot_model::{Cells, Section};
+use std::alloc::{AllocError, Global};
+use std::marker::Model;
+
+/// A line with its reply.
+#[derive(Debug, Drop)]
+pub struct Entry {
+    pub line: Vec<u8>,
+    pub reply: Reply,
+}
+
+/// A request whose program is to be run: its line, and the lists of its reply at their full length.
+#[derive(Debug, Drop)]
+pub struct Pending {
+    line: Vec<u8>,
+    shows: Vec<Vec<u64>>,
+}
+
+/// The requests of one tenant in order with their replies, and its arrays after them.
+#[derive(Debug, Drop)]
+pub struct Book {
+    name: String,
+    limits: Limits,
+    base: Store,
+    store: Store,
+    log: Vec<Entry>,
+    pending: Option<Pending>,
+    used: u64,
+}
+
+impl Model for Book {
+    ghost use Rattle.ot_book.specs.Books.{Register};
+
+    ghost Value = { Register };
+
+    ghost use Rattle.ot_book.specs.BookView.{register_of, IsBook};
+
+    ghost view = { register_of };
+
+    ghost invariant = { IsBook };
+}
+
+/// What became of a line.
+#[derive(Debug, Drop)]
+pub enum Opened {
+    /// The log is at its limit, or a request is open. Nothing has changed.
+    Full,
+    /// The reply is logged.
+    Answered,
+    /// The request is open until `close`, `close_refused` or `forget`.
+    ToRun(JobSpec),
+}
+
+impl Book {
+    ghost use Rattle.std.specs.Prelude.{◌≡◌, ◌↔◌, ℕ, List, Some, None, IfOk, OnErr, IsTrue, IsSome, true, false};
+    ghost use Rattle.ot_book.specs.Books.{IsRight, new_register, logged, with_pending, IsOpenFor};
+    ghost use Rattle.ot_book.specs.BookView.{entries_of};
+    ghost use Rattle.ot_book.specs.Opening.{Opens, IsFull};
+    ghost use Rattle.ot_book.specs.Outcomes.{IsMeaning};
+
+    /// A book that begins with these arrays.
+    pub fn new(alloc: Global, name: &str, limits: Limits, store: Store) -> Result<Book, AllocError>
+        ensures { IfOk result (λ book. book ≡ new_register name.now limits store) }
+    {
+        let name = String::from_str(alloc, name)?;
+        let base = store.copy(alloc)?;
+        Ok(Book {
+            name,
+            limits,
+            base,
+            store,
+            log: Vec::new(alloc),
+            pending: None,
+            used: 0,
+        })
+    }
+
+    /// The tenant's name.
+    pub fn name(&self) -> &str
+        ensures { result.now ≡ self.now.name }
+    {
+        self.name.as_str()
+    }
+
+    /// The tenant's limits.
+    pub fn limits(&self) -> Limits
+        ensures { result ≡ self.now.limits }
+    {
+        self.limits
+    }
+
+    /// The arrays that it began with.
+    pub fn base(&self) -> &Store
+        ensures { result.now ≡ self.now.base }
+    {
+        &self.base
+    }
+
+    /// The arrays as they are now.
+    pub fn store(&self) -> &Store
+        ensures { result.now ≡ self.now.store }
+    {
+        &self.store
+    }
+
+    /// The lines with their replies, in order. They are right: the replies, the arrays and the used
+    /// units are those that the lines give, one after another, from the arrays at the beginning.
+    pub fn log(&self) -> &[Entry]
+        ensures entries { entries_of result.now ≡ self.now.log }
+        ensures right { IsRight self.now }
+    {
+        self.log.as_slice()
+    }
+
+    /// The units of all done replies.
+    pub fn used(&self) -> u64
+        ensures { result ≡ self.now.used }
+    {
+        self.used
+    }
+
+    /// Whether a request is open.
+    pub fn is_open(&self) -> bool
+        ensures { IsTrue result ↔ IsSome self.now.pending }
+    {
+        self.pending.is_some()
+    }
+
+    /// Whether no request may be opened: the log is at its limit, or a request is open.
+    pub fn is_full(&self) -> bool
+        ensures { IsTrue result ↔ IsFull self.now }
+    {
+        self.log.len() >= self.limits.log as usize || self.pending.is_some()
+    }
+
+    /// Takes a line as the next request. Memory is told only before the reply's place is reserved,
+    /// and nothing has changed then. Afterwards want of memory is the reply 508.
+    pub fn open(&mut self, alloc: Global, line: &[u8]) -> Result<Opened, AllocError>
+        ensures opened { IfOk result (λ opened. Opens self.old line.now self.new opened) }
+        ensures memory { OnErr result (self.new ≡ self.old) }
+    {
+        if self.is_full() {
+            return Ok(Opened::Full);
+        }
+        self.log.reserve(1)?;
+        let kept = Vec::from_slice(alloc, line)?;
+        let number = self.log.len() as u32 + 1;
+        match consider(alloc, &self.limits, &mut self.store, number, line) {
+            Considered::Now(reply) => {
+                self.log.push_reserved(Entry { line: kept, reply });
+                Ok(Opened::Answered)
+            }
+            Considered::Runs(spec, shows) => {
+                self.pending = Some(Pending { line: kept, shows });
+                Ok(Opened::ToRun(spec))
+            }
+        }
+    }
+
+    /// Ends the open request with its outcome: the reply is logged, the arrays have the new cells,
+    /// and the units are counted. It takes no memory.
+    pub fn close(&mut self, spec: JobSpec, outcome: Outcome)
+        requires open { IsOpenFor self.old spec }
+        requires meaning { IsMeaning spec outcome }
+        ensures { (line : List ℕ) → self.old.pending ≡ Some line → self.new ≡ logged self.old line false }
+    {
+        let Some(pending) = self.pending.take() else {
+            unreachable!()
+        };
+        let Pending { line, mut shows } = pending;
+        show_all(&mut shows, &spec.program().shows, &outcome.cells);
+        let number = self.log.len() as u32 + 1;
+        let reply = Reply::Done(number, outcome.counts.tasks, outcome.counts.units, shows);
+        self.store.set_cells(outcome.cells);
+        self.used += u64::from(outcome.counts.units);
+        self.log.push_reserved(Entry { line, reply });
+    }
+
+    /// Ends the open request for want of memory: 508 is logged, and the arrays and units stay. It
+    /// takes no memory.
+    pub fn close_refused(&mut self, spec: JobSpec)
+        requires { IsOpenFor self.old spec }
+        ensures { (line : List ℕ) → self.old.pending ≡ Some line → self.new ≡ logged self.old line true }
+    {
+        let Some(pending) = self.pending.take() else {
+            unreachable!()
+        };
+        let Pending { line, shows: _ } = pending;
+        let number = self.log.len() as u32 + 1;
+        let reply = Reply::Refused(number, Code::NoMemory);
+        self.log.push_reserved(Entry { line, reply });
+    }
+
+    /// Gives the open request up: the book is as before it was opened. It takes no memory.
+    pub fn forget(&mut self, spec: JobSpec)
+        requires { IsOpenFor self.old spec }
+        ensures { self.new ≡ with_pending self.old None }
+    {
+        self.pending = None;
+    }
+}
+
+/// Writes to each list the numbers of the section at its place.
+fn show_all(lists: &mut Vec<Vec<u64>>, sections: &Vec<Section>, cells: &Cells)
+    requires long { map (λ l. length l.items) lists.old.items ≡ map (λ s. s.len) sections.now.items }
+    requires there { All (FitsShape (lengths cells.now)) sections.now.items }
+    ensures { map (λ l. l.items) lists.new.items ≡ shown sections.now.items cells.now }
+{
+    for i in 0..sections.len() {
+        let section = sections[i];
+        let array = &cells.arrays()[section.array as usize];
+        let list = &mut lists[i];
+        show(list, array, section.start as usize);
+    }
+}
+
+/// Writes to the list as many numbers of the array as it is long, from `start` on.
+fn show(list: &mut Vec<u64>, array: &Vec<u64>, start: usize)
+    requires { start + vec_len list.old ≤ vec_len array.now }
+    ensures shown { list.new.items ≡ slice_range array.now.items start (start + vec_len list.old) }
+    ensures len { vec_len list.new ≡ vec_len list.old }
+{
+    let end = start + list.len();
+    let part = array.as_slice();
+    list.as_mut_slice().copy_from_slice(&part[start..end]);
+}

@@ -1,0 +1,152 @@
+ghost use Rattle.std.specs.Prelude.{◌≡◌, ◌≤◌, ◌^◌, Some, None, IfOk, IfSome, OnOk, option_map, length};
+ghost use Rattle.serde_json.specs.View.{view, items_view};
+ghost use Rattle.ot_book.specs.Requests.{request_of, form_of, name_in, size_in, number_in, numbers_in, all_numbers, new_of, put_of, get_of, IsProper};
+ghost use Rattle.ot_book.specs.RequestView.{asked_by};
+
+use ot_program::{is_name, is_word};
+use serde_json::Value;
+use std::alloc::{AllocError, Global};
+
+/// What a line asks.
+#[derive(Debug, Drop)]
+pub(crate) enum Request<'a> {
+    /// Make an array of so many cells.
+    New(&'a str, u32),
+    /// Write numbers from a cell on.
+    Put(&'a str, u32, Vec<u64>),
+    /// Read so many cells from one on.
+    Get(&'a str, u32, u32),
+    /// Run a program.
+    Run(&'a Value),
+}
+
+/// What a value asks, where it asks anything.
+pub(crate) fn read_request(alloc: Global, value: &Value) -> Result<Option<Request<'_>>, AllocError>
+    ensures request { IfOk result (λ request. option_map asked_by request ≡ request_of (view value.now)) }
+    ensures proper { IfOk result (λ request. IfSome request (λ r. IsProper (asked_by r))) }
+{
+    match value {
+        Value::Array(items) => read_form(alloc, items),
+        _ => Ok(None),
+    }
+}
+
+#[tactic(auto, using(crate::proofs::RequestLemmas::no_form))]
+fn read_form(alloc: Global, items: &[Value]) -> Result<Option<Request<'_>>, AllocError>
+    ensures request { IfOk result (λ request. option_map asked_by request ≡ form_of (items_view items.now)) }
+    ensures proper { IfOk result (λ request. IfSome request (λ r. IsProper (asked_by r))) }
+{
+    if items.len() != 2 && items.len() != 3 && items.len() != 4 {
+        return Ok(None);
+    }
+    match items {
+        [tag, program] => Ok(if is_word(tag, "run") {
+            Some(Request::Run(program))
+        } else {
+            None
+        }),
+        [tag, name, len] => Ok(if is_word(tag, "new") {
+            new_request(name, len)
+        } else {
+            None
+        }),
+        [tag, name, start, last] => {
+            if is_word(tag, "put") {
+                put_request(alloc, name, start, last)
+            } else if is_word(tag, "get") {
+                Ok(get_request(name, start, last))
+            } else {
+                Ok(None)
+            }
+        }
+        _ => unreachable!(),
+    }
+}
+
+fn new_request<'a>(name: &'a Value, len: &Value) -> Option<Request<'a>>
+    ensures request { option_map asked_by result ≡ new_of (view name.now) (view len.now) }
+    ensures proper { IfSome result (λ r. IsProper (asked_by r)) }
+{
+    let name = read_name(name)?;
+    let len = read_size(len, 1)?;
+    Some(Request::New(name, len))
+}
+
+fn put_request<'a>(
+    alloc: Global,
+    name: &'a Value,
+    start: &Value,
+    values: &Value,
+) -> Result<Option<Request<'a>>, AllocError>
+    ensures request { IfOk result (λ request. option_map asked_by request ≡ put_of (view name.now) (view start.now) (view values.now)) }
+    ensures proper { IfOk result (λ request. IfSome request (λ r. IsProper (asked_by r))) }
+{
+    let (Some(name), Some(start)) = (read_name(name), read_size(start, 0)) else {
+        return Ok(None);
+    };
+    let Some(values) = read_numbers(alloc, values)? else {
+        return Ok(None);
+    };
+    Ok(Some(Request::Put(name, start, values)))
+}
+
+fn get_request<'a>(name: &'a Value, start: &Value, len: &Value) -> Option<Request<'a>>
+    ensures request { option_map asked_by result ≡ get_of (view name.now) (view start.now) (view len.now) }
+    ensures proper { IfSome result (λ r. IsProper (asked_by r)) }
+{
+    let name = read_name(name)?;
+    let start = read_size(start, 0)?;
+    let len = read_size(len, 1)?;
+    Some(Request::Get(name, start, len))
+}
+
+/// A name of an array.
+fn read_name(value: &Value) -> Option<&str>
+    ensures { option_map (λ name. name.now) result ≡ name_in (view value.now) }
+{
+    match value {
+        Value::String(text) if is_name(text.as_str()) => Some(text.as_str()),
+        _ => None,
+    }
+}
+
+/// A whole number from `low` to 2^32 - 1.
+fn read_size(value: &Value, low: u32) -> Option<u32>
+    ensures size { result ≡ size_in low (view value.now) }
+    ensures low { IfSome result (λ n. low ≤ n) }
+{
+    match value.as_u64() {
+        Some(number) if u64::from(low) <= number && number < 1 << 32 => Some(number as u32),
+        _ => None,
+    }
+}
+
+/// At least one number from 0 to 2^64 - 1.
+fn read_numbers(alloc: Global, value: &Value) -> Result<Option<Vec<u64>>, AllocError>
+    ensures { IfOk result (λ numbers. option_map (λ v. v.items) numbers ≡ numbers_in (view value.now)) }
+{
+    let Value::Array(items) = value else {
+        return Ok(None);
+    };
+    let Some(numbers) = read_each(alloc, items)? else {
+        return Ok(None);
+    };
+    if numbers.is_empty() {
+        Ok(None)
+    } else {
+        Ok(Some(numbers))
+    }
+}
+
+fn read_each(alloc: Global, items: &Vec<Value>) -> Result<Option<Vec<u64>>, AllocError>
+    ensures { IfOk result (λ numbers. option_map (λ v. v.items) numbers ≡ all_numbers (items_view items.now.items)) }
+{
+    let mut numbers = Vec::with_capacity(alloc, items.len())?;
+    for item in items {
+        let Some(number) = item.as_u64() else {
+            return Ok(None);
+        };
+        numbers.push(number)?;
+    }
+    Ok(Some(numbers))
+}
