@@ -1,6 +1,6 @@
 -- Named arrays: what a write to one of them does, and what it keeps.
-use Rattle.std.proofs.Common.{◌≡◌, ℕ, zero, suc, ◌+◌, ◌<◌, List, [], ◌∷◌, length, map, get_or, set, take, add-one, refl, sym, ap, ◌∙◌, arith, subst, sum_by, string_bytes, ◌≤◌, ◌^◌}
-use Rattle.std.specs.Prelude.{Option, Some, None, Ok, Err, slice_get, option_map, option_and_then, if◌then◌else◌}
+use Rattle.std.proofs.Common.{◌≡◌, ℕ, zero, suc, ◌+◌, ◌<◌, List, [], ◌∷◌, length, map, get_or, set, take, refl, sym, ap, ◌∙◌, arith, subst, string_bytes, ◌≤◌, ◌^◌}
+use Rattle.std.specs.Prelude.{Some, Ok, Err, slice_get, option_map, option_and_then, if◌then◌else◌}
 use Rattle.std.proofs.lemmas.List.Sums.{sum_by-cons, sum_by_more}
 use Rattle.std.proofs.lemmas.Option.{slice_get-map, slice_get-get_or}
 use Rattle.std.proofs.lemmas.List.{map-set, get_or_default}

@@ -1,7 +1,6 @@
 -- One line more keeps a book right.
-use Rattle.std.proofs.Common.{◌≡◌, ◌≢◌, ℕ, zero, suc, ◌+◌, ◌-◌, ◌*◌, ◌^◌, ◌≤◌, ◌<◌, List, [], ◌∷◌, ◌++◌, length, map, refl, sym, ap, ◌∙◌, subst, arith, rules, Bool, true, false, vec_len, length-append}
-use Rattle.std.specs.Prelude.{Option, Some, None, Result, Ok, Err, if◌then◌else◌, is_some, nat_le, nat_lt, ◌==◌}
-use Rattle.std.proofs.Math.ListN.{length-map}
+use Rattle.std.proofs.Common.{◌≡◌, ℕ, ◌+◌, List, [], ◌∷◌, ◌++◌, length, map, refl, sym, ap, ◌∙◌, rules, Bool, true, false, length-append}
+use Rattle.std.specs.Prelude.{Option, Some, None, Result, Ok, Err, if◌then◌else◌, nat_le, ◌==◌}
 use Rattle.std.proofs.lemmas.List.{map-append}
 use Rattle.serde_json.specs.Data.{Data}
 use Rattle.ot_model.specs.Programs.{Expanded}
@@ -9,11 +8,11 @@ use Rattle.ot_program.specs.Refusals.{code_of}
 use Rattle.ot_program.specs.Programs.{program_of}
 use Rattle.ot_program.specs.declared.fault.Refusal.{Refusal}
 use Rattle.ot_program.specs.declared.fault.Refusal.TheVariants as p
-use Rattle.ot_book.specs.Arrays.{Named, created, put, got, within, place_of, cells_called, cell_count, shape_in}
-use Rattle.ot_book.specs.Answers.{State, Step, Now, Runs, opening, changed, told, started, performed, asked, parsed, value_of, step_of, finished, answer, lost, answer_or_lost, replies, is_lost}
-use Rattle.ot_book.specs.Books.{Register, state_in, lines_in, IsRight, next_step, logged}
+use Rattle.ot_book.specs.Arrays.{Named, created, within, cells_called, shape_in}
+use Rattle.ot_book.specs.Answers.{State, Step, Now, Runs, opening, changed, told, started, performed, asked, parsed, value_of, step_of, finished, answer_or_lost, replies, is_lost}
+use Rattle.ot_book.specs.Books.{Register, state_in, lines_in, IsRight, logged}
 use Rattle.ot_book.specs.Requests.{Request, New, Put, Get, Run, request_of}
-use Rattle.ot_book.specs.Replies.{Said, Accepted, Cells, Done, Refused}
+use Rattle.ot_book.specs.Replies.{Said}
 use Rattle.ot_book.specs.declared.limits.Limits.{Limits}
 use Rattle.ot_book.specs.declared.store.StoreFault.{StoreFault}
 use Rattle.ot_book.specs.declared.store.StoreFault.TheVariants.{UnknownArray, NameTaken, OutOfRange, TooManyCells, TooManyArrays, Memory}

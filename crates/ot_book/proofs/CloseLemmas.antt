@@ -1,22 +1,21 @@
 -- What closing a request does to a book.
-use Rattle.std.proofs.Common.{◌≡◌, ℕ, ◌+◌, ◌<◌, List, [], ◌∷◌, ◌++◌, length, map, refl, sym, ap, ◌∙◌, subst, arith, true, false, vec_len}
+use Rattle.std.proofs.Common.{◌≡◌, ℕ, ◌+◌, List, [], ◌∷◌, ◌++◌, length, sym, ap, ◌∙◌, true, false}
 use Rattle.std.specs.Prelude.{Option, Some, None, option_map}
 use Rattle.ot_model.specs.Cells.{lengths}
-use Rattle.ot_model.specs.Programs.{Expanded, expanded_of}
+use Rattle.ot_model.specs.Programs.{expanded_of}
 use Rattle.ot_model.specs.Serial.{State as RunState, serial_run}
 use Rattle.ot_model.specs.Runs.{state_of}
 use Rattle.ot_book.specs.Arrays.{Named, cells_in, recelled}
 use Rattle.ot_book.specs.Replies.{Said, Done, Refused}
 use Rattle.ot_book.specs.ReplyView.{said_of}
-use Rattle.ot_book.specs.Answers.{Runs, shown, finished}
-use Rattle.ot_book.specs.Books.{Register, state_in, next_step, logged, Asks, IsOpenFor}
-use Rattle.ot_book.specs.BookView.{entries_of, register_of, HasRoom, IsBook}
+use Rattle.ot_book.specs.Answers.{shown, finished}
+use Rattle.ot_book.specs.Books.{Register, state_in, logged, Asks}
+use Rattle.ot_book.specs.BookView.{entries_of}
 use Rattle.ot_book.specs.Jobs.{Job}
 use Rattle.ot_book.specs.Outcomes.{IsMeaning}
 use Rattle.ot_book.specs.declared.job.Outcome.{Outcome}
 use Rattle.ot_book.specs.declared.book.Entry.{Entry}
 use Rattle.ot_book.specs.declared.book.Pending.{Pending}
-use Rattle.ot_book.specs.declared.book.Book.TheInside.{Inside}
 use Rattle.ot_book.proofs.SerialLengths.{lengths-serial}
 use Rattle.ot_book.proofs.OpenLemmas.{placed, entries_of-more}
 

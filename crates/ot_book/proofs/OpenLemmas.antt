@@ -1,14 +1,14 @@
 -- What opening and closing a request does to the fields of a book.
-use Rattle.std.proofs.Common.{◌≡◌, ℕ, ◌+◌, ◌-◌, ◌*◌, ◌^◌, ◌≤◌, ◌<◌, ◌⊎◌, ◌↔◌, inl, inr, List, [], ◌∷◌, ◌++◌, length, map, refl, sym, ap, ◌∙◌, subst, arith, Bool, true, false, vec_len, vec_capacity, length-append, Vec}
+use Rattle.std.proofs.Common.{◌≡◌, ℕ, ◌+◌, ◌-◌, ◌^◌, ◌≤◌, ◌<◌, ◌⊎◌, ◌↔◌, inl, inr, List, [], ◌∷◌, ◌++◌, length, refl, sym, ap, ◌∙◌, subst, arith, Bool, true, false, vec_len}
 use Rattle.std.specs.Prelude.{Option, Some, None, option_map, IsSome}
 use Rattle.std.proofs.Math.ListN.{length-map}
 use Rattle.std.proofs.lemmas.List.{map-append}
 use Rattle.ot_book.specs.Arrays.{Named}
 use Rattle.ot_book.specs.Replies.{Said, Refused}
 use Rattle.ot_book.specs.ReplyView.{said_of}
-use Rattle.ot_book.specs.Answers.{State, Step, Now, Runs, step_of, finished, answer_or_lost}
+use Rattle.ot_book.specs.Answers.{State, Now, step_of, finished}
 use Rattle.ot_book.specs.Books.{Register, state_in, IsRight, next_step, logged}
-use Rattle.ot_book.specs.BookView.{entries_of, register_of, HasRoom, IsBook}
+use Rattle.ot_book.specs.BookView.{entries_of, register_of, IsBook}
 use Rattle.ot_book.specs.Opening.{IsFull, AnswersNow}
 use Rattle.ot_book.specs.declared.book.Entry.{Entry}
 use Rattle.ot_book.specs.declared.book.Pending.{Pending}

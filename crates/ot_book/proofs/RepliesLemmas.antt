@@ -1,6 +1,6 @@
 -- Replies have no float, so their text is the definition's.
 use Rattle.std.proofs.Common.{◌≡◌, ℕ, List, [], ◌∷◌, map, refl, ap, ◌∙◌}
-use Rattle.std.specs.Prelude.{false, ◌||◌, Result, Ok, Err, IfOk, String, string_bytes}
+use Rattle.std.specs.Prelude.{false, Result, Ok, Err, IfOk, String, string_bytes}
 use Rattle.std.specs.declared.alloc.Global.{Global}
 use Rattle.serde_json.specs.Data.{Data}
 use Rattle.serde_json.specs.View.{items_of}

@@ -1,9 +1,9 @@
 -- A run keeps the lengths of the arrays.
-use Rattle.std.proofs.Common.{◌≡◌, ℕ, List, refl, ◌∙◌}
-use Rattle.ot_model.specs.Tree.{S, Set, Add, If, Task, Wait, Group, Body, End, Next}
+use Rattle.std.proofs.Common.{◌≡◌, refl, ◌∙◌}
+use Rattle.ot_model.specs.Tree.{Set, Add, If, Task, Wait, Group, Body, End, Next}
 use Rattle.ot_model.specs.Cells.{cell_of, lengths}
 use Rattle.ot_model.specs.Value.{val}
-use Rattle.ot_model.specs.Serial.{State, bump, serial, serial_one, serial_run}
+use Rattle.ot_model.specs.Serial.{State, bump, serial}
 use Rattle.ot_model.proofs.CellsLemmas.{lengths-with_cell}
 use Rattle.ot_model.proofs.SerialLemmas.{either-both}
 

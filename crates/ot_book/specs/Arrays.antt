@@ -1,5 +1,5 @@
 -- A tenant's arrays: names with their cells, in order of creation.
-use Rattle.std.specs.Prelude.{◌≡◌, ℕ, ◌+◌, ◌<◌, ◌^◌, List, [], ◌∷◌, ◌++◌, length, map, take, drop, replicate, sum_by, slice_range, slice_get, bytes_eq, nat_lt, nat_le, is_some, if◌then◌else◌, Option, Some, None, option_and_then, option_map, Result, Ok, Err}
+use Rattle.std.specs.Prelude.{ℕ, ◌+◌, ◌<◌, ◌^◌, List, [], ◌∷◌, ◌++◌, length, map, take, drop, replicate, sum_by, slice_range, slice_get, bytes_eq, nat_lt, nat_le, is_some, if◌then◌else◌, Option, Some, None, option_and_then, option_map, Result, Ok, Err}
 use Rattle.std.specs.List.{position_from}
 use Rattle.ot_model.specs.Cells.{updated}
 use Rattle.ot_model.specs.Shapes.{Arrays}

@@ -1,5 +1,5 @@
 -- What the fields of a book stand for, and what holds of them.
-use Rattle.std.specs.Prelude.{◌≡◌, ℕ, ◌+◌, ◌*◌, ◌^◌, ◌-◌, ◌≤◌, ◌<◌, List, map, length, Option, Some, None, option_map, string_bytes, vec_len, vec_capacity}
+use Rattle.std.specs.Prelude.{◌≡◌, ℕ, ◌*◌, ◌^◌, ◌-◌, ◌≤◌, ◌<◌, List, map, length, option_map, string_bytes, vec_len, vec_capacity}
 use Rattle.std.specs.Option.{ForSome}
 use Rattle.ot_model.specs.Programs.{Expanded}
 use Rattle.ot_book.specs.Replies.{Said}

@@ -1,9 +1,9 @@
 -- A book: the requests of one tenant in order, with their replies.
-use Rattle.std.specs.Prelude.{◌≡◌, ℕ, ◌+◌, ◌*◌, ◌≤◌, ◌<◌, List, [], ◌∷◌, ◌++◌, map, length, Bool, true, false, Option, Some, None}
-use Rattle.ot_model.specs.Programs.{Expanded, expanded_of}
+use Rattle.std.specs.Prelude.{◌≡◌, ℕ, ◌+◌, List, [], ◌∷◌, ◌++◌, map, length, Bool, Option, Some, None}
+use Rattle.ot_model.specs.Programs.{expanded_of}
 use Rattle.ot_book.specs.Arrays.{Named, cells_in}
 use Rattle.ot_book.specs.Replies.{Said}
-use Rattle.ot_book.specs.Answers.{State, Step, Now, Runs, opening, step_of, answer_or_lost, replies, is_lost}
+use Rattle.ot_book.specs.Answers.{State, Step, Runs, opening, step_of, answer_or_lost, replies, is_lost}
 use Rattle.ot_book.specs.Jobs.{Job}
 use Rattle.ot_book.specs.declared.limits.Limits.{Limits}
 

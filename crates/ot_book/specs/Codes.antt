@@ -1,7 +1,6 @@
 -- The codes of refusals.
 use Rattle.std.specs.Prelude.{ℕ}
 use Rattle.ot_program.specs.Refusals.{code_of}
-use Rattle.ot_program.specs.declared.fault.Refusal.{Refusal}
 use Rattle.ot_program.specs.declared.fault.ProgramFault.{ProgramFault}
 use Rattle.ot_program.specs.declared.fault.ProgramFault.TheVariants as fault
 use Rattle.ot_book.specs.declared.store.StoreFault.{StoreFault}

@@ -2,7 +2,7 @@
 use Rattle.std.specs.Prelude.{◌≡◌, ◌≤◌, ◌⊎◌, ℕ, List, length, Bool, Some, true, IsSome}
 use Rattle.ot_book.specs.Arrays.{Named}
 use Rattle.ot_book.specs.Replies.{Said}
-use Rattle.ot_book.specs.Answers.{Step, Now}
+use Rattle.ot_book.specs.Answers.{Now}
 use Rattle.ot_book.specs.Books.{Register, next_step, logged, with_pending, Asks}
 use Rattle.ot_book.specs.declared.book.Opened.{Opened}
 use Rattle.ot_book.specs.declared.book.Opened.TheVariants.{Full, Answered, ToRun}

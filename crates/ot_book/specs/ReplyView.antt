@@ -1,5 +1,5 @@
 -- The reply that a value of the code stands for.
-use Rattle.std.specs.Prelude.{ℕ, List, map}
+use Rattle.std.specs.Prelude.{map}
 use Rattle.ot_book.specs.Replies.{Said, Accepted, Cells, Done, Refused}
 use Rattle.ot_book.specs.Codes.{number_of}
 use Rattle.ot_book.specs.declared.reply.Reply.{Reply}

@@ -1,5 +1,4 @@
 -- The request that a value of the code stands for.
-use Rattle.std.specs.Prelude.{ℕ, List}
 use Rattle.serde_json.specs.View.{view}
 use Rattle.ot_book.specs.Requests as r
 use Rattle.ot_book.specs.declared.request.Request.{Request}

@@ -1,5 +1,6 @@
 ghost use Rattle.std.specs.Prelude.{◌≡◌, map, IfOk, string_bytes};
-ghost use Rattle.serde_json.specs.View.{view};
+ghost use Rattle.serde_json.specs.Data.{array};
+ghost use Rattle.serde_json.specs.View.{view, items_of};
 ghost use Rattle.ot_book.specs.Replies.{json_of, nats, text_of};
 ghost use Rattle.ot_book.specs.ReplyView.{said_of};
 
@@ -161,6 +162,3 @@ fn shows_value(alloc: Global, shows: &Vec<Vec<u64>>) -> Result<Value, AllocError
     }
     Ok(Value::Array(list))
 }
-
-ghost use Rattle.serde_json.specs.Data.{array};
-ghost use Rattle.serde_json.specs.View.{items_of};

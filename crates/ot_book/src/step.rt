@@ -5,6 +5,7 @@ ghost use Rattle.ot_book.specs.Answers.{value_of, step_of, performed, Now};
 ghost use Rattle.ot_book.specs.Codes.{number_of};
 ghost use Rattle.ot_book.specs.Considering.{Considers, ConsidersRequest};
 ghost use Rattle.ot_book.specs.Replies.{Refused};
+ghost use Rattle.ot_book.specs.Requests.{Run, IsProper};
 ghost use Rattle.ot_book.specs.RequestView.{asked_by};
 ghost use Rattle.ot_book.specs.declared.reply.Code.TheVariants.{NoMemory, NotJson};
 
@@ -137,5 +138,3 @@ fn empty_lists(alloc: Global, sections: &Vec<Section>) -> Result<Vec<Vec<u64>>, 
     }
     Ok(lists)
 }
-
-ghost use Rattle.ot_book.specs.Requests.{Run, IsProper};

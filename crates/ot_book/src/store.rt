@@ -5,7 +5,7 @@ ghost use Rattle.ot_book.specs.Stores.{named_of};
 
 use crate::limits::Limits;
 use ot_model::{ArrayShape, Cells, Shape};
-use std::alloc::{AllocError, AllocFailed, Global};
+use std::alloc::{AllocError, Global};
 use std::marker::Model;
 use thiserror::Error;
 

@@ -72,7 +72,12 @@ fn what_a_tenant_is_answered(rt: HostRuntime) -> Result<(), Fail> {
     let mut book = book_of_three(&rt, alloc, Limits::usual())?;
     ask_all(&rt, alloc, &mut book, RUNS)?;
     assert_eq!(rt; (book.name(), book.used(), book.log().len()), ("t1", 4, 15));
-    ask_all(&rt, alloc, &mut book, "\t[\"get\",\"a\",2,1]\r gives [\"cells\",16,[5]]")
+    ask_all(
+        &rt,
+        alloc,
+        &mut book,
+        "\t[\"get\",\"a\",2,1]\r gives [\"cells\",16,[5]]",
+    )
 }
 
 /// A line for each code, between requests that show that nothing has changed.
@@ -140,6 +145,8 @@ const LIMITED: &str = r#"["new","a",5] gives ["err",1,415]
 ["nothing"] gives full
 [ gives full"#;
 
+const SEVENTEENTH: &str = r#"["new","b",1] gives ["err",17,416]"#;
+
 #[test]
 fn limits_that_are_handed_in(rt: HostRuntime) -> Result<(), Fail> {
     let alloc = rt.alloc();
@@ -151,15 +158,21 @@ fn limits_that_are_handed_in(rt: HostRuntime) -> Result<(), Fail> {
     };
     let mut book = new_book(alloc, limits)?;
     ask_all(&rt, alloc, &mut book, LIMITED)?;
-    assert_eq!(rt; (book.limits(), book.is_full(), book.is_open()), (limits, true, false));
+    assert_eq!(rt;
+        (book.limits(), book.is_full(), book.is_open()),
+        (limits, true, false)
+    );
 
     let mut book = new_book(alloc, Limits::usual())?;
     for number in 1..17u32 {
         let row = format!(in alloc; "[\"new\",\"a{number}\",1] gives [\"ok\",{number}]")?;
         ask_all(&rt, alloc, &mut book, row.as_str())?;
     }
-    ask_all(&rt, alloc, &mut book, "[\"new\",\"b\",1] gives [\"err\",17,416]")
+    ask_all(&rt, alloc, &mut book, SEVENTEENTH)
 }
+
+const PAST_THE_LIMIT: &str = r#"["put","a",0,[9]] gives full
+["run",["program",[],[]]] gives full"#;
 
 #[test]
 fn a_full_log_leaves_the_book_as_it_is(rt: HostRuntime) -> Result<(), Fail> {
@@ -170,13 +183,13 @@ fn a_full_log_leaves_the_book_as_it_is(rt: HostRuntime) -> Result<(), Fail> {
     };
     let mut book = book_of_three(&rt, alloc, limits)?;
     let before = format!(in alloc; "{book:?}")?;
-    ask_all(&rt, alloc, &mut book, "[\"put\",\"a\",0,[9]] gives full\n[ gives full")?;
-    ask_all(&rt, alloc, &mut book, "[\"run\",[\"program\",[],[]]] gives full")?;
+    ask_all(&rt, alloc, &mut book, PAST_THE_LIMIT)?;
     Ok(is_shown_as(&rt, alloc, &book, before.as_str())?)
 }
 
 /// Each is a line.
-const NO_REQUESTS: &str = r#"null 1 "new" {} {"new":1,"new":2} [] ["bye"] ["list"] ["RUN",["program",[],[]]]
+const NO_REQUESTS: &str =
+    r#"null 1 "new" {} {"new":1,"new":2} [] ["bye"] ["list"] ["RUN",["program",[],[]]]
 [["run"],["program",[],[]]] ["run"] ["run",1,2] ["run",["program",[],[]],[]] ["new","b"]
 ["new","b",1,1] ["new","b",-1] ["new","b",-0] ["new","b",1.0] ["new","b",1e0]
 ["new","b",4294967296] ["new","b","1"] ["new",1,1] ["new","",1] ["new","B",1] ["new","1b",1]
@@ -210,7 +223,8 @@ fn lines_that_are_no_json(rt: HostRuntime) -> Result<(), Fail> {
     for line in NO_JSON.split(|byte| *byte == b'|') {
         let number = book.log().len().wrapping_add(1);
         let told = ask(alloc, &mut Solo, &mut book, line)?;
-        assert_eq!(rt; told, format!(in alloc; "[\"err\",{number},410]")?, "{line:?}");
+        let expected = format!(in alloc; "[\"err\",{number},410]")?;
+        assert_eq!(rt; told, expected, "{line:?}");
     }
     let opening = repeated(alloc, "[", 127)?;
     let closing = repeated(alloc, "]", 127)?;
@@ -228,8 +242,8 @@ fn a_long_program(rt: HostRuntime) -> Result<(), Fail> {
     let mut book = book_of_three(&rt, alloc, Limits::usual())?;
     let sets = repeated(alloc, "[\"set\",[\"c\",\"a\",1],4],", 2950)?;
     assert_eq!(rt; sets.len(), 64900);
-    let row = format!(
-        in alloc; "[\"run\",[\"program\",[[\"a\",0,3]],[{sets}[\"set\",[\"c\",\"a\",2],5]]]] gives {}",
+    let row = format!(in alloc;
+        "[\"run\",[\"program\",[[\"a\",0,3]],[{sets}[\"set\",[\"c\",\"a\",2],5]]]] gives {}",
         "[\"done\",3,0,2951,[[1,4,5]]]"
     )?;
     ask_all(&rt, alloc, &mut book, row.as_str())
@@ -309,7 +323,8 @@ fn a_run_that_is_refused(rt: HostRuntime) -> Result<(), Fail> {
     book.close_refused(spec);
     let entry = book.log().last().ok_or("an entry")?;
     assert_eq!(rt; (entry.line.as_slice(), book.used()), (RUN, 0));
-    assert_eq!(rt; reply_text(alloc, &entry.reply)?.as_str(), "[\"err\",3,508]");
+    let told = reply_text(alloc, &entry.reply)?;
+    assert_eq!(rt; told.as_str(), "[\"err\",3,508]");
     ask_all(&rt, alloc, &mut book, AFTER_REFUSAL)
 }
 
@@ -324,7 +339,9 @@ fn a_copied_job(rt: HostRuntime) -> Result<(), Fail> {
 
 const ARRAYS: &str = "Store { arrays: [NamedArray { name: \"b\", cells: [0] }, \
     NamedArray { name: \"a\", cells: [0, 5, 6] }] }";
+
 const CELLS: &str = "Cells { arrays: [[0], [0, 5, 6]] }";
+
 const SHAPE: &str = "Shape { arrays: [ArrayShape { name: \"b\", len: 1 }, \
     ArrayShape { name: \"a\", len: 3 }], tasks: 7 }";
 
@@ -354,12 +371,14 @@ fn what_is_made_of_arrays(rt: HostRuntime) -> Result<(), Fail> {
     Ok(())
 }
 
+const WRITTEN: &str = r#"["put","b",0,[9]] gives ["ok",1]
+["get","b",0,1] gives ["cells",2,[9]]"#;
+
 #[test]
 fn a_book_that_begins_with_arrays(rt: HostRuntime) -> Result<(), Fail> {
     let alloc = rt.alloc();
     let store = two_arrays(alloc, &Limits::usual())?;
     let mut book = Book::new(alloc, "t2", Limits::usual(), store)?;
-    ask_all(&rt, alloc, &mut book, "[\"put\",\"b\",0,[9]] gives [\"ok\",1]")?;
-    ask_all(&rt, alloc, &mut book, "[\"get\",\"b\",0,1] gives [\"cells\",2,[9]]")?;
+    ask_all(&rt, alloc, &mut book, WRITTEN)?;
     Ok(is_shown_as(&rt, alloc, book.base(), ARRAYS)?)
 }

@@ -1,42 +1,38 @@
--- Lists of another length are no form.
+-- Lists of another length are no cell, no section and no program.
 use Rattle.std.proofs.Common.{◌≡◌, ◌<◌, ◌≤◌, List, [], ◌∷◌, length, Err, refl, arith}
 use Rattle.std.specs.Prelude.{◌≢◌}
+use Rattle.serde_json.specs.Data.{array}
 use Rattle.serde_json.specs.View.{items_view}
 use Rattle.serde_json.specs.declared.value.Value.{Value}
 use Rattle.ot_model.specs.Shapes.{Arrays}
 use Rattle.ot_program.specs.declared.fault.Refusal.TheVariants.{Form}
-use Rattle.ot_program.specs.Parts.{cell_form, section_form}
-use Rattle.ot_program.specs.Programs.{program_form}
+use Rattle.ot_program.specs.Parts.{cell_of, section_of}
+use Rattle.ot_program.specs.Programs.{program_of}
 
-pub cell_form_short : (shape : Arrays) (vs : List Value) → length vs < 3 → cell_form shape (items_view vs) ≡ Err Form
-cell_form_short shape [] short = refl
-cell_form_short shape (a ∷ []) short = refl
-cell_form_short shape (a ∷ b ∷ []) short = refl
-cell_form_short shape (a ∷ b ∷ c ∷ vs) short = absurd (omega arith)
+pub no_cell_short : (shape : Arrays) (vs : List Value) → length vs < 3
+    → cell_of shape (array (items_view vs)) ≡ Err Form
+no_cell_short shape (a ∷ b ∷ c ∷ vs) short = absurd (omega arith)
+no_cell_short shape _ short = refl
 
-pub cell_form_long : (shape : Arrays) (vs : List Value) → 4 ≤ length vs → cell_form shape (items_view vs) ≡ Err Form
-cell_form_long shape [] long = refl
-cell_form_long shape (a ∷ []) long = refl
-cell_form_long shape (a ∷ b ∷ []) long = refl
-cell_form_long shape (a ∷ b ∷ c ∷ []) long = absurd (omega arith)
-cell_form_long shape (a ∷ b ∷ c ∷ d ∷ vs) long = refl
+pub no_cell_long : (shape : Arrays) (vs : List Value) → 4 ≤ length vs → cell_of shape (array (items_view vs)) ≡ Err Form
+no_cell_long shape (a ∷ b ∷ c ∷ []) long = absurd (omega arith)
+no_cell_long shape _ long = refl
 
-pub section_form_short : (shape : Arrays) (vs : List Value) → length vs < 3 → section_form shape (items_view vs) ≡ Err Form
-section_form_short shape [] short = refl
-section_form_short shape (a ∷ []) short = refl
-section_form_short shape (a ∷ b ∷ []) short = refl
-section_form_short shape (a ∷ b ∷ c ∷ vs) short = absurd (omega arith)
+pub ruleset no_cell = (no_cell_short, no_cell_long)
 
-pub section_form_long : (shape : Arrays) (vs : List Value) → 4 ≤ length vs → section_form shape (items_view vs) ≡ Err Form
-section_form_long shape [] long = refl
-section_form_long shape (a ∷ []) long = refl
-section_form_long shape (a ∷ b ∷ []) long = refl
-section_form_long shape (a ∷ b ∷ c ∷ []) long = absurd (omega arith)
-section_form_long shape (a ∷ b ∷ c ∷ d ∷ vs) long = refl
+pub no_section_short : (shape : Arrays) (vs : List Value) → length vs < 3
+    → section_of shape (array (items_view vs)) ≡ Err Form
+no_section_short shape (a ∷ b ∷ c ∷ vs) short = absurd (omega arith)
+no_section_short shape _ short = refl
 
-pub program_form_but_three : (shape : Arrays) (vs : List Value) → length vs ≢ 3 → program_form shape (items_view vs) ≡ Err Form
-program_form_but_three shape [] other = refl
-program_form_but_three shape (a ∷ []) other = refl
-program_form_but_three shape (a ∷ b ∷ []) other = refl
-program_form_but_three shape (a ∷ b ∷ c ∷ []) other = absurd (other refl)
-program_form_but_three shape (a ∷ b ∷ c ∷ d ∷ vs) other = refl
+pub no_section_long : (shape : Arrays) (vs : List Value) → 4 ≤ length vs
+    → section_of shape (array (items_view vs)) ≡ Err Form
+no_section_long shape (a ∷ b ∷ c ∷ []) long = absurd (omega arith)
+no_section_long shape _ long = refl
+
+pub ruleset no_section = (no_section_short, no_section_long)
+
+pub no_program_but_three : (shape : Arrays) (vs : List Value) → length vs ≢ 3
+    → program_of shape (array (items_view vs)) ≡ Err Form
+no_program_but_three shape (a ∷ b ∷ c ∷ []) other = absurd (other refl)
+no_program_but_three shape _ other = refl

@@ -9,8 +9,9 @@ use Rattle.ot_model.specs.Tree.{S}
 use Rattle.ot_program.specs.declared.counts.Counts.{Counts}
 use Rattle.ot_program.specs.declared.fault.ProgramFault.{ProgramFault}
 use Rattle.ot_program.specs.declared.fault.ProgramFault.TheVariants.{Memory, Refused}
-use Rattle.ot_program.specs.Reading.{◌>>=◌, Fails}
-use Rattle.ot_program.specs.Statements.{Read, Reader, one_then, one_in, all_in, Added}
+use Rattle.ot_program.specs.Reading.{◌>>=◌}
+use Rattle.ot_program.specs.Statements.{Read, Reader, one_then, one_in, all_in}
+use Rattle.ot_program.specs.Returned.{Fails, Added}
 
 abbrev pub behind : List S → Read → Read
 behind front rest = rest >>= λ q. Ok (front ++ q.0, q.1)
@@ -37,7 +38,8 @@ pub front_more : (old now next : List S) (first rest : Reader) (n m : Counts) (w
 front_more old now next first rest n m whole h a = record {
   front = h.front ++ a.added;
   list = a.list ∙ ap (λ (xs : List S). xs ++ a.added) h.list ∙ append_assoc old h.front a.added;
-  whole_is = h.whole_is ∙ ap (λ (r : Read). behind h.front (r >>= λ p. behind p.0 (rest p.1))) a.is ∙ behind-behind h.front a.added (rest m);
+  whole_is = h.whole_is ∙ ap (λ (r : Read). behind h.front (r >>= λ p. behind p.0 (rest p.1))) a.is
+      ∙ behind-behind h.front a.added (rest m);
 }
 
 -- a fault of the next one is that of the whole
@@ -48,7 +50,8 @@ front_fails old now first rest n whole (Refused c) h f =
     h.whole_is ∙ ap (λ (r : Read). behind h.front (r >>= λ p. behind p.0 (rest p.1))) f
 
 -- all were read
-pub front_all : (old now : List S) (n : Counts) (whole : Read) → Front old now (Ok ([], n)) whole → Added old now n whole
+pub front_all : (old now : List S) (n : Counts) (whole : Read) → Front old now (Ok ([], n)) whole
+    → Added old now n whole
 front_all old now n whole h = record {
   added = h.front;
   is = h.whole_is ∙ ap (λ (xs : List S). Ok (xs, n)) (append-nil h.front);
@@ -57,7 +60,8 @@ front_all old now n whole h = record {
 
 -- the same over a list of values from an index on
 all_in-drop : (shape : Arrays) (vs : List Value) (i : ℕ) (v : Value) (n : Counts) → i < length vs → v ≡ get_or vs i v
-    → all_in shape (items_view (drop i vs)) n ≡ one_then (one_in shape (view v)) (all_in shape (items_view (drop (i + 1) vs))) n
+    → all_in shape (items_view (drop i vs)) n ≡ one_then (one_in shape (view v))
+    (all_in shape (items_view (drop (i + 1) vs))) n
 unfolding all_in
 all_in-drop shape vs i v n within is = rw (drop-cons vs i v within, ← is, add-one) refl
 
@@ -68,7 +72,8 @@ all_step old now next shape vs i v n m whole within is h a =
     front_more old now next (one_in shape (view v)) (all_in shape (items_view (drop (i + 1) vs))) n m whole
     (rw (all_in-drop shape vs i v n within is) at h) a
 
-pub all_fails : (old now : List S) (shape : Arrays) (vs : List Value) (i : ℕ) (v : Value) (n : Counts) (whole : Read) (e : ProgramFault)
+pub all_fails : (old now : List S) (shape : Arrays) (vs : List Value) (i : ℕ) (v : Value) (n : Counts) (whole : Read)
+    (e : ProgramFault)
     → i < length vs → v ≡ get_or vs i v → Front old now (all_in shape (items_view (drop i vs)) n) whole
     → Fails e (one_in shape (view v) n) → Fails e whole
 all_fails old now shape vs i v n whole e within is h f =
@@ -79,3 +84,5 @@ pub all_ends : (old now : List S) (shape : Arrays) (vs : List Value) (i : ℕ) (
     → length vs ≤ i → Front old now (all_in shape (items_view (drop i vs)) n) whole → Added old now n whole
 unfolding all_in
 all_ends old now shape vs i n whole past h = front_all old now n whole (rw (drop_all i vs past) at h)
+
+pub ruleset fronts = (front_none, all_step, all_fails, all_ends)

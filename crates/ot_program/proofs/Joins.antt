@@ -3,10 +3,12 @@ use Rattle.std.proofs.Common.{◌≡◌, Result, Ok, Err, refl}
 use Rattle.ot_program.specs.declared.fault.Refusal.{Refusal}
 use Rattle.ot_program.specs.declared.fault.ProgramFault.{ProgramFault}
 use Rattle.ot_program.specs.declared.fault.ProgramFault.TheVariants.{Memory, Refused}
-use Rattle.ot_program.specs.Reading.{◌>>=◌, both_of, Fails, Gives, join}
+use Rattle.ot_program.specs.Reading.{◌>>=◌, both_of}
+use Rattle.ot_program.specs.Returned.{Fails, Gives, join}
 
 pub join_gives : {X Y A B : Type 0} (f : X → A) (g : Y → B) (x : Result X ProgramFault) (y : Result Y ProgramFault)
-    (r : Result A Refusal) (s : Result B Refusal) → Gives f x r → Gives g y s → Gives (λ (p : X × Y). (f p.0, g p.1)) (join x y) (both_of r s)
+    (r : Result A Refusal) (s : Result B Refusal) → Gives f x r → Gives g y s → Gives (λ (p : X × Y). (f p.0, g p.1))
+    (join x y) (both_of r s)
 join_gives f g (Ok x) (Ok y) r s p q = rw (p, q) refl
 join_gives f g (Ok x) (Err Memory) r s p q = tt
 join_gives f g (Ok x) (Err (Refused c)) r s p q = rw (p, q) refl
@@ -17,7 +19,8 @@ join_gives f g (Err (Refused c)) (Err Memory) r s p q = tt
 join_gives f g (Err (Refused c)) (Err (Refused d)) r s p q = rw (p, q) refl
 
 -- a reading that fails goes on to nothing
-pub Fails-then : {A B : Type 0} (e : ProgramFault) (r : Result A Refusal) (k : A → Result B Refusal) → Fails e r → Fails e (r >>= k)
+pub Fails-then : {A B : Type 0} (e : ProgramFault) (r : Result A Refusal) (k : A → Result B Refusal) → Fails e r
+    → Fails e (r >>= k)
 Fails-then Memory r k h = tt
 Fails-then (Refused c) r k h = rw h refl
 

@@ -5,7 +5,10 @@ pub mod StatementForms
 pub mod Fronts
 pub mod Lists
 pub mod Readings
+pub mod Kept
 pub mod Counted
 pub mod Named
 pub mod Told
+pub mod PartsTold
 pub mod StatementsTold
+pub mod ShowsTold

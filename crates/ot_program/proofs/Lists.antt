@@ -49,7 +49,9 @@ abbrev pub then_more : {A : Type 0} → Result (List A) Refusal → Result (List
 then_more front rest = both_of front rest >>= λ p. Ok (p.0 ++ p.1)
 
 -- one more part, or one more fault
-pub more_read : {A : Type 0} (fault : Option Refusal) (parts : List A) (one : Result A Refusal) (rest : Result (List A) Refusal) → Result (List A) Refusal
+pub more_read : {A : Type 0} (fault : Option Refusal) (parts : List A) (one : Result A Refusal)
+    (rest : Result (List A) Refusal)
+    → Result (List A) Refusal
 more_read fault parts one rest = then_more (so_far fault parts) (both_of one rest >>= λ p. Ok (p.0 ∷ p.1))
 
 pub more_read-Ok : {A : Type 0} (fault : Option Refusal) (parts : List A) (x : A) (rest : Result (List A) Refusal)
@@ -73,13 +75,16 @@ more_read-further parts b c (Ok xs) = refl
 more_read-further parts b c (Err d) = ap Err (least-least b c d)
 
 -- the list of values that is left from an index on
-pub each_of-drop : {A : Type 0} (read : Data → Result A Refusal) (fault : Option Refusal) (parts : List A) (vs : List Value) (i : ℕ) (v : Value)
+pub each_of-drop : {A : Type 0} (read : Data → Result A Refusal) (fault : Option Refusal) (parts : List A)
+    (vs : List Value) (i : ℕ) (v : Value)
     → i < length vs → v ≡ get_or vs i v
-    → more_read fault parts (read (view v)) (each_of read (items_view (drop (i + 1) vs))) ≡ then_more (so_far fault parts) (each_of read (items_view (drop i vs)))
+    → more_read fault parts (read (view v)) (each_of read (items_view (drop (i + 1) vs))) ≡ then_more
+    (so_far fault parts) (each_of read (items_view (drop i vs)))
 unfolding more_read
 each_of-drop read fault parts vs i v within is = rw (drop-cons vs i v within, ← is, add-one) refl
 
-pub part_read : {A : Type 0} (read : Data → Result A Refusal) (fault : Option Refusal) (parts : List A) (x : A) (vs : List Value) (i : ℕ) (v : Value) (whole : Result (List A) Refusal)
+pub part_read : {A : Type 0} (read : Data → Result A Refusal) (fault : Option Refusal) (parts : List A) (x : A)
+    (vs : List Value) (i : ℕ) (v : Value) (whole : Result (List A) Refusal)
     → i < length vs → v ≡ get_or vs i v → Ok x ≡ read (view v)
     → then_more (so_far fault parts) (each_of read (items_view (drop i vs))) ≡ whole
     → then_more (so_far fault (parts ++ x ∷ [])) (each_of read (items_view (drop (i + 1) vs))) ≡ whole
@@ -87,7 +92,8 @@ part_read read fault parts x vs i v whole within is one h =
     more_read-Ok fault parts x _ ∙ ap (λ r. more_read fault parts r (each_of read (items_view (drop (i + 1) vs)))) one
     ∙ each_of-drop read fault parts vs i v within is ∙ h
 
-pub part_fails_first : {A : Type 0} (read : Data → Result A Refusal) (parts : List A) (c : Refusal) (vs : List Value) (i : ℕ) (v : Value) (whole : Result (List A) Refusal)
+pub part_fails_first : {A : Type 0} (read : Data → Result A Refusal) (parts : List A) (c : Refusal) (vs : List Value)
+    (i : ℕ) (v : Value) (whole : Result (List A) Refusal)
     → i < length vs → v ≡ get_or vs i v → Err c ≡ read (view v)
     → then_more (so_far None parts) (each_of read (items_view (drop i vs))) ≡ whole
     → then_more (so_far (Some c) parts) (each_of read (items_view (drop (i + 1) vs))) ≡ whole
@@ -95,7 +101,8 @@ part_fails_first read parts c vs i v whole within is one h =
     more_read-first parts c _ ∙ ap (λ r. more_read None parts r (each_of read (items_view (drop (i + 1) vs)))) one
     ∙ each_of-drop read None parts vs i v within is ∙ h
 
-pub part_fails_further : {A : Type 0} (read : Data → Result A Refusal) (parts : List A) (b c : Refusal) (vs : List Value) (i : ℕ) (v : Value) (whole : Result (List A) Refusal)
+pub part_fails_further : {A : Type 0} (read : Data → Result A Refusal) (parts : List A) (b c : Refusal)
+    (vs : List Value) (i : ℕ) (v : Value) (whole : Result (List A) Refusal)
     → i < length vs → v ≡ get_or vs i v → Err c ≡ read (view v)
     → then_more (so_far (Some b) parts) (each_of read (items_view (drop i vs))) ≡ whole
     → then_more (so_far (Some (least b c)) parts) (each_of read (items_view (drop (i + 1) vs))) ≡ whole

@@ -18,7 +18,8 @@ abbrev pub AreFrom : ℕ → List Refusal → Type 0
 AreFrom k faults = All (λ d. k ≤ rank d) faults
 
 pub AreFrom-weaker : (k m : ℕ) (faults : List Refusal) → k ≤ m → AreFrom m faults → AreFrom k faults
-AreFrom-weaker k m faults below h = All-weaker (λ (d : Refusal). m ≤ rank d) (λ d. k ≤ rank d) (λ d later. omega arith) faults h
+AreFrom-weaker k m faults below h = All-weaker (λ (d : Refusal). m ≤ rank d) (λ d. k ≤ rank d)
+    (λ d later. omega arith) faults h
 
 pub first-single : (c : Refusal) → IsFirstOf c (c ∷ [])
 first-single c = record {
@@ -38,11 +39,14 @@ first-right c fs gs later h = record {
   none_before = All-append (λ (d : Refusal). rank c ≤ rank d) fs gs later h.none_before;
 }
 
-first-least : (c d : Refusal) (fs gs : List Refusal) → IsFirstOf c fs → IsFirstOf d gs → IsFirstOf (least c d) (fs ++ gs)
+first-least : (c d : Refusal) (fs gs : List Refusal) → IsFirstOf c fs → IsFirstOf d gs
+    → IsFirstOf (least c d) (fs ++ gs)
 first-least c d fs gs h k =
     elim (cases_lt (rank d) (rank c)) [
-      | inl d_first ↦ rw (least-lt c d d_first) (first-right d fs gs (AreFrom-weaker (rank d) (rank c) fs (omega arith) h.none_before) k)
-      | inr c_first ↦ rw (least-le c d c_first) (first-left c fs gs h (AreFrom-weaker (rank c) (rank d) gs c_first k.none_before))
+      | inl d_first ↦ rw (least-lt c d d_first) (first-right d fs gs
+          (AreFrom-weaker (rank d) (rank c) fs (omega arith) h.none_before) k)
+      | inr c_first ↦ rw (least-le c d c_first) (first-left c fs gs h
+          (AreFrom-weaker (rank c) (rank d) gs c_first k.none_before))
     ]
 
 pub both_tell_first : {A B : Type 0} (r : Result A Refusal) (s : Result B Refusal) (fs gs : List Refusal)
@@ -77,13 +81,15 @@ pub tells_both : {A B : Type 0} (last : ℕ) (r : Result A Refusal) (s : Result 
 tells_both last r s fs gs h k = record { first = both_tell_first r s fs gs h.first k.first; up_to = both-up_to last r s h.up_to k.up_to }
 
 -- a later place
-pub tells_later : {A : Type 0} (last more : ℕ) (r : Result A Refusal) (fs : List Refusal) → last ≤ more → Tells last r fs → Tells more r fs
+pub tells_later : {A : Type 0} (last more : ℕ) (r : Result A Refusal) (fs : List Refusal) → last ≤ more
+    → Tells last r fs → Tells more r fs
 tells_later last more (Ok x) fs below h = record { first = h.first; up_to = tt }
 tells_later last more (Err c) fs below h = record { first = h.first; up_to = omega (arith, h.up_to) }
 
 -- a test behind what it needs, whose faults come later in the order
 pub tells_then : {A B : Type 0} (last more : ℕ) (r : Result A Refusal) (k : A → Result B Refusal) (fs hs : List Refusal)
-    → last ≤ more → Tells last r fs → AreFrom last hs → ((x : A) → r ≡ Ok x → Tells more (k x) hs) → Tells more (r >>= k) (fs ++ hs)
+    → last ≤ more → Tells last r fs → AreFrom last hs → ((x : A) → r ≡ Ok x → Tells more (k x) hs)
+    → Tells more (r >>= k) (fs ++ hs)
 tells_then last more (Ok x) k fs hs below h later then = rw h.first (then x refl)
 tells_then last more (Err c) k fs hs below h later then = record {
   first = first-left c fs hs h.first (AreFrom-weaker (rank c) last hs h.up_to later);
@@ -91,15 +97,18 @@ tells_then last more (Err c) k fs hs below h later then = record {
 }
 
 -- what is made of what was read has no fault of its own
-pub tells_made : {A B : Type 0} (last : ℕ) (r : Result A Refusal) (f : A → B) (fs : List Refusal) → Tells last r fs → Tells last (r >>= λ x. Ok (f x)) fs
+pub tells_made : {A B : Type 0} (last : ℕ) (r : Result A Refusal) (f : A → B) (fs : List Refusal) → Tells last r fs
+    → Tells last (r >>= λ x. Ok (f x)) fs
 tells_made last (Ok x) f fs h = record { first = h.first; up_to = tt }
 tells_made last (Err c) f fs h = record { first = h.first; up_to = h.up_to }
 
-pub tells_test : {A : Type 0} (last : ℕ) (b : Bool) (x : A) (c : Refusal) → rank c ≤ last → Tells last (cond b (Ok x) (Err c)) (unless b c)
+pub tells_test : {A : Type 0} (last : ℕ) (b : Bool) (x : A) (c : Refusal) → rank c ≤ last
+    → Tells last (cond b (Ok x) (Err c)) (unless b c)
 tells_test last true x c below = record { first = refl; up_to = tt }
 tells_test last false x c below = record { first = first-single c; up_to = below }
 
-pub tells_one : {A : Type 0} (last : ℕ) (r : Result A Refusal) → IfErr r (λ c. rank c ≤ last) → Tells last r (fault_of r)
+pub tells_one : {A : Type 0} (last : ℕ) (r : Result A Refusal) → IfErr r (λ c. rank c ≤ last)
+    → Tells last r (fault_of r)
 tells_one last (Ok x) h = record { first = refl; up_to = tt }
 tells_one last (Err c) h = record { first = first-single c; up_to = h }
 
@@ -112,14 +121,16 @@ tells_if last true r s fs gs h k = h
 tells_if last false r s fs gs h k = k
 
 pub tells_each : {A : Type 0} (last : ℕ) (read : Data → Result A Refusal) (faults : Data → List Refusal)
-    → ((d : Data) → Tells last (read d) (faults d)) → (ds : Items) → Tells last (each_of read ds) (each_faults faults ds)
+    → ((d : Data) → Tells last (read d) (faults d)) → (ds : Items)
+    → Tells last (each_of read ds) (each_faults faults ds)
 tells_each last read faults h no_items = record { first = refl; up_to = tt }
 tells_each last read faults h (item d ds) =
     tells_made last (both_of (read d) (each_of read ds)) (λ p. p.0 ∷ p.1) (faults d ++ each_faults faults ds)
     (tells_both last (read d) (each_of read ds) (faults d) (each_faults faults ds) (h d) (tells_each last read faults h ds))
 
 -- the parts of two that were read
-pub both_ok : {A B : Type 0} (r : Result A Refusal) (s : Result B Refusal) (x : A × B) → both_of r s ≡ Ok x → (r ≡ Ok x.0) × (s ≡ Ok x.1)
+pub both_ok : {A B : Type 0} (r : Result A Refusal) (s : Result B Refusal) (x : A × B) → both_of r s ≡ Ok x
+    → (r ≡ Ok x.0) × (s ≡ Ok x.1)
 both_ok (Ok a) (Ok b) x is = let e : (a, b) ≡ x = cc in (ap (λ p. Ok p.0) e, ap (λ p. Ok p.1) e)
 both_ok (Ok a) (Err d) x is = absurd cc
 both_ok (Err c) (Ok b) x is = absurd cc

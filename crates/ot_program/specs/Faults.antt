@@ -5,7 +5,7 @@ use Rattle.ot_model.specs.Shapes.{Arrays}
 use Rattle.ot_model.specs.declared.expr.Op.{Op}
 use Rattle.ot_model.specs.declared.expr.Section.{Section}
 use Rattle.ot_program.specs.declared.counts.Counts.{Counts}
-use Rattle.ot_program.specs.declared.part.Known.{Known}
+use Rattle.ot_program.specs.declared.part.KnownArray.{KnownArray}
 use Rattle.ot_program.specs.declared.fault.Refusal.{Refusal}
 use Rattle.ot_program.specs.declared.fault.Refusal.TheVariants.{Form, OutOfRange, EmptySection, TooLarge}
 use Rattle.ot_program.specs.Refusals.{rank}
@@ -40,7 +40,7 @@ fault_of (Ok x) = []
 fault_of (Err c) = c ∷ []
 
 -- an index that isn't below the length, where both are known
-abbrev pub past_end : Result Known Refusal → Result ℕ Refusal → List Refusal
+abbrev pub past_end : Result KnownArray Refusal → Result ℕ Refusal → List Refusal
 past_end (Ok known) (Ok index) = unless (nat_lt index known.len) OutOfRange
 past_end (Ok known) (Err c) = []
 past_end (Err c) index = []
@@ -50,7 +50,7 @@ cell_faults shape name index =
     fault_of (array_of shape name) ++ fault_of (size_of index) ++ past_end (array_of shape name) (size_of index)
 
 -- an end that is above the length, where all three are known
-abbrev pub ends_past : Result Known Refusal → Result ℕ Refusal → Result ℕ Refusal → List Refusal
+abbrev pub ends_past : Result KnownArray Refusal → Result ℕ Refusal → Result ℕ Refusal → List Refusal
 ends_past (Ok known) (Ok start) (Ok len) = unless (nat_le (start + len) known.len) OutOfRange
 ends_past (Ok known) (Ok start) (Err c) = []
 ends_past (Ok known) (Err c) len = []
@@ -75,25 +75,30 @@ operation_faults (Some op) one two = one ++ two
 abbrev pub value_faults : Arrays → Data → List Refusal
 value_faults shape (number n) = fault_of (literal_of (whole_number n))
 value_faults shape (array (item t (item a (item b no_items)))) =
-    if is_word t (codes "c") then cell_faults shape a b else operation_faults (op_of t) (value_faults shape a) (value_faults shape b)
+    if is_word t (codes "c")
+    then cell_faults shape a b
+    else operation_faults (op_of t) (value_faults shape a) (value_faults shape b)
 value_faults shape _ = Form ∷ []
 
 -- how deep a value is, and 0 for what is none
 abbrev pub text_depth : Data → ℕ
 text_depth (number n) = 1
-text_depth (array (item t (item a (item b no_items)))) = if is_word t (codes "c") then 1 else 1 + max (text_depth a) (text_depth b)
+text_depth (array (item t (item a (item b no_items)))) =
+    if is_word t (codes "c") then 1 else 1 + max (text_depth a) (text_depth b)
 text_depth _ = 0
 
 -- how many numbers, cells and operations a value has
 abbrev pub text_nodes : Data → ℕ
 text_nodes (number n) = 1
-text_nodes (array (item t (item a (item b no_items)))) = if is_word t (codes "c") then 1 else 1 + text_nodes a + text_nodes b
+text_nodes (array (item t (item a (item b no_items)))) =
+    if is_word t (codes "c") then 1 else 1 + text_nodes a + text_nodes b
 text_nodes _ = 0
 
 -- ---- statements
 
 abbrev pub target_faults : Arrays → Data → List Refusal
-target_faults shape (array (item t (item a (item b no_items)))) = if is_word t (codes "c") then cell_faults shape a b else Form ∷ []
+target_faults shape (array (item t (item a (item b no_items)))) =
+    if is_word t (codes "c") then cell_faults shape a b else Form ∷ []
 target_faults shape _ = Form ∷ []
 
 -- the counts that pass their limits with a statement
@@ -109,7 +114,8 @@ set_faults shape cell value n =
     ++ count_faults n (text_nodes value) 0
 
 abbrev pub statement_faults : Arrays → Data → Counts → List Refusal
-statement_faults shape (array (item t (item a (item b no_items)))) n = if is_word t (codes "set") then set_faults shape a b n else Form ∷ []
+statement_faults shape (array (item t (item a (item b no_items)))) n =
+    if is_word t (codes "set") then set_faults shape a b n else Form ∷ []
 statement_faults shape _ n = Form ∷ []
 
 -- ---- the program's own form and its shows

@@ -37,21 +37,26 @@ pub record CountsAre (old : Counts) (read : List S) (new : Counts) : Type 0 wher
   pub few_nodes : old.nodes ≤ max_nodes → new.nodes ≤ max_nodes
 
 abbrev pub CountsAreOfTree : Type 0
-CountsAreOfTree = (shape : Arrays) (body : Data) (old : Counts) → IfOk (body_in shape body old) (λ q. CountsAre old q.0 q.1)
+CountsAreOfTree =
+    (shape : Arrays) (body : Data) (old : Counts) → IfOk (body_in shape body old) (λ q. CountsAre old q.0 q.1)
 
 -- ---- faults
 
 -- of two parts, what is told is a fault of one of them, and comes after none in the order
 abbrev pub BothTellFirst : Type 0
-BothTellFirst = (r s : Result ℕ Refusal) (fs gs : List Refusal) → TellsFirst r fs → TellsFirst s gs → TellsFirst (both_of r s) (fs ++ gs)
+BothTellFirst =
+    (r s : Result ℕ Refusal) (fs gs : List Refusal)
+    → TellsFirst r fs → TellsFirst s gs → TellsFirst (both_of r s) (fs ++ gs)
 
 -- what is told of a statement is the first of the order that holds anywhere in it
 abbrev pub StatementTellsFirst : Type 0
-StatementTellsFirst = (shape : Arrays) (d : Data) (n : Counts) → TellsFirst (one_in shape d n) (statement_faults shape d n)
+StatementTellsFirst =
+    (shape : Arrays) (d : Data) (n : Counts) → TellsFirst (one_in shape d n) (statement_faults shape d n)
 
 -- the same of the program's own form with its shows
 abbrev pub ShowsTellFirst : Type 0
-ShowsTellFirst = (shape : Arrays) (shows body : Data) → TellsFirst (shows_of shape shows body) (shows_faults shape shows body)
+ShowsTellFirst =
+    (shape : Arrays) (shows body : Data) → TellsFirst (shows_of shape shows body) (shows_faults shape shows body)
 
 -- the first statement that has a fault tells it: each one before it was read
 pub record IsFirstFault (shape : Arrays) (ds : Items) (n : Counts) (c : Refusal) : Type 0 where
@@ -65,4 +70,5 @@ pub record IsFirstFault (shape : Arrays) (ds : Items) (n : Counts) (c : Refusal)
   pub told : IsFirstOf c (statement_faults shape faulty counts)
 
 abbrev pub FirstFaultIsTold : Type 0
-FirstFaultIsTold = (shape : Arrays) (ds : Items) (n : Counts) → IfErr (all_in shape ds n) (IsFirstFault shape ds n)
+FirstFaultIsTold =
+    (shape : Arrays) (ds : Items) (n : Counts) → IfErr (all_in shape ds n) (IsFirstFault shape ds n)

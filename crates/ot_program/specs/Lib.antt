@@ -8,5 +8,6 @@ pub mod Values
 pub mod Counting
 pub mod Statements
 pub mod Programs
+pub mod Returned
 pub mod Faults
 pub mod Laws

@@ -1,13 +1,13 @@
 -- The parts of statements: sizes, arrays, cells and sections.
 use Rattle.std.specs.Prelude.{ℕ, suc, ◌+◌, ◌^◌, ◌==◌, nat_lt, nat_le, if◌then◌else◌, List, [], ◌∷◌, Option, Some, None, Result, Ok, Err, bytes_eq, codes}
-use Rattle.serde_json.specs.Data.{Data, number, string, array, Items, no_items, item}
+use Rattle.serde_json.specs.Data.{Data, number, string, array, no_items, item}
 use Rattle.ot_program.specs.Numbers.{whole_number}
 use Rattle.ot_model.specs.Shapes.{Arrays}
 use Rattle.ot_model.specs.declared.expr.Cell.{Cell}
 use Rattle.ot_model.specs.declared.expr.Section.{Section}
 use Rattle.ot_program.specs.declared.fault.Refusal.{Refusal}
 use Rattle.ot_program.specs.declared.fault.Refusal.TheVariants.{Form, Size, UnknownArray, OutOfRange, EmptySection}
-use Rattle.ot_program.specs.declared.part.Known.{Known}
+use Rattle.ot_program.specs.declared.part.KnownArray.{KnownArray}
 use Rattle.ot_program.specs.Reading.{◌>>=◌, both_of, each_of}
 use Rattle.ot_program.specs.Names.{is_name, is_word}
 
@@ -23,17 +23,17 @@ size_of (string s) = if is_name s then Err Size else Err Form
 size_of _ = Err Form
 
 -- the array of this name, counted from a position on
-abbrev pub known_from : ℕ → List (List ℕ × ℕ) → List ℕ → Option Known
+abbrev pub known_from : ℕ → List (List ℕ × ℕ) → List ℕ → Option KnownArray
 known_from position [] name = None
 known_from position (a ∷ rest) name =
     if bytes_eq a.0 name then Some (record { position = position; len = a.1 }) else known_from (suc position) rest name
 
-abbrev pub known_of : Option Known → Result Known Refusal
+abbrev pub known_of : Option KnownArray → Result KnownArray Refusal
 known_of None = Err UnknownArray
 known_of (Some known) = Ok known
 
 -- an array by its name
-abbrev pub array_of : Arrays → Data → Result Known Refusal
+abbrev pub array_of : Arrays → Data → Result KnownArray Refusal
 array_of shape (string s) = if is_name s then known_of (known_from 0 shape.arrays s) else Err Form
 array_of shape _ = Err Form
 
@@ -44,12 +44,9 @@ cell_at shape name index = do
   if nat_lt p.1 p.0.len then Ok (record { array = p.0.position; index = p.1 }) else Err OutOfRange
 
 -- `["c", name, size]`
-abbrev pub cell_form : Arrays → Items → Result Cell Refusal
-cell_form shape (item t (item a (item b no_items))) = if is_word t (codes "c") then cell_at shape a b else Err Form
-cell_form shape _ = Err Form
-
 abbrev pub cell_of : Arrays → Data → Result Cell Refusal
-cell_of shape (array ds) = cell_form shape ds
+cell_of shape (array (item t (item a (item b no_items)))) =
+    if is_word t (codes "c") then cell_at shape a b else Err Form
 cell_of shape _ = Err Form
 
 -- the section of a name, a start and a length (an array section, OpenMP API 5.2, section 3.2.5)
@@ -61,12 +58,8 @@ section_at shape name start len = do
       else Err OutOfRange
 
 -- `[name, size, size]`
-abbrev pub section_form : Arrays → Items → Result Section Refusal
-section_form shape (item a (item b (item c no_items))) = section_at shape a b c
-section_form shape _ = Err Form
-
 abbrev pub section_of : Arrays → Data → Result Section Refusal
-section_of shape (array ds) = section_form shape ds
+section_of shape (array (item a (item b (item c no_items)))) = section_at shape a b c
 section_of shape _ = Err Form
 
 -- `[section, ..]`

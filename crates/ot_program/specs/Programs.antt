@@ -1,6 +1,6 @@
--- Programs.
+-- Programs: the own form with what is shown, and then the body.
 use Rattle.std.specs.Prelude.{if◌then◌else◌, List, Result, Ok, Err, codes}
-use Rattle.serde_json.specs.Data.{Data, array, Items, no_items, item}
+use Rattle.serde_json.specs.Data.{Data, array, no_items, item}
 use Rattle.ot_model.specs.Shapes.{Arrays}
 use Rattle.ot_model.specs.Tree.{S, body_of}
 use Rattle.ot_model.specs.Programs.{Expanded}
@@ -23,7 +23,8 @@ shows_of shape shows body = do
   Ok (p.0, n)
 
 abbrev pub expanded : List Section → List S × Counts → Expanded
-expanded shows read = record { shows = shows; body = body_of read.0; statements = read.1.statements; tasks = read.1.tasks }
+expanded shows read =
+    record { shows = shows; body = body_of read.0; statements = read.1.statements; tasks = read.1.tasks }
 
 abbrev pub program_at : Arrays → Data → Data → Result Expanded Refusal
 program_at shape shows body = do
@@ -31,12 +32,9 @@ program_at shape shows body = do
   read ← body_in shape body p.1
   Ok (expanded p.0 read)
 
--- `["program", [section, ..], body]`
-abbrev pub program_form : Arrays → Items → Result Expanded Refusal
-program_form shape (item t (item a (item b no_items))) = if is_word t (codes "program") then program_at shape a b else Err Form
-program_form shape _ = Err Form
-
--- what a text is as a program over a shape: its expansion, or why it is refused
+-- What a text is as a program over a shape: its expansion, or why it is refused. It has the form
+-- `["program", [section, ..], body]`.
 abbrev pub program_of : Arrays → Data → Result Expanded Refusal
-program_of shape (array ds) = program_form shape ds
+program_of shape (array (item t (item a (item b no_items)))) =
+    if is_word t (codes "program") then program_at shape a b else Err Form
 program_of shape _ = Err Form

@@ -1,9 +1,7 @@
--- How readings are put together, and what the code's functions give of a reading.
-use Rattle.std.specs.Prelude.{◌≡◌, List, [], ◌∷◌, Result, Ok, Err}
+-- How readings are put together.
+use Rattle.std.specs.Prelude.{List, [], ◌∷◌, Result, Ok, Err}
 use Rattle.serde_json.specs.Data.{Data, Items, no_items, item}
 use Rattle.ot_program.specs.declared.fault.Refusal.{Refusal}
-use Rattle.ot_program.specs.declared.fault.ProgramFault.{ProgramFault}
-use Rattle.ot_program.specs.declared.fault.ProgramFault.TheVariants.{Memory, Refused}
 use Rattle.ot_program.specs.Refusals.{least}
 
 -- A reading goes on with what was read, or ends at its fault. So a test behind `>>=` speaks only
@@ -28,26 +26,3 @@ each_of read no_items = Ok []
 each_of read (item d ds) = do
   p ← both_of (read d) (each_of read ds)
   Ok (p.0 ∷ p.1)
-
--- want of memory says nothing of the text
-abbrev pub Fails : {A : Type 0} → ProgramFault → Result A Refusal → Type 0
-Fails Memory read = Unit {0}
-Fails (Refused c) read = read ≡ Err c
-
--- what a function returned, seen by view, is what reading gives, unless memory ran out
-abbrev pub Gives : {X A : Type 0} → (X → A) → Result X ProgramFault → Result A Refusal → Type 0
-Gives view (Ok x) read = read ≡ Ok (view x)
-Gives view (Err e) read = Fails e read
-
--- of two faults, want of memory before all others
-abbrev pub first_of : ProgramFault → ProgramFault → ProgramFault
-first_of Memory e = Memory
-first_of (Refused c) Memory = Memory
-first_of (Refused c) (Refused d) = Refused (least c d)
-
--- what is returned for two parts
-abbrev pub join : {X Y : Type 0} → Result X ProgramFault → Result Y ProgramFault → Result (X × Y) ProgramFault
-join (Ok x) (Ok y) = Ok (x, y)
-join (Ok x) (Err e) = Err e
-join (Err e) (Ok y) = Err e
-join (Err e) (Err f) = Err (first_of e f)

@@ -1,14 +1,13 @@
 -- Statements and bodies, in expanded order.
-use Rattle.std.specs.Prelude.{◌≡◌, if◌then◌else◌, List, [], ◌∷◌, ◌++◌, Result, Ok, Err, codes, ⊤}
+use Rattle.std.specs.Prelude.{if◌then◌else◌, List, [], ◌∷◌, ◌++◌, Result, Ok, Err, codes, ⊤}
 use Rattle.serde_json.specs.Data.{Data, array, Items, no_items, item}
 use Rattle.ot_model.specs.Shapes.{Arrays}
 use Rattle.ot_model.specs.Tree.{S, Set}
 use Rattle.ot_program.specs.declared.counts.Counts.{Counts}
 use Rattle.ot_program.specs.declared.fault.Refusal.{Refusal}
 use Rattle.ot_program.specs.declared.fault.Refusal.TheVariants.{Form}
-use Rattle.ot_program.specs.declared.fault.ProgramFault.{ProgramFault}
 use Rattle.ot_program.specs.Names.{is_word}
-use Rattle.ot_program.specs.Reading.{◌>>=◌, both_of, Fails}
+use Rattle.ot_program.specs.Reading.{◌>>=◌, both_of}
 use Rattle.ot_program.specs.Counting.{counted, within_limits}
 use Rattle.ot_program.specs.Parts.{cell_of}
 use Rattle.ot_program.specs.Values.{nodes_of, expression_of}
@@ -49,27 +48,13 @@ unfoldable mutual
   all_in shape no_items = λ n. Ok ([], n)
   all_in shape (item d ds) = one_then (one_in shape d) (all_in shape ds)
 
-  pub one_in : Arrays → Data → Reader
-  one_in shape (array ds) = form_in shape ds
-  one_in shape _ = refused Form
-
   -- the forms of statements, by how many items they have
-  pub form_in : Arrays → Items → Reader
-  form_in shape (item t (item a (item b no_items))) = if is_word t (codes "set") then set_in shape a b else refused Form
-  form_in shape _ = refused Form
+  pub one_in : Arrays → Data → Reader
+  one_in shape (array (item t (item a (item b no_items)))) =
+      if is_word t (codes "set") then set_in shape a b else refused Form
+  one_in shape _ = refused Form
 
 -- that a part of a statement is a list; what stands in it isn't looked at
 abbrev pub list_of : Data → Result ⊤ Refusal
 list_of (array ds) = Ok tt
 list_of _ = Err Form
-
--- the statements that were put behind the old ones, and the counts, are those that were read
-pub record Added (old new : List S) (n : Counts) (read : Read) : Type 0 where
-  pub added : List S
-  pub is : read ≡ Ok (added, n)
-  pub list : new ≡ old ++ added
-
--- what a function returned that puts statements behind others; after a fault the list is given up
-abbrev pub Adds : List S → List S → Counts → Result ⊤ ProgramFault → Read → Type 0
-Adds old new n (Ok u) read = Added old new n read
-Adds old new n (Err e) read = Fails e read

@@ -1,6 +1,6 @@
 -- Values: numbers, cells, and operations on values.
 use Rattle.std.specs.Prelude.{ℕ, ◌+◌, max, nat_le, if◌then◌else◌, List, Option, Some, None, Result, Ok, Err, bytes_eq, codes}
-use Rattle.serde_json.specs.Data.{Data, number, string, array, Items, no_items, item}
+use Rattle.serde_json.specs.Data.{Data, number, string, array, no_items, item}
 use Rattle.ot_program.specs.Numbers.{whole_number}
 use Rattle.ot_model.specs.Shapes.{Arrays}
 use Rattle.ot_model.specs.Tree.{E, Literal, CellAt, Apply, PickFrom}
@@ -46,18 +46,14 @@ operation (Some op) one two = do
   p ← both_of one two
   Ok (Apply op p.0 p.1)
 
-unfoldable mutual
-  -- a number, or one of the forms
-  pub value_of : Arrays → Data → Result E Refusal
-  value_of shape (number n) = literal_of (whole_number n)
-  value_of shape (array ds) = value_form shape ds
-  value_of shape _ = Err Form
-
-  -- `["c", name, size]`, `[op, value, value]`
-  pub value_form : Arrays → Items → Result E Refusal
-  value_form shape (item t (item a (item b no_items))) =
-      if is_word t (codes "c") then cell_value (cell_at shape a b) else operation (op_of t) (value_of shape a) (value_of shape b)
-  value_form shape _ = Err Form
+-- a number, `["c", name, size]`, or `[op, value, value]`
+unfoldable pub value_of : Arrays → Data → Result E Refusal
+value_of shape (number n) = literal_of (whole_number n)
+value_of shape (array (item t (item a (item b no_items)))) =
+    if is_word t (codes "c")
+    then cell_value (cell_at shape a b)
+    else operation (op_of t) (value_of shape a) (value_of shape b)
+value_of shape _ = Err Form
 
 -- a number and a cell have depth 1, an operation one more than its deeper side
 abbrev pub depth_of : E → ℕ

@@ -1,5 +1,6 @@
 ghost use Rattle.std.specs.Prelude.{◌≡◌};
-ghost use Rattle.ot_program.specs.Reading.{both_of, join};
+ghost use Rattle.ot_program.specs.Reading.{both_of};
+ghost use Rattle.ot_program.specs.Returned.{join};
 
 use crate::fault::{ProgramFault, Refusal};
 

@@ -1,7 +1,8 @@
 ghost use Rattle.std.specs.Prelude.{◌≡◌, ◌<◌, ◌^◌, length};
+ghost use Rattle.serde_json.specs.Data.{array};
 ghost use Rattle.serde_json.specs.View.{view, items_view};
 ghost use Rattle.ot_model.specs.ShapeView.{arrays_of};
-ghost use Rattle.ot_program.specs.Parts.{size_of, known_from, array_of, cell_at, cell_of, cell_form, section_of, section_form, section_at};
+ghost use Rattle.ot_program.specs.Parts.{size_of, known_from, array_of, cell_at, cell_of, section_of, section_at};
 
 use crate::both::both;
 use crate::fault::Refusal;
@@ -12,7 +13,7 @@ use serde_json::Value;
 
 /// An array of the shape: its position, and how many cells it has.
 #[derive(Clone, Copy, Debug, PartialEq, Eq)]
-pub(crate) struct Known {
+pub(crate) struct KnownArray {
     position: u32,
     len: u32,
 }
@@ -32,13 +33,13 @@ fn read_size(value: &Value) -> Result<u32, Refusal>
     }
 }
 
-fn find_array(arrays: &[ArrayShape], name: &str) -> Option<Known>
+fn find_array(arrays: &[ArrayShape], name: &str) -> Option<KnownArray>
     requires { length arrays.now < 2 ^ 32 }
     ensures { result ≡ known_from 0 (arrays_of arrays.now) name.now }
 {
     for (position, array) in arrays.iter().enumerate() {
         if array.name.as_str() == name {
-            return Some(Known {
+            return Some(KnownArray {
                 position: position as u32,
                 len: array.len,
             });
@@ -47,7 +48,7 @@ fn find_array(arrays: &[ArrayShape], name: &str) -> Option<Known>
     None
 }
 
-fn read_array(shape: &Shape, value: &Value) -> Result<Known, Refusal>
+fn read_array(shape: &Shape, value: &Value) -> Result<KnownArray, Refusal>
     ensures { result ≡ array_of shape.now (view value.now) }
 {
     match value {
@@ -83,9 +84,9 @@ pub(crate) fn read_cell(shape: &Shape, value: &Value) -> Result<Cell, Refusal>
     }
 }
 
-#[tactic(auto, using(crate::proofs::Forms::cell_form_short, crate::proofs::Forms::cell_form_long))]
+#[tactic(auto, using(crate::proofs::Forms::no_cell))]
 fn cell_form(shape: &Shape, items: &[Value]) -> Result<Cell, Refusal>
-    ensures { result ≡ cell_form shape.now (items_view items.now) }
+    ensures { result ≡ cell_of shape.now (array (items_view items.now)) }
 {
     let [tag, name, index] = items else {
         return Err(Refusal::Form);
@@ -125,9 +126,9 @@ pub(crate) fn read_section(shape: &Shape, value: &Value) -> Result<Section, Refu
     }
 }
 
-#[tactic(auto, using(crate::proofs::Forms::section_form_short, crate::proofs::Forms::section_form_long))]
+#[tactic(auto, using(crate::proofs::Forms::no_section))]
 fn section_form(shape: &Shape, items: &[Value]) -> Result<Section, Refusal>
-    ensures { result ≡ section_form shape.now (items_view items.now) }
+    ensures { result ≡ section_of shape.now (array (items_view items.now)) }
 {
     let [name, start, len] = items else {
         return Err(Refusal::Form);

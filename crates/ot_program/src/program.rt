@@ -1,9 +1,10 @@
 ghost use Rattle.std.specs.Prelude.{IfOk};
+ghost use Rattle.serde_json.specs.Data.{array};
 ghost use Rattle.serde_json.specs.View.{view, items_view};
 ghost use Rattle.ot_model.specs.Shapes.{array_lengths};
 ghost use Rattle.ot_model.specs.Programs.{expanded_of, IsNamedIn};
-ghost use Rattle.ot_program.specs.Reading.{Gives};
-ghost use Rattle.ot_program.specs.Programs.{program_of, program_form, program_at};
+ghost use Rattle.ot_program.specs.Returned.{Gives};
+ghost use Rattle.ot_program.specs.Programs.{program_of, program_at};
 
 use crate::both::join;
 use crate::counts::{Counts, cells};
@@ -20,7 +21,8 @@ use std::alloc::Global;
 pub fn read_program(alloc: Global, text: &Value, shape: &Shape) -> Result<Program, ProgramFault>
     ensures read { Gives expanded_of result (program_of shape.now (view text.now)) }
     // Each cell that the program names is in the shape.
-    ensures named { IfOk result (λ program. IsNamedIn (array_lengths shape.now) (expanded_of program)) }
+    ensures named { IfOk result
+        (λ program. IsNamedIn (array_lengths shape.now) (expanded_of program)) }
 {
     // The shape's lengths fit 32 bits.
     let _arrays = shape.arrays();
@@ -30,9 +32,9 @@ pub fn read_program(alloc: Global, text: &Value, shape: &Shape) -> Result<Progra
     }
 }
 
-#[tactic(auto, using(crate::proofs::Forms::program_form_but_three))]
+#[tactic(auto, using(crate::proofs::Forms::no_program_but_three))]
 fn program_form(alloc: Global, shape: &Shape, items: &[Value]) -> Result<Program, ProgramFault>
-    ensures { Gives expanded_of result (program_form shape.now (items_view items.now)) }
+    ensures { Gives expanded_of result (program_of shape.now (array (items_view items.now))) }
 {
     if items.len() != 3 {
         return Err(ProgramFault::Refused(Refusal::Form));

@@ -1,5 +1,6 @@
 ghost use Rattle.serde_json.specs.View.{view, items_view};
-ghost use Rattle.ot_program.specs.Reading.{Gives, each_of};
+ghost use Rattle.ot_program.specs.Reading.{each_of};
+ghost use Rattle.ot_program.specs.Returned.{Gives};
 ghost use Rattle.ot_program.specs.Parts.{section_of, sections_of};
 
 use crate::fault::{ProgramFault, Refusal};

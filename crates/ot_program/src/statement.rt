@@ -1,7 +1,9 @@
 ghost use Rattle.std.specs.Prelude.{◌≡◌, map};
+ghost use Rattle.serde_json.specs.Data.{array};
 ghost use Rattle.serde_json.specs.View.{view, items_view};
 ghost use Rattle.ot_model.specs.View.{stmt_of};
-ghost use Rattle.ot_program.specs.Statements.{Adds, body_in, all_in, one_in, form_in, set_in, list_of};
+ghost use Rattle.ot_program.specs.Statements.{body_in, all_in, one_in, set_in, list_of};
+ghost use Rattle.ot_program.specs.Returned.{Adds};
 
 use crate::both::join;
 use crate::counts::Counts;
@@ -22,7 +24,8 @@ pub(crate) fn read_body(
     counts: &mut Counts,
     out: &mut Vec<Stmt>,
 ) -> Result<(), ProgramFault>
-    ensures { Adds (map stmt_of out.old.items) (map stmt_of out.new.items) counts.new result (body_in shape.now (view body.now) counts.old) }
+    ensures { Adds (map stmt_of out.old.items) (map stmt_of out.new.items) counts.new result
+        (body_in shape.now (view body.now) counts.old) }
 {
     match body {
         Value::Array(items) => read_all(alloc, shape, items, counts, out),
@@ -30,7 +33,7 @@ pub(crate) fn read_body(
     }
 }
 
-#[tactic(auto, using(crate::proofs::Fronts::front_none, crate::proofs::Fronts::all_step, crate::proofs::Fronts::all_fails, crate::proofs::Fronts::all_ends))]
+#[tactic(auto, using(crate::proofs::Fronts::fronts))]
 fn read_all(
     alloc: Global,
     shape: &Shape,
@@ -38,7 +41,8 @@ fn read_all(
     counts: &mut Counts,
     out: &mut Vec<Stmt>,
 ) -> Result<(), ProgramFault>
-    ensures { Adds (map stmt_of out.old.items) (map stmt_of out.new.items) counts.new result (all_in shape.now (items_view items.now) counts.old) }
+    ensures { Adds (map stmt_of out.old.items) (map stmt_of out.new.items) counts.new result
+        (all_in shape.now (items_view items.now) counts.old) }
 {
     for statement in items {
         read_one(alloc, shape, statement, counts, out)?;
@@ -54,7 +58,8 @@ fn read_one(
     counts: &mut Counts,
     out: &mut Vec<Stmt>,
 ) -> Result<(), ProgramFault>
-    ensures { Adds (map stmt_of out.old.items) (map stmt_of out.new.items) counts.new result (one_in shape.now (view statement.now) counts.old) }
+    ensures { Adds (map stmt_of out.old.items) (map stmt_of out.new.items) counts.new result
+        (one_in shape.now (view statement.now) counts.old) }
 {
     match statement {
         Value::Array(items) => read_form(alloc, shape, items, counts, out),
@@ -62,7 +67,7 @@ fn read_one(
     }
 }
 
-#[tactic(auto, using(crate::proofs::StatementForms::form_in_short, crate::proofs::StatementForms::form_in_long), unfolding(crate::specs::Statements::body_in))]
+#[tactic(auto, using(crate::proofs::StatementForms::no_statement), unfolding(crate::specs::Statements::body_in))]
 fn read_form(
     alloc: Global,
     shape: &Shape,
@@ -70,7 +75,8 @@ fn read_form(
     counts: &mut Counts,
     out: &mut Vec<Stmt>,
 ) -> Result<(), ProgramFault>
-    ensures { Adds (map stmt_of out.old.items) (map stmt_of out.new.items) counts.new result (form_in shape.now (items_view items.now) counts.old) }
+    ensures { Adds (map stmt_of out.old.items) (map stmt_of out.new.items) counts.new result
+        (one_in shape.now (array (items_view items.now)) counts.old) }
 {
     let [tag, cell, value] = items else {
         return Err(ProgramFault::Refused(Refusal::Form));
@@ -89,7 +95,8 @@ fn read_set(
     counts: &mut Counts,
     out: &mut Vec<Stmt>,
 ) -> Result<(), ProgramFault>
-    ensures { Adds (map stmt_of out.old.items) (map stmt_of out.new.items) counts.new result (set_in shape.now (view cell.now) (view value.now) counts.old) }
+    ensures { Adds (map stmt_of out.old.items) (map stmt_of out.new.items) counts.new result
+        (set_in shape.now (view cell.now) (view value.now) counts.old) }
 {
     let cell = read_cell(shape, cell).map_err(ProgramFault::Refused);
     let (cell, value) = join(cell, read_expression(alloc, shape, value))?;

@@ -1,10 +1,11 @@
 ghost use Rattle.std.specs.Prelude.{◌≡◌, min, ◌-◌, ◌^◌, Result};
+ghost use Rattle.serde_json.specs.Data.{array};
 ghost use Rattle.serde_json.specs.View.{view, items_view};
 ghost use Rattle.ot_model.specs.Tree.{E};
 ghost use Rattle.ot_model.specs.View.{expr_of};
 ghost use Rattle.ot_program.specs.declared.fault.Refusal.{Refusal};
-ghost use Rattle.ot_program.specs.Reading.{Gives};
-ghost use Rattle.ot_program.specs.Values.{op_named, op_of, operation, value_of, value_form, expression_of, depth_of, nodes_of};
+ghost use Rattle.ot_program.specs.Returned.{Gives};
+ghost use Rattle.ot_program.specs.Values.{op_named, op_of, operation, value_of, expression_of, depth_of, nodes_of};
 
 use crate::both::join;
 use crate::fault::{ProgramFault, Refusal};
@@ -50,9 +51,9 @@ fn read_value(alloc: Global, shape: &Shape, value: &Value) -> Result<Expr, Progr
 
 // `["c", name, size]`, `[op, value, value]`
 #[cycle(value)]
-#[tactic(auto, using(crate::proofs::ValueForms::value_form_but_three), unfolding(crate::specs::Values::value_of))]
+#[tactic(auto, using(crate::proofs::ValueForms::no_value_but_three), unfolding(crate::specs::Values::value_of))]
 fn value_form(alloc: Global, shape: &Shape, items: &[Value]) -> Result<Expr, ProgramFault>
-    ensures { Gives expr_of result (value_form shape.now (items_view items.now)) }
+    ensures { Gives expr_of result (value_of shape.now (array (items_view items.now))) }
 {
     if items.len() != 3 {
         return Err(ProgramFault::Refused(Refusal::Form));

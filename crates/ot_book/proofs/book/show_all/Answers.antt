@@ -1,9 +1,8 @@
 use Rattle.std.specs.Prelude.{slice_range, unwrap_or}
-use Rattle.std.proofs.Common.{◌≡◌, ◌+◌, ◌<◌, ◌≤◌, ℕ, List, [], length, get_or, map, refl, sym, ap, ◌∙◌, subst, arith, vec_len}
+use Rattle.std.proofs.Common.{◌≡◌, ◌+◌, ◌<◌, [], length, get_or, sym, ap, ◌∙◌, subst, arith, vec_len}
 use Rattle.std.proofs.Math.Seq.{map-set_same}
 use Rattle.ot_model.specs.Cells.{lengths}
 use Rattle.ot_model.specs.Names.{FitsShape}
-use Rattle.ot_book.specs.Answers.{shown}
 use Rattle.ot_book.proofs.ArraysLemmas.{list-at}
 use Rattle.ot_book.proofs.ShownLemmas.{shown_one, shown-more, section-fits, list-long, as-many}
 use Rattle.ot_book.proofs.book.show_all.Goals as goal

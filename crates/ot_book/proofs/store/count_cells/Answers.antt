@@ -1,4 +1,4 @@
-use Rattle.std.proofs.Common.{◌≡◌, ◌<◌, length, get_or, arith, rules, sym, ap, subst}
+use Rattle.std.proofs.Common.{◌≡◌, ◌<◌, length, get_or, arith, subst}
 use Rattle.ot_book.proofs.ArraysLemmas.{counted-more}
 use Rattle.ot_book.proofs.store.count_cells.Goals as goal
 

@@ -1,7 +1,7 @@
-use Rattle.std.proofs.Common.{◌≡◌, ◌+◌, ◌<◌, List, length, get_or, take, map, refl, sym, ap, ◌∙◌, subst, arith, ℕ, vec_len, string_bytes, slice_set}
-use Rattle.std.proofs.Math.ListN.{get_or-map, length-map, length-set}
+use Rattle.std.proofs.Common.{◌≡◌, ◌<◌, List, length, get_or, map, refl, sym, ap, ◌∙◌, arith, ℕ, string_bytes, slice_set}
+use Rattle.std.proofs.Math.ListN.{get_or-map, length-map}
 use Rattle.ot_model.specs.Cells.{lengths, updated}
-use Rattle.ot_book.specs.Arrays.{Named, recelled, cells_in}
+use Rattle.ot_book.specs.Arrays.{Named, cells_in}
 use Rattle.ot_book.specs.Stores.{named_of}
 use Rattle.ot_book.specs.declared.store.NamedArray.{NamedArray}
 use Rattle.ot_book.proofs.ArraysLemmas.{recelled-none, recelled-more, named-set, lengths-updated, lists-fit, list-at, list-fits}

@@ -1,4 +1,4 @@
-use Rattle.std.proofs.Common.{◌≡◌, map, take, length, vec_len}
+use Rattle.std.proofs.Common.{◌≡◌, map, take, vec_len}
 use Rattle.ot_model.specs.Cells.{lengths}
 use Rattle.ot_book.specs.Arrays.{recelled, cells_in}
 use Rattle.ot_book.specs.Stores.{named_of}

@@ -1,4 +1,4 @@
-use Rattle.ot_program.proofs.StatementsTold.{shows_tell_first}
+use Rattle.ot_program.proofs.ShowsTold.{shows_tell_first}
 use Rattle.ot_program.proofs.laws.shows_tell_first.Goals as goal
 
 pub returns : goal.returns

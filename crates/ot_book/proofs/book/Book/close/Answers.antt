@@ -9,7 +9,7 @@ use Rattle.ot_model.proofs.SerialLemmas.{serial_run-≤}
 use Rattle.ot_book.specs.Answers.{Runs, shown}
 use Rattle.ot_book.specs.Arrays.{cells_in, recelled}
 use Rattle.ot_book.specs.Books.{Register, next_step, Asks}
-use Rattle.ot_book.specs.BookView.{register_of, entries_of, HasRoom}
+use Rattle.ot_book.specs.BookView.{register_of, entries_of}
 use Rattle.ot_book.proofs.CloseLemmas.{lengths-meaning, logged-done, entries_of-pushed, line-pending, register-is}
 use Rattle.ot_book.proofs.OpenLemmas.{book-logged, length-entries_of}
 use Rattle.ot_book.proofs.book.Book.close.Goals as goal

@@ -1,7 +1,6 @@
-use Rattle.std.proofs.Common.{◌≡◌, ◌+◌, ◌++◌, [], ◌∷◌, ℕ, List, length, sym, ap, ◌∙◌, refl, arith, Some, None, true}
+use Rattle.std.proofs.Common.{◌≡◌, ◌+◌, length, sym, ap, ◌∙◌, refl, arith, Some, None, true}
 use Rattle.std.specs.Prelude.{option_map}
-use Rattle.ot_book.specs.Replies.{Refused}
-use Rattle.ot_book.specs.BookView.{register_of, entries_of}
+use Rattle.ot_book.specs.BookView.{register_of}
 use Rattle.ot_book.proofs.CloseLemmas.{entries_of-pushed, register-is, logged-lost}
 use Rattle.ot_book.proofs.OpenLemmas.{book-logged, length-entries_of}
 use Rattle.ot_book.proofs.book.Book.close_refused.Goals as goal

@@ -1,6 +1,5 @@
-use Rattle.std.proofs.Common.{◌≡◌, ◌+◌, ◌++◌, [], ◌∷◌, ℕ, List, length, sym, ap, ◌∙◌, subst, refl, arith, ◌≤◌, ◌⊎◌, vec_len, Some, None, true, false}
+use Rattle.std.proofs.Common.{◌≡◌, ◌+◌, ◌++◌, [], ◌∷◌, length, sym, ap, ◌∙◌, subst, refl, arith, ◌≤◌, ◌⊎◌, vec_len, None}
 use Rattle.std.specs.Prelude.{option_map}
-use Rattle.ot_book.specs.Books.{Register}
 use Rattle.ot_book.specs.Replies.{Refused}
 use Rattle.ot_book.specs.Answers.{Now, step_of}
 use Rattle.ot_book.specs.declared.book.Book.TheInside.{Inside}

@@ -1,4 +1,4 @@
-use Rattle.std.proofs.Common.{◌≡◌, map, take}
+use Rattle.std.proofs.Common.{◌≡◌, take}
 use Rattle.ot_book.specs.Stores.{named_of}
 use Rattle.ot_book.proofs.store.Store.copy.Given as goal
 

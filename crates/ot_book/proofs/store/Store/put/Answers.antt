@@ -3,7 +3,7 @@ use Rattle.std.specs.Prelude.{Ok}
 use Rattle.std.proofs.Math.ListN.{get_or-map}
 use Rattle.std.proofs.lemmas.List.{get_or_default}
 use Rattle.ot_model.specs.Cells.{updated}
-use Rattle.ot_book.specs.Arrays.{Named, put, AreSmall, overwritten}
+use Rattle.ot_book.specs.Arrays.{Named, put, AreSmall}
 use Rattle.ot_book.specs.Stores.{named_of}
 use Rattle.ot_book.proofs.ArraysLemmas.{named-set, AreSmall-updated, slice_get-named, put-there}
 use Rattle.ot_book.proofs.store.Store.put.Goals as goal
