@@ -1,0 +1,2 @@
+pub mod SiblingsLemmas
+pub mod ViewLemmas

@@ -1,0 +1,9 @@
+//! The children of one body, and which of them may run.
+#![tactic(auto)]
+
+pub mod siblings;
+
+pub use siblings::Siblings;
+
+#[cfg(test)]
+mod tests;
