@@ -1,0 +1,5 @@
+pub mod Lending
+pub mod Leases
+pub mod Owning
+pub mod Worth
+pub mod Laws
