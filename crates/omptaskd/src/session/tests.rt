@@ -6,7 +6,7 @@ use super::reader::Reading;
 use super::serve::serve;
 use super::writer::Writing;
 use crate::tests::Narrow;
-use ot_book::{Book, Limits, Solo, Store};
+use ot_book::{Book, Executor, JobSpec, Limits, NotDone, Outcome, Solo, Store};
 use std::alloc::Global;
 use std::io;
 use std::io::Read;
@@ -214,6 +214,101 @@ fn a_read_that_fails_or_ends_at_each_place(rt: HostRuntime) -> Result<(), Fail> 
                 &FIRST_REPLIES.as_bytes()[..bytes]
             );
         }
+    }
+    Ok(())
+}
+
+/// So many lines of 60,000 spaces each.
+fn blank_lines(alloc: Global, count: u32) -> Result<Vec<u8>, Fail> {
+    let spaces = vec![in alloc; b' '; 60_000]?;
+    let mut lines = Vec::new(alloc);
+    for _ in 0..count {
+        lines.extend_from_slice(&spaces)?;
+        lines.push(b'\n')?;
+    }
+    Ok(lines)
+}
+
+/// The replies to so many lines that are no JSON.
+fn no_json(alloc: Global, count: u32) -> Result<String, Fail> {
+    let mut replies = String::new(alloc);
+    for place in 0..count {
+        let number = place.wrapping_add(1);
+        let reply = format!(in alloc; "[\"err\",{number},410]\n")?;
+        replies.push_str(reply.as_str())?;
+    }
+    Ok(replies)
+}
+
+#[test]
+fn a_session_of_too_many_reads(rt: HostRuntime) -> Result<(), Fail> {
+    let mut book = book_of(rt.alloc(), Limits::usual())?;
+    let lines = blank_lines(rt.alloc(), 17)?;
+    let mut source = Reading::new(Dripping {
+        bytes: &lines,
+        left: 2_000_000,
+        fails: false,
+    });
+    let mut sink = Writing::new(Vec::new(rt.alloc()));
+    let ended = serve(rt.alloc(), &mut book, &mut Solo, &mut source, &mut sink);
+    assert_eq!(rt; ended, Err(FrontFault::TooManyTurns));
+    let replies = no_json(rt.alloc(), 16)?;
+    assert_eq!(rt; sink.into_inner().as_slice(), replies.as_bytes());
+    Ok(())
+}
+
+#[test]
+fn a_read_takes_many_bytes(rt: HostRuntime) -> Result<(), Fail> {
+    let lines = blank_lines(rt.alloc(), 20)?;
+    let (ended, written) = session(rt.alloc(), Limits::usual(), &lines)?;
+    assert_eq!(rt; ended, Ok(End::EndOfInput));
+    let replies = no_json(rt.alloc(), 20)?;
+    assert_eq!(rt; written.as_slice(), replies.as_bytes());
+    Ok(())
+}
+
+/// An executor that performs no job.
+#[derive(Drop)]
+struct Refusing {
+    why: NotDone,
+}
+
+impl Executor for Refusing {
+    fn perform(&mut self, _alloc: Global, _spec: &JobSpec) -> Result<Outcome, NotDone> {
+        Err(self.why)
+    }
+}
+
+/// A session that asks for a run and, behind it, for the cells, where the run isn't performed; and
+/// one after it that asks for the cells again. It gives the end of the first, and what both write.
+fn refused(alloc: Global, why: NotDone) -> Result<(Result<End, FrontFault>, Vec<u8>), Fail> {
+    let get = "[\"get\",\"a\",0,3]\n";
+    let run = "[\"run\",[\"program\",[],[[\"set\",[\"c\",\"a\",0],9]]]]\n";
+    let input = format!(in alloc; "{FIRST}{run}{get}")?;
+    let mut book = book_of(alloc, Limits::usual())?;
+    let mut source = Reading::new(input.as_bytes());
+    let mut sink = Writing::new(Vec::new(alloc));
+    let mut executor = Refusing { why };
+    let ended = serve(alloc, &mut book, &mut executor, &mut source, &mut sink);
+    let mut source = Reading::new(get.as_bytes());
+    let _ = serve(alloc, &mut book, &mut Solo, &mut source, &mut sink);
+    Ok((ended, sink.into_inner()))
+}
+
+#[test]
+fn a_run_that_is_not_performed(rt: HostRuntime) -> Result<(), Fail> {
+    let lost = "[\"err\",4,508]\n[\"cells\",5,[1,2,3]]\n[\"cells\",6,[1,2,3]]\n";
+    let unlogged = "[\"cells\",4,[1,2,3]]\n";
+    let cases = [
+        (NotDone::Memory, Ok(End::EndOfInput), lost),
+        (NotDone::Closed, Ok(End::Closed), unlogged),
+        (NotDone::Stranger, Err(FrontFault::Stranger), unlogged),
+    ];
+    for (why, end, replies) in cases {
+        let (ended, written) = refused(rt.alloc(), why)?;
+        assert_eq!(rt; ended, end, "{why:?}");
+        let all = format!(in rt.alloc(); "{FIRST_REPLIES}{replies}")?;
+        assert_eq!(rt; written.as_slice(), all.as_bytes(), "{why:?}");
     }
     Ok(())
 }
