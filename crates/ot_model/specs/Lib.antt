@@ -6,6 +6,7 @@ pub mod Uses
 pub mod Shapes
 pub mod ShapeView
 pub mod Counts
+pub mod Grouped
 pub mod Serial
 pub mod Writes
 pub mod Laws

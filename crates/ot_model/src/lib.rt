@@ -4,6 +4,7 @@
 
 pub mod cells;
 pub mod expr;
+mod grouped;
 pub mod laws;
 pub mod plain;
 pub mod program;

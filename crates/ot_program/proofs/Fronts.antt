@@ -1,17 +1,27 @@
 -- A loop over statements has read a front of what there is to read.
-use Rattle.std.proofs.Common.{◌≡◌, ℕ, ◌+◌, ◌<◌, ◌≤◌, List, [], ◌++◌, length, get_or, drop, Ok, Err, refl, sym, ap, ◌∙◌, append_assoc, append-nil, add-one}
+use Rattle.std.proofs.Common.{◌≡◌, ℕ, ◌+◌, ◌<◌, ◌≤◌, List, [], ◌∷◌, ◌++◌, map, length, get_or, drop, Ok, Err, refl, sym, ap, ◌∙◌, append_assoc, append-nil, add-one}
 use Rattle.std.proofs.Math.Seq.{drop-cons}
 use Rattle.std.proofs.lemmas.List.{drop_all}
 use Rattle.serde_json.specs.View.{view, items_view}
 use Rattle.serde_json.specs.declared.value.Value.{Value}
 use Rattle.ot_model.specs.Shapes.{Arrays}
 use Rattle.ot_model.specs.Tree.{S}
+use Rattle.ot_model.specs.View.{stmt_of}
+use Rattle.ot_model.specs.declared.stmt.Stmt.{Stmt}
+use Rattle.std.proofs.lemmas.List.{map-append}
 use Rattle.ot_program.specs.declared.counts.Counts.{Counts}
 use Rattle.ot_program.specs.declared.fault.ProgramFault.{ProgramFault}
 use Rattle.ot_program.specs.declared.fault.ProgramFault.TheVariants.{Memory, Refused}
+use Rattle.ot_program.specs.Variables.{Bindings}
 use Rattle.ot_program.specs.Reading.{◌>>=◌}
 use Rattle.ot_program.specs.Statements.{Read, Reader, one_then, one_in, all_in}
 use Rattle.ot_program.specs.Returned.{Fails, Added}
+
+-- one statement more
+pub put_behind : (old new : List Stmt) (x : Stmt) (y : S) → new ≡ old ++ x ∷ [] → stmt_of x ≡ y
+    → map stmt_of new ≡ map stmt_of old ++ y ∷ []
+put_behind old new x y is seen =
+    ap (map stmt_of) is ∙ map-append stmt_of old (x ∷ []) ∙ ap (λ (s : S). map stmt_of old ++ s ∷ []) seen
 
 abbrev pub behind : List S → Read → Read
 behind front rest = rest >>= λ q. Ok (front ++ q.0, q.1)
@@ -59,30 +69,30 @@ front_all old now n whole h = record {
 }
 
 -- the same over a list of values from an index on
-all_in-drop : (shape : Arrays) (vs : List Value) (i : ℕ) (v : Value) (n : Counts) → i < length vs → v ≡ get_or vs i v
-    → all_in shape (items_view (drop i vs)) n ≡ one_then (one_in shape (view v))
-    (all_in shape (items_view (drop (i + 1) vs))) n
+all_in-drop : (shape : Arrays) (level : ℕ) (variables : Bindings) (vs : List Value) (i : ℕ) (v : Value) (n : Counts) → i < length vs → v ≡ get_or vs i v
+    → all_in shape level (items_view (drop i vs)) variables n ≡ one_then (one_in shape level (view v) variables)
+    (all_in shape level (items_view (drop (i + 1) vs)) variables) n
 unfolding all_in
-all_in-drop shape vs i v n within is = rw (drop-cons vs i v within, ← is, add-one) refl
+all_in-drop shape level variables vs i v n within is = rw (drop-cons vs i v within, ← is, add-one) refl
 
-pub all_step : (old now next : List S) (shape : Arrays) (vs : List Value) (i : ℕ) (v : Value) (n m : Counts) (whole : Read)
-    → i < length vs → v ≡ get_or vs i v → Front old now (all_in shape (items_view (drop i vs)) n) whole
-    → Added now next m (one_in shape (view v) n) → Front old next (all_in shape (items_view (drop (i + 1) vs)) m) whole
-all_step old now next shape vs i v n m whole within is h a =
-    front_more old now next (one_in shape (view v)) (all_in shape (items_view (drop (i + 1) vs))) n m whole
-    (rw (all_in-drop shape vs i v n within is) at h) a
+pub all_step : (old now next : List S) (shape : Arrays) (level : ℕ) (variables : Bindings) (vs : List Value) (i : ℕ) (v : Value) (n m : Counts) (whole : Read)
+    → i < length vs → v ≡ get_or vs i v → Front old now (all_in shape level (items_view (drop i vs)) variables n) whole
+    → Added now next m (one_in shape level (view v) variables n) → Front old next (all_in shape level (items_view (drop (i + 1) vs)) variables m) whole
+all_step old now next shape level variables vs i v n m whole within is h a =
+    front_more old now next (one_in shape level (view v) variables) (all_in shape level (items_view (drop (i + 1) vs)) variables) n m whole
+    (rw (all_in-drop shape level variables vs i v n within is) at h) a
 
-pub all_fails : (old now : List S) (shape : Arrays) (vs : List Value) (i : ℕ) (v : Value) (n : Counts) (whole : Read)
+pub all_fails : (old now : List S) (shape : Arrays) (level : ℕ) (variables : Bindings) (vs : List Value) (i : ℕ) (v : Value) (n : Counts) (whole : Read)
     (e : ProgramFault)
-    → i < length vs → v ≡ get_or vs i v → Front old now (all_in shape (items_view (drop i vs)) n) whole
-    → Fails e (one_in shape (view v) n) → Fails e whole
-all_fails old now shape vs i v n whole e within is h f =
-    front_fails old now (one_in shape (view v)) (all_in shape (items_view (drop (i + 1) vs))) n whole e
-    (rw (all_in-drop shape vs i v n within is) at h) f
+    → i < length vs → v ≡ get_or vs i v → Front old now (all_in shape level (items_view (drop i vs)) variables n) whole
+    → Fails e (one_in shape level (view v) variables n) → Fails e whole
+all_fails old now shape level variables vs i v n whole e within is h f =
+    front_fails old now (one_in shape level (view v) variables) (all_in shape level (items_view (drop (i + 1) vs)) variables) n whole e
+    (rw (all_in-drop shape level variables vs i v n within is) at h) f
 
-pub all_ends : (old now : List S) (shape : Arrays) (vs : List Value) (i : ℕ) (n : Counts) (whole : Read)
-    → length vs ≤ i → Front old now (all_in shape (items_view (drop i vs)) n) whole → Added old now n whole
+pub all_ends : (old now : List S) (shape : Arrays) (level : ℕ) (variables : Bindings) (vs : List Value) (i : ℕ) (n : Counts) (whole : Read)
+    → length vs ≤ i → Front old now (all_in shape level (items_view (drop i vs)) variables n) whole → Added old now n whole
 unfolding all_in
-all_ends old now shape vs i n whole past h = front_all old now n whole (rw (drop_all i vs past) at h)
+all_ends old now shape level variables vs i n whole past h = front_all old now n whole (rw (drop_all i vs past) at h)
 
 pub ruleset fronts = (front_none, all_step, all_fails, all_ends)

@@ -1,5 +1,5 @@
 -- What is returned for two parts is what is told of two parts.
-use Rattle.std.proofs.Common.{◌≡◌, Result, Ok, Err, refl}
+use Rattle.std.proofs.Common.{◌≡◌, Result, Ok, Err, refl, sym, ap, ◌∙◌}
 use Rattle.ot_program.specs.declared.fault.Refusal.{Refusal}
 use Rattle.ot_program.specs.declared.fault.ProgramFault.{ProgramFault}
 use Rattle.ot_program.specs.declared.fault.ProgramFault.TheVariants.{Memory, Refused}
@@ -28,3 +28,11 @@ pub join_fails : {X Y A B C : Type 0} (f : X → A) (g : Y → B) (x : Result X 
     (r : Result A Refusal) (s : Result B Refusal) (k : A × B → Result C Refusal) (e : ProgramFault)
     → join x y ≡ Err e → Gives f x r → Gives g y s → Fails e (both_of r s >>= k)
 join_fails f g x y r s k e is p q = Fails-then e (both_of r s) k (rw is at (join_gives f g x y r s p q))
+
+-- the first of two parts that were read
+pub join_reads : {X Y A : Type 0} (view : X → A) (x : Result X ProgramFault) (y : Result Y ProgramFault) (r : Result A Refusal)
+    (p : X × Y) → Ok p ≡ join x y → Gives view x r → r ≡ Ok (view p.0)
+join_reads {X} {Y} view (Ok a) (Ok b) r p is h = let e : p ≡ (a, b) = cc in h ∙ ap (λ (q : X × Y). Ok (view q.0)) (sym e)
+join_reads {X} {Y} view (Ok a) (Err f) r p is h = absurd cc
+join_reads view (Err e) (Ok b) r p is h = absurd cc
+join_reads view (Err e) (Err f) r p is h = absurd cc

@@ -13,6 +13,10 @@ pub ok_then : {A B : Type 0} (r : Result A Refusal) (k : A → Result B Refusal)
 ok_then (Ok x) k P Q h f = f x h
 ok_then (Err c) k P Q h f = tt
 
+pub ok_weaker : {A : Type 0} (r : Result A Refusal) (P Q : A → Type 0) → IfOk r P → ((x : A) → P x → Q x) → IfOk r Q
+ok_weaker (Ok x) P Q h f = f x h
+ok_weaker (Err c) P Q h f = tt
+
 pub ok_any : {A : Type 0} (r : Result A Refusal) → IfOk r (λ x. ⊤)
 ok_any (Ok x) = tt
 ok_any (Err c) = tt

@@ -1,23 +1,110 @@
--- Lists of another length are no statement.
-use Rattle.std.proofs.Common.{◌≡◌, ◌<◌, ◌≤◌, List, [], ◌∷◌, length, Err, refl, arith}
+-- What a list is read as, where a statement is wanted.
+use Rattle.std.proofs.Common.{◌≡◌, ℕ, ◌+◌, true, false, List, [], ◌∷◌, length, get_or, Err, codes, refl, sym, arith}
+use Rattle.std.specs.Prelude.{◌≢◌}
 use Rattle.serde_json.specs.Data.{array}
-use Rattle.serde_json.specs.View.{items_view}
+use Rattle.serde_json.specs.View.{view, items_view}
 use Rattle.serde_json.specs.declared.value.Value.{Value}
 use Rattle.ot_model.specs.Shapes.{Arrays}
+use Rattle.ot_model.specs.Tree.{Task, Group}
 use Rattle.ot_program.specs.declared.counts.Counts.{Counts}
 use Rattle.ot_program.specs.declared.fault.Refusal.TheVariants.{Form}
-use Rattle.ot_program.specs.Statements.{one_in}
+use Rattle.ot_program.specs.Names.{is_word}
+use Rattle.ot_program.specs.Variables.{Bindings}
+use Rattle.ot_program.specs.Statements.{set_in, add_in, wait_form, if_in, for_in, with_body, condition_of, declared_of, grouped_of, range_of, body_in, one_in}
 
-pub no_statement_short : (shape : Arrays) (vs : List Value) (n : Counts) → length vs < 3
-    → one_in shape (array (items_view vs)) n ≡ Err Form
+pub no_form : (shape : Arrays) (level : ℕ) (vs : List Value) (variables : Bindings) (n : Counts) → length vs ≢ 1 → length vs ≢ 3
+    → length vs ≢ 4 → length vs ≢ 5 → one_in shape level (array (items_view vs)) variables n ≡ Err Form
 unfolding one_in
-no_statement_short shape (a ∷ b ∷ c ∷ vs) n short = absurd (omega arith)
-no_statement_short shape _ n short = refl
+no_form shape level (a ∷ []) variables n p q r s = absurd (p refl)
+no_form shape level (a ∷ b ∷ c ∷ []) variables n p q r s = absurd (q refl)
+no_form shape level (a ∷ b ∷ c ∷ d ∷ []) variables n p q r s = absurd (r refl)
+no_form shape level (a ∷ b ∷ c ∷ d ∷ e ∷ []) variables n p q r s = absurd (s refl)
+no_form shape level _ variables n p q r s = refl
 
-pub no_statement_long : (shape : Arrays) (vs : List Value) (n : Counts) → 4 ≤ length vs
-    → one_in shape (array (items_view vs)) n ≡ Err Form
+pub form_wait : (shape : Arrays) (level : ℕ) (vs : List Value) (variables : Bindings) (n : Counts) (t : Value) → length vs ≡ 1
+    → t ≡ get_or vs 0 t → one_in shape level (array (items_view vs)) variables n ≡ wait_form (view t) n
 unfolding one_in
-no_statement_long shape (a ∷ b ∷ c ∷ []) n long = absurd (omega arith)
-no_statement_long shape _ n long = refl
+form_wait shape level (x ∷ []) variables n t one p = rw (sym p) refl
+form_wait shape level _ variables n t one p = absurd (omega arith)
 
-pub ruleset no_statement = (no_statement_short, no_statement_long)
+pub ruleset no_statement = (no_form, form_wait)
+
+-- ---- three items
+
+pub form_set : (shape : Arrays) (level : ℕ) (vs : List Value) (variables : Bindings) (n : Counts) (t a b : Value) → length vs ≡ 3
+    → t ≡ get_or vs 0 t → a ≡ get_or vs 1 a → b ≡ get_or vs 2 b → is_word (view t) (codes "set") ≡ true
+    → one_in shape level (array (items_view vs)) variables n ≡ set_in shape variables (view a) (view b) n
+unfolding one_in
+form_set shape level (x ∷ y ∷ z ∷ []) variables n t a b three p q r is = rw (sym p, sym q, sym r, is) refl
+form_set shape level _ variables n t a b three p q r is = absurd (omega arith)
+
+pub form_add : (shape : Arrays) (level : ℕ) (vs : List Value) (variables : Bindings) (n : Counts) (t a b : Value) → length vs ≡ 3
+    → t ≡ get_or vs 0 t → a ≡ get_or vs 1 a → b ≡ get_or vs 2 b → is_word (view t) (codes "set") ≡ false
+    → is_word (view t) (codes "add") ≡ true
+    → one_in shape level (array (items_view vs)) variables n ≡ add_in shape variables (view a) (view b) n
+unfolding one_in
+form_add shape level (x ∷ y ∷ z ∷ []) variables n t a b three p q r other is = rw (sym p, sym q, sym r, other, is) refl
+form_add shape level _ variables n t a b three p q r other is = absurd (omega arith)
+
+pub form_task : (shape : Arrays) (level : ℕ) (vs : List Value) (variables : Bindings) (n : Counts) (t a b : Value) → length vs ≡ 3
+    → t ≡ get_or vs 0 t → a ≡ get_or vs 1 a → b ≡ get_or vs 2 b → is_word (view t) (codes "set") ≡ false
+    → is_word (view t) (codes "add") ≡ false → is_word (view t) (codes "task") ≡ true
+    → one_in shape level (array (items_view vs)) variables n ≡ with_body Task (declared_of shape variables level (view a) (view b)) (body_in shape (level + 1) (view b) variables) n
+unfolding one_in
+form_task shape level (x ∷ y ∷ z ∷ []) variables n t a b three p q r other neither is = rw (sym p, sym q, sym r, other, neither, is) refl
+form_task shape level _ variables n t a b three p q r other neither is = absurd (omega arith)
+
+pub form_group : (shape : Arrays) (level : ℕ) (vs : List Value) (variables : Bindings) (n : Counts) (t a b : Value) → length vs ≡ 3
+    → t ≡ get_or vs 0 t → a ≡ get_or vs 1 a → b ≡ get_or vs 2 b → is_word (view t) (codes "set") ≡ false
+    → is_word (view t) (codes "add") ≡ false → is_word (view t) (codes "task") ≡ false → is_word (view t) (codes "group") ≡ true
+    → one_in shape level (array (items_view vs)) variables n ≡ with_body Group (grouped_of shape variables level (view a) (view b)) (body_in shape (level + 1) (view b) variables) n
+unfolding one_in
+form_group shape level (x ∷ y ∷ z ∷ []) variables n t a b three p q r other neither nor is = rw (sym p, sym q, sym r, other, neither, nor, is) refl
+form_group shape level _ variables n t a b three p q r other neither nor is = absurd (omega arith)
+
+pub no_form_of_three : (shape : Arrays) (level : ℕ) (vs : List Value) (variables : Bindings) (n : Counts) (t : Value) → length vs ≡ 3
+    → t ≡ get_or vs 0 t → is_word (view t) (codes "set") ≡ false
+    → is_word (view t) (codes "add") ≡ false → is_word (view t) (codes "task") ≡ false → is_word (view t) (codes "group") ≡ false
+    → one_in shape level (array (items_view vs)) variables n ≡ Err Form
+unfolding one_in
+no_form_of_three shape level (x ∷ y ∷ z ∷ []) variables n t three p other neither nor none = rw (sym p, other, neither, nor, none) refl
+no_form_of_three shape level _ variables n t three p other neither nor none = absurd (omega arith)
+
+pub ruleset forms_of_three = (form_set, form_add, form_task, form_group, no_form_of_three)
+
+-- ---- four items
+
+pub form_if : (shape : Arrays) (level : ℕ) (vs : List Value) (variables : Bindings) (n : Counts) (t a b c : Value) → length vs ≡ 4
+    → t ≡ get_or vs 0 t → a ≡ get_or vs 1 a → b ≡ get_or vs 2 b → c ≡ get_or vs 3 c → is_word (view t) (codes "if") ≡ true
+    → one_in shape level (array (items_view vs)) variables n
+    ≡ if_in (condition_of shape variables level (view a) (view b) (view c)) (body_in shape (level + 1) (view b) variables) (body_in shape (level + 1) (view c) variables) n
+unfolding one_in
+form_if shape level (x ∷ y ∷ z ∷ w ∷ []) variables n t a b c four p q r s is = rw (sym p, sym q, sym r, sym s, is) refl
+form_if shape level _ variables n t a b c four p q r s is = absurd (omega arith)
+
+pub no_form_of_four : (shape : Arrays) (level : ℕ) (vs : List Value) (variables : Bindings) (n : Counts) (t : Value) → length vs ≡ 4
+    → t ≡ get_or vs 0 t → is_word (view t) (codes "if") ≡ false → one_in shape level (array (items_view vs)) variables n ≡ Err Form
+unfolding one_in
+no_form_of_four shape level (x ∷ y ∷ z ∷ w ∷ []) variables n t four p other = rw (sym p, other) refl
+no_form_of_four shape level _ variables n t four p other = absurd (omega arith)
+
+pub ruleset forms_of_four = (form_if, no_form_of_four)
+
+-- ---- five items
+
+pub form_for : (shape : Arrays) (level : ℕ) (vs : List Value) (variables : Bindings) (n : Counts) (t a b c d : Value) → length vs ≡ 5
+    → t ≡ get_or vs 0 t → a ≡ get_or vs 1 a → b ≡ get_or vs 2 b → c ≡ get_or vs 3 c → d ≡ get_or vs 4 d
+    → is_word (view t) (codes "for") ≡ true
+    → one_in shape level (array (items_view vs)) variables n
+    ≡ for_in variables (range_of variables level (view a) (view b) (view c) (view d)) (body_in shape (level + 1) (view d)) n
+unfolding one_in
+form_for shape level (x ∷ y ∷ z ∷ w ∷ v ∷ []) variables n t a b c d five p q r s u is = rw (sym p, sym q, sym r, sym s, sym u, is) refl
+form_for shape level _ variables n t a b c d five p q r s u is = absurd (omega arith)
+
+pub no_form_of_five : (shape : Arrays) (level : ℕ) (vs : List Value) (variables : Bindings) (n : Counts) (t : Value) → length vs ≡ 5
+    → t ≡ get_or vs 0 t → is_word (view t) (codes "for") ≡ false → one_in shape level (array (items_view vs)) variables n ≡ Err Form
+unfolding one_in
+no_form_of_five shape level (x ∷ y ∷ z ∷ w ∷ v ∷ []) variables n t five p other = rw (sym p, other) refl
+no_form_of_five shape level _ variables n t five p other = absurd (omega arith)
+
+pub ruleset forms_of_five = (form_for, no_form_of_five)

@@ -1,13 +1,13 @@
 -- The counts of a program, and their limits.
-use Rattle.std.specs.Prelude.{ℕ, ◌+◌, nat_le, ◌&&◌, if◌then◌else◌, List, sum_by, Result, Ok, Err}
+use Rattle.std.specs.Prelude.{ℕ, ◌+◌, nat_le, nat_lt, ◌&&◌, if◌then◌else◌, List, sum_by, Result, Ok, Err, ⊤}
 use Rattle.ot_model.specs.declared.expr.Section.{Section}
 use Rattle.ot_program.specs.declared.counts.Counts.{Counts}
 use Rattle.ot_program.specs.declared.fault.Refusal.{Refusal}
-use Rattle.ot_program.specs.declared.fault.Refusal.TheVariants.{TooLarge}
-use Rattle.ot_program.specs.Limits.{max_statements, max_nodes, max_cells}
+use Rattle.ot_program.specs.declared.fault.Refusal.TheVariants.{TooLarge, TooManyTasks}
+use Rattle.ot_program.specs.Limits.{max_nesting, max_statements, max_turns, max_nodes, max_cells}
 
 abbrev pub no_counts : Counts
-no_counts = record { statements = 0; tasks = 0; nodes = 0; cells = 0 }
+no_counts = record { statements = 0; tasks = 0; turns = 0; nodes = 0; cells = 0 }
 
 -- so many statements, nodes of values and cells of sections more
 abbrev pub counted : Counts → ℕ → ℕ → ℕ → Counts
@@ -18,6 +18,18 @@ counted n statements nodes cells =
 abbrev pub within_limits : Counts → Result Counts Refusal
 within_limits n =
     if nat_le n.statements max_statements && nat_le n.nodes max_nodes && nat_le n.cells max_cells then Ok n else Err TooLarge
+
+-- one turn of a `for` more, which counts when it begins
+abbrev pub one_turn : Counts → Result Counts Refusal
+one_turn n = if nat_lt n.turns max_turns then Ok (record n { turns = n.turns + 1 }) else Err TooLarge
+
+-- one task statement more
+abbrev pub one_task : ℕ → Counts → Result Counts Refusal
+one_task limit n = if nat_lt n.tasks limit then Ok (record n { tasks = n.tasks + 1 }) else Err TooManyTasks
+
+-- the body of a statement lies one level deeper than the statement
+abbrev pub deeper : ℕ → Result ⊤ Refusal
+deeper level = if nat_lt level max_nesting then Ok tt else Err TooLarge
 
 -- how many cells sections have, a cell that stands in two of them counted twice
 abbrev pub cells_in : List Section → ℕ

@@ -3,8 +3,11 @@ pub mod Limits
 pub mod Names
 pub mod Numbers
 pub mod Reading
+pub mod Variables
+pub mod Sizes
 pub mod Parts
 pub mod Values
+pub mod Declarations
 pub mod Counting
 pub mod Statements
 pub mod Programs

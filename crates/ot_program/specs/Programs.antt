@@ -1,5 +1,5 @@
 -- Programs: the own form with what is shown, and then the body.
-use Rattle.std.specs.Prelude.{if◌then◌else◌, List, Result, Ok, Err, codes}
+use Rattle.std.specs.Prelude.{if◌then◌else◌, List, [], Result, Ok, Err, codes}
 use Rattle.serde_json.specs.Data.{Data, array, no_items, item}
 use Rattle.ot_model.specs.Shapes.{Arrays}
 use Rattle.ot_model.specs.Tree.{S, body_of}
@@ -15,10 +15,10 @@ use Rattle.ot_program.specs.Parts.{sections_of}
 use Rattle.ot_program.specs.Statements.{body_in, list_of}
 
 -- The program's own form with its shows is one statement before all others, and then come those of
--- its body.
+-- its body, which is at the first level. No variable is bound there.
 abbrev pub shows_of : Arrays → Data → Data → Result (List Section × Counts) Refusal
 shows_of shape shows body = do
-  p ← both_of (sections_of shape shows) (list_of body)
+  p ← both_of (sections_of shape [] shows) (list_of body)
   n ← within_limits (counted no_counts 0 0 (cells_in p.0))
   Ok (p.0, n)
 
@@ -29,7 +29,7 @@ expanded shows read =
 abbrev pub program_at : Arrays → Data → Data → Result Expanded Refusal
 program_at shape shows body = do
   p ← shows_of shape shows body
-  read ← body_in shape body p.1
+  read ← body_in shape 1 body [] p.1
   Ok (expanded p.0 read)
 
 -- What a text is as a program over a shape: its expansion, or why it is refused. It has the form

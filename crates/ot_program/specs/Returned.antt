@@ -6,7 +6,8 @@ use Rattle.ot_program.specs.declared.fault.Refusal.{Refusal}
 use Rattle.ot_program.specs.declared.fault.ProgramFault.{ProgramFault}
 use Rattle.ot_program.specs.declared.fault.ProgramFault.TheVariants.{Memory, Refused}
 use Rattle.ot_program.specs.Refusals.{least}
-use Rattle.ot_program.specs.Statements.{Read}
+use Rattle.ot_program.specs.declared.head.Turns.{Turns}
+use Rattle.ot_program.specs.Statements.{Read, Range}
 
 -- want of memory says nothing of the text
 abbrev pub Fails : {A : Type 0} → ProgramFault → Result A Refusal → Type 0
@@ -41,3 +42,7 @@ pub record Added (old new : List S) (n : Counts) (read : Read) : Type 0 where
 abbrev pub Adds : List S → List S → Counts → Result ⊤ ProgramFault → Read → Type 0
 Adds old new n (Ok u) read = Added old new n read
 Adds old new n (Err e) read = Fails e read
+
+-- what the code's turns of a `for` stand for
+abbrev pub range_view : Turns → Range
+range_view t = record { variable = t.variable.now; first = t.first; behind = t.behind }

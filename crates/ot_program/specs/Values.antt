@@ -1,10 +1,11 @@
--- Values: numbers, cells, and operations on values.
+-- Values: numbers, variables, cells, operations on values, and picks.
 use Rattle.std.specs.Prelude.{ℕ, ◌+◌, max, nat_le, if◌then◌else◌, List, Option, Some, None, Result, Ok, Err, bytes_eq, codes}
 use Rattle.serde_json.specs.Data.{Data, number, string, array, no_items, item}
 use Rattle.ot_program.specs.Numbers.{whole_number}
 use Rattle.ot_model.specs.Shapes.{Arrays}
 use Rattle.ot_model.specs.Tree.{E, Literal, CellAt, Apply, PickFrom}
 use Rattle.ot_model.specs.declared.expr.Cell.{Cell}
+use Rattle.ot_model.specs.declared.expr.Section.{Section}
 use Rattle.ot_model.specs.declared.expr.Op.{Op}
 use Rattle.ot_model.specs.declared.expr.Op.TheVariants.{Plus, Minus, Times, And, Or, Xor, Less, Equal, Min, Max}
 use Rattle.ot_program.specs.declared.fault.Refusal.{Refusal}
@@ -12,7 +13,8 @@ use Rattle.ot_program.specs.declared.fault.Refusal.TheVariants.{Form, TooLarge}
 use Rattle.ot_program.specs.Limits.{max_depth}
 use Rattle.ot_program.specs.Names.{is_word}
 use Rattle.ot_program.specs.Reading.{◌>>=◌, both_of}
-use Rattle.ot_program.specs.Parts.{cell_at}
+use Rattle.ot_program.specs.Variables.{Bindings, variable_of}
+use Rattle.ot_program.specs.Parts.{cell_at, section_of}
 
 abbrev pub op_named : List ℕ → Option Op
 op_named s =
@@ -46,32 +48,52 @@ operation (Some op) one two = do
   p ← both_of one two
   Ok (Apply op p.0 p.1)
 
--- a number, `["c", name, size]`, or `[op, value, value]`
-unfoldable pub value_of : Arrays → Data → Result E Refusal
-value_of shape (number n) = literal_of (whole_number n)
-value_of shape (array (item t (item a (item b no_items)))) =
-    if is_word t (codes "c")
-    then cell_value (cell_at shape a b)
-    else operation (op_of t) (value_of shape a) (value_of shape b)
-value_of shape _ = Err Form
+-- the number that a variable stands for
+abbrev pub variable_value : Result ℕ Refusal → Result E Refusal
+variable_value read = do
+  n ← read
+  Ok (Literal n)
 
--- a number and a cell have depth 1, an operation one more than its deeper side
+abbrev pub pick_of : Result Section Refusal → Result E Refusal → Result E Refusal
+pick_of section value = do
+  p ← both_of section value
+  Ok (PickFrom p.0 p.1)
+
+-- a number, a variable, `["c", name, size]`, `["pick", section, value]`, or `[op, value, value]`
+unfoldable pub value_of : Arrays → Bindings → Data → Result E Refusal
+value_of shape variables (number n) = literal_of (whole_number n)
+value_of shape variables (string s) = variable_value (variable_of variables s)
+value_of shape variables (array (item t (item a (item b no_items)))) =
+    if is_word t (codes "c") then cell_value (cell_at shape variables a b) else
+    (if is_word t (codes "pick") then pick_of (section_of shape variables a) (value_of shape variables b) else
+    operation (op_of t) (value_of shape variables a) (value_of shape variables b))
+value_of shape variables _ = Err Form
+
+-- a number, a variable and a cell have depth 1, an operation one more than its deeper side, a pick one
+-- more than its value
 abbrev pub depth_of : E → ℕ
 depth_of (Literal n) = 1
 depth_of (CellAt c) = 1
 depth_of (Apply o a b) = 1 + max (depth_of a) (depth_of b)
 depth_of (PickFrom s e) = 1 + depth_of e
 
--- how many numbers, cells and operations
+-- how many numbers, variables, cells, operations and picks
 abbrev pub nodes_of : E → ℕ
 nodes_of (Literal n) = 1
 nodes_of (CellAt c) = 1
 nodes_of (Apply o a b) = 1 + nodes_of a + nodes_of b
 nodes_of (PickFrom s e) = 1 + nodes_of e
 
+-- how many cells the sections of its picks have
+abbrev pub picked_of : E → ℕ
+picked_of (Literal n) = 0
+picked_of (CellAt c) = 0
+picked_of (Apply o a b) = picked_of a + picked_of b
+picked_of (PickFrom s e) = s.len + picked_of e
+
 abbrev pub not_too_deep : E → Result E Refusal
 not_too_deep e = if nat_le (depth_of e) max_depth then Ok e else Err TooLarge
 
 -- a value as a part of a statement
-abbrev pub expression_of : Arrays → Data → Result E Refusal
-expression_of shape d = value_of shape d >>= not_too_deep
+abbrev pub expression_of : Arrays → Bindings → Data → Result E Refusal
+expression_of shape variables d = value_of shape variables d >>= not_too_deep

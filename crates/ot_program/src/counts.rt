@@ -3,23 +3,26 @@ use ot_model::Section;
 
 const MAX_STATEMENTS: u64 = 20_000;
 
+const MAX_TURNS: u32 = 40_000;
+
 const MAX_NODES: u64 = 200_000;
 
 const MAX_CELLS: u64 = 1_048_576;
 
-/// What was counted of a program so far: its statements, its task statements, the nodes of its
-/// values, and the cells of its sections.
+/// What was counted of a program so far: its statements, its task statements, the turns of its
+/// `for`s, the nodes of its values, and the cells of its sections.
 #[derive(Clone, Copy, Debug, PartialEq, Eq)]
 pub(crate) struct Counts {
     pub(crate) statements: u32,
     pub(crate) tasks: u32,
+    pub(crate) turns: u32,
     pub(crate) nodes: u32,
     pub(crate) cells: u32,
 }
 
 impl Counts {
     ghost use Rattle.std.specs.Prelude.{◌≡◌};
-    ghost use Rattle.ot_program.specs.Counting.{no_counts, counted, within_limits};
+    ghost use Rattle.ot_program.specs.Counting.{no_counts, counted, within_limits, one_turn, one_task};
 
     pub(crate) fn none() -> Counts
         ensures { result ≡ no_counts }
@@ -27,6 +30,7 @@ impl Counts {
         Counts {
             statements: 0,
             tasks: 0,
+            turns: 0,
             nodes: 0,
             cells: 0,
         }
@@ -43,11 +47,40 @@ impl Counts {
             Ok(Counts {
                 statements: statements as u32,
                 tasks: self.tasks,
+                turns: self.turns,
                 nodes: nodes as u32,
                 cells: cells as u32,
             })
         } else {
             Err(Refusal::TooLarge)
+        }
+    }
+
+    /// The counts with a turn of a `for` more.
+    pub(crate) fn turn(self) -> Result<Counts, Refusal>
+        ensures { result ≡ one_turn self }
+    {
+        if self.turns < MAX_TURNS {
+            Ok(Counts {
+                turns: self.turns + 1,
+                ..self
+            })
+        } else {
+            Err(Refusal::TooLarge)
+        }
+    }
+
+    /// The counts with a task statement more, of which there may be `limit`.
+    pub(crate) fn task(self, limit: u32) -> Result<Counts, Refusal>
+        ensures { result ≡ one_task limit self }
+    {
+        if self.tasks < limit {
+            Ok(Counts {
+                tasks: self.tasks + 1,
+                ..self
+            })
+        } else {
+            Err(Refusal::TooManyTasks)
         }
     }
 }

@@ -2,14 +2,19 @@
 #![tactic(auto)]
 
 mod both;
+mod clause;
 mod counts;
+mod declaration;
 mod fault;
+mod head;
 pub mod laws;
 mod name;
 mod number;
 mod part;
 mod program;
+mod scope;
 mod section;
+mod size;
 mod statement;
 mod value;
 

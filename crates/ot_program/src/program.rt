@@ -9,15 +9,17 @@ ghost use Rattle.ot_program.specs.Programs.{program_of, program_at};
 use crate::both::join;
 use crate::counts::{Counts, cells};
 use crate::fault::{ProgramFault, Refusal};
+use crate::head::read_list;
 use crate::name::is_word;
+use crate::scope::{Scope, Variables};
 use crate::section::read_sections;
-use crate::statement::{read_body, read_list};
+use crate::statement::read_body;
 use ot_model::{Program, Shape};
 use serde_json::Value;
 use std::alloc::Global;
 
 /// Reads a program over the arrays of `shape`: its expansion, or the first fault of its first
-/// statement that has one.
+/// statement, in expanded order, that has one.
 pub fn read_program(alloc: Global, text: &Value, shape: &Shape) -> Result<Program, ProgramFault>
     ensures read { Gives expanded_of result (program_of shape.now (view text.now)) }
     // Each cell that the program names is in the shape.
@@ -32,7 +34,7 @@ pub fn read_program(alloc: Global, text: &Value, shape: &Shape) -> Result<Progra
     }
 }
 
-#[tactic(auto, using(crate::proofs::Forms::no_program_but_three))]
+#[tactic(auto, using(crate::proofs::ProgramForms::no_program_but_three))]
 fn program_form(alloc: Global, shape: &Shape, items: &[Value]) -> Result<Program, ProgramFault>
     ensures { Gives expanded_of result (program_of shape.now (array (items_view items.now))) }
 {
@@ -54,11 +56,16 @@ fn program_at(
 ) -> Result<Program, ProgramFault>
     ensures { Gives expanded_of result (program_at shape.now (view shows.now) (view body.now)) }
 {
+    let scope = Scope {
+        shape,
+        variables: &Variables::None,
+        level: 1,
+    };
     let list = read_list(body).map_err(ProgramFault::Refused);
-    let (shows, _) = join(read_sections(alloc, shape, shows), list)?;
+    let (shows, _) = join(read_sections(alloc, &scope, shows), list)?;
     let mut counts = Counts::none().plus(0, 0, cells(&shows))?;
     let mut statements = Vec::new(alloc);
-    read_body(alloc, shape, body, &mut counts, &mut statements)?;
+    read_body(alloc, &scope, body, &mut counts, &mut statements)?;
     Ok(Program {
         shows,
         body: statements,

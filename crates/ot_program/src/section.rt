@@ -1,36 +1,40 @@
 ghost use Rattle.serde_json.specs.View.{view, items_view};
 ghost use Rattle.ot_program.specs.Reading.{each_of};
 ghost use Rattle.ot_program.specs.Returned.{Gives};
+ghost use Rattle.ot_program.specs.Variables.{bindings_of};
 ghost use Rattle.ot_program.specs.Parts.{section_of, sections_of};
 
 use crate::fault::{ProgramFault, Refusal};
 use crate::part::read_section;
-use ot_model::{Section, Shape};
+use crate::scope::Scope;
+use ot_model::Section;
 use serde_json::Value;
 use std::alloc::Global;
 
 /// `[section, ..]`
 pub(crate) fn read_sections(
     alloc: Global,
-    shape: &Shape,
+    scope: &Scope,
     value: &Value,
 ) -> Result<Vec<Section>, ProgramFault>
-    ensures { Gives (λ v. v.items) result (sections_of shape.now (view value.now)) }
+    ensures { Gives (λ v. v.items) result (sections_of scope.now.shape.now
+        (bindings_of scope.now.variables.now) (view value.now)) }
 {
     match value {
-        Value::Array(items) => each_section(alloc, shape, items),
+        Value::Array(items) => each_section(alloc, scope, items),
         _ => Err(ProgramFault::Refused(Refusal::Form)),
     }
 }
 
 // Each of the sections is looked at, also behind a fault.
-fn each_section(alloc: Global, shape: &Shape, items: &[Value]) -> Result<Vec<Section>, ProgramFault>
-    ensures { Gives (λ v. v.items) result (each_of (section_of shape.now) (items_view items.now)) }
+fn each_section(alloc: Global, scope: &Scope, items: &[Value]) -> Result<Vec<Section>, ProgramFault>
+    ensures { Gives (λ v. v.items) result (each_of
+        (section_of scope.now.shape.now (bindings_of scope.now.variables.now)) (items_view items.now)) }
 {
     let mut sections = Vec::new(alloc);
     let mut fault: Option<Refusal> = None;
     for item in items {
-        match (read_section(shape, item), fault) {
+        match (read_section(scope, item), fault) {
             (Ok(section), _) => sections.push(section)?,
             (Err(refusal), None) => fault = Some(refusal),
             (Err(refusal), Some(earlier)) => fault = Some(earlier.first(refusal)),

@@ -1,9 +1,14 @@
-//! Texts and the codes that they are refused with, what is read of others, and the limits.
+//! Texts and the codes that they are refused with, and what is read of others.
 use super::*;
 use ot_model::{ArrayShape, Section, Shape};
 use serde_json::Value;
 use std::alloc::{AllocError, Global};
 use std::test::Fail;
+
+mod declarations;
+mod forms;
+mod limits;
+mod order;
 
 /// An array `a` and an array `b`, of these lengths.
 fn two_arrays(alloc: Global, a: u32, b: u32) -> Result<Shape, AllocError> {
@@ -48,7 +53,8 @@ const PROGRAMS: &str = r#"420 null
 420 ["program",[["a",0]],[]]
 420 ["program",[["a",0,1,1]],[]]
 420 ["program",[["A",0,"i"]],[]]
-420 ["program",[["a",["+",0,1],1]],[]]
+200 ["program",[["a",["+",0,1],1]],[]]
+421 ["program",[["a",["+",0,"i"],1]],[]]
 421 ["program",[["c","a",0]],[]]
 421 ["program",[["z",0,"i"]],[]]
 421 ["program",[["a",4294967296,0]],[]]
@@ -99,12 +105,12 @@ const STATEMENTS: &str = r#"420 null
 420 ["set",["c","a",0],1,1]
 420 ["sets",["c","a",0],1]
 420 ["Set",["c","a",0],1]
-420 ["add",["c","a",0],1]
-420 ["if",0,[],[]]
-420 ["for","i",0,1,[]]
-420 ["task",[],[]]
-420 ["wait"]
-420 ["group",[],[]]
+200 ["add",["c","a",0],1]
+200 ["if",0,[],[]]
+200 ["for","i",0,1,[]]
+200 ["task",[],[]]
+200 ["wait"]
+200 ["group",[],[]]
 420 ["set","a",1]
 420 ["set",1,1]
 420 ["set",["a",0],1]
@@ -129,7 +135,7 @@ const STATEMENTS: &str = r#"420 null
 412 ["set",["c","a",3],["c","z",0]]
 412 ["set",["c","z",0],["c","a",3]]
 421 ["set",["c","a",0],["+",["c","a",3],["c","a","i"]]]
-420 ["set",["c","a",0],["+",["c","a",3],["*",1,"i"]]]
+421 ["set",["c","a",0],["+",["c","a",3],["*",1,"i"]]]
 420 ["set",["c","a",0],["%",["c","a",3],1]]
 412 ["set",["c","a",0],["min",["c","a",3],["max",1,["c","z",0]]]]
 420 ["set",["c","a",3],["min",["c","z",0],["max",1,["c","Z",0]]]]"#;
@@ -170,20 +176,22 @@ const PARTS: &str = r#"200 200 0
 420 420 []
 420 420 "1"
 420 420 ""
-420 421 "i"
+421 421 "i"
 420 420 "I"
 420 420 "_i"
-420 421 "i_1"
+421 421 "i_1"
 420 420 "i-1"
-420 421 "abcdefghijklmnop"
+421 421 "abcdefghijklmnop"
 420 420 "abcdefghijklmnopq"
 200 420 ["c","a",0]
-200 420 ["+",1,2]
+200 200 ["+",1,1]
+200 414 ["+",1,2]
+421 421 ["+","i","i"]
 420 420 ["+",1]
 420 420 ["+",1,2,3]
-420 420 ["pick",["a",0,1],0]
+200 420 ["pick",["a",0,1],0]
 420 420 ["+",1.0,2]
-420 420 ["+","i",2]"#;
+421 421 ["+","i",2]"#;
 
 #[test]
 fn values_and_sizes_and_their_codes(rt: HostRuntime) -> Result<(), Fail> {
@@ -308,149 +316,6 @@ fn operations_by_their_signs(rt: HostRuntime) -> Result<(), Fail> {
             "[Set(Cell {{ array: 1, index: 0 }}, Op({name}, Number(1), Number(2)))]"
         )?;
         assert_eq!(rt; body, expected);
-    }
-    Ok(())
-}
-
-/// A text with so many of `before` in front of it, and as many of `after` behind it.
-fn nested(
-    alloc: Global,
-    before: &str,
-    times: u32,
-    text: &str,
-    after: &str,
-) -> Result<String, AllocError> {
-    let mut whole = String::new(alloc);
-    for _ in 0..times {
-        whole.push_str(before)?;
-    }
-    whole.push_str(text)?;
-    for _ in 0..times {
-        whole.push_str(after)?;
-    }
-    Ok(whole)
-}
-
-#[test]
-fn an_expression_is_at_most_24_deep(rt: HostRuntime) -> Result<(), Fail> {
-    let alloc = rt.alloc();
-    let shape = two_arrays(alloc, 3, 5)?;
-    for (operations, expected) in [(23, 200), (24, 422), (25, 422)] {
-        for (before, after) in [("[\"+\",2,", "]"), ("[\"min\",", ",[\"c\",\"a\",0]]")] {
-            for inner in ["1", "[\"c\",\"a\",0]"] {
-                let value = nested(alloc, before, operations, inner, after)?;
-                let text = format!(in alloc;
-                    "[\"program\",[],[[\"set\",[\"c\",\"a\",0],{value}]]]"
-                )?;
-                assert_eq!(rt; code(alloc, &shape, text.as_str())?, expected, "{text}");
-            }
-        }
-    }
-    Ok(())
-}
-
-#[test]
-fn the_depth_is_told_behind_other_faults(rt: HostRuntime) -> Result<(), Fail> {
-    let alloc = rt.alloc();
-    let shape = two_arrays(alloc, 3, 5)?;
-    for (index, other, expected) in [
-        ("0", "1", 422),
-        ("3", "1", 414),
-        ("0", "[\"c\",\"z\",0]", 412),
-        ("3", "[\"c\",\"a\",\"i\"]", 421),
-        ("0", "[\"pick\"]", 420),
-    ] {
-        let deep = nested(alloc, "[\"+\",2,", 24, "1", "]")?;
-        let text = format!(in alloc;
-            "[\"program\",[],[[\"set\",[\"c\",\"a\",{index}],[\"max\",{deep},{other}]],\"set\"]]"
-        )?;
-        assert_eq!(rt; code(alloc, &shape, text.as_str())?, expected, "{text}");
-    }
-    Ok(())
-}
-
-/// A program with so many times the one statement, and then the others.
-fn repeated(alloc: Global, one: &str, times: u32, others: &str) -> Result<String, AllocError> {
-    let mut text = String::from_str(alloc, "[\"program\",[],[")?;
-    for _ in 0..times {
-        text.push_str(one)?;
-        text.push_str(",")?;
-    }
-    text.push_str(others)?;
-    text.push_str("]]")?;
-    Ok(text)
-}
-
-const SET: &str = r#"["set",["c","a",0],1]"#;
-
-const SET_PAST_END: &str = r#"["set",["c","a",3],1]"#;
-
-#[test]
-fn a_program_has_at_most_20000_statements(rt: HostRuntime) -> Result<(), Fail> {
-    let alloc = rt.alloc();
-    let shape = two_arrays(alloc, 3, 5)?;
-    let most = repeated(alloc, SET, 19999, SET)?;
-    let program = read_program(alloc, &Value::from_str(alloc, most.as_str())?, &shape)?;
-    assert_eq!(rt; (program.body.len(), program.statements), (20000, 20000));
-    for (times, last, expected) in [
-        (19999, SET_PAST_END, 414),
-        (20000, SET, 422),
-        (20000, SET_PAST_END, 414),
-        (20001, SET_PAST_END, 422),
-    ] {
-        let text = repeated(alloc, SET, times, last)?;
-        assert_eq!(rt;
-            code(alloc, &shape, text.as_str())?,
-            expected,
-            "{times} and one more"
-        );
-    }
-    Ok(())
-}
-
-/// A value of 15 nodes.
-const NODES_15: &str = r#"["set",["c","a",0],["+",
-    ["+",["+",1,1],["+",1,["c","a",1]]],
-    ["+",["+",1,["c","a",1]],["+",1,1]]]]"#;
-
-/// Values of 5 nodes, of 7, and of 5 and 1.
-const NODES_5: &str = r#"["set",["c","a",0],["+",1,["+",1,1]]]"#;
-
-const NODES_7: &str = r#"["set",["c","a",0],["+",["+",1,1],["+",1,1]]]"#;
-
-const NODES_5_AND_1: &str = r#"["set",["c","a",0],["+",1,["+",1,1]]],["set",["c","a",0],1]"#;
-
-#[test]
-fn values_have_at_most_200000_nodes(rt: HostRuntime) -> Result<(), Fail> {
-    let alloc = rt.alloc();
-    let shape = two_arrays(alloc, 3, 5)?;
-    // 13,333 times 15 are 199,995.
-    for (last, expected) in [(NODES_5, 200), (NODES_7, 422), (NODES_5_AND_1, 422)] {
-        let text = repeated(alloc, NODES_15, 13333, last)?;
-        assert_eq!(rt; code(alloc, &shape, text.as_str())?, expected, "{last}");
-    }
-    Ok(())
-}
-
-#[test]
-fn sections_have_at_most_1048576_cells(rt: HostRuntime) -> Result<(), Fail> {
-    let alloc = rt.alloc();
-    let shape = two_arrays(alloc, 65536, 4294967295)?;
-    // The body has a fault too, 420, which is told only where the shows have none.
-    for (shows, expected) in [
-        ("[\"b\",0,1048576]", 420),
-        ("[\"b\",4293918719,1048576]", 420),
-        ("[\"b\",0,1048577]", 422),
-        ("[\"b\",0,1048576],[\"a\",0,1]", 422),
-        ("[\"b\",0,1048575],[\"b\",0,1]", 420),
-        ("[\"a\",0,65536],[\"b\",0,983040]", 420),
-        ("[\"a\",0,65536],[\"b\",0,983041]", 422),
-        ("[\"b\",0,4294967295],[\"b\",0,4294967295]", 422),
-        ("[\"b\",0,4294967295],[\"a\",0,65537]", 414),
-        ("[\"b\",0,4294967295],[\"a\",0,0]", 424),
-    ] {
-        let text = format!(in alloc; "[\"program\",[{shows}],[\"set\"]]")?;
-        assert_eq!(rt; code(alloc, &shape, text.as_str())?, expected, "{shows}");
     }
     Ok(())
 }

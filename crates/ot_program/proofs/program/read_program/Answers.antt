@@ -4,7 +4,7 @@ use Rattle.ot_model.specs.Shapes.{array_lengths}
 use Rattle.ot_model.specs.Programs.{expanded_of, IsNamedIn}
 use Rattle.ot_program.specs.Programs.{program_of}
 use Rattle.ot_program.proofs.Readings.{given}
-use Rattle.ot_program.proofs.Named.{program_of-named}
+use Rattle.ot_program.proofs.StatementsNamed.{program_of-named}
 use Rattle.ot_program.proofs.program.read_program.Goals as goal
 
 pub returns-in-Array-clause-named : goal.returns-in-Array-clause-named

@@ -1,4 +1,5 @@
 use Rattle.std.proofs.Common.{ap, sym, ◌∙◌}
+use Rattle.ot_program.specs.Variables.{bindings_of}
 use Rattle.ot_program.specs.Parts.{section_of}
 use Rattle.ot_program.proofs.Lists.{part_read, part_fails_first, part_fails_further}
 use Rattle.ot_program.proofs.section.each_section.Goals.{in-Ok-default+in_ok-push-in-Ok-default, in-Err-None, in-Err-Some}
@@ -6,7 +7,7 @@ use Rattle.ot_program.proofs.section.each_section.Goals as goal
 
 pub loop-item-preserved : goal.loop-item-preserved
 loop-item-preserved c =
-    let read = section_of c.args.shape.now in
+    let read = section_of c.args.scope.now.shape.now (bindings_of c.args.scope.now.variables.now) in
     let vs = c.args.items.now in
     elim c.match-read_section.branch [
       | in-Ok-default+in_ok-push-in-Ok-default w ↦

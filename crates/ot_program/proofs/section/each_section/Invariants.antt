@@ -1,6 +1,7 @@
 use Rattle.std.proofs.Common.{◌≡◌, drop}
 use Rattle.serde_json.specs.View.{items_view}
 use Rattle.ot_program.specs.Reading.{each_of}
+use Rattle.ot_program.specs.Variables.{bindings_of}
 use Rattle.ot_program.specs.Parts.{section_of}
 use Rattle.ot_program.proofs.Lists.{so_far, then_more}
 use Rattle.ot_program.proofs.section.each_section.Given as goal
@@ -8,5 +9,5 @@ use Rattle.ot_program.proofs.section.each_section.Given as goal
 -- what was read, with what is left, is all
 abbrev pub invariant-loop-item : goal.invariant-loop-item
 invariant-loop-item l =
-    then_more (so_far l.fault l.sections.items) (each_of (section_of l.shape) (items_view (drop l.item-index l.items)))
-    ≡ each_of (section_of l.shape) (items_view l.items)
+    then_more (so_far l.fault l.sections.items) (each_of (section_of l.scope.shape.now (bindings_of l.scope.variables.now)) (items_view (drop l.item-index l.items)))
+    ≡ each_of (section_of l.scope.shape.now (bindings_of l.scope.variables.now)) (items_view l.items)

@@ -1,0 +1,8 @@
+use Rattle.std.proofs.Common.{◌≡◌, [], take}
+use Rattle.std.specs.List.{fold}
+use Rattle.ot_program.specs.Declarations.{name_clause}
+use Rattle.ot_program.proofs.declaration.declare.Given as goal
+
+-- the cells that the clauses so far name
+abbrev pub invariant-loop-clause : goal.invariant-loop-clause
+invariant-loop-clause l = l.named.entries ≡ fold name_clause [] (take l.clause-index l.clauses)

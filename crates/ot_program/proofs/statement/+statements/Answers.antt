@@ -1,0 +1,79 @@
+use Rattle.std.proofs.Common.{◌+◌, ◌∷◌, refl, rules}
+use Rattle.std.proofs.lemmas.Result.{err_from_is_err_and}
+use Rattle.serde_json.specs.View.{view}
+use Rattle.ot_program.specs.Variables.{bindings_of}
+use Rattle.ot_program.specs.Statements.{body_in}
+use Rattle.ot_model.specs.declared.stmt.Stmt.{the_lemmas}
+use Rattle.ot_program.proofs.Fronts.{all_fails, all_ends, put_behind}
+use Rattle.ot_program.proofs.Turns.{turns_fail}
+use Rattle.ot_program.proofs.StatementForms.{form_for}
+use Rattle.ot_program.proofs.Conditions.{adds_refused, for_refused, if_fails_condition, if_fails_first, if_fails_second, if_reads}
+use Rattle.ot_program.proofs.statement.+statements.Goals as goal
+
+pub read_all-returns-in-Err : goal.read_all-returns-in-Err
+read_all-returns-in-Err t c =
+    let scope = c.args.scope.now in
+    all_fails _ _ scope.shape.now scope.level (bindings_of scope.variables.now) c.args.items.now _ _ _ _ _
+    c.loop-statement-test.true c.statement-item.is c.loop-statement.invariant c.in-Err.ensures
+
+pub read_all-returns : goal.read_all-returns
+read_all-returns t c =
+    let scope = c.args.scope.now in
+    all_ends _ _ scope.shape.now scope.level (bindings_of scope.variables.now) c.args.items.now _ _ _
+    c.loop-statement-test.false c.loop-statement.invariant
+
+pub take_turns-returns-in-Err : goal.take_turns-returns-in-Err
+take_turns-returns-in-Err t c =
+    let scope = c.args.scope.now in
+    turns_fail _ _ (λ number. body_in scope.shape.now (scope.level + 1) (view c.args.body.now) ((c.args.range.variable.now, number) ∷ bindings_of scope.variables.now))
+    c.loop-number.number c.args.range.behind _ _ _ c.loop-number-test.true c.loop-number.invariant c.in-Err.ensures
+
+pub read_five-returns-in_err-range : goal.read_five-returns-in_err-range
+read_five-returns-in_err-range t c =
+    let scope = c.args.scope.now in
+    adds_refused _ _ _ c.from_residual.result c.in_err-range.field-0.0 _ c.from_residual.ensures.1
+    (for_refused scope.shape.now scope.level c.args.items.now (bindings_of scope.variables.now) _ _ _ _ _ _ _ (search rules)
+    c.tag-item.is c.variable-item.is c.first-item.is c.behind-item.is c.body-item.is (search rules) c.in_err-range.ensures.reads)
+
+pub read_five-returns : goal.read_five-returns
+read_five-returns t c =
+    let scope = c.args.scope.now in
+    rw (
+      form_for scope.shape.now scope.level c.args.items.now (bindings_of scope.variables.now) _ _ _ _ _ _ (search rules)
+          c.tag-item.is c.variable-item.is c.first-item.is c.behind-item.is c.body-item.is (search rules),
+      c.in_ok-range.ensures.reads,
+    )
+    c.take_turns.ensures
+
+pub read_four-returns-in_err-condition : goal.read_four-returns-in_err-condition
+read_four-returns-in_err-condition t c =
+    let scope = c.args.scope.now in
+    let p = err_from_is_err_and c.from_residual.result c.from_residual.ensures.1 in
+    rw (p.1, p.2)
+    (if_fails_condition scope.shape.now scope.level c.args.items.now (bindings_of scope.variables.now) _ _ _ _ _ _ (search rules)
+    c.tag-item.is c.value-item.is c.one-item.is c.two-item.is (search rules) c.in_err-condition.ensures.reads)
+
+pub read_four-returns-in_err-first : goal.read_four-returns-in_err-first
+read_four-returns-in_err-first t c =
+    let scope = c.args.scope.now in
+    let p = err_from_is_err_and c.from_residual-in_err-first.result c.from_residual-in_err-first.ensures.1 in
+    rw (p.1, p.2)
+    (if_fails_first scope.shape.now scope.level c.args.items.now (bindings_of scope.variables.now) _ _ _ _ _ _ _ _ (search rules)
+    c.tag-item.is c.value-item.is c.one-item.is c.two-item.is (search rules) c.in_ok-condition.ensures.reads c.in_err-first.ensures)
+
+pub read_four-returns-in_err-second : goal.read_four-returns-in_err-second
+read_four-returns-in_err-second t c =
+    let scope = c.args.scope.now in
+    let p = err_from_is_err_and c.from_residual-in_err-second.result c.from_residual-in_err-second.ensures.1 in
+    rw (p.1, p.2)
+    (if_fails_second scope.shape.now scope.level c.args.items.now (bindings_of scope.variables.now) _ _ _ _ _ _ _ _ _ _ (search rules)
+    c.tag-item.is c.value-item.is c.one-item.is c.two-item.is (search rules) c.in_ok-condition.ensures.reads c.in_ok-first.ensures
+    c.in_err-second.ensures)
+
+pub read_four-returns : goal.read_four-returns
+read_four-returns t c =
+    let scope = c.args.scope.now in
+    rw (if_reads scope.shape.now scope.level c.args.items.now (bindings_of scope.variables.now) c.args.counts.now _ _ _ _ _ _ _ _ _ _ (search rules)
+    c.tag-item.is c.value-item.is c.one-item.is c.two-item.is (search rules) c.in_ok-condition.ensures.reads c.in_ok-first.ensures
+    c.in_ok-second.ensures)
+    (record { added = _; is = refl; list = put_behind _ _ _ _ c.in_ok-push.ensures.items (search (rules, the_lemmas)) })

@@ -1,0 +1,116 @@
+ghost use Rattle.std.specs.Prelude.{◌≡◌, ◌++◌, All, OnOk, IfOk};
+ghost use Rattle.ot_model.specs.Uses.{AreInOrder};
+ghost use Rattle.ot_program.specs.Returned.{Gives};
+ghost use Rattle.ot_program.specs.Declarations.{together, with_mode, name_cell, name_clause, uses_of, declaration, section_cells, sections_cells, fits};
+
+use crate::clause::Clause;
+use crate::fault::{ProgramFault, Refusal};
+use ot_model::{Cell, Decl, Mode, Section, Use};
+use std::alloc::{AllocError, Global};
+use std::collections::BTreeMap;
+
+// Cells by array and then by index, each with its mode, or with none where one clause that names it
+// is `red` and another isn't.
+type Named = BTreeMap<(u32, u32), Option<Mode>>;
+
+/// The declaration of a task with these clauses.
+pub(crate) fn declare(alloc: Global, clauses: &[Clause]) -> Result<Decl, ProgramFault>
+    requires { All (λ c. fits c.section) clauses.now }
+    ensures { Gives (λ d. d) result (declaration clauses.now) }
+{
+    let mut named = BTreeMap::new(alloc);
+    for clause in clauses {
+        name_clause(&mut named, *clause)?;
+    }
+    let uses = uses_of(alloc, &named)?;
+    Ok(Decl::new(uses))
+}
+
+// Names each cell of a clause once more.
+fn name_clause(named: &mut Named, clause: Clause) -> Result<(), AllocError>
+    requires { fits clause.section }
+    ensures { OnOk result (named.new.entries ≡ name_clause named.old.entries clause) }
+{
+    for step in 0..clause.section.len {
+        let cell = Cell {
+            array: clause.section.array,
+            index: clause.section.start + step,
+        };
+        name_cell(named, clause.mode, cell)?;
+    }
+    Ok(())
+}
+
+fn name_cell(named: &mut Named, mode: Mode, cell: Cell) -> Result<(), AllocError>
+    ensures { OnOk result (named.new.entries ≡ name_cell mode named.old.entries cell) }
+{
+    let key = (cell.array, cell.index);
+    let earlier = named.get(&key).copied();
+    named.insert(key, with_mode(earlier, mode))?;
+    Ok(())
+}
+
+// The mode of a cell that may have been named before.
+fn with_mode(earlier: Option<Option<Mode>>, mode: Mode) -> Option<Mode>
+    ensures { result ≡ with_mode earlier mode }
+{
+    match earlier {
+        None => Some(mode),
+        Some(earlier) => together(earlier, mode),
+    }
+}
+
+// One mode for two. A cell is only read where it is named as read alone.
+fn together(earlier: Option<Mode>, mode: Mode) -> Option<Mode>
+    ensures { result ≡ together earlier mode }
+{
+    match (earlier?, mode) {
+        (Mode::Adds, Mode::Adds) => Some(Mode::Adds),
+        (Mode::Adds, _) | (_, Mode::Adds) => None,
+        (Mode::Reads, Mode::Reads) => Some(Mode::Reads),
+        (_, _) => Some(Mode::Writes),
+    }
+}
+
+fn uses_of(alloc: Global, named: &Named) -> Result<Vec<Use>, ProgramFault>
+    ensures uses { Gives (λ v. v.items) result (uses_of named.now.entries) }
+    ensures ordered { IfOk result (λ v. AreInOrder v.items) }
+{
+    let mut uses = Vec::with_capacity(alloc, named.len())?;
+    for ((array, index), mode) in named {
+        let Some(mode) = *mode else {
+            return Err(ProgramFault::Refused(Refusal::MixedReduction));
+        };
+        let cell = Cell {
+            array: *array,
+            index: *index,
+        };
+        uses.push(Use { cell, mode })?;
+    }
+    Ok(uses)
+}
+
+/// The cells of sections in their order.
+pub(crate) fn sections_cells(alloc: Global, sections: &[Section]) -> Result<Vec<Cell>, AllocError>
+    requires { All fits sections.now }
+    ensures { IfOk result (λ v. v.items ≡ sections_cells sections.now) }
+{
+    let mut cells = Vec::new(alloc);
+    for section in sections {
+        push_cells(&mut cells, *section)?;
+    }
+    Ok(cells)
+}
+
+fn push_cells(cells: &mut Vec<Cell>, section: Section) -> Result<(), AllocError>
+    requires { fits section }
+    ensures { OnOk result (cells.new.items ≡ cells.old.items ++ section_cells section) }
+{
+    for step in 0..section.len {
+        cells.push(Cell {
+            array: section.array,
+            index: section.start + step,
+        })?;
+    }
+    Ok(())
+}
