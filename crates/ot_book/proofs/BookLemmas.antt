@@ -9,10 +9,10 @@ use Rattle.ot_program.specs.Programs.{program_of}
 use Rattle.ot_program.specs.declared.fault.Refusal.{Refusal}
 use Rattle.ot_program.specs.declared.fault.Refusal.TheVariants as p
 use Rattle.ot_book.specs.Arrays.{Named, created, within, cells_called, shape_in}
-use Rattle.ot_book.specs.Answers.{State, Step, Now, Runs, opening, changed, told, started, performed, asked, parsed, value_of, step_of, finished, answer_or_lost, replies, is_lost}
+use Rattle.ot_book.specs.Answers.{State, Step, Now, Runs, opening, changed, told, cannot_race, started, performed, asked, parsed, value_of, step_of, finished, answer_or_lost, replies, is_lost}
 use Rattle.ot_book.specs.Books.{Register, state_in, lines_in, IsRight, logged}
 use Rattle.ot_book.specs.Requests.{Request, New, Put, Get, Run, request_of}
-use Rattle.ot_book.specs.Replies.{Said}
+use Rattle.ot_book.specs.Replies.{Said, Refused}
 use Rattle.ot_book.specs.declared.limits.Limits.{Limits}
 use Rattle.ot_book.specs.declared.store.StoreFault.{StoreFault}
 use Rattle.ot_book.specs.declared.store.StoreFault.TheVariants.{UnknownArray, NameTaken, OutOfRange, TooManyCells, TooManyArrays, Memory}
@@ -81,19 +81,23 @@ not_lost-told n arrays (Err TooManyCells) h = refl
 not_lost-told n arrays (Err TooManyArrays) h = refl
 not_lost-told n arrays (Err Memory) h = absurd h
 
-code_is_plain : (r : Refusal) → (code_of r == 508) ≡ false
-code_is_plain p.Form = refl
-code_is_plain p.Size = refl
-code_is_plain p.UnknownArray = refl
-code_is_plain p.OutOfRange = refl
-code_is_plain p.EmptySection = refl
-code_is_plain p.TooLarge = refl
-code_is_plain p.TooManyTasks = refl
-code_is_plain p.MixedReduction = refl
+code_cannot_race : (r : Refusal) → (code_of r == 508) ≡ false
+code_cannot_race p.Form = refl
+code_cannot_race p.Size = refl
+code_cannot_race p.UnknownArray = refl
+code_cannot_race p.OutOfRange = refl
+code_cannot_race p.EmptySection = refl
+code_cannot_race p.TooLarge = refl
+code_cannot_race p.TooManyTasks = refl
+code_cannot_race p.MixedReduction = refl
+
+not_lost-chosen : (n : ℕ) (arrays : List Named) (program : Expanded) (b : Bool) → NotLost (if b then Runs program else Now (Refused n (code_of p.Form)) arrays)
+not_lost-chosen n arrays program true = tt
+not_lost-chosen n arrays program false = refl
 
 not_lost-started : (n : ℕ) (arrays : List Named) (r : Result Expanded Refusal) → NotLost (started n arrays r)
-not_lost-started n arrays (Ok program) = tt
-not_lost-started n arrays (Err refusal) = code_is_plain refusal
+not_lost-started n arrays (Ok program) = not_lost-chosen n arrays program (cannot_race program)
+not_lost-started n arrays (Err refusal) = code_cannot_race refusal
 
 not_lost-performed : (limits : Limits) (n : ℕ) (arrays : List Named) (request : Request) → NotLost (performed limits n arrays request)
 not_lost-performed limits n arrays (New name len) = not_lost-changed n arrays _ (plain-created name len limits arrays)

@@ -1,14 +1,16 @@
 -- What requests are answered, one after another.
-use Rattle.std.specs.Prelude.{ℕ, ◌+◌, ◌==◌, List, [], ◌∷◌, map, slice_range, slice_get, unwrap_or, Bool, true, false, if◌then◌else◌, Option, Some, None, Result, Ok, Err}
+use Rattle.std.specs.Prelude.{ℕ, ◌+◌, ◌==◌, ◌&&◌, not, List, [], ◌∷◌, map, slice_range, slice_get, unwrap_or, Bool, true, false, if◌then◌else◌, Option, Some, None, Result, Ok, Err}
 use Rattle.std.specs.Str.{is_utf8}
 use Rattle.serde_json.specs.Data.{Data}
 use Rattle.serde_json.specs.Read.{read}
 use Rattle.ot_model.specs.Programs.{Expanded}
+use Rattle.ot_model.specs.Grouped.{is_grouped}
 use Rattle.ot_model.specs.Serial.{serial_run}
 use Rattle.ot_model.specs.declared.expr.Section.{Section}
 use Rattle.ot_program.specs.Programs.{program_of}
 use Rattle.ot_program.specs.Refusals.{code_of}
 use Rattle.ot_program.specs.declared.fault.Refusal.{Refusal}
+use Rattle.ot_program.specs.declared.fault.Refusal.TheVariants.{Form}
 use Rattle.ot_book.specs.Arrays.{Named, created, put, got, cells_in, recelled, shape_in}
 use Rattle.ot_book.specs.Codes.{number_of, code_of_store}
 use Rattle.ot_book.specs.Replies.{Said, Accepted, Cells, Done, Refused}
@@ -39,8 +41,13 @@ abbrev pub told : ℕ → List Named → Result (List ℕ) StoreFault → Step
 told n arrays (Ok values) = Now (Cells n values) arrays
 told n arrays (Err e) = Now (Refused n (number_of (code_of_store e))) arrays
 
+-- a program without tasks and reductions
+abbrev pub cannot_race : Expanded → Bool
+cannot_race p = p.tasks == 0 && not (is_grouped p.body)
+
+-- As long as nothing checks that tasks can't race, only plain programs are run.
 abbrev pub started : ℕ → List Named → Result Expanded Refusal → Step
-started n arrays (Ok p) = Runs p
+started n arrays (Ok p) = if cannot_race p then Runs p else Now (Refused n (code_of Form)) arrays
 started n arrays (Err refusal) = Now (Refused n (code_of refusal)) arrays
 
 -- what request n does

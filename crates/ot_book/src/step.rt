@@ -15,7 +15,7 @@ use crate::reply::{Code, Reply};
 use crate::request::{Request, read_request};
 use crate::store::Store;
 use ot_model::Section;
-use ot_program::read_program;
+use ot_program::{Refusal, read_program};
 use serde_json::Value;
 use std::alloc::{AllocError, Global};
 
@@ -109,7 +109,8 @@ fn perform(
     }
 }
 
-/// Reads a program over the arrays of the store, and makes room for its reply.
+/// Reads a program over the arrays of the store, and makes room for its reply. A program with tasks
+/// or a reduction is refused, as long as nothing checks that it can't race.
 fn start(
     alloc: Global,
     limits: &Limits,
@@ -123,6 +124,9 @@ fn start(
 {
     let shape = store.shape(alloc, limits)?;
     let program = read_program(alloc, text, &shape)?;
+    if program.tasks > 0 || program.grouped() {
+        return Err(Code::Program(Refusal::Form));
+    }
     let before = store.cells(alloc)?;
     let shows = empty_lists(alloc, &program.shows)?;
     Ok(Considered::Runs(JobSpec::new(program, before), shows))

@@ -130,6 +130,40 @@ fn repeated(alloc: Global, text: &str, times: u32) -> Result<String, AllocError>
     Ok(all)
 }
 
+/// Bodies of programs that show the array `a`. Each is asked of a book of its own.
+const BODIES: &str =
+    r#"[["for","i",0,2,[["for","i",5,6,[["add",["c","a",0],"i"]]],["add",["c","a",1],"i"]]]] gives ["done",3,0,4,[[11,3,3]]]
+[["for","i",0,40000,[]]] gives ["done",3,0,0,[[1,2,3]]]
+[["for","i",0,40001,[]]] gives ["err",3,422]
+[["wait"]] gives ["done",3,0,1,[[1,2,3]]]
+[["set",["c","a","i"],1]] gives ["err",3,421]
+[["set",["c","a",["-",0,1]],1]] gives ["err",3,421]
+[["for","i",5,5,[["nonsense"]]]] gives ["done",3,0,0,[[1,2,3]]]
+[["for","i",0,3,[["set",["c","a","i"],["*","i","i"]]]]] gives ["done",3,0,3,[[0,1,4]]]
+[["if",["<",["c","a",0],2],[["set",["c","a",2],9]],[["set",["c","a",2],4]]]] gives ["done",3,0,2,[[1,2,9]]]
+[["set",["c","a",2],["pick",["a",0,3],7]]] gives ["done",3,0,1,[[1,2,2]]]
+[["for","i",0,20000,[["set",["c","a",0],1]]]] gives ["done",3,0,20000,[[1,2,3]]]
+[["for","i",0,20001,[["set",["c","a",0],1]]]] gives ["err",3,422]
+[["for","i",0,1025,[["task",[["inout",["a",0,1]]],[["add",["c","a",0],1]]]]]] gives ["err",3,423]
+[["task",[["in",["a",0,1]],["red",["a",0,1]]],[]]] gives ["err",3,429]
+[["task",[["in",["a",3,0]]],[]]] gives ["err",3,424]
+[["task",[["in",["a",2,2]]],[]]] gives ["err",3,414]
+[["if",0,[["task",[],[]]],[]]] gives ["err",3,420]
+[["group",[],[]]] gives ["err",3,420]"#;
+
+#[test]
+fn programs_by_their_bodies(rt: HostRuntime) -> Result<(), Fail> {
+    let alloc = rt.alloc();
+    for row in BODIES.lines() {
+        let (body, reply) = row.split_once(" gives ").ok_or("a body and its reply")?;
+        let mut book = book_of_three(&rt, alloc, Limits::usual())?;
+        let run = format!(in alloc; "[\"run\",[\"program\",[[\"a\",0,3]],{body}]]")?;
+        let row = format!(in alloc; "{run} gives {reply}")?;
+        ask_all(&rt, alloc, &mut book, row.as_str())?;
+    }
+    Ok(())
+}
+
 /// Of two arrays, four cells and ten requests.
 const LIMITED: &str = r#"["new","a",5] gives ["err",1,415]
 ["new","a",2] gives ["ok",2]
