@@ -12,7 +12,7 @@ use Rattle.ot_program.specs.declared.fault.ProgramFault.{ProgramFault}
 use Rattle.ot_program.specs.declared.fault.ProgramFault.TheVariants.{Refused}
 use Rattle.ot_program.specs.Names.{is_word}
 use Rattle.ot_program.specs.Variables.{Bindings}
-use Rattle.ot_program.specs.Statements.{Read, Reader, Range, if_in, for_in, condition_of, range_of, body_in, one_in}
+use Rattle.ot_program.specs.Statements.{Read, condition_of, range_of, body_in, one_in}
 use Rattle.ot_program.specs.Returned.{Fails, Adds}
 use Rattle.ot_program.proofs.Joins.{Fails-then}
 use Rattle.ot_program.proofs.StatementForms.{form_if, form_for}

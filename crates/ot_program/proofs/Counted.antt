@@ -1,11 +1,11 @@
 -- The counts that a reading tells are those of the tree that it gives.
-use Rattle.std.proofs.Common.{◌≡◌, ℕ, ◌+◌, ◌<◌, ◌≤◌, ◌&&◌, Bool, true, false, List, [], ◌∷◌, ◌++◌, map, Result, Ok, Err, IfOk, nat_le, nat_lt, refl, sym, ap, ◌∙◌, arith}
+use Rattle.std.proofs.Common.{◌≡◌, ℕ, ◌+◌, ◌≤◌, ◌&&◌, List, [], ◌∷◌, ◌++◌, map, Result, Ok, Err, IfOk, nat_le, nat_lt, refl, ap, ◌∙◌, arith}
 use Rattle.std.specs.Prelude.{⊤}
 use Rattle.std.proofs.lemmas.Bool.{ltb-true}
 use Rattle.std.proofs.lemmas.Bool.Decides.{nat_tests}
 use Rattle.serde_json.specs.Data.{Data}
 use Rattle.ot_model.specs.Shapes.{Arrays}
-use Rattle.ot_model.specs.Tree.{E, S, Set, Add, If, Task, Wait, Group, Body, body_of}
+use Rattle.ot_model.specs.Tree.{E, S, Set, Add, If, Task, Wait, Group, body_of}
 use Rattle.ot_model.specs.Counts.{size, tasks_in}
 use Rattle.ot_model.specs.declared.expr.Cell.{Cell}
 use Rattle.ot_model.specs.declared.stmt.Use.{Use}
@@ -19,7 +19,7 @@ use Rattle.ot_program.specs.Counting.{no_counts, counted, within_limits, one_tur
 use Rattle.ot_program.specs.Parts.{cell_of, sections_of}
 use Rattle.ot_program.specs.Values.{nodes_of, picked_of, expression_of}
 use Rattle.ot_program.specs.Declarations.{clauses_of, sections_cells, declaration}
-use Rattle.ot_program.specs.Statements.{Read, list_of, target_of, condition_of, declared_of, grouped_of, set_in, add_in, wait_in, body_in}
+use Rattle.ot_program.specs.Statements.{list_of, target_of, condition_of, declared_of, grouped_of, set_in, add_in, wait_in, body_in}
 use Rattle.ot_program.specs.Returned.{Added}
 use Rattle.ot_program.specs.Laws.{nodes_in, AreWithin, CountsAre}
 use Rattle.ot_program.proofs.Kept.{Keeps, KeepsBody, KeepsBodies, IsKept, body_in-keeps}

@@ -1,6 +1,6 @@
 -- What is told of a body is told of its first statement, in expanded order, that has a fault.
 use Rattle.std.proofs.Common.{◌≡◌, ℕ, zero, suc, ◌+◌, ◌-◌, Bool, true, false, cond, List, [], ◌∷◌, ◌++◌, Result, Ok, Err, codes, refl, inl, inr}
-use Rattle.std.specs.Prelude.{IfErr, IsTrue, ◌⊎◌}
+use Rattle.std.specs.Prelude.{IfErr, ◌⊎◌}
 use Rattle.serde_json.specs.Data.{Data, array, Items, no_items, item}
 use Rattle.ot_model.specs.Shapes.{Arrays}
 use Rattle.ot_model.specs.Tree.{E, S, Set, Add, Task, Group, If, Wait, Body, body_of}
@@ -124,6 +124,7 @@ if_told_by (Err c) own one two told later n is h k = inl is
 
 mutual
   unfolding body_in
+
   pub body_told : (shape : Arrays) (level : ℕ) (d : Data) (variables : Bindings) (n : Counts)
       → IfErr (body_in shape level d variables n) (BodyTells shape level d variables n)
   body_told shape level (array ds) variables n = all_told shape level ds variables n

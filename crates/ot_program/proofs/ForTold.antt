@@ -1,16 +1,14 @@
 -- A `for` is its body once a turn.
-use Rattle.std.proofs.Common.{◌≡◌, ℕ, suc, ◌+◌, ◌-◌, ◌<◌, ◌≤◌, ◌^◌, List, [], ◌∷◌, ◌++◌, Result, Ok, Err, refl, sym, ap, ◌∙◌, arith}
+use Rattle.std.proofs.Common.{◌≡◌, ℕ, suc, ◌+◌, ◌-◌, ◌<◌, ◌≤◌, ◌^◌, List, [], ◌∷◌, Ok, Err, refl, sym, ap, ◌∙◌, arith}
 use Rattle.std.proofs.lemmas.Bool.{lt-ltb}
-use Rattle.serde_json.specs.Data.{Data, number, string, array, unsigned}
+use Rattle.serde_json.specs.Data.{Data, number, string, unsigned}
 use Rattle.ot_model.specs.Shapes.{Arrays}
-use Rattle.ot_model.specs.Tree.{S}
 use Rattle.ot_program.specs.declared.counts.Counts.{Counts}
-use Rattle.ot_program.specs.declared.fault.Refusal.{Refusal}
 use Rattle.ot_program.specs.Limits.{max_nesting}
 use Rattle.ot_program.specs.Reading.{◌>>=◌}
 use Rattle.ot_program.specs.Variables.{Bindings}
 use Rattle.ot_program.specs.Sizes.{size_of, size_depth}
-use Rattle.ot_program.specs.Statements.{Read, Reader, Range, one_then, turn, turns, range_of, body_in, one_in}
+use Rattle.ot_program.specs.Statements.{Read, Reader, one_then, turn, turns, range_of, body_in, one_in}
 use Rattle.ot_program.specs.Laws.{for_text, IsFor}
 use Rattle.ot_program.proofs.Fronts.{behind}
 

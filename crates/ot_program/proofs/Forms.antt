@@ -1,6 +1,5 @@
 -- Lists of another length are no cell, no section and no clause.
 use Rattle.std.proofs.Common.{◌≡◌, ◌<◌, ◌≤◌, List, [], ◌∷◌, length, Err, refl, arith}
-use Rattle.std.specs.Prelude.{◌≢◌}
 use Rattle.serde_json.specs.Data.{array}
 use Rattle.serde_json.specs.View.{items_view}
 use Rattle.serde_json.specs.declared.value.Value.{Value}

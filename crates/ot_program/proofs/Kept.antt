@@ -1,6 +1,5 @@
 -- What holds of each statement that is read holds of a body.
-use Rattle.std.proofs.Common.{◌≡◌, ℕ, zero, suc, ◌+◌, ◌-◌, Bool, true, false, cond, List, [], ◌∷◌, ◌++◌, Result, Ok, Err, IfOk, codes, refl}
-use Rattle.std.specs.Prelude.{⊤}
+use Rattle.std.proofs.Common.{ℕ, zero, suc, ◌+◌, ◌-◌, Bool, true, false, cond, List, [], ◌∷◌, ◌++◌, Result, Ok, Err, IfOk, codes}
 use Rattle.serde_json.specs.Data.{Data, array, Items, no_items, item}
 use Rattle.ot_model.specs.Shapes.{Arrays}
 use Rattle.ot_model.specs.Tree.{E, S, If, Task, Group, Body, body_of}
@@ -11,7 +10,7 @@ use Rattle.ot_program.specs.Names.{is_word}
 use Rattle.ot_program.specs.Reading.{◌>>=◌}
 use Rattle.ot_program.specs.Variables.{Bindings}
 use Rattle.ot_program.specs.Counting.{one_turn}
-use Rattle.ot_program.specs.Statements.{Reader, Range, refused, one_then, set_in, add_in, wait_in, wait_form, if_in, with_body, for_in, turn, turns, condition_of, declared_of, grouped_of, range_of, body_in, all_in, one_in}
+use Rattle.ot_program.specs.Statements.{Reader, Range, refused, one_then, set_in, add_in, wait_in, if_in, with_body, for_in, turn, turns, condition_of, declared_of, grouped_of, range_of, body_in, all_in, one_in}
 use Rattle.ot_program.proofs.Readings.{ok_then, ok_weaker}
 
 -- what a reader gives stands in this relation to the counts before it and after it

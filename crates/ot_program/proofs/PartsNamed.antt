@@ -9,7 +9,6 @@ use Rattle.ot_program.specs.Numbers.{whole_number}
 use Rattle.ot_model.specs.Shapes.{Arrays, AreShort, array_lengths}
 use Rattle.ot_model.specs.Tree.{E, CellAt, Apply, PickFrom}
 use Rattle.ot_model.specs.Names.{IsInShape, FitsShape, ValueNamedIn}
-use Rattle.ot_model.specs.declared.expr.Cell.{Cell}
 use Rattle.ot_model.specs.declared.expr.Section.{Section}
 use Rattle.ot_model.specs.declared.stmt.Mode.{Mode}
 use Rattle.ot_program.specs.declared.clause.Clause.{Clause}

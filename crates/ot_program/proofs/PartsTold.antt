@@ -1,15 +1,13 @@
 -- What is told of sizes, cells, sections, clauses and values is the first fault of the order.
-use Rattle.std.proofs.Common.{◌≡◌, ℕ, ◌+◌, ◌-◌, ◌*◌, ◌≤◌, Bool, true, false, cond, List, [], ◌∷◌, ◌++◌, Option, Some, None, Result, Ok, Err, IfOk, nat_le, nat_lt, nat_eq, codes, refl, arith}
-use Rattle.std.specs.Prelude.{⊤, IfErr}
+use Rattle.std.proofs.Common.{◌≡◌, ℕ, ◌+◌, ◌-◌, ◌*◌, ◌≤◌, Bool, true, false, cond, List, [], ◌∷◌, ◌++◌, Option, Some, None, Result, Ok, Err, nat_le, nat_lt, nat_eq, codes, refl, arith}
+use Rattle.std.specs.Prelude.{IfErr}
 use Rattle.std.proofs.lemmas.List.Elements.{All-cons, All-append}
 use Rattle.serde_json.specs.Data.{Data, number, string, array, no_items, item}
 use Rattle.ot_model.specs.Shapes.{Arrays}
 use Rattle.ot_model.specs.Tree.{E, CellAt, Apply, PickFrom}
-use Rattle.ot_model.specs.declared.expr.Cell.{Cell}
 use Rattle.ot_model.specs.declared.expr.Op.{Op}
 use Rattle.ot_model.specs.declared.expr.Section.{Section}
 use Rattle.ot_model.specs.declared.stmt.Mode.{Mode}
-use Rattle.ot_program.specs.declared.clause.Clause.{Clause}
 use Rattle.ot_program.specs.declared.part.KnownArray.{KnownArray}
 use Rattle.ot_program.specs.declared.size.Sign.{Sign}
 use Rattle.ot_program.specs.declared.size.Sign.TheVariants.{Plus, Minus, Times}
@@ -23,7 +21,7 @@ use Rattle.ot_program.specs.Reading.{◌>>=◌, both_of}
 use Rattle.ot_program.specs.Variables.{Bindings, bound, known_number, variable_of}
 use Rattle.ot_program.specs.Sizes.{in_range, number_size, sign_of, exact, size_operation, size_of, size_depth, shallow}
 use Rattle.ot_program.specs.Parts.{known_from, known_of, array_of, cell_in, cell_at, cell_of, section_in, section_at, section_of, sections_of}
-use Rattle.ot_program.specs.Values.{op_of, literal_of, cell_value, variable_value, operation, pick_of, value_of, depth_of, not_too_deep, expression_of}
+use Rattle.ot_program.specs.Values.{op_of, literal_of, cell_value, operation, pick_of, value_of, depth_of, not_too_deep, expression_of}
 use Rattle.ot_program.specs.Declarations.{mode_of, clause_at, clause_of, clauses_of}
 use Rattle.ot_program.specs.Statements.{list_of}
 use Rattle.ot_program.specs.Faults.{unless, fault_of, inexact, size_operation_faults, size_faults, deep, past_end, cell_faults, ends_past, empty, section_faults, section_text_faults, list_faults, mode_faults, clause_faults, operation_faults, value_faults, deep_value, expression_faults, target_faults}

@@ -1,5 +1,5 @@
 -- What is told of the program's own form and its shows is the first fault of the order.
-use Rattle.std.proofs.Common.{ℕ, ◌+◌, ◌≤◌, List, [], ◌++◌, Result, Ok, Err, nat_le, arith, zero-add, subst}
+use Rattle.std.proofs.Common.{ℕ, ◌+◌, List, [], ◌++◌, Result, Ok, Err, nat_le, arith, zero-add, subst}
 use Rattle.std.specs.Prelude.{⊤}
 use Rattle.serde_json.specs.Data.{Data}
 use Rattle.ot_model.specs.Shapes.{Arrays}

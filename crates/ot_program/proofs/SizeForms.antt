@@ -1,5 +1,5 @@
 -- What a list is read as, where a size is wanted.
-use Rattle.std.proofs.Common.{◌≡◌, ℕ, ◌+◌, max, List, [], ◌∷◌, length, get_or, Some, Err, refl, sym, arith}
+use Rattle.std.proofs.Common.{◌≡◌, ◌+◌, max, List, [], ◌∷◌, length, get_or, Some, Err, refl, sym, arith}
 use Rattle.std.specs.Prelude.{◌≢◌}
 use Rattle.serde_json.specs.Data.{array}
 use Rattle.serde_json.specs.View.{view, items_view}

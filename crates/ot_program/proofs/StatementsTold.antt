@@ -1,12 +1,11 @@
 -- What is told of a statement's own parts is the first fault of the order.
-use Rattle.std.proofs.Common.{◌≡◌, ℕ, zero, suc, ◌+◌, ◌-◌, ◌≤◌, Bool, true, false, cond, List, [], ◌∷◌, ◌++◌, map, Option, Some, None, Result, Ok, Err, nat_le, nat_lt, ◌&&◌, codes, refl, ap, arith, inl, inr}
-use Rattle.std.specs.Prelude.{⊤, IfErr}
+use Rattle.std.proofs.Common.{◌≡◌, ℕ, ◌+◌, ◌≤◌, Bool, true, false, cond, List, [], ◌∷◌, ◌++◌, map, Option, Some, None, Result, Ok, Err, nat_le, nat_lt, ◌&&◌, codes, refl, arith}
+use Rattle.std.specs.Prelude.{IfErr}
 use Rattle.std.specs.List.{fold}
 use Rattle.std.proofs.lemmas.List.Elements.{All-append, All-cons}
-use Rattle.serde_json.specs.Data.{Data, string, array, Items, no_items, item}
+use Rattle.serde_json.specs.Data.{Data, string, array, no_items, item}
 use Rattle.ot_model.specs.Shapes.{Arrays}
 use Rattle.ot_model.specs.Tree.{E}
-use Rattle.ot_model.specs.declared.expr.Cell.{Cell}
 use Rattle.ot_model.specs.declared.expr.Section.{Section}
 use Rattle.ot_model.specs.declared.stmt.Mode.{Mode}
 use Rattle.ot_model.specs.declared.stmt.Use.{Use}
@@ -20,14 +19,14 @@ use Rattle.ot_program.specs.Names.{is_name, is_word}
 use Rattle.ot_program.specs.Reading.{◌>>=◌, both_of}
 use Rattle.ot_program.specs.Variables.{Bindings}
 use Rattle.ot_program.specs.Sizes.{size_of, shallow}
-use Rattle.ot_program.specs.Counting.{counted, within_limits, one_turn, one_task, deeper, cells_in}
+use Rattle.ot_program.specs.Counting.{counted, within_limits, one_task, deeper, cells_in}
 use Rattle.ot_program.specs.Parts.{cell_of, sections_of}
 use Rattle.ot_program.specs.Values.{nodes_of, picked_of, expression_of}
 use Rattle.ot_program.specs.Declarations.{Named, name_clause, sections_cells, use_of, uses_of, clauses_of, declaration}
-use Rattle.ot_program.specs.Statements.{Range, list_of, name_of, target_of, condition_of, declared_of, grouped_of, range_of}
-use Rattle.ot_program.specs.Faults.{IsFirstOf, TellsFirst, unless, fault_of, size_faults, deep, list_faults, section_text_faults, clause_faults, expression_faults, count_faults, value_counts, clause_counts, section_counts, too_nested, mixed, target_faults, set_faults, if_faults, task_faults, group_faults, for_faults, own_faults}
+use Rattle.ot_program.specs.Statements.{list_of, name_of, target_of, condition_of, declared_of, grouped_of, range_of}
+use Rattle.ot_program.specs.Faults.{TellsFirst, unless, fault_of, size_faults, deep, list_faults, section_text_faults, clause_faults, expression_faults, count_faults, value_counts, clause_counts, section_counts, too_nested, mixed, target_faults, set_faults, if_faults, task_faults, group_faults, for_faults, own_faults}
 use Rattle.ot_program.specs.Laws.{done, own_of}
-use Rattle.ot_program.proofs.Told.{AreFrom, AreFrom-weaker, Tells, tells_both, tells_later, tells_then, tells_made, tells_test, tells_one, tells_no_form, tells_if, both_ok, unless-from, nothing-from, first-single, first-left}
+use Rattle.ot_program.proofs.Told.{AreFrom, Tells, tells_both, tells_later, tells_then, tells_made, tells_test, tells_one, tells_no_form, tells_if, both_ok, unless-from, nothing-from, first-single, first-left}
 use Rattle.ot_program.proofs.PartsTold.{size_tells, deep-from, shallow_tells, cell_of_tells, sections_of_tells, clauses_of_tells, list_tells, expression_tells}
 
 -- ---- counts

@@ -1,5 +1,5 @@
 -- A loop over the turns of a `for` has read a front of what there is to read.
-use Rattle.std.proofs.Common.{◌≡◌, ℕ, suc, ◌+◌, ◌-◌, ◌<◌, ◌≤◌, List, [], Ok, refl, arith}
+use Rattle.std.proofs.Common.{◌≡◌, ℕ, suc, ◌+◌, ◌-◌, ◌<◌, ◌≤◌, List, refl, arith}
 use Rattle.ot_model.specs.Tree.{S}
 use Rattle.ot_program.specs.declared.counts.Counts.{Counts}
 use Rattle.ot_program.specs.declared.fault.ProgramFault.{ProgramFault}

@@ -1,6 +1,6 @@
 -- What is said of all readings: the counts that they tell, the faults, and the turns of a `for`.
 use Rattle.std.specs.Prelude.{◌≡◌, ℕ, zero, suc, ◌+◌, ◌-◌, ◌<◌, ◌≤◌, ◌^◌, ◌⊎◌, IsTrue, List, [], ◌∷◌, ◌++◌, Result, Ok, Err, IfOk, IfErr, if◌then◌else◌, codes, ⊤}
-use Rattle.serde_json.specs.Data.{Data, number, string, array, Items, no_items, item, Num, unsigned}
+use Rattle.serde_json.specs.Data.{Data, number, string, array, Items, no_items, item, unsigned}
 use Rattle.ot_model.specs.Shapes.{Arrays}
 use Rattle.ot_model.specs.Tree.{S, Set, Add, If, Task, Wait, Group, Body, End, Next, body_of}
 use Rattle.ot_model.specs.Counts.{size, tasks_in}
@@ -10,10 +10,10 @@ use Rattle.ot_program.specs.Variables.{Bindings}
 use Rattle.ot_program.specs.declared.fault.Refusal.{Refusal}
 use Rattle.ot_program.specs.declared.fault.Refusal.TheVariants.{Form}
 use Rattle.ot_program.specs.Names.{is_name, is_word}
-use Rattle.ot_program.specs.Reading.{◌>>=◌, both_of}
+use Rattle.ot_program.specs.Reading.{both_of}
 use Rattle.ot_program.specs.Counting.{counted, within_limits, one_turn}
 use Rattle.ot_program.specs.Values.{nodes_of}
-use Rattle.ot_program.specs.Statements.{Reader, Range, one_then, turn, turns, target_of, condition_of, declared_of, grouped_of, range_of, body_in, one_in}
+use Rattle.ot_program.specs.Statements.{Reader, Range, one_then, turn, target_of, condition_of, declared_of, grouped_of, range_of, body_in, one_in}
 use Rattle.ot_program.specs.Programs.{shows_of}
 use Rattle.ot_program.specs.Faults.{IsFirstOf, TellsFirst, own_faults, shows_faults}
 

@@ -1,6 +1,6 @@
 use Rattle.std.proofs.Common.{rules}
 use Rattle.ot_program.specs.Variables.{bindings_of}
-use Rattle.ot_program.proofs.ValueForms.{value_of-operation, value_of-pick}
+use Rattle.ot_program.proofs.ValueForms.{value_of-operation}
 use Rattle.ot_program.proofs.value.+value.Goals as goal
 
 pub value_form-returns : goal.value_form-returns
