@@ -20,3 +20,4 @@ pub mod StatementsTold
 pub mod FirstTold
 pub mod ForTold
 pub mod ShowsTold
+pub mod Declared

@@ -148,7 +148,7 @@ uses_only (n ∷ ns) =
     err_then (use_of n) (λ u. uses_of ns >>= λ us. Ok (u ∷ us)) (λ c. c ≡ MixedReduction) (use_only n)
     (λ u. err_then (uses_of ns) (λ us. Ok (u ∷ us)) (λ c. c ≡ MixedReduction) (uses_only ns) (λ us. tt))
 
-declaration_only : (clauses : List Clause) → IfErr (declaration clauses) (λ c. c ≡ MixedReduction)
+pub declaration_only : (clauses : List Clause) → IfErr (declaration clauses) (λ c. c ≡ MixedReduction)
 declaration_only clauses = uses_only (fold name_clause [] clauses)
 
 mixed_up_to : (r : Result (List Use) Refusal) → IfErr r (λ c. c ≡ MixedReduction) → IfErr r (λ c. rank c ≤ 7)

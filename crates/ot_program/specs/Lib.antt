@@ -14,3 +14,4 @@ pub mod Programs
 pub mod Returned
 pub mod Faults
 pub mod Laws
+pub mod DeclarationLaws

@@ -1,5 +1,6 @@
 //! Laws of the reading. Each is the contract of a function that does nothing: a caller that needs
 //! the law calls it.
+ghost use Rattle.ot_program.specs.DeclarationLaws.{DeclarationsAreExact};
 ghost use Rattle.ot_program.specs.Laws.{BothTellFirst, CountsAreOfTree, FirstFaultIsTold, ForIsItsTurns, ForWithoutTurns, ShowsTellFirst, StatementTellsFirst};
 
 /// Of the faults of two parts the one that is told comes after none in the order.
@@ -31,6 +32,11 @@ pub fn for_is_its_turns()
 /// A `for` without a turn is nothing, whatever its body is.
 pub fn for_without_turns()
     ensures { ForWithoutTurns }
+{}
+
+/// Each cell of a declaration has the mode that the clauses naming it ask for.
+pub fn declarations_are_exact()
+    ensures { DeclarationsAreExact }
 {}
 
 /// The counts that are told of a body are those of the statements that are read of it.

@@ -181,3 +181,38 @@ fn forms_and_their_codes(rt: HostRuntime) -> Result<(), Fail> {
     }
     Ok(())
 }
+
+#[test]
+fn a_reduction_is_found_however_deep(rt: HostRuntime) -> Result<(), Fail> {
+    let alloc = rt.alloc();
+    let shape = two_arrays(alloc, 3, 5)?;
+    for (body, expected) in [
+        ("[]", false),
+        (TASKS, false),
+        (CHOICE, false),
+        (GROUP, true),
+        (r#"[["group",[],[]]]"#, true),
+        (r#"[["task",[["red",["a",0,1]]],[]]]"#, true),
+        (
+            r#"[["task",[["red",["b",0,1]],["in",["a",0,1]]],[]]]"#,
+            true,
+        ),
+        (
+            r#"[["task",[],[]],["task",[],[["task",[["red",["a",0,1]]],[]]]]]"#,
+            true,
+        ),
+        (
+            r#"[["if",0,[["wait"]],[["if",1,[["group",[],[]]],[]]]]]"#,
+            true,
+        ),
+        (
+            r#"[["if",0,[["wait"]],[["if",1,[["task",[],[]]],[]]]]]"#,
+            false,
+        ),
+    ] {
+        let text = format!(in alloc; "[\"program\",[],{body}]")?;
+        let program = read_program(alloc, &Value::from_str(alloc, text.as_str())?, &shape)?;
+        assert_eq!(rt; program.grouped(), expected, "{body}");
+    }
+    Ok(())
+}

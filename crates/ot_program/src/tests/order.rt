@@ -5,8 +5,8 @@ use std::test::Fail;
 /// A size of depth 25, whose number is 1.
 const DEEP: &str = "DEEP";
 
-/// Statements with two faults, over `a` of 3 cells and `b` of 5, where no task statement is allowed
-/// but one that stands before. DEEP is a size of depth 25.
+/// Statements with faults of two codes, over `a` of 3 cells and `b` of 5, behind as many task
+/// statements as are allowed. DEEP stands for a size of depth 25.
 const PAIRS: &str = r#"420 ["task",[["in",["a",0,"i"]]],1]
 420 ["task",[["in",["z",0,1]]],1]
 420 ["task",[["in",["a",0,4]]],1]
