@@ -1,0 +1,268 @@
+-- Bodies that are apart may be run in either order.
+use Rattle.std.proofs.Common.{◌≡◌, ◌≢◌, ℕ, zero, suc, ◌+◌, ◌%◌, ◌^◌, Bool, true, false, List, [], ◌∷◌, refl, sym, ap, subst, ◌∙◌, inl, inr, arith}
+use Rattle.std.proofs.Math.Nat.{mod-add-mod}
+use Rattle.std.specs.Prelude.{◌==◌, if◌then◌else◌, Option, slice_get, option_and_then, unwrap_or}
+use Rattle.ot_model.specs.Tree.{E, Literal, CellAt, Apply, PickFrom, S, Set, Add, If, Task, Wait, Group, Body, End, Next}
+use Rattle.ot_model.specs.Cells.{cell_of, with_cell, updated}
+use Rattle.ot_model.specs.Value.{val, cell_at, applied}
+use Rattle.ot_model.specs.Serial.{State, bump, change, either, serial, serial_one}
+use Rattle.ot_model.specs.Uses.{conflicts}
+use Rattle.ot_model.specs.declared.expr.Cell.{Cell}
+use Rattle.ot_model.specs.declared.stmt.Mode.{Mode}
+use Rattle.ot_model.specs.declared.stmt.Mode.TheVariants.{Reads, Writes, Adds}
+use Rattle.ot_model.specs.declared.stmt.Use.{Use}
+use Rattle.ot_check.specs.Paths.{use_of}
+use Rattle.ot_check.specs.Touches.{EachRead, EachTouch, EachTouchOne, Agree, AreApart}
+use Rattle.ot_check.proofs.GridLemmas.{cells_apart, cells_same}
+
+-- ---- weaker
+
+pub read-weaker : (P Q : Cell → Type 0) (e : E) → ((c : Cell) → P c → Q c) → EachRead P e → EachRead Q e
+read-weaker P Q (Literal n) f h = h
+read-weaker P Q (CellAt c) f h = f c h
+read-weaker P Q (Apply o a b) f h = (read-weaker P Q a f h.0, read-weaker P Q b f h.1)
+read-weaker P Q (PickFrom s e) f h = (λ k. f (cell_at s (k % s.len)) (h.0 k), read-weaker P Q e f h.1)
+
+mutual
+  touch_one-weaker : (P Q : Use → Type 0) (x : S) → ((u : Use) → P u → Q u) → EachTouchOne P x → EachTouchOne Q x
+  touch_one-weaker P Q (Set c e) f h = (read-weaker (λ d. P (use_of Reads d)) (λ d. Q (use_of Reads d)) e (λ d. f (use_of Reads d)) h.0, f (use_of Writes c) h.1)
+  touch_one-weaker P Q (Add c e) f h = (read-weaker (λ d. P (use_of Reads d)) (λ d. Q (use_of Reads d)) e (λ d. f (use_of Reads d)) h.0, f (use_of Adds c) h.1)
+  touch_one-weaker P Q (If e a b) f h =
+      (read-weaker (λ d. P (use_of Reads d)) (λ d. Q (use_of Reads d)) e (λ d. f (use_of Reads d)) h.0, touch-weaker P Q a f h.1, touch-weaker P Q b f h.2)
+  touch_one-weaker P Q (Task d b) f h = touch-weaker P Q b f h
+  touch_one-weaker P Q Wait f h = h
+  touch_one-weaker P Q (Group cs b) f h = touch-weaker P Q b f h
+
+  pub touch-weaker : (P Q : Use → Type 0) (b : Body) → ((u : Use) → P u → Q u) → EachTouch P b → EachTouch Q b
+  touch-weaker P Q End f h = h
+  touch-weaker P Q (Next x rest) f h = (touch_one-weaker P Q x f h.0, touch-weaker P Q rest f h.1)
+
+-- ---- cells
+
+updated-swap : {X : Type 0} (xs : List X) (i j : ℕ) (f g : X → X) → (i ≡ j → (x : X) → g (f x) ≡ f (g x))
+    → updated (updated xs i f) j g ≡ updated (updated xs j g) i f
+updated-swap [] i j f g swap = refl
+updated-swap (x ∷ xs) zero zero f g swap = ap (λ y. y ∷ xs) (swap refl x)
+updated-swap (x ∷ xs) zero (suc j) f g swap = refl
+updated-swap (x ∷ xs) (suc i) zero f g swap = refl
+updated-swap (x ∷ xs) (suc i) (suc j) f g swap = ap (λ ys. x ∷ ys) (updated-swap xs i j f g (λ e. swap (ap suc e)))
+
+with_cell-swap : (cells : List (List ℕ)) (c d : Cell) (f g : ℕ → ℕ) → (c ≡ d → (n : ℕ) → g (f n) ≡ f (g n))
+    → with_cell (with_cell cells c f) d g ≡ with_cell (with_cell cells d g) c f
+with_cell-swap cells c d f g swap =
+    updated-swap cells c.array d.array (λ row. updated row c.index f) (λ row. updated row d.index g)
+    (λ arrays row. updated-swap row c.index d.index f g (λ indices. swap (cells_same c d arrays indices)))
+
+slice_get-other : {A : Type 0} (xs : List A) (i j : ℕ) (f : A → A) → i ≢ j → slice_get (updated xs i f) j ≡ slice_get xs j
+slice_get-other [] i j f apart = refl
+slice_get-other (x ∷ xs) zero zero f apart = absurd (apart refl)
+slice_get-other (x ∷ xs) zero (suc j) f apart = refl
+slice_get-other (x ∷ xs) (suc i) zero f apart = refl
+slice_get-other (x ∷ xs) (suc i) (suc j) f apart = slice_get-other xs i j f (λ e. apart (ap suc e))
+
+slice_get-through : {A B : Type 0} (xs : List A) (i : ℕ) (f : A → A) (g : A → Option B) → ((x : A) → g (f x) ≡ g x)
+    → option_and_then g (slice_get (updated xs i f) i) ≡ option_and_then g (slice_get xs i)
+slice_get-through [] i f g same = refl
+slice_get-through (x ∷ xs) zero f g same = same x
+slice_get-through (x ∷ xs) (suc i) f g same = slice_get-through xs i f g same
+
+pub cell_of-other : (cells : List (List ℕ)) (c d : Cell) (f : ℕ → ℕ) → c ≢ d → cell_of (with_cell cells c f) d ≡ cell_of cells d
+cell_of-other cells c d f apart =
+    elim (cells_apart c d apart) [
+      | inl arrays ↦ ap (option_and_then (λ row. slice_get row d.index)) (slice_get-other cells c.array d.array (λ row. updated row c.index f) arrays)
+      | inr both ↦
+          subst (λ a. option_and_then (λ row. slice_get row d.index) (slice_get (with_cell cells c f) a) ≡ option_and_then (λ row. slice_get row d.index) (slice_get cells a))
+          both.0
+          (slice_get-through cells c.array (λ row. updated row c.index f) (λ row. slice_get row d.index)
+          (λ row. slice_get-other row c.index d.index f both.1))
+    ]
+
+-- ---- values
+
+pub value-same : (look other : Cell → Option ℕ) (e : E) → EachRead (λ c. look c ≡ other c) e → val look e ≡ val other e
+value-same look other (Literal n) h = refl
+value-same look other (CellAt c) h = ap (λ o. unwrap_or o 0) h
+value-same look other (Apply o a b) h =
+    ap (λ n. applied o n (val look b)) (value-same look other a h.0) ∙ ap (applied o (val other a)) (value-same look other b h.1)
+value-same look other (PickFrom s e) h =
+    ap (λ n. unwrap_or (look (cell_at s (n % s.len))) 0) (value-same look other e h.1) ∙ ap (λ o. unwrap_or o 0) (h.0 (val other e))
+
+-- ---- counts
+
+abbrev state-at : List (List ℕ) → ℕ → ℕ → State
+state-at cells tasks units = record { cells = cells; tasks = tasks; units = units }
+
+bump-bump : (a b c d : ℕ) (s : State) → bump a b (bump c d s) ≡ bump c d (bump a b s)
+bump-bump a b c d s =
+    let t : s.tasks + c + a ≡ s.tasks + a + c = omega arith in
+    let u : s.units + d + b ≡ s.units + b + d = omega arith in
+    ap (λ n. state-at s.cells n (s.units + d + b)) t ∙ ap (state-at s.cells (s.tasks + a + c)) u
+
+if-both : {A B : Type 0} (g : A → B) (b : Bool) (one two : A) → g (if b then one else two) ≡ (if b then g one else g two)
+if-both g true one two = refl
+if-both g false one two = refl
+
+either-both : {A B : Type 0} (g : A → B) (n : ℕ) (one two : A) → g (either n one two) ≡ either n (g one) (g two)
+either-both g n one two = if-both g (n == 0) two one
+
+either-same : {A : Type 0} (n m : ℕ) (one two three four : A) → n ≡ m → one ≡ three → two ≡ four → either n one two ≡ either m three four
+either-same n m one two three four p q r = ap (λ n. either n one two) p ∙ ap (λ x. either m x two) q ∙ ap (either m three) r
+
+mutual
+  serial_one-bump : (x : S) (a b : ℕ) (s : State) → serial_one x (bump a b s) ≡ bump a b (serial_one x s)
+  serial_one-bump (Set c e) a b s = bump-bump 0 1 a b (change s c (λ _. val (cell_of s.cells) e))
+  serial_one-bump (Add c e) a b s = bump-bump 0 1 a b (change s c (λ n. (n + val (cell_of s.cells) e) % 2 ^ 64))
+  serial_one-bump (If e p q) a b s =
+      either-same (val (cell_of s.cells) e) (val (cell_of s.cells) e) _ _ _ _ refl
+      (ap (serial p) (bump-bump 0 1 a b s) ∙ serial-bump p a b (bump 0 1 s)) (ap (serial q) (bump-bump 0 1 a b s) ∙ serial-bump q a b (bump 0 1 s))
+      ∙ sym (either-both (bump a b) (val (cell_of s.cells) e) (serial p (bump 0 1 s)) (serial q (bump 0 1 s)))
+  serial_one-bump (Task d p) a b s = ap (serial p) (bump-bump 1 1 a b s) ∙ serial-bump p a b (bump 1 1 s)
+  serial_one-bump Wait a b s = bump-bump 0 1 a b s
+  serial_one-bump (Group cs p) a b s = ap (serial p) (bump-bump 0 1 a b s) ∙ serial-bump p a b (bump 0 1 s)
+
+  serial-bump : (p : Body) (a b : ℕ) (s : State) → serial p (bump a b s) ≡ bump a b (serial p s)
+  serial-bump End a b s = refl
+  serial-bump (Next x rest) a b s = ap (serial rest) (serial_one-bump x a b s) ∙ serial-bump rest a b (serial_one x s)
+
+if-one : {A : Type 0} (b : Bool) (x : A) → (if b then x else x) ≡ x
+if-one true x = refl
+if-one false x = refl
+
+either-one : {A : Type 0} (n : ℕ) (x : A) → either n x x ≡ x
+either-one n x = if-one (n == 0) x
+
+-- ---- what a body never writes stays
+
+-- a use that leaves the cell as it is
+abbrev Spares : Cell → Use → Type 0
+Spares c u = u.cell ≡ c → u.mode ≡ Reads
+
+spared : (c d : Cell) (m : Mode) → m ≢ Reads → Spares c (use_of m d) → d ≢ c
+spared c d m no_read h e = no_read (h e)
+
+writes_reads : Writes ≢ Reads
+writes_reads e = cc
+
+adds_reads : Adds ≢ Reads
+adds_reads e = cc
+
+mutual
+  frame_one : (c : Cell) (x : S) (s : State) → EachTouchOne (Spares c) x → cell_of (serial_one x s).cells c ≡ cell_of s.cells c
+  frame_one c (Set d e) s h = cell_of-other s.cells d c (λ _. val (cell_of s.cells) e) (spared c d Writes writes_reads h.1)
+  frame_one c (Add d e) s h = cell_of-other s.cells d c (λ n. (n + val (cell_of s.cells) e) % 2 ^ 64) (spared c d Adds adds_reads h.1)
+  frame_one c (If e p q) s h =
+      either-both (λ t. cell_of t.cells c) (val (cell_of s.cells) e) (serial p (bump 0 1 s)) (serial q (bump 0 1 s))
+      ∙ either-same (val (cell_of s.cells) e) (val (cell_of s.cells) e) _ _ (cell_of s.cells c) (cell_of s.cells c) refl (frame c p (bump 0 1 s) h.1) (frame c q (bump 0 1 s) h.2)
+      ∙ either-one (val (cell_of s.cells) e) (cell_of s.cells c)
+  frame_one c (Task d p) s h = frame c p (bump 1 1 s) h
+  frame_one c Wait s h = refl
+  frame_one c (Group cs p) s h = frame c p (bump 0 1 s) h
+
+  frame : (c : Cell) (p : Body) (s : State) → EachTouch (Spares c) p → cell_of (serial p s).cells c ≡ cell_of s.cells c
+  frame c End s h = refl
+  frame c (Next x rest) s h = frame c rest (serial_one x s) h.1 ∙ frame_one c x s h.0
+
+-- ---- a change commutes with a body that is apart from it
+
+-- a use that a change of the cell commutes with
+abbrev Commutes : Cell → (ℕ → ℕ) → Use → Type 0
+Commutes c f u = u.cell ≡ c → (u.mode ≡ Adds) × ((k n : ℕ) → f ((n + k) % 2 ^ 64) ≡ (f n + k) % 2 ^ 64)
+
+reads_adds : Reads ≢ Adds
+reads_adds e = cc
+
+writes_adds : Writes ≢ Adds
+writes_adds e = cc
+
+read-elsewhere : (s : State) (c : Cell) (f : ℕ → ℕ) (e : E) → EachRead (λ d. Commutes c f (use_of Reads d)) e
+    → val (cell_of (with_cell s.cells c f)) e ≡ val (cell_of s.cells) e
+read-elsewhere s c f e h =
+    value-same (cell_of (with_cell s.cells c f)) (cell_of s.cells) e
+    (read-weaker (λ d. Commutes c f (use_of Reads d)) (λ d. cell_of (with_cell s.cells c f) d ≡ cell_of s.cells d) e
+    (λ d g. cell_of-other s.cells c d f (λ same. reads_adds (g (sym same)).0)) h)
+
+updated-same : {A : Type 0} (xs : List A) (i : ℕ) (f g : A → A) → ((x : A) → f x ≡ g x) → updated xs i f ≡ updated xs i g
+updated-same [] i f g same = refl
+updated-same (x ∷ xs) zero f g same = ap (λ y. y ∷ xs) (same x)
+updated-same (x ∷ xs) (suc i) f g same = ap (λ ys. x ∷ ys) (updated-same xs i f g same)
+
+change-same : (s : State) (c : Cell) (f g : ℕ → ℕ) → ((n : ℕ) → f n ≡ g n) → change s c f ≡ change s c g
+change-same s c f g same = ap (λ cells. state-at cells s.tasks s.units) (updated-same s.cells c.array _ _ (λ row. updated-same row c.index f g same))
+
+change-swap : (s : State) (c d : Cell) (f g : ℕ → ℕ) → (c ≡ d → (n : ℕ) → g (f n) ≡ f (g n)) → change (change s c f) d g ≡ change (change s d g) c f
+change-swap s c d f g swap = ap (λ cells. state-at cells s.tasks s.units) (with_cell-swap s.cells c d f g swap)
+
+mutual
+  change_one : (x : S) (s : State) (c : Cell) (f : ℕ → ℕ) → EachTouchOne (Commutes c f) x → serial_one x (change s c f) ≡ change (serial_one x s) c f
+  change_one (Set d e) s c f h =
+      ap (bump 0 1) (ap (λ n. change (change s c f) d (λ _. n)) (read-elsewhere s c f e h.0)
+      ∙ change-swap s c d f (λ _. val (cell_of s.cells) e) (λ same. absurd (writes_adds (h.1 (sym same)).0)))
+  change_one (Add d e) s c f h =
+      ap (bump 0 1) (ap (λ v. change (change s c f) d (λ n. (n + v) % 2 ^ 64)) (read-elsewhere s c f e h.0)
+      ∙ change-swap s c d f (λ n. (n + val (cell_of s.cells) e) % 2 ^ 64) (λ same n. sym ((h.1 (sym same)).1 (val (cell_of s.cells) e) n)))
+  change_one (If e p q) s c f h =
+      either-same (val (cell_of (with_cell s.cells c f)) e) (val (cell_of s.cells) e) _ _ _ _ (read-elsewhere s c f e h.0)
+      (serial-change p (bump 0 1 s) c f h.1) (serial-change q (bump 0 1 s) c f h.2)
+      ∙ sym (either-both (λ t. change t c f) (val (cell_of s.cells) e) (serial p (bump 0 1 s)) (serial q (bump 0 1 s)))
+  change_one (Task d p) s c f h = serial-change p (bump 1 1 s) c f h
+  change_one Wait s c f h = refl
+  change_one (Group cs p) s c f h = serial-change p (bump 0 1 s) c f h
+
+  serial-change : (p : Body) (s : State) (c : Cell) (f : ℕ → ℕ) → EachTouch (Commutes c f) p → serial p (change s c f) ≡ change (serial p s) c f
+  serial-change End s c f h = refl
+  serial-change (Next x rest) s c f h = ap (serial rest) (change_one x s c f h.0) ∙ serial-change rest (serial_one x s) c f h.1
+
+-- ---- two bodies
+
+conflicts_writes : (m : Mode) → conflicts Writes m ≡ false → ⊥
+conflicts_writes Reads h = cc
+conflicts_writes Writes h = cc
+conflicts_writes Adds h = cc
+
+conflicts_reads : (m : Mode) → conflicts Reads m ≡ false → m ≡ Reads
+conflicts_reads Reads h = refl
+conflicts_reads Writes h = cc
+conflicts_reads Adds h = cc
+
+conflicts_adds : (m : Mode) → conflicts Adds m ≡ false → m ≡ Adds
+conflicts_adds Reads h = cc
+conflicts_adds Writes h = cc
+conflicts_adds Adds h = refl
+
+sums-swap : (a k n : ℕ) → ((n + k) % 2 ^ 64 + a) % 2 ^ 64 ≡ ((n + a) % 2 ^ 64 + k) % 2 ^ 64
+sums-swap a k n =
+    let e : n + k + a ≡ n + a + k = omega arith in
+    mod-add-mod (n + k) (2 ^ 64) a ∙ ap (λ m. m % 2 ^ 64) e ∙ sym (mod-add-mod (n + a) (2 ^ 64) k)
+
+-- what a value reads is the same behind a body that is apart from the reading
+read-behind : (s : State) (b : Body) (e : E) → EachRead (λ c. EachTouch (Agree (use_of Reads c)) b) e
+    → val (cell_of s.cells) e ≡ val (cell_of (serial b s).cells) e
+read-behind s b e h =
+    value-same (cell_of s.cells) (cell_of (serial b s).cells) e
+    (read-weaker (λ c. EachTouch (Agree (use_of Reads c)) b) (λ c. cell_of s.cells c ≡ cell_of (serial b s).cells c) e
+    (λ c g. sym (frame c b s (touch-weaker (Agree (use_of Reads c)) (Spares c) b (λ u agree same. conflicts_reads u.mode (agree (sym same))) g))) h)
+
+mutual
+  apart_one : (x : S) (b : Body) (s : State) → EachTouchOne (λ u. EachTouch (Agree u) b) x → serial b (serial_one x s) ≡ serial_one x (serial b s)
+  apart_one (Set c e) b s h =
+      serial-bump b 0 1 (change s c (λ _. val (cell_of s.cells) e))
+      ∙ ap (bump 0 1) (serial-change b s c (λ _. val (cell_of s.cells) e)
+      (touch-weaker (Agree (use_of Writes c)) (Commutes c (λ _. val (cell_of s.cells) e)) b (λ u agree same. absurd (conflicts_writes u.mode (agree (sym same)))) h.1)
+      ∙ ap (λ n. change (serial b s) c (λ _. n)) (read-behind s b e h.0))
+  apart_one (Add c e) b s h =
+      serial-bump b 0 1 (change s c (λ n. (n + val (cell_of s.cells) e) % 2 ^ 64))
+      ∙ ap (bump 0 1) (serial-change b s c (λ n. (n + val (cell_of s.cells) e) % 2 ^ 64)
+      (touch-weaker (Agree (use_of Adds c)) (Commutes c (λ n. (n + val (cell_of s.cells) e) % 2 ^ 64)) b
+      (λ u agree same. (conflicts_adds u.mode (agree (sym same)), sums-swap (val (cell_of s.cells) e))) h.1)
+      ∙ ap (λ v. change (serial b s) c (λ n. (n + v) % 2 ^ 64)) (read-behind s b e h.0))
+  apart_one (If e p q) b s h =
+      either-both (serial b) (val (cell_of s.cells) e) (serial p (bump 0 1 s)) (serial q (bump 0 1 s))
+      ∙ either-same (val (cell_of s.cells) e) (val (cell_of (serial b s).cells) e) _ _ _ _ (read-behind s b e h.0)
+      (apart p b (bump 0 1 s) h.1 ∙ ap (serial p) (serial-bump b 0 1 s)) (apart q b (bump 0 1 s) h.2 ∙ ap (serial q) (serial-bump b 0 1 s))
+  apart_one (Task d p) b s h = apart p b (bump 1 1 s) h ∙ ap (serial p) (serial-bump b 1 1 s)
+  apart_one Wait b s h = serial-bump b 0 1 s
+  apart_one (Group cs p) b s h = apart p b (bump 0 1 s) h ∙ ap (serial p) (serial-bump b 0 1 s)
+
+  pub apart : (a b : Body) (s : State) → AreApart a b → serial b (serial a s) ≡ serial a (serial b s)
+  apart End b s h = refl
+  apart (Next x rest) b s h = apart rest b (serial_one x s) h.1 ∙ ap (serial rest) (apart_one x b s h.0)

@@ -1,0 +1,12 @@
+pub mod Steps
+pub mod After
+pub mod Meeting
+pub mod PathsTold
+pub mod PathsMet
+pub mod GridLemmas
+pub mod StateLemmas
+pub mod StandingLemmas
+pub mod OffendsLemmas
+pub mod WalkLemmas
+pub mod ApartLemmas
+pub mod InsideLemmas

@@ -1,0 +1,319 @@
+-- What stands on some path is met by the walk.
+use Rattle.std.proofs.Common.{◌≡◌, ℕ, ◌+◌, ◌++◌, Bool, true, false, not, ◌&&◌, ◌||◌, List, [], ◌∷◌, map, refl, sym, ap, subst, inl, inr, ◌∙◌, append_assoc, append-nil}
+use Rattle.std.specs.Prelude.{◌⊎◌, Some, if◌then◌else◌}
+use Rattle.ot_model.specs.Grouped.{is_adds}
+use Rattle.std.specs.List.{list_any}
+use Rattle.ot_model.specs.Tree.{S, Set, Add, If, Task, Wait, Group, Body, End, Next}
+use Rattle.ot_model.specs.Counts.{size, size_one}
+use Rattle.ot_model.specs.declared.expr.Cell.{Cell}
+use Rattle.ot_model.specs.declared.stmt.Mode.TheVariants.{Writes}
+use Rattle.ot_model.specs.declared.stmt.Use.{Use}
+use Rattle.ot_check.specs.Paths.{Mark, Touch, Create, Await, Enter, Leave, Step, At, touched, touches, use_of, PassesOne, Passes}
+use Rattle.ot_check.specs.Offences.{Declared, adds_to, allows, Children, breaks, misfits, has_cell, some_unawaited, is_open, anyone, OnPath, InTasks, InTasksOfOne}
+use Rattle.ot_check.specs.Walk.{nobody, nothing_open, behind_one, with_group, offends, marks, after}
+use Rattle.ot_check.specs.declared.fault.Offence.{Offence}
+use Rattle.ot_check.specs.declared.fault.Offence.TheVariants.{NotDeclared, ChildBeyond, InOpenGroup, Unawaited, EndsUnawaited}
+use Rattle.ot_check.proofs.Steps.{closed_of, touched-balanced, touched-open, touched-unawaited, touched-waits, passes_one-closed, passes_one-open, unawaited-append, open-append}
+use Rattle.ot_check.proofs.After.{after-from, after-from_one, true_or, or_right}
+use Rattle.ot_check.proofs.Meeting.{Meets, MeetsOne}
+
+-- ---- lists
+
+pub any-same : {X : Type 0} (f g : X → Bool) (xs : List X) → ((x : X) → f x ≡ g x) → list_any f xs ≡ list_any g xs
+any-same f g [] same = refl
+any-same f g (x ∷ xs) same = ap (λ b. b || list_any f xs) (same x) ∙ ap (λ b. g x || b) (any-same f g xs same)
+
+or_more : (a b c d : Bool) → (a ≡ true → c ≡ true) → (b ≡ true → d ≡ true) → (a || b) ≡ true → (c || d) ≡ true
+or_more true b c d f g h = true_or c d (f refl)
+or_more false b c d f g h = or_right c d (g h)
+
+pub any-more : {X : Type 0} (f g : X → Bool) (xs : List X) → ((x : X) → f x ≡ true → g x ≡ true) → list_any f xs ≡ true → list_any g xs ≡ true
+any-more f g [] more h = h
+any-more f g (x ∷ xs) more h = or_more (f x) (list_any f xs) (g x) (list_any g xs) (more x) (any-more f g xs more) h
+
+-- a place in two lists is in the one or the other
+pub append_split : {X : Type 0} (xs ys before : List X) (s : X) (later : List X) → xs ++ ys ≡ before ++ s ∷ later
+    → ((rest : List X) × (xs ≡ before ++ s ∷ rest) × (later ≡ rest ++ ys)) ⊎ ((more : List X) × (before ≡ xs ++ more) × (ys ≡ more ++ s ∷ later))
+append_split [] ys before s later h = inr (before, refl, h)
+append_split (x ∷ xs) ys [] s later h =
+    let first : x ≡ s = cc in
+    let behind : xs ++ ys ≡ later = cc in
+    inl (xs, ap (λ z. z ∷ xs) first, sym behind)
+append_split (x ∷ xs) ys (b ∷ before) s later h =
+    let first : x ≡ b = cc in
+    let behind : xs ++ ys ≡ before ++ s ∷ later = cc in
+    elim (append_split xs ys before s later behind) [
+      | inl p ↦ inl (p.0, ap (λ z. z ∷ xs) first ∙ ap (λ zs. b ∷ zs) p.1, p.2)
+      | inr p ↦ inr (p.0, ap (λ z. z ∷ before) (sym first) ∙ ap (λ zs. x ∷ zs) p.1, p.2)
+    ]
+
+pub or_none : (b : Bool) → (b || false) ≡ b
+or_none true = refl
+or_none false = refl
+
+pub and_one : (b : Bool) → (b && true) ≡ b
+and_one true = refl
+and_one false = refl
+
+misfits-same : (own : Declared) (o p : Cell → Bool) (u : Use) → ((c : Cell) → o c ≡ p c) → misfits own o u ≡ misfits own p u
+misfits-same own o p u same = ap (λ b. if is_adds u.mode then not (adds_to own u.cell) && not b else b) (same u.cell)
+
+-- ---- more children, the same groups
+
+pub breaks-more : (own : Declared) (o p : Cell → Bool) (few many : Children) → ((c : Cell) → o c ≡ p c)
+    → ((test : List Use → Bool) → few test ≡ true → many test ≡ true) → (mark : Mark) (offence : Offence)
+    → breaks own o few mark offence ≡ true → breaks own p many mark offence ≡ true
+breaks-more own o p few many same more (Touch u) NotDeclared h = h
+breaks-more own o p few many same more (Touch u) ChildBeyond h = h
+breaks-more own o p few many same more (Touch u) InOpenGroup h = sym (same u.cell) ∙ h
+breaks-more own o p few many same more (Touch u) Unawaited h = more _ h
+breaks-more own o p few many same more (Touch u) EndsUnawaited h = h
+breaks-more own o p few many same more (Create d) NotDeclared h = h
+breaks-more own o p few many same more (Create d) ChildBeyond h = h
+breaks-more own o p few many same more (Create d) InOpenGroup h =
+    sym (any-same (misfits own o) (misfits own p) d (λ u. misfits-same own o p u same)) ∙ h
+breaks-more own o p few many same more (Create d) Unawaited h = h
+breaks-more own o p few many same more (Create d) EndsUnawaited h = h
+breaks-more own o p few many same more (Enter cs) NotDeclared h = h
+breaks-more own o p few many same more (Enter cs) ChildBeyond h = h
+breaks-more own o p few many same more (Enter cs) InOpenGroup h = sym (any-same _ _ cs (λ c. ap (λ b. not (allows own (use_of Writes c)) || b) (same c))) ∙ h
+breaks-more own o p few many same more (Enter cs) Unawaited h = any-more _ _ cs (λ c. more _) h
+breaks-more own o p few many same more (Enter cs) EndsUnawaited h = h
+breaks-more own o p few many same more Await NotDeclared h = h
+breaks-more own o p few many same more Await ChildBeyond h = h
+breaks-more own o p few many same more Await InOpenGroup h = h
+breaks-more own o p few many same more Await Unawaited h = h
+breaks-more own o p few many same more Await EndsUnawaited h = h
+breaks-more own o p few many same more Leave NotDeclared h = h
+breaks-more own o p few many same more Leave ChildBeyond h = h
+breaks-more own o p few many same more Leave InOpenGroup h = h
+breaks-more own o p few many same more Leave Unawaited h = h
+breaks-more own o p few many same more Leave EndsUnawaited h = h
+
+-- ---- behind a prefix
+
+-- the groups and children that the walk has are at least those behind a prefix
+pub record Holds (prefix : List Step) (opened : Cell → Bool) (children : Children) : Type 0 where
+  pub groups : (c : Cell) → is_open prefix c ≡ opened c
+  pub unawaited : (test : List Use → Bool) → some_unawaited test prefix ≡ true → children test ≡ true
+
+-- a step of a touch changes neither
+pub quiet-open : (c : Cell) (prefix : List Step) (k : ℕ) (uses : List Use) → is_open (prefix ++ touched k uses) c ≡ is_open prefix c
+quiet-open c prefix k uses =
+    open-append c prefix (touched k uses) (closed_of (touched k uses) (touched-balanced k uses))
+    ∙ ap (λ b. is_open prefix c || b) (ap (λ p. is_open p c) (sym (append-nil (touched k uses))) ∙ touched-open c k uses []) ∙ or_none (is_open prefix c)
+
+pub quiet-unawaited : (test : List Use → Bool) (prefix : List Step) (k : ℕ) (uses : List Use)
+    → some_unawaited test (prefix ++ touched k uses) ≡ some_unawaited test prefix
+quiet-unawaited test prefix k uses =
+    unawaited-append test prefix (touched k uses) (closed_of (touched k uses) (touched-balanced k uses))
+    ∙ ap (λ w. (some_unawaited test prefix && not w) || some_unawaited test (touched k uses)) (touched-waits k uses)
+    ∙ ap (λ b. (some_unawaited test prefix && true) || b) (ap (some_unawaited test) (sym (append-nil (touched k uses))) ∙ touched-unawaited test k uses [])
+    ∙ or_none (some_unawaited test prefix && true) ∙ and_one (some_unawaited test prefix)
+
+holds-touched : (prefix : List Step) (opened : Cell → Bool) (children : Children) (k : ℕ) (uses : List Use) → Holds prefix opened children
+    → Holds (prefix ++ touched k uses) opened children
+holds-touched prefix opened children k uses h = record {
+  groups = λ c. quiet-open c prefix k uses ∙ h.groups c;
+  unawaited = λ test is. h.unawaited test (sym (quiet-unawaited test prefix k uses) ∙ is);
+}
+
+pub entered-open : (c : Cell) (prefix : List Step) (k : ℕ) (cs : List Cell)
+    → is_open (prefix ++ At k (Enter cs) ∷ []) c ≡ (is_open prefix c || has_cell cs c)
+entered-open c prefix k cs =
+    open-append c prefix (At k (Enter cs) ∷ []) (λ n. refl) ∙ ap (λ b. is_open prefix c || b) (or_none (has_cell cs c && true) ∙ and_one (has_cell cs c))
+
+pub entered-unawaited : (test : List Use → Bool) (prefix : List Step) (k : ℕ) (cs : List Cell)
+    → some_unawaited test (prefix ++ At k (Enter cs) ∷ []) ≡ some_unawaited test prefix
+entered-unawaited test prefix k cs =
+    unawaited-append test prefix (At k (Enter cs) ∷ []) (λ n. refl)
+    ∙ or_none (some_unawaited test prefix && true) ∙ and_one (some_unawaited test prefix)
+
+holds-entered : (prefix : List Step) (opened : Cell → Bool) (children : Children) (k : ℕ) (cs : List Cell) → Holds prefix opened children
+    → Holds (prefix ++ At k (Enter cs) ∷ []) (with_group opened cs) children
+holds-entered prefix opened children k cs h = record {
+  groups = λ c. entered-open c prefix k cs ∙ ap (λ b. b || has_cell cs c) (h.groups c);
+  unawaited = λ test is. h.unawaited test (sym (entered-unawaited test prefix k cs) ∙ is);
+}
+
+pub passed-open : (c : Cell) (prefix : List Step) (k : ℕ) (x : S) (one : List Step) → PassesOne k x one → is_open (prefix ++ one) c ≡ is_open prefix c
+passed-open c prefix k x one h =
+    open-append c prefix one (passes_one-closed k x one h)
+    ∙ ap (λ b. is_open prefix c || b) (ap (λ p. is_open p c) (sym (append-nil one)) ∙ passes_one-open c k x one h []) ∙ or_none (is_open prefix c)
+
+holds-passed : (prefix : List Step) (opened : Cell → Bool) (children : Children) (k : ℕ) (x : S) (one : List Step) → PassesOne k x one
+    → Holds prefix opened children → Holds (prefix ++ one) opened (behind_one children x)
+holds-passed prefix opened children k x one passes h = record {
+  groups = λ c. passed-open c prefix k x one passes ∙ h.groups c;
+  unawaited = λ test is. after-from_one test k x one passes (some_unawaited test prefix) (children test) (h.unawaited test)
+      (sym (unawaited-append test prefix one (passes_one-closed k x one passes)) ∙ is);
+}
+
+-- a mark behind a prefix and some steps is an offence
+abbrev pub BreaksBehind : List Step → List Step → Declared → Mark → Offence → Type 0
+BreaksBehind prefix before own mark offence =
+    breaks own (is_open (prefix ++ before)) (λ test. some_unawaited test (prefix ++ before)) mark offence ≡ true
+
+behind-more : (prefix more before : List Step) (own : Declared) (mark : Mark) (offence : Offence)
+    → BreaksBehind prefix (more ++ before) own mark offence → BreaksBehind (prefix ++ more) before own mark offence
+behind-more prefix more before own mark offence h =
+    subst (λ p. breaks own (is_open p) (λ test. some_unawaited test p) mark offence ≡ true) (sym (append_assoc prefix more before)) h
+
+here-breaks : (prefix : List Step) (opened : Cell → Bool) (children : Children) (own : Declared) (mark : Mark) (offence : Offence)
+    → Holds prefix opened children → BreaksBehind prefix [] own mark offence → breaks own opened children mark offence ≡ true
+here-breaks prefix opened children own mark offence h is =
+    breaks-more own (is_open prefix) opened (λ test. some_unawaited test prefix) children h.groups h.unawaited mark offence
+    (subst (λ p. breaks own (is_open p) (λ test. some_unawaited test p) mark offence ≡ true) (append-nil prefix) is)
+
+-- an offence among the touches of a statement
+touched-meets : (own : Declared) (opened : Cell → Bool) (children : Children) (k : ℕ) (uses : List Use) (prefix before later : List Step)
+    (place : ℕ) (mark : Mark) (offence : Offence) → Holds prefix opened children → touched k uses ≡ before ++ At place mark ∷ later
+    → BreaksBehind prefix before own mark offence
+    → (place ≡ k) × (list_any (λ m. breaks own opened children m offence) (map Touch uses) ≡ true)
+touched-meets own opened children k [] prefix [] later place mark offence holds is h = cc
+touched-meets own opened children k [] prefix (b ∷ before) later place mark offence holds is h = cc
+touched-meets own opened children k (u ∷ uses) prefix [] later place mark offence holds is h =
+    let step : At k (Touch u) ≡ At place mark = cc in
+    let at_place : k ≡ place = cc in
+    let what : Touch u ≡ mark = cc in
+    (sym at_place, true_or _ _ (ap (λ m. breaks own opened children m offence) what ∙ here-breaks prefix opened children own mark offence holds h))
+touched-meets own opened children k (u ∷ uses) prefix (b ∷ before) later place mark offence holds is h =
+    let step : At k (Touch u) ≡ b = cc in
+    let rest : touched k uses ≡ before ++ At place mark ∷ later = cc in
+    let moved : BreaksBehind (prefix ++ At k (Touch u) ∷ []) before own mark offence =
+    behind-more prefix (At k (Touch u) ∷ []) before own mark offence (subst (λ s. BreaksBehind prefix (s ∷ before) own mark offence) (sym step) h) in
+    let q = touched-meets own opened children k uses (prefix ++ At k (Touch u) ∷ []) before later place mark offence
+    (holds-touched prefix opened children k (u ∷ []) holds) rest moved in
+    (q.0, or_right _ _ q.1)
+
+-- ---- what stands on a path is met
+
+abbrev pub MeetsHere : Declared → (Cell → Bool) → Children → ℕ → S → ℕ → Offence → Type 0
+MeetsHere own opened children k x place offence = (place ≡ k) × (offends own opened children x offence ≡ true)
+
+pub nothing-breaks : (own : Declared) (o : Cell → Bool) (p : Children) (offence : Offence) → breaks own o p Await offence ≡ true → ⊥
+nothing-breaks own o p NotDeclared h = cc
+nothing-breaks own o p ChildBeyond h = cc
+nothing-breaks own o p InOpenGroup h = cc
+nothing-breaks own o p Unawaited h = cc
+nothing-breaks own o p EndsUnawaited h = cc
+
+pub end-breaks : (own : Declared) (o : Cell → Bool) (p : Children) (offence : Offence) → breaks own o p Leave offence ≡ true → ⊥
+end-breaks own o p NotDeclared h = cc
+end-breaks own o p ChildBeyond h = cc
+end-breaks own o p InOpenGroup h = cc
+end-breaks own o p Unawaited h = cc
+end-breaks own o p EndsUnawaited h = cc
+
+-- the only step of a list of one
+only : (s : Step) (before : List Step) (t : Step) (later : List Step) → s ∷ [] ≡ before ++ t ∷ later → (before ≡ []) × (s ≡ t)
+only s [] t later h = let e : s ≡ t = cc in (refl, e)
+only s (b ∷ []) t later h = let e : [] ≡ t ∷ later = cc in cc
+only s (b ∷ c ∷ before) t later h = let e : [] ≡ c ∷ (before ++ t ∷ later) = cc in cc
+
+mutual
+  meets-from_one : (own : Declared) (opened : Cell → Bool) (children : Children) (k : ℕ) (x : S) (prefix before later : List Step)
+      (place : ℕ) (mark : Mark) (offence : Offence) → Holds prefix opened children → PassesOne k x (before ++ At place mark ∷ later)
+      → BreaksBehind prefix before own mark offence → MeetsOne own opened children k x place offence
+  meets-from_one own opened children k (Set c e) prefix before later place mark offence holds is h =
+      let q = touched-meets own opened children k (touches (Set c e)) prefix before later place mark offence holds (sym is) h in
+      inl (q.0, true_or _ _ q.1)
+  meets-from_one own opened children k (Add c e) prefix before later place mark offence holds is h =
+      let q = touched-meets own opened children k (touches (Add c e)) prefix before later place mark offence holds (sym is) h in
+      inl (q.0, true_or _ _ q.1)
+  meets-from_one own opened children k (If e a b) prefix before later place mark offence holds (inside, is, way) h =
+      elim (append_split (touched k (touches (If e a b))) inside before (At place mark) later (sym is)) [
+        | inl p ↦
+            let q = touched-meets own opened children k (touches (If e a b)) prefix before p.0 place mark offence holds p.1 h in
+            inl (q.0, true_or _ _ q.1)
+        | inr p ↦
+            let held = holds-touched prefix opened children k (touches (If e a b)) holds in
+            let moved = behind-more prefix (touched k (touches (If e a b))) p.0 own mark offence
+            (subst (λ b. BreaksBehind prefix b own mark offence) p.1 h) in
+            inr (elim way [
+              | inl one ↦ inl (meets-from own opened children (k + 1) a (prefix ++ touched k (touches (If e a b))) p.0 later place mark offence held
+                  (subst (Passes (k + 1) a) p.2 one) moved)
+              | inr two ↦ inr (meets-from own opened children (k + 1 + size a) b (prefix ++ touched k (touches (If e a b))) p.0 later place mark offence held
+                  (subst (Passes (k + 1 + size a) b) p.2 two) moved)
+            ])
+      ]
+  meets-from_one own opened children k (Task d b) prefix before later place mark offence holds is h =
+      let o = only (At k (Create d)) before (At place mark) later (sym is) in
+      let at_place : k ≡ place = cc in
+      let what : Create d ≡ mark = cc in
+      inl (
+        sym at_place,
+        true_or _ _ (true_or _ _ (ap (λ m. breaks own opened children m offence) what
+            ∙ here-breaks prefix opened children own mark offence holds (subst (λ b. BreaksBehind prefix b own mark offence) o.0 h))),
+      )
+  meets-from_one own opened children k Wait prefix before later place mark offence holds is h =
+      let o = only (At k Await) before (At place mark) later (sym is) in
+      let what : mark ≡ Await = cc in
+      absurd (nothing-breaks own opened children offence (ap (λ m. breaks own opened children m offence) (sym what)
+      ∙ here-breaks prefix opened children own mark offence holds (subst (λ b. BreaksBehind prefix b own mark offence) o.0 h)))
+  meets-from_one own opened children k (Group cs b) prefix [] later place mark offence holds (inside, is, way) h =
+      let at_place : k ≡ place = cc in
+      let what : Enter cs ≡ mark = cc in
+      inl (
+        sym at_place,
+        true_or _ _ (true_or _ _ (ap (λ m. breaks own opened children m offence) what
+            ∙ here-breaks prefix opened children own mark offence holds h)),
+      )
+  meets-from_one own opened children k (Group cs b) prefix (s ∷ before) later place mark offence holds (inside, is, way) h =
+      let step : At k (Enter cs) ≡ s = cc in
+      let rest : inside ++ At k Leave ∷ [] ≡ before ++ At place mark ∷ later = cc in
+      let moved : BreaksBehind (prefix ++ At k (Enter cs) ∷ []) before own mark offence =
+      behind-more prefix (At k (Enter cs) ∷ []) before own mark offence (subst (λ s. BreaksBehind prefix (s ∷ before) own mark offence) (sym step) h) in
+      let held = holds-entered prefix opened children k cs holds in
+      elim (append_split inside (At k Leave ∷ []) before (At place mark) later rest) [
+        | inl p ↦ inr (meets-from own (with_group opened cs) children (k + 1) b (prefix ++ At k (Enter cs) ∷ []) before p.0 place mark offence held
+            (subst (Passes (k + 1) b) p.1 way) moved)
+        | inr p ↦
+            let o = only (At k Leave) p.0 (At place mark) later p.2 in
+            let what : mark ≡ Leave = cc in
+            absurd (end-breaks own (is_open ((prefix ++ At k (Enter cs) ∷ []) ++ before)) (λ test. some_unawaited test ((prefix ++ At k (Enter cs) ∷ []) ++ before)) offence (subst (λ m. BreaksBehind (prefix ++ At k (Enter cs) ∷ []) before own m offence) what moved))
+      ]
+
+  pub meets-from : (own : Declared) (opened : Cell → Bool) (children : Children) (k : ℕ) (b : Body) (prefix before later : List Step)
+      (place : ℕ) (mark : Mark) (offence : Offence) → Holds prefix opened children → Passes k b (before ++ At place mark ∷ later)
+      → BreaksBehind prefix before own mark offence → Meets own opened children k b place offence
+  meets-from own opened children k End prefix [] later place mark offence holds is h = cc
+  meets-from own opened children k End prefix (s ∷ before) later place mark offence holds is h = cc
+  meets-from own opened children k (Next x rest) prefix before later place mark offence holds (one, behind, is, way, on) h =
+      elim (append_split one behind before (At place mark) later (sym is)) [
+        | inl p ↦ inl (meets-from_one own opened children k x prefix before p.0 place mark offence holds (subst (PassesOne k x) p.1 way) h)
+        | inr p ↦ inr (meets-from own opened (behind_one children x) (k + size_one x) rest (prefix ++ one) p.0 later place mark offence
+            (holds-passed prefix opened children k x one way holds) (subst (Passes (k + size_one x) rest) p.2 on)
+            (behind-more prefix one p.0 own mark offence (subst (λ b. BreaksBehind prefix b own mark offence) p.1 h)))
+      ]
+
+holds-nothing : Holds [] nothing_open nobody
+holds-nothing = record { groups = λ c. refl; unawaited = λ test h. h }
+
+pub meets-on_path : (k : ℕ) (b : Body) (own : Declared) (place : ℕ) (offence : Offence) → OnPath k b own place offence
+    → Meets own nothing_open nobody k b place offence
+meets-on_path k b own place offence (before, later, mark, way, h) =
+    meets-from own nothing_open nobody k b [] before later place mark offence holds-nothing way h
+
+-- so is what stands in a task
+mutual
+  meets-in_tasks_one : (own : Declared) (opened : Cell → Bool) (children : Children) (k : ℕ) (x : S) (place : ℕ) (offence : Offence)
+      → InTasksOfOne k x place offence → MeetsOne own opened children k x place offence
+  meets-in_tasks_one own opened children k (Set c e) place offence h = absurd h
+  meets-in_tasks_one own opened children k (Add c e) place offence h = absurd h
+  meets-in_tasks_one own opened children k (If e a b) place offence (inl h) = inr (inl (meets-in_tasks own opened children (k + 1) a place offence h))
+  meets-in_tasks_one own opened children k (If e a b) place offence (inr h) = inr (inr (meets-in_tasks own opened children (k + 1 + size a) b place offence h))
+  meets-in_tasks_one own opened children k (Task d b) place offence (inl (here, is, left)) =
+      let ends : after anyone false b ≡ true = after-from anyone (k + 1) b left.0 left.1 false false (λ e. e) left.2 in
+      inl (here, subst (λ c. offends own opened children (Task d b) c ≡ true) (sym is) (or_right (list_any (λ m. breaks own opened children m EndsUnawaited) (marks (Task d b))) (after anyone false b) ends))
+  meets-in_tasks_one own opened children k (Task d b) place offence (inr (inl h)) = inr (meets-on_path (k + 1) b (Some d) place offence h)
+  meets-in_tasks_one own opened children k (Task d b) place offence (inr (inr h)) = inr (meets-in_tasks (Some d) nothing_open nobody (k + 1) b place offence h)
+  meets-in_tasks_one own opened children k Wait place offence h = absurd h
+  meets-in_tasks_one own opened children k (Group cs b) place offence h = inr (meets-in_tasks own (with_group opened cs) children (k + 1) b place offence h)
+
+  pub meets-in_tasks : (own : Declared) (opened : Cell → Bool) (children : Children) (k : ℕ) (b : Body) (place : ℕ) (offence : Offence)
+      → InTasks k b place offence → Meets own opened children k b place offence
+  meets-in_tasks own opened children k End place offence h = absurd h
+  meets-in_tasks own opened children k (Next x rest) place offence (inl h) = inl (meets-in_tasks_one own opened children k x place offence h)
+  meets-in_tasks own opened children k (Next x rest) place offence (inr h) =
+      inr (meets-in_tasks own opened (behind_one children x) (k + size_one x) rest place offence h)

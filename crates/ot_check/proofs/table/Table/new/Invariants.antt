@@ -1,0 +1,7 @@
+use Rattle.std.proofs.Common.{◌≡◌, map, take}
+use Rattle.ot_model.specs.ShapeView.{arrays_of}
+use Rattle.ot_check.specs.Grids.{filled}
+use Rattle.ot_check.proofs.table.Table.new.Given as goal
+
+abbrev pub invariant-loop-array : goal.invariant-loop-array
+invariant-loop-array l = map (λ row. row.items) l.rows.items ≡ filled l.state (map (λ a. a.1) (arrays_of (take l.array-index l.arrays)))

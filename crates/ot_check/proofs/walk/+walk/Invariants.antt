@@ -1,0 +1,21 @@
+use Rattle.std.proofs.Common.{◌≡◌, ◌+◌, Bool, List, drop}
+use Rattle.ot_model.specs.View.{stmts_of}
+use Rattle.ot_model.specs.Counts.{size}
+use Rattle.ot_model.specs.Names.{NamedIn}
+use Rattle.ot_model.specs.declared.expr.Cell.{Cell}
+use Rattle.ot_model.specs.declared.stmt.Use.{Use}
+use Rattle.ot_check.specs.Offences.{Declared, Children}
+use Rattle.ot_check.specs.Walk.{after, first}
+use Rattle.ot_check.specs.Grids.{widths}
+use Rattle.ot_check.specs.States.{Represents}
+use Rattle.ot_check.proofs.walk.+walk.Given as goal
+
+abbrev pub invariant-walk-loop-stmt : goal.invariant-walk-loop-stmt
+invariant-walk-loop-stmt l =
+    (widths l.standing.table ≡ widths l.initial.standing.table)
+    × (l.next + size (stmts_of (drop l.stmt-index l.body.items)) ≡ l.place + size (stmts_of l.body.items))
+    × NamedIn (widths l.standing.table) (stmts_of (drop l.stmt-index l.body.items))
+    × ((own : Declared) (opened : Cell → Bool) (children : Children) → Represents own opened children l.initial.standing.someone l.initial.standing.table
+    → (now : Children) × Represents own opened now l.standing.someone l.standing.table
+    × (first own opened children l.place (stmts_of l.body.items) ≡ first own opened now l.next (stmts_of (drop l.stmt-index l.body.items)))
+    × ((test : List Use → Bool) → after test (children test) (stmts_of l.body.items) ≡ after test (now test) (stmts_of (drop l.stmt-index l.body.items))))

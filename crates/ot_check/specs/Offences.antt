@@ -1,0 +1,162 @@
+-- What is an offence on a path, and which offence of a body is the first.
+use Rattle.std.specs.Prelude.{◌≡◌, ℕ, zero, suc, ◌+◌, ◌<◌, ◌≤◌, ◌==◌, ◌++◌, ◌⊎◌, Bool, true, false, not, ◌&&◌, ◌||◌, if◌then◌else◌, List, [], ◌∷◌, Option, Some, None}
+use Rattle.std.specs.List.{list_any}
+use Rattle.ot_model.specs.Tree.{S, Set, Add, If, Task, Wait, Group, Body, End, Next}
+use Rattle.ot_model.specs.Counts.{size, size_one}
+use Rattle.ot_model.specs.Grouped.{is_adds}
+use Rattle.ot_model.specs.Uses.{conflicts}
+use Rattle.ot_model.specs.declared.expr.Cell.{Cell}
+use Rattle.ot_model.specs.declared.stmt.Mode.{Mode}
+use Rattle.ot_model.specs.declared.stmt.Mode.TheVariants.{Reads, Writes, Adds}
+use Rattle.ot_model.specs.declared.stmt.Use.{Use}
+use Rattle.ot_check.specs.Paths.{Mark, Touch, Create, Await, Enter, Leave, Step, At, use_of, Passes}
+use Rattle.ot_check.specs.declared.fault.Offence.{Offence}
+use Rattle.ot_check.specs.declared.fault.Offence.TheVariants.{NotDeclared, ChildBeyond, InOpenGroup, Unawaited, EndsUnawaited}
+
+-- ---- what a body may do
+
+abbrev pub same_cell : Cell → Cell → Bool
+same_cell c d = (c.array == d.array) && (c.index == d.index)
+
+-- whether a cell is one of these
+abbrev pub has_cell : List Cell → Cell → Bool
+has_cell cells c = list_any (λ d. same_cell d c) cells
+
+-- whether a declaration of a cell in the one mode lets it be used in the other
+abbrev pub covers : Mode → Mode → Bool
+covers Writes wanted = true
+covers Reads Reads = true
+covers Adds Adds = true
+covers declared wanted = false
+
+-- what a body declares: the root's has no list and every cell as Writes
+abbrev pub Declared : Type 0
+Declared = Option (List Use)
+
+-- whether the body declares the cell in a mode that lets it be used so
+abbrev pub allows : Declared → Use → Bool
+allows None u = true
+allows (Some uses) u = list_any (λ d. same_cell d.cell u.cell && covers d.mode u.mode) uses
+
+-- whether the body declares the cell as Adds
+abbrev pub adds_to : Declared → Cell → Bool
+adds_to None c = false
+adds_to (Some uses) c = list_any (λ d. same_cell d.cell c && is_adds d.mode) uses
+
+-- whether a child's use goes beyond what the body declares
+abbrev pub exceeds : Declared → Use → Bool
+exceeds own u = not (is_adds u.mode) && not (allows own u)
+
+-- whether a child's use doesn't fit the reductions that are open in the body: it adds where there is
+-- none, or does something else where there is one
+abbrev pub misfits : Declared → (Cell → Bool) → Use → Bool
+misfits own opened u = if is_adds u.mode then not (adds_to own u.cell) && not (opened u.cell) else opened u.cell
+
+-- whether a use conflicts with one that a child declares
+abbrev pub clashes : Use → List Use → Bool
+clashes u child = list_any (λ d. same_cell d.cell u.cell && conflicts d.mode u.mode) child
+
+-- ---- what stands open at a place of a path
+
+-- whether, of n groups that are open, none is left in these steps that wasn't entered in them, and
+-- then as many more as n
+abbrev pub stays_within : ℕ → List Step → Bool
+stays_within n [] = true
+stays_within n (At k (Touch u) ∷ path) = stays_within n path
+stays_within n (At k (Create d) ∷ path) = stays_within n path
+stays_within n (At k Await ∷ path) = stays_within n path
+stays_within n (At k (Enter cs) ∷ path) = stays_within (suc n) path
+stays_within zero (At k Leave ∷ path) = false
+stays_within (suc n) (At k Leave ∷ path) = stays_within n path
+
+abbrev pub is_wait : Step → Bool
+is_wait (At k Await) = true
+is_wait _ = false
+
+abbrev pub has_wait : List Step → Bool
+has_wait path = list_any is_wait path
+
+-- whether a child that passes the test is unawaited behind these steps: neither a wait nor the end of
+-- a group in which it was created stands behind its creation (OpenMP API 5.2, sections 15.4, 15.5)
+abbrev pub some_unawaited : (List Use → Bool) → List Step → Bool
+some_unawaited test [] = false
+some_unawaited test (At k (Touch u) ∷ path) = some_unawaited test path
+some_unawaited test (At k (Create d) ∷ path) = (test d && (stays_within 0 path && not (has_wait path))) || some_unawaited test path
+some_unawaited test (At k Await ∷ path) = some_unawaited test path
+some_unawaited test (At k (Enter cs) ∷ path) = some_unawaited test path
+some_unawaited test (At k Leave ∷ path) = some_unawaited test path
+
+-- whether a group that names the cell is open behind these steps
+abbrev pub is_open : List Step → Cell → Bool
+is_open [] c = false
+is_open (At k (Touch u) ∷ path) c = is_open path c
+is_open (At k (Create d) ∷ path) c = is_open path c
+is_open (At k Await ∷ path) c = is_open path c
+is_open (At k (Enter cs) ∷ path) c = (has_cell cs c && stays_within 0 path) || is_open path c
+is_open (At k Leave ∷ path) c = is_open path c
+
+-- ---- offences
+
+-- children, told by what is true of some of them
+abbrev pub Children : Type 0
+Children = (List Use → Bool) → Bool
+
+-- Whether a mark is this offence, in a body that declares this, where these groups are open and these
+-- children unawaited.
+abbrev pub breaks : Declared → (Cell → Bool) → Children → Mark → Offence → Bool
+breaks own opened children (Touch u) NotDeclared = not (allows own u)
+breaks own opened children (Touch u) InOpenGroup = opened u.cell
+breaks own opened children (Touch u) Unawaited = children (clashes u)
+breaks own opened children (Create d) ChildBeyond = list_any (exceeds own) d
+breaks own opened children (Create d) InOpenGroup = list_any (misfits own opened) d
+breaks own opened children (Enter cs) InOpenGroup = list_any (λ c. not (allows own (use_of Writes c)) || opened c) cs
+breaks own opened children (Enter cs) Unawaited = list_any (λ c. children (clashes (use_of Writes c))) cs
+breaks own opened children mark offence = false
+
+-- on some path of the body a statement of this place is this offence
+abbrev pub OnPath : ℕ → Body → Declared → ℕ → Offence → Type 0
+OnPath k body own place offence =
+    (before : List Step) × (later : List Step) × (mark : Mark) × Passes k body (before ++ At place mark ∷ later)
+    × (breaks own (is_open before) (λ test. some_unawaited test before) mark offence ≡ true)
+
+abbrev pub anyone : List Use → Bool
+anyone child = true
+
+-- some path of the body ends with a child unawaited
+abbrev pub CanEndUnawaited : ℕ → Body → Type 0
+CanEndUnawaited k body = (path : List Step) × Passes k body path × (some_unawaited anyone path ≡ true)
+
+-- the offence is in the body of a task that stands in this one, or is that this body ends with a child unawaited
+abbrev mutual
+  pub InTasksOfOne : ℕ → S → ℕ → Offence → Type 0
+  InTasksOfOne k (Set c e) place offence = ⊥
+  InTasksOfOne k (Add c e) place offence = ⊥
+  InTasksOfOne k (If e a b) place offence = InTasks (k + 1) a place offence ⊎ InTasks (k + 1 + size a) b place offence
+  InTasksOfOne k (Task d b) place offence =
+      ((place ≡ k) × (offence ≡ EndsUnawaited) × CanEndUnawaited (k + 1) b)
+      ⊎ (OnPath (k + 1) b (Some d) place offence ⊎ InTasks (k + 1) b place offence)
+  InTasksOfOne k Wait place offence = ⊥
+  InTasksOfOne k (Group cs b) place offence = InTasks (k + 1) b place offence
+
+  pub InTasks : ℕ → Body → ℕ → Offence → Type 0
+  InTasks k End place offence = ⊥
+  InTasks k (Next x rest) place offence = InTasksOfOne k x place offence ⊎ InTasks (k + size_one x) rest place offence
+
+-- a program's offences: those of the root's paths, and those of all tasks; places are numbered from 1
+abbrev pub Offends : Body → ℕ → Offence → Type 0
+Offends body place offence = OnPath 1 body None place offence ⊎ InTasks 1 body place offence
+
+-- a place in the order in which one place's offences are told
+abbrev pub rank : Offence → ℕ
+rank NotDeclared = 0
+rank ChildBeyond = 1
+rank InOpenGroup = 2
+rank Unawaited = 3
+rank EndsUnawaited = 4
+
+-- what is told is the offence of least place, and there the first of the order; nothing is told where there is none
+abbrev pub IsFirstOf : (ℕ → Offence → Type 0) → Option (ℕ × Offence) → Type 0
+IsFirstOf Holds None = (place : ℕ) (offence : Offence) → Holds place offence → ⊥
+IsFirstOf Holds (Some first) =
+    Holds first.0 first.1
+    × ((place : ℕ) (offence : Offence) → Holds place offence → (first.0 < place) ⊎ ((first.0 ≡ place) × (rank first.1 ≤ rank offence)))

@@ -1,0 +1,59 @@
+-- The paths of a body: runs through it that take either body of each `if`, whatever the values.
+use Rattle.std.specs.Prelude.{◌≡◌, ℕ, ◌+◌, ◌++◌, ◌⊎◌, List, [], ◌∷◌, map}
+use Rattle.std.specs.List.{range_with_len}
+use Rattle.ot_model.specs.Tree.{E, Literal, CellAt, Apply, PickFrom, S, Set, Add, If, Task, Wait, Group, Body, End, Next}
+use Rattle.ot_model.specs.Value.{cell_at}
+use Rattle.ot_model.specs.Counts.{size, size_one}
+use Rattle.ot_model.specs.declared.expr.Cell.{Cell}
+use Rattle.ot_model.specs.declared.stmt.Mode.{Mode}
+use Rattle.ot_model.specs.declared.stmt.Mode.TheVariants.{Reads, Writes, Adds}
+use Rattle.ot_model.specs.declared.stmt.Use.{Use}
+
+-- what a path passes: a use of a cell, a child's creation, a wait, the beginning and the end of a group
+pub data Mark : Type 0 where
+  Touch : Use → Mark
+  Create : List Use → Mark
+  Await : Mark
+  Enter : List Cell → Mark
+  Leave : Mark
+
+-- a mark, and the place of its statement
+pub data Step : Type 0 where
+  At : ℕ → Mark → Step
+
+abbrev pub use_of : Mode → Cell → Use
+use_of mode cell = record { cell = cell; mode = mode }
+
+-- the cells that a value names, of a pick every cell of its section
+abbrev pub cells_named : E → List Cell
+cells_named (Literal n) = []
+cells_named (CellAt c) = c ∷ []
+cells_named (Apply o a b) = cells_named a ++ cells_named b
+cells_named (PickFrom s e) = map (cell_at s) (range_with_len 0 s.len) ++ cells_named e
+
+-- what a statement itself does with cells
+abbrev pub touches : S → List Use
+touches (Set c e) = map (use_of Reads) (cells_named e) ++ use_of Writes c ∷ []
+touches (Add c e) = map (use_of Reads) (cells_named e) ++ use_of Adds c ∷ []
+touches (If e a b) = map (use_of Reads) (cells_named e)
+touches _ = []
+
+abbrev pub touched : ℕ → List Use → List Step
+touched k uses = map (λ u. At k (Touch u)) uses
+
+-- Whether a path goes through a statement, or a body, whose place is k. Places are numbers of
+-- statements, each before the statements of its bodies. The body of a task has paths of its own: on
+-- its parent's path the task is one mark.
+abbrev mutual
+  pub PassesOne : ℕ → S → List Step → Type 0
+  PassesOne k (Set c e) path = path ≡ touched k (touches (Set c e))
+  PassesOne k (Add c e) path = path ≡ touched k (touches (Add c e))
+  PassesOne k (If e a b) path =
+      (inside : List Step) × (path ≡ touched k (touches (If e a b)) ++ inside) × (Passes (k + 1) a inside ⊎ Passes (k + 1 + size a) b inside)
+  PassesOne k (Task d b) path = path ≡ At k (Create d) ∷ []
+  PassesOne k Wait path = path ≡ At k Await ∷ []
+  PassesOne k (Group cs b) path = (inside : List Step) × (path ≡ At k (Enter cs) ∷ (inside ++ At k Leave ∷ [])) × Passes (k + 1) b inside
+
+  pub Passes : ℕ → Body → List Step → Type 0
+  Passes k End path = path ≡ []
+  Passes k (Next x rest) path = (one : List Step) × (later : List Step) × (path ≡ one ++ later) × PassesOne k x one × Passes (k + size_one x) rest later

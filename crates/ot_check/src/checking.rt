@@ -1,0 +1,30 @@
+ghost use Rattle.std.specs.Prelude.{◌≡◌, IfOk};
+ghost use Rattle.ot_model.specs.View.{stmts_of};
+ghost use Rattle.ot_model.specs.Shapes.{array_lengths};
+ghost use Rattle.ot_model.specs.Programs.{expanded_of, IsNamedIn};
+ghost use Rattle.ot_check.specs.Offences.{Offends};
+ghost use Rattle.ot_check.specs.Codes.{TellsFirst};
+
+use crate::checked::Checked;
+use crate::fault::CheckFault;
+use crate::standing::Standing;
+use crate::walk::walk;
+use ot_model::{Program, Shape};
+use std::alloc::Global;
+
+/// Checks that no path of any body of a program has an offence. Each cell that the program names is
+/// to be in the shape. What is told otherwise is the first offence: that of the least place, and there
+/// the first in the order of `Offence`. The program is given up then.
+pub fn check(alloc: Global, program: Program, shape: &Shape) -> Result<Checked, CheckFault>
+    requires { IsNamedIn (array_lengths shape.now) (expanded_of program) }
+    ensures told { TellsFirst (Offends (stmts_of program.body.items)) result }
+    ensures program { IfOk result (λ checked. checked.program ≡ program) }
+{
+    let Ok(mut standing) = Standing::of_root(alloc, shape) else {
+        return Err(CheckFault::Memory);
+    };
+    match walk(alloc, &program.body, &mut standing, 1) {
+        Ok(_) => Ok(Checked { program }),
+        Err(fault) => Err(fault),
+    }
+}

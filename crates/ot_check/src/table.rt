@@ -1,0 +1,143 @@
+ghost use Rattle.std.specs.Prelude.{◌≡◌, IfOk, length, map};
+ghost use Rattle.ot_check.specs.States.{cleared, joined, joined_row};
+
+use crate::modes::{more_modes, no_modes};
+use crate::state::CellState;
+use ot_model::{ArrayShape, Cell};
+use std::alloc::{AllocError, Global};
+use std::marker::Model;
+
+/// The state of each cell of a shape.
+#[derive(Debug, Drop)]
+pub(crate) struct Table {
+    rows: Vec<Vec<CellState>>,
+}
+
+impl Model for Table {
+    ghost use Rattle.std.specs.Prelude.{List, map};
+    ghost use Rattle.ot_check.specs.declared.state.CellState.{CellState};
+
+    ghost Value = { List (List CellState) };
+
+    ghost view = { λ t. map (λ row. row.items) t.rows.items };
+}
+
+impl Table {
+    ghost use Rattle.std.specs.Prelude.{◌≢◌, IsSome, Some};
+    ghost use Rattle.ot_model.specs.ShapeView.{arrays_of};
+    ghost use Rattle.ot_model.specs.declared.expr.Cell.{Cell};
+    ghost use Rattle.ot_check.specs.Grids.{found_at, widths, filled};
+    ghost use Rattle.ot_check.specs.States.{joined_rows};
+
+    /// One state for each cell of these arrays.
+    pub(crate) fn new(
+        alloc: Global,
+        arrays: &[ArrayShape],
+        state: CellState,
+    ) -> Result<Table, AllocError>
+        ensures { IfOk result (λ table. table ≡ filled state (map (λ a. a.1) (arrays_of arrays.now))) }
+    {
+        let mut rows = Vec::with_capacity(alloc, arrays.len())?;
+        for array in arrays {
+            rows.push(vec![in alloc; state; array.len as usize]?)?;
+        }
+        Ok(Table { rows })
+    }
+
+    /// One state for each cell of this table.
+    pub(crate) fn like(&self, alloc: Global, state: CellState) -> Result<Table, AllocError>
+        ensures { IfOk result (λ table. table ≡ filled state (widths self.now)) }
+    {
+        let mut rows = Vec::with_capacity(alloc, self.rows.len())?;
+        for row in &self.rows {
+            rows.push(vec![in alloc; state; row.len()]?)?;
+        }
+        Ok(Table { rows })
+    }
+
+    /// The state of a cell that is there.
+    pub(crate) fn at(&self, cell: Cell) -> CellState
+        requires { IsSome (found_at self.now cell) }
+        ensures { found_at self.now cell ≡ Some result }
+    {
+        let row = &self.rows[cell.array as usize];
+        row[cell.index as usize]
+    }
+
+    /// Puts a state at a cell that is there.
+    pub(crate) fn set(&mut self, cell: Cell, state: CellState)
+        requires { IsSome (found_at self.old cell) }
+        ensures widths { widths self.new ≡ widths self.old }
+        ensures there { found_at self.new cell ≡ Some state }
+        ensures others { (other : Cell) → cell ≢ other → found_at self.new other ≡ found_at self.old other }
+    {
+        let row = &mut self.rows[cell.array as usize];
+        row[cell.index as usize] = state;
+    }
+
+    /// The same table once more.
+    pub(crate) fn copy(&self, alloc: Global) -> Result<Table, AllocError>
+        ensures { IfOk result (λ copied. copied ≡ self.now) }
+    {
+        let mut rows = Vec::with_capacity(alloc, self.rows.len())?;
+        for row in &self.rows {
+            rows.push(row.as_slice().to_vec(alloc)?)?;
+        }
+        Ok(Table { rows })
+    }
+
+    /// The same table without children.
+    pub(crate) fn cleared(&self, alloc: Global) -> Result<Table, AllocError>
+        ensures { IfOk result (λ table. table ≡ map (map cleared) self.now) }
+    {
+        let mut rows = Vec::with_capacity(alloc, self.rows.len())?;
+        for row in &self.rows {
+            rows.push(cleared_row(alloc, row)?)?;
+        }
+        Ok(Table { rows })
+    }
+
+    /// The same table with the children of another of the same shape.
+    pub(crate) fn joined(&self, alloc: Global, other: &Table) -> Result<Table, AllocError>
+        requires { widths self.now ≡ widths other.now }
+        ensures { IfOk result (λ table. table ≡ joined_rows self.now other.now) }
+    {
+        let mut rows = Vec::with_capacity(alloc, self.rows.len())?;
+        for place in 0..self.rows.len() {
+            rows.push(joined_row(alloc, &self.rows[place], &other.rows[place])?)?;
+        }
+        Ok(Table { rows })
+    }
+}
+
+fn cleared_row(alloc: Global, row: &[CellState]) -> Result<Vec<CellState>, AllocError>
+    ensures { IfOk result (λ states. states.items ≡ map cleared row.now) }
+{
+    let mut states = Vec::with_capacity(alloc, row.len())?;
+    for state in row {
+        states.push(CellState {
+            clashing: no_modes(),
+            ..*state
+        })?;
+    }
+    Ok(states)
+}
+
+fn joined_row(
+    alloc: Global,
+    row: &[CellState],
+    other: &[CellState],
+) -> Result<Vec<CellState>, AllocError>
+    requires { length row.now ≡ length other.now }
+    ensures { IfOk result (λ states. states.items ≡ joined_row row.now other.now) }
+{
+    let mut states = Vec::with_capacity(alloc, row.len())?;
+    for place in 0..row.len() {
+        let clashing = more_modes(row[place].clashing, other[place].clashing);
+        states.push(CellState {
+            clashing,
+            ..row[place]
+        })?;
+    }
+    Ok(states)
+}
