@@ -1,6 +1,5 @@
 -- The walk's children are those of all paths.
 use Rattle.std.proofs.Common.{◌≡◌, ℕ, ◌+◌, ◌++◌, Bool, true, false, not, ◌&&◌, ◌||◌, List, [], ◌∷◌, refl, sym, ap, inl, inr, ◌∙◌, append-nil}
-use Rattle.std.specs.Prelude.{◌⊎◌}
 use Rattle.std.proofs.lemmas.List.Folds.{list_any-append}
 use Rattle.ot_model.specs.Tree.{S, Set, Add, If, Task, Wait, Group, Body, End, Next}
 use Rattle.ot_model.specs.Counts.{size, size_one}
@@ -9,59 +8,7 @@ use Rattle.ot_check.specs.Paths.{Enter, Leave, Step, At, touched, touches, Passe
 use Rattle.ot_check.specs.Offences.{is_wait, has_wait, some_unawaited}
 use Rattle.ot_check.specs.Walk.{through, through_one, after, after_one}
 use Rattle.ot_check.proofs.Steps.{IsClosed, touched-waits, touched-unawaited, passes-closed, unawaited-append, unawaited-group}
-
--- ---- bits
-
-pub or_true : (a b : Bool) → (a || b) ≡ true → (a ≡ true) ⊎ (b ≡ true)
-or_true true b h = inl refl
-or_true false b h = inr h
-
-absurd_bit : (b : Bool) → false ≡ true → (false || b) ≡ true
-absurd_bit b h = cc
-
-pub true_or : (a b : Bool) → a ≡ true → (a || b) ≡ true
-true_or true b h = refl
-true_or false b h = absurd_bit b h
-
-pub or_false : (a : Bool) → (a || false) ≡ true → a ≡ true
-or_false true h = h
-or_false false h = h
-
-pub or_right : (a b : Bool) → b ≡ true → (a || b) ≡ true
-or_right true b h = refl
-or_right false b h = h
-
-pub and_left : (a b : Bool) → (a && b) ≡ true → a ≡ true
-and_left true b h = refl
-and_left false b h = h
-
-pub and_right : (a b : Bool) → (a && b) ≡ true → b ≡ true
-and_right true b h = h
-and_right false b h = cc
-
-pub and_true : (a b : Bool) → a ≡ true → b ≡ true → (a && b) ≡ true
-and_true true b h g = g
-and_true false b h g = h
-
-pub not_true : (b : Bool) → not b ≡ true → b ≡ false
-not_true true h = sym h
-not_true false h = refl
-
-pub true_not : (b : Bool) → b ≡ false → not b ≡ true
-true_not true h = sym h
-true_not false h = refl
-
-pub or_false_left : (a b : Bool) → (a || b) ≡ false → a ≡ false
-or_false_left true b h = h
-or_false_left false b h = refl
-
-pub or_false_right : (a b : Bool) → (a || b) ≡ false → b ≡ false
-or_false_right true b h = cc
-or_false_right false b h = h
-
-pub false_or : (a b : Bool) → a ≡ false → b ≡ false → (a || b) ≡ false
-false_or true b h g = h
-false_or false b h g = g
+use Rattle.ot_check.proofs.Bits.{or_true, true_or, or_right, and_left, and_right, and_true, not_true, true_not, or_false_left, or_false_right, false_or, or_none}
 
 -- ---- some path
 
@@ -85,10 +32,6 @@ waits-append one later = list_any-append is_wait one later
 
 waits-inside : (k : ℕ) (uses : List Use) (inside : List Step) → has_wait (touched k uses ++ inside) ≡ has_wait inside
 waits-inside k uses inside = waits-append (touched k uses) inside ∙ ap (λ b. b || has_wait inside) (touched-waits k uses)
-
-or_none : (b : Bool) → (b || false) ≡ b
-or_none true = refl
-or_none false = refl
 
 waits-group : (k : ℕ) (inside : List Step) → has_wait (inside ++ At k Leave ∷ []) ≡ has_wait inside
 waits-group k inside = waits-append inside (At k Leave ∷ []) ∙ or_none (has_wait inside)

@@ -25,6 +25,7 @@ use Rattle.ot_check.proofs.GridLemmas.{cells_same}
 use Rattle.ot_check.proofs.OffendsLemmas.{offends-Set, offends-Add, offends-If, offends-ChildBeyond, offends-InOpenGroup, offends-Group}
 use Rattle.ot_check.proofs.ApartLemmas.{touch-weaker}
 use Rattle.ot_check.proofs.PathsMet.{first-is_first}
+use Rattle.ot_check.proofs.Bits.{or_true, true_or, or_right, and_left, and_right, and_true, or_false_left, or_false_right, not_false}
 
 -- ---- nothing is told
 
@@ -56,18 +57,6 @@ own_none own opened children k x h =
     (offends own opened children x Unawaited) (offends own opened children x EndsUnawaited) NotDeclared ChildBeyond InOpenGroup Unawaited EndsUnawaited
     (none_placed k (first_of (offends own opened children x)) (none_left (placed k (first_of (offends own opened children x))) (first_inside own opened children k x) h))
 
-or_left : (a b : Bool) → (a || b) ≡ false → a ≡ false
-or_left true b h = h
-or_left false b h = refl
-
-or_right : (a b : Bool) → (a || b) ≡ false → b ≡ false
-or_right true b h = cc
-or_right false b h = h
-
-not_false : (b : Bool) → not b ≡ false → b ≡ true
-not_false true h = refl
-not_false false h = cc
-
 -- ---- each read
 
 abbrev Allowed : Declared → Use → Type 0
@@ -76,19 +65,19 @@ Allowed own u = allows own u ≡ true
 section_allowed : (own : Declared) (test : Cell → Bool) (f : ℕ → Cell) (a n k : ℕ) → list_any test (map f (range_with_len a n)) ≡ false → k < n → test (f (a + k)) ≡ false
 section_allowed own test f a zero k h l = absurd (omega (arith, l))
 section_allowed own test f a (suc n) zero h l =
-    let e : a + 0 ≡ a = omega arith in ap (λ m. test (f m)) e ∙ or_left (test (f a)) (list_any test (map f (range_with_len (a + 1) n))) h
+    let e : a + 0 ≡ a = omega arith in ap (λ m. test (f m)) e ∙ or_false_left (test (f a)) (list_any test (map f (range_with_len (a + 1) n))) h
 section_allowed own test f a (suc n) (suc k) h l =
     let e : a + suc k ≡ a + 1 + k = omega arith in
-    ap (λ m. test (f m)) e ∙ section_allowed own test f (a + 1) n k (or_right (test (f a)) (list_any test (map f (range_with_len (a + 1) n))) h) (omega (arith, l))
+    ap (λ m. test (f m)) e ∙ section_allowed own test f (a + 1) n k (or_false_right (test (f a)) (list_any test (map f (range_with_len (a + 1) n))) h) (omega (arith, l))
 
 reads_allowed : (lens : List ℕ) (own : Declared) (e : E) → ValueNamedIn lens e → list_any (λ c. not (allows own (use_of Reads c))) (cells_named e) ≡ false
     → EachRead (λ c. Allowed own (use_of Reads c)) e
 reads_allowed lens own (Literal n) named h = tt
-reads_allowed lens own (CellAt c) named h = not_false (allows own (use_of Reads c)) (or_left (not (allows own (use_of Reads c))) false h)
+reads_allowed lens own (CellAt c) named h = not_false (allows own (use_of Reads c)) (or_false_left (not (allows own (use_of Reads c))) false h)
 reads_allowed lens own (Apply o a b) named h =
     let both : (list_any (λ c. not (allows own (use_of Reads c))) (cells_named a) || list_any (λ c. not (allows own (use_of Reads c))) (cells_named b)) ≡ false =
     sym (list_any-append (λ c. not (allows own (use_of Reads c))) (cells_named a) (cells_named b)) ∙ h in
-    (reads_allowed lens own a named.0 (or_left _ _ both), reads_allowed lens own b named.1 (or_right _ _ both))
+    (reads_allowed lens own a named.0 (or_false_left _ _ both), reads_allowed lens own b named.1 (or_false_right _ _ both))
 reads_allowed lens own (PickFrom s e) named h =
     let test : Cell → Bool = λ c. not (allows own (use_of Reads c)) in
     let both : (list_any test (map (cell_at s) (range_with_len 0 s.len)) || list_any test (cells_named e)) ≡ false =
@@ -97,8 +86,8 @@ reads_allowed lens own (PickFrom s e) named h =
           let l : k % s.len < s.len = mod-lt k named.0.some in
           let z : 0 + k % s.len ≡ k % s.len = omega arith in
           not_false (allows own (use_of Reads (cell_at s (k % s.len))))
-          (ap (λ m. test (cell_at s m)) (sym z) ∙ section_allowed own test (cell_at s) 0 s.len (k % s.len) (or_left _ _ both) l)),
-      reads_allowed lens own e named.1 (or_right _ _ both),
+          (ap (λ m. test (cell_at s m)) (sym z) ∙ section_allowed own test (cell_at s) 0 s.len (k % s.len) (or_false_left _ _ both) l)),
+      reads_allowed lens own e named.1 (or_false_right _ _ both),
     )
 
 -- ---- what a child's declaration lets it do, its parent's lets it too
@@ -106,30 +95,6 @@ reads_allowed lens own (PickFrom s e) named h =
 -- each cell of an open group is declared as Writes
 abbrev Groups : Declared → (Cell → Bool) → Type 0
 Groups own opened = (c : Cell) → opened c ≡ true → Allowed own (use_of Writes c)
-
-and_true_left : (a b : Bool) → (a && b) ≡ true → a ≡ true
-and_true_left true b h = refl
-and_true_left false b h = h
-
-and_true_right : (a b : Bool) → (a && b) ≡ true → b ≡ true
-and_true_right true b h = h
-and_true_right false b h = cc
-
-and_both : (a b : Bool) → a ≡ true → b ≡ true → (a && b) ≡ true
-and_both true b h g = g
-and_both false b h g = h
-
-or_cases : (a b : Bool) → (a || b) ≡ true → (a ≡ true) ⊎ (b ≡ true)
-or_cases true b h = inl refl
-or_cases false b h = inr h
-
-or_first : (a b : Bool) → a ≡ true → (a || b) ≡ true
-or_first true b h = refl
-or_first false b h = cc
-
-or_second : (a b : Bool) → b ≡ true → (a || b) ≡ true
-or_second true b h = refl
-or_second false b h = h
 
 -- a cell that is declared as Writes may be used in any mode
 covers_all : (declared wanted : Mode) → covers declared Writes ≡ true → covers declared wanted ≡ true
@@ -140,10 +105,10 @@ covers_all Adds wanted h = cc
 any_covers : (uses : List Use) (c : Cell) (m : Mode) → Allowed (Some uses) (use_of Writes c) → Allowed (Some uses) (use_of m c)
 any_covers [] c m h = h
 any_covers (d ∷ uses) c m h =
-    elim (or_cases (same_cell d.cell c && covers d.mode Writes) (list_any (λ d. same_cell d.cell c && covers d.mode Writes) uses) h) [
-      | inl one ↦ or_first _ _ (and_both (same_cell d.cell c) (covers d.mode m) (and_true_left (same_cell d.cell c) (covers d.mode Writes) one)
-          (covers_all d.mode m (and_true_right (same_cell d.cell c) (covers d.mode Writes) one)))
-      | inr more ↦ or_second _ _ (any_covers uses c m more)
+    elim (or_true (same_cell d.cell c && covers d.mode Writes) (list_any (λ d. same_cell d.cell c && covers d.mode Writes) uses) h) [
+      | inl one ↦ true_or _ _ (and_true (same_cell d.cell c) (covers d.mode m) (and_left (same_cell d.cell c) (covers d.mode Writes) one)
+          (covers_all d.mode m (and_right (same_cell d.cell c) (covers d.mode Writes) one)))
+      | inr more ↦ or_right _ _ (any_covers uses c m more)
     ]
 
 written : (own : Declared) (c : Cell) (m : Mode) → Allowed own (use_of Writes c) → Allowed own (use_of m c)
@@ -158,10 +123,10 @@ adds_covers Adds h = refl
 any_adds : (uses : List Use) (c : Cell) → adds_to (Some uses) c ≡ true → Allowed (Some uses) (use_of Adds c)
 any_adds [] c h = h
 any_adds (d ∷ uses) c h =
-    elim (or_cases (same_cell d.cell c && is_adds d.mode) (list_any (λ d. same_cell d.cell c && is_adds d.mode) uses) h) [
-      | inl one ↦ or_first _ _ (and_both (same_cell d.cell c) (covers d.mode Adds) (and_true_left (same_cell d.cell c) (is_adds d.mode) one)
-          (adds_covers d.mode (and_true_right (same_cell d.cell c) (is_adds d.mode) one)))
-      | inr more ↦ or_second _ _ (any_adds uses c more)
+    elim (or_true (same_cell d.cell c && is_adds d.mode) (list_any (λ d. same_cell d.cell c && is_adds d.mode) uses) h) [
+      | inl one ↦ true_or _ _ (and_true (same_cell d.cell c) (covers d.mode Adds) (and_left (same_cell d.cell c) (is_adds d.mode) one)
+          (adds_covers d.mode (and_right (same_cell d.cell c) (is_adds d.mode) one)))
+      | inr more ↦ or_right _ _ (any_adds uses c more)
     ]
 
 added : (own : Declared) (c : Cell) → adds_to own c ≡ true → Allowed own (use_of Adds c)
@@ -170,8 +135,8 @@ added (Some uses) c h = any_adds uses c h
 
 same_is : (c d : Cell) → same_cell c d ≡ true → c ≡ d
 same_is c d h =
-    let a : (c.array == d.array) ≡ true = and_true_left (c.array == d.array) (c.index == d.index) h in
-    let i : (c.index == d.index) ≡ true = and_true_right (c.array == d.array) (c.index == d.index) h in
+    let a : (c.array == d.array) ≡ true = and_left (c.array == d.array) (c.index == d.index) h in
+    let i : (c.index == d.index) ≡ true = and_right (c.array == d.array) (c.index == d.index) h in
     cells_same c d (grind (arith, nat_tests)) (grind (arith, nat_tests))
 
 both_false : (a b : Bool) → (not a && not b) ≡ false → (a ≡ true) ⊎ (b ≡ true)
@@ -198,33 +163,33 @@ child_fits : (own : Declared) (opened : Cell → Bool) (uses : List Use) → Gro
     → list_any (misfits own opened) uses ≡ false → (u : Use) → Allowed (Some uses) u → Allowed own u
 child_fits own opened [] groups exceed misfit u h = cc
 child_fits own opened (d ∷ uses) groups exceed misfit u h =
-    elim (or_cases (same_cell d.cell u.cell && covers d.mode u.mode) (list_any (λ d. same_cell d.cell u.cell && covers d.mode u.mode) uses) h) [
+    elim (or_true (same_cell d.cell u.cell && covers d.mode u.mode) (list_any (λ d. same_cell d.cell u.cell && covers d.mode u.mode) uses) h) [
       | inl one ↦
-          subst (λ c. Allowed own (use_of u.mode c)) (same_is d.cell u.cell (and_true_left (same_cell d.cell u.cell) (covers d.mode u.mode) one))
-          (use_fits own opened d.cell d.mode u.mode groups (or_left (exceeds own d) (list_any (exceeds own) uses) exceed)
-          (or_left (misfits own opened d) (list_any (misfits own opened) uses) misfit) (and_true_right (same_cell d.cell u.cell) (covers d.mode u.mode) one))
+          subst (λ c. Allowed own (use_of u.mode c)) (same_is d.cell u.cell (and_left (same_cell d.cell u.cell) (covers d.mode u.mode) one))
+          (use_fits own opened d.cell d.mode u.mode groups (or_false_left (exceeds own d) (list_any (exceeds own) uses) exceed)
+          (or_false_left (misfits own opened d) (list_any (misfits own opened) uses) misfit) (and_right (same_cell d.cell u.cell) (covers d.mode u.mode) one))
       | inr more ↦
-          child_fits own opened uses groups (or_right (exceeds own d) (list_any (exceeds own) uses) exceed)
-          (or_right (misfits own opened d) (list_any (misfits own opened) uses) misfit) u more
+          child_fits own opened uses groups (or_false_right (exceeds own d) (list_any (exceeds own) uses) exceed)
+          (or_false_right (misfits own opened d) (list_any (misfits own opened) uses) misfit) u more
     ]
 
 group_writes : (own : Declared) (opened : Cell → Bool) (cells : List Cell) (c : Cell)
     → list_any (λ d. not (allows own (use_of Writes d)) || opened d) cells ≡ false → has_cell cells c ≡ true → Allowed own (use_of Writes c)
 group_writes own opened [] c h there = cc
 group_writes own opened (d ∷ cells) c h there =
-    elim (or_cases (same_cell d c) (has_cell cells c) there) [
+    elim (or_true (same_cell d c) (has_cell cells c) there) [
       | inl one ↦
           subst (λ c. Allowed own (use_of Writes c)) (same_is d c one)
-          (not_false (allows own (use_of Writes d)) (or_left (not (allows own (use_of Writes d))) (opened d)
-          (or_left (not (allows own (use_of Writes d)) || opened d) (list_any (λ d. not (allows own (use_of Writes d)) || opened d) cells) h)))
+          (not_false (allows own (use_of Writes d)) (or_false_left (not (allows own (use_of Writes d))) (opened d)
+          (or_false_left (not (allows own (use_of Writes d)) || opened d) (list_any (λ d. not (allows own (use_of Writes d)) || opened d) cells) h)))
       | inr more ↦
-          group_writes own opened cells c (or_right (not (allows own (use_of Writes d)) || opened d) (list_any (λ d. not (allows own (use_of Writes d)) || opened d) cells) h) more
+          group_writes own opened cells c (or_false_right (not (allows own (use_of Writes d)) || opened d) (list_any (λ d. not (allows own (use_of Writes d)) || opened d) cells) h) more
     ]
 
 groups_inside : (own : Declared) (opened : Cell → Bool) (cells : List Cell) → Groups own opened
     → list_any (λ d. not (allows own (use_of Writes d)) || opened d) cells ≡ false → Groups own (with_group opened cells)
 groups_inside own opened cells groups h c there =
-    elim (or_cases (opened c) (has_cell cells c) there) [
+    elim (or_true (opened c) (has_cell cells c) there) [
       | inl before ↦ groups c before
       | inr now ↦ group_writes own opened cells c h now
     ]
@@ -243,11 +208,11 @@ mutual
   inside_one lens own opened children k (Set c e) named groups h =
       let none = own_none own opened children k (Set c e) h in
       let both = sym (offends-Set own opened children c e NotDeclared) ∙ none.0 in
-      ((reads_allowed lens own e named.1 (or_left _ _ both), not_false (allows own (use_of Writes c)) (or_right _ _ both)), tt)
+      ((reads_allowed lens own e named.1 (or_false_left _ _ both), not_false (allows own (use_of Writes c)) (or_false_right _ _ both)), tt)
   inside_one lens own opened children k (Add c e) named groups h =
       let none = own_none own opened children k (Add c e) h in
       let both = sym (offends-Add own opened children c e NotDeclared) ∙ none.0 in
-      ((reads_allowed lens own e named.1 (or_left _ _ both), not_false (allows own (use_of Adds c)) (or_right _ _ both)), tt)
+      ((reads_allowed lens own e named.1 (or_false_left _ _ both), not_false (allows own (use_of Adds c)) (or_false_right _ _ both)), tt)
   inside_one lens own opened children k (If e a b) named groups h =
       let none = own_none own opened children k (If e a b) h in
       let bodies = none_right (placed k (first_of (offends own opened children (If e a b)))) (first_inside own opened children k (If e a b)) h in

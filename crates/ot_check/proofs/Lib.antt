@@ -1,3 +1,4 @@
+pub mod Bits
 pub mod Steps
 pub mod After
 pub mod Meeting

@@ -11,14 +11,7 @@ use Rattle.ot_check.specs.Offences.{Declared, Children, breaks, exceeds, misfits
 use Rattle.ot_check.specs.Walk.{offends, ends_unawaited}
 use Rattle.ot_check.specs.declared.fault.Offence.{Offence}
 use Rattle.ot_check.specs.declared.fault.Offence.TheVariants.{NotDeclared, ChildBeyond, InOpenGroup, Unawaited, EndsUnawaited}
-
-or_none : (b : Bool) → (b || false) ≡ b
-or_none true = refl
-or_none false = refl
-
-any-map : {X Y : Type 0} (f : Y → Bool) (g : X → Y) (xs : List X) → list_any f (map g xs) ≡ list_any (λ x. f (g x)) xs
-any-map f g [] = refl
-any-map f g (x ∷ xs) = ap (λ b. f (g x) || b) (any-map f g xs)
+use Rattle.ot_check.proofs.Bits.{or_none, any-map}
 
 -- whether reading any of these cells is the offence
 abbrev pub reading : Declared → (Cell → Bool) → Children → Offence → List Cell → Bool

@@ -16,9 +16,10 @@ use Rattle.ot_check.specs.declared.fault.CheckFault.TheVariants as fault
 use Rattle.ot_check.specs.declared.fault.Offence.{Offence}
 use Rattle.ot_check.specs.declared.fault.Offence.TheVariants.{NotDeclared, ChildBeyond, InOpenGroup, Unawaited, EndsUnawaited}
 use Rattle.ot_check.proofs.Steps.{passes_one-closed, unawaited-append}
-use Rattle.ot_check.proofs.After.{left_by, after-to, after-to_one, or_true, true_or, or_right, or_false, and_left, and_right, and_true, some_path, some_path_one}
+use Rattle.ot_check.proofs.After.{left_by, after-to, after-to_one, some_path, some_path_one}
 use Rattle.ot_check.proofs.Meeting.{Meets, MeetsOne, meets-first}
 use Rattle.ot_check.proofs.PathsTold.{breaks-more, nothing-breaks, end-breaks, BreaksBehind, quiet-open, quiet-unawaited, entered-open, entered-unawaited, passed-open, meets-on_path, meets-in_tasks}
+use Rattle.ot_check.proofs.Bits.{or_true, true_or, or_false, or_right, and_left, and_right, and_true}
 
 -- ---- many prefixes
 

@@ -14,22 +14,11 @@ use Rattle.ot_check.specs.Walk.{nobody, nothing_open, behind_one, with_group, of
 use Rattle.ot_check.specs.declared.fault.Offence.{Offence}
 use Rattle.ot_check.specs.declared.fault.Offence.TheVariants.{NotDeclared, ChildBeyond, InOpenGroup, Unawaited, EndsUnawaited}
 use Rattle.ot_check.proofs.Steps.{closed_of, touched-balanced, touched-open, touched-unawaited, touched-waits, passes_one-closed, passes_one-open, unawaited-append, open-append}
-use Rattle.ot_check.proofs.After.{after-from, after-from_one, true_or, or_right}
+use Rattle.ot_check.proofs.After.{after-from, after-from_one}
 use Rattle.ot_check.proofs.Meeting.{Meets, MeetsOne}
+use Rattle.ot_check.proofs.Bits.{true_or, or_right, or_none, and_one, any-same, any-more}
 
 -- ---- lists
-
-pub any-same : {X : Type 0} (f g : X → Bool) (xs : List X) → ((x : X) → f x ≡ g x) → list_any f xs ≡ list_any g xs
-any-same f g [] same = refl
-any-same f g (x ∷ xs) same = ap (λ b. b || list_any f xs) (same x) ∙ ap (λ b. g x || b) (any-same f g xs same)
-
-or_more : (a b c d : Bool) → (a ≡ true → c ≡ true) → (b ≡ true → d ≡ true) → (a || b) ≡ true → (c || d) ≡ true
-or_more true b c d f g h = true_or c d (f refl)
-or_more false b c d f g h = or_right c d (g h)
-
-pub any-more : {X : Type 0} (f g : X → Bool) (xs : List X) → ((x : X) → f x ≡ true → g x ≡ true) → list_any f xs ≡ true → list_any g xs ≡ true
-any-more f g [] more h = h
-any-more f g (x ∷ xs) more h = or_more (f x) (list_any f xs) (g x) (list_any g xs) (more x) (any-more f g xs more) h
 
 -- a place in two lists is in the one or the other
 pub append_split : {X : Type 0} (xs ys before : List X) (s : X) (later : List X) → xs ++ ys ≡ before ++ s ∷ later
@@ -46,14 +35,6 @@ append_split (x ∷ xs) ys (b ∷ before) s later h =
       | inl p ↦ inl (p.0, ap (λ z. z ∷ xs) first ∙ ap (λ zs. b ∷ zs) p.1, p.2)
       | inr p ↦ inr (p.0, ap (λ z. z ∷ before) (sym first) ∙ ap (λ zs. x ∷ zs) p.1, p.2)
     ]
-
-pub or_none : (b : Bool) → (b || false) ≡ b
-or_none true = refl
-or_none false = refl
-
-pub and_one : (b : Bool) → (b && true) ≡ b
-and_one true = refl
-and_one false = refl
 
 misfits-same : (own : Declared) (o p : Cell → Bool) (u : Use) → ((c : Cell) → o c ≡ p c) → misfits own o u ≡ misfits own p u
 misfits-same own o p u same = ap (λ b. if is_adds u.mode then not (adds_to own u.cell) && not b else b) (same u.cell)

@@ -28,6 +28,7 @@ use Rattle.ot_check.specs.declared.state.CellState.{CellState}
 use Rattle.ot_check.specs.declared.modes.Modes.{Modes}
 use Rattle.ot_check.proofs.GridLemmas.{cells_same, cells_apart, found_at-filled}
 use Rattle.ot_check.proofs.StateLemmas.{found_at-joined, found_at-cleared, at_map}
+use Rattle.ot_check.proofs.Bits.{or_none, and_false, or_assoc, any-same, none_any}
 
 -- ---- cells that are there
 
@@ -49,10 +50,6 @@ eq_itself n = grind (arith, nat_tests)
 
 same_itself : (c : Cell) → same_cell c c ≡ true
 same_itself c = ap (λ b. b && (c.index == c.index)) (eq_itself c.array) ∙ eq_itself c.index
-
-and_false : (b : Bool) → (b && false) ≡ false
-and_false true = refl
-and_false false = refl
 
 eq_apart : (n m : ℕ) → n ≢ m → (n == m) ≡ false
 eq_apart n m apart = grind (arith, nat_tests)
@@ -102,14 +99,6 @@ has-modes_of f Adds = refl
 
 abbrev state : Modes → Bool → Bool → Modes → CellState
 state allowed reduces grouped clashing = record { allowed = allowed; reduces = reduces; grouped = grouped; clashing = clashing }
-
-or_none : (b : Bool) → (b || false) ≡ b
-or_none true = refl
-or_none false = refl
-
-or_assoc : (a b c : Bool) → ((a || b) || c) ≡ (a || (b || c))
-or_assoc true b c = refl
-or_assoc false b c = refl
 
 -- ---- a child's uses
 
@@ -294,10 +283,6 @@ pub any-step : {A : Type 0} (test : A → Bool) (list : List A) (i : ℕ) (d : A
 any-step test list i d b l none is unmet =
     list_any_more test list i d l ∙ ap (λ a. a || test (get_or list i d)) none ∙ sym is ∙ unmet
 
-pub or_yes : (b : Bool) → (b || true) ≡ true
-or_yes true = refl
-or_yes false = refl
-
 pub any-at : {A : Type 0} (test : A → Bool) (list whole : List A) (i : ℕ) (d : A) (b : Bool) → list ≡ whole → i < length list
     → b ≡ test (get_or list i d) → b ≡ true → true ≡ list_any test whole
 any-at test list whole i d b same l is met =
@@ -309,14 +294,6 @@ any-none test list whole i same l none = sym none ∙ ap (list_any test) (taken 
 
 -- ---- a group's cells one by one
 
-any_same : {X : Type 0} (f g : X → Bool) (xs : List X) → ((x : X) → f x ≡ g x) → list_any f xs ≡ list_any g xs
-any_same f g [] same = refl
-any_same f g (x ∷ xs) same = ap (λ b. b || list_any f xs) (same x) ∙ ap (λ b. g x || b) (any_same f g xs same)
-
-none_any : {X : Type 0} (xs : List X) → false ≡ list_any (λ x. false) xs
-none_any [] = refl
-none_any (x ∷ xs) = none_any xs
-
 -- whether a group of this cell alone is the offence
 abbrev pub alone : Declared → (Cell → Bool) → Children → Offence → Cell → Bool
 alone own opened children offence c = breaks own opened children (Enter (c ∷ [])) offence
@@ -325,8 +302,8 @@ pub one_by_one : (own : Declared) (opened : Cell → Bool) (children : Children)
     → breaks own opened children (Enter cells) offence ≡ list_any (alone own opened children offence) cells
 one_by_one own opened children cells NotDeclared = none_any cells
 one_by_one own opened children cells ChildBeyond = none_any cells
-one_by_one own opened children cells InOpenGroup = any_same _ _ cells (λ c. sym (or_none (not (allows own (use_of Writes c)) || opened c)))
-one_by_one own opened children cells Unawaited = any_same _ _ cells (λ c. sym (or_none (children (clashes (use_of Writes c)))))
+one_by_one own opened children cells InOpenGroup = any-same _ _ cells (λ c. sym (or_none (not (allows own (use_of Writes c)) || opened c)))
+one_by_one own opened children cells Unawaited = any-same _ _ cells (λ c. sym (or_none (children (clashes (use_of Writes c)))))
 one_by_one own opened children cells EndsUnawaited = none_any cells
 
 -- ---- what one list or the other has

@@ -1,30 +1,11 @@
 -- Rows of states, place by place.
-use Rattle.std.proofs.Common.{Vec, Global, ◌≡◌, ◌<◌, ℕ, zero, suc, ◌+◌, ◌++◌, List, [], ◌∷◌, length, map, take, get_or, refl, sym, ap, ◌∙◌, arith}
+use Rattle.std.proofs.Common.{Vec, Global, ◌≡◌, ◌<◌, ℕ, zero, suc, List, [], ◌∷◌, length, map, take, get_or, set, refl, sym, ap, ◌∙◌, arith}
 use Rattle.std.proofs.lemmas.List.{length-map}
-use Rattle.std.proofs.Math.ListN.{get_or-map}
 use Rattle.std.specs.Prelude.{Option, Some, None, slice_get, option_and_then}
 use Rattle.ot_model.specs.declared.expr.Cell.{Cell}
 use Rattle.ot_check.specs.Grids.{found_at, widths}
 use Rattle.ot_check.specs.States.{cleared, joined, joined_row, joined_rows}
 use Rattle.ot_check.specs.declared.state.CellState.{CellState}
-
-pub joined_row-more : (row others : List CellState) (i : ℕ) (s t : CellState) → i < length row → i < length others
-    → s ≡ get_or row i s → t ≡ get_or others i t
-    → joined_row (take i row) (take i others) ++ joined s t ∷ [] ≡ joined_row (take (suc i) row) (take (suc i) others)
-joined_row-more [] others i s t l m hs ht = absurd (omega (arith, l))
-joined_row-more (x ∷ row) [] i s t l m hs ht = absurd (omega (arith, m))
-joined_row-more (x ∷ row) (y ∷ others) zero s t l m hs ht = ap (λ s. joined s t ∷ []) hs ∙ ap (λ t. joined x t ∷ []) ht
-joined_row-more (x ∷ row) (y ∷ others) (suc i) s t l m hs ht =
-    ap (λ states. joined x y ∷ states) (joined_row-more row others i s t (omega (arith, l)) (omega (arith, m)) hs ht)
-
-pub joined_rows-more : (rows others : List (List CellState)) (i : ℕ) (s t : List CellState) → i < length rows → i < length others
-    → s ≡ get_or rows i s → t ≡ get_or others i t
-    → joined_rows (take i rows) (take i others) ++ joined_row s t ∷ [] ≡ joined_rows (take (suc i) rows) (take (suc i) others)
-joined_rows-more [] others i s t l m hs ht = absurd (omega (arith, l))
-joined_rows-more (x ∷ rows) [] i s t l m hs ht = absurd (omega (arith, m))
-joined_rows-more (x ∷ rows) (y ∷ others) zero s t l m hs ht = ap (λ s. joined_row s t ∷ []) hs ∙ ap (λ t. joined_row x t ∷ []) ht
-joined_rows-more (x ∷ rows) (y ∷ others) (suc i) s t l m hs ht =
-    ap (λ states. joined_row x y ∷ states) (joined_rows-more rows others i s t (omega (arith, l)) (omega (arith, m)) hs ht)
 
 -- ---- one cell
 
@@ -72,7 +53,7 @@ pub widths-cleared : (rows : List (List CellState)) → widths (map (map cleared
 widths-cleared [] = refl
 widths-cleared (row ∷ rows) = ap (λ n. n ∷ widths (map (map cleared) rows)) (length-map row cleared) ∙ ap (λ ns. length row ∷ ns) (widths-cleared rows)
 
-length-joined_row : (row others : List CellState) → length row ≡ length others → length (joined_row row others) ≡ length row
+pub length-joined_row : (row others : List CellState) → length row ≡ length others → length (joined_row row others) ≡ length row
 length-joined_row [] others same = refl
 length-joined_row (x ∷ row) [] same = refl
 length-joined_row (x ∷ row) (y ∷ others) same = ap suc (length-joined_row row others (omega (arith, same)))
@@ -97,18 +78,40 @@ lengths-same (x ∷ rows) (y ∷ others) (suc i) r o same l hr ho =
     let e : widths (map (λ row. row.items) rows) ≡ widths (map (λ row. row.items) others) = cc in
     lengths-same rows others i r o e (omega (arith, l)) hr ho
 
-widths-length : {A : Type 0} (rows others : List (List A)) → widths rows ≡ widths others → length rows ≡ length others
+pub widths-length : {A : Type 0} (rows others : List (List A)) → widths rows ≡ widths others → length rows ≡ length others
 widths-length rows others same = sym (length-map rows length) ∙ ap length same ∙ length-map others length
 
-pub joined_vecs-more : (rows others : List (Vec CellState Global)) (i : ℕ) (r o : Vec CellState Global)
-    → widths (map (λ row. row.items) rows) ≡ widths (map (λ row. row.items) others) → i < length rows
-    → r ≡ get_or rows i r → o ≡ get_or others i o
-    → joined_rows (take i (map (λ row. row.items) rows)) (take i (map (λ row. row.items) others)) ++ joined_row r.items o.items ∷ []
-    ≡ joined_rows (take (i + 1) (map (λ row. row.items) rows)) (take (i + 1) (map (λ row. row.items) others))
-joined_vecs-more rows others i r o same l hr ho =
-    let n : length (map (λ row. row.items) rows) ≡ length rows = length-map rows (λ row. row.items) in
-    let m : length (map (λ row. row.items) rows) ≡ length (map (λ row. row.items) others) = widths-length _ _ same in
-    let e : suc i ≡ i + 1 = omega arith in
-    joined_rows-more (map (λ row. row.items) rows) (map (λ row. row.items) others) i r.items o.items (omega (arith, l, n)) (omega (arith, l, n, m))
-    (ap (λ r. r.items) hr ∙ sym (get_or-map (λ row. row.items) rows i r)) (ap (λ o. o.items) ho ∙ sym (get_or-map (λ row. row.items) others i o))
-    ∙ ap (λ j. joined_rows (take j (map (λ row. row.items) rows)) (take j (map (λ row. row.items) others))) e
+pub joined_row-none : (row : List CellState) → joined_row row [] ≡ row
+joined_row-none [] = refl
+joined_row-none (s ∷ row) = refl
+
+pub joined_row-set : (row others : List CellState) (i : ℕ) (s t : CellState) → i < length row → i < length others
+    → s ≡ get_or (joined_row row (take i others)) i s → t ≡ get_or others i t
+    → set (joined_row row (take i others)) i (joined s t) ≡ joined_row row (take (suc i) others)
+joined_row-set [] others i s t l m hs ht = absurd (omega (arith, l))
+joined_row-set (x ∷ row) [] i s t l m hs ht = absurd (omega (arith, m))
+joined_row-set (x ∷ row) (y ∷ others) zero s t l m hs ht =
+    ap (λ s. joined s t ∷ row) hs ∙ ap (λ t. joined x t ∷ row) ht ∙ ap (λ row. joined x y ∷ row) (sym (joined_row-none row))
+joined_row-set (x ∷ row) (y ∷ others) (suc i) s t l m hs ht =
+    ap (λ row. joined x y ∷ row) (joined_row-set row others i s t (omega (arith, l)) (omega (arith, m)) hs ht)
+
+pub joined_rows-none : (rows : List (List CellState)) → joined_rows rows [] ≡ rows
+joined_rows-none [] = refl
+joined_rows-none (row ∷ rows) = refl
+
+pub joined_rows-set : (rows others : List (List CellState)) (i : ℕ) (s t : List CellState) → i < length rows → i < length others
+    → s ≡ get_or (joined_rows rows (take i others)) i s → t ≡ get_or others i t
+    → set (joined_rows rows (take i others)) i (joined_row s t) ≡ joined_rows rows (take (suc i) others)
+joined_rows-set [] others i s t l m hs ht = absurd (omega (arith, l))
+joined_rows-set (x ∷ rows) [] i s t l m hs ht = absurd (omega (arith, m))
+joined_rows-set (x ∷ rows) (y ∷ others) zero s t l m hs ht =
+    ap (λ s. joined_row s t ∷ rows) hs ∙ ap (λ t. joined_row x t ∷ rows) ht ∙ ap (λ rows. joined_row x y ∷ rows) (sym (joined_rows-none rows))
+joined_rows-set (x ∷ rows) (y ∷ others) (suc i) s t l m hs ht =
+    ap (λ rows. joined_row x y ∷ rows) (joined_rows-set rows others i s t (omega (arith, l)) (omega (arith, m)) hs ht)
+
+-- a row of the same length in place of one
+pub widths-replaced : (rows : List (List CellState)) (a : ℕ) (row new : List CellState) → row ≡ get_or rows a row → length new ≡ length row
+    → widths (set rows a new) ≡ widths rows
+widths-replaced [] a row new is same = refl
+widths-replaced (r ∷ rows) zero row new is same = ap (λ n. n ∷ widths rows) (same ∙ ap length is)
+widths-replaced (r ∷ rows) (suc a) row new is same = ap (λ ns. length r ∷ ns) (widths-replaced rows a row new is same)

@@ -1,5 +1,5 @@
 -- Steps of the walk.
-use Rattle.std.proofs.Common.{◌≡◌, ◌<◌, ℕ, ◌+◌, Bool, true, false, ◌&&◌, List, drop, length, get_or, refl, sym, ap, subst, ◌∙◌, Ok, Err, IfOk, Result, ◌≤◌}
+use Rattle.std.proofs.Common.{◌≡◌, ◌<◌, ℕ, ◌+◌, Bool, List, drop, length, get_or, sym, ap, subst, ◌∙◌, Ok, Err, IfOk, Result, ◌≤◌}
 use Rattle.std.specs.Prelude.{Option, None}
 use Rattle.std.specs.Option.{option_or}
 use Rattle.ot_model.specs.Tree.{S, End, Next}
@@ -17,6 +17,7 @@ use Rattle.std.proofs.lemmas.List.{at_drop_more, drop_all}
 use Rattle.ot_model.specs.View.{stmt_of, stmts_of}
 use Rattle.ot_model.specs.declared.stmt.Stmt.{Stmt}
 use Rattle.ot_check.proofs.StandingLemmas.{tells-same, clashing-same}
+use Rattle.ot_check.proofs.Bits.{}
 
 -- ---- what is told of two parts
 
@@ -35,14 +36,6 @@ represents-same own opened children others someone rows same h = record {
   anyone = h.anyone ∙ same anyone;
   cells = tells-same rows (state_of own opened children) (state_of own opened others) (clashing-same own opened children others same) h.cells;
 }
-
-pub and_yes : (b c : Bool) → c ≡ true → b ≡ (b && c)
-and_yes true c is = sym is
-and_yes false c is = refl
-
-pub and_no : (b c : Bool) → c ≡ false → false ≡ (b && c)
-and_no true c is = sym is
-and_no false c is = refl
 
 -- ---- the rest of a body
 

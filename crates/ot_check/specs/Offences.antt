@@ -58,8 +58,8 @@ clashes u child = list_any (λ d. same_cell d.cell u.cell && conflicts d.mode u.
 
 -- ---- what stands open at a place of a path
 
--- whether, of n groups that are open, none is left in these steps that wasn't entered in them, and
--- then as many more as n
+-- whether these steps leave at most n of the groups that were open before them; a group that is
+-- entered in them may be left in them
 abbrev pub stays_within : ℕ → List Step → Bool
 stays_within n [] = true
 stays_within n (At k (Touch u) ∷ path) = stays_within n path

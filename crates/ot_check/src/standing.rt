@@ -118,16 +118,15 @@ impl Standing {
     }
 
     /// The children of another way through an `if` may be unawaited too.
-    pub(crate) fn join(&mut self, alloc: Global, other: &Standing) -> Result<(), AllocError>
+    pub(crate) fn join(&mut self, other: &Standing)
         requires { widths self.old.table ≡ widths other.now.table }
-        ensures stands { IfOk result (λ _. (own : Declared) (opened : Cell → Bool) (children others : Children)
+        ensures stands { (own : Declared) (opened : Cell → Bool) (children others : Children)
             → Represents own opened children self.old.someone self.old.table → Represents own opened others other.now.someone other.now.table
-            → Represents own opened (of_both children others) self.new.someone self.new.table) }
-        ensures widths { IfOk result (λ _. widths self.new.table ≡ widths self.old.table) }
+            → Represents own opened (of_both children others) self.new.someone self.new.table }
+        ensures widths { widths self.new.table ≡ widths self.old.table }
     {
-        self.table = self.table.joined(alloc, &other.table)?;
+        self.table.join(&other.table);
         self.someone = self.someone || other.someone;
-        Ok(())
     }
 
     /// Whether a use of a cell is this offence here.

@@ -1,5 +1,6 @@
-ghost use Rattle.std.specs.Prelude.{◌≡◌, IfOk, length, map};
-ghost use Rattle.ot_check.specs.States.{cleared, joined, joined_row};
+ghost use Rattle.std.specs.Prelude.{◌≡◌, IfOk, map, vec_len};
+ghost use Rattle.ot_check.specs.Grids.{widths};
+ghost use Rattle.ot_check.specs.States.{cleared, joined_row, joined_rows};
 
 use crate::modes::{more_modes, no_modes};
 use crate::state::CellState;
@@ -26,8 +27,7 @@ impl Table {
     ghost use Rattle.std.specs.Prelude.{◌≢◌, IsSome, Some};
     ghost use Rattle.ot_model.specs.ShapeView.{arrays_of};
     ghost use Rattle.ot_model.specs.declared.expr.Cell.{Cell};
-    ghost use Rattle.ot_check.specs.Grids.{found_at, widths, filled};
-    ghost use Rattle.ot_check.specs.States.{joined_rows};
+    ghost use Rattle.ot_check.specs.Grids.{found_at, filled};
 
     /// One state for each cell of these arrays.
     pub(crate) fn new(
@@ -97,16 +97,12 @@ impl Table {
         Ok(Table { rows })
     }
 
-    /// The same table with the children of another of the same shape.
-    pub(crate) fn joined(&self, alloc: Global, other: &Table) -> Result<Table, AllocError>
-        requires { widths self.now ≡ widths other.now }
-        ensures { IfOk result (λ table. table ≡ joined_rows self.now other.now) }
+    /// Joins the children of another table of the same shape to those of this one.
+    pub(crate) fn join(&mut self, other: &Table)
+        requires { widths self.old ≡ widths other.now }
+        ensures { self.new ≡ joined_rows self.old other.now }
     {
-        let mut rows = Vec::with_capacity(alloc, self.rows.len())?;
-        for place in 0..self.rows.len() {
-            rows.push(joined_row(alloc, &self.rows[place], &other.rows[place])?)?;
-        }
-        Ok(Table { rows })
+        join_rows(&mut self.rows, &other.rows);
     }
 }
 
@@ -123,21 +119,25 @@ fn cleared_row(alloc: Global, row: &[CellState]) -> Result<Vec<CellState>, Alloc
     Ok(states)
 }
 
-fn joined_row(
-    alloc: Global,
-    row: &[CellState],
-    other: &[CellState],
-) -> Result<Vec<CellState>, AllocError>
-    requires { length row.now ≡ length other.now }
-    ensures { IfOk result (λ states. states.items ≡ joined_row row.now other.now) }
+fn join_rows(rows: &mut Vec<Vec<CellState>>, others: &Vec<Vec<CellState>>)
+    requires { widths (map (λ row. row.items) rows.old.items) ≡ widths (map (λ row. row.items) others.now.items) }
+    ensures { map (λ row. row.items) rows.new.items
+        ≡ joined_rows (map (λ row. row.items) rows.old.items) (map (λ row. row.items) others.now.items) }
 {
-    let mut states = Vec::with_capacity(alloc, row.len())?;
-    for place in 0..row.len() {
-        let clashing = more_modes(row[place].clashing, other[place].clashing);
-        states.push(CellState {
-            clashing,
-            ..row[place]
-        })?;
+    for place in 0..rows.len() {
+        let row = &mut rows[place];
+        join_row(row, &others[place]);
     }
-    Ok(states)
+}
+
+fn join_row(row: &mut Vec<CellState>, other: &Vec<CellState>)
+    requires { vec_len row.old ≡ vec_len other.now }
+    ensures joined { row.new.items ≡ joined_row row.old.items other.now.items }
+    ensures len { vec_len row.new ≡ vec_len row.old }
+{
+    for place in 0..row.len() {
+        let state = row[place];
+        let clashing = more_modes(state.clashing, other[place].clashing);
+        row[place] = CellState { clashing, ..state };
+    }
 }

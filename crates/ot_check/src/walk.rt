@@ -110,10 +110,8 @@ fn walk_other(
         Ok(next) => next,
         Err(fault) => return Err(fault),
     };
-    match standing.join(alloc, &other) {
-        Ok(()) => Ok(next),
-        Err(_) => Err(CheckFault::Memory),
-    }
+    standing.join(&other);
+    Ok(next)
 }
 
 /// The body of a task, from its place on.

@@ -9,7 +9,8 @@ use Rattle.ot_check.specs.Walk.{behind, behind_one, after, first, first_one, nob
 use Rattle.ot_check.specs.Grids.{widths}
 use Rattle.ot_check.specs.States.{Represents, one_more}
 use Rattle.ot_check.specs.Codes.{IsTold}
-use Rattle.ot_check.proofs.WalkLemmas.{if_ok, told-left, told-right, told-inside, behind-as, copied, rest_is, rest_none, represents-same, and_yes, and_no}
+use Rattle.ot_check.proofs.WalkLemmas.{if_ok, told-left, told-right, told-inside, behind-as, copied, rest_is, rest_none, represents-same}
+use Rattle.ot_check.proofs.Bits.{and_yes, and_no}
 use Rattle.ot_check.proofs.walk.+walk.Goals as goal
 
 pub walk-loop-stmt-init : goal.walk-loop-stmt-init
@@ -190,6 +191,6 @@ walk_one-returns-in-Ok-walk-clause-behind t c =
     c.in-Ok.ensures.someone c.in-Ok.ensures.table h)))
     c.walk_other.ensures.behind
 
-pub walk_other-returns-in-Ok-join-clause-behind : goal.walk_other-returns-in-Ok-join-clause-behind
-walk_other-returns-in-Ok-join-clause-behind t c = λ own opened children others h g.
-    c.in-Ok-join.ensures.stands own opened children (behind others (stmts_of c.args.body.now.items)) h (c.in-Ok.ensures.behind own opened others g)
+pub walk_other-returns-clause-behind : goal.walk_other-returns-clause-behind
+walk_other-returns-clause-behind t c = λ own opened children others h g.
+    c.join.ensures.stands own opened children (behind others (stmts_of c.args.body.now.items)) h (c.in-Ok.ensures.behind own opened others g)

@@ -2,7 +2,8 @@ use Rattle.std.proofs.Common.{refl, sym, subst, ◌∙◌}
 use Rattle.ot_check.specs.Offences.{anyone}
 use Rattle.ot_check.specs.Grids.{Tells}
 use Rattle.ot_check.specs.States.{state_of, one_more}
-use Rattle.ot_check.proofs.StandingLemmas.{use_there, child-first, child-step, taken, or_yes}
+use Rattle.ot_check.proofs.StandingLemmas.{use_there, child-first, child-step, taken}
+use Rattle.ot_check.proofs.Bits.{or_yes}
 use Rattle.ot_check.proofs.standing.Standing.add_child.Goals as goal
 
 pub loop-used-init : goal.loop-used-init

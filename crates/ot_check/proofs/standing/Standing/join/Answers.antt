@@ -14,9 +14,9 @@ someone_is c = elim c.if-self.branch [
 
 pub returns-clause-stands : goal.returns-clause-stands
 returns-clause-stands c = λ own opened children others h g.
-    subst (λ b. Represents own opened (of_both children others) b c.in_ok-self.field-0) (sym (someone_is c))
-    (subst (Represents own opened (of_both children others) (c.args.self.now.someone || c.args.other.now.someone)) (sym c.in_ok-self.ensures)
+    subst (λ b. Represents own opened (of_both children others) b c.join.new.self) (sym (someone_is c))
+    (subst (Represents own opened (of_both children others) (c.args.self.now.someone || c.args.other.now.someone)) (sym c.join.ensures)
     (stands-joined own opened children others c.args.self.now.someone c.args.other.now.someone c.args.self.now.table c.args.other.now.table c.requires h g))
 
 pub returns-clause-widths : goal.returns-clause-widths
-returns-clause-widths c = ap widths c.in_ok-self.ensures ∙ widths-joined c.args.self.now.table c.args.other.now.table c.requires
+returns-clause-widths c = ap widths c.join.ensures ∙ widths-joined c.args.self.now.table c.args.other.now.table c.requires
