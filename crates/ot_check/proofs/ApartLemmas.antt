@@ -1,7 +1,7 @@
 -- Bodies that are apart may be run in either order.
-use Rattle.std.proofs.Common.{◌≡◌, ◌≢◌, ℕ, zero, suc, ◌+◌, ◌%◌, ◌^◌, Bool, true, false, List, [], ◌∷◌, refl, sym, ap, subst, ◌∙◌, inl, inr, arith}
+use Rattle.std.proofs.Common.{◌≡◌, ◌≢◌, ℕ, zero, suc, ◌+◌, ◌%◌, ◌^◌, Bool, true, false, List, [], ◌∷◌, refl, sym, ap, ◌∙◌, arith}
 use Rattle.std.proofs.Math.Nat.{mod-add-mod}
-use Rattle.std.specs.Prelude.{◌==◌, if◌then◌else◌, Option, slice_get, option_and_then, unwrap_or}
+use Rattle.std.specs.Prelude.{◌==◌, if◌then◌else◌, Option, unwrap_or}
 use Rattle.ot_model.specs.Tree.{E, Literal, CellAt, Apply, PickFrom, S, Set, Add, If, Task, Wait, Group, Body, End, Next}
 use Rattle.ot_model.specs.Cells.{cell_of, with_cell, updated}
 use Rattle.ot_model.specs.Value.{val, cell_at, applied}
@@ -13,7 +13,8 @@ use Rattle.ot_model.specs.declared.stmt.Mode.TheVariants.{Reads, Writes, Adds}
 use Rattle.ot_model.specs.declared.stmt.Use.{Use}
 use Rattle.ot_check.specs.Paths.{use_of}
 use Rattle.ot_check.specs.Touches.{EachRead, EachTouch, EachTouchOne, Agree, AreApart}
-use Rattle.ot_check.proofs.GridLemmas.{cells_apart, cells_same}
+use Rattle.ot_model.proofs.CellsLemmas as model
+use Rattle.ot_model.proofs.SerialLemmas.{either-ap, serial-bump}
 
 -- ---- weaker
 
@@ -51,31 +52,7 @@ with_cell-swap : (cells : List (List ℕ)) (c d : Cell) (f g : ℕ → ℕ) → 
     → with_cell (with_cell cells c f) d g ≡ with_cell (with_cell cells d g) c f
 with_cell-swap cells c d f g swap =
     updated-swap cells c.array d.array (λ row. updated row c.index f) (λ row. updated row d.index g)
-    (λ arrays row. updated-swap row c.index d.index f g (λ indices. swap (cells_same c d arrays indices)))
-
-slice_get-other : {A : Type 0} (xs : List A) (i j : ℕ) (f : A → A) → i ≢ j → slice_get (updated xs i f) j ≡ slice_get xs j
-slice_get-other [] i j f apart = refl
-slice_get-other (x ∷ xs) zero zero f apart = absurd (apart refl)
-slice_get-other (x ∷ xs) zero (suc j) f apart = refl
-slice_get-other (x ∷ xs) (suc i) zero f apart = refl
-slice_get-other (x ∷ xs) (suc i) (suc j) f apart = slice_get-other xs i j f (λ e. apart (ap suc e))
-
-slice_get-through : {A B : Type 0} (xs : List A) (i : ℕ) (f : A → A) (g : A → Option B) → ((x : A) → g (f x) ≡ g x)
-    → option_and_then g (slice_get (updated xs i f) i) ≡ option_and_then g (slice_get xs i)
-slice_get-through [] i f g same = refl
-slice_get-through (x ∷ xs) zero f g same = same x
-slice_get-through (x ∷ xs) (suc i) f g same = slice_get-through xs i f g same
-
-pub cell_of-other : (cells : List (List ℕ)) (c d : Cell) (f : ℕ → ℕ) → c ≢ d → cell_of (with_cell cells c f) d ≡ cell_of cells d
-cell_of-other cells c d f apart =
-    elim (cells_apart c d apart) [
-      | inl arrays ↦ ap (option_and_then (λ row. slice_get row d.index)) (slice_get-other cells c.array d.array (λ row. updated row c.index f) arrays)
-      | inr both ↦
-          subst (λ a. option_and_then (λ row. slice_get row d.index) (slice_get (with_cell cells c f) a) ≡ option_and_then (λ row. slice_get row d.index) (slice_get cells a))
-          both.0
-          (slice_get-through cells c.array (λ row. updated row c.index f) (λ row. slice_get row d.index)
-          (λ row. slice_get-other row c.index d.index f both.1))
-    ]
+    (λ arrays row. updated-swap row c.index d.index f g (λ indices. swap (model.same_cell c d arrays indices)))
 
 -- ---- values
 
@@ -92,37 +69,11 @@ value-same look other (PickFrom s e) h =
 abbrev state-at : List (List ℕ) → ℕ → ℕ → State
 state-at cells tasks units = record { cells = cells; tasks = tasks; units = units }
 
-bump-bump : (a b c d : ℕ) (s : State) → bump a b (bump c d s) ≡ bump c d (bump a b s)
-bump-bump a b c d s =
-    let t : s.tasks + c + a ≡ s.tasks + a + c = omega arith in
-    let u : s.units + d + b ≡ s.units + b + d = omega arith in
-    ap (λ n. state-at s.cells n (s.units + d + b)) t ∙ ap (state-at s.cells (s.tasks + a + c)) u
-
-if-both : {A B : Type 0} (g : A → B) (b : Bool) (one two : A) → g (if b then one else two) ≡ (if b then g one else g two)
-if-both g true one two = refl
-if-both g false one two = refl
-
 either-both : {A B : Type 0} (g : A → B) (n : ℕ) (one two : A) → g (either n one two) ≡ either n (g one) (g two)
-either-both g n one two = if-both g (n == 0) two one
+either-both g n one two = sym (either-ap n one two g)
 
 either-same : {A : Type 0} (n m : ℕ) (one two three four : A) → n ≡ m → one ≡ three → two ≡ four → either n one two ≡ either m three four
 either-same n m one two three four p q r = ap (λ n. either n one two) p ∙ ap (λ x. either m x two) q ∙ ap (either m three) r
-
-mutual
-  serial_one-bump : (x : S) (a b : ℕ) (s : State) → serial_one x (bump a b s) ≡ bump a b (serial_one x s)
-  serial_one-bump (Set c e) a b s = bump-bump 0 1 a b (change s c (λ _. val (cell_of s.cells) e))
-  serial_one-bump (Add c e) a b s = bump-bump 0 1 a b (change s c (λ n. (n + val (cell_of s.cells) e) % 2 ^ 64))
-  serial_one-bump (If e p q) a b s =
-      either-same (val (cell_of s.cells) e) (val (cell_of s.cells) e) _ _ _ _ refl
-      (ap (serial p) (bump-bump 0 1 a b s) ∙ serial-bump p a b (bump 0 1 s)) (ap (serial q) (bump-bump 0 1 a b s) ∙ serial-bump q a b (bump 0 1 s))
-      ∙ sym (either-both (bump a b) (val (cell_of s.cells) e) (serial p (bump 0 1 s)) (serial q (bump 0 1 s)))
-  serial_one-bump (Task d p) a b s = ap (serial p) (bump-bump 1 1 a b s) ∙ serial-bump p a b (bump 1 1 s)
-  serial_one-bump Wait a b s = bump-bump 0 1 a b s
-  serial_one-bump (Group cs p) a b s = ap (serial p) (bump-bump 0 1 a b s) ∙ serial-bump p a b (bump 0 1 s)
-
-  serial-bump : (p : Body) (a b : ℕ) (s : State) → serial p (bump a b s) ≡ bump a b (serial p s)
-  serial-bump End a b s = refl
-  serial-bump (Next x rest) a b s = ap (serial rest) (serial_one-bump x a b s) ∙ serial-bump rest a b (serial_one x s)
 
 if-one : {A : Type 0} (b : Bool) (x : A) → (if b then x else x) ≡ x
 if-one true x = refl
@@ -148,8 +99,8 @@ adds_reads e = cc
 
 mutual
   frame_one : (c : Cell) (x : S) (s : State) → EachTouchOne (Spares c) x → cell_of (serial_one x s).cells c ≡ cell_of s.cells c
-  frame_one c (Set d e) s h = cell_of-other s.cells d c (λ _. val (cell_of s.cells) e) (spared c d Writes writes_reads h.1)
-  frame_one c (Add d e) s h = cell_of-other s.cells d c (λ n. (n + val (cell_of s.cells) e) % 2 ^ 64) (spared c d Adds adds_reads h.1)
+  frame_one c (Set d e) s h = model.cell_of-with_cell-other s.cells d c (λ _. val (cell_of s.cells) e) (spared c d Writes writes_reads h.1)
+  frame_one c (Add d e) s h = model.cell_of-with_cell-other s.cells d c (λ n. (n + val (cell_of s.cells) e) % 2 ^ 64) (spared c d Adds adds_reads h.1)
   frame_one c (If e p q) s h =
       either-both (λ t. cell_of t.cells c) (val (cell_of s.cells) e) (serial p (bump 0 1 s)) (serial q (bump 0 1 s))
       ∙ either-same (val (cell_of s.cells) e) (val (cell_of s.cells) e) _ _ (cell_of s.cells c) (cell_of s.cells c) refl (frame c p (bump 0 1 s) h.1) (frame c q (bump 0 1 s) h.2)
@@ -179,15 +130,10 @@ read-elsewhere : (s : State) (c : Cell) (f : ℕ → ℕ) (e : E) → EachRead (
 read-elsewhere s c f e h =
     value-same (cell_of (with_cell s.cells c f)) (cell_of s.cells) e
     (read-weaker (λ d. Commutes c f (use_of Reads d)) (λ d. cell_of (with_cell s.cells c f) d ≡ cell_of s.cells d) e
-    (λ d g. cell_of-other s.cells c d f (λ same. reads_adds (g (sym same)).0)) h)
-
-updated-same : {A : Type 0} (xs : List A) (i : ℕ) (f g : A → A) → ((x : A) → f x ≡ g x) → updated xs i f ≡ updated xs i g
-updated-same [] i f g same = refl
-updated-same (x ∷ xs) zero f g same = ap (λ y. y ∷ xs) (same x)
-updated-same (x ∷ xs) (suc i) f g same = ap (λ ys. x ∷ ys) (updated-same xs i f g same)
+    (λ d g. model.cell_of-with_cell-other s.cells c d f (λ same. reads_adds (g (sym same)).0)) h)
 
 change-same : (s : State) (c : Cell) (f g : ℕ → ℕ) → ((n : ℕ) → f n ≡ g n) → change s c f ≡ change s c g
-change-same s c f g same = ap (λ cells. state-at cells s.tasks s.units) (updated-same s.cells c.array _ _ (λ row. updated-same row c.index f g same))
+change-same s c f g same = ap (λ cells. state-at cells s.tasks s.units) (model.updated-same s.cells c.array _ _ (λ row. model.updated-same row c.index f g same))
 
 change-swap : (s : State) (c d : Cell) (f g : ℕ → ℕ) → (c ≡ d → (n : ℕ) → g (f n) ≡ f (g n)) → change (change s c f) d g ≡ change (change s d g) c f
 change-swap s c d f g swap = ap (λ cells. state-at cells s.tasks s.units) (with_cell-swap s.cells c d f g swap)

@@ -1,9 +1,9 @@
 -- Grids: what a write does, and what a grid of one value has.
-use Rattle.std.proofs.Common.{◌≡◌, ◌≢◌, ℕ, zero, suc, List, [], ◌∷◌, length, get_or, set, refl, sym, ap, subst, ◌∙◌, ◌⊎◌, inl, inr}
-use Rattle.std.proofs.lemmas.Bool.{cases_eq}
+use Rattle.std.proofs.Common.{◌≡◌, ◌≢◌, ℕ, zero, suc, List, [], ◌∷◌, length, get_or, set, refl, sym, ap, subst, ◌∙◌, inl, inr}
 use Rattle.std.proofs.lemmas.List.{length-set, length-replicate}
 use Rattle.std.specs.Prelude.{Option, Some, None, IsSome, option_and_then, slice_get, replicate}
 use Rattle.ot_model.specs.declared.expr.Cell.{Cell}
+use Rattle.ot_model.proofs.CellsLemmas.{cells_apart}
 use Rattle.ot_check.specs.Grids.{found_at, widths, filled}
 
 slice_get-set_same : {A : Type 0} (xs : List A) (i : ℕ) (y : A) → IsSome (slice_get xs i) → slice_get (set xs i y) i ≡ Some y
@@ -38,19 +38,6 @@ found_at-written rows c row y is there =
     let at : slice_get rows c.array ≡ Some row = row_read rows c.array row (row_there (slice_get rows c.array) c.index there) is in
     ap (option_and_then (λ row. slice_get row c.index)) (slice_get-set_same rows c.array (set row c.index y) (row_there (slice_get rows c.array) c.index there))
     ∙ slice_get-set_same row c.index y (item_there (slice_get rows c.array) row c.index at there)
-
-pub cells_same : (c d : Cell) → c.array ≡ d.array → c.index ≡ d.index → c ≡ d
-cells_same c d array index =
-    let at : ℕ → ℕ → Cell = λ a i. record { array = a; index = i } in
-    ap (λ a. at a c.index) array ∙ ap (at d.array) index
-
--- two cells are apart by their arrays, or by their indices in one array
-pub cells_apart : (c d : Cell) → c ≢ d → (c.array ≢ d.array) ⊎ ((c.array ≡ d.array) × (c.index ≢ d.index))
-cells_apart c d apart =
-    elim (cases_eq c.array d.array) [
-      | inl array ↦ inr (array, λ index. apart (cells_same c d array index))
-      | inr other ↦ inl other
-    ]
 
 -- any other cell
 pub found_at-others : {A : Type 0} (rows : List (List A)) (c d : Cell) (row : List A) (y : A) → row ≡ get_or rows c.array row → IsSome (found_at rows c) → c ≢ d

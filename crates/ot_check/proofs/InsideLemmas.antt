@@ -21,7 +21,7 @@ use Rattle.ot_check.specs.Walk.{nobody, nothing_open, behind_one, with_group, of
 use Rattle.ot_check.specs.Touches.{EachRead, EachTouch, EachTouchOne, EachTask, EachTaskOne}
 use Rattle.ot_check.specs.declared.fault.Offence.{Offence}
 use Rattle.ot_check.specs.declared.fault.Offence.TheVariants.{NotDeclared, ChildBeyond, InOpenGroup, Unawaited, EndsUnawaited}
-use Rattle.ot_check.proofs.GridLemmas.{cells_same}
+use Rattle.ot_model.proofs.CellsLemmas as model
 use Rattle.ot_check.proofs.OffendsLemmas.{offends-Set, offends-Add, offends-If, offends-ChildBeyond, offends-InOpenGroup, offends-Group}
 use Rattle.ot_check.proofs.ApartLemmas.{touch-weaker}
 use Rattle.ot_check.proofs.PathsMet.{first-is_first}
@@ -137,7 +137,7 @@ same_is : (c d : Cell) → same_cell c d ≡ true → c ≡ d
 same_is c d h =
     let a : (c.array == d.array) ≡ true = and_left (c.array == d.array) (c.index == d.index) h in
     let i : (c.index == d.index) ≡ true = and_right (c.array == d.array) (c.index == d.index) h in
-    cells_same c d (grind (arith, nat_tests)) (grind (arith, nat_tests))
+    model.same_cell c d (grind (arith, nat_tests)) (grind (arith, nat_tests))
 
 both_false : (a b : Bool) → (not a && not b) ≡ false → (a ≡ true) ⊎ (b ≡ true)
 both_false true b h = inl refl

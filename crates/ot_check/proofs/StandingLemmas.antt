@@ -26,7 +26,8 @@ use Rattle.ot_check.specs.Grids.{found_at, widths, filled, Tells}
 use Rattle.ot_check.specs.States.{has, modes_of, state_of, cleared, joined, joined_rows, with_child, with_declared, in_group, Represents, one_more, of_both}
 use Rattle.ot_check.specs.declared.state.CellState.{CellState}
 use Rattle.ot_check.specs.declared.modes.Modes.{Modes}
-use Rattle.ot_check.proofs.GridLemmas.{cells_same, cells_apart, found_at-filled}
+use Rattle.ot_check.proofs.GridLemmas.{found_at-filled}
+use Rattle.ot_model.proofs.CellsLemmas as model
 use Rattle.ot_check.proofs.StateLemmas.{found_at-joined, found_at-cleared, at_map}
 use Rattle.ot_check.proofs.Bits.{or_none, and_false, or_assoc, any-same, none_any}
 
@@ -56,7 +57,7 @@ eq_apart n m apart = grind (arith, nat_tests)
 
 same_apart : (c d : Cell) → c ≢ d → same_cell c d ≡ false
 same_apart c d apart =
-    elim (cells_apart c d apart) [
+    elim (model.cells_apart c d apart) [
       | inl array ↦ ap (λ b. b && (c.index == d.index)) (eq_apart c.array d.array array)
       | inr both ↦ ap (λ b. (c.array == d.array) && b) (eq_apart c.index d.index both.1) ∙ and_false (c.array == d.array)
     ]
@@ -65,7 +66,7 @@ cells_equal : (c d : Cell) → (c ≡ d) ⊎ (c ≢ d)
 cells_equal c d =
     elim (cases_eq c.array d.array) [
       | inl array ↦ elim (cases_eq c.index d.index) [
-        | inl index ↦ inl (cells_same c d array index)
+        | inl index ↦ inl (model.same_cell c d array index)
         | inr apart ↦ inr (λ e. apart (ap (λ c. c.index) e))
       ]
       | inr apart ↦ inr (λ e. apart (ap (λ c. c.array) e))
