@@ -1,5 +1,9 @@
 pub mod TreeLemmas
 pub mod CellsLemmas
+pub mod EqualLemmas
+pub mod OrderLemmas
+pub mod MeetingLemmas
 pub mod NamesLemmas
 pub mod CountsLemmas
 pub mod SerialLemmas
+pub mod SameLemmas

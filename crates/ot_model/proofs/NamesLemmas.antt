@@ -28,7 +28,7 @@ all_from_names cells (Apply o a b) h = (all_from_names cells a h.0, all_from_nam
 all_from_names cells (PickFrom s e) h =
     let f = h.0 in (
       f.some,
-      omega (arith, f.within, f.short),
+      f.short,
       (λ k below. found_from_in cells (cell_at s k) (record { len = f.len; array = f.array; within = omega (arith, f.within) })),
       all_from_names cells e h.1,
     )
@@ -37,12 +37,3 @@ all_from_names cells (PickFrom s e) h =
 pub NamedIn-append : (lens : List ℕ) (a b : Body) → NamedIn lens a → NamedIn lens b → NamedIn lens (append a b)
 NamedIn-append lens End b h k = k
 NamedIn-append lens (Next x rest) b h k = (h.0, NamedIn-append lens rest b h.1 k)
-
--- a cell of a shape of one array
-pub in_one_array : (n : ℕ) (c : Cell) → c.array ≡ 0 → c.index < n → IsInShape (n ∷ []) c
-in_one_array n c array within = record { len = n; array = ap (slice_get (n ∷ [])) array; within = within }
-
--- a section of a shape of one array
-pub fits_one_array : (n : ℕ) (s : Section) → s.array ≡ 0 → s.start + s.len ≤ n → n ≤ 2 ^ 32 → 0 < s.len → FitsShape (n ∷ []) s
-fits_one_array n s array within short some =
-    record { len = n; array = ap (slice_get (n ∷ [])) array; within = within; short = short; some = some }

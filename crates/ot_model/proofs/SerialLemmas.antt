@@ -1,4 +1,4 @@
--- Laws of the serial meaning: bodies in parts, counts, and cells that nothing writes.
+-- The serial meaning: bodies in parts, and counts.
 use Rattle.std.proofs.Common.{◌≡◌, ◌≤◌, ◌+◌, ◌%◌, ◌^◌, ℕ, true, false, List, refl, sym, ap, ◌∙◌, zero-add, arith}
 use Rattle.std.specs.Prelude.{◌==◌, if◌then◌else◌, Bool}
 use Rattle.ot_model.specs.Tree.{Set, Add, If, Task, Wait, Group, Body, End, Next, append}
@@ -6,9 +6,6 @@ use Rattle.ot_model.specs.Cells.{cell_of}
 use Rattle.ot_model.specs.Value.{val}
 use Rattle.ot_model.specs.Counts.{size, tasks_in}
 use Rattle.ot_model.specs.Serial.{State, bump, change, either, serial, serial_run}
-use Rattle.ot_model.specs.Writes.{NeverWrites}
-use Rattle.ot_model.specs.declared.expr.Cell.{Cell}
-use Rattle.ot_model.proofs.CellsLemmas.{cell_of-with_cell-other}
 
 -- a body of two parts is run as the one and then the other
 pub serial-append : (a b : Body) (s : State) → serial (append a b) s ≡ serial b (serial a s)
@@ -101,16 +98,3 @@ pub serial_run-≤ : (b : Body) (cells : List (List ℕ)) → ((serial_run b cel
 serial_run-≤ b cells =
     let s : State = record { cells = cells; tasks = 0; units = 0 } in
     (omega (arith, serial-tasks-≤ b s), omega (arith, serial-units-≤ b s))
-
--- a cell that nothing writes stays
-pub frame : (cell : Cell) (b : Body) → NeverWrites cell b → (s : State) → cell_of (serial b s).cells cell ≡ cell_of s.cells cell
-frame cell End h s = refl
-frame cell (Next (Set c e) rest) h s = frame cell rest h.1 _ ∙ cell_of-with_cell-other s.cells c cell _ h.0
-frame cell (Next (Add c e) rest) h s = frame cell rest h.1 _ ∙ cell_of-with_cell-other s.cells c cell _ h.0
-frame cell (Next (If e a b) rest) h s =
-    frame cell rest h.1 _
-    ∙ either-both (val (cell_of s.cells) e) (serial a (bump 0 1 s)) (serial b (bump 0 1 s)) (λ x. cell_of x.cells cell ≡ cell_of s.cells cell)
-    (frame cell a h.0.0 (bump 0 1 s)) (frame cell b h.0.1 (bump 0 1 s))
-frame cell (Next (Task d b) rest) h s = frame cell rest h.1 _ ∙ frame cell b h.0 (bump 1 1 s)
-frame cell (Next Wait rest) h s = frame cell rest h.1 _
-frame cell (Next (Group cs b) rest) h s = frame cell rest h.1 _ ∙ frame cell b h.0 (bump 0 1 s)

@@ -1,6 +1,14 @@
 -- Cells, as a list of numbers for each array.
-use Rattle.std.specs.Prelude.{ℕ, zero, suc, List, [], ◌∷◌, map, length, Option, slice_get, option_and_then}
+use Rattle.std.specs.Prelude.{ℕ, zero, suc, ◌==◌, nat_lt, Bool, ◌&&◌, ◌||◌, List, [], ◌∷◌, map, length, Option, slice_get, option_and_then}
 use Rattle.ot_model.specs.declared.expr.Cell.{Cell}
+
+-- whether two are one cell
+abbrev pub same_cell : Cell → Cell → Bool
+same_cell c d = (c.array == d.array) && (c.index == d.index)
+
+-- whether one comes before the other: by array, then by index
+abbrev pub is_before : Cell → Cell → Bool
+is_before c d = nat_lt c.array d.array || (c.array == d.array && nat_lt c.index d.index)
 
 -- the cell's number, where the cell is there
 abbrev pub cell_of : List (List ℕ) → Cell → Option ℕ

@@ -3,13 +3,12 @@ pub mod View
 pub mod Cells
 pub mod Value
 pub mod Uses
+pub mod Meeting
 pub mod Shapes
 pub mod ShapeView
 pub mod Counts
 pub mod Grouped
 pub mod Serial
-pub mod Writes
-pub mod Laws
 pub mod Names
 pub mod Runs
 pub mod Programs

@@ -3,6 +3,7 @@ use Rattle.std.specs.Prelude.{◌≡◌, ℕ, ◌+◌, ◌<◌, ◌≤◌, ◌^�
 use Rattle.ot_model.specs.Tree.{E, Literal, CellAt, Apply, PickFrom, S, Set, Add, If, Task, Wait, Group, Body, End, Next}
 use Rattle.ot_model.specs.declared.expr.Cell.{Cell}
 use Rattle.ot_model.specs.declared.expr.Section.{Section}
+use Rattle.ot_model.specs.declared.stmt.Use.{Use}
 
 -- the cell's array is there, and longer than the cell's index
 pub record IsInShape (lens : List ℕ) (c : Cell) : Type 0 where
@@ -15,8 +16,16 @@ pub record FitsShape (lens : List ℕ) (s : Section) : Type 0 where
   pub len : ℕ
   pub array : slice_get lens s.array ≡ Some len
   pub within : s.start + s.len ≤ len
-  pub short : len ≤ 2 ^ 32
+  pub short : s.start + s.len ≤ 2 ^ 32
   pub some : 0 < s.len
+
+-- each of these cells is in the shape
+abbrev pub AreInShape : List ℕ → List Cell → Type 0
+AreInShape lens cells = All (IsInShape lens) cells
+
+-- each declared cell is
+abbrev pub AreDeclaredIn : List ℕ → List Use → Type 0
+AreDeclaredIn lens uses = All (λ u. IsInShape lens u.cell) uses
 
 abbrev pub ValueNamedIn : List ℕ → E → Type 0
 ValueNamedIn lens (Literal n) = Unit {0}
@@ -29,9 +38,9 @@ abbrev mutual
   OneNamedIn lens (Set c e) = IsInShape lens c × ValueNamedIn lens e
   OneNamedIn lens (Add c e) = IsInShape lens c × ValueNamedIn lens e
   OneNamedIn lens (If e a b) = ValueNamedIn lens e × NamedIn lens a × NamedIn lens b
-  OneNamedIn lens (Task d b) = All (λ u. IsInShape lens u.cell) d × NamedIn lens b
+  OneNamedIn lens (Task d b) = AreDeclaredIn lens d × NamedIn lens b
   OneNamedIn lens Wait = Unit {0}
-  OneNamedIn lens (Group cs b) = All (IsInShape lens) cs × NamedIn lens b
+  OneNamedIn lens (Group cs b) = AreInShape lens cs × NamedIn lens b
 
   pub NamedIn : List ℕ → Body → Type 0
   NamedIn lens End = Unit {0}

@@ -1,5 +1,6 @@
 -- The value of an expression.
-use Rattle.std.specs.Prelude.{ℕ, ◌+◌, ◌-◌, ◌*◌, ◌%◌, ◌^◌, ◌<◌, ◌≤◌, ◌==◌, min, max, nat_lt, if◌then◌else◌, bit_and, bit_or, bit_xor, Option, IsSome, unwrap_or}
+use Rattle.std.specs.Prelude.{ℕ, ◌+◌, ◌-◌, ◌*◌, ◌%◌, ◌^◌, ◌<◌, ◌≤◌, ◌==◌, min, max, nat_lt, if◌then◌else◌, bit_and, bit_or, bit_xor, List, [], ◌∷◌, ◌++◌, map, Option, IsSome, unwrap_or}
+use Rattle.std.specs.List.{range_with_len}
 use Rattle.ot_model.specs.Tree.{E, Literal, CellAt, Apply, PickFrom}
 use Rattle.ot_model.specs.declared.expr.Cell.{Cell}
 use Rattle.ot_model.specs.declared.expr.Section.{Section}
@@ -22,6 +23,17 @@ applied Max a b = max a b
 -- the cell of the section at k
 abbrev pub cell_at : Section → ℕ → Cell
 cell_at s k = record { array = s.array; index = s.start + k }
+
+-- the cells of a section in their order
+abbrev pub cells_of : Section → List Cell
+cells_of s = map (cell_at s) (range_with_len 0 s.len)
+
+-- the cells that a value names, of a pick every cell of its section
+abbrev pub cells_named : E → List Cell
+cells_named (Literal n) = []
+cells_named (CellAt c) = c ∷ []
+cells_named (Apply o a b) = cells_named a ++ cells_named b
+cells_named (PickFrom s e) = cells_of s ++ cells_named e
 
 -- the value where each cell has the number that is looked up
 abbrev pub val : (Cell → Option ℕ) → E → ℕ

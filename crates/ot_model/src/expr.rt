@@ -1,4 +1,4 @@
-ghost use Rattle.std.specs.Prelude.{◌≡◌, ℕ, ◌<◌, Option, Some, IsSome, IfOk};
+ghost use Rattle.std.specs.Prelude.{◌≡◌, ◌↔◌, IsTrue, ℕ, ◌<◌, Option, Some, IsSome, IfOk};
 ghost use Rattle.ot_model.specs.View.{expr_of};
 ghost use Rattle.ot_model.specs.Value.{val, HasAll};
 
@@ -9,6 +9,18 @@ use std::alloc::{AllocError, Global};
 pub struct Cell {
     pub array: u32,
     pub index: u32,
+}
+
+impl Cell {
+    ghost use Rattle.std.specs.Prelude.{◌≡◌};
+    ghost use Rattle.ot_model.specs.Cells.{is_before};
+
+    /// Whether it comes before another: by its array, then by its index.
+    pub fn is_before(self, other: Cell) -> bool
+        ensures { result ≡ is_before self other }
+    {
+        self.array < other.array || (self.array == other.array && self.index < other.index)
+    }
 }
 
 /// `len` cells of one array from `start` on (an array section, OpenMP API 5.2, section 3.2.5).
@@ -70,6 +82,19 @@ impl Expr {
             Expr::Pick(section, chosen) => {
                 Ok(Expr::Pick(*section, Box::new(alloc, chosen.copy(alloc)?)?))
             }
+        }
+    }
+
+    /// Whether the two are the same expression. It takes no memory.
+    pub fn same_as(&self, other: &Expr) -> bool
+        ensures { IsTrue result ↔ expr_of self.now ≡ expr_of other.now }
+    {
+        match (self, other) {
+            (Expr::Number(n), Expr::Number(m)) => n == m,
+            (Expr::Cell(c), Expr::Cell(d)) => c == d,
+            (Expr::Op(o, a, b), Expr::Op(p, x, y)) => o == p && a.same_as(x) && b.same_as(y),
+            (Expr::Pick(s, a), Expr::Pick(t, x)) => s == t && a.same_as(x),
+            (_, _) => false,
         }
     }
 }

@@ -5,7 +5,7 @@
 pub mod cells;
 pub mod expr;
 mod grouped;
-pub mod laws;
+mod meeting;
 pub mod plain;
 pub mod program;
 pub mod shape;
@@ -16,7 +16,4 @@ pub use expr::{Cell, Expr, Look, Op, Section, value};
 pub use plain::{Counts, plain_run};
 pub use program::Program;
 pub use shape::{ArrayShape, Shape};
-pub use stmt::{Decl, Mode, Stmt, Use, copy_stmts};
-
-#[cfg(test)]
-mod tests;
+pub use stmt::{Decl, Mode, Stmt, Use, copy_stmts, same_stmts};

@@ -1,12 +1,10 @@
 ghost use Rattle.std.specs.Prelude.{◌≡◌, ◌≤◌, ◌<◌, ◌+◌, ◌^◌, IsOk, IfOk};
 ghost use Rattle.ot_model.specs.View.{stmt_of, stmts_of};
-ghost use Rattle.ot_model.specs.Cells.{cell_of, lengths};
+ghost use Rattle.ot_model.specs.Cells.{lengths};
 ghost use Rattle.ot_model.specs.Counts.{size, size_one, tasks_in, tasks_in_one};
 ghost use Rattle.ot_model.specs.Serial.{serial, serial_one, serial_run};
 ghost use Rattle.ot_model.specs.Names.{NamedIn, OneNamedIn};
 ghost use Rattle.ot_model.specs.Runs.{state_of};
-ghost use Rattle.ot_model.specs.Writes.{NeverWrites};
-ghost use Rattle.ot_model.specs.declared.expr.Cell.{Cell};
 
 use crate::cells::Cells;
 use crate::expr::{Look, value};
@@ -30,10 +28,6 @@ pub fn plain_run(_alloc: Global, program: &Program, cells: &mut Cells) -> Result
     ensures works { IsOk result }
     ensures bounded_tasks { IfOk result (λ counts. counts.tasks ≤ program.now.tasks) }
     ensures bounded_units { IfOk result (λ counts. counts.units ≤ program.now.statements) }
-
-    // A cell that no statement of the program writes stays.
-    ensures frame { (cell : Cell) → NeverWrites cell (stmts_of program.now.body.items)
-        → cell_of cells.new cell ≡ cell_of cells.old cell }
 {
     let mut counts = Counts { tasks: 0, units: 0 };
     run_all(&program.body, cells, &mut counts);

@@ -1,7 +1,8 @@
-ghost use Rattle.std.specs.Prelude.{◌≡◌, IfOk, map};
-ghost use Rattle.ot_model.specs.View.{stmt_of};
+ghost use Rattle.std.specs.Prelude.{◌≡◌, ◌↔◌, IsTrue, IfOk, map};
+ghost use Rattle.ot_model.specs.View.{stmt_of, stmts_of};
 
 use crate::expr::{Cell, Expr};
+use crate::meeting::{Question, meet};
 use std::alloc::{AllocError, Global};
 use std::marker::Model;
 
@@ -18,14 +19,11 @@ pub enum Mode {
 }
 
 impl Mode {
-    ghost use Rattle.std.specs.Prelude.{ℕ};
-    ghost use Rattle.ot_model.specs.declared.stmt.Mode.TheVariants.{Adds};
     ghost use Rattle.ot_model.specs.Uses.{conflicts, one_writes, first_of, joined};
 
     /// Whether uses of one cell in these modes conflict: they do unless both read or both add.
     pub fn conflicts(self, other: Mode) -> bool
-        ensures exact { result ≡ conflicts self other }
-        ensures either_way { result ≡ conflicts other self }
+        ensures { result ≡ conflicts self other }
     {
         !matches!(
             (self, other),
@@ -36,8 +34,7 @@ impl Mode {
     /// Whether at least one of two uses of a cell is a write. Then the later sibling depends on the
     /// earlier one.
     pub fn one_writes(self, other: Mode) -> bool
-        ensures exact { result ≡ one_writes self other }
-        ensures either_way { result ≡ one_writes other self }
+        ensures { result ≡ one_writes self other }
     {
         matches!(self, Mode::Writes) || matches!(other, Mode::Writes)
     }
@@ -53,12 +50,10 @@ impl Mode {
         }
     }
 
-    /// The stored number once a copy has come back. Copies that add come back in any order.
+    /// The stored number once a copy has come back.
     pub fn joined(self, stored: u64, copy: u64) -> u64
         ensures exact { result ≡ joined self stored copy }
         ensures unchanged { copy ≡ first_of self stored → result ≡ stored }
-        ensures any_order { self ≡ Adds → (other : ℕ)
-            → joined self result other ≡ joined self (joined self stored other) copy }
     {
         match self {
             Mode::Reads => stored,
@@ -114,25 +109,18 @@ impl Decl {
     }
 
     /// Whether a task with this declaration depends on an earlier sibling with that one: they share
-    /// a cell that at least one of the two writes.
+    /// a cell that at least one of the two writes. It passes once over both.
     pub fn depends_on(&self, earlier: &Decl) -> bool
         ensures { IsTrue result ↔ DependsOn earlier.now self.now }
     {
-        earlier.uses.iter().any(|one| {
-            self.uses.iter().any(|two| one.cell == two.cell && one.mode.one_writes(two.mode))
-        })
+        meet(Question::IsWritten, &earlier.uses, &self.uses)
     }
 
-    /// Whether the two conflict at a cell.
+    /// Whether the two conflict at a cell. It passes once over both.
     pub fn conflicts(&self, other: &Decl) -> bool
         ensures { IsTrue result ↔ Conflict self.now other.now }
     {
-        self.uses.iter().any(|one| {
-            other
-                .uses
-                .iter()
-                .any(|two| one.cell == two.cell && one.mode.conflicts(two.mode))
-        })
+        meet(Question::Conflicts, &self.uses, &other.uses)
     }
 
     /// The same declaration once more.
@@ -141,6 +129,13 @@ impl Decl {
     {
         let uses = Vec::from_slice(alloc, &self.uses)?;
         Ok(Decl { uses })
+    }
+
+    /// Whether the two declare the same. It takes no memory.
+    pub fn same_as(&self, other: &Decl) -> bool
+        ensures { IsTrue result ↔ self.now ≡ other.now }
+    {
+        self.uses.as_slice() == other.uses.as_slice()
     }
 }
 
@@ -188,6 +183,26 @@ impl Stmt {
             }
         }
     }
+
+    /// Whether the two are the same statement. It takes no memory.
+    #[cycle(same)]
+    pub fn same_as(&self, other: &Stmt) -> bool
+        ensures { IsTrue result ↔ stmt_of self.now ≡ stmt_of other.now }
+    {
+        match (self, other) {
+            (Stmt::Set(c, a), Stmt::Set(d, x)) => c == d && a.same_as(x),
+            (Stmt::Add(c, a), Stmt::Add(d, x)) => c == d && a.same_as(x),
+            (Stmt::If(a, one, two), Stmt::If(x, three, four)) => {
+                a.same_as(x) && same_stmts(one, three) && same_stmts(two, four)
+            }
+            (Stmt::Task(d, one), Stmt::Task(e, two)) => d.same_as(e) && same_stmts(one, two),
+            (Stmt::Wait, Stmt::Wait) => true,
+            (Stmt::Group(c, one), Stmt::Group(d, two)) => {
+                same_cells(c, d) && same_stmts(one, two)
+            }
+            (_, _) => false,
+        }
+    }
 }
 
 /// The same statements once more.
@@ -200,4 +215,26 @@ pub fn copy_stmts(alloc: Global, stmts: &[Stmt]) -> Result<Vec<Stmt>, AllocError
         copies.push(stmt.copy(alloc)?)?;
     }
     Ok(copies)
+}
+
+fn same_cells(ones: &[Cell], twos: &[Cell]) -> bool
+    ensures { IsTrue result ↔ ones.now ≡ twos.now }
+{
+    ones == twos
+}
+
+/// Whether the two are the same statements. It takes no memory.
+#[cycle(same)]
+pub fn same_stmts(ones: &[Stmt], twos: &[Stmt]) -> bool
+    ensures { IsTrue result ↔ stmts_of ones.now ≡ stmts_of twos.now }
+{
+    if ones.len() != twos.len() {
+        return false;
+    }
+    for i in 0..ones.len() {
+        if !ones[i].same_as(&twos[i]) {
+            return false;
+        }
+    }
+    true
 }
