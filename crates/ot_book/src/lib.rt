@@ -14,6 +14,3 @@ pub use job::{Executor, JobSpec, NotDone, Outcome, Solo};
 pub use limits::Limits;
 pub use reply::{Code, Reply, reply_text};
 pub use store::{Store, StoreFault};
-
-#[cfg(test)]
-mod tests;

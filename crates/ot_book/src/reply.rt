@@ -1,12 +1,12 @@
-ghost use Rattle.std.specs.Prelude.{◌≡◌, map, IfOk, string_bytes};
-ghost use Rattle.serde_json.specs.Data.{array};
+ghost use Rattle.std.specs.Prelude.{◌≡◌, [], ◌∷◌, ◌++◌, map, IfOk, string_bytes};
+ghost use Rattle.serde_json.specs.Data.{array, string};
 ghost use Rattle.serde_json.specs.View.{view, items_of};
-ghost use Rattle.ot_book.specs.Replies.{json_of, nats, text_of};
+ghost use Rattle.ot_book.specs.Replies.{json_of, nat, nats, text_of};
 ghost use Rattle.ot_book.specs.ReplyView.{said_of};
 
 use crate::store::StoreFault;
 use ot_program::{ProgramFault, Refusal};
-use serde_json::{Value, json};
+use serde_json::Value;
 use std::alloc::{AllocError, AllocFailed, Global};
 
 /// Why a request was refused.
@@ -130,17 +130,39 @@ fn reply_value(alloc: Global, reply: &Reply) -> Result<Value, AllocError>
     ensures { IfOk result (λ value. view value ≡ json_of (said_of reply.now)) }
 {
     match reply {
-        Reply::Accepted(number) => json!(in alloc; ["ok", *number]),
+        Reply::Accepted(number) => Ok(Value::Array(listed(alloc, "ok", &[*number])?)),
         Reply::Cells(number, values) => {
-            let values = numbers_value(alloc, values)?;
-            json!(in alloc; ["cells", *number, values])
+            let list = listed(alloc, "cells", &[*number])?;
+            with_last(list, numbers_value(alloc, values)?)
         }
         Reply::Done(number, tasks, units, shows) => {
-            let shows = shows_value(alloc, shows)?;
-            json!(in alloc; ["done", *number, *tasks, *units, shows])
+            let list = listed(alloc, "done", &[*number, *tasks, *units])?;
+            with_last(list, shows_value(alloc, shows)?)
         }
-        Reply::Refused(number, code) => json!(in alloc; ["err", *number, code.number()]),
+        Reply::Refused(number, code) => {
+            Ok(Value::Array(listed(alloc, "err", &[*number, code.number()])?))
+        }
     }
+}
+
+/// A word, and then numbers.
+fn listed(alloc: Global, word: &str, numbers: &[u32]) -> Result<Vec<Value>, AllocError>
+    ensures { IfOk result (λ list. map view list.items ≡ string word.now ∷ map nat numbers.now) }
+{
+    let mut list = Vec::with_capacity(alloc, numbers.len() + 2)?;
+    list.push(Value::String(String::from_str(alloc, word)?))?;
+    for number in numbers {
+        list.push(Value::from(*number))?;
+    }
+    Ok(list)
+}
+
+fn with_last(list: Vec<Value>, last: Value) -> Result<Value, AllocError>
+    ensures { IfOk result (λ value. view value ≡ array (items_of (map view list.items ++ view last ∷ []))) }
+{
+    let mut list = list;
+    list.push(last)?;
+    Ok(Value::Array(list))
 }
 
 fn numbers_value(alloc: Global, numbers: &Vec<u64>) -> Result<Value, AllocError>

@@ -1,2 +1,4 @@
 pub mod SiblingsLemmas
 pub mod ViewLemmas
+pub mod ReadyLemmas
+pub mod CountLemmas

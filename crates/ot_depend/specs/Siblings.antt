@@ -1,8 +1,8 @@
 -- The children of one body in order of their creation, and which of them may run.
-use Rattle.std.specs.Prelude.{◌≡◌, ◌<◌, ◌==◌, ◌&&◌, ℕ, Bool, true, false, not, IsTrue, List, Some, slice_get}
-use Rattle.std.specs.List.{list_any}
-use Rattle.ot_model.specs.Cells.{updated}
-use Rattle.ot_model.specs.Uses.{DependsOn}
+use Rattle.std.specs.Prelude.{◌≡◌, ◌<◌, ◌==◌, ◌&&◌, ◌||◌, ℕ, Bool, true, false, not, IsTrue, List, Some, take, option_map, unwrap_or, slice_get}
+use Rattle.std.specs.List.{list_any, list_all}
+use Rattle.ot_model.specs.Cells.{updated, same_cell}
+use Rattle.ot_model.specs.Uses.{DependsOn, one_writes}
 use Rattle.ot_model.specs.declared.stmt.Use.{Use}
 
 -- a child: what it declares, the groups that were open where it was created, and whether it has finished
@@ -26,6 +26,16 @@ pub record IsReady (siblings : List Sibling) (child : ℕ) : Type 0 where
   pub awaited : (place : ℕ) (earlier : Sibling) → place < child → slice_get siblings place ≡ Some earlier →
       DependsOn earlier.uses itself.uses → IsTrue earlier.finished
 
+-- whether a later sibling depends on an earlier one
+abbrev pub depends_on : (earlier later : List Use) → Bool
+depends_on earlier later = list_any (λ u. list_any (λ v. same_cell u.cell v.cell && one_writes u.mode v.mode) later) earlier
+
+-- whether the child is ready
+abbrev pub is_ready : List Sibling → ℕ → Bool
+is_ready siblings child =
+    let waits_for_none = λ (itself : Sibling). list_all (λ earlier. earlier.finished || not (depends_on earlier.uses itself.uses)) (take child siblings) in
+    unwrap_or (option_map waits_for_none (slice_get siblings child)) false
+
 -- the child is known, and has not finished
 pub record IsUnfinished (siblings : List Sibling) (child : ℕ) : Type 0 where
   pub itself : Sibling
@@ -41,6 +51,10 @@ FinishedAreReady siblings =
 abbrev pub is_unfinished : Sibling → Bool
 is_unfinished s = not s.finished
 
--- whether it has not finished, and this group was open where it was created (OpenMP API 5.2, section 15.4)
+-- whether this group was open where it was created (OpenMP API 5.2, section 15.4)
+abbrev pub is_in : ℕ → Sibling → Bool
+is_in group s = list_any (λ g. g == group) s.groups
+
+-- whether it has not finished, and was created in this group
 abbrev pub is_unfinished_in : ℕ → Sibling → Bool
-is_unfinished_in group s = is_unfinished s && list_any (λ g. g == group) s.groups
+is_unfinished_in group s = is_unfinished s && is_in group s

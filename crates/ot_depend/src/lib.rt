@@ -1,9 +1,7 @@
 //! The children of one body, and which of them may run.
 #![tactic(auto)]
 
+pub mod laws;
 pub mod siblings;
 
 pub use siblings::Siblings;
-
-#[cfg(test)]
-mod tests;

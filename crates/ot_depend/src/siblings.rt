@@ -55,7 +55,7 @@ impl Model for Siblings {
 
 impl Siblings {
     ghost use Rattle.std.specs.Prelude.{◌≡◌, ◌++◌, ◌↔◌, [], ◌∷◌, IsTrue, IfOk, OnOk, OnErr, length, count_by};
-    ghost use Rattle.ot_depend.specs.Siblings.{IsReady, IsUnfinished, FinishedAreReady, created, with_finished, is_unfinished, is_unfinished_in};
+    ghost use Rattle.ot_depend.specs.Siblings.{IsReady, IsUnfinished, FinishedAreReady, created, with_finished, is_ready, is_unfinished, is_unfinished_in};
 
     /// No children. It takes no memory.
     pub fn new(alloc: Global) -> Siblings
@@ -99,6 +99,7 @@ impl Siblings {
     /// false, of a child that has finished it is true. It takes no memory.
     pub fn ready(&self, child: usize) -> bool
         ensures exact { IsTrue result ↔ IsReady self.now child }
+        ensures test { result ≡ is_ready self.now child }
         ensures finished { FinishedAreReady self.now }
     {
         let Some(later) = self.children.get(child) else {

@@ -8,10 +8,12 @@ use Rattle.std.specs.List.{All}
 use Rattle.std.specs.Prelude.{Option, Some, option_map}
 use Rattle.ot_model.specs.Uses.{joined, AreInOrder}
 use Rattle.ot_model.specs.declared.expr.Cell.{Cell}
+use Rattle.ot_model.specs.declared.stmt.Mode.TheVariants.{Adds}
 use Rattle.ot_owner.specs.declared.lent.LentCell.{LentCell}
 use Rattle.ot_owner.specs.Lending.{uses_of, IsLent}
 use Rattle.ot_owner.specs.Worth.{AreJoined}
-use Rattle.ot_owner.proofs.OrderLemmas.{precedes_apart, each_precedes}
+use Rattle.ot_model.proofs.OrderLemmas.{precedes_apart}
+use Rattle.ot_owner.proofs.OrderLemmas.{each_precedes}
 
 -- what is lent before a place is of other cells
 pub others_before : (lent : List LentCell) (k : ℕ) (x : LentCell) → AreInOrder (uses_of lent) → k < length lent → x ≡ get_or lent k x → All (λ l. l.cell ≢ x.cell) (take k lent)
@@ -34,25 +36,34 @@ lent_push lent x cell (k, l, within, is, same) =
 abbrev IsJoined : (before after : Cell → Option ℕ) → LentCell → Type 0
 IsJoined before after l = after l.cell ≡ option_map (λ n. joined l.mode n l.value) (before l.cell)
 
+-- a lent cell whose copy adds nothing has the number that it had
+abbrev IsUntouched : (before after : Cell → Option ℕ) → LentCell → Type 0
+IsUntouched before after l = l.mode ≡ Adds → l.value ≡ 0 → after l.cell ≡ before l.cell
+
 -- one more lent cell
 joined-push : (lent : List LentCell) (x : LentCell) (before mid after : Cell → Option ℕ) (stored : ℕ) → AreJoined lent before mid → All (λ l. l.cell ≢ x.cell) lent →
-    mid x.cell ≡ Some stored → after x.cell ≡ Some (joined x.mode stored x.value) → ((other : Cell) → x.cell ≢ other → after other ≡ mid other) → AreJoined (lent ++ x ∷ []) before after
-joined-push lent x before mid after stored soon apart there now others =
+    mid x.cell ≡ Some stored → after x.cell ≡ Some (joined x.mode stored x.value) → IsUntouched mid after x →
+    ((other : Cell) → x.cell ≢ other → after other ≡ mid other) → AreJoined (lent ++ x ∷ []) before after
+joined-push lent x before mid after stored soon apart there now idle others =
     let earlier : All (IsJoined before after) lent =
     λ k d within. others (get_or lent k d).cell (λ same. apart k d within (sym same)) ∙ soon.lent_cells k d within in
-    let was : before x.cell ≡ Some stored = sym (soon.others x.cell (not_lent lent x.cell apart)) ∙ there in
+    let same : mid x.cell ≡ before x.cell = soon.others x.cell (not_lent lent x.cell apart) in
+    let was : before x.cell ≡ Some stored = sym same ∙ there in
     let last : IsJoined before after x = now ∙ sym (ap (option_map (λ n. joined x.mode n x.value)) was) in
     record {
       lent_cells = All-push (IsJoined before after) lent x earlier last;
+      untouched = All-push (IsUntouched before after) lent x
+          (λ k d within adds none. others (get_or lent k d).cell (λ same. apart k d within (sym same)) ∙ soon.untouched k d within adds none)
+          (λ adds none. idle adds none ∙ same);
       others = λ other away. others other (λ same. away (Any-push (λ l. l.cell ≡ other) lent x same))
           ∙ soon.others other (λ here. away (lent_push lent x other here));
     }
 
 -- the step of the loop
 pub joined-more : (lent : List LentCell) (k : ℕ) (x : LentCell) (before mid after : Cell → Option ℕ) (stored : ℕ) → AreInOrder (uses_of lent) → k < length lent → x ≡ get_or lent k x →
-    AreJoined (take k lent) before mid → mid x.cell ≡ Some stored → after x.cell ≡ Some (joined x.mode stored x.value) →
+    AreJoined (take k lent) before mid → mid x.cell ≡ Some stored → after x.cell ≡ Some (joined x.mode stored x.value) → IsUntouched mid after x →
     ((other : Cell) → x.cell ≢ other → after other ≡ mid other) → AreJoined (take (k + 1) lent) before after
-joined-more lent k x before mid after stored order within is soon there now others =
+joined-more lent k x before mid after stored order within is soon there now idle others =
     let more : take k lent ++ x ∷ [] ≡ take (k + 1) lent = ap (λ y. take k lent ++ y ∷ []) is ∙ sym (take_more lent k x within) in
     subst (λ ls. AreJoined ls before after) more
-    (joined-push (take k lent) x before mid after stored soon (others_before lent k x order within is) there now others)
+    (joined-push (take k lent) x before mid after stored soon (others_before lent k x order within is) there now idle others)

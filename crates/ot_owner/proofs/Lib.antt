@@ -5,3 +5,4 @@ pub mod JoinedLemmas
 pub mod RightsLemmas
 pub mod OutLemmas
 pub mod ApartLemmas
+pub mod WorthLemmas

@@ -35,7 +35,7 @@ ended xs ys i x y within is same rest = rw (sym same, rest) (IsPermutation-remov
 pub begun : {X : Type 0} (xs ys : List X) (x y : X) → ys ≡ xs ++ x ∷ [] → y ≡ x → IsPermutation (y ∷ xs) ys
 begun xs ys x y is same = rw (same, is) (IsPermutation-sym (xs ++ x ∷ []) (x ∷ xs) (IsPermutation-to_front xs x))
 
-uses_of-lent_from : (cells : List (List ℕ)) (uses : List Use) → uses_of (lent_from cells uses) ≡ uses
+pub uses_of-lent_from : (cells : List (List ℕ)) (uses : List Use) → uses_of (lent_from cells uses) ≡ uses
 uses_of-lent_from cells [] = refl
 uses_of-lent_from cells (u ∷ uses) = ap (λ us. u ∷ us) (uses_of-lent_from cells uses)
 

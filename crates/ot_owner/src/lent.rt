@@ -50,9 +50,10 @@ impl Lent {
     ghost use Rattle.std.specs.Prelude.{◌≡◌, ◌≢◌, ◌↔◌, IsSome, Some, true, false, position};
     ghost use Rattle.std.specs.List.{find};
     ghost use Rattle.std.specs.List.Sorted.{IsPartitionPoint};
+    ghost use Rattle.ot_model.specs.Cells.{is_before};
     ghost use Rattle.ot_model.specs.Uses.{AreInOrder};
     ghost use Rattle.ot_model.specs.declared.expr.Cell.{Cell};
-    ghost use Rattle.ot_owner.specs.Lending.{uses_of, is_at, is_before, first_at, value_at, IsLent, MayChange};
+    ghost use Rattle.ot_owner.specs.Lending.{uses_of, is_at, first_at, value_at, IsLent, MayChange};
     ghost use Rattle.ot_owner.specs.Leases.{lease_of};
 
     /// These cells as lent.
@@ -63,8 +64,8 @@ impl Lent {
         Lent { cells }
     }
 
-    /// The lent cells in order.
-    pub(crate) fn cells(&self) -> &[LentCell]
+    /// The lent cells in order, each with its mode, its first and its present value.
+    pub fn cells(&self) -> &[LentCell]
         ensures cells { result.now ≡ self.now }
         ensures ordered { AreInOrder (uses_of self.now) }
     {
@@ -75,8 +76,7 @@ impl Lent {
     fn before(&self, cell: Cell) -> usize
         ensures { IsPartitionPoint (λ l. is_before l.cell cell ≡ true) (λ l. is_before l.cell cell ≡ false) self.now result }
     {
-        self.cells
-            .partition_point(|lent| is_before(lent.cell, cell))
+        self.cells.partition_point(|lent| lent.cell.is_before(cell))
     }
 
     /// Where the cell stands among the lent ones.
@@ -150,13 +150,4 @@ impl Look for Lent {
         };
         value
     }
-}
-
-ghost use Rattle.std.specs.Prelude.{◌≡◌};
-ghost use Rattle.ot_owner.specs.Lending.{is_before};
-
-fn is_before(one: Cell, two: Cell) -> bool
-    ensures { result ≡ is_before one two }
-{
-    one.array < two.array || (one.array == two.array && one.index < two.index)
 }

@@ -5,10 +5,8 @@
 pub mod laws;
 pub mod lent;
 pub mod owners;
-mod right;
+pub mod right;
 
 pub use lent::{Lent, LentCell};
 pub use owners::Owners;
-
-#[cfg(test)]
-mod tests;
+pub use right::Right;

@@ -1,4 +1,4 @@
-ghost use Rattle.std.specs.Prelude.{◌≡◌, map, IfOk, IsSome, All};
+ghost use Rattle.std.specs.Prelude.{◌≡◌, IfOk, IsSome, All};
 ghost use Rattle.ot_model.specs.Cells.{cell_of};
 ghost use Rattle.ot_owner.specs.Leases.{lent_from};
 
@@ -26,9 +26,8 @@ impl Model for Owners {
 }
 
 impl Owners {
-    ghost use Rattle.std.specs.Prelude.{◌≡◌, ◌≢◌, ◌↔◌, ◌∷◌, [], IsTrue, IsSome, IfOk, OnErr, All, Contains, IsPermutation};
+    ghost use Rattle.std.specs.Prelude.{◌≡◌, ◌↔◌, ◌∷◌, [], IsTrue, IsSome, IfOk, OnErr, All, Contains, IsPermutation};
     ghost use Rattle.ot_model.specs.Cells.{cell_of, lengths};
-    ghost use Rattle.ot_model.specs.declared.stmt.Mode.TheVariants.{Adds};
     ghost use Rattle.ot_owner.specs.Leases.{lease_of, lent_from};
     ghost use Rattle.ot_owner.specs.Owning.{IsFreeFor, NoTwoConflict};
     ghost use Rattle.ot_owner.specs.Worth.{worth, IsCombined, KeepsWorth, AreJoined};
@@ -51,25 +50,26 @@ impl Owners {
         !self.rights.iter().any(|right| right.conflicts(decl))
     }
 
-    /// Lends the cells of a declaration for which it is free. Each is to be there, and none may be
-    /// declared as `Adds`: so each comes with its stored number. Want of memory changes nothing.
+    /// Lends the cells of a declaration for which it is free. Each is to be there. A cell under
+    /// `Reads` or `Writes` comes with its stored number, and one under `Adds` as a private copy that
+    /// begins at 0: so those who add to one cell are out side by side. Want of memory changes nothing.
     pub fn lease(&mut self, alloc: Global, cells: &Cells, decl: Decl) -> Result<Lent, AllocError>
         requires free { IsFreeFor self.old.out decl }
         requires there { All (λ u. IsSome (cell_of cells.now u.cell)) decl }
-        requires no_adds { All (λ u. u.mode ≢ Adds) decl }
         ensures lent { IfOk result (λ lent. lent ≡ lent_from cells.now decl) }
         ensures out { IfOk result (λ lent. IsPermutation (lease_of lent ∷ self.old.out) self.new.out) }
         ensures worth { KeepsWorth self.old self.new }
         ensures memory { OnErr result (self.new ≡ self.old) }
     {
         let lent = lend(alloc, cells, decl.uses())?;
-        let firsts = firsts_of(alloc, &lent)?;
-        self.rights.push(Right::new(decl, firsts))?;
+        let right = Right::of(alloc, cells, decl)?;
+        self.rights.push(right)?;
         Ok(Lent::new(lent))
     }
 
     /// Takes back what is out, and whose cells are there: a written cell has its present value from
-    /// now on, every other cell stays, and the right ends. It takes no memory.
+    /// now on, a private copy is added modulo 2^64, every other cell stays, and the right ends. It
+    /// takes no memory.
     pub fn give_back(&mut self, cells: &mut Cells, lent: Lent)
         requires out { Contains self.old.out (lease_of lent) }
         requires there { All (λ l. IsSome (cell_of cells.old l.cell)) lent }
@@ -120,17 +120,6 @@ fn lend(alloc: Global, cells: &Cells, uses: &[Use]) -> Result<Vec<LentCell>, All
         })?;
     }
     Ok(lent)
-}
-
-/// The values that the cells were lent with.
-fn firsts_of(alloc: Global, lent: &[LentCell]) -> Result<Vec<u64>, AllocError>
-    ensures { IfOk result (λ firsts. firsts.items ≡ map (λ l. l.first) lent.now) }
-{
-    let mut firsts = Vec::with_capacity(alloc, lent.len())?;
-    for copy in lent {
-        firsts.push(copy.first)?;
-    }
-    Ok(firsts)
 }
 
 ghost use Rattle.ot_model.specs.Cells.{lengths};

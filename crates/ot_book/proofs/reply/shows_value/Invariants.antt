@@ -4,4 +4,4 @@ use Rattle.ot_book.specs.Replies.{nats}
 use Rattle.ot_book.proofs.reply.shows_value.Given as goal
 
 abbrev pub invariant-loop-numbers : goal.invariant-loop-numbers
-invariant-loop-numbers l = map view l.list.items ≡ map nats (map (λ s. s.items) (take l.numbers-index l.shows.items))
+invariant-loop-numbers l = map view l.list.items ≡ map (λ s. nats s.items) (take l.numbers-index l.shows.items)

@@ -7,6 +7,7 @@ use Rattle.ot_depend.specs.Siblings.{Sibling, IsReady}
 use Rattle.ot_depend.specs.View.{sibling_of}
 use Rattle.ot_depend.specs.declared.siblings.Child.{Child}
 use Rattle.ot_depend.proofs.SiblingsLemmas.{LetsRun}
+use Rattle.ot_depend.proofs.ReadyLemmas.{is_ready-told}
 use Rattle.ot_depend.proofs.ViewLemmas.{ready_by_records}
 use Rattle.ot_depend.proofs.siblings.Siblings.ready.Goals as goal
 
@@ -18,3 +19,6 @@ returns-clause-exact c =
     let told : IsTrue c.all.result ↔ All (λ earlier. LetsRun later.decl (sibling_of earlier)) (take c.args.child children) = search rules in
     subst (λ (s : List Sibling). IsTrue c.all.result ↔ IsReady s c.args.child) c.self.view_is
     (ready_by_records children c.args.child later c.all.result known told)
+
+pub returns-clause-test : goal.returns-clause-test
+returns-clause-test c = is_ready-told c.all.result c.args.self.now c.args.child (returns-clause-exact c)
