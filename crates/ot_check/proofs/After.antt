@@ -5,9 +5,9 @@ use Rattle.ot_model.specs.Tree.{S, Set, Add, If, Task, Wait, Group, Body, End, N
 use Rattle.ot_model.specs.Counts.{size, size_one}
 use Rattle.ot_model.specs.declared.stmt.Use.{Use}
 use Rattle.ot_check.specs.Paths.{Enter, Leave, Step, At, touched, touches, PassesOne, Passes}
-use Rattle.ot_check.specs.Offences.{is_wait, has_wait, some_unawaited}
-use Rattle.ot_check.specs.Walk.{through, through_one, after, after_one}
-use Rattle.ot_check.proofs.Steps.{IsClosed, touched-waits, touched-unawaited, passes-closed, unawaited-append, unawaited-group}
+use Rattle.ot_check.specs.Offences.{is_wait, has_wait}
+use Rattle.ot_check.proofs.Steps.{some_unawaited, IsClosed, touched-waits, touched-unawaited, passes-closed, unawaited-append, unawaited-group}
+use Rattle.ot_check.specs.walk.Walk.{through, through_one, after, after_one}
 use Rattle.ot_check.proofs.Bits.{or_true, true_or, or_right, and_left, and_right, and_true, not_true, true_not, or_false_left, or_false_right, false_or, or_none}
 
 -- ---- some path
@@ -131,7 +131,7 @@ left-more-bits true false w u more h = let e : false ≡ true = more refl in cc
 left-more : (test : List Use → Bool) (p q : Bool) (path : List Step) → (p ≡ true → q ≡ true) → left_by test p path ≡ true → left_by test q path ≡ true
 left-more test p q path more h = left-more-bits p q (has_wait path) (some_unawaited test path) more h
 
-made : (p q t : Bool) → (p ≡ true → q ≡ true) → ((p && true) || ((t && true) || false)) ≡ true → (q || t) ≡ true
+made : (p q t : Bool) → (p ≡ true → q ≡ true) → ((p && true) || (t || false)) ≡ true → (q || t) ≡ true
 made p true t more h = refl
 made true false t more h = let e : false ≡ true = more refl in cc
 made false false true more h = refl
@@ -170,7 +170,7 @@ mutual
       after-from test (k + size_one x) rest later f (left_by test p one) (after_one test q x) (after-from_one test k x one g p q more)
       (sym (left-append test p one later (passes-closed (k + size_one x) rest later f)) ∙ ap (left_by test p) (sym is) ∙ h)
 
-made_back : (p t : Bool) → (p || t) ≡ true → ((p && true) || ((t && true) || false)) ≡ true
+made_back : (p t : Bool) → (p || t) ≡ true → ((p && true) || (t || false)) ≡ true
 made_back true t h = refl
 made_back false true h = refl
 made_back false false h = h

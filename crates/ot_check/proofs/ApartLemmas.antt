@@ -11,7 +11,7 @@ use Rattle.ot_model.specs.declared.expr.Cell.{Cell}
 use Rattle.ot_model.specs.declared.stmt.Mode.{Mode}
 use Rattle.ot_model.specs.declared.stmt.Mode.TheVariants.{Reads, Writes, Adds}
 use Rattle.ot_model.specs.declared.stmt.Use.{Use}
-use Rattle.ot_check.specs.Paths.{use_of}
+use Rattle.ot_check.specs.Paths.{use_as}
 use Rattle.ot_check.specs.Touches.{EachRead, EachTouch, EachTouchOne, Agree, AreApart}
 use Rattle.ot_model.proofs.CellsLemmas as model
 use Rattle.ot_model.proofs.SerialLemmas.{either-ap, serial-bump}
@@ -26,10 +26,10 @@ read-weaker P Q (PickFrom s e) f h = (λ k. f (cell_at s (k % s.len)) (h.0 k), r
 
 mutual
   touch_one-weaker : (P Q : Use → Type 0) (x : S) → ((u : Use) → P u → Q u) → EachTouchOne P x → EachTouchOne Q x
-  touch_one-weaker P Q (Set c e) f h = (read-weaker (λ d. P (use_of Reads d)) (λ d. Q (use_of Reads d)) e (λ d. f (use_of Reads d)) h.0, f (use_of Writes c) h.1)
-  touch_one-weaker P Q (Add c e) f h = (read-weaker (λ d. P (use_of Reads d)) (λ d. Q (use_of Reads d)) e (λ d. f (use_of Reads d)) h.0, f (use_of Adds c) h.1)
+  touch_one-weaker P Q (Set c e) f h = (read-weaker (λ d. P (use_as Reads d)) (λ d. Q (use_as Reads d)) e (λ d. f (use_as Reads d)) h.0, f (use_as Writes c) h.1)
+  touch_one-weaker P Q (Add c e) f h = (read-weaker (λ d. P (use_as Reads d)) (λ d. Q (use_as Reads d)) e (λ d. f (use_as Reads d)) h.0, f (use_as Adds c) h.1)
   touch_one-weaker P Q (If e a b) f h =
-      (read-weaker (λ d. P (use_of Reads d)) (λ d. Q (use_of Reads d)) e (λ d. f (use_of Reads d)) h.0, touch-weaker P Q a f h.1, touch-weaker P Q b f h.2)
+      (read-weaker (λ d. P (use_as Reads d)) (λ d. Q (use_as Reads d)) e (λ d. f (use_as Reads d)) h.0, touch-weaker P Q a f h.1, touch-weaker P Q b f h.2)
   touch_one-weaker P Q (Task d b) f h = touch-weaker P Q b f h
   touch_one-weaker P Q Wait f h = h
   touch_one-weaker P Q (Group cs b) f h = touch-weaker P Q b f h
@@ -88,7 +88,7 @@ either-one n x = if-one (n == 0) x
 abbrev Spares : Cell → Use → Type 0
 Spares c u = u.cell ≡ c → u.mode ≡ Reads
 
-spared : (c d : Cell) (m : Mode) → m ≢ Reads → Spares c (use_of m d) → d ≢ c
+spared : (c d : Cell) (m : Mode) → m ≢ Reads → Spares c (use_as m d) → d ≢ c
 spared c d m no_read h e = no_read (h e)
 
 writes_reads : Writes ≢ Reads
@@ -125,11 +125,11 @@ reads_adds e = cc
 writes_adds : Writes ≢ Adds
 writes_adds e = cc
 
-read-elsewhere : (s : State) (c : Cell) (f : ℕ → ℕ) (e : E) → EachRead (λ d. Commutes c f (use_of Reads d)) e
+read-elsewhere : (s : State) (c : Cell) (f : ℕ → ℕ) (e : E) → EachRead (λ d. Commutes c f (use_as Reads d)) e
     → val (cell_of (with_cell s.cells c f)) e ≡ val (cell_of s.cells) e
 read-elsewhere s c f e h =
     value-same (cell_of (with_cell s.cells c f)) (cell_of s.cells) e
-    (read-weaker (λ d. Commutes c f (use_of Reads d)) (λ d. cell_of (with_cell s.cells c f) d ≡ cell_of s.cells d) e
+    (read-weaker (λ d. Commutes c f (use_as Reads d)) (λ d. cell_of (with_cell s.cells c f) d ≡ cell_of s.cells d) e
     (λ d g. model.cell_of-with_cell-other s.cells c d f (λ same. reads_adds (g (sym same)).0)) h)
 
 change-same : (s : State) (c : Cell) (f g : ℕ → ℕ) → ((n : ℕ) → f n ≡ g n) → change s c f ≡ change s c g
@@ -181,24 +181,24 @@ sums-swap a k n =
     mod-add-mod (n + k) (2 ^ 64) a ∙ ap (λ m. m % 2 ^ 64) e ∙ sym (mod-add-mod (n + a) (2 ^ 64) k)
 
 -- what a value reads is the same behind a body that is apart from the reading
-read-behind : (s : State) (b : Body) (e : E) → EachRead (λ c. EachTouch (Agree (use_of Reads c)) b) e
+pub read-behind : (s : State) (b : Body) (e : E) → EachRead (λ c. EachTouch (Agree (use_as Reads c)) b) e
     → val (cell_of s.cells) e ≡ val (cell_of (serial b s).cells) e
 read-behind s b e h =
     value-same (cell_of s.cells) (cell_of (serial b s).cells) e
-    (read-weaker (λ c. EachTouch (Agree (use_of Reads c)) b) (λ c. cell_of s.cells c ≡ cell_of (serial b s).cells c) e
-    (λ c g. sym (frame c b s (touch-weaker (Agree (use_of Reads c)) (Spares c) b (λ u agree same. conflicts_reads u.mode (agree (sym same))) g))) h)
+    (read-weaker (λ c. EachTouch (Agree (use_as Reads c)) b) (λ c. cell_of s.cells c ≡ cell_of (serial b s).cells c) e
+    (λ c g. sym (frame c b s (touch-weaker (Agree (use_as Reads c)) (Spares c) b (λ u agree same. conflicts_reads u.mode (agree (sym same))) g))) h)
 
 mutual
   apart_one : (x : S) (b : Body) (s : State) → EachTouchOne (λ u. EachTouch (Agree u) b) x → serial b (serial_one x s) ≡ serial_one x (serial b s)
   apart_one (Set c e) b s h =
       serial-bump b 0 1 (change s c (λ _. val (cell_of s.cells) e))
       ∙ ap (bump 0 1) (serial-change b s c (λ _. val (cell_of s.cells) e)
-      (touch-weaker (Agree (use_of Writes c)) (Commutes c (λ _. val (cell_of s.cells) e)) b (λ u agree same. absurd (conflicts_writes u.mode (agree (sym same)))) h.1)
+      (touch-weaker (Agree (use_as Writes c)) (Commutes c (λ _. val (cell_of s.cells) e)) b (λ u agree same. absurd (conflicts_writes u.mode (agree (sym same)))) h.1)
       ∙ ap (λ n. change (serial b s) c (λ _. n)) (read-behind s b e h.0))
   apart_one (Add c e) b s h =
       serial-bump b 0 1 (change s c (λ n. (n + val (cell_of s.cells) e) % 2 ^ 64))
       ∙ ap (bump 0 1) (serial-change b s c (λ n. (n + val (cell_of s.cells) e) % 2 ^ 64)
-      (touch-weaker (Agree (use_of Adds c)) (Commutes c (λ n. (n + val (cell_of s.cells) e) % 2 ^ 64)) b
+      (touch-weaker (Agree (use_as Adds c)) (Commutes c (λ n. (n + val (cell_of s.cells) e) % 2 ^ 64)) b
       (λ u agree same. (conflicts_adds u.mode (agree (sym same)), sums-swap (val (cell_of s.cells) e))) h.1)
       ∙ ap (λ v. change (serial b s) c (λ n. (n + v) % 2 ^ 64)) (read-behind s b e h.0))
   apart_one (If e p q) b s h =

@@ -5,10 +5,10 @@ use Rattle.std.specs.Option.{option_or}
 use Rattle.ot_model.specs.Tree.{S, Set, Add, If, Task, Wait, Group, Body, End, Next}
 use Rattle.ot_model.specs.Counts.{size, size_one}
 use Rattle.ot_model.specs.declared.expr.Cell.{Cell}
-use Rattle.ot_check.specs.Offences.{Declared, Children, IsFirstOf, rank}
-use Rattle.ot_check.specs.Walk.{nobody, nothing_open, behind_one, with_group, offends, first_of, placed, first, first_inside}
+use Rattle.ot_check.specs.Offences.{Declared, IsFirstOf, rank}
+use Rattle.ot_check.specs.walk.Walk.{Children, nobody, nothing_open, behind_one, with_group, is_offence, leading, placed, first, first_inside}
 use Rattle.ot_check.specs.declared.fault.Offence.{Offence}
-use Rattle.ot_check.specs.declared.fault.Offence.TheVariants.{NotDeclared, ChildBeyond, InOpenGroup, Unawaited, EndsUnawaited}
+use Rattle.ot_check.specs.declared.fault.Offence.TheVariants.{NotDeclared, ChildBeyond, ReductionMisuse, ConflictsWithChild, EndsWithChildren}
 
 -- an offence that the walk meets in a statement's bodies, in a body
 abbrev mutual
@@ -24,13 +24,13 @@ abbrev mutual
   pub Meets : Declared → (Cell → Bool) → Children → ℕ → Body → ℕ → Offence → Type 0
   Meets own opened children k End place offence = ⊥
   Meets own opened children k (Next x rest) place offence =
-      (((place ≡ k) × (offends own opened children x offence ≡ true)) ⊎ MeetsInside own opened children k x place offence)
+      (((place ≡ k) × (is_offence own opened children x offence ≡ true)) ⊎ MeetsInside own opened children k x place offence)
       ⊎ Meets own opened (behind_one children x) (k + size_one x) rest place offence
 
 -- the statement's own offences, and those in its bodies
 abbrev pub MeetsOne : Declared → (Cell → Bool) → Children → ℕ → S → ℕ → Offence → Type 0
 MeetsOne own opened children k x place offence =
-    ((place ≡ k) × (offends own opened children x offence ≡ true)) ⊎ MeetsInside own opened children k x place offence
+    ((place ≡ k) × (is_offence own opened children x offence ≡ true)) ⊎ MeetsInside own opened children k x place offence
 
 -- ---- places
 
@@ -85,13 +85,13 @@ none_first = λ p c h. h
 abbrev told : ℕ → Bool → Bool → Bool → Bool → Bool → Option (ℕ × Offence)
 told k true b c d e = Some (k, NotDeclared)
 told k false true c d e = Some (k, ChildBeyond)
-told k false false true d e = Some (k, InOpenGroup)
-told k false false false true e = Some (k, Unawaited)
-told k false false false false true = Some (k, EndsUnawaited)
+told k false false true d e = Some (k, ReductionMisuse)
+told k false false false true e = Some (k, ConflictsWithChild)
+told k false false false false true = Some (k, EndsWithChildren)
 told k false false false false false = None
 
-told-is : (k : ℕ) (holds : Offence → Bool) (a b c d e : Bool) → holds NotDeclared ≡ a → holds ChildBeyond ≡ b → holds InOpenGroup ≡ c
-    → holds Unawaited ≡ d → holds EndsUnawaited ≡ e → placed k (first_of holds) ≡ told k a b c d e
+told-is : (k : ℕ) (holds : Offence → Bool) (a b c d e : Bool) → holds NotDeclared ≡ a → holds ChildBeyond ≡ b → holds ReductionMisuse ≡ c
+    → holds ConflictsWithChild ≡ d → holds EndsWithChildren ≡ e → placed k (leading holds) ≡ told k a b c d e
 told-is k holds true b c d e ha hb hc hd he = rw ha refl
 told-is k holds false true c d e ha hb hc hd he = rw (ha, hb) refl
 told-is k holds false false true d e ha hb hc hd he = rw (ha, hb, hc) refl
@@ -102,54 +102,54 @@ told-is k holds false false false false false ha hb hc hd he = rw (ha, hb, hc, h
 abbrev Here : ℕ → (Offence → Bool) → ℕ → Offence → Type 0
 Here k holds place offence = (place ≡ k) × (holds offence ≡ true)
 
-told-first : (k : ℕ) (holds : Offence → Bool) (a b c d e : Bool) → holds NotDeclared ≡ a → holds ChildBeyond ≡ b → holds InOpenGroup ≡ c
-    → holds Unawaited ≡ d → holds EndsUnawaited ≡ e → IsFirstOf (Here k holds) (told k a b c d e)
+told-first : (k : ℕ) (holds : Offence → Bool) (a b c d e : Bool) → holds NotDeclared ≡ a → holds ChildBeyond ≡ b → holds ReductionMisuse ≡ c
+    → holds ConflictsWithChild ≡ d → holds EndsWithChildren ≡ e → IsFirstOf (Here k holds) (told k a b c d e)
 told-first k holds true b c d e ha hb hc hd he = ((refl, ha), λ p x h. inr (sym h.0, omega arith))
 told-first k holds false true c d e ha hb hc hd he = ((refl, hb), λ p x h. inr (sym h.0, least p x h))
   where
     least : (p : ℕ) (x : Offence) → Here k holds p x → rank ChildBeyond ≤ rank x
     least p NotDeclared h = let q : false ≡ true = sym ha ∙ h.1 in cc
     least p ChildBeyond h = omega arith
-    least p InOpenGroup h = omega arith
-    least p Unawaited h = omega arith
-    least p EndsUnawaited h = omega arith
+    least p ReductionMisuse h = omega arith
+    least p ConflictsWithChild h = omega arith
+    least p EndsWithChildren h = omega arith
 told-first k holds false false true d e ha hb hc hd he = ((refl, hc), λ p x h. inr (sym h.0, least p x h))
   where
-    least : (p : ℕ) (x : Offence) → Here k holds p x → rank InOpenGroup ≤ rank x
+    least : (p : ℕ) (x : Offence) → Here k holds p x → rank ReductionMisuse ≤ rank x
     least p NotDeclared h = let q : false ≡ true = sym ha ∙ h.1 in cc
     least p ChildBeyond h = let q : false ≡ true = sym hb ∙ h.1 in cc
-    least p InOpenGroup h = omega arith
-    least p Unawaited h = omega arith
-    least p EndsUnawaited h = omega arith
+    least p ReductionMisuse h = omega arith
+    least p ConflictsWithChild h = omega arith
+    least p EndsWithChildren h = omega arith
 told-first k holds false false false true e ha hb hc hd he = ((refl, hd), λ p x h. inr (sym h.0, least p x h))
   where
-    least : (p : ℕ) (x : Offence) → Here k holds p x → rank Unawaited ≤ rank x
+    least : (p : ℕ) (x : Offence) → Here k holds p x → rank ConflictsWithChild ≤ rank x
     least p NotDeclared h = let q : false ≡ true = sym ha ∙ h.1 in cc
     least p ChildBeyond h = let q : false ≡ true = sym hb ∙ h.1 in cc
-    least p InOpenGroup h = let q : false ≡ true = sym hc ∙ h.1 in cc
-    least p Unawaited h = omega arith
-    least p EndsUnawaited h = omega arith
+    least p ReductionMisuse h = let q : false ≡ true = sym hc ∙ h.1 in cc
+    least p ConflictsWithChild h = omega arith
+    least p EndsWithChildren h = omega arith
 told-first k holds false false false false true ha hb hc hd he = ((refl, he), λ p x h. inr (sym h.0, least p x h))
   where
-    least : (p : ℕ) (x : Offence) → Here k holds p x → rank EndsUnawaited ≤ rank x
+    least : (p : ℕ) (x : Offence) → Here k holds p x → rank EndsWithChildren ≤ rank x
     least p NotDeclared h = let q : false ≡ true = sym ha ∙ h.1 in cc
     least p ChildBeyond h = let q : false ≡ true = sym hb ∙ h.1 in cc
-    least p InOpenGroup h = let q : false ≡ true = sym hc ∙ h.1 in cc
-    least p Unawaited h = let q : false ≡ true = sym hd ∙ h.1 in cc
-    least p EndsUnawaited h = omega arith
+    least p ReductionMisuse h = let q : false ≡ true = sym hc ∙ h.1 in cc
+    least p ConflictsWithChild h = let q : false ≡ true = sym hd ∙ h.1 in cc
+    least p EndsWithChildren h = omega arith
 told-first k holds false false false false false ha hb hc hd he = none
   where
     none : (p : ℕ) (x : Offence) → Here k holds p x → ⊥
     none p NotDeclared h = let q : false ≡ true = sym ha ∙ h.1 in cc
     none p ChildBeyond h = let q : false ≡ true = sym hb ∙ h.1 in cc
-    none p InOpenGroup h = let q : false ≡ true = sym hc ∙ h.1 in cc
-    none p Unawaited h = let q : false ≡ true = sym hd ∙ h.1 in cc
-    none p EndsUnawaited h = let q : false ≡ true = sym he ∙ h.1 in cc
+    none p ReductionMisuse h = let q : false ≡ true = sym hc ∙ h.1 in cc
+    none p ConflictsWithChild h = let q : false ≡ true = sym hd ∙ h.1 in cc
+    none p EndsWithChildren h = let q : false ≡ true = sym he ∙ h.1 in cc
 
-here-first : (k : ℕ) (holds : Offence → Bool) → IsFirstOf (Here k holds) (placed k (first_of holds))
+here-first : (k : ℕ) (holds : Offence → Bool) → IsFirstOf (Here k holds) (placed k (leading holds))
 here-first k holds =
     subst (IsFirstOf (Here k holds)) (sym (told-is k holds _ _ _ _ _ refl refl refl refl refl))
-    (told-first k holds (holds NotDeclared) (holds ChildBeyond) (holds InOpenGroup) (holds Unawaited) (holds EndsUnawaited) refl refl refl refl refl)
+    (told-first k holds (holds NotDeclared) (holds ChildBeyond) (holds ReductionMisuse) (holds ConflictsWithChild) (holds EndsWithChildren) refl refl refl refl refl)
 
 -- ---- what the walk tells is the first of what it meets
 
@@ -173,11 +173,11 @@ mutual
   meets-first own opened children k End = none_first
   meets-first own opened children k (Next x rest) =
       or_first (MeetsOne own opened children k x) (Meets own opened (behind_one children x) (k + size_one x) rest)
-      (option_or (placed k (first_of (offends own opened children x))) (first_inside own opened children k x))
+      (option_or (placed k (leading (is_offence own opened children x))) (first_inside own opened children k x))
       (first own opened (behind_one children x) (k + size_one x) rest)
-      (or_first (Here k (offends own opened children x)) (MeetsInside own opened children k x)
-      (placed k (first_of (offends own opened children x))) (first_inside own opened children k x)
-      (here-first k (offends own opened children x)) (inside-first own opened children k x)
+      (or_first (Here k (is_offence own opened children x)) (MeetsInside own opened children k x)
+      (placed k (leading (is_offence own opened children x))) (first_inside own opened children k x)
+      (here-first k (is_offence own opened children x)) (inside-first own opened children k x)
       (λ p c q d h g. let r = inside-places own opened children k x q d g in omega (arith, h.0, r.0)))
       (meets-first own opened (behind_one children x) (k + size_one x) rest)
       (λ p c q d h g. let r = meets-places own opened (behind_one children x) (k + size_one x) rest q d g in

@@ -1,5 +1,5 @@
 -- What the walk meets stands on some path.
-use Rattle.std.proofs.Common.{◌≡◌, ℕ, ◌+◌, ◌++◌, Bool, true, false, not, ◌&&◌, ◌||◌, List, [], ◌∷◌, map, refl, sym, ap, subst, inl, inr, ◌∙◌, append_assoc, append-nil}
+use Rattle.std.proofs.Common.{◌≡◌, ℕ, ◌+◌, ◌++◌, Bool, true, false, not, ◌&&◌, ◌||◌, List, [], ◌∷◌, map, refl, sym, ap, subst, inl, inr, ◌∙◌, append_assoc, append-nil, Err}
 use Rattle.std.specs.Prelude.{◌⊎◌, Option, Some, None}
 use Rattle.std.specs.List.{list_any}
 use Rattle.ot_model.specs.Tree.{S, Set, Add, If, Task, Wait, Group, Body, End, Next}
@@ -7,18 +7,14 @@ use Rattle.ot_model.specs.Counts.{size, size_one}
 use Rattle.ot_model.specs.declared.expr.Cell.{Cell}
 use Rattle.ot_model.specs.declared.stmt.Use.{Use}
 use Rattle.ot_check.specs.Paths.{Mark, Touch, Create, Await, Enter, Leave, Step, At, touched, touches, PassesOne, Passes}
-use Rattle.ot_check.specs.Offences.{Declared, Children, breaks, has_cell, has_wait, some_unawaited, is_open, anyone, InTasks, InTasksOfOne, Offends, IsFirstOf}
-use Rattle.ot_check.specs.Walk.{nobody, nothing_open, behind_one, with_group, ends_unawaited, first}
-use Rattle.std.proofs.Common.{Err}
-use Rattle.ot_check.specs.Codes.{IsTold, TellsFirst}
-use Rattle.ot_check.specs.declared.fault.CheckFault.{CheckFault}
-use Rattle.ot_check.specs.declared.fault.CheckFault.TheVariants as fault
+use Rattle.ot_check.specs.Offences.{Declared, has_cell, has_wait, unawaited, is_open, OnPath, InTasks, InTasksOfOne, Offends, IsFirstOf}
+use Rattle.ot_check.specs.walk.Walk.{Children, may_break, anyone, nobody, nothing_open, behind_one, with_group, ends_with_children, first}
+use Rattle.ot_check.proofs.Steps.{some_unawaited, passes_one-closed, unawaited-append}
 use Rattle.ot_check.specs.declared.fault.Offence.{Offence}
-use Rattle.ot_check.specs.declared.fault.Offence.TheVariants.{NotDeclared, ChildBeyond, InOpenGroup, Unawaited, EndsUnawaited}
-use Rattle.ot_check.proofs.Steps.{passes_one-closed, unawaited-append}
+use Rattle.ot_check.specs.declared.fault.Offence.TheVariants.{NotDeclared, ChildBeyond, ReductionMisuse, ConflictsWithChild, EndsWithChildren}
 use Rattle.ot_check.proofs.After.{left_by, after-to, after-to_one, some_path, some_path_one}
 use Rattle.ot_check.proofs.Meeting.{Meets, MeetsOne, meets-first}
-use Rattle.ot_check.proofs.PathsTold.{breaks-more, nothing-breaks, end-breaks, BreaksBehind, quiet-open, quiet-unawaited, entered-open, entered-unawaited, passed-open, meets-on_path, meets-in_tasks}
+use Rattle.ot_check.proofs.PathsTold.{may_break-breaks, may_break-more, there_someone, BreaksBehind, quiet-open, quiet-unawaited, entered-open, entered-unawaited, passed-open, meets-on_path, meets-in_tasks}
 use Rattle.ot_check.proofs.Bits.{or_true, true_or, or_false, or_right, and_left, and_right, and_true}
 
 -- ---- many prefixes
@@ -40,35 +36,24 @@ any-member F all test (c ∷ cs) member h =
     ]
 
 -- a mark looks at one child alone
-breaks-member : {I : Type 0} (F : I → Children) (all : Children) (own : Declared) (o : Cell → Bool) (mark : Mark) (offence : Offence)
+may_break-member : {I : Type 0} (F : I → Children) (all : Children) (own : Declared) (o : Cell → Bool) (mark : Mark) (offence : Offence)
     → ((t : List Use → Bool) → all t ≡ true → (i : I) × (F i t ≡ true)) → I
-    → breaks own o all mark offence ≡ true → (i : I) × (breaks own o (F i) mark offence ≡ true)
-breaks-member F all own o (Touch u) NotDeclared member i h = (i, h)
-breaks-member F all own o (Touch u) ChildBeyond member i h = (i, h)
-breaks-member F all own o (Touch u) InOpenGroup member i h = (i, h)
-breaks-member F all own o (Touch u) Unawaited member i h = member _ h
-breaks-member F all own o (Touch u) EndsUnawaited member i h = (i, h)
-breaks-member F all own o (Create d) NotDeclared member i h = (i, h)
-breaks-member F all own o (Create d) ChildBeyond member i h = (i, h)
-breaks-member F all own o (Create d) InOpenGroup member i h = (i, h)
-breaks-member F all own o (Create d) Unawaited member i h = (i, h)
-breaks-member F all own o (Create d) EndsUnawaited member i h = (i, h)
-breaks-member F all own o (Enter cs) NotDeclared member i h = (i, h)
-breaks-member F all own o (Enter cs) ChildBeyond member i h = (i, h)
-breaks-member F all own o (Enter cs) InOpenGroup member i h = (i, h)
-breaks-member F all own o (Enter cs) Unawaited member i h = any-member F all _ cs member h
-breaks-member F all own o (Enter cs) EndsUnawaited member i h = (i, h)
-breaks-member F all own o Await offence member i h = absurd (nothing-breaks own o all offence h)
-breaks-member F all own o Leave offence member i h = absurd (end-breaks own o all offence h)
+    → may_break own o all mark offence ≡ true → (i : I) × (may_break own o (F i) mark offence ≡ true)
+may_break-member F all own o (Touch u) ConflictsWithChild member i h = member _ h
+may_break-member F all own o (Create d) ConflictsWithChild member i h = (i, h)
+may_break-member F all own o (Enter cs) ConflictsWithChild member i h = any-member F all _ cs member h
+may_break-member F all own o Await ConflictsWithChild member i h = (i, h)
+may_break-member F all own o Leave ConflictsWithChild member i h = (i, h)
+may_break-member F all own o mark offence member i h = (i, h)
 
 -- a mark of the statement itself, behind one of the prefixes
 here-behind : {I : Type 0} (prefix : I → List Step) (opened : Cell → Bool) (children : Children) (own : Declared) (mark : Mark) (offence : Offence)
-    → Reaches I prefix opened children → breaks own opened children mark offence ≡ true → (i : I) × BreaksBehind (prefix i) [] own mark offence
+    → Reaches I prefix opened children → may_break own opened children mark offence ≡ true → (i : I) × BreaksBehind (prefix i) [] own mark offence
 here-behind prefix opened children own mark offence reaches h =
-    let q = breaks-member (λ i test. some_unawaited test (prefix i)) children own opened mark offence reaches.unawaited reaches.someone h in (
+    let q = may_break-member (λ i test. some_unawaited test (prefix i)) children own opened mark offence reaches.unawaited reaches.someone h in (
       q.0,
-      subst (λ p. breaks own (is_open p) (λ test. some_unawaited test p) mark offence ≡ true) (sym (append-nil (prefix q.0)))
-          (breaks-more own opened (is_open (prefix q.0)) (λ test. some_unawaited test (prefix q.0)) (λ test. some_unawaited test (prefix q.0))
+      subst (λ p. may_break own (is_open p) (λ test. some_unawaited test p) mark offence ≡ true) (sym (append-nil (prefix q.0)))
+          (may_break-more own opened (is_open (prefix q.0)) (λ test. some_unawaited test (prefix q.0)) (λ test. some_unawaited test (prefix q.0))
           (reaches.groups q.0) (λ test is. is) mark offence q.1),
     )
 
@@ -131,7 +116,7 @@ stands-behind prefix more Path Whole own place offence whole (before, later, mar
   later,
   mark,
   subst Whole (sym (append_assoc more before (At place mark ∷ later))) (whole (before ++ At place mark ∷ later) way),
-  subst (λ p. breaks own (is_open p) (λ test. some_unawaited test p) mark offence ≡ true) (append_assoc prefix more before) h,
+  subst (λ p. may_break own (is_open p) (λ test. some_unawaited test p) mark offence ≡ true) (append_assoc prefix more before) h,
 )
 
 stands-before : (prefix more : List Step) (Path Whole : List Step → Type 0) (own : Declared) (place : ℕ) (offence : Offence)
@@ -141,11 +126,11 @@ stands-before prefix more Path Whole own place offence whole (before, later, mar
 
 -- an offence among the touches of a statement
 touch-stands : {I : Type 0} (prefix : I → List Step) (opened : Cell → Bool) (children : Children) (own : Declared) (k : ℕ) (uses : List Use) (offence : Offence)
-    → Reaches I prefix opened children → list_any (λ m. breaks own opened children m offence) (map Touch uses) ≡ true
+    → Reaches I prefix opened children → list_any (λ m. may_break own opened children m offence) (map Touch uses) ≡ true
     → (i : I) × Stands (prefix i) (λ p. p ≡ touched k uses) own k offence
 touch-stands prefix opened children own k [] offence reaches h = cc
 touch-stands {I} prefix opened children own k (u ∷ uses) offence reaches h =
-    elim (or_true (breaks own opened children (Touch u) offence) (list_any (λ m. breaks own opened children m offence) (map Touch uses)) h) [
+    elim (or_true (may_break own opened children (Touch u) offence) (list_any (λ m. may_break own opened children m offence) (map Touch uses)) h) [
       | inl one ↦ let q = here-behind prefix opened children own (Touch u) offence reaches one in (q.0, ([], touched k uses, Touch u, refl, q.1))
       | inr more ↦
           let q = touch-stands (λ i. prefix i ++ touched k (u ∷ [])) opened children own k uses offence (reaches-touched prefix opened children k (u ∷ []) reaches) more in (
@@ -165,7 +150,7 @@ OneFound I prefix k x own place offence = Found I prefix (PassesOne k x) (InTask
 
 own_touch-found : {I : Type 0} (prefix : I → List Step) (opened : Cell → Bool) (children : Children) (own : Declared) (k : ℕ) (x : S) (place : ℕ) (offence : Offence)
     → Reaches I prefix opened children → (Whole : List Step → Type 0) → ((p : List Step) → p ≡ touched k (touches x) → Whole p)
-    → place ≡ k → list_any (λ m. breaks own opened children m offence) (map Touch (touches x)) ≡ true
+    → place ≡ k → list_any (λ m. may_break own opened children m offence) (map Touch (touches x)) ≡ true
     → (i : I) × Stands (prefix i) Whole own place offence
 own_touch-found prefix opened children own k x place offence reaches Whole whole here h =
     let q = touch-stands prefix opened children own k (touches x) offence reaches h in (
@@ -174,12 +159,17 @@ own_touch-found prefix opened children own k x place offence reaches Whole whole
           (q.1.0, q.1.1, q.1.2, whole (q.1.0 ++ At k q.1.2 ∷ q.1.1) q.1.3, q.1.4),
     )
 
-ends-are : (d : List Use) (b : Body) (k place : ℕ) (offence : Offence) → place ≡ k → ends_unawaited (Task d b) offence ≡ true → InTasksOfOne k (Task d b) place offence
+ends-are : (d : List Use) (b : Body) (k place : ℕ) (offence : Offence) → place ≡ k → ends_with_children (Task d b) offence ≡ true → InTasksOfOne k (Task d b) place offence
 ends-are d b k place NotDeclared here h = cc
 ends-are d b k place ChildBeyond here h = cc
-ends-are d b k place InOpenGroup here h = cc
-ends-are d b k place Unawaited here h = cc
-ends-are d b k place EndsUnawaited here h = let p = after-to anyone (k + 1) b false h in inl (here, refl, (p.0, p.1, p.2))
+ends-are d b k place ReductionMisuse here h = cc
+ends-are d b k place ConflictsWithChild here h = cc
+ends-are d b k place EndsWithChildren here h = let p = after-to anyone (k + 1) b false h in inl (here, refl, (p.0, p.1, there_someone (unawaited p.0) p.2))
+
+-- behind nothing it stands on the path itself
+stands-on_path : (k : ℕ) (b : Body) (own : Declared) (place : ℕ) (offence : Offence) → Stands [] (Passes k b) own place offence → OnPath k b own place offence
+stands-on_path k b own place offence (before, later, mark, way, h) =
+    (before, later, mark, way, sym (may_break-breaks own (is_open before) (unawaited before) mark offence) ∙ h)
 
 reaches-nothing : Reaches (Unit {0}) (λ (i : Unit {0}). []) nothing_open nobody
 reaches-nothing = record { groups = λ i c. refl; unawaited = λ test h. (tt, h); someone = tt }
@@ -222,7 +212,7 @@ mutual
         | inr t ↦ inr (inr t)
       ]
   found_one prefix own opened children k (Task d b) place offence reaches (inl (here, h)) =
-      elim (or_true (breaks own opened children (Create d) offence || false) (ends_unawaited (Task d b) offence) h) [
+      elim (or_true (may_break own opened children (Create d) offence || false) (ends_with_children (Task d b) offence) h) [
         | inl one ↦
             let q = here-behind prefix opened children own (Create d) offence reaches (or_false _ one) in
             inl (q.0, subst (λ n. Stands (prefix q.0) (PassesOne k (Task d b)) own n offence) (sym here) ([], [], Create d, refl, q.1))
@@ -230,7 +220,7 @@ mutual
       ]
   found_one prefix own opened children k (Task d b) place offence reaches (inr h) =
       elim (found (λ (i : Unit {0}). []) (Some d) nothing_open nobody (k + 1) b place offence reaches-nothing h) [
-        | inl q ↦ inr (inr (inl q.1))
+        | inl q ↦ inr (inr (inl (stands-on_path (k + 1) b (Some d) place offence q.1)))
         | inr t ↦ inr (inr (inr t))
       ]
   found_one prefix own opened children k Wait place offence reaches (inl (here, h)) = cc
@@ -294,7 +284,7 @@ offends-met b place offence (inr h) = meets-in_tasks None nothing_open nobody 1 
 met-offends : (b : Body) (place : ℕ) (offence : Offence) → Meets None nothing_open nobody 1 b place offence → Offends b place offence
 met-offends b place offence h =
     elim (found (λ (i : Unit {0}). []) None nothing_open nobody 1 b place offence reaches-nothing h) [
-      | inl q ↦ inl q.1
+      | inl q ↦ inl (stands-on_path 1 b None place offence q.1)
       | inr t ↦ inr t
     ]
 
@@ -302,12 +292,3 @@ pub first-is_first : (b : Body) → IsFirstOf (Offends b) (first None nothing_op
 first-is_first b =
     first-weaker (Meets None nothing_open nobody 1 b) (Offends b) (first None nothing_open nobody 1 b) (met-offends b) (offends-met b)
     (meets-first None nothing_open nobody 1 b)
-
--- where the walk tells nothing there is no offence
-pub tells_none : (b : Body) → first None nothing_open nobody 1 b ≡ None → IsFirstOf (Offends b) None
-tells_none b none = subst (IsFirstOf (Offends b)) none (first-is_first b)
-
--- what it tells is told of all offences
-pub tells_fault : (A B : Type 0) (b : Body) (x : CheckFault) → IsTold {A = A} (first None nothing_open nobody 1 b) (Err x) → TellsFirst {A = B} (Offends b) (Err x)
-tells_fault A B b (fault.Offence offence place) h = subst (IsFirstOf (Offends b)) h (first-is_first b)
-tells_fault A B b fault.Memory h = h

@@ -1,5 +1,5 @@
 -- What stands on some path is met by the walk.
-use Rattle.std.proofs.Common.{◌≡◌, ℕ, ◌+◌, ◌++◌, Bool, true, false, not, ◌&&◌, ◌||◌, List, [], ◌∷◌, map, refl, sym, ap, subst, inl, inr, ◌∙◌, append_assoc, append-nil}
+use Rattle.std.proofs.Common.{◌≡◌, ◌≢◌, ℕ, ◌+◌, ◌++◌, Bool, true, false, not, ◌&&◌, ◌||◌, List, [], ◌∷◌, map, refl, sym, ap, subst, inl, inr, ◌∙◌, append_assoc, append-nil}
 use Rattle.std.specs.Prelude.{◌⊎◌, Some, if◌then◌else◌}
 use Rattle.ot_model.specs.Grouped.{is_adds}
 use Rattle.std.specs.List.{list_any}
@@ -8,12 +8,12 @@ use Rattle.ot_model.specs.Counts.{size, size_one}
 use Rattle.ot_model.specs.declared.expr.Cell.{Cell}
 use Rattle.ot_model.specs.declared.stmt.Mode.TheVariants.{Writes}
 use Rattle.ot_model.specs.declared.stmt.Use.{Use}
-use Rattle.ot_check.specs.Paths.{Mark, Touch, Create, Await, Enter, Leave, Step, At, touched, touches, use_of, PassesOne, Passes}
-use Rattle.ot_check.specs.Offences.{Declared, adds_to, allows, Children, breaks, misfits, has_cell, some_unawaited, is_open, anyone, OnPath, InTasks, InTasksOfOne}
-use Rattle.ot_check.specs.Walk.{nobody, nothing_open, behind_one, with_group, offends, marks, after}
+use Rattle.ot_check.specs.Paths.{Mark, Touch, Create, Await, Enter, Leave, Step, At, touched, touches, use_as, PassesOne, Passes}
+use Rattle.ot_check.specs.Offences.{Declared, adds_to, allows, breaks, misfits, has_cell, unawaited, is_open, OnPath, InTasks, InTasksOfOne}
+use Rattle.ot_check.specs.walk.Walk.{Children, may_break, anyone, nobody, nothing_open, behind_one, with_group, is_offence, marks, after}
+use Rattle.ot_check.proofs.Steps.{some_unawaited, closed_of, touched-balanced, touched-open, touched-unawaited, touched-waits, passes_one-closed, passes_one-open, unawaited-append, open-append}
 use Rattle.ot_check.specs.declared.fault.Offence.{Offence}
-use Rattle.ot_check.specs.declared.fault.Offence.TheVariants.{NotDeclared, ChildBeyond, InOpenGroup, Unawaited, EndsUnawaited}
-use Rattle.ot_check.proofs.Steps.{closed_of, touched-balanced, touched-open, touched-unawaited, touched-waits, passes_one-closed, passes_one-open, unawaited-append, open-append}
+use Rattle.ot_check.specs.declared.fault.Offence.TheVariants.{NotDeclared, ChildBeyond, ReductionMisuse, ConflictsWithChild, EndsWithChildren}
 use Rattle.ot_check.proofs.After.{after-from, after-from_one}
 use Rattle.ot_check.proofs.Meeting.{Meets, MeetsOne}
 use Rattle.ot_check.proofs.Bits.{true_or, or_right, or_none, and_one, any-same, any-more}
@@ -39,37 +39,31 @@ append_split (x ∷ xs) ys (b ∷ before) s later h =
 misfits-same : (own : Declared) (o p : Cell → Bool) (u : Use) → ((c : Cell) → o c ≡ p c) → misfits own o u ≡ misfits own p u
 misfits-same own o p u same = ap (λ b. if is_adds u.mode then not (adds_to own u.cell) && not b else b) (same u.cell)
 
--- ---- more children, the same groups
+-- ---- which children there are
 
-pub breaks-more : (own : Declared) (o p : Cell → Bool) (few many : Children) → ((c : Cell) → o c ≡ p c)
+-- a list of children, told by what is true of some of them
+pub may_break-breaks : (own : Declared) (opened : Cell → Bool) (children : List (List Use)) (mark : Mark) (offence : Offence)
+    → may_break own opened (λ test. list_any test children) mark offence ≡ breaks own opened children mark offence
+may_break-breaks own opened children (Touch u) ConflictsWithChild = refl
+may_break-breaks own opened children (Create d) ConflictsWithChild = refl
+may_break-breaks own opened children (Enter cs) ConflictsWithChild = refl
+may_break-breaks own opened children Await ConflictsWithChild = refl
+may_break-breaks own opened children Leave ConflictsWithChild = refl
+may_break-breaks own opened children mark offence = refl
+
+-- more children, the same groups
+pub may_break-more : (own : Declared) (o p : Cell → Bool) (few many : Children) → ((c : Cell) → o c ≡ p c)
     → ((test : List Use → Bool) → few test ≡ true → many test ≡ true) → (mark : Mark) (offence : Offence)
-    → breaks own o few mark offence ≡ true → breaks own p many mark offence ≡ true
-breaks-more own o p few many same more (Touch u) NotDeclared h = h
-breaks-more own o p few many same more (Touch u) ChildBeyond h = h
-breaks-more own o p few many same more (Touch u) InOpenGroup h = sym (same u.cell) ∙ h
-breaks-more own o p few many same more (Touch u) Unawaited h = more _ h
-breaks-more own o p few many same more (Touch u) EndsUnawaited h = h
-breaks-more own o p few many same more (Create d) NotDeclared h = h
-breaks-more own o p few many same more (Create d) ChildBeyond h = h
-breaks-more own o p few many same more (Create d) InOpenGroup h =
+    → may_break own o few mark offence ≡ true → may_break own p many mark offence ≡ true
+may_break-more own o p few many same more (Touch u) ReductionMisuse h = sym (same u.cell) ∙ h
+may_break-more own o p few many same more (Touch u) ConflictsWithChild h = more _ h
+may_break-more own o p few many same more (Create d) ReductionMisuse h =
     sym (any-same (misfits own o) (misfits own p) d (λ u. misfits-same own o p u same)) ∙ h
-breaks-more own o p few many same more (Create d) Unawaited h = h
-breaks-more own o p few many same more (Create d) EndsUnawaited h = h
-breaks-more own o p few many same more (Enter cs) NotDeclared h = h
-breaks-more own o p few many same more (Enter cs) ChildBeyond h = h
-breaks-more own o p few many same more (Enter cs) InOpenGroup h = sym (any-same _ _ cs (λ c. ap (λ b. not (allows own (use_of Writes c)) || b) (same c))) ∙ h
-breaks-more own o p few many same more (Enter cs) Unawaited h = any-more _ _ cs (λ c. more _) h
-breaks-more own o p few many same more (Enter cs) EndsUnawaited h = h
-breaks-more own o p few many same more Await NotDeclared h = h
-breaks-more own o p few many same more Await ChildBeyond h = h
-breaks-more own o p few many same more Await InOpenGroup h = h
-breaks-more own o p few many same more Await Unawaited h = h
-breaks-more own o p few many same more Await EndsUnawaited h = h
-breaks-more own o p few many same more Leave NotDeclared h = h
-breaks-more own o p few many same more Leave ChildBeyond h = h
-breaks-more own o p few many same more Leave InOpenGroup h = h
-breaks-more own o p few many same more Leave Unawaited h = h
-breaks-more own o p few many same more Leave EndsUnawaited h = h
+may_break-more own o p few many same more (Enter cs) ReductionMisuse h = sym (any-same _ _ cs (λ c. ap (λ b. not (allows own (use_as Writes c)) || b) (same c))) ∙ h
+may_break-more own o p few many same more (Enter cs) ConflictsWithChild h = any-more _ _ cs (λ c. more _) h
+may_break-more own o p few many same more Await ConflictsWithChild h = h
+may_break-more own o p few many same more Leave ConflictsWithChild h = h
+may_break-more own o p few many same more mark offence h = h
 
 -- ---- behind a prefix
 
@@ -133,31 +127,31 @@ holds-passed prefix opened children k x one passes h = record {
 -- a mark behind a prefix and some steps is an offence
 abbrev pub BreaksBehind : List Step → List Step → Declared → Mark → Offence → Type 0
 BreaksBehind prefix before own mark offence =
-    breaks own (is_open (prefix ++ before)) (λ test. some_unawaited test (prefix ++ before)) mark offence ≡ true
+    may_break own (is_open (prefix ++ before)) (λ test. some_unawaited test (prefix ++ before)) mark offence ≡ true
 
 behind-more : (prefix more before : List Step) (own : Declared) (mark : Mark) (offence : Offence)
     → BreaksBehind prefix (more ++ before) own mark offence → BreaksBehind (prefix ++ more) before own mark offence
 behind-more prefix more before own mark offence h =
-    subst (λ p. breaks own (is_open p) (λ test. some_unawaited test p) mark offence ≡ true) (sym (append_assoc prefix more before)) h
+    subst (λ p. may_break own (is_open p) (λ test. some_unawaited test p) mark offence ≡ true) (sym (append_assoc prefix more before)) h
 
 here-breaks : (prefix : List Step) (opened : Cell → Bool) (children : Children) (own : Declared) (mark : Mark) (offence : Offence)
-    → Holds prefix opened children → BreaksBehind prefix [] own mark offence → breaks own opened children mark offence ≡ true
+    → Holds prefix opened children → BreaksBehind prefix [] own mark offence → may_break own opened children mark offence ≡ true
 here-breaks prefix opened children own mark offence h is =
-    breaks-more own (is_open prefix) opened (λ test. some_unawaited test prefix) children h.groups h.unawaited mark offence
-    (subst (λ p. breaks own (is_open p) (λ test. some_unawaited test p) mark offence ≡ true) (append-nil prefix) is)
+    may_break-more own (is_open prefix) opened (λ test. some_unawaited test prefix) children h.groups h.unawaited mark offence
+    (subst (λ p. may_break own (is_open p) (λ test. some_unawaited test p) mark offence ≡ true) (append-nil prefix) is)
 
 -- an offence among the touches of a statement
 touched-meets : (own : Declared) (opened : Cell → Bool) (children : Children) (k : ℕ) (uses : List Use) (prefix before later : List Step)
     (place : ℕ) (mark : Mark) (offence : Offence) → Holds prefix opened children → touched k uses ≡ before ++ At place mark ∷ later
     → BreaksBehind prefix before own mark offence
-    → (place ≡ k) × (list_any (λ m. breaks own opened children m offence) (map Touch uses) ≡ true)
+    → (place ≡ k) × (list_any (λ m. may_break own opened children m offence) (map Touch uses) ≡ true)
 touched-meets own opened children k [] prefix [] later place mark offence holds is h = cc
 touched-meets own opened children k [] prefix (b ∷ before) later place mark offence holds is h = cc
 touched-meets own opened children k (u ∷ uses) prefix [] later place mark offence holds is h =
     let step : At k (Touch u) ≡ At place mark = cc in
     let at_place : k ≡ place = cc in
     let what : Touch u ≡ mark = cc in
-    (sym at_place, true_or _ _ (ap (λ m. breaks own opened children m offence) what ∙ here-breaks prefix opened children own mark offence holds h))
+    (sym at_place, true_or _ _ (ap (λ m. may_break own opened children m offence) what ∙ here-breaks prefix opened children own mark offence holds h))
 touched-meets own opened children k (u ∷ uses) prefix (b ∷ before) later place mark offence holds is h =
     let step : At k (Touch u) ≡ b = cc in
     let rest : touched k uses ≡ before ++ At place mark ∷ later = cc in
@@ -170,21 +164,15 @@ touched-meets own opened children k (u ∷ uses) prefix (b ∷ before) later pla
 -- ---- what stands on a path is met
 
 abbrev pub MeetsHere : Declared → (Cell → Bool) → Children → ℕ → S → ℕ → Offence → Type 0
-MeetsHere own opened children k x place offence = (place ≡ k) × (offends own opened children x offence ≡ true)
+MeetsHere own opened children k x place offence = (place ≡ k) × (is_offence own opened children x offence ≡ true)
 
-pub nothing-breaks : (own : Declared) (o : Cell → Bool) (p : Children) (offence : Offence) → breaks own o p Await offence ≡ true → ⊥
-nothing-breaks own o p NotDeclared h = cc
-nothing-breaks own o p ChildBeyond h = cc
-nothing-breaks own o p InOpenGroup h = cc
-nothing-breaks own o p Unawaited h = cc
-nothing-breaks own o p EndsUnawaited h = cc
+pub nothing-breaks : (own : Declared) (o : Cell → Bool) (p : Children) (offence : Offence) → may_break own o p Await offence ≡ true → ⊥
+nothing-breaks own o p ConflictsWithChild h = cc
+nothing-breaks own o p offence h = cc
 
-pub end-breaks : (own : Declared) (o : Cell → Bool) (p : Children) (offence : Offence) → breaks own o p Leave offence ≡ true → ⊥
-end-breaks own o p NotDeclared h = cc
-end-breaks own o p ChildBeyond h = cc
-end-breaks own o p InOpenGroup h = cc
-end-breaks own o p Unawaited h = cc
-end-breaks own o p EndsUnawaited h = cc
+pub end-breaks : (own : Declared) (o : Cell → Bool) (p : Children) (offence : Offence) → may_break own o p Leave offence ≡ true → ⊥
+end-breaks own o p ConflictsWithChild h = cc
+end-breaks own o p offence h = cc
 
 -- the only step of a list of one
 only : (s : Step) (before : List Step) (t : Step) (later : List Step) → s ∷ [] ≡ before ++ t ∷ later → (before ≡ []) × (s ≡ t)
@@ -224,20 +212,20 @@ mutual
       let what : Create d ≡ mark = cc in
       inl (
         sym at_place,
-        true_or _ _ (true_or _ _ (ap (λ m. breaks own opened children m offence) what
+        true_or _ _ (true_or _ _ (ap (λ m. may_break own opened children m offence) what
             ∙ here-breaks prefix opened children own mark offence holds (subst (λ b. BreaksBehind prefix b own mark offence) o.0 h))),
       )
   meets-from_one own opened children k Wait prefix before later place mark offence holds is h =
       let o = only (At k Await) before (At place mark) later (sym is) in
       let what : mark ≡ Await = cc in
-      absurd (nothing-breaks own opened children offence (ap (λ m. breaks own opened children m offence) (sym what)
+      absurd (nothing-breaks own opened children offence (ap (λ m. may_break own opened children m offence) (sym what)
       ∙ here-breaks prefix opened children own mark offence holds (subst (λ b. BreaksBehind prefix b own mark offence) o.0 h)))
   meets-from_one own opened children k (Group cs b) prefix [] later place mark offence holds (inside, is, way) h =
       let at_place : k ≡ place = cc in
       let what : Enter cs ≡ mark = cc in
       inl (
         sym at_place,
-        true_or _ _ (true_or _ _ (ap (λ m. breaks own opened children m offence) what
+        true_or _ _ (true_or _ _ (ap (λ m. may_break own opened children m offence) what
             ∙ here-breaks prefix opened children own mark offence holds h)),
       )
   meets-from_one own opened children k (Group cs b) prefix (s ∷ before) later place mark offence holds (inside, is, way) h =
@@ -274,7 +262,16 @@ holds-nothing = record { groups = λ c. refl; unawaited = λ test h. h }
 pub meets-on_path : (k : ℕ) (b : Body) (own : Declared) (place : ℕ) (offence : Offence) → OnPath k b own place offence
     → Meets own nothing_open nobody k b place offence
 meets-on_path k b own place offence (before, later, mark, way, h) =
-    meets-from own nothing_open nobody k b [] before later place mark offence holds-nothing way h
+    meets-from own nothing_open nobody k b [] before later place mark offence holds-nothing way
+    (may_break-breaks own (is_open before) (unawaited before) mark offence ∙ h)
+
+pub someone_there : (children : List (List Use)) → children ≢ [] → list_any anyone children ≡ true
+someone_there [] h = absurd (h refl)
+someone_there (d ∷ children) h = refl
+
+pub there_someone : (children : List (List Use)) → list_any anyone children ≡ true → children ≢ []
+there_someone [] h = cc
+there_someone (d ∷ children) h = λ e. cc
 
 -- so is what stands in a task
 mutual
@@ -285,8 +282,8 @@ mutual
   meets-in_tasks_one own opened children k (If e a b) place offence (inl h) = inr (inl (meets-in_tasks own opened children (k + 1) a place offence h))
   meets-in_tasks_one own opened children k (If e a b) place offence (inr h) = inr (inr (meets-in_tasks own opened children (k + 1 + size a) b place offence h))
   meets-in_tasks_one own opened children k (Task d b) place offence (inl (here, is, left)) =
-      let ends : after anyone false b ≡ true = after-from anyone (k + 1) b left.0 left.1 false false (λ e. e) left.2 in
-      inl (here, subst (λ c. offends own opened children (Task d b) c ≡ true) (sym is) (or_right (list_any (λ m. breaks own opened children m EndsUnawaited) (marks (Task d b))) (after anyone false b) ends))
+      let ends : after anyone false b ≡ true = after-from anyone (k + 1) b left.0 left.1 false false (λ e. e) (someone_there (unawaited left.0) left.2) in
+      inl (here, subst (λ c. is_offence own opened children (Task d b) c ≡ true) (sym is) (or_right (list_any (λ m. may_break own opened children m EndsWithChildren) (marks (Task d b))) (after anyone false b) ends))
   meets-in_tasks_one own opened children k (Task d b) place offence (inr (inl h)) = inr (meets-on_path (k + 1) b (Some d) place offence h)
   meets-in_tasks_one own opened children k (Task d b) place offence (inr (inr h)) = inr (meets-in_tasks (Some d) nothing_open nobody (k + 1) b place offence h)
   meets-in_tasks_one own opened children k Wait place offence h = absurd h

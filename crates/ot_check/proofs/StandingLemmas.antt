@@ -5,8 +5,6 @@ use Rattle.std.specs.List.{list_any, range_with_len}
 use Rattle.std.proofs.lemmas.List.FromFn.{length-map-range_with_len, get_or-map-range_with_len, map-range_with_len_more}
 use Rattle.ot_model.specs.Value.{cell_at}
 use Rattle.ot_model.specs.declared.expr.Section.{Section}
-use Rattle.std.proofs.lemmas.Bool.{cases_eq}
-use Rattle.std.proofs.lemmas.Bool.Decides.{nat_tests}
 use Rattle.std.proofs.lemmas.List.Folds.{list_any-append, list_any_more, list_any_at}
 use Rattle.std.proofs.lemmas.List.Elements.{All-get_or}
 use Rattle.std.proofs.lemmas.List.{take_more}
@@ -17,18 +15,20 @@ use Rattle.ot_model.specs.declared.expr.Cell.{Cell}
 use Rattle.ot_model.specs.declared.stmt.Mode.{Mode}
 use Rattle.ot_model.specs.declared.stmt.Mode.TheVariants.{Reads, Writes, Adds}
 use Rattle.ot_model.specs.declared.stmt.Use.{Use}
-use Rattle.ot_check.specs.Paths.{Enter, use_of}
-use Rattle.ot_check.specs.Offences.{Declared, Children, breaks, same_cell, has_cell, anyone, covers, allows, adds_to, clashes}
+use Rattle.ot_check.specs.Paths.{Enter, use_as}
+use Rattle.ot_check.specs.Offences.{Declared, has_cell, covers, allows, adds_to, clashes}
+use Rattle.ot_check.specs.walk.Walk.{Children, may_break, anyone, nobody, nothing_open, with_group}
+use Rattle.ot_model.specs.Cells.{same_cell}
 use Rattle.ot_check.specs.declared.fault.Offence.{Offence}
-use Rattle.ot_check.specs.declared.fault.Offence.TheVariants.{NotDeclared, ChildBeyond, InOpenGroup, Unawaited, EndsUnawaited}
-use Rattle.ot_check.specs.Walk.{nobody, nothing_open, with_group}
-use Rattle.ot_check.specs.Grids.{found_at, widths, filled, Tells}
-use Rattle.ot_check.specs.States.{has, modes_of, state_of, cleared, joined, joined_rows, with_child, with_declared, in_group, Represents, one_more, of_both}
+use Rattle.ot_check.specs.declared.fault.Offence.TheVariants.{NotDeclared, ChildBeyond, ReductionMisuse, ConflictsWithChild, EndsWithChildren}
+use Rattle.ot_check.specs.walk.Grids.{found_at, widths, filled, Tells}
+use Rattle.ot_check.specs.walk.States.{has, modes_of, cell_state, cleared, merged, merged_rows, with_child, with_declared, in_group, Represents, one_more, of_both}
 use Rattle.ot_check.specs.declared.state.CellState.{CellState}
 use Rattle.ot_check.specs.declared.modes.Modes.{Modes}
+use Rattle.ot_check.specs.declared.standing.Standing.{Standing}
 use Rattle.ot_check.proofs.GridLemmas.{found_at-filled}
-use Rattle.ot_model.proofs.CellsLemmas as model
-use Rattle.ot_check.proofs.StateLemmas.{found_at-joined, found_at-cleared, at_map}
+use Rattle.ot_check.proofs.SameLemmas.{same_itself, same_apart, cells_equal}
+use Rattle.ot_check.proofs.StateLemmas.{found_at-merged, found_at-cleared, at_map}
 use Rattle.ot_check.proofs.Bits.{or_none, and_false, or_assoc, any-same, none_any}
 
 -- ---- cells that are there
@@ -44,33 +44,7 @@ there rows c h =
     let w : c.index < length r.0 = omega (arith, h.within, r.2) in
     subst (λ o. IsSome (option_and_then (λ row. slice_get row c.index) o)) (sym r.1) (item_within r.0 c.index w)
 
--- ---- one cell or another
-
-eq_itself : (n : ℕ) → (n == n) ≡ true
-eq_itself n = grind (arith, nat_tests)
-
-same_itself : (c : Cell) → same_cell c c ≡ true
-same_itself c = ap (λ b. b && (c.index == c.index)) (eq_itself c.array) ∙ eq_itself c.index
-
-eq_apart : (n m : ℕ) → n ≢ m → (n == m) ≡ false
-eq_apart n m apart = grind (arith, nat_tests)
-
-same_apart : (c d : Cell) → c ≢ d → same_cell c d ≡ false
-same_apart c d apart =
-    elim (model.cells_apart c d apart) [
-      | inl array ↦ ap (λ b. b && (c.index == d.index)) (eq_apart c.array d.array array)
-      | inr both ↦ ap (λ b. (c.array == d.array) && b) (eq_apart c.index d.index both.1) ∙ and_false (c.array == d.array)
-    ]
-
-cells_equal : (c d : Cell) → (c ≡ d) ⊎ (c ≢ d)
-cells_equal c d =
-    elim (cases_eq c.array d.array) [
-      | inl array ↦ elim (cases_eq c.index d.index) [
-        | inl index ↦ inl (model.same_cell c d array index)
-        | inr apart ↦ inr (λ e. apart (ap (λ c. c.index) e))
-      ]
-      | inr apart ↦ inr (λ e. apart (ap (λ c. c.array) e))
-    ]
+-- ---- cells, one by one
 
 -- one cell is written
 pub tells-written : {T : Type 0} (rows new : List (List T)) (f g : Cell → T) (cell : Cell) (x : T) → Tells rows f
@@ -109,38 +83,38 @@ clashes-more v uses u =
     ∙ ap (λ b. clashes v uses || b) (or_none (same_cell u.cell v.cell && conflicts u.mode v.mode))
 
 clashing-at : (children : Children) (uses : List Use) (u : Use) (m : Mode)
-    → (one_more children uses (clashes (use_of m u.cell)) || conflicts u.mode m) ≡ one_more children (uses ++ u ∷ []) (clashes (use_of m u.cell))
+    → (one_more children uses (clashes (use_as m u.cell)) || conflicts u.mode m) ≡ one_more children (uses ++ u ∷ []) (clashes (use_as m u.cell))
 clashing-at children uses u m =
-    or_assoc (children (clashes (use_of m u.cell))) (clashes (use_of m u.cell) uses) (conflicts u.mode m)
-    ∙ ap (λ b. children (clashes (use_of m u.cell)) || (clashes (use_of m u.cell) uses || b))
+    or_assoc (children (clashes (use_as m u.cell))) (clashes (use_as m u.cell) uses) (conflicts u.mode m)
+    ∙ ap (λ b. children (clashes (use_as m u.cell)) || (clashes (use_as m u.cell) uses || b))
     (ap (λ b. b && conflicts u.mode m) (sym (same_itself u.cell)))
-    ∙ ap (λ b. children (clashes (use_of m u.cell)) || b) (sym (clashes-more (use_of m u.cell) uses u))
+    ∙ ap (λ b. children (clashes (use_as m u.cell)) || b) (sym (clashes-more (use_as m u.cell) uses u))
 
 clashing-elsewhere : (children : Children) (uses : List Use) (u : Use) (c : Cell) (m : Mode) → u.cell ≢ c
-    → one_more children uses (clashes (use_of m c)) ≡ one_more children (uses ++ u ∷ []) (clashes (use_of m c))
+    → one_more children uses (clashes (use_as m c)) ≡ one_more children (uses ++ u ∷ []) (clashes (use_as m c))
 clashing-elsewhere children uses u c m apart =
-    ap (λ b. children (clashes (use_of m c)) || b)
-    (sym (clashes-more (use_of m c) uses u ∙ ap (λ b. clashes (use_of m c) uses || (b && conflicts u.mode m)) (same_apart u.cell c apart)
-    ∙ or_none (clashes (use_of m c) uses)))
+    ap (λ b. children (clashes (use_as m c)) || b)
+    (sym (clashes-more (use_as m c) uses u ∙ ap (λ b. clashes (use_as m c) uses || (b && conflicts u.mode m)) (same_apart u.cell c apart)
+    ∙ or_none (clashes (use_as m c) uses)))
 
 pub child-first : (own : Declared) (opened : Cell → Bool) (children : Children) (rows : List (List CellState))
-    → Tells rows (state_of own opened children) → Tells rows (state_of own opened (one_more children []))
+    → Tells rows (cell_state own opened children) → Tells rows (cell_state own opened (one_more children []))
 child-first own opened children rows told =
-    tells-same rows (state_of own opened children) (state_of own opened (one_more children []))
-    (λ c. ap (state (modes_of (λ m. allows own (use_of m c))) (adds_to own c) (opened c))
-    (modes-same _ _ (λ m. sym (or_none (children (clashes (use_of m c))))))) told
+    tells-same rows (cell_state own opened children) (cell_state own opened (one_more children []))
+    (λ c. ap (state (modes_of (λ m. allows own (use_as m c))) (adds_to own c) (opened c))
+    (modes-same _ _ (λ m. sym (or_none (children (clashes (use_as m c))))))) told
 
 pub child-more : (own : Declared) (opened : Cell → Bool) (children : Children) (uses : List Use) (u : Use) (rows new : List (List CellState)) (s : CellState)
-    → Tells rows (state_of own opened (one_more children uses)) → found_at rows u.cell ≡ Some s
+    → Tells rows (cell_state own opened (one_more children uses)) → found_at rows u.cell ≡ Some s
     → found_at new u.cell ≡ Some (with_child s u.mode) → ((other : Cell) → u.cell ≢ other → found_at new other ≡ found_at rows other)
-    → Tells new (state_of own opened (one_more children (uses ++ u ∷ [])))
+    → Tells new (cell_state own opened (one_more children (uses ++ u ∷ [])))
 child-more own opened children uses u rows new s told at written others =
-    tells-written rows new (state_of own opened (one_more children uses)) (state_of own opened (one_more children (uses ++ u ∷ []))) u.cell (with_child s u.mode)
+    tells-written rows new (cell_state own opened (one_more children uses)) (cell_state own opened (one_more children (uses ++ u ∷ []))) u.cell (with_child s u.mode)
     told written others
     (ap (λ s. with_child s u.mode) (told u.cell s at)
-    ∙ ap (state (modes_of (λ m. allows own (use_of m u.cell))) (adds_to own u.cell) (opened u.cell))
-    (modes-same (λ m. one_more children uses (clashes (use_of m u.cell)) || conflicts u.mode m) _ (clashing-at children uses u)))
-    (λ c apart. ap (state (modes_of (λ m. allows own (use_of m c))) (adds_to own c) (opened c)) (modes-same _ _ (λ m. clashing-elsewhere children uses u c m apart)))
+    ∙ ap (state (modes_of (λ m. allows own (use_as m u.cell))) (adds_to own u.cell) (opened u.cell))
+    (modes-same (λ m. one_more children uses (clashes (use_as m u.cell)) || conflicts u.mode m) _ (clashing-at children uses u)))
+    (λ c apart. ap (state (modes_of (λ m. allows own (use_as m c))) (adds_to own c) (opened c)) (modes-same _ _ (λ m. clashing-elsewhere children uses u c m apart)))
 
 -- ---- what a task declares
 
@@ -155,22 +129,22 @@ adds_to-more uses u c =
     ∙ ap (λ b. adds_to (Some uses) c || b) (or_none (same_cell u.cell c && is_adds u.mode))
 
 pub declared-more : (uses : List Use) (u : Use) (rows new : List (List CellState)) (s : CellState)
-    → Tells rows (state_of (Some uses) nothing_open nobody) → found_at rows u.cell ≡ Some s
+    → Tells rows (cell_state (Some uses) nothing_open nobody) → found_at rows u.cell ≡ Some s
     → found_at new u.cell ≡ Some (with_declared s u.mode) → ((other : Cell) → u.cell ≢ other → found_at new other ≡ found_at rows other)
-    → Tells new (state_of (Some (uses ++ u ∷ [])) nothing_open nobody)
+    → Tells new (cell_state (Some (uses ++ u ∷ [])) nothing_open nobody)
 declared-more uses u rows new s told at written others =
-    tells-written rows new (state_of (Some uses) nothing_open nobody) (state_of (Some (uses ++ u ∷ [])) nothing_open nobody) u.cell (with_declared s u.mode)
+    tells-written rows new (cell_state (Some uses) nothing_open nobody) (cell_state (Some (uses ++ u ∷ [])) nothing_open nobody) u.cell (with_declared s u.mode)
     told written others
     (ap (λ s. with_declared s u.mode) (told u.cell s at)
     ∙ ap (λ a. state a (adds_to (Some uses) u.cell || is_adds u.mode) false (modes_of (λ m. false)))
-    (modes-same (λ m. allows (Some uses) (use_of m u.cell) || covers u.mode m) (λ m. allows (Some (uses ++ u ∷ [])) (use_of m u.cell))
-    (λ m. ap (λ b. allows (Some uses) (use_of m u.cell) || (b && covers u.mode m)) (sym (same_itself u.cell)) ∙ sym (allows-more uses u (use_of m u.cell))))
-    ∙ ap (λ r. state (modes_of (λ m. allows (Some (uses ++ u ∷ [])) (use_of m u.cell))) r false (modes_of (λ m. false)))
+    (modes-same (λ m. allows (Some uses) (use_as m u.cell) || covers u.mode m) (λ m. allows (Some (uses ++ u ∷ [])) (use_as m u.cell))
+    (λ m. ap (λ b. allows (Some uses) (use_as m u.cell) || (b && covers u.mode m)) (sym (same_itself u.cell)) ∙ sym (allows-more uses u (use_as m u.cell))))
+    ∙ ap (λ r. state (modes_of (λ m. allows (Some (uses ++ u ∷ [])) (use_as m u.cell))) r false (modes_of (λ m. false)))
     (ap (λ b. adds_to (Some uses) u.cell || (b && is_adds u.mode)) (sym (same_itself u.cell)) ∙ sym (adds_to-more uses u u.cell)))
     (λ c apart. ap (λ a. state a (adds_to (Some uses) c) false (modes_of (λ m. false)))
-    (modes-same _ _ (λ m. sym (allows-more uses u (use_of m c) ∙ ap (λ b. allows (Some uses) (use_of m c) || (b && covers u.mode m)) (same_apart u.cell c apart)
-    ∙ or_none (allows (Some uses) (use_of m c)))))
-    ∙ ap (λ r. state (modes_of (λ m. allows (Some (uses ++ u ∷ [])) (use_of m c))) r false (modes_of (λ m. false)))
+    (modes-same _ _ (λ m. sym (allows-more uses u (use_as m c) ∙ ap (λ b. allows (Some uses) (use_as m c) || (b && covers u.mode m)) (same_apart u.cell c apart)
+    ∙ or_none (allows (Some uses) (use_as m c)))))
+    ∙ ap (λ r. state (modes_of (λ m. allows (Some (uses ++ u ∷ [])) (use_as m c))) r false (modes_of (λ m. false)))
     (sym (adds_to-more uses u c ∙ ap (λ b. adds_to (Some uses) c || (b && is_adds u.mode)) (same_apart u.cell c apart) ∙ or_none (adds_to (Some uses) c))))
 
 -- ---- a group's cells
@@ -184,52 +158,52 @@ or_all false true = refl
 or_all false false = refl
 
 pub group-more : (own : Declared) (opened : Cell → Bool) (children : Children) (cells : List Cell) (d : Cell) (rows new : List (List CellState)) (s : CellState)
-    → Tells rows (state_of own (with_group opened cells) children) → found_at rows d ≡ Some s
+    → Tells rows (cell_state own (with_group opened cells) children) → found_at rows d ≡ Some s
     → found_at new d ≡ Some (in_group s) → ((other : Cell) → d ≢ other → found_at new other ≡ found_at rows other)
-    → Tells new (state_of own (with_group opened (cells ++ d ∷ [])) children)
+    → Tells new (cell_state own (with_group opened (cells ++ d ∷ [])) children)
 group-more own opened children cells d rows new s told at written others =
-    tells-written rows new (state_of own (with_group opened cells) children) (state_of own (with_group opened (cells ++ d ∷ [])) children) d (in_group s)
+    tells-written rows new (cell_state own (with_group opened cells) children) (cell_state own (with_group opened (cells ++ d ∷ [])) children) d (in_group s)
     told written others
     (ap in_group (told d s at)
-    ∙ ap (λ g. state (modes_of (λ m. allows own (use_of m d))) (adds_to own d) g (modes_of (λ m. children (clashes (use_of m d)))))
+    ∙ ap (λ g. state (modes_of (λ m. allows own (use_as m d))) (adds_to own d) g (modes_of (λ m. children (clashes (use_as m d)))))
     (sym (ap (λ b. opened d || b) (group-has cells d d ∙ ap (λ b. has_cell cells d || b) (same_itself d)) ∙ or_all (opened d) (has_cell cells d))))
-    (λ c apart. ap (λ g. state (modes_of (λ m. allows own (use_of m c))) (adds_to own c) g (modes_of (λ m. children (clashes (use_of m c)))))
+    (λ c apart. ap (λ g. state (modes_of (λ m. allows own (use_as m c))) (adds_to own c) g (modes_of (λ m. children (clashes (use_as m c)))))
     (ap (λ b. opened c || b) (sym (group-has cells d c ∙ ap (λ b. has_cell cells c || b) (same_apart d c apart) ∙ or_none (has_cell cells c)))))
 
 pub group-first : (own : Declared) (opened : Cell → Bool) (children : Children) (rows : List (List CellState))
-    → Tells rows (state_of own opened children) → Tells rows (state_of own (with_group opened []) children)
+    → Tells rows (cell_state own opened children) → Tells rows (cell_state own (with_group opened []) children)
 group-first own opened children rows told =
-    tells-same rows (state_of own opened children) (state_of own (with_group opened []) children)
-    (λ c. ap (λ g. state (modes_of (λ m. allows own (use_of m c))) (adds_to own c) g (modes_of (λ m. children (clashes (use_of m c))))) (sym (or_none (opened c)))) told
+    tells-same rows (cell_state own opened children) (cell_state own (with_group opened []) children)
+    (λ c. ap (λ g. state (modes_of (λ m. allows own (use_as m c))) (adds_to own c) g (modes_of (λ m. children (clashes (use_as m c))))) (sym (or_none (opened c)))) told
 
 -- ---- whole tables
 
-pub stands-cleared : (own : Declared) (opened : Cell → Bool) (children : Children) (someone : Bool) (rows : List (List CellState))
-    → Represents own opened children someone rows → Represents own opened nobody false (map (map cleared) rows)
-stands-cleared own opened children someone rows h = record {
-  anyone = refl;
-  cells = λ c s found. let p = found_at-cleared rows c s found in p.2 ∙ ap cleared (h.cells c p.0 p.1);
+pub stands-cleared : (own : Declared) (opened : Cell → Bool) (children : Children) (one new : Standing) → Represents own opened children one
+    → new.someone ≡ false → new.table ≡ map (map cleared) one.table → Represents own opened nobody new
+stands-cleared own opened children one new h nobody_left rows_are = record {
+  anyone = nobody_left;
+  cells = λ c s found. let p = found_at-cleared one.table c s (ap (λ rows. found_at rows c) (sym rows_are) ∙ found) in p.2 ∙ ap cleared (h.cells c p.0 p.1);
 }
 
-pub stands-joined : (own : Declared) (opened : Cell → Bool) (children others : Children) (someone other : Bool) (rows new : List (List CellState)) → widths rows ≡ widths new
-    → Represents own opened children someone rows → Represents own opened others other new
-    → Represents own opened (of_both children others) (someone || other) (joined_rows rows new)
-stands-joined own opened children others someone other rows new same h g = record {
-  anyone = ap (λ b. b || other) h.anyone ∙ ap (λ b. children anyone || b) g.anyone;
-  cells = λ c s found. let p = found_at-joined rows new c s same found in
-      p.4 ∙ ap (λ a. joined a p.1) (h.cells c p.0 p.2) ∙ ap (joined (state_of own opened children c)) (g.cells c p.1 p.3);
+pub stands-merged : (own : Declared) (opened : Cell → Bool) (children others : Children) (one other new : Standing) → widths one.table ≡ widths other.table
+    → new.someone ≡ (one.someone || other.someone) → new.table ≡ merged_rows one.table other.table
+    → Represents own opened children one → Represents own opened others other → Represents own opened (of_both children others) new
+stands-merged own opened children others one other new same someone_is rows_are h g = record {
+  anyone = someone_is ∙ ap (λ b. b || other.someone) h.anyone ∙ ap (λ b. children anyone || b) g.anyone;
+  cells = λ c s found. let p = found_at-merged one.table other.table c s same (ap (λ rows. found_at rows c) (sym rows_are) ∙ found) in
+      p.4 ∙ ap (λ a. merged a p.1) (h.cells c p.0 p.2) ∙ ap (merged (cell_state own opened children c)) (g.cells c p.1 p.3);
 }
 
-pub stands-root : (lens : List ℕ) (all none : Modes) → all ≡ modes_of (λ m. true) → none ≡ modes_of (λ m. false)
-    → Represents None nothing_open nobody false (filled (state all false false none) lens)
-stands-root lens all none is_all is_none = record {
-  anyone = refl;
-  cells = λ c s found. found_at-filled (state all false false none) s lens c.array c.index found
+pub stands-root : (lens : List ℕ) (all none : Modes) (new : Standing) → new.someone ≡ false → new.table ≡ filled (state all false false none) lens
+    → all ≡ modes_of (λ m. true) → none ≡ modes_of (λ m. false) → Represents None nothing_open nobody new
+stands-root lens all none new nobody_there rows_are is_all is_none = record {
+  anyone = nobody_there;
+  cells = λ c s found. found_at-filled (state all false false none) s lens c.array c.index (ap (λ rows. found_at rows c) (sym rows_are) ∙ found)
       ∙ ap (λ a. state a false false none) is_all ∙ ap (state (modes_of (λ m. true)) false false) is_none;
 }
 
 pub stands-empty : (lens : List ℕ) (none clashing : Modes) → none ≡ modes_of (λ m. false) → clashing ≡ modes_of (λ m. false)
-    → Tells (filled (state none false false clashing) lens) (state_of (Some []) nothing_open nobody)
+    → Tells (filled (state none false false clashing) lens) (cell_state (Some []) nothing_open nobody)
 stands-empty lens none clashing is_none is_clashing c s found =
     found_at-filled (state none false false clashing) s lens c.array c.index found
     ∙ ap (λ a. state a false false clashing) is_none ∙ ap (state (modes_of (λ m. false)) false false) is_clashing
@@ -249,30 +223,30 @@ cell_there rows first list i d named same l =
     there rows (get_or list i d) (subst (λ lens. IsInShape lens (get_or list i d)) (sym same) (All-get_or (IsInShape (widths first)) list i d l named))
 
 pub child-step : (own : Declared) (opened : Cell → Bool) (children : Children) (list : List Use) (i : ℕ) (d : Use) (rows new : List (List CellState)) (s t : CellState)
-    → i < length list → Tells rows (state_of own opened (one_more children (take i list)))
+    → i < length list → Tells rows (cell_state own opened (one_more children (take i list)))
     → found_at rows (get_or list i d).cell ≡ Some s → t ≡ with_child s (get_or list i d).mode → found_at new (get_or list i d).cell ≡ Some t
     → ((other : Cell) → (get_or list i d).cell ≢ other → found_at new other ≡ found_at rows other)
-    → Tells new (state_of own opened (one_more children (take (i + 1) list)))
+    → Tells new (cell_state own opened (one_more children (take (i + 1) list)))
 child-step own opened children list i d rows new s t l told at is written others =
-    subst (λ uses. Tells new (state_of own opened (one_more children uses))) (sym (take_more list i d l))
+    subst (λ uses. Tells new (cell_state own opened (one_more children uses))) (sym (take_more list i d l))
     (child-more own opened children (take i list) (get_or list i d) rows new s told at (written ∙ ap Some is) others)
 
 pub declared-step : (list : List Use) (i : ℕ) (d : Use) (rows new : List (List CellState)) (s t : CellState)
-    → i < length list → Tells rows (state_of (Some (take i list)) nothing_open nobody)
+    → i < length list → Tells rows (cell_state (Some (take i list)) nothing_open nobody)
     → found_at rows (get_or list i d).cell ≡ Some s → t ≡ with_declared s (get_or list i d).mode → found_at new (get_or list i d).cell ≡ Some t
     → ((other : Cell) → (get_or list i d).cell ≢ other → found_at new other ≡ found_at rows other)
-    → Tells new (state_of (Some (take (i + 1) list)) nothing_open nobody)
+    → Tells new (cell_state (Some (take (i + 1) list)) nothing_open nobody)
 declared-step list i d rows new s t l told at is written others =
-    subst (λ uses. Tells new (state_of (Some uses) nothing_open nobody)) (sym (take_more list i d l))
+    subst (λ uses. Tells new (cell_state (Some uses) nothing_open nobody)) (sym (take_more list i d l))
     (declared-more (take i list) (get_or list i d) rows new s told at (written ∙ ap Some is) others)
 
 pub group-step : (own : Declared) (opened : Cell → Bool) (children : Children) (list : List Cell) (i : ℕ) (d : Cell) (rows new : List (List CellState)) (s t : CellState)
-    → i < length list → Tells rows (state_of own (with_group opened (take i list)) children)
+    → i < length list → Tells rows (cell_state own (with_group opened (take i list)) children)
     → found_at rows (get_or list i d) ≡ Some s → t ≡ in_group s → found_at new (get_or list i d) ≡ Some t
     → ((other : Cell) → (get_or list i d) ≢ other → found_at new other ≡ found_at rows other)
-    → Tells new (state_of own (with_group opened (take (i + 1) list)) children)
+    → Tells new (cell_state own (with_group opened (take (i + 1) list)) children)
 group-step own opened children list i d rows new s t l told at is written others =
-    subst (λ cells. Tells new (state_of own (with_group opened cells) children)) (sym (take_more list i d l))
+    subst (λ cells. Tells new (cell_state own (with_group opened cells) children)) (sym (take_more list i d l))
     (group-more own opened children (take i list) (get_or list i d) rows new s told at (written ∙ ap Some is) others)
 
 -- the whole list
@@ -297,15 +271,15 @@ any-none test list whole i same l none = sym none ∙ ap (list_any test) (taken 
 
 -- whether a group of this cell alone is the offence
 abbrev pub alone : Declared → (Cell → Bool) → Children → Offence → Cell → Bool
-alone own opened children offence c = breaks own opened children (Enter (c ∷ [])) offence
+alone own opened children offence c = may_break own opened children (Enter (c ∷ [])) offence
 
 pub one_by_one : (own : Declared) (opened : Cell → Bool) (children : Children) (cells : List Cell) (offence : Offence)
-    → breaks own opened children (Enter cells) offence ≡ list_any (alone own opened children offence) cells
+    → may_break own opened children (Enter cells) offence ≡ list_any (alone own opened children offence) cells
 one_by_one own opened children cells NotDeclared = none_any cells
 one_by_one own opened children cells ChildBeyond = none_any cells
-one_by_one own opened children cells InOpenGroup = any-same _ _ cells (λ c. sym (or_none (not (allows own (use_of Writes c)) || opened c)))
-one_by_one own opened children cells Unawaited = any-same _ _ cells (λ c. sym (or_none (children (clashes (use_of Writes c)))))
-one_by_one own opened children cells EndsUnawaited = none_any cells
+one_by_one own opened children cells ReductionMisuse = any-same _ _ cells (λ c. sym (or_none (not (allows own (use_as Writes c)) || opened c)))
+one_by_one own opened children cells ConflictsWithChild = any-same _ _ cells (λ c. sym (or_none (children (clashes (use_as Writes c)))))
+one_by_one own opened children cells EndsWithChildren = none_any cells
 
 -- ---- what one list or the other has
 
@@ -343,7 +317,7 @@ section-none test s k n l m none =
     sym none ∙ ap (λ k. list_any test (map (cell_at s) (range_with_len 0 k))) e
 
 pub clashing-same : (own : Declared) (opened : Cell → Bool) (children others : Children) → ((test : List Use → Bool) → children test ≡ others test)
-    → (c : Cell) → state_of own opened children c ≡ state_of own opened others c
+    → (c : Cell) → cell_state own opened children c ≡ cell_state own opened others c
 clashing-same own opened children others same c =
-    ap (state (modes_of (λ m. allows own (use_of m c))) (adds_to own c) (opened c))
-    (modes-same (λ m. children (clashes (use_of m c))) (λ m. others (clashes (use_of m c))) (λ m. same (clashes (use_of m c))))
+    ap (state (modes_of (λ m. allows own (use_as m c))) (adds_to own c) (opened c))
+    (modes-same (λ m. children (clashes (use_as m c))) (λ m. others (clashes (use_as m c))) (λ m. same (clashes (use_as m c))))

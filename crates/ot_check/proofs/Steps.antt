@@ -1,12 +1,15 @@
 -- Steps of paths: what stands open behind several of them.
 use Rattle.std.proofs.Common.{◌≡◌, ℕ, zero, suc, ◌+◌, ◌++◌, Bool, true, false, not, ◌&&◌, ◌||◌, List, [], ◌∷◌, refl, sym, ap, subst, inl, inr, ◌∙◌, append_assoc, append-nil}
+use Rattle.std.specs.List.{list_any}
+use Rattle.std.specs.Prelude.{if◌then◌else◌}
 use Rattle.std.proofs.lemmas.List.Folds.{list_any-append}
 use Rattle.ot_model.specs.Tree.{S, Set, Add, If, Task, Wait, Group, Body, End, Next}
 use Rattle.ot_model.specs.Counts.{size, size_one}
 use Rattle.ot_model.specs.declared.expr.Cell.{Cell}
 use Rattle.ot_model.specs.declared.stmt.Use.{Use}
 use Rattle.ot_check.specs.Paths.{Touch, Create, Await, Enter, Leave, Step, At, touched, touches, PassesOne, Passes}
-use Rattle.ot_check.specs.Offences.{stays_within, is_wait, has_wait, some_unawaited, is_open, has_cell}
+use Rattle.ot_check.specs.Offences.{stays_within, is_wait, has_wait, unawaited, is_open, has_cell}
+use Rattle.ot_check.proofs.Bits.{and_one}
 
 -- these steps leave no group that they don't enter
 abbrev pub IsClosed : List Step → Type 0
@@ -45,16 +48,32 @@ bits-out : (a u : Bool) → ((a && false) || u) ≡ u
 bits-out false u = refl
 bits-out true u = refl
 
+-- whether some child that passes the test is unawaited behind these steps
+abbrev pub some_unawaited : (List Use → Bool) → List Step → Bool
+some_unawaited test path = list_any test (unawaited path)
+
+some_kept : (test : List Use → Bool) (d : List Use) (children : List (List Use)) (kept : Bool)
+    → list_any test (if kept then d ∷ children else children) ≡ ((test d && kept) || list_any test children)
+some_kept test d children true = ap (λ b. b || list_any test children) (sym (and_one (test d)))
+some_kept test d children false = sym (bits-out (test d) (list_any test children))
+
+-- the child that is created first, or a later one
+pub unawaited-created : (test : List Use → Bool) (k : ℕ) (d : List Use) (path : List Step)
+    → some_unawaited test (At k (Create d) ∷ path) ≡ ((test d && (stays_within 0 path && not (has_wait path))) || some_unawaited test path)
+unawaited-created test k d path = some_kept test d (unawaited path) (stays_within 0 path && not (has_wait path))
+
 -- children that are unawaited behind steps that leave no group: those from before, where nothing waits, and those made in them
 pub unawaited-append : (test : List Use → Bool) (path closed : List Step) → IsClosed closed
     → some_unawaited test (path ++ closed) ≡ ((some_unawaited test path && not (has_wait closed)) || some_unawaited test closed)
 unawaited-append test [] closed h = refl
 unawaited-append test (At k (Touch u) ∷ path) closed h = unawaited-append test path closed h
 unawaited-append test (At k (Create d) ∷ path) closed h =
-    ap (λ w. (test d && (w && not (has_wait (path ++ closed)))) || some_unawaited test (path ++ closed)) (within-closed path closed h 0)
+    unawaited-created test k d (path ++ closed)
+    ∙ ap (λ w. (test d && (w && not (has_wait (path ++ closed)))) || some_unawaited test (path ++ closed)) (within-closed path closed h 0)
     ∙ ap (λ b. (test d && (stays_within 0 path && not b)) || some_unawaited test (path ++ closed)) (list_any-append is_wait path closed)
     ∙ ap (λ b. (test d && (stays_within 0 path && not (has_wait path || has_wait closed))) || b) (unawaited-append test path closed h)
     ∙ bits-unawaited (test d) (stays_within 0 path) (has_wait path) (has_wait closed) (some_unawaited test path) (some_unawaited test closed)
+    ∙ ap (λ b. (b && not (has_wait closed)) || some_unawaited test closed) (sym (unawaited-created test k d path))
 unawaited-append test (At k Await ∷ path) closed h = unawaited-append test path closed h
 unawaited-append test (At k (Enter cs) ∷ path) closed h = unawaited-append test path closed h
 unawaited-append test (At k Leave ∷ path) closed h = unawaited-append test path closed h
@@ -137,7 +156,8 @@ mutual
       ∙ touched-unawaited test k (touches (If e a b)) (inside ++ later) ∙ unawaited-left test (k + 1 + size a) b inside h later left)
   unawaited-left_one test k (Task d b) path is later left =
       subst (λ p. some_unawaited test (p ++ later) ≡ some_unawaited test later) (sym is)
-      (ap (λ w. (test d && (w && not (has_wait later))) || some_unawaited test later) left ∙ bits-out (test d) (some_unawaited test later))
+      (unawaited-created test k d later
+      ∙ ap (λ w. (test d && (w && not (has_wait later))) || some_unawaited test later) left ∙ bits-out (test d) (some_unawaited test later))
   unawaited-left_one test k Wait path is later left = subst (λ p. some_unawaited test (p ++ later) ≡ some_unawaited test later) (sym is) refl
   unawaited-left_one test k (Group cs b) path (inside, is, h) later left =
       subst (λ p. some_unawaited test (p ++ later) ≡ some_unawaited test later) (sym is)

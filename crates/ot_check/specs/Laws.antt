@@ -3,14 +3,9 @@ use Rattle.std.specs.Prelude.{◌≡◌, ℕ, true, List, Some, None}
 use Rattle.ot_model.specs.Tree.{Body}
 use Rattle.ot_model.specs.Names.{NamedIn}
 use Rattle.ot_model.specs.Serial.{State, serial}
-use Rattle.ot_check.specs.Offences.{Offends, IsFirstOf, allows}
-use Rattle.ot_check.specs.Walk.{first, nobody, nothing_open}
+use Rattle.ot_check.specs.Offences.{allows}
+use Rattle.ot_check.specs.Disciplined.{OffendsNowhere}
 use Rattle.ot_check.specs.Touches.{AreApart, EachTask, EachTouch}
-use Rattle.ot_check.specs.declared.fault.Offence.{Offence}
-
--- the walk of the root's body tells the first offence of the program
-abbrev pub WalkTellsFirst : Type 0
-WalkTellsFirst = (body : Body) → IsFirstOf (Offends body) (first None nothing_open nobody 1 body)
 
 -- two bodies that are apart give the same cells and counts in either order
 abbrev pub Apart : Type 0
@@ -20,5 +15,5 @@ Apart = (a b : Body) (s : State) → AreApart a b → serial b (serial a s) ≡ 
 -- body, those in the tasks within it among them
 abbrev pub Inside : Type 0
 Inside =
-    (lens : List ℕ) (body : Body) → NamedIn lens body → ((place : ℕ) (offence : Offence) → Offends body place offence → ⊥)
+    (lens : List ℕ) (body : Body) → NamedIn lens body → OffendsNowhere body
     → EachTask (λ uses b. EachTouch (λ u. allows (Some uses) u ≡ true) b) body

@@ -1,9 +1,9 @@
 pub mod Paths
 pub mod Offences
 pub mod Disciplined
-pub mod Walk
-pub mod Grids
-pub mod States
 pub mod Codes
 pub mod Touches
+pub mod Jobs
+pub mod walk
+pub mod FirstOffence
 pub mod Laws

@@ -1,7 +1,8 @@
 -- What is an offence on a path, and which offence of a body is the first.
-use Rattle.std.specs.Prelude.{◌≡◌, ℕ, zero, suc, ◌+◌, ◌<◌, ◌≤◌, ◌==◌, ◌++◌, ◌⊎◌, Bool, true, false, not, ◌&&◌, ◌||◌, if◌then◌else◌, List, [], ◌∷◌, Option, Some, None}
+use Rattle.std.specs.Prelude.{◌≡◌, ◌≢◌, ℕ, zero, suc, ◌+◌, ◌<◌, ◌≤◌, ◌++◌, ◌⊎◌, Bool, true, false, not, ◌&&◌, ◌||◌, if◌then◌else◌, List, [], ◌∷◌, Option, Some, None}
 use Rattle.std.specs.List.{list_any}
 use Rattle.ot_model.specs.Tree.{S, Set, Add, If, Task, Wait, Group, Body, End, Next}
+use Rattle.ot_model.specs.Cells.{same_cell}
 use Rattle.ot_model.specs.Counts.{size, size_one}
 use Rattle.ot_model.specs.Grouped.{is_adds}
 use Rattle.ot_model.specs.Uses.{conflicts}
@@ -9,14 +10,11 @@ use Rattle.ot_model.specs.declared.expr.Cell.{Cell}
 use Rattle.ot_model.specs.declared.stmt.Mode.{Mode}
 use Rattle.ot_model.specs.declared.stmt.Mode.TheVariants.{Reads, Writes, Adds}
 use Rattle.ot_model.specs.declared.stmt.Use.{Use}
-use Rattle.ot_check.specs.Paths.{Mark, Touch, Create, Await, Enter, Leave, Step, At, use_of, Passes}
+use Rattle.ot_check.specs.Paths.{Mark, Touch, Create, Await, Enter, Leave, Step, At, use_as, Passes}
 use Rattle.ot_check.specs.declared.fault.Offence.{Offence}
-use Rattle.ot_check.specs.declared.fault.Offence.TheVariants.{NotDeclared, ChildBeyond, InOpenGroup, Unawaited, EndsUnawaited}
+use Rattle.ot_check.specs.declared.fault.Offence.TheVariants.{NotDeclared, ChildBeyond, ReductionMisuse, ConflictsWithChild, EndsWithChildren}
 
 -- ---- what a body may do
-
-abbrev pub same_cell : Cell → Cell → Bool
-same_cell c d = (c.array == d.array) && (c.index == d.index)
 
 -- whether a cell is one of these
 abbrev pub has_cell : List Cell → Cell → Bool
@@ -76,15 +74,15 @@ is_wait _ = false
 abbrev pub has_wait : List Step → Bool
 has_wait path = list_any is_wait path
 
--- whether a child that passes the test is unawaited behind these steps: neither a wait nor the end of
--- a group in which it was created stands behind its creation (OpenMP API 5.2, sections 15.4, 15.5)
-abbrev pub some_unawaited : (List Use → Bool) → List Step → Bool
-some_unawaited test [] = false
-some_unawaited test (At k (Touch u) ∷ path) = some_unawaited test path
-some_unawaited test (At k (Create d) ∷ path) = (test d && (stays_within 0 path && not (has_wait path))) || some_unawaited test path
-some_unawaited test (At k Await ∷ path) = some_unawaited test path
-some_unawaited test (At k (Enter cs) ∷ path) = some_unawaited test path
-some_unawaited test (At k Leave ∷ path) = some_unawaited test path
+-- the children that are unawaited behind these steps, each by what it declares: neither a wait nor the
+-- end of a group in which it was created stands behind its creation (OpenMP API 5.2, sections 15.4, 15.5)
+abbrev pub unawaited : List Step → List (List Use)
+unawaited [] = []
+unawaited (At k (Touch u) ∷ path) = unawaited path
+unawaited (At k (Create d) ∷ path) = if stays_within 0 path && not (has_wait path) then d ∷ unawaited path else unawaited path
+unawaited (At k Await ∷ path) = unawaited path
+unawaited (At k (Enter cs) ∷ path) = unawaited path
+unawaited (At k Leave ∷ path) = unawaited path
 
 -- whether a group that names the cell is open behind these steps
 abbrev pub is_open : List Step → Cell → Bool
@@ -97,34 +95,27 @@ is_open (At k Leave ∷ path) c = is_open path c
 
 -- ---- offences
 
--- children, told by what is true of some of them
-abbrev pub Children : Type 0
-Children = (List Use → Bool) → Bool
-
 -- Whether a mark is this offence, in a body that declares this, where these groups are open and these
 -- children unawaited.
-abbrev pub breaks : Declared → (Cell → Bool) → Children → Mark → Offence → Bool
+abbrev pub breaks : Declared → (Cell → Bool) → List (List Use) → Mark → Offence → Bool
 breaks own opened children (Touch u) NotDeclared = not (allows own u)
-breaks own opened children (Touch u) InOpenGroup = opened u.cell
-breaks own opened children (Touch u) Unawaited = children (clashes u)
+breaks own opened children (Touch u) ReductionMisuse = opened u.cell
+breaks own opened children (Touch u) ConflictsWithChild = list_any (clashes u) children
 breaks own opened children (Create d) ChildBeyond = list_any (exceeds own) d
-breaks own opened children (Create d) InOpenGroup = list_any (misfits own opened) d
-breaks own opened children (Enter cs) InOpenGroup = list_any (λ c. not (allows own (use_of Writes c)) || opened c) cs
-breaks own opened children (Enter cs) Unawaited = list_any (λ c. children (clashes (use_of Writes c))) cs
+breaks own opened children (Create d) ReductionMisuse = list_any (misfits own opened) d
+breaks own opened children (Enter cs) ReductionMisuse = list_any (λ c. not (allows own (use_as Writes c)) || opened c) cs
+breaks own opened children (Enter cs) ConflictsWithChild = list_any (λ c. list_any (clashes (use_as Writes c)) children) cs
 breaks own opened children mark offence = false
 
 -- on some path of the body a statement of this place is this offence
 abbrev pub OnPath : ℕ → Body → Declared → ℕ → Offence → Type 0
 OnPath k body own place offence =
     (before : List Step) × (later : List Step) × (mark : Mark) × Passes k body (before ++ At place mark ∷ later)
-    × (breaks own (is_open before) (λ test. some_unawaited test before) mark offence ≡ true)
-
-abbrev pub anyone : List Use → Bool
-anyone child = true
+    × (breaks own (is_open before) (unawaited before) mark offence ≡ true)
 
 -- some path of the body ends with a child unawaited
-abbrev pub CanEndUnawaited : ℕ → Body → Type 0
-CanEndUnawaited k body = (path : List Step) × Passes k body path × (some_unawaited anyone path ≡ true)
+abbrev pub CanEndWithChildren : ℕ → Body → Type 0
+CanEndWithChildren k body = (path : List Step) × Passes k body path × (unawaited path ≢ [])
 
 -- the offence is in the body of a task that stands in this one, or is that this body ends with a child unawaited
 abbrev mutual
@@ -133,7 +124,7 @@ abbrev mutual
   InTasksOfOne k (Add c e) place offence = ⊥
   InTasksOfOne k (If e a b) place offence = InTasks (k + 1) a place offence ⊎ InTasks (k + 1 + size a) b place offence
   InTasksOfOne k (Task d b) place offence =
-      ((place ≡ k) × (offence ≡ EndsUnawaited) × CanEndUnawaited (k + 1) b)
+      ((place ≡ k) × (offence ≡ EndsWithChildren) × CanEndWithChildren (k + 1) b)
       ⊎ (OnPath (k + 1) b (Some d) place offence ⊎ InTasks (k + 1) b place offence)
   InTasksOfOne k Wait place offence = ⊥
   InTasksOfOne k (Group cs b) place offence = InTasks (k + 1) b place offence
@@ -150,9 +141,9 @@ Offends body place offence = OnPath 1 body None place offence ⊎ InTasks 1 body
 abbrev pub rank : Offence → ℕ
 rank NotDeclared = 0
 rank ChildBeyond = 1
-rank InOpenGroup = 2
-rank Unawaited = 3
-rank EndsUnawaited = 4
+rank ReductionMisuse = 2
+rank ConflictsWithChild = 3
+rank EndsWithChildren = 4
 
 -- what is told is the offence of least place, and there the first of the order; nothing is told where there is none
 abbrev pub IsFirstOf : (ℕ → Offence → Type 0) → Option (ℕ × Offence) → Type 0

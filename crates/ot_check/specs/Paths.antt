@@ -1,8 +1,7 @@
 -- The paths of a body: runs through it that take either body of each `if`, whatever the values.
 use Rattle.std.specs.Prelude.{◌≡◌, ℕ, ◌+◌, ◌++◌, ◌⊎◌, List, [], ◌∷◌, map}
-use Rattle.std.specs.List.{range_with_len}
-use Rattle.ot_model.specs.Tree.{E, Literal, CellAt, Apply, PickFrom, S, Set, Add, If, Task, Wait, Group, Body, End, Next}
-use Rattle.ot_model.specs.Value.{cell_at}
+use Rattle.ot_model.specs.Tree.{S, Set, Add, If, Task, Wait, Group, Body, End, Next}
+use Rattle.ot_model.specs.Value.{cells_named}
 use Rattle.ot_model.specs.Counts.{size, size_one}
 use Rattle.ot_model.specs.declared.expr.Cell.{Cell}
 use Rattle.ot_model.specs.declared.stmt.Mode.{Mode}
@@ -21,21 +20,15 @@ pub data Mark : Type 0 where
 pub data Step : Type 0 where
   At : ℕ → Mark → Step
 
-abbrev pub use_of : Mode → Cell → Use
-use_of mode cell = record { cell = cell; mode = mode }
-
--- the cells that a value names, of a pick every cell of its section
-abbrev pub cells_named : E → List Cell
-cells_named (Literal n) = []
-cells_named (CellAt c) = c ∷ []
-cells_named (Apply o a b) = cells_named a ++ cells_named b
-cells_named (PickFrom s e) = map (cell_at s) (range_with_len 0 s.len) ++ cells_named e
+-- the cell, used in this mode
+abbrev pub use_as : Mode → Cell → Use
+use_as mode cell = record { cell = cell; mode = mode }
 
 -- what a statement itself does with cells
 abbrev pub touches : S → List Use
-touches (Set c e) = map (use_of Reads) (cells_named e) ++ use_of Writes c ∷ []
-touches (Add c e) = map (use_of Reads) (cells_named e) ++ use_of Adds c ∷ []
-touches (If e a b) = map (use_of Reads) (cells_named e)
+touches (Set c e) = map (use_as Reads) (cells_named e) ++ use_as Writes c ∷ []
+touches (Add c e) = map (use_as Reads) (cells_named e) ++ use_as Adds c ∷ []
+touches (If e a b) = map (use_as Reads) (cells_named e)
 touches _ = []
 
 abbrev pub touched : ℕ → List Use → List Step

@@ -6,7 +6,7 @@ use Rattle.ot_model.specs.Uses.{conflicts}
 use Rattle.ot_model.specs.declared.expr.Cell.{Cell}
 use Rattle.ot_model.specs.declared.stmt.Mode.TheVariants.{Reads, Writes, Adds}
 use Rattle.ot_model.specs.declared.stmt.Use.{Use}
-use Rattle.ot_check.specs.Paths.{use_of}
+use Rattle.ot_check.specs.Paths.{use_as}
 
 -- P holds of each cell that the value may read
 abbrev pub EachRead : (Cell → Type 0) → E → Type 0
@@ -18,9 +18,9 @@ EachRead P (PickFrom s e) = ((k : ℕ) → P (cell_at s (k % s.len))) × EachRea
 -- P holds of each touch of the body, those in its tasks among them
 abbrev mutual
   pub EachTouchOne : (Use → Type 0) → S → Type 0
-  EachTouchOne P (Set c e) = EachRead (λ d. P (use_of Reads d)) e × P (use_of Writes c)
-  EachTouchOne P (Add c e) = EachRead (λ d. P (use_of Reads d)) e × P (use_of Adds c)
-  EachTouchOne P (If e a b) = EachRead (λ d. P (use_of Reads d)) e × EachTouch P a × EachTouch P b
+  EachTouchOne P (Set c e) = EachRead (λ d. P (use_as Reads d)) e × P (use_as Writes c)
+  EachTouchOne P (Add c e) = EachRead (λ d. P (use_as Reads d)) e × P (use_as Adds c)
+  EachTouchOne P (If e a b) = EachRead (λ d. P (use_as Reads d)) e × EachTouch P a × EachTouch P b
   EachTouchOne P (Task d b) = EachTouch P b
   EachTouchOne P Wait = Unit {0}
   EachTouchOne P (Group cs b) = EachTouch P b

@@ -1,7 +1,7 @@
 ghost use Rattle.std.specs.Prelude.{◌≡◌};
-ghost use Rattle.ot_check.specs.States.{with_child, with_declared, in_group};
+ghost use Rattle.ot_check.specs.walk.States.{with_child, with_declared, in_group, cleared};
 
-use crate::modes::{clashing_with, covered_by, more_modes};
+use crate::modes::{clashing_with, covered_by, more_modes, no_modes};
 use crate::state::CellState;
 use ot_model::Mode;
 
@@ -32,6 +32,16 @@ pub(crate) fn in_group(state: CellState) -> CellState
 {
     CellState {
         grouped: true,
+        ..state
+    }
+}
+
+/// The same state without children.
+pub(crate) fn cleared(state: CellState) -> CellState
+    ensures { result ≡ cleared state }
+{
+    CellState {
+        clashing: no_modes(),
         ..state
     }
 }

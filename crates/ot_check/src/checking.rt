@@ -20,11 +20,7 @@ pub fn check(alloc: Global, program: Program, shape: &Shape) -> Result<Checked, 
     ensures told { TellsFirst (Offends (stmts_of program.body.items)) result }
     ensures program { IfOk result (λ checked. checked.program ≡ program) }
 {
-    let Ok(mut standing) = Standing::of_root(alloc, shape) else {
-        return Err(CheckFault::Memory);
-    };
-    match walk(alloc, &program.body, &mut standing, 1) {
-        Ok(_) => Ok(Checked { program }),
-        Err(fault) => Err(fault),
-    }
+    let mut standing = Standing::of_root(alloc, shape)?;
+    walk(alloc, &program.body, &mut standing, 1)?;
+    Ok(Checked { program })
 }

@@ -8,12 +8,13 @@ pub enum Offence {
     NotDeclared,
     /// A task declares more of a cell than the body that creates it.
     ChildBeyond,
-    /// A reduction is used where it is open, or isn't open where it is used.
-    InOpenGroup,
+    /// A statement touches a cell of an open group; a task declares such a cell without adding to it, or
+    /// adds to a cell of no reduction; or a group names a cell that it may not.
+    ReductionMisuse,
     /// A statement uses a cell in conflict with a child that may be unawaited.
-    Unawaited,
+    ConflictsWithChild,
     /// The body of a task can end with a child unawaited.
-    EndsUnawaited,
+    EndsWithChildren,
 }
 
 impl Offence {
@@ -27,9 +28,9 @@ impl Offence {
         match self {
             Offence::NotDeclared => 425,
             Offence::ChildBeyond => 426,
-            Offence::Unawaited => 427,
-            Offence::EndsUnawaited => 428,
-            Offence::InOpenGroup => 429,
+            Offence::ConflictsWithChild => 427,
+            Offence::EndsWithChildren => 428,
+            Offence::ReductionMisuse => 429,
         }
     }
 }
@@ -47,9 +48,9 @@ impl From<AllocError> for CheckFault {
     ghost use Rattle.std.specs.Prelude.{◌≡◌};
     ghost use Rattle.ot_check.specs.declared.fault.CheckFault.TheVariants.{Memory};
 
-    fn from(_error: AllocError) -> CheckFault
-        ensures { result ≡ Memory }
-    {
+    ghost from_gives = { λ _ fault. fault ≡ Memory };
+
+    fn from(_error: AllocError) -> CheckFault {
         CheckFault::Memory
     }
 }

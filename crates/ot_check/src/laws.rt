@@ -1,10 +1,12 @@
-//! Laws of checked programs. Each is the contract of a function that does nothing: a caller that
-//! needs the law calls it.
-ghost use Rattle.ot_check.specs.Laws.{Apart, Inside, WalkTellsFirst};
+//! Laws of bodies and of checked programs. Each is the contract of a function that does nothing: a
+//! caller that needs the law calls it.
+ghost use Rattle.ot_check.specs.FirstOffence.{FirstOffenceIsFirst};
+ghost use Rattle.ot_check.specs.Laws.{Apart, Inside};
+ghost use Rattle.ot_check.specs.walk.Fine.{DisciplinedIsFine};
 
-/// The walk that carries the children that may be unawaited tells the first offence on any path.
-pub fn walk_tells_first()
-    ensures { WalkTellsFirst }
+/// The first offence of a body is the first of its offences on paths, and no other value is.
+pub fn first_offence_is_first()
+    ensures { FirstOffenceIsFirst }
 {}
 
 /// Two bodies give the same cells and counts in either order where no touch of the one, its tasks
@@ -17,4 +19,9 @@ pub fn apart()
 /// body, those in the tasks within it included.
 pub fn inside()
     ensures { Inside }
+{}
+
+/// A body that offends nowhere is fine, statement by statement, from no children and no open group.
+pub fn disciplined_is_fine()
+    ensures { DisciplinedIsFine }
 {}

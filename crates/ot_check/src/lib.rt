@@ -5,6 +5,7 @@ mod change;
 mod checked;
 mod checking;
 mod fault;
+mod job;
 pub mod laws;
 mod modes;
 mod standing;
@@ -18,6 +19,4 @@ mod walk;
 pub use checked::Checked;
 pub use checking::check;
 pub use fault::{CheckFault, Offence};
-
-#[cfg(test)]
-mod tests;
+pub use job::{JobSpec, Outcome};

@@ -1,7 +1,7 @@
 ghost use Rattle.std.specs.Prelude.{◌≡◌, true, false};
 ghost use Rattle.ot_model.specs.Uses.{conflicts};
 ghost use Rattle.ot_check.specs.Offences.{covers};
-ghost use Rattle.ot_check.specs.States.{has, modes_of, more_modes};
+ghost use Rattle.ot_check.specs.walk.States.{has, modes_of, more_modes};
 
 use ot_model::Mode;
 

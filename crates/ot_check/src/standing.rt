@@ -16,20 +16,19 @@ pub(crate) struct Standing {
 }
 
 impl Standing {
-    ghost use Rattle.std.specs.Prelude.{◌≡◌, ◌∷◌, [], IfOk, None, Some, List, All, Bool};
-    ghost use Rattle.ot_model.specs.Shapes.{array_lengths};
-    ghost use Rattle.ot_model.specs.Names.{IsInShape};
-    ghost use Rattle.ot_model.specs.declared.expr.Cell.{Cell};
-    ghost use Rattle.ot_check.specs.Paths.{Touch, Enter};
+    ghost use Rattle.std.specs.Prelude.{◌≡◌, ◌∷◌, [], IfOk, None, Some};
     ghost use Rattle.std.specs.List.{list_any};
-    ghost use Rattle.ot_check.specs.Offences.{Declared, Children, breaks, exceeds, misfits};
-    ghost use Rattle.ot_check.specs.Walk.{nobody, nothing_open, with_group};
-    ghost use Rattle.ot_check.specs.Grids.{widths};
-    ghost use Rattle.ot_check.specs.States.{Represents, one_more, of_both};
+    ghost use Rattle.ot_model.specs.Shapes.{array_lengths};
+    ghost use Rattle.ot_model.specs.Names.{IsInShape, AreInShape, AreDeclaredIn};
+    ghost use Rattle.ot_check.specs.Paths.{Touch, Enter};
+    ghost use Rattle.ot_check.specs.Offences.{exceeds, misfits};
+    ghost use Rattle.ot_check.specs.walk.Walk.{Children, nobody, nothing_open, with_group, may_break};
+    ghost use Rattle.ot_check.specs.walk.Grids.{widths};
+    ghost use Rattle.ot_check.specs.walk.States.{Represents, Whatever, one_more, of_both};
 
     /// What stands at the beginning of a program: its body may use each cell.
     pub(crate) fn of_root(alloc: Global, shape: &Shape) -> Result<Standing, AllocError>
-        ensures stands { IfOk result (λ s. Represents None nothing_open nobody s.someone s.table) }
+        ensures stands { IfOk result (λ s. Represents None nothing_open nobody s) }
         ensures widths { IfOk result (λ s. widths s.table ≡ array_lengths shape.now) }
     {
         let state = CellState {
@@ -47,8 +46,8 @@ impl Standing {
 
     /// What stands at the beginning of a task's body.
     pub(crate) fn of_task(&self, alloc: Global, decl: &Decl) -> Result<Standing, AllocError>
-        requires { All (λ u. IsInShape (widths self.now.table) u.cell) decl.now }
-        ensures stands { IfOk result (λ s. Represents (Some decl.now) nothing_open nobody s.someone s.table) }
+        requires { AreDeclaredIn (widths self.now.table) decl.now }
+        ensures stands { IfOk result (λ s. Represents (Some decl.now) nothing_open nobody s) }
         ensures widths { IfOk result (λ s. widths s.table ≡ widths self.now.table) }
     {
         let state = CellState {
@@ -70,9 +69,8 @@ impl Standing {
 
     /// One child more, which may be unawaited.
     pub(crate) fn add_child(&mut self, decl: &Decl)
-        requires { All (λ u. IsInShape (widths self.old.table) u.cell) decl.now }
-        ensures stands { (own : Declared) (opened : Cell → Bool) (children : Children) → Represents own opened children self.old.someone self.old.table
-            → Represents own opened (one_more children decl.now) self.new.someone self.new.table }
+        requires { AreDeclaredIn (widths self.old.table) decl.now }
+        ensures stands { Whatever self.old (λ own opened children. Represents own opened (one_more children decl.now) self.new) }
         ensures widths { widths self.new.table ≡ widths self.old.table }
     {
         for used in decl.uses() {
@@ -84,9 +82,8 @@ impl Standing {
 
     /// A group that names these cells is open too.
     pub(crate) fn enter(&mut self, cells: &[Cell])
-        requires { All (IsInShape (widths self.old.table)) cells.now }
-        ensures stands { (own : Declared) (opened : Cell → Bool) (children : Children) → Represents own opened children self.old.someone self.old.table
-            → Represents own (with_group opened cells.now) children self.new.someone self.new.table }
+        requires { AreInShape (widths self.old.table) cells.now }
+        ensures stands { Whatever self.old (λ own opened children. Represents own (with_group opened cells.now) children self.new) }
         ensures widths { widths self.new.table ≡ widths self.old.table }
     {
         for cell in cells {
@@ -97,8 +94,7 @@ impl Standing {
 
     /// The same once more.
     pub(crate) fn copy(&self, alloc: Global) -> Result<Standing, AllocError>
-        ensures someone { IfOk result (λ copied. copied.someone ≡ self.now.someone) }
-        ensures table { IfOk result (λ copied. copied.table ≡ self.now.table) }
+        ensures { IfOk result (λ copied. copied ≡ self.now) }
     {
         Ok(Standing {
             someone: self.someone,
@@ -106,49 +102,44 @@ impl Standing {
         })
     }
 
-    /// All children have been awaited.
-    pub(crate) fn await_children(&mut self, alloc: Global) -> Result<(), AllocError>
-        ensures stands { IfOk result (λ _. (own : Declared) (opened : Cell → Bool) (children : Children)
-            → Represents own opened children self.old.someone self.old.table → Represents own opened nobody self.new.someone self.new.table) }
-        ensures widths { IfOk result (λ _. widths self.new.table ≡ widths self.old.table) }
+    /// All children have been awaited. It takes no memory.
+    pub(crate) fn await_children(&mut self)
+        ensures stands { Whatever self.old (λ own opened children. Represents own opened nobody self.new) }
+        ensures widths { widths self.new.table ≡ widths self.old.table }
     {
-        self.table = self.table.cleared(alloc)?;
+        self.table.clear();
         self.someone = false;
-        Ok(())
     }
 
     /// The children of another way through an `if` may be unawaited too.
-    pub(crate) fn join(&mut self, other: &Standing)
+    pub(crate) fn merge(&mut self, other: &Standing)
         requires { widths self.old.table ≡ widths other.now.table }
-        ensures stands { (own : Declared) (opened : Cell → Bool) (children others : Children)
-            → Represents own opened children self.old.someone self.old.table → Represents own opened others other.now.someone other.now.table
-            → Represents own opened (of_both children others) self.new.someone self.new.table }
+        ensures stands { Whatever self.old (λ own opened children. (others : Children)
+            → Represents own opened others other.now → Represents own opened (of_both children others) self.new) }
         ensures widths { widths self.new.table ≡ widths self.old.table }
     {
-        self.table.join(&other.table);
+        self.table.merge(&other.table);
         self.someone = self.someone || other.someone;
     }
 
     /// Whether a use of a cell is this offence here.
     pub(crate) fn touch_breaks(&self, used: Use, offence: Offence) -> bool
         requires { IsInShape (widths self.now.table) used.cell }
-        ensures { (own : Declared) (opened : Cell → Bool) (children : Children) → Represents own opened children self.now.someone self.now.table
-            → result ≡ breaks own opened children (Touch used) offence }
+        ensures { Whatever self.now (λ own opened children. result ≡ may_break own opened children (Touch used) offence) }
     {
         let state = self.table.at(used.cell);
         match offence {
             Offence::NotDeclared => !has(state.allowed, used.mode),
-            Offence::InOpenGroup => state.grouped,
-            Offence::Unawaited => has(state.clashing, used.mode),
-            Offence::ChildBeyond | Offence::EndsUnawaited => false,
+            Offence::ReductionMisuse => state.grouped,
+            Offence::ConflictsWithChild => has(state.clashing, used.mode),
+            Offence::ChildBeyond | Offence::EndsWithChildren => false,
         }
     }
 
     /// Whether a child's use goes beyond what the body declares.
     fn use_exceeds(&self, used: Use) -> bool
         requires { IsInShape (widths self.now.table) used.cell }
-        ensures { (own : Declared) (opened : Cell → Bool) (children : Children) → Represents own opened children self.now.someone self.now.table
-            → result ≡ exceeds own used }
+        ensures { Whatever self.now (λ own opened children. result ≡ exceeds own used) }
     {
         let state = self.table.at(used.cell);
         !matches!(used.mode, Mode::Adds) && !has(state.allowed, used.mode)
@@ -156,9 +147,8 @@ impl Standing {
 
     /// Whether a child's declaration goes beyond the body's.
     pub(crate) fn exceeds(&self, decl: &Decl) -> bool
-        requires { All (λ u. IsInShape (widths self.now.table) u.cell) decl.now }
-        ensures { (own : Declared) (opened : Cell → Bool) (children : Children) → Represents own opened children self.now.someone self.now.table
-            → result ≡ list_any (exceeds own) decl.now }
+        requires { AreDeclaredIn (widths self.now.table) decl.now }
+        ensures { Whatever self.now (λ own opened children. result ≡ list_any (exceeds own) decl.now) }
     {
         for used in decl.uses() {
             if self.use_exceeds(*used) {
@@ -171,8 +161,7 @@ impl Standing {
     /// Whether a child's use doesn't fit the reductions that are open in the body.
     fn use_misfits(&self, used: Use) -> bool
         requires { IsInShape (widths self.now.table) used.cell }
-        ensures { (own : Declared) (opened : Cell → Bool) (children : Children) → Represents own opened children self.now.someone self.now.table
-            → result ≡ misfits own opened used }
+        ensures { Whatever self.now (λ own opened children. result ≡ misfits own opened used) }
     {
         let state = self.table.at(used.cell);
         match used.mode {
@@ -183,9 +172,8 @@ impl Standing {
 
     /// Whether a child's declaration doesn't fit the reductions that are open in the body.
     pub(crate) fn misfits(&self, decl: &Decl) -> bool
-        requires { All (λ u. IsInShape (widths self.now.table) u.cell) decl.now }
-        ensures { (own : Declared) (opened : Cell → Bool) (children : Children) → Represents own opened children self.now.someone self.now.table
-            → result ≡ list_any (misfits own opened) decl.now }
+        requires { AreDeclaredIn (widths self.now.table) decl.now }
+        ensures { Whatever self.now (λ own opened children. result ≡ list_any (misfits own opened) decl.now) }
     {
         for used in decl.uses() {
             if self.use_misfits(*used) {
@@ -198,22 +186,20 @@ impl Standing {
     /// Whether a group that names the cell is this offence here.
     fn cell_breaks(&self, cell: Cell, offence: Offence) -> bool
         requires { IsInShape (widths self.now.table) cell }
-        ensures { (own : Declared) (opened : Cell → Bool) (children : Children) → Represents own opened children self.now.someone self.now.table
-            → result ≡ breaks own opened children (Enter (cell ∷ [])) offence }
+        ensures { Whatever self.now (λ own opened children. result ≡ may_break own opened children (Enter (cell ∷ [])) offence) }
     {
         let state = self.table.at(cell);
         match offence {
-            Offence::InOpenGroup => !state.allowed.writes || state.grouped,
-            Offence::Unawaited => state.clashing.writes,
-            Offence::NotDeclared | Offence::ChildBeyond | Offence::EndsUnawaited => false,
+            Offence::ReductionMisuse => !state.allowed.writes || state.grouped,
+            Offence::ConflictsWithChild => state.clashing.writes,
+            Offence::NotDeclared | Offence::ChildBeyond | Offence::EndsWithChildren => false,
         }
     }
 
     /// Whether a group of these cells is this offence here.
     pub(crate) fn group_breaks(&self, cells: &[Cell], offence: Offence) -> bool
-        requires { All (IsInShape (widths self.now.table)) cells.now }
-        ensures { (own : Declared) (opened : Cell → Bool) (children : Children) → Represents own opened children self.now.someone self.now.table
-            → result ≡ breaks own opened children (Enter cells.now) offence }
+        requires { AreInShape (widths self.now.table) cells.now }
+        ensures { Whatever self.now (λ own opened children. result ≡ may_break own opened children (Enter cells.now) offence) }
     {
         for cell in cells {
             if self.cell_breaks(*cell, offence) {

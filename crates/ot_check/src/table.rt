@@ -1,8 +1,9 @@
 ghost use Rattle.std.specs.Prelude.{◌≡◌, IfOk, map, vec_len};
-ghost use Rattle.ot_check.specs.Grids.{widths};
-ghost use Rattle.ot_check.specs.States.{cleared, joined_row, joined_rows};
+ghost use Rattle.ot_check.specs.walk.Grids.{widths};
+ghost use Rattle.ot_check.specs.walk.States.{cleared, merged_row, merged_rows};
 
-use crate::modes::{more_modes, no_modes};
+use crate::change::cleared;
+use crate::modes::more_modes;
 use crate::state::CellState;
 use ot_model::{ArrayShape, Cell};
 use std::alloc::{AllocError, Global};
@@ -27,7 +28,7 @@ impl Table {
     ghost use Rattle.std.specs.Prelude.{◌≢◌, IsSome, Some};
     ghost use Rattle.ot_model.specs.ShapeView.{arrays_of};
     ghost use Rattle.ot_model.specs.declared.expr.Cell.{Cell};
-    ghost use Rattle.ot_check.specs.Grids.{found_at, filled};
+    ghost use Rattle.ot_check.specs.walk.Grids.{found_at, filled};
 
     /// One state for each cell of these arrays.
     pub(crate) fn new(
@@ -86,53 +87,52 @@ impl Table {
         Ok(Table { rows })
     }
 
-    /// The same table without children.
-    pub(crate) fn cleared(&self, alloc: Global) -> Result<Table, AllocError>
-        ensures { IfOk result (λ table. table ≡ map (map cleared) self.now) }
+    /// Forgets the children. It takes no memory.
+    pub(crate) fn clear(&mut self)
+        ensures { self.new ≡ map (map cleared) self.old }
     {
-        let mut rows = Vec::with_capacity(alloc, self.rows.len())?;
-        for row in &self.rows {
-            rows.push(cleared_row(alloc, row)?)?;
-        }
-        Ok(Table { rows })
+        clear_rows(&mut self.rows);
     }
 
-    /// Joins the children of another table of the same shape to those of this one.
-    pub(crate) fn join(&mut self, other: &Table)
+    /// Adds the children of another table of the same shape to those of this one.
+    pub(crate) fn merge(&mut self, other: &Table)
         requires { widths self.old ≡ widths other.now }
-        ensures { self.new ≡ joined_rows self.old other.now }
+        ensures { self.new ≡ merged_rows self.old other.now }
     {
-        join_rows(&mut self.rows, &other.rows);
+        merge_rows(&mut self.rows, &other.rows);
     }
 }
 
-fn cleared_row(alloc: Global, row: &[CellState]) -> Result<Vec<CellState>, AllocError>
-    ensures { IfOk result (λ states. states.items ≡ map cleared row.now) }
+fn clear_rows(rows: &mut Vec<Vec<CellState>>)
+    ensures { map (λ row. row.items) rows.new.items ≡ map (map cleared) (map (λ row. row.items) rows.old.items) }
 {
-    let mut states = Vec::with_capacity(alloc, row.len())?;
-    for state in row {
-        states.push(CellState {
-            clashing: no_modes(),
-            ..*state
-        })?;
+    for row in rows.iter_mut() {
+        clear_row(row);
     }
-    Ok(states)
 }
 
-fn join_rows(rows: &mut Vec<Vec<CellState>>, others: &Vec<Vec<CellState>>)
+fn clear_row(row: &mut Vec<CellState>)
+    ensures { row.new.items ≡ map cleared row.old.items }
+{
+    for state in row.iter_mut() {
+        *state = cleared(*state);
+    }
+}
+
+fn merge_rows(rows: &mut Vec<Vec<CellState>>, others: &Vec<Vec<CellState>>)
     requires { widths (map (λ row. row.items) rows.old.items) ≡ widths (map (λ row. row.items) others.now.items) }
     ensures { map (λ row. row.items) rows.new.items
-        ≡ joined_rows (map (λ row. row.items) rows.old.items) (map (λ row. row.items) others.now.items) }
+        ≡ merged_rows (map (λ row. row.items) rows.old.items) (map (λ row. row.items) others.now.items) }
 {
     for place in 0..rows.len() {
         let row = &mut rows[place];
-        join_row(row, &others[place]);
+        merge_row(row, &others[place]);
     }
 }
 
-fn join_row(row: &mut Vec<CellState>, other: &Vec<CellState>)
+fn merge_row(row: &mut Vec<CellState>, other: &Vec<CellState>)
     requires { vec_len row.old ≡ vec_len other.now }
-    ensures joined { row.new.items ≡ joined_row row.old.items other.now.items }
+    ensures merged { row.new.items ≡ merged_row row.old.items other.now.items }
     ensures len { vec_len row.new ≡ vec_len row.old }
 {
     for place in 0..row.len() {

@@ -1,7 +1,6 @@
 ghost use Rattle.std.specs.Prelude.{◌≡◌};
 ghost use Rattle.ot_model.specs.View.{stmt_of, stmts_of};
-ghost use Rattle.ot_check.specs.Offences.{anyone};
-ghost use Rattle.ot_check.specs.Walk.{through, through_one, after, after_one};
+ghost use Rattle.ot_check.specs.walk.Walk.{anyone, through, through_one, after, after_one};
 
 use ot_model::Stmt;
 

@@ -1,14 +1,13 @@
-ghost use Rattle.std.specs.Prelude.{◌≡◌, map, Bool};
-ghost use Rattle.std.specs.List.{list_any, range_with_len};
+ghost use Rattle.std.specs.Prelude.{◌≡◌};
+ghost use Rattle.std.specs.List.{list_any};
 ghost use Rattle.ot_model.specs.View.{expr_of};
-ghost use Rattle.ot_model.specs.Value.{cell_at};
+ghost use Rattle.ot_model.specs.Value.{cells_of, cells_named};
 ghost use Rattle.ot_model.specs.Names.{FitsShape, IsInShape, ValueNamedIn};
-ghost use Rattle.ot_model.specs.declared.expr.Cell.{Cell};
 ghost use Rattle.ot_model.specs.declared.stmt.Mode.TheVariants.{Reads};
-ghost use Rattle.ot_check.specs.Paths.{Touch, use_of, cells_named};
-ghost use Rattle.ot_check.specs.Offences.{Declared, Children, breaks};
-ghost use Rattle.ot_check.specs.Grids.{widths};
-ghost use Rattle.ot_check.specs.States.{Represents};
+ghost use Rattle.ot_check.specs.Paths.{Touch, use_as};
+ghost use Rattle.ot_check.specs.walk.Walk.{may_break};
+ghost use Rattle.ot_check.specs.walk.Grids.{widths};
+ghost use Rattle.ot_check.specs.walk.States.{Whatever};
 
 use crate::fault::Offence;
 use crate::standing::Standing;
@@ -17,8 +16,7 @@ use ot_model::{Cell, Expr, Mode, Section, Use};
 /// Whether the reading of a value is this offence.
 pub(crate) fn value_breaks(expr: &Expr, standing: &Standing, offence: Offence) -> bool
     requires { ValueNamedIn (widths standing.now.table) (expr_of expr.now) }
-    ensures { (own : Declared) (opened : Cell → Bool) (children : Children) → Represents own opened children standing.now.someone standing.now.table
-        → result ≡ list_any (λ c. breaks own opened children (Touch (use_of Reads c)) offence) (cells_named (expr_of expr.now)) }
+    ensures { Whatever standing.now (λ own opened children. result ≡ list_any (λ c. may_break own opened children (Touch (use_as Reads c)) offence) (cells_named (expr_of expr.now))) }
 {
     match expr {
         Expr::Number(_) => false,
@@ -35,8 +33,7 @@ pub(crate) fn value_breaks(expr: &Expr, standing: &Standing, offence: Offence) -
 /// Whether the reading of any cell of a section is this offence.
 fn section_breaks(section: Section, standing: &Standing, offence: Offence) -> bool
     requires { FitsShape (widths standing.now.table) section }
-    ensures { (own : Declared) (opened : Cell → Bool) (children : Children) → Represents own opened children standing.now.someone standing.now.table
-        → result ≡ list_any (λ c. breaks own opened children (Touch (use_of Reads c)) offence) (map (cell_at section) (range_with_len 0 section.len)) }
+    ensures { Whatever standing.now (λ own opened children. result ≡ list_any (λ c. may_break own opened children (Touch (use_as Reads c)) offence) (cells_of section)) }
 {
     for place in 0..section.len {
         let cell = Cell {
@@ -53,8 +50,7 @@ fn section_breaks(section: Section, standing: &Standing, offence: Offence) -> bo
 /// Whether the reading of a cell is this offence.
 fn read_breaks(cell: Cell, standing: &Standing, offence: Offence) -> bool
     requires { IsInShape (widths standing.now.table) cell }
-    ensures { (own : Declared) (opened : Cell → Bool) (children : Children) → Represents own opened children standing.now.someone standing.now.table
-        → result ≡ breaks own opened children (Touch (use_of Reads cell)) offence }
+    ensures { Whatever standing.now (λ own opened children. result ≡ may_break own opened children (Touch (use_as Reads cell)) offence) }
 {
     let used = Use {
         cell,

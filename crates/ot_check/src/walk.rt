@@ -1,18 +1,15 @@
-ghost use Rattle.std.specs.Prelude.{◌≡◌, ◌+◌, ◌<◌, ◌^◌, ◌&&◌, IfOk, Bool, Some, All};
-ghost use Rattle.std.specs.Option.{option_or};
+ghost use Rattle.std.specs.Prelude.{◌≡◌, ◌+◌, ◌<◌, ◌^◌, ◌&&◌, IfOk, Some};
 ghost use Rattle.ot_model.specs.View.{stmt_of, stmts_of};
 ghost use Rattle.ot_model.specs.Counts.{size, size_one};
-ghost use Rattle.ot_model.specs.Names.{IsInShape, NamedIn, OneNamedIn};
-ghost use Rattle.ot_model.specs.declared.expr.Cell.{Cell};
-ghost use Rattle.ot_check.specs.Offences.{Declared, Children};
-ghost use Rattle.ot_check.specs.Walk.{behind, behind_one, first, first_one, nobody, nothing_open, through, with_group};
-ghost use Rattle.ot_check.specs.Grids.{widths};
-ghost use Rattle.ot_check.specs.States.{Represents, of_both, one_more};
-ghost use Rattle.ot_check.specs.Codes.{IsTold};
+ghost use Rattle.ot_model.specs.Names.{NamedIn, OneNamedIn, AreInShape, AreDeclaredIn};
+ghost use Rattle.ot_check.specs.walk.Walk.{Children, behind, behind_one, first, first_one, nobody, nothing_open, through, with_group};
+ghost use Rattle.ot_check.specs.walk.Told.{IsTold};
+ghost use Rattle.ot_check.specs.walk.Grids.{widths};
+ghost use Rattle.ot_check.specs.walk.States.{Represents, Whatever, of_both, one_more};
 
 use crate::fault::CheckFault;
 use crate::standing::Standing;
-use crate::statement::first_offence;
+use crate::statement::own_offence;
 use crate::through::through;
 use ot_model::{Cell, Decl, Stmt};
 use std::alloc::Global;
@@ -27,20 +24,14 @@ pub(crate) fn walk(
 ) -> Result<u32, CheckFault>
     requires named { NamedIn (widths standing.old.table) (stmts_of body.now.items) }
     requires short { place + size (stmts_of body.now.items) < 2 ^ 32 }
-    ensures told { (own : Declared) (opened : Cell → Bool) (children : Children) → Represents own opened children standing.old.someone standing.old.table
-        → IsTold (first own opened children place (stmts_of body.now.items)) result }
-    ensures behind { IfOk result (λ _. (own : Declared) (opened : Cell → Bool) (children : Children)
-        → Represents own opened children standing.old.someone standing.old.table
-        → Represents own opened (behind children (stmts_of body.now.items)) standing.new.someone standing.new.table) }
+    ensures told { Whatever standing.old (λ own opened children. IsTold (first own opened children place (stmts_of body.now.items)) result) }
+    ensures behind { IfOk result (λ _. Whatever standing.old (λ own opened children. Represents own opened (behind children (stmts_of body.now.items)) standing.new)) }
     ensures widths { IfOk result (λ _. widths standing.new.table ≡ widths standing.old.table) }
     ensures place { IfOk result (λ next. next ≡ place + size (stmts_of body.now.items)) }
 {
     let mut next = place;
     for stmt in body {
-        match walk_one(alloc, stmt, standing, next) {
-            Ok(behind) => next = behind,
-            Err(fault) => return Err(fault),
-        }
+        next = walk_one(alloc, stmt, standing, next)?;
     }
     Ok(next)
 }
@@ -54,38 +45,31 @@ fn walk_one(
 ) -> Result<u32, CheckFault>
     requires named { OneNamedIn (widths standing.old.table) (stmt_of stmt.now) }
     requires short { place + size_one (stmt_of stmt.now) < 2 ^ 32 }
-    ensures told { (own : Declared) (opened : Cell → Bool) (children : Children) → Represents own opened children standing.old.someone standing.old.table
-        → IsTold (first_one own opened children place (stmt_of stmt.now)) result }
-    ensures behind { IfOk result (λ _. (own : Declared) (opened : Cell → Bool) (children : Children)
-        → Represents own opened children standing.old.someone standing.old.table
-        → Represents own opened (behind_one children (stmt_of stmt.now)) standing.new.someone standing.new.table) }
+    ensures told { Whatever standing.old (λ own opened children. IsTold (first_one own opened children place (stmt_of stmt.now)) result) }
+    ensures behind { IfOk result (λ _. Whatever standing.old (λ own opened children. Represents own opened (behind_one children (stmt_of stmt.now)) standing.new)) }
     ensures widths { IfOk result (λ _. widths standing.new.table ≡ widths standing.old.table) }
     ensures place { IfOk result (λ next. next ≡ place + size_one (stmt_of stmt.now)) }
 {
-    if let Some(offence) = first_offence(stmt, &*standing) {
+    if let Some(offence) = own_offence(stmt, &*standing) {
         return Err(CheckFault::Offence(offence, place));
     }
     match stmt {
         Stmt::Set(_, _) | Stmt::Add(_, _) => Ok(place + 1),
         Stmt::If(_, one, two) => {
-            let Ok(other) = standing.copy(alloc) else {
-                return Err(CheckFault::Memory);
-            };
-            match walk(alloc, one, standing, place + 1) {
-                Ok(second) => walk_other(alloc, two, standing, other, second),
-                Err(fault) => Err(fault),
-            }
+            let other = standing.copy(alloc)?;
+            let second = walk(alloc, one, standing, place + 1)?;
+            walk_other(alloc, two, standing, other, second)
         }
         Stmt::Task(decl, body) => walk_task(alloc, decl, body, standing, place + 1),
-        Stmt::Wait => match standing.await_children(alloc) {
-            Ok(()) => Ok(place + 1),
-            Err(_) => Err(CheckFault::Memory),
-        },
+        Stmt::Wait => {
+            standing.await_children();
+            Ok(place + 1)
+        }
         Stmt::Group(cells, body) => walk_group(alloc, cells, body, standing, place + 1),
     }
 }
 
-/// The second body of an `if`, from what stood before the first, whose children join those of the first.
+/// The second body of an `if`, from what stood before the first. Its children come to those of the first.
 #[cycle(walk)]
 fn walk_other(
     alloc: Global,
@@ -97,20 +81,15 @@ fn walk_other(
     requires same { widths standing.old.table ≡ widths other.table }
     requires named { NamedIn (widths other.table) (stmts_of body.now.items) }
     requires short { place + size (stmts_of body.now.items) < 2 ^ 32 }
-    ensures told { (own : Declared) (opened : Cell → Bool) (children : Children) → Represents own opened children other.someone other.table
-        → IsTold (first own opened children place (stmts_of body.now.items)) result }
-    ensures behind { IfOk result (λ _. (own : Declared) (opened : Cell → Bool) (children others : Children)
-        → Represents own opened children standing.old.someone standing.old.table → Represents own opened others other.someone other.table
-        → Represents own opened (of_both children (behind others (stmts_of body.now.items))) standing.new.someone standing.new.table) }
+    ensures told { Whatever other (λ own opened children. IsTold (first own opened children place (stmts_of body.now.items)) result) }
+    ensures behind { IfOk result (λ _. Whatever standing.old (λ own opened children. (others : Children)
+        → Represents own opened others other → Represents own opened (of_both children (behind others (stmts_of body.now.items))) standing.new)) }
     ensures widths { IfOk result (λ _. widths standing.new.table ≡ widths standing.old.table) }
     ensures place { IfOk result (λ next. next ≡ place + size (stmts_of body.now.items)) }
 {
     let mut other = other;
-    let next = match walk(alloc, body, &mut other, place) {
-        Ok(next) => next,
-        Err(fault) => return Err(fault),
-    };
-    standing.join(&other);
+    let next = walk(alloc, body, &mut other, place)?;
+    standing.merge(&other);
     Ok(next)
 }
 
@@ -123,23 +102,16 @@ fn walk_task(
     standing: &mut Standing,
     place: u32,
 ) -> Result<u32, CheckFault>
-    requires declared { All (λ u. IsInShape (widths standing.old.table) u.cell) decl.now }
+    requires declared { AreDeclaredIn (widths standing.old.table) decl.now }
     requires named { NamedIn (widths standing.old.table) (stmts_of body.now.items) }
     requires short { place + size (stmts_of body.now.items) < 2 ^ 32 }
     ensures told { IsTold (first (Some decl.now) nothing_open nobody place (stmts_of body.now.items)) result }
-    ensures behind { IfOk result (λ _. (own : Declared) (opened : Cell → Bool) (children : Children)
-        → Represents own opened children standing.old.someone standing.old.table
-        → Represents own opened (one_more children decl.now) standing.new.someone standing.new.table) }
+    ensures behind { IfOk result (λ _. Whatever standing.old (λ own opened children. Represents own opened (one_more children decl.now) standing.new)) }
     ensures widths { IfOk result (λ _. widths standing.new.table ≡ widths standing.old.table) }
     ensures place { IfOk result (λ next. next ≡ place + size (stmts_of body.now.items)) }
 {
-    let Ok(mut inside) = standing.of_task(alloc, decl) else {
-        return Err(CheckFault::Memory);
-    };
-    let next = match walk(alloc, body, &mut inside, place) {
-        Ok(next) => next,
-        Err(fault) => return Err(fault),
-    };
+    let mut inside = standing.of_task(alloc, decl)?;
+    let next = walk(alloc, body, &mut inside, place)?;
     standing.add_child(decl);
     Ok(next)
 }
@@ -154,30 +126,19 @@ fn walk_group(
     standing: &mut Standing,
     place: u32,
 ) -> Result<u32, CheckFault>
-    requires grouped { All (IsInShape (widths standing.old.table)) cells.now }
+    requires grouped { AreInShape (widths standing.old.table) cells.now }
     requires named { NamedIn (widths standing.old.table) (stmts_of body.now.items) }
     requires short { place + size (stmts_of body.now.items) < 2 ^ 32 }
-    ensures told { (own : Declared) (opened : Cell → Bool) (children : Children) → Represents own opened children standing.old.someone standing.old.table
-        → IsTold (first own (with_group opened cells.now) children place (stmts_of body.now.items)) result }
-    ensures behind { IfOk result (λ _. (own : Declared) (opened : Cell → Bool) (children : Children)
-        → Represents own opened children standing.old.someone standing.old.table
-        → Represents own opened (λ test. children test && through (stmts_of body.now.items)) standing.new.someone standing.new.table) }
+    ensures told { Whatever standing.old (λ own opened children. IsTold (first own (with_group opened cells.now) children place (stmts_of body.now.items)) result) }
+    ensures behind { IfOk result (λ _. Whatever standing.old (λ own opened children. Represents own opened (λ test. children test && through (stmts_of body.now.items)) standing.new)) }
     ensures widths { IfOk result (λ _. widths standing.new.table ≡ widths standing.old.table) }
     ensures place { IfOk result (λ next. next ≡ place + size (stmts_of body.now.items)) }
 {
-    let Ok(mut inside) = standing.copy(alloc) else {
-        return Err(CheckFault::Memory);
-    };
+    let mut inside = standing.copy(alloc)?;
     inside.enter(cells);
-    let next = match walk(alloc, body, &mut inside, place) {
-        Ok(next) => next,
-        Err(fault) => return Err(fault),
-    };
-    if through(body) {
-        return Ok(next);
+    let next = walk(alloc, body, &mut inside, place)?;
+    if !through(body) {
+        standing.await_children();
     }
-    match standing.await_children(alloc) {
-        Ok(()) => Ok(next),
-        Err(_) => Err(CheckFault::Memory),
-    }
+    Ok(next)
 }

@@ -1,7 +1,6 @@
 use Rattle.std.proofs.Common.{◌≡◌, drop}
 use Rattle.ot_model.specs.View.{stmts_of}
-use Rattle.ot_check.specs.Offences.{anyone}
-use Rattle.ot_check.specs.Walk.{after}
+use Rattle.ot_check.specs.walk.Walk.{anyone, after}
 use Rattle.ot_check.proofs.through.+leaves.Given as goal
 
 abbrev pub invariant-leaves_child-loop-stmt : goal.invariant-leaves_child-loop-stmt

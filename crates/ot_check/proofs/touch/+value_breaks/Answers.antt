@@ -1,19 +1,20 @@
 use Rattle.std.proofs.Common.{Bool, ap, sym, ◌∙◌, map}
 use Rattle.std.specs.List.{list_any, range_with_len}
 use Rattle.ot_model.specs.View.{expr_of}
-use Rattle.ot_model.specs.Value.{cell_at}
+use Rattle.ot_model.specs.Value.{cell_at, cells_named}
 use Rattle.ot_model.specs.declared.expr.Cell.{Cell}
 use Rattle.ot_model.specs.declared.expr.Expr.{Expr}
 use Rattle.ot_model.specs.declared.stmt.Mode.TheVariants.{Reads}
-use Rattle.ot_check.specs.Paths.{Touch, use_of, cells_named}
-use Rattle.ot_check.specs.Offences.{Declared, Children, breaks}
+use Rattle.ot_check.specs.Paths.{Touch, use_as}
+use Rattle.ot_check.specs.Offences.{Declared}
+use Rattle.ot_check.specs.walk.Walk.{Children, may_break}
 use Rattle.ot_check.specs.declared.fault.Offence.{Offence}
 use Rattle.ot_check.proofs.StandingLemmas.{either-then, either-else}
 use Rattle.ot_check.proofs.touch.+value_breaks.Goals as goal
 
 -- whether the reading of a cell is the offence
 abbrev read : Declared → (Cell → Bool) → Children → Offence → Cell → Bool
-read own opened children offence d = breaks own opened children (Touch (use_of Reads d)) offence
+read own opened children offence d = may_break own opened children (Touch (use_as Reads d)) offence
 
 abbrev reads : Declared → (Cell → Bool) → Children → Offence → Expr → Bool
 reads own opened children offence e = list_any (read own opened children offence) (cells_named (expr_of e))

@@ -1,21 +1,21 @@
 use Rattle.std.proofs.Common.{refl}
 use Rattle.ot_model.specs.declared.stmt.Mode.TheVariants.{Reads}
-use Rattle.ot_check.specs.Paths.{Touch, use_of}
-use Rattle.ot_check.specs.Offences.{breaks}
+use Rattle.ot_check.specs.Paths.{Touch, use_as}
+use Rattle.ot_check.specs.walk.Walk.{may_break}
 use Rattle.ot_check.proofs.StandingLemmas.{section-at, section-step, section-none}
 use Rattle.ot_check.proofs.touch.section_breaks.Goals as goal
 
 pub returns-then-read_breaks : goal.returns-then-read_breaks
 returns-then-read_breaks c = λ own opened children h.
-    section-at (λ d. breaks own opened children (Touch (use_of Reads d)) c.args.offence) c.args.section c.loop-place.place c.args.section.len _ c.read_breaks.result
+    section-at (λ d. may_break own opened children (Touch (use_as Reads d)) c.args.offence) c.args.section c.loop-place.place c.args.section.len _ c.read_breaks.result
     c.loop-place-test.true refl (c.read_breaks.ensures own opened children h) c.if-read_breaks.true
 
 pub loop-place-preserved : goal.loop-place-preserved
 loop-place-preserved c = λ own opened children h.
-    section-step (λ d. breaks own opened children (Touch (use_of Reads d)) c.args.offence) c.args.section c.loop-place.place _ c.read_breaks.result
+    section-step (λ d. may_break own opened children (Touch (use_as Reads d)) c.args.offence) c.args.section c.loop-place.place _ c.read_breaks.result
     refl (c.read_breaks.ensures own opened children h) c.if-read_breaks.false (c.loop-place.invariant own opened children h)
 
 pub returns : goal.returns
 returns c = λ own opened children h.
-    section-none (λ d. breaks own opened children (Touch (use_of Reads d)) c.args.offence) c.args.section c.loop-place.place c.args.section.len
+    section-none (λ d. may_break own opened children (Touch (use_as Reads d)) c.args.offence) c.args.section c.loop-place.place c.args.section.len
     c.loop-place.auto.place-end c.loop-place-test.false (c.loop-place.invariant own opened children h)

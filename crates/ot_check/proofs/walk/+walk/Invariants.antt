@@ -4,10 +4,10 @@ use Rattle.ot_model.specs.Counts.{size}
 use Rattle.ot_model.specs.Names.{NamedIn}
 use Rattle.ot_model.specs.declared.expr.Cell.{Cell}
 use Rattle.ot_model.specs.declared.stmt.Use.{Use}
-use Rattle.ot_check.specs.Offences.{Declared, Children}
-use Rattle.ot_check.specs.Walk.{after, first}
-use Rattle.ot_check.specs.Grids.{widths}
-use Rattle.ot_check.specs.States.{Represents}
+use Rattle.ot_check.specs.Offences.{Declared}
+use Rattle.ot_check.specs.walk.Walk.{Children, after, first}
+use Rattle.ot_check.specs.walk.Grids.{widths}
+use Rattle.ot_check.specs.walk.States.{Represents}
 use Rattle.ot_check.proofs.walk.+walk.Given as goal
 
 abbrev pub invariant-walk-loop-stmt : goal.invariant-walk-loop-stmt
@@ -15,7 +15,7 @@ invariant-walk-loop-stmt l =
     (widths l.standing.table ≡ widths l.initial.standing.table)
     × (l.next + size (stmts_of (drop l.stmt-index l.body.items)) ≡ l.place + size (stmts_of l.body.items))
     × NamedIn (widths l.standing.table) (stmts_of (drop l.stmt-index l.body.items))
-    × ((own : Declared) (opened : Cell → Bool) (children : Children) → Represents own opened children l.initial.standing.someone l.initial.standing.table
-    → (now : Children) × Represents own opened now l.standing.someone l.standing.table
+    × ((own : Declared) (opened : Cell → Bool) (children : Children) → Represents own opened children l.initial.standing
+    → (now : Children) × Represents own opened now l.standing
     × (first own opened children l.place (stmts_of l.body.items) ≡ first own opened now l.next (stmts_of (drop l.stmt-index l.body.items)))
     × ((test : List Use → Bool) → after test (children test) (stmts_of l.body.items) ≡ after test (now test) (stmts_of (drop l.stmt-index l.body.items))))

@@ -1,7 +1,7 @@
 use Rattle.std.proofs.Common.{refl, sym, subst, ◌∙◌}
-use Rattle.ot_check.specs.Offences.{anyone}
-use Rattle.ot_check.specs.Grids.{Tells}
-use Rattle.ot_check.specs.States.{state_of, one_more}
+use Rattle.ot_check.specs.walk.Walk.{anyone}
+use Rattle.ot_check.specs.walk.Grids.{Tells}
+use Rattle.ot_check.specs.walk.States.{cell_state, one_more}
 use Rattle.ot_check.proofs.StandingLemmas.{use_there, child-first, child-step, taken}
 use Rattle.ot_check.proofs.Bits.{or_yes}
 use Rattle.ot_check.proofs.standing.Standing.add_child.Goals as goal
@@ -26,7 +26,7 @@ loop-used-preserved c = (
 pub returns-clause-stands : goal.returns-clause-stands
 returns-clause-stands c = λ own opened children h. record {
   anyone = sym (or_yes (children anyone));
-  cells = subst (λ uses. Tells c.loop-used.self.table (state_of own opened (one_more children uses)))
+  cells = subst (λ uses. Tells c.loop-used.self.table (cell_state own opened (one_more children uses)))
       (taken c.uses-used-items.result.now c.args.decl.now c.loop-used.used-index c.uses-used-items.ensures.uses c.loop-used-test.false)
       (c.loop-used.invariant.1 own opened children h.cells);
 }

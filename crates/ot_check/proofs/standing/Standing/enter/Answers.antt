@@ -1,7 +1,7 @@
 use Rattle.std.proofs.Common.{refl, subst, ◌∙◌}
-use Rattle.ot_check.specs.Walk.{with_group}
-use Rattle.ot_check.specs.Grids.{Tells}
-use Rattle.ot_check.specs.States.{state_of}
+use Rattle.ot_check.specs.walk.Walk.{with_group}
+use Rattle.ot_check.specs.walk.Grids.{Tells}
+use Rattle.ot_check.specs.walk.States.{cell_state}
 use Rattle.ot_check.proofs.StandingLemmas.{cell_there, group-first, group-step, taken}
 use Rattle.ot_check.proofs.standing.Standing.enter.Goals as goal
 
@@ -26,7 +26,7 @@ loop-cell-preserved c = (
 pub returns-clause-stands : goal.returns-clause-stands
 returns-clause-stands c = λ own opened children h. record {
   anyone = c.loop-cell.invariant.1 ∙ h.anyone;
-  cells = subst (λ cells. Tells c.loop-cell.self.table (state_of own (with_group opened cells) children))
+  cells = subst (λ cells. Tells c.loop-cell.self.table (cell_state own (with_group opened cells) children))
       (taken c.args.cells.now c.args.cells.now c.loop-cell.cell-index refl c.loop-cell-test.false)
       (c.loop-cell.invariant.2 own opened children h.cells);
 }

@@ -1,16 +1,13 @@
-use Rattle.std.proofs.Common.{None, false, ap, sym, subst, ◌∙◌, map}
+use Rattle.std.proofs.Common.{refl, ap, ◌∙◌, map}
 use Rattle.ot_model.specs.ShapeView.{arrays_of}
-use Rattle.ot_check.specs.Walk.{nobody, nothing_open}
-use Rattle.ot_check.specs.Grids.{widths}
-use Rattle.ot_check.specs.States.{Represents}
+use Rattle.ot_check.specs.walk.Grids.{widths}
 use Rattle.ot_check.proofs.GridLemmas.{widths-filled}
 use Rattle.ot_check.proofs.StandingLemmas.{stands-root}
 use Rattle.ot_check.proofs.standing.Standing.of_root.Goals as goal
 
 pub returns-clause-stands : goal.returns-clause-stands
 returns-clause-stands c =
-    subst (Represents None nothing_open nobody false) (sym c.in_ok-table.ensures)
-    (stands-root _ c.all_modes.result c.no_modes.result c.all_modes.ensures c.no_modes.ensures)
+    stands-root _ c.all_modes.result c.no_modes.result _ refl c.in_ok-table.ensures c.all_modes.ensures c.no_modes.ensures
 
 pub returns-clause-widths : goal.returns-clause-widths
 returns-clause-widths c =

@@ -1,10 +1,10 @@
 use Rattle.std.proofs.Common.{◌≡◌, Some, take}
-use Rattle.ot_check.specs.Walk.{nobody, nothing_open}
-use Rattle.ot_check.specs.Grids.{widths, Tells}
-use Rattle.ot_check.specs.States.{state_of}
+use Rattle.ot_check.specs.walk.Walk.{nobody, nothing_open}
+use Rattle.ot_check.specs.walk.Grids.{widths, Tells}
+use Rattle.ot_check.specs.walk.States.{cell_state}
 use Rattle.ot_check.proofs.standing.Standing.of_task.Given as goal
 
 abbrev pub invariant-loop-used : goal.invariant-loop-used
 invariant-loop-used l =
     (widths l.table ≡ widths l.self.table)
-    × Tells l.table (state_of (Some (take l.used-index l.used-items)) nothing_open nobody)
+    × Tells l.table (cell_state (Some (take l.used-index l.used-items)) nothing_open nobody)

@@ -1,5 +1,5 @@
 use Rattle.std.proofs.Common.{◌≡◌, map, take}
-use Rattle.ot_check.specs.Grids.{filled, widths}
+use Rattle.ot_check.specs.walk.Grids.{filled, widths}
 use Rattle.ot_check.proofs.table.Table.like.Given as goal
 
 abbrev pub invariant-loop-row : goal.invariant-loop-row

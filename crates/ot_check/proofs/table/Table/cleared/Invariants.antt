@@ -1,6 +1,0 @@
-use Rattle.std.proofs.Common.{◌≡◌, map, take}
-use Rattle.ot_check.specs.States.{cleared}
-use Rattle.ot_check.proofs.table.Table.cleared.Given as goal
-
-abbrev pub invariant-loop-row : goal.invariant-loop-row
-invariant-loop-row l = map (λ row. row.items) l.rows.items ≡ map (map cleared) (map (λ row. row.items) (take l.row-index l.row-items))

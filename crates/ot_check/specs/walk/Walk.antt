@@ -1,0 +1,129 @@
+-- The offences of a body in one walk, which carries the children that may be unawaited.
+use Rattle.std.specs.Prelude.{ℕ, ◌+◌, Bool, true, false, ◌&&◌, ◌||◌, if◌then◌else◌, List, [], ◌∷◌, Option, Some, None, map}
+use Rattle.std.specs.List.{list_any}
+use Rattle.std.specs.Option.{option_or}
+use Rattle.ot_model.specs.Tree.{S, Set, Add, If, Task, Wait, Group, Body, End, Next}
+use Rattle.ot_model.specs.Counts.{size, size_one}
+use Rattle.ot_model.specs.declared.expr.Cell.{Cell}
+use Rattle.ot_model.specs.declared.stmt.Mode.TheVariants.{Writes}
+use Rattle.ot_model.specs.declared.stmt.Use.{Use}
+use Rattle.ot_check.specs.Paths.{Mark, Touch, Create, Enter, touches, use_as}
+use Rattle.ot_check.specs.Offences.{Declared, breaks, clashes, has_cell}
+use Rattle.ot_check.specs.declared.fault.Offence.{Offence}
+use Rattle.ot_check.specs.declared.fault.Offence.TheVariants.{NotDeclared, ChildBeyond, ReductionMisuse, ConflictsWithChild, EndsWithChildren}
+
+-- ---- children
+
+-- children, told by what is true of some of them
+abbrev pub Children : Type 0
+Children = (List Use → Bool) → Bool
+
+-- true of each child
+abbrev pub anyone : List Use → Bool
+anyone child = true
+
+-- no child at all
+abbrev pub nobody : Children
+nobody test = false
+
+-- whether some path has no wait
+abbrev mutual
+  pub through_one : S → Bool
+  through_one (Set c e) = true
+  through_one (Add c e) = true
+  through_one (If e a b) = through a || through b
+  through_one (Task d b) = true
+  through_one Wait = false
+  through_one (Group cs b) = through b
+
+  pub through : Body → Bool
+  through End = true
+  through (Next x rest) = through_one x && through rest
+
+-- whether some path leaves a child unawaited that passes the test, where one may be unawaited before it or not
+abbrev mutual
+  pub after_one : (List Use → Bool) → Bool → S → Bool
+  after_one test before (Set c e) = before
+  after_one test before (Add c e) = before
+  after_one test before (If e a b) = after test before a || after test before b
+  after_one test before (Task d b) = before || test d
+  after_one test before Wait = false
+  after_one test before (Group cs b) = before && through b
+
+  pub after : (List Use → Bool) → Bool → Body → Bool
+  after test before End = before
+  after test before (Next x rest) = after test (after_one test before x) rest
+
+-- the children that may be unawaited behind a statement, behind a body
+abbrev pub behind_one : Children → S → Children
+behind_one children x test = after_one test (children test) x
+
+abbrev pub behind : Children → Body → Children
+behind children body test = after test (children test) body
+
+-- ---- groups
+
+-- no group at all
+abbrev pub nothing_open : Cell → Bool
+nothing_open c = false
+
+-- these groups, and one that names these cells
+abbrev pub with_group : (Cell → Bool) → List Cell → Cell → Bool
+with_group opened cells c = opened c || has_cell cells c
+
+-- ---- offences
+
+-- whether a mark is this offence where these children may be unawaited: a conflict with some of them, or what is one
+-- whatever children there are
+abbrev pub may_break : Declared → (Cell → Bool) → Children → Mark → Offence → Bool
+may_break own opened children (Touch u) ConflictsWithChild = children (clashes u)
+may_break own opened children (Enter cs) ConflictsWithChild = list_any (λ c. children (clashes (use_as Writes c))) cs
+may_break own opened children mark offence = breaks own opened [] mark offence
+
+-- the marks of a statement itself
+abbrev pub marks : S → List Mark
+marks (Task d b) = Create d ∷ []
+marks (Group cs b) = Enter cs ∷ []
+marks x = map Touch (touches x)
+
+-- whether a task's body can end with a child unawaited
+abbrev pub ends_with_children : S → Offence → Bool
+ends_with_children (Task d b) EndsWithChildren = after anyone false b
+ends_with_children x offence = false
+
+-- whether the statement itself is this offence
+abbrev pub is_offence : Declared → (Cell → Bool) → Children → S → Offence → Bool
+is_offence own opened children x offence = list_any (λ m. may_break own opened children m offence) (marks x) || ends_with_children x offence
+
+-- the first that holds, in the order in which they are told
+abbrev pub leading : (Offence → Bool) → Option Offence
+leading holds =
+    if holds NotDeclared then Some NotDeclared
+    else if holds ChildBeyond then Some ChildBeyond
+    else if holds ReductionMisuse then Some ReductionMisuse
+    else if holds ConflictsWithChild then Some ConflictsWithChild
+    else if holds EndsWithChildren then Some EndsWithChildren
+    else None
+
+abbrev pub placed : ℕ → Option Offence → Option (ℕ × Offence)
+placed k None = None
+placed k (Some offence) = Some (k, offence)
+
+-- the first offence in a statement's bodies, of a statement, of a body, whose place is k, with its place
+abbrev mutual
+  pub first_inside : Declared → (Cell → Bool) → Children → ℕ → S → Option (ℕ × Offence)
+  first_inside own opened children k (Set c e) = None
+  first_inside own opened children k (Add c e) = None
+  first_inside own opened children k (If e a b) = option_or (first own opened children (k + 1) a) (first own opened children (k + 1 + size a) b)
+  first_inside own opened children k (Task d b) = first (Some d) nothing_open nobody (k + 1) b
+  first_inside own opened children k Wait = None
+  first_inside own opened children k (Group cs b) = first own (with_group opened cs) children (k + 1) b
+
+  pub first : Declared → (Cell → Bool) → Children → ℕ → Body → Option (ℕ × Offence)
+  first own opened children k End = None
+  first own opened children k (Next x rest) =
+      option_or (option_or (placed k (leading (is_offence own opened children x))) (first_inside own opened children k x))
+      (first own opened (behind_one children x) (k + size_one x) rest)
+
+abbrev pub first_one : Declared → (Cell → Bool) → Children → ℕ → S → Option (ℕ × Offence)
+first_one own opened children k x = option_or (placed k (leading (is_offence own opened children x))) (first_inside own opened children k x)

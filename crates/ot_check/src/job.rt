@@ -1,0 +1,116 @@
+use crate::checked::Checked;
+use ot_model::{Cells, Counts, Program, Section, same_stmts};
+use std::alloc::{AllocError, Global};
+use std::marker::Model;
+
+/// A checked program with the cells that it begins with: each cell that it names is one of them.
+#[derive(Debug, Drop)]
+pub struct JobSpec {
+    checked: Checked,
+    before: Cells,
+}
+
+impl Model for JobSpec {
+    ghost use Rattle.std.specs.Coded.{codes};
+    ghost use Rattle.ot_check.specs.contracts.checked.Checked as e;
+    ghost use Rattle.ot_check.specs.Jobs.{Spec};
+
+    ghost Value = { Spec };
+
+    ghost coded = { Prim.hlevel (codes, e.the_row.coded) };
+
+    ghost use Rattle.ot_model.specs.Cells.{lengths};
+    ghost use Rattle.ot_model.specs.Programs.{expanded_of, IsNamedIn};
+
+    ghost view = { λ s. record { checked = s.checked; before = s.before } };
+
+    ghost invariant = { λ s. IsNamedIn (lengths s.before) (expanded_of s.checked.program) };
+}
+
+impl JobSpec {
+    ghost use Rattle.std.specs.Prelude.{◌≡◌, ◌↔◌, IsTrue, IfOk};
+    ghost use Rattle.ot_model.specs.Cells.{lengths};
+    ghost use Rattle.ot_model.specs.Programs.{expanded_of, IsNamedIn};
+    ghost use Rattle.ot_check.specs.Jobs.{AreSame};
+
+    /// The program and its cells, among which are all that it names. It takes no memory.
+    pub fn new(checked: Checked, before: Cells) -> JobSpec
+        requires { IsNamedIn (lengths before) (expanded_of checked.program) }
+        ensures checked { result.checked ≡ checked }
+        ensures before { result.before ≡ before }
+    {
+        JobSpec { checked, before }
+    }
+
+    /// The checked program.
+    pub fn checked(&self) -> &Checked
+        ensures checked { result.now ≡ self.now.checked }
+        ensures named { IsNamedIn (lengths self.now.before) (expanded_of self.now.checked.program) }
+    {
+        &self.checked
+    }
+
+    /// The cells that it begins with.
+    pub fn before(&self) -> &Cells
+        ensures { result.now ≡ self.now.before }
+    {
+        &self.before
+    }
+
+    /// The checked program and the cells themselves. It takes no memory.
+    pub fn into_parts(self) -> (Checked, Cells)
+        ensures checked { result.0 ≡ self.checked }
+        ensures before { result.1 ≡ self.before }
+        ensures named { IsNamedIn (lengths self.before) (expanded_of self.checked.program) }
+    {
+        let JobSpec { checked, before } = self;
+        (checked, before)
+    }
+
+    /// The same spec once more.
+    pub fn copy(&self, alloc: Global) -> Result<JobSpec, AllocError>
+        ensures { IfOk result (λ copied. AreSame copied self.now) }
+    {
+        let checked = self.checked.copy(alloc)?;
+        let before = self.before.copy(alloc)?;
+        Ok(JobSpec { checked, before })
+    }
+
+    /// Whether the other has the same program and the same cells. It takes no memory.
+    pub fn same_as(&self, other: &JobSpec) -> bool
+        ensures { IsTrue result ↔ AreSame self.now other.now }
+    {
+        same_program(&self.checked.program, &other.checked.program)
+            && same_cells(&self.before, &other.before)
+    }
+}
+
+ghost use Rattle.std.specs.Prelude.{◌≡◌, ◌↔◌, IsTrue};
+ghost use Rattle.ot_model.specs.Programs.{expanded_of};
+
+/// Whether two programs are the same. What they count follows from their bodies.
+fn same_program(one: &Program, other: &Program) -> bool
+    ensures { IsTrue result ↔ expanded_of one.now ≡ expanded_of other.now }
+{
+    same_shows(&one.shows, &other.shows) && same_stmts(&one.body, &other.body)
+}
+
+fn same_shows(one: &[Section], other: &[Section]) -> bool
+    ensures { IsTrue result ↔ one.now ≡ other.now }
+{
+    one == other
+}
+
+/// Whether two have the same numbers in the same cells.
+fn same_cells(one: &Cells, other: &Cells) -> bool
+    ensures { IsTrue result ↔ one.now ≡ other.now }
+{
+    one.arrays() == other.arrays()
+}
+
+/// What a job leaves: its cells, and what it has executed.
+#[derive(Debug, Drop)]
+pub struct Outcome {
+    pub cells: Cells,
+    pub counts: Counts,
+}
