@@ -1,7 +1,7 @@
 -- Loops over the cells of a section, and declarations in order.
-use Rattle.std.proofs.Common.{◌≡◌, ℕ, suc, ◌+◌, ◌-◌, ◌<◌, ◌≤◌, List, [], ◌∷◌, ◌++◌, Option, Some, None, Result, Ok, Err, IfOk, refl, sym, ap, ◌∙◌, arith, inl, inr, append_assoc, append-nil}
+use Rattle.std.proofs.Common.{◌≡◌, ℕ, suc, ◌+◌, ◌-◌, ◌<◌, ◌≤◌, List, [], ◌∷◌, ◌++◌, map, Option, Some, None, Result, Ok, Err, IfOk, refl, sym, ap, ◌∙◌, arith, inl, inr, append_assoc, append-nil}
 use Rattle.std.specs.Prelude.{⊤, ◌⊎◌}
-use Rattle.std.specs.List.{AllByRecursion}
+use Rattle.std.specs.List.{AllByRecursion, range_with_len}
 use Rattle.std.specs.Map.{keys_of}
 use Rattle.std.specs.List.Sorted.{IsStrictlySortedBy}
 use Rattle.std.specs.Ordering.{nat_cmp, ordering_then}
@@ -10,23 +10,23 @@ use Rattle.std.specs.declared.cmp.Ordering.{Ordering}
 use Rattle.std.specs.declared.cmp.Ordering.TheVariants.{Less, Equal, Greater}
 use Rattle.std.proofs.lemmas.Bool.{cases_lt}
 use Rattle.ot_model.specs.Uses.{Precedes, AreInOrder}
+use Rattle.ot_model.specs.Value.{cell_at}
 use Rattle.ot_model.specs.declared.expr.Cell.{Cell}
+use Rattle.ot_model.specs.declared.expr.Section.{Section}
 use Rattle.ot_model.specs.declared.stmt.Mode.{Mode}
 use Rattle.ot_model.specs.declared.stmt.Use.{Use}
 use Rattle.ot_program.specs.declared.fault.Refusal.{Refusal}
-use Rattle.ot_program.specs.Reading.{◌>>=◌}
-use Rattle.ot_program.specs.Declarations.{cells_from, Named, cell_order, use_of, uses_of}
+use Rattle.ot_program.specs.walk.Reading.{◌>>=◌}
+use Rattle.ot_program.specs.walk.Namings.{cell_order, Named}
+use Rattle.ot_program.specs.walk.Clauses.{use_of, uses_of}
 use Rattle.ot_program.proofs.Readings.{ok_then, ok_any}
 
-pub cells_from-step : (of first n i : ℕ) → i < n
-    → cells_from of (first + i) (n - i) ≡ record { array = of; index = first + i } ∷ cells_from of (first + (i + 1)) (n - (i + 1))
-cells_from-step of first n i below =
-    let left : n - i ≡ suc (n - (i + 1)) = omega arith in
-    let next : first + (i + 1) ≡ suc (first + i) = omega arith in
-    rw (left, next) refl
+-- the cells of a section from a place on
+abbrev pub cells_left : Section → ℕ → List Cell
+cells_left s i = map (cell_at s) (range_with_len i (s.len - i))
 
-pub cells_from-end : (of first n i : ℕ) → n ≤ i → cells_from of (first + i) (n - i) ≡ []
-cells_from-end of first n i past = let left : n - i ≡ 0 = omega arith in rw left refl
+pub cells_left-step : (s : Section) (i : ℕ) → i < s.len → cells_left s i ≡ cell_at s i ∷ cells_left s (i + 1)
+cells_left-step s i below = let left : s.len - i ≡ suc (s.len - (i + 1)) = omega arith in rw left refl
 
 -- ---- a declaration is in order
 
@@ -44,7 +44,7 @@ equal_first Less p is h = absurd cc
 equal_first Equal p is h = h
 equal_first Greater p is h = absurd cc
 
-precedes : (a b c d : ℕ) → ordering_then (nat_cmp a b) (nat_cmp c d) ≡ Less → (a < b) ⊎ ((a ≡ b) × (c < d))
+pub precedes : (a b c d : ℕ) → ordering_then (nat_cmp a b) (nat_cmp c d) ≡ Less → (a < b) ⊎ ((a ≡ b) × (c < d))
 precedes a b c d h =
     elim (cases_lt a b) [
       | inl lt ↦ inl lt

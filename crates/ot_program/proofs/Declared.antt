@@ -1,6 +1,5 @@
--- Each cell of a declaration has the mode that the clauses naming it ask for.
-use Rattle.std.proofs.Common.{◌≡◌, ℕ, Bool, true, false, cond, ◌&&◌, ◌||◌, List, [], ◌∷◌, Option, Some, None, Result, Ok, Err, IfOk, nat_eq, refl, sym, ap, ◌∙◌, arith, inl, inr}
-use Rattle.std.specs.Prelude.{MatchResult, IfErr, option_map}
+-- What was collected of a cell is what the clauses naming it ask for.
+use Rattle.std.proofs.Common.{◌≡◌, ℕ, Bool, true, false, cond, ◌&&◌, ◌||◌, List, [], ◌∷◌, map, Option, Some, None, nat_eq, refl, sym, ap, ◌∙◌, arith, inl, inr}
 use Rattle.std.specs.List.{list_any, fold}
 use Rattle.std.specs.Map.{lookup}
 use Rattle.std.specs.BTreeMap.{insert_entry, is_at}
@@ -13,15 +12,12 @@ use Rattle.std.proofs.lemmas.Bool.Decides.{eqb_tells}
 use Rattle.ot_model.specs.declared.expr.Cell.{Cell}
 use Rattle.ot_model.specs.declared.stmt.Mode.{Mode}
 use Rattle.ot_model.specs.declared.stmt.Mode.TheVariants.{Reads, Writes, Adds}
-use Rattle.ot_model.specs.declared.stmt.Use.{Use}
-use Rattle.ot_program.specs.declared.clause.Clause.{Clause}
-use Rattle.ot_program.specs.declared.fault.Refusal.{Refusal}
-use Rattle.ot_program.specs.declared.fault.Refusal.TheVariants.{MixedReduction}
-use Rattle.ot_program.specs.Reading.{◌>>=◌}
-use Rattle.ot_program.specs.Declarations.{section_cells, Named, cell_order, with_mode, name_cell, name_clause, use_of, uses_of, declaration}
-use Rattle.ot_program.specs.DeclarationLaws.{is_mode, is_cell, names_as, named_as, mode_in, IsDeclared}
-use Rattle.ot_program.proofs.StatementsTold.{declaration_only}
-use Rattle.ot_program.proofs.Readings.{ok_then}
+use Rattle.ot_model.specs.Cells.{same_cell}
+use Rattle.ot_model.specs.Value.{cells_of}
+use Rattle.ot_program.specs.Declarations.{same_mode, named_as}
+use Rattle.ot_program.specs.Meanings.{Clause}
+use Rattle.ot_program.specs.walk.Namings.{cell_order, Named, with_mode, name_cell, name_clause}
+use Rattle.ot_program.proofs.Coded.{code_clause}
 
 -- ---- keys
 
@@ -66,19 +62,19 @@ eq_refl a = elim (eqb_tells a a) [ inl k ↦ k.0 | inr k ↦ absurd (k.1 refl) ]
 pair_eq : (q k : ℕ × ℕ) → q.0 ≡ k.0 → q.1 ≡ k.1 → q ≡ k
 pair_eq (a, b) (c, d) one two = ap (λ (x : ℕ). (x, b)) one ∙ ap (λ (y : ℕ). (c, y)) two
 
-same_from : (q k : ℕ × ℕ) → is_at (cell_order q) k ≡ true → q ≡ k
+pub same_from : (q k : ℕ × ℕ) → is_at (cell_order q) k ≡ true → q ≡ k
 unfolding same
 same_from q k h =
     let t = both_true (nat_eq q.0 k.0) (nat_eq q.1 k.1) (sym (at_is q k) ∙ h) in
     pair_eq q k (eq_from q.0 k.0 t.0) (eq_from q.1 k.1 t.1)
 
-at_itself : (q : ℕ × ℕ) → is_at (cell_order q) q ≡ true
+pub at_itself : (q : ℕ × ℕ) → is_at (cell_order q) q ≡ true
 unfolding same
 at_itself q = at_is q q ∙ rw (eq_refl q.0, eq_refl q.1) refl
 
 -- ---- one naming more
 
-mode_at : ℕ × ℕ → Named → Option (Option Mode)
+unfoldable pub mode_at : ℕ × ℕ → Named → Option (Option Mode)
 mode_at q named = lookup (is_at (cell_order q)) named
 
 swallow : {A : Type 0} (b : Bool) (x y z : A) → cond b x z ≡ cond b x (cond b y z)
@@ -119,7 +115,7 @@ insert_at q k v (e ∷ es) = insert_by q k v e es (cell_order k e.0) refl (inser
 
 -- ---- all cells of a clause
 
-key : Cell → ℕ × ℕ
+abbrev pub key : Cell → ℕ × ℕ
 key c = (c.array, c.index)
 
 again : (s : Option (Option Mode)) (m : Mode) → with_mode (Some (with_mode s m)) m ≡ with_mode s m
@@ -144,9 +140,9 @@ cell_by true true s m = ap Some (again s m)
 cell_by true false s m = refl
 cell_by false rest s m = refl
 
-cell_named : (q : Cell) (m : Mode) (named : Named) (c : Cell) (b : Bool) → is_cell q c ≡ b
+cell_named : (q : Cell) (m : Mode) (named : Named) (c : Cell) (b : Bool) → same_cell q c ≡ b
     → mode_at (key q) (name_cell m named c) ≡ cond b (Some (with_mode (mode_at (key q) named) m)) (mode_at (key q) named)
-unfolding mode_at key same
+unfolding mode_at same
 cell_named q m named c true is =
     let at : is_at (cell_order (key q)) (key c) ≡ true = at_is (key q) (key c) ∙ is in
     let keys = same_from (key q) (key c) at in
@@ -158,22 +154,22 @@ cell_named q m named c false is =
 
 cells_named : (q : Cell) (m : Mode) (cells : List Cell) (named : Named)
     → mode_at (key q) (fold (name_cell m) named cells)
-    ≡ cond (list_any (is_cell q) cells) (Some (with_mode (mode_at (key q) named) m)) (mode_at (key q) named)
+    ≡ cond (list_any (same_cell q) cells) (Some (with_mode (mode_at (key q) named) m)) (mode_at (key q) named)
 cells_named q m [] named = refl
 cells_named q m (c ∷ cs) named =
     cells_named q m cs (name_cell m named c)
-    ∙ ap (λ (s : Option (Option Mode)). cond (list_any (is_cell q) cs) (Some (with_mode s m)) s) (cell_named q m named c (is_cell q c) refl)
-    ∙ cell_by (is_cell q c) (list_any (is_cell q) cs) (mode_at (key q) named) m
+    ∙ ap (λ (s : Option (Option Mode)). cond (list_any (same_cell q) cs) (Some (with_mode s m)) s) (cell_named q m named c (same_cell q c) refl)
+    ∙ cell_by (same_cell q c) (list_any (same_cell q) cs) (mode_at (key q) named) m
 
 -- ---- all clauses
 
 -- the mode of a cell that is written, read and added to by some clauses, or by none
-summary : Bool → Bool → Bool → Option (Option Mode)
+unfoldable pub summary : Bool → Bool → Bool → Option (Option Mode)
 summary w r a =
     cond (a && (w || r)) (Some None) (cond w (Some (Some Writes)) (cond r (Some (Some Reads)) (cond a (Some (Some Adds)) None)))
 
 step_named : (m : Mode) (w r a : Bool)
-    → Some (with_mode (summary w r a) m) ≡ summary (w || is_mode Writes m) (r || is_mode Reads m) (a || is_mode Adds m)
+    → Some (with_mode (summary w r a) m) ≡ summary (w || same_mode Writes m) (r || same_mode Reads m) (a || same_mode Adds m)
 unfolding summary
 step_named Reads true true true = refl
 step_named Reads true true false = refl
@@ -210,71 +206,21 @@ or_or false b c = refl
 
 step : (named : Bool) (m : Mode) (w r a : Bool)
     → cond named (Some (with_mode (summary w r a) m)) (summary w r a)
-    ≡ summary (w || (named && is_mode Writes m)) (r || (named && is_mode Reads m)) (a || (named && is_mode Adds m))
+    ≡ summary (w || (named && same_mode Writes m)) (r || (named && same_mode Reads m)) (a || (named && same_mode Adds m))
 step true m w r a = step_named m w r a
 step false m w r a = sym (rw (or_false w, or_false r, or_false a) refl)
 
-clauses_named : (q : Cell) (clauses : List Clause) (named : Named) (w r a : Bool) → mode_at (key q) named ≡ summary w r a
-    → mode_at (key q) (fold name_clause named clauses)
+-- whether a clause of this mode names the cell
+abbrev pub names_as : Mode → Cell → Clause → Bool
+names_as mode c clause = list_any (same_cell c) (cells_of clause.section) && same_mode mode clause.mode
+
+pub clauses_named : (q : Cell) (clauses : List Clause) (named : Named) (w r a : Bool) → mode_at (key q) named ≡ summary w r a
+    → mode_at (key q) (fold name_clause named (map code_clause clauses))
     ≡ summary (w || named_as Writes clauses q) (r || named_as Reads clauses q) (a || named_as Adds clauses q)
 clauses_named q [] named w r a h = h ∙ sym (rw (or_false w, or_false r, or_false a) refl)
 clauses_named q (c ∷ cs) named w r a h =
-    let here = list_any (is_cell q) (section_cells c.section) in
-    let one = cells_named q c.mode (section_cells c.section) named
+    let here = list_any (same_cell q) (cells_of c.section) in
+    let one = cells_named q c.mode (cells_of c.section) named
     ∙ ap (λ (s : Option (Option Mode)). cond here (Some (with_mode s c.mode)) s) h ∙ step here c.mode w r a in
-    clauses_named q cs (name_clause named c) (w || names_as Writes q c) (r || names_as Reads q c) (a || names_as Adds q c) one
+    clauses_named q cs (name_clause named (code_clause c)) (w || names_as Writes q c) (r || names_as Reads q c) (a || names_as Adds q c) one
     ∙ rw (or_or w (names_as Writes q c) (named_as Writes cs q), or_or r (names_as Reads q c) (named_as Reads cs q), or_or a (names_as Adds q c) (named_as Adds cs q)) refl
-
--- ---- what is declared
-
-used_by : (b : Bool) (m : Mode) (o : Option Mode) (s : Option (Option Mode)) → option_map Some o ≡ s
-    → option_map Some (cond b (Some m) o) ≡ cond b (Some (Some m)) s
-used_by true m o s h = refl
-used_by false m o s h = h
-
-use_at : (q : Cell) (n : (ℕ × ℕ) × Option Mode) → IfOk (use_of n) (λ u. (o : Option Mode) (s : Option (Option Mode)) → option_map Some o ≡ s
-    → option_map Some (cond (is_cell q u.cell) (Some u.mode) o) ≡ cond (is_at (cell_order (key q)) n.0) (Some n.1) s)
-unfolding key same
-use_at q (k, None) = tt
-use_at q (k, Some m) = λ o s h. used_by (is_cell q (record { array = k.0; index = k.1 })) m o s h
-    ∙ ap (λ (b : Bool). cond b (Some (Some m)) s) (sym (at_is (key q) k))
-
-uses_at : (q : Cell) (ns : Named) → IfOk (uses_of ns) (λ us. option_map Some (mode_in us q) ≡ mode_at (key q) ns)
-unfolding mode_at
-uses_at q [] = refl
-uses_at q (n ∷ ns) =
-    ok_then (use_of n) (λ u. uses_of ns >>= λ us. Ok (u ∷ us)) _ (λ us. option_map Some (mode_in us q) ≡ mode_at (key q) (n ∷ ns)) (use_at q n)
-    (λ u p. ok_then (uses_of ns) (λ us. Ok (u ∷ us)) (λ us. option_map Some (mode_in us q) ≡ mode_at (key q) ns)
-    (λ us. option_map Some (mode_in us q) ≡ mode_at (key q) (n ∷ ns)) (uses_at q ns) (λ us h. p (mode_in us q) (mode_at (key q) ns) h))
-
-found : (o : Option Mode) (w r a : Bool) → option_map Some o ≡ summary w r a
-    → (o ≡ cond w (Some Writes) (cond r (Some Reads) (cond a (Some Adds) None))) × (a && (w || r) ≡ false)
-unfolding summary
-found None true true true h = absurd cc
-found None true true false h = absurd cc
-found None true false true h = absurd cc
-found None true false false h = absurd cc
-found None false true true h = absurd cc
-found None false true false h = absurd cc
-found None false false true h = absurd cc
-found None false false false h = (refl, refl)
-found (Some m) true true true h = absurd cc
-found (Some m) true true false h = (cc, refl)
-found (Some m) true false true h = absurd cc
-found (Some m) true false false h = (cc, refl)
-found (Some m) false true true h = absurd cc
-found (Some m) false true false h = (cc, refl)
-found (Some m) false false true h = (cc, refl)
-found (Some m) false false false h = absurd cc
-
-declared_exactly : (clauses : List Clause) (r : Result (List Use) Refusal) → declaration clauses ≡ r → IfErr r (λ e. e ≡ MixedReduction)
-    → MatchResult r (IsDeclared clauses) (λ e. e ≡ MixedReduction)
-unfolding mode_at summary
-declared_exactly clauses (Ok uses) is only =
-    let all = λ (q : Cell). found (mode_in uses q) (named_as Writes clauses q) (named_as Reads clauses q) (named_as Adds clauses q)
-    ((rw is at (uses_at q (fold name_clause [] clauses))) ∙ clauses_named q clauses [] false false false refl) in
-    record { modes = λ q. (all q).0; apart = λ q. (all q).1 }
-declared_exactly clauses (Err e) is only = only
-
-pub declarations_are_exact : (clauses : List Clause) → MatchResult (declaration clauses) (IsDeclared clauses) (λ e. e ≡ MixedReduction)
-declarations_are_exact clauses = declared_exactly clauses (declaration clauses) refl (declaration_only clauses)

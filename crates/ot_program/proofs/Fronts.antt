@@ -12,10 +12,11 @@ use Rattle.std.proofs.lemmas.List.{map-append}
 use Rattle.ot_program.specs.declared.counts.Counts.{Counts}
 use Rattle.ot_program.specs.declared.fault.ProgramFault.{ProgramFault}
 use Rattle.ot_program.specs.declared.fault.ProgramFault.TheVariants.{Memory, Refused}
-use Rattle.ot_program.specs.Variables.{Bindings}
-use Rattle.ot_program.specs.Reading.{◌>>=◌}
-use Rattle.ot_program.specs.Statements.{Read, Reader, one_then, one_in, all_in}
-use Rattle.ot_program.specs.Returned.{Fails, Added}
+use Rattle.ot_program.specs.Meanings.{Bindings}
+use Rattle.ot_program.specs.walk.Reading.{◌>>=◌}
+use Rattle.ot_program.specs.walk.Statements.{Read, Reader, one_then, one_in, all_in}
+use Rattle.ot_program.specs.Returned.{Fails}
+use Rattle.ot_program.specs.walk.Returned.{Added}
 
 -- one statement more
 pub put_behind : (old new : List Stmt) (x : Stmt) (y : S) → new ≡ old ++ x ∷ [] → stmt_of x ≡ y

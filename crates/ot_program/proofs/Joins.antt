@@ -1,10 +1,12 @@
 -- What is returned for two parts is what is told of two parts.
-use Rattle.std.proofs.Common.{◌≡◌, Result, Ok, Err, refl, sym, ap, ◌∙◌}
+use Rattle.std.proofs.Common.{◌≡◌, Result, Ok, Err, refl, sym, ap, ◌∙◌, subst}
+use Rattle.std.specs.Prelude.{IsErrAnd, MatchResult}
 use Rattle.ot_program.specs.declared.fault.Refusal.{Refusal}
 use Rattle.ot_program.specs.declared.fault.ProgramFault.{ProgramFault}
 use Rattle.ot_program.specs.declared.fault.ProgramFault.TheVariants.{Memory, Refused}
-use Rattle.ot_program.specs.Reading.{◌>>=◌, both_of}
-use Rattle.ot_program.specs.Returned.{Fails, Gives, join}
+use Rattle.ot_program.specs.walk.Reading.{◌>>=◌, both_of}
+use Rattle.ot_program.specs.Returned.{Fails, Gives}
+use Rattle.ot_program.specs.walk.Returned.{join}
 
 pub join_gives : {X Y A B : Type 0} (f : X → A) (g : Y → B) (x : Result X ProgramFault) (y : Result Y ProgramFault)
     (r : Result A Refusal) (s : Result B Refusal) → Gives f x r → Gives g y s → Gives (λ (p : X × Y). (f p.0, g p.1))
@@ -36,3 +38,18 @@ join_reads {X} {Y} view (Ok a) (Ok b) r p is h = let e : p ≡ (a, b) = cc in h 
 join_reads {X} {Y} view (Ok a) (Err f) r p is h = absurd cc
 join_reads view (Err e) (Ok b) r p is h = absurd cc
 join_reads view (Err e) (Err f) r p is h = absurd cc
+
+-- ---- a fault that is passed on
+
+pub passed_on : {A : Type 0} (r : Result A Refusal) (c : Refusal) → IsErrAnd r (λ e. e ≡ c) → r ≡ Err c
+passed_on (Ok x) c h = absurd h
+passed_on (Err e) c h = ap Err h
+
+pub gives_refused : {X A : Type 0} (see : X → A) (result : Result X ProgramFault) (c : Refusal) (read : Result A Refusal)
+    → IsErrAnd result (λ e. e ≡ Refused c) → read ≡ Err c → Gives see result read
+gives_refused see (Ok x) c read h is = absurd h
+gives_refused see (Err e) c read h is = rw h is
+
+pub match_refused : {A E : Type 0} (r : Result A E) (c : E) (P : A → Type 0) (Q : E → Type 0) → IsErrAnd r (λ e. e ≡ c) → Q c → MatchResult r P Q
+match_refused (Ok x) c P Q h q = absurd h
+match_refused (Err e) c P Q h q = subst Q (sym h) q

@@ -1,14 +1,67 @@
--- A list of another length is no program.
-use Rattle.std.proofs.Common.{◌≡◌, List, [], ◌∷◌, length, Err, refl}
-use Rattle.std.specs.Prelude.{◌≢◌}
-use Rattle.serde_json.specs.Data.{array}
+-- What a text is read as, where a program is wanted.
+use Rattle.std.proofs.Common.{◌≡◌, ℕ, ◌+◌, ◌-◌, ◌^◌, ◌<◌, ◌≤◌, min, Bool, true, false, cond, ◌&&◌, List, [], ◌∷◌, length, Result, Ok, Err, nat_le, refl, sym, arith, inl, inr}
+use Rattle.std.specs.Prelude.{⊤, ◌≢◌}
+use Rattle.std.proofs.lemmas.Bool.{cases_lt, lt-leb}
+use Rattle.serde_json.specs.Data.{Data, array}
 use Rattle.serde_json.specs.View.{items_view}
 use Rattle.serde_json.specs.declared.value.Value.{Value}
 use Rattle.ot_model.specs.Shapes.{Arrays}
-use Rattle.ot_program.specs.declared.fault.Refusal.TheVariants.{Form}
-use Rattle.ot_program.specs.Programs.{program_of}
+use Rattle.ot_model.specs.Tree.{S}
+use Rattle.ot_model.specs.declared.expr.Section.{Section}
+use Rattle.ot_program.specs.declared.counts.Counts.{Counts}
+use Rattle.ot_program.specs.declared.fault.ProgramFault.{ProgramFault}
+use Rattle.ot_program.specs.declared.fault.Refusal.{Refusal}
+use Rattle.ot_program.specs.declared.fault.Refusal.TheVariants.{Form, TooLarge}
+use Rattle.ot_program.specs.Limits.{max_statements, max_nodes, max_cells, cells_in}
+use Rattle.ot_program.specs.Returned.{Fails}
+use Rattle.ot_program.specs.walk.Reading.{◌>>=◌, both_of}
+use Rattle.ot_program.specs.walk.Counting.{no_counts, counted, within_limits}
+use Rattle.ot_program.specs.walk.Parts.{sections_of}
+use Rattle.ot_program.specs.walk.Statements.{list_of, body_in}
+use Rattle.ot_program.specs.walk.Programs.{expanded, first_level, program_at, walk_of}
+use Rattle.ot_program.proofs.Joins.{Fails-then}
 
 pub no_program_but_three : (shape : Arrays) (vs : List Value) → length vs ≢ 3
-    → program_of shape (array (items_view vs)) ≡ Err Form
+    → walk_of shape (array (items_view vs)) ≡ Err Form
 no_program_but_three shape (a ∷ b ∷ c ∷ []) other = absurd (other refl)
 no_program_but_three shape _ other = refl
+
+-- ---- counts of 32 bits
+
+too_many : (a b : Bool) (n : Counts) → cond (a && b && false) (Ok n) (Err TooLarge) ≡ Err TooLarge
+too_many true true n = refl
+too_many true false n = refl
+too_many false b n = refl
+
+too_many_cells : (n : Counts) (statements nodes cells : ℕ) → max_cells < cells → within_limits (counted n statements nodes cells) ≡ Err TooLarge
+too_many_cells n statements nodes cells over =
+    let past : nat_le (n.cells + cells) max_cells ≡ false = lt-leb (n.cells + cells) max_cells (omega arith) in
+    rw past
+    (too_many (nat_le (n.statements + statements) max_statements) (nat_le (n.nodes + nodes) max_nodes) (counted n statements nodes cells))
+
+-- how many cells there are may be told as the greatest number of 32 bits
+capped : (n : Counts) (statements nodes cells : ℕ)
+    → within_limits (counted n statements nodes (min cells (2 ^ 32 - 1))) ≡ within_limits (counted n statements nodes cells)
+capped n statements nodes cells =
+    elim (cases_lt (2 ^ 32 - 1) cells) [
+      | inl over ↦ rw (too_many_cells n statements nodes (min cells (2 ^ 32 - 1)) (omega arith), too_many_cells n statements nodes cells (omega arith)) refl
+      | inr within ↦ let is : min cells (2 ^ 32 - 1) ≡ cells = omega arith in rw is refl
+    ]
+
+-- ---- a program, by what its parts are read as
+
+pub program_fails_counts : (shape : Arrays) (a b : Data) (ss : List Section) (c : Refusal)
+    → both_of (sections_of shape [] a) (list_of b) ≡ Ok (ss, tt) → Err c ≡ within_limits (counted no_counts 0 0 (min (cells_in ss) (2 ^ 32 - 1)))
+    → program_at shape a b ≡ Err c
+program_fails_counts shape a b ss c parts counts = rw (parts, ← capped no_counts 0 0 (cells_in ss), ← counts) refl
+
+pub program_fails_body : (shape : Arrays) (a b : Data) (ss : List Section) (n : Counts) (f : ProgramFault)
+    → both_of (sections_of shape [] a) (list_of b) ≡ Ok (ss, tt) → Ok n ≡ within_limits (counted no_counts 0 0 (min (cells_in ss) (2 ^ 32 - 1)))
+    → Fails f (body_in shape first_level b [] n) → Fails f (program_at shape a b)
+program_fails_body shape a b ss n f parts counts h =
+    rw (parts, ← capped no_counts 0 0 (cells_in ss), ← counts) (Fails-then f (body_in shape first_level b [] n) _ h)
+
+pub program_reads : (shape : Arrays) (a b : Data) (ss : List Section) (n m : Counts) (xs : List S)
+    → both_of (sections_of shape [] a) (list_of b) ≡ Ok (ss, tt) → Ok n ≡ within_limits (counted no_counts 0 0 (min (cells_in ss) (2 ^ 32 - 1)))
+    → body_in shape first_level b [] n ≡ Ok (xs, m) → program_at shape a b ≡ Ok (expanded ss (xs, m))
+program_reads shape a b ss n m xs parts counts body = rw (parts, ← capped no_counts 0 0 (cells_in ss), ← counts, body) refl

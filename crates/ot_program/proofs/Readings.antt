@@ -5,7 +5,7 @@ use Rattle.std.specs.List.{AllByRecursion}
 use Rattle.serde_json.specs.Data.{Data, Items, no_items, item}
 use Rattle.ot_program.specs.declared.fault.Refusal.{Refusal}
 use Rattle.ot_program.specs.declared.fault.ProgramFault.{ProgramFault}
-use Rattle.ot_program.specs.Reading.{◌>>=◌, both_of, each_of}
+use Rattle.ot_program.specs.walk.Reading.{◌>>=◌, both_of, each_of}
 use Rattle.ot_program.specs.Returned.{Gives}
 
 pub ok_then : {A B : Type 0} (r : Result A Refusal) (k : A → Result B Refusal) (P : A → Type 0) (Q : B → Type 0)

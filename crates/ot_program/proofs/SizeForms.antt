@@ -6,8 +6,9 @@ use Rattle.serde_json.specs.View.{view, items_view}
 use Rattle.serde_json.specs.declared.value.Value.{Value}
 use Rattle.ot_program.specs.declared.fault.Refusal.TheVariants.{Form}
 use Rattle.ot_program.specs.declared.size.Sign.{Sign}
-use Rattle.ot_program.specs.Variables.{Bindings}
-use Rattle.ot_program.specs.Sizes.{sign_of, size_operation, size_of, size_depth}
+use Rattle.ot_program.specs.Meanings.{Bindings}
+use Rattle.ot_program.specs.Limits.{size_depth}
+use Rattle.ot_program.specs.walk.Sizes.{sign_of, size_operation, size_of}
 
 pub no_size_but_three : (variables : Bindings) (vs : List Value) → length vs ≢ 3
     → size_of variables (array (items_view vs)) ≡ Err Form

@@ -9,8 +9,8 @@ use Rattle.ot_model.specs.Tree.{Task, Group}
 use Rattle.ot_program.specs.declared.counts.Counts.{Counts}
 use Rattle.ot_program.specs.declared.fault.Refusal.TheVariants.{Form}
 use Rattle.ot_program.specs.Names.{is_word}
-use Rattle.ot_program.specs.Variables.{Bindings}
-use Rattle.ot_program.specs.Statements.{set_in, add_in, wait_form, if_in, for_in, with_body, condition_of, declared_of, grouped_of, range_of, body_in, one_in}
+use Rattle.ot_program.specs.Meanings.{Bindings}
+use Rattle.ot_program.specs.walk.Statements.{set_in, add_in, wait_form, if_in, for_in, with_body, condition_of, declared_of, grouped_of, range_of, body_in, one_in}
 
 pub no_form : (shape : Arrays) (level : ℕ) (vs : List Value) (variables : Bindings) (n : Counts) → length vs ≢ 1 → length vs ≢ 3
     → length vs ≢ 4 → length vs ≢ 5 → one_in shape level (array (items_view vs)) variables n ≡ Err Form

@@ -3,8 +3,9 @@ use Rattle.std.proofs.Common.{◌≡◌, ℕ, suc, ◌+◌, ◌-◌, ◌<◌, �
 use Rattle.ot_model.specs.Tree.{S}
 use Rattle.ot_program.specs.declared.counts.Counts.{Counts}
 use Rattle.ot_program.specs.declared.fault.ProgramFault.{ProgramFault}
-use Rattle.ot_program.specs.Statements.{Read, Reader, one_then, turn, turns}
-use Rattle.ot_program.specs.Returned.{Fails, Added}
+use Rattle.ot_program.specs.walk.Statements.{Read, Reader, one_then, turn, turns}
+use Rattle.ot_program.specs.Returned.{Fails}
+use Rattle.ot_program.specs.walk.Returned.{Added}
 use Rattle.ot_program.proofs.Fronts.{Front, front_none, front_more, front_fails, front_all}
 
 turns-next : (body : ℕ → Reader) (k behind : ℕ) (n : Counts) → k < behind

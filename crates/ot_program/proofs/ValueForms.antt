@@ -1,5 +1,5 @@
 -- What a list is read as, where a value is wanted.
-use Rattle.std.proofs.Common.{◌≡◌, true, false, List, [], ◌∷◌, length, get_or, Some, Err, codes, refl, sym, arith}
+use Rattle.std.proofs.Common.{◌≡◌, true, false, List, [], ◌∷◌, length, get_or, Some, None, Err, codes, refl, sym, arith}
 use Rattle.std.specs.Prelude.{◌≢◌}
 use Rattle.serde_json.specs.Data.{array}
 use Rattle.serde_json.specs.View.{view, items_view}
@@ -8,9 +8,9 @@ use Rattle.ot_model.specs.Shapes.{Arrays}
 use Rattle.ot_model.specs.declared.expr.Op.{Op}
 use Rattle.ot_program.specs.declared.fault.Refusal.TheVariants.{Form}
 use Rattle.ot_program.specs.Names.{is_word}
-use Rattle.ot_program.specs.Variables.{Bindings}
-use Rattle.ot_program.specs.Parts.{section_of}
-use Rattle.ot_program.specs.Values.{op_of, operation, pick_of, value_of}
+use Rattle.ot_program.specs.Meanings.{Bindings, op_of}
+use Rattle.ot_program.specs.walk.Parts.{cell_at, section_of}
+use Rattle.ot_program.specs.walk.Values.{cell_value, operation, pick_of, value_of}
 
 pub no_value_but_three : (shape : Arrays) (variables : Bindings) (vs : List Value) → length vs ≢ 3
     → value_of shape variables (array (items_view vs)) ≡ Err Form
@@ -33,3 +33,17 @@ pub value_of-pick : (shape : Arrays) (variables : Bindings) (vs : List Value) (t
 unfolding value_of
 value_of-pick shape variables (x ∷ y ∷ z ∷ []) t a b three p q r other is = rw (sym p, sym q, sym r, other, is) refl
 value_of-pick shape variables _ t a b three p q r other is = absurd (omega arith)
+
+pub value_of-cell : (shape : Arrays) (variables : Bindings) (vs : List Value) (t a b : Value) → length vs ≡ 3
+    → t ≡ get_or vs 0 t → a ≡ get_or vs 1 a → b ≡ get_or vs 2 b → is_word (view t) (codes "c") ≡ true
+    → value_of shape variables (array (items_view vs)) ≡ cell_value (cell_at shape variables (view a) (view b))
+unfolding value_of
+value_of-cell shape variables (x ∷ y ∷ z ∷ []) t a b three p q r is = rw (sym p, sym q, sym r, is) refl
+value_of-cell shape variables _ t a b three p q r is = absurd (omega arith)
+
+pub value_of-no_op : (shape : Arrays) (variables : Bindings) (vs : List Value) (t : Value) → length vs ≡ 3
+    → t ≡ get_or vs 0 t → is_word (view t) (codes "c") ≡ false → is_word (view t) (codes "pick") ≡ false → op_of (view t) ≡ None
+    → value_of shape variables (array (items_view vs)) ≡ Err Form
+unfolding value_of
+value_of-no_op shape variables (x ∷ y ∷ z ∷ []) t three p other no_pick is = rw (sym p, other, no_pick, is) refl
+value_of-no_op shape variables _ t three p other no_pick is = absurd (omega arith)

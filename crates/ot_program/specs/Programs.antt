@@ -1,40 +1,57 @@
--- Programs: the own form with what is shown, and then the body.
-use Rattle.std.specs.Prelude.{if◌then◌else◌, List, [], Result, Ok, Err, codes}
+-- What a text is as a program over a shape: its expansion, or the fault that is told (docs/LANGUAGE.md, "Refusals",
+-- which fault is told).
+use Rattle.std.specs.Prelude.{List, [], ◌∷◌, ◌++◌, map, fold, Option, Some, None, Result, Ok, Err, if◌then◌else◌, codes}
+use Rattle.std.specs.Option.{option_or}
 use Rattle.serde_json.specs.Data.{Data, array, no_items, item}
+use Rattle.ot_model.specs.Counts.{size, tasks_in}
+use Rattle.ot_model.specs.Programs.{Expanded}
 use Rattle.ot_model.specs.Shapes.{Arrays}
 use Rattle.ot_model.specs.Tree.{S, body_of}
-use Rattle.ot_model.specs.Programs.{Expanded}
 use Rattle.ot_model.specs.declared.expr.Section.{Section}
-use Rattle.ot_program.specs.declared.counts.Counts.{Counts}
+use Rattle.ot_program.specs.Copies.{ProgramText, Placed, Copy, Done, at, copies, in_copy, statement_of}
+use Rattle.ot_program.specs.Faults.{own_faults, past_limits}
+use Rattle.ot_program.specs.Limits.{total}
+use Rattle.ot_program.specs.Meanings.{items, section}
+use Rattle.ot_program.specs.Names.{is_word}
+use Rattle.ot_program.specs.Refusals.{least}
 use Rattle.ot_program.specs.declared.fault.Refusal.{Refusal}
 use Rattle.ot_program.specs.declared.fault.Refusal.TheVariants.{Form}
-use Rattle.ot_program.specs.Names.{is_word}
-use Rattle.ot_program.specs.Reading.{◌>>=◌, both_of}
-use Rattle.ot_program.specs.Counting.{no_counts, counted, within_limits, cells_in}
-use Rattle.ot_program.specs.Parts.{sections_of}
-use Rattle.ot_program.specs.Statements.{body_in, list_of}
 
--- The program's own form with its shows is one statement before all others, and then come those of
--- its body, which is at the first level. No variable is bound there.
-abbrev pub shows_of : Arrays → Data → Data → Result (List Section × Counts) Refusal
-shows_of shape shows body = do
-  p ← both_of (sections_of shape [] shows) (list_of body)
-  n ← within_limits (counted no_counts 0 0 (cells_in p.0))
-  Ok (p.0, n)
+-- ---- what is told
 
-abbrev pub expanded : List Section → List S × Counts → Expanded
-expanded shows read =
-    record { shows = shows; body = body_of read.0; statements = read.1.statements; tasks = read.1.tasks }
+-- of some faults the first of the order
+abbrev pub foremost : List Refusal → Option Refusal
+foremost [] = None
+foremost (c ∷ cs) = Some (fold least c cs)
 
-abbrev pub program_at : Arrays → Data → Data → Result Expanded Refusal
-program_at shape shows body = do
-  p ← shows_of shape shows body
-  read ← body_in shape 1 body [] p.1
-  Ok (expanded p.0 read)
+module _ (shape : Arrays) where
+  -- the faults of a statement behind others: those of its own parts, and each count that with it is past its limit
+  abbrev pub faults_behind : List Placed → Placed → List Refusal
+  faults_behind before p = own_faults shape p ++ past_limits shape.tasks (total shape (before ++ p ∷ []))
 
--- What a text is as a program over a shape: its expansion, or why it is refused. It has the form
--- `["program", [section, ..], body]`.
+  -- the first statement with a fault decides, and of its faults the first of the order
+  abbrev pub told : List Placed → List Placed → Option Refusal
+  told before [] = None
+  told before (p ∷ rest) = option_or (foremost (faults_behind before p)) (told (before ++ p ∷ []) rest)
+
+-- ---- programs
+
+-- what is accepted, unless a fault is told
+abbrev pub told_or : {A : Type 0} → A → Option Refusal → Result A Refusal
+told_or x None = Ok x
+told_or x (Some c) = Err c
+
+abbrev pub expansion : List Section → List S → Expanded
+expansion shows ss = record { shows = shows; body = body_of ss; statements = size (body_of ss); tasks = tasks_in (body_of ss) }
+
+-- The program with its shows is a statement before all others. Its body is one deeper, as every body is.
+abbrev pub program_copy : Data → Data → Copy
+program_copy shows body = at 0 [] (ProgramText shows body) (copies 1 body []) Done
+
+-- `["program", [section, ..], body]`
 abbrev pub program_of : Arrays → Data → Result Expanded Refusal
 program_of shape (array (item t (item a (item b no_items)))) =
-    if is_word t (codes "program") then program_at shape a b else Err Form
+    if is_word t (codes "program")
+    then told_or (expansion (map (section shape []) (items a)) (statement_of shape (program_copy a b))) (told shape [] (in_copy (program_copy a b)))
+    else Err Form
 program_of shape _ = Err Form

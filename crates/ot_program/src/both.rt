@@ -1,6 +1,6 @@
 ghost use Rattle.std.specs.Prelude.{◌≡◌};
-ghost use Rattle.ot_program.specs.Reading.{both_of};
-ghost use Rattle.ot_program.specs.Returned.{join};
+ghost use Rattle.ot_program.specs.walk.Reading.{both_of};
+ghost use Rattle.ot_program.specs.walk.Returned.{join};
 
 use crate::fault::{ProgramFault, Refusal};
 

@@ -1,10 +1,11 @@
 ghost use Rattle.std.specs.Prelude.{◌≡◌};
-ghost use Rattle.serde_json.specs.Data.{array};
+ghost use Rattle.serde_json.specs.Data.{string, array};
 ghost use Rattle.serde_json.specs.View.{view, items_view};
-ghost use Rattle.ot_program.specs.Reading.{each_of};
+ghost use Rattle.ot_program.specs.walk.Reading.{each_of};
 ghost use Rattle.ot_program.specs.Returned.{Gives};
-ghost use Rattle.ot_program.specs.Variables.{bindings_of};
-ghost use Rattle.ot_program.specs.Declarations.{mode_named, mode_of, clause_of, clauses_of};
+ghost use Rattle.ot_program.specs.walk.Variables.{bindings_of};
+ghost use Rattle.ot_program.specs.Meanings.{mode_of};
+ghost use Rattle.ot_program.specs.walk.Clauses.{clause_of, clauses_of};
 
 use crate::fault::{ProgramFault, Refusal};
 use crate::part::read_section;
@@ -91,7 +92,7 @@ fn read_mode(tag: &Value) -> Option<Mode>
 }
 
 fn mode_named(text: &str) -> Option<Mode>
-    ensures { result ≡ mode_named text.now }
+    ensures { result ≡ mode_of (string text.now) }
 {
     match text {
         "in" => Some(Mode::Reads),
@@ -102,7 +103,7 @@ fn mode_named(text: &str) -> Option<Mode>
 }
 
 ghost use Rattle.std.specs.Prelude.{◌-◌, ◌^◌, min, map};
-ghost use Rattle.ot_program.specs.Counting.{cells_in};
+ghost use Rattle.ot_program.specs.Limits.{cells_in};
 
 /// How many cells the sections of clauses have, or the greatest number of 32 bits where they have
 /// more.

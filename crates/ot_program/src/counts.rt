@@ -22,7 +22,7 @@ pub(crate) struct Counts {
 
 impl Counts {
     ghost use Rattle.std.specs.Prelude.{◌≡◌};
-    ghost use Rattle.ot_program.specs.Counting.{no_counts, counted, within_limits, one_turn, one_task};
+    ghost use Rattle.ot_program.specs.walk.Counting.{no_counts, counted, within_limits, one_turn, one_task};
 
     pub(crate) fn none() -> Counts
         ensures { result ≡ no_counts }
@@ -86,7 +86,7 @@ impl Counts {
 }
 
 ghost use Rattle.std.specs.Prelude.{◌≡◌, ◌-◌, ◌^◌, min};
-ghost use Rattle.ot_program.specs.Counting.{cells_in};
+ghost use Rattle.ot_program.specs.Limits.{cells_in};
 
 /// How many cells sections have, or the greatest number of 32 bits where they have more.
 pub(crate) fn cells(sections: &[Section]) -> u32

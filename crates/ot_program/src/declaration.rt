@@ -1,7 +1,9 @@
-ghost use Rattle.std.specs.Prelude.{◌≡◌, ◌++◌, All, OnOk, IfOk};
+ghost use Rattle.std.specs.Prelude.{◌≡◌, ◌++◌, All, OnOk, IfOk, flat_map};
 ghost use Rattle.ot_model.specs.Uses.{AreInOrder};
+ghost use Rattle.ot_model.specs.Value.{cells_of};
 ghost use Rattle.ot_program.specs.Returned.{Gives};
-ghost use Rattle.ot_program.specs.Declarations.{together, with_mode, name_cell, name_clause, uses_of, declaration, section_cells, sections_cells, fits};
+ghost use Rattle.ot_program.specs.walk.Namings.{fits, together, with_mode, name_cell, name_clause};
+ghost use Rattle.ot_program.specs.walk.Clauses.{uses_of, declaration};
 
 use crate::clause::Clause;
 use crate::fault::{ProgramFault, Refusal};
@@ -93,7 +95,7 @@ fn uses_of(alloc: Global, named: &Named) -> Result<Vec<Use>, ProgramFault>
 /// The cells of sections in their order.
 pub(crate) fn sections_cells(alloc: Global, sections: &[Section]) -> Result<Vec<Cell>, AllocError>
     requires { All fits sections.now }
-    ensures { IfOk result (λ v. v.items ≡ sections_cells sections.now) }
+    ensures { IfOk result (λ v. v.items ≡ flat_map cells_of sections.now) }
 {
     let mut cells = Vec::new(alloc);
     for section in sections {
@@ -104,7 +106,7 @@ pub(crate) fn sections_cells(alloc: Global, sections: &[Section]) -> Result<Vec<
 
 fn push_cells(cells: &mut Vec<Cell>, section: Section) -> Result<(), AllocError>
     requires { fits section }
-    ensures { OnOk result (cells.new.items ≡ cells.old.items ++ section_cells section) }
+    ensures { OnOk result (cells.new.items ≡ cells.old.items ++ cells_of section) }
 {
     for step in 0..section.len {
         cells.push(Cell {

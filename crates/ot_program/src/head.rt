@@ -4,10 +4,11 @@ ghost use Rattle.std.specs.Prelude.{◌≡◌, ◌<◌, OnOk, MatchResult, Ok, E
 ghost use Rattle.serde_json.specs.View.{view};
 ghost use Rattle.ot_model.specs.View.{expr_of};
 ghost use Rattle.ot_program.specs.Limits.{max_nesting};
-ghost use Rattle.ot_program.specs.Returned.{Gives, range_view};
-ghost use Rattle.ot_program.specs.Variables.{bindings_of};
-ghost use Rattle.ot_program.specs.Counting.{deeper};
-ghost use Rattle.ot_program.specs.Statements.{list_of, target_of, condition_of, declared_of, grouped_of, range_of};
+ghost use Rattle.ot_program.specs.Returned.{Gives};
+ghost use Rattle.ot_program.specs.walk.Returned.{range_view};
+ghost use Rattle.ot_program.specs.walk.Variables.{bindings_of};
+ghost use Rattle.ot_program.specs.walk.Counting.{deeper};
+ghost use Rattle.ot_program.specs.walk.Statements.{list_of, target_of, condition_of, declared_of, grouped_of, range_of};
 
 use crate::both::{both, join};
 use crate::clause::{self, read_clauses};

@@ -21,6 +21,3 @@ mod value;
 pub use fault::{ProgramFault, Refusal};
 pub use name::{is_name, is_word};
 pub use program::read_program;
-
-#[cfg(test)]
-mod tests;

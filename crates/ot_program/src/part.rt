@@ -2,8 +2,8 @@ ghost use Rattle.std.specs.Prelude.{◌≡◌, ◌<◌, ◌^◌, length};
 ghost use Rattle.serde_json.specs.Data.{array};
 ghost use Rattle.serde_json.specs.View.{view, items_view};
 ghost use Rattle.ot_model.specs.ShapeView.{arrays_of};
-ghost use Rattle.ot_program.specs.Variables.{bindings_of};
-ghost use Rattle.ot_program.specs.Parts.{known_from, array_of, cell_in, cell_at, cell_of, section_in, section_of, section_at};
+ghost use Rattle.ot_program.specs.walk.Variables.{bindings_of};
+ghost use Rattle.ot_program.specs.walk.Parts.{known_from, array_of, cell_in, cell_at, cell_of, section_in, section_of, section_at};
 
 use crate::both::both;
 use crate::fault::Refusal;

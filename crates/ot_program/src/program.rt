@@ -4,7 +4,8 @@ ghost use Rattle.serde_json.specs.View.{view, items_view};
 ghost use Rattle.ot_model.specs.Shapes.{array_lengths};
 ghost use Rattle.ot_model.specs.Programs.{expanded_of, IsNamedIn};
 ghost use Rattle.ot_program.specs.Returned.{Gives};
-ghost use Rattle.ot_program.specs.Programs.{program_of, program_at};
+ghost use Rattle.ot_program.specs.Programs.{program_of};
+ghost use Rattle.ot_program.specs.walk.Programs.{walk_of, program_at};
 
 use crate::both::join;
 use crate::counts::{Counts, cells};
@@ -36,7 +37,7 @@ pub fn read_program(alloc: Global, text: &Value, shape: &Shape) -> Result<Progra
 
 #[tactic(auto, using(crate::proofs::ProgramForms::no_program_but_three))]
 fn program_form(alloc: Global, shape: &Shape, items: &[Value]) -> Result<Program, ProgramFault>
-    ensures { Gives expanded_of result (program_of shape.now (array (items_view items.now))) }
+    ensures { Gives expanded_of result (walk_of shape.now (array (items_view items.now))) }
 {
     if items.len() != 3 {
         return Err(ProgramFault::Refused(Refusal::Form));

@@ -1,5 +1,5 @@
 ghost use Rattle.std.specs.Prelude.{◌≡◌};
-ghost use Rattle.ot_program.specs.Variables.{bindings_of, variable_of};
+ghost use Rattle.ot_program.specs.walk.Variables.{bindings_of, variable_of};
 
 use crate::fault::Refusal;
 use crate::name::is_name;
@@ -31,7 +31,7 @@ impl Variables<'_> {
     }
 }
 
-ghost use Rattle.ot_program.specs.Variables.{bound};
+ghost use Rattle.ot_program.specs.Meanings.{bound};
 
 fn bound(variables: &Variables, name: &str) -> Option<u32>
     ensures { result ≡ bound (bindings_of variables.now) name.now }

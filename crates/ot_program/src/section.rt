@@ -1,8 +1,8 @@
 ghost use Rattle.serde_json.specs.View.{view, items_view};
-ghost use Rattle.ot_program.specs.Reading.{each_of};
+ghost use Rattle.ot_program.specs.walk.Reading.{each_of};
 ghost use Rattle.ot_program.specs.Returned.{Gives};
-ghost use Rattle.ot_program.specs.Variables.{bindings_of};
-ghost use Rattle.ot_program.specs.Parts.{section_of, sections_of};
+ghost use Rattle.ot_program.specs.walk.Variables.{bindings_of};
+ghost use Rattle.ot_program.specs.walk.Parts.{section_of, sections_of};
 
 use crate::fault::{ProgramFault, Refusal};
 use crate::part::read_section;

@@ -1,8 +1,9 @@
 ghost use Rattle.std.specs.Prelude.{◌≡◌, ◌-◌, ◌^◌, min};
 ghost use Rattle.serde_json.specs.Data.{array};
 ghost use Rattle.serde_json.specs.View.{view, items_view};
-ghost use Rattle.ot_program.specs.Variables.{bindings_of};
-ghost use Rattle.ot_program.specs.Sizes.{sign_named, sign_of, exact, size_of, size_depth, shallow};
+ghost use Rattle.ot_program.specs.walk.Variables.{bindings_of};
+ghost use Rattle.ot_program.specs.Limits.{size_depth};
+ghost use Rattle.ot_program.specs.walk.Sizes.{sign_named, sign_of, exact, size_of, shallow};
 
 use crate::both::both;
 use crate::fault::Refusal;
@@ -22,7 +23,7 @@ pub(crate) enum Sign {
 
 /// A size: a number, a variable, or an operation, each part of it exact and from 0 to 2^32 - 1.
 #[cycle(size)]
-#[tactic(auto, unfolding(crate::specs::Sizes::size_of))]
+#[tactic(auto, unfolding(crate::specs::walk::Sizes::size_of))]
 pub(crate) fn read_size(value: &Value, variables: &Variables) -> Result<u32, Refusal>
     ensures { result ≡ size_of (bindings_of variables.now) (view value.now) }
 {
@@ -40,7 +41,7 @@ pub(crate) fn read_size(value: &Value, variables: &Variables) -> Result<u32, Ref
 
 // `[op, size, size]`
 #[cycle(size)]
-#[tactic(auto, using(crate::proofs::SizeForms::no_size_but_three), unfolding(crate::specs::Sizes::size_of))]
+#[tactic(auto, using(crate::proofs::SizeForms::no_size_but_three), unfolding(crate::specs::walk::Sizes::size_of))]
 fn size_form(items: &[Value], variables: &Variables) -> Result<u32, Refusal>
     ensures { result ≡ size_of (bindings_of variables.now) (array (items_view items.now)) }
 {
@@ -61,7 +62,7 @@ fn size_form(items: &[Value], variables: &Variables) -> Result<u32, Refusal>
 }
 
 ghost use Rattle.std.specs.Prelude.{Some};
-ghost use Rattle.ot_program.specs.Sizes.{size_operation};
+ghost use Rattle.ot_program.specs.walk.Sizes.{size_operation};
 
 fn operation(
     sign: Sign,
@@ -118,7 +119,7 @@ pub(crate) fn check_depth(size: &Value) -> Result<(), Refusal>
 
 // The depth of a size, or the greatest number of 32 bits where it has more.
 #[cycle(depth)]
-#[tactic(auto, unfolding(crate::specs::Sizes::size_depth))]
+#[tactic(auto, unfolding(crate::specs::Limits::size_depth))]
 fn depth(size: &Value) -> u32
     ensures { result ≡ min (size_depth (view size.now)) (2 ^ 32 - 1) }
 {
@@ -129,7 +130,7 @@ fn depth(size: &Value) -> u32
 }
 
 #[cycle(depth)]
-#[tactic(auto, using(crate::proofs::SizeForms::depth_but_three), unfolding(crate::specs::Sizes::size_depth))]
+#[tactic(auto, using(crate::proofs::SizeForms::depth_but_three), unfolding(crate::specs::Limits::size_depth))]
 fn depth_of_parts(items: &[Value]) -> u32
     ensures { result ≡ min (size_depth (array (items_view items.now))) (2 ^ 32 - 1) }
 {

@@ -4,9 +4,10 @@ ghost use Rattle.serde_json.specs.View.{view, items_view};
 ghost use Rattle.ot_model.specs.Tree.{Task, Group};
 ghost use Rattle.ot_model.specs.View.{stmt_of};
 ghost use Rattle.ot_program.specs.Limits.{max_nesting};
-ghost use Rattle.ot_program.specs.Variables.{bindings_of};
-ghost use Rattle.ot_program.specs.Statements.{body_in, all_in, one_in, set_in, add_in, wait_form, with_body, declared_of, grouped_of, turn, turns};
-ghost use Rattle.ot_program.specs.Returned.{Adds, Gives};
+ghost use Rattle.ot_program.specs.walk.Variables.{bindings_of};
+ghost use Rattle.ot_program.specs.walk.Statements.{body_in, all_in, one_in, set_in, add_in, wait_form, with_body, declared_of, grouped_of, turn, turns};
+ghost use Rattle.ot_program.specs.Returned.{Gives};
+ghost use Rattle.ot_program.specs.walk.Returned.{Adds};
 
 use crate::counts::Counts;
 use crate::fault::{ProgramFault, Refusal};
@@ -19,7 +20,7 @@ use std::alloc::Global;
 
 /// Reads `[statement, ..]`, and puts the statements behind those of `out`.
 #[cycle(statements)]
-#[tactic(auto, unfolding(crate::specs::Statements::body_in))]
+#[tactic(auto, unfolding(crate::specs::walk::Statements::body_in))]
 pub(crate) fn read_body(
     alloc: Global,
     scope: &Scope,
@@ -59,7 +60,7 @@ fn read_all(
 }
 
 #[cycle(statements)]
-#[tactic(auto, unfolding(crate::specs::Statements::body_in))]
+#[tactic(auto, unfolding(crate::specs::walk::Statements::body_in))]
 fn read_one(
     alloc: Global,
     scope: &Scope,

@@ -1,14 +1,16 @@
 ghost use Rattle.std.specs.Prelude.{◌≡◌, min, ◌-◌, ◌^◌, Result};
-ghost use Rattle.serde_json.specs.Data.{array};
+ghost use Rattle.serde_json.specs.Data.{string, array};
 ghost use Rattle.serde_json.specs.View.{view, items_view};
 ghost use Rattle.ot_model.specs.Tree.{E};
 ghost use Rattle.ot_model.specs.View.{expr_of};
 ghost use Rattle.ot_model.specs.declared.expr.Section.{Section};
 ghost use Rattle.ot_program.specs.declared.fault.Refusal.{Refusal};
 ghost use Rattle.ot_program.specs.Returned.{Gives};
-ghost use Rattle.ot_program.specs.Variables.{bindings_of};
-ghost use Rattle.ot_program.specs.Values.{op_named, op_of, operation, pick_of, value_of, expression_of, depth_of, nodes_of, picked_of};
-ghost use Rattle.ot_program.specs.Counting.{counted, within_limits};
+ghost use Rattle.ot_program.specs.walk.Variables.{bindings_of};
+ghost use Rattle.ot_program.specs.Meanings.{op_of};
+ghost use Rattle.ot_program.specs.walk.Values.{operation, pick_of, value_of, expression_of};
+ghost use Rattle.ot_program.specs.Limits.{depth_of, nodes_of, picked_of};
+ghost use Rattle.ot_program.specs.walk.Counting.{with_expression};
 
 use crate::both::join;
 use crate::counts::Counts;
@@ -41,7 +43,7 @@ pub(crate) fn read_expression(
 }
 
 #[cycle(value)]
-#[tactic(auto, unfolding(crate::specs::Values::value_of))]
+#[tactic(auto, unfolding(crate::specs::walk::Values::value_of))]
 fn read_value(alloc: Global, scope: &Scope, value: &Value) -> Result<Expr, ProgramFault>
     ensures { Gives expr_of result (value_of scope.now.shape.now
         (bindings_of scope.now.variables.now) (view value.now)) }
@@ -62,7 +64,7 @@ fn read_value(alloc: Global, scope: &Scope, value: &Value) -> Result<Expr, Progr
 
 // `["c", name, size]`, `["pick", section, value]`, `[op, value, value]`
 #[cycle(value)]
-#[tactic(auto, using(crate::proofs::ValueForms::no_value_but_three), unfolding(crate::specs::Values::value_of))]
+#[tactic(auto, using(crate::proofs::ValueForms::no_value_but_three), unfolding(crate::specs::walk::Values::value_of))]
 fn value_form(alloc: Global, scope: &Scope, items: &[Value]) -> Result<Expr, ProgramFault>
     ensures { Gives expr_of result (value_of scope.now.shape.now
         (bindings_of scope.now.variables.now) (array (items_view items.now))) }
@@ -128,7 +130,7 @@ fn read_op(tag: &Value) -> Option<Op>
 }
 
 fn op_named(text: &str) -> Option<Op>
-    ensures { result ≡ op_named text.now }
+    ensures { result ≡ op_of (string text.now) }
 {
     match text {
         "+" => Some(Op::Plus),
@@ -158,8 +160,7 @@ fn depth(expr: &Expr) -> u32
 
 /// The counts with a statement more that has this expression, where none passes its limit.
 pub(crate) fn count_expression(counts: Counts, expr: &Expr) -> Result<Counts, Refusal>
-    ensures { result ≡ within_limits (counted counts 1 (nodes_of (expr_of expr.now))
-        (picked_of (expr_of expr.now))) }
+    ensures { result ≡ with_expression counts (expr_of expr.now) }
 {
     counts.plus(1, nodes(expr), picked(expr))
 }

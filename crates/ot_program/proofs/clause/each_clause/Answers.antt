@@ -1,6 +1,6 @@
 use Rattle.std.proofs.Common.{ap, sym, ◌∙◌}
-use Rattle.ot_program.specs.Variables.{bindings_of}
-use Rattle.ot_program.specs.Declarations.{clause_of}
+use Rattle.ot_program.specs.walk.Variables.{bindings_of}
+use Rattle.ot_program.specs.walk.Clauses.{clause_of}
 use Rattle.ot_program.proofs.Lists.{part_read, part_fails_first, part_fails_further}
 use Rattle.ot_program.proofs.clause.each_clause.Goals.{in-Ok-default+in_ok-push-in-Ok-default, in-Err-None, in-Err-Some}
 use Rattle.ot_program.proofs.clause.each_clause.Goals as goal

@@ -1,5 +1,5 @@
 use Rattle.std.proofs.Common.{◌≡◌, ◌-◌, ◌^◌, ◌+◌, ◌<◌, min, drop}
-use Rattle.ot_program.specs.Counting.{cells_in}
+use Rattle.ot_program.specs.Limits.{cells_in}
 use Rattle.ot_program.proofs.counts.cells.Given as goal
 
 -- the total with the cells of the sections that are left

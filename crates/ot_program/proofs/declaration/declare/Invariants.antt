@@ -1,6 +1,6 @@
 use Rattle.std.proofs.Common.{◌≡◌, [], take}
 use Rattle.std.specs.List.{fold}
-use Rattle.ot_program.specs.Declarations.{name_clause}
+use Rattle.ot_program.specs.walk.Namings.{name_clause}
 use Rattle.ot_program.proofs.declaration.declare.Given as goal
 
 -- the cells that the clauses so far name

@@ -1,6 +1,6 @@
 use Rattle.std.proofs.Common.{◌≡◌, ◌++◌, Ok}
-use Rattle.ot_program.specs.Reading.{◌>>=◌}
-use Rattle.ot_program.specs.Declarations.{uses_of}
+use Rattle.ot_program.specs.walk.Reading.{◌>>=◌}
+use Rattle.ot_program.specs.walk.Clauses.{uses_of}
 use Rattle.ot_program.proofs.declaration.uses_of.Given as goal
 
 -- the uses so far, with those of the cells that are left

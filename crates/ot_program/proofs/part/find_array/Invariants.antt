@@ -1,6 +1,6 @@
 use Rattle.std.proofs.Common.{◌≡◌, drop}
 use Rattle.ot_model.specs.ShapeView.{arrays_of}
-use Rattle.ot_program.specs.Parts.{known_from}
+use Rattle.ot_program.specs.walk.Parts.{known_from}
 use Rattle.ot_program.proofs.part.find_array.Given as goal
 
 -- what the rest of the arrays gives is what all of them give

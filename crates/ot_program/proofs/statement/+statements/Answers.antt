@@ -1,13 +1,14 @@
 use Rattle.std.proofs.Common.{◌+◌, ◌∷◌, refl, rules}
 use Rattle.std.proofs.lemmas.Result.{err_from_is_err_and}
 use Rattle.serde_json.specs.View.{view}
-use Rattle.ot_program.specs.Variables.{bindings_of}
-use Rattle.ot_program.specs.Statements.{body_in}
+use Rattle.ot_program.specs.walk.Variables.{bindings_of}
+use Rattle.ot_program.specs.walk.Statements.{declared_of, grouped_of, body_in}
+use Rattle.ot_model.specs.Tree.{Task, Group}
 use Rattle.ot_model.specs.declared.stmt.Stmt.{the_lemmas}
 use Rattle.ot_program.proofs.Fronts.{all_fails, all_ends, put_behind}
 use Rattle.ot_program.proofs.Turns.{turns_fail}
-use Rattle.ot_program.proofs.StatementForms.{form_for}
-use Rattle.ot_program.proofs.Conditions.{adds_refused, for_refused, if_fails_condition, if_fails_first, if_fails_second, if_reads}
+use Rattle.ot_program.proofs.StatementForms.{form_set, form_add, form_task, form_group, no_form_of_three, form_for}
+use Rattle.ot_program.proofs.Conditions.{adds_refused, for_refused, body_fails_own, body_fails, body_reads, if_fails_condition, if_fails_first, if_fails_second, if_reads}
 use Rattle.ot_program.proofs.statement.+statements.Goals as goal
 
 pub read_all-returns-in-Err : goal.read_all-returns-in-Err
@@ -77,3 +78,83 @@ read_four-returns t c =
     c.tag-item.is c.value-item.is c.one-item.is c.two-item.is (search rules) c.in_ok-condition.ensures.reads c.in_ok-first.ensures
     c.in_ok-second.ensures)
     (record { added = _; is = refl; list = put_behind _ _ _ _ c.in_ok-push.ensures.items (search (rules, the_lemmas)) })
+
+pub read_task-returns-in_err-decl : goal.read_task-returns-in_err-decl
+read_task-returns-in_err-decl t c =
+    let scope = c.args.scope.now in
+    let p = err_from_is_err_and c.from_residual.result c.from_residual.ensures.1 in
+    rw (p.1, p.2)
+    (body_fails_own Task (declared_of scope.shape.now (bindings_of scope.variables.now) scope.level (view c.args.clauses.now) (view c.args.body.now))
+    (body_in scope.shape.now (scope.level + 1) (view c.args.body.now) (bindings_of scope.variables.now)) c.args.counts.now _ c.in_err-decl.ensures.reads)
+
+pub read_task-returns-in_err-inside : goal.read_task-returns-in_err-inside
+read_task-returns-in_err-inside t c =
+    let scope = c.args.scope.now in
+    let p = err_from_is_err_and c.from_residual-in_err-inside.result c.from_residual-in_err-inside.ensures.1 in
+    rw (p.1, p.2)
+    (body_fails Task (declared_of scope.shape.now (bindings_of scope.variables.now) scope.level (view c.args.clauses.now) (view c.args.body.now))
+    (body_in scope.shape.now (scope.level + 1) (view c.args.body.now) (bindings_of scope.variables.now)) c.args.counts.now _ _ _
+    c.in_ok-decl.ensures.reads c.in_err-inside.ensures)
+
+pub read_task-returns : goal.read_task-returns
+read_task-returns t c =
+    let scope = c.args.scope.now in
+    rw (body_reads Task (declared_of scope.shape.now (bindings_of scope.variables.now) scope.level (view c.args.clauses.now) (view c.args.body.now))
+    (body_in scope.shape.now (scope.level + 1) (view c.args.body.now) (bindings_of scope.variables.now)) c.args.counts.now _ _ _ _
+    c.in_ok-decl.ensures.reads c.in_ok-inside.ensures)
+    (record { added = _; is = refl; list = put_behind _ _ _ _ c.in_ok-push.ensures.items (search (rules, the_lemmas)) })
+
+pub read_group-returns-in_err-cells : goal.read_group-returns-in_err-cells
+read_group-returns-in_err-cells t c =
+    let scope = c.args.scope.now in
+    let p = err_from_is_err_and c.from_residual.result c.from_residual.ensures.1 in
+    rw (p.1, p.2)
+    (body_fails_own Group (grouped_of scope.shape.now (bindings_of scope.variables.now) scope.level (view c.args.sections.now) (view c.args.body.now))
+    (body_in scope.shape.now (scope.level + 1) (view c.args.body.now) (bindings_of scope.variables.now)) c.args.counts.now _ c.in_err-cells.ensures.reads)
+
+pub read_group-returns-in_err-inside : goal.read_group-returns-in_err-inside
+read_group-returns-in_err-inside t c =
+    let scope = c.args.scope.now in
+    let p = err_from_is_err_and c.from_residual-in_err-inside.result c.from_residual-in_err-inside.ensures.1 in
+    rw (p.1, p.2)
+    (body_fails Group (grouped_of scope.shape.now (bindings_of scope.variables.now) scope.level (view c.args.sections.now) (view c.args.body.now))
+    (body_in scope.shape.now (scope.level + 1) (view c.args.body.now) (bindings_of scope.variables.now)) c.args.counts.now _ _ _
+    c.in_ok-cells.ensures.reads c.in_err-inside.ensures)
+
+pub read_group-returns : goal.read_group-returns
+read_group-returns t c =
+    let scope = c.args.scope.now in
+    rw (body_reads Group (grouped_of scope.shape.now (bindings_of scope.variables.now) scope.level (view c.args.sections.now) (view c.args.body.now))
+    (body_in scope.shape.now (scope.level + 1) (view c.args.body.now) (bindings_of scope.variables.now)) c.args.counts.now _ _ _ _
+    c.in_ok-cells.ensures.reads c.in_ok-inside.ensures)
+    (record { added = _; is = refl; list = put_behind _ _ _ _ c.in_ok-push.ensures.items (search (rules, the_lemmas)) })
+
+pub read_three-returns-then-is_word : goal.read_three-returns-then-is_word
+read_three-returns-then-is_word t c =
+    let scope = c.args.scope.now in
+    rw (form_set scope.shape.now scope.level c.args.items.now (bindings_of scope.variables.now) c.args.counts.now _ _ _ (search rules)
+    c.tag-item.is c.one-item.is c.two-item.is (search rules)) c.read_set.ensures
+
+pub read_three-returns-then-is_word-2 : goal.read_three-returns-then-is_word-2
+read_three-returns-then-is_word-2 t c =
+    let scope = c.args.scope.now in
+    rw (form_add scope.shape.now scope.level c.args.items.now (bindings_of scope.variables.now) c.args.counts.now _ _ _ (search rules)
+    c.tag-item.is c.one-item.is c.two-item.is (search rules) (search rules)) c.read_add.ensures
+
+pub read_three-returns-then-is_word-3 : goal.read_three-returns-then-is_word-3
+read_three-returns-then-is_word-3 t c =
+    let scope = c.args.scope.now in
+    rw (form_task scope.shape.now scope.level c.args.items.now (bindings_of scope.variables.now) c.args.counts.now _ _ _ (search rules)
+    c.tag-item.is c.one-item.is c.two-item.is (search rules) (search rules) (search rules)) c.read_task.ensures
+
+pub read_three-returns-then-is_word-4 : goal.read_three-returns-then-is_word-4
+read_three-returns-then-is_word-4 t c =
+    let scope = c.args.scope.now in
+    rw (form_group scope.shape.now scope.level c.args.items.now (bindings_of scope.variables.now) c.args.counts.now _ _ _ (search rules)
+    c.tag-item.is c.one-item.is c.two-item.is (search rules) (search rules) (search rules) (search rules)) c.read_group.ensures
+
+pub read_three-returns : goal.read_three-returns
+read_three-returns t c =
+    let scope = c.args.scope.now in
+    no_form_of_three scope.shape.now scope.level c.args.items.now (bindings_of scope.variables.now) c.args.counts.now _ (search rules)
+    c.tag-item.is (search rules) (search rules) (search rules) (search rules)

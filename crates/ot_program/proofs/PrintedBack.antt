@@ -1,0 +1,92 @@
+-- What is printed of a tree denotes the tree.
+use Rattle.std.proofs.Common.{◌≡◌, ℕ, ◌+◌, ◌<◌, ◌^◌, List, [], ◌∷◌, map, refl, ap, ◌∙◌, arith, add-zero}
+use Rattle.std.specs.Prelude.{flat_map}
+use Rattle.std.proofs.lemmas.Bool.{lt-ltb}
+use Rattle.serde_json.specs.Data.{string, array}
+use Rattle.ot_model.specs.Shapes.{Arrays}
+use Rattle.ot_model.specs.Tree.{E, Literal, CellAt, Apply, PickFrom, S, Set, Add, If, Task, Wait, Group, Body, End, Next, body_of}
+use Rattle.ot_model.specs.declared.expr.Cell.{Cell}
+use Rattle.ot_model.specs.declared.expr.Section.{Section}
+use Rattle.ot_model.specs.declared.expr.Op.TheVariants.{Plus, Minus, Times, And, Or, Xor, Less, Equal, Min, Max}
+use Rattle.ot_model.specs.declared.stmt.Mode.{Mode}
+use Rattle.ot_model.specs.declared.stmt.Mode.TheVariants.{Reads, Writes, Adds}
+use Rattle.ot_model.specs.declared.stmt.Use.{Use}
+use Rattle.ot_model.specs.Value.{cells_of}
+use Rattle.ot_program.specs.Copies.{copies, copy, statement_of, statements_of}
+use Rattle.ot_program.specs.Meanings.{each, Bindings, size, Clause, cell, section, value, clause}
+use Rattle.ot_program.specs.Printed.{IsFound, two, mode_word, num, cell_text, section_text, value_text, alone, cells_text, uses_text, statement_text, body_text, IsCell, IsValue, AreCells, as_clause, IsStatement, IsBody}
+
+size_back : (variables : Bindings) (n : ℕ) → n < 2 ^ 64 → size variables (num n) ≡ n
+unfolding size
+size_back variables n below = rw (lt-ltb n (2 ^ 64) below) refl
+
+cell_back : (shape : Arrays) (variables : Bindings) (c : Cell) → IsCell shape c → cell shape variables (cell_text shape c) ≡ c
+cell_back shape variables c h = rw (h.0, size_back variables c.index h.1) refl
+
+section_back : (shape : Arrays) (variables : Bindings) (s : Section) → IsFound shape s.array → s.start < 2 ^ 64 → s.len < 2 ^ 64 → section shape variables (section_text shape s) ≡ s
+section_back shape variables s h i j = rw (h, size_back variables s.start i, size_back variables s.len j) refl
+
+value_back : (shape : Arrays) (variables : Bindings) (e : E) → IsValue shape e → value shape variables (value_text shape e) ≡ e
+unfolding value
+value_back shape variables (Literal n) h = rw (lt-ltb n (2 ^ 64) h) refl
+value_back shape variables (CellAt c) h = ap CellAt (cell_back shape variables c h)
+value_back shape variables (PickFrom s e) h = rw (section_back shape variables s h.0 h.1 h.2, value_back shape variables e h.3) refl
+value_back shape variables (Apply Plus a b) h = rw (value_back shape variables a h.0, value_back shape variables b h.1) refl
+value_back shape variables (Apply Minus a b) h = rw (value_back shape variables a h.0, value_back shape variables b h.1) refl
+value_back shape variables (Apply Times a b) h = rw (value_back shape variables a h.0, value_back shape variables b h.1) refl
+value_back shape variables (Apply And a b) h = rw (value_back shape variables a h.0, value_back shape variables b h.1) refl
+value_back shape variables (Apply Or a b) h = rw (value_back shape variables a h.0, value_back shape variables b h.1) refl
+value_back shape variables (Apply Xor a b) h = rw (value_back shape variables a h.0, value_back shape variables b h.1) refl
+value_back shape variables (Apply Less a b) h = rw (value_back shape variables a h.0, value_back shape variables b h.1) refl
+value_back shape variables (Apply Equal a b) h = rw (value_back shape variables a h.0, value_back shape variables b h.1) refl
+value_back shape variables (Apply Min a b) h = rw (value_back shape variables a h.0, value_back shape variables b h.1) refl
+value_back shape variables (Apply Max a b) h = rw (value_back shape variables a h.0, value_back shape variables b h.1) refl
+
+sections_back : (shape : Arrays) (variables : Bindings) (cs : List Cell) → AreCells shape cs
+    → map (section shape variables) (each (cells_text shape cs)) ≡ map alone cs
+sections_back shape variables [] h = refl
+sections_back shape variables (c ∷ cs) h =
+    ap (λ (s : Section). s ∷ map (section shape variables) (each (cells_text shape cs))) (section_back shape variables (alone c) h.0.0 h.0.1 (omega arith))
+    ∙ ap (λ (ss : List Section). alone c ∷ ss) (sections_back shape variables cs h.1)
+
+alone_cells : (cs : List Cell) → flat_map cells_of (map alone cs) ≡ cs
+alone_cells [] = refl
+alone_cells (c ∷ cs) = rw (add-zero c.index, alone_cells cs) refl
+
+cells_back : (shape : Arrays) (variables : Bindings) (cs : List Cell) → AreCells shape cs
+    → flat_map cells_of (map (section shape variables) (each (cells_text shape cs))) ≡ cs
+cells_back shape variables cs h = ap (flat_map cells_of) (sections_back shape variables cs h) ∙ alone_cells cs
+
+clause_back : (shape : Arrays) (variables : Bindings) (c : Cell) (m : Mode) (rest : List Clause) → IsCell shape c
+    → clause shape variables (array (two (string (mode_word m)) (section_text shape (alone c)))) ∷ rest
+    ≡ record { mode = m; section = alone c } ∷ rest
+clause_back shape variables c Reads rest h = rw (section_back shape variables (alone c) h.0 h.1 (omega arith)) refl
+clause_back shape variables c Writes rest h = rw (section_back shape variables (alone c) h.0 h.1 (omega arith)) refl
+clause_back shape variables c Adds rest h = rw (section_back shape variables (alone c) h.0 h.1 (omega arith)) refl
+
+uses_back : (shape : Arrays) (variables : Bindings) (us : List Use) → AreCells shape (map (λ u. u.cell) us)
+    → map (clause shape variables) (each (uses_text shape us)) ≡ map as_clause us
+uses_back shape variables [] h = refl
+uses_back shape variables (u ∷ us) h =
+    rw (uses_back shape variables us h.1) (clause_back shape variables u.cell u.mode (map as_clause us) h.0)
+
+mutual
+  unfolding copies
+
+  pub body_back : (shape : Arrays) (level : ℕ) (variables : Bindings) (b : Body) → IsBody shape b
+      → body_of (statements_of shape (copies level (array (body_text shape b)) variables)) ≡ b
+  body_back shape level variables End h = refl
+  body_back shape level variables (Next s rest) h =
+      rw (one_back shape level variables s h.0, body_back shape level variables rest h.1) refl
+
+  one_back : (shape : Arrays) (level : ℕ) (variables : Bindings) (s : S) → IsStatement shape s
+      → statement_of shape (copy level (statement_text shape s) variables) ≡ s ∷ []
+  one_back shape level variables (Set c e) h = rw (cell_back shape variables c h.0, value_back shape variables e h.1) refl
+  one_back shape level variables (Add c e) h = rw (cell_back shape variables c h.0, value_back shape variables e h.1) refl
+  one_back shape level variables (If e a b) h =
+      rw (value_back shape variables e h.0, body_back shape (level + 1) variables a h.1, body_back shape (level + 1) variables b h.2) refl
+  one_back shape level variables (Task us b) h =
+      rw (uses_back shape variables us h.0.0, h.0.1, body_back shape (level + 1) variables b h.1) refl
+  one_back shape level variables Wait h = refl
+  one_back shape level variables (Group cs b) h =
+      rw (cells_back shape variables cs h.0, body_back shape (level + 1) variables b h.1) refl

@@ -1,0 +1,113 @@
+-- The statements of a text as copies, of the body of a `for` one for each turn; their order; and the tree that they
+-- are (docs/LANGUAGE.md, "Forms", on statements and loops).
+use Rattle.std.specs.Prelude.{ℕ, zero, suc, ◌+◌, ◌-◌, List, [], ◌∷◌, ◌++◌, map, flat_map, if◌then◌else◌, codes}
+use Rattle.serde_json.specs.Data.{Data, array, Items, no_items, item}
+use Rattle.ot_model.specs.Shapes.{Arrays}
+use Rattle.ot_model.specs.Tree.{S, Set, Add, If, Task, Wait, Group, body_of}
+use Rattle.ot_model.specs.Value.{cells_of}
+use Rattle.ot_program.specs.Declarations.{uses}
+use Rattle.ot_program.specs.Meanings.{items, letters, Bindings, size, cell, section, value, clause}
+use Rattle.ot_program.specs.Names.{is_word}
+
+-- a statement's own parts as they stand in the text, its bodies among them; one turn of a `for`; or what has no form
+pub data Text : Type 0 where
+  SetText : (cell value : Data) → Text
+  AddText : (cell value : Data) → Text
+  IfText : (condition one two : Data) → Text
+  ForText : (variable first behind body : Data) → Text
+  Turn : Text
+  TaskText : (clauses body : Data) → Text
+  WaitText : Text
+  GroupText : (sections body : Data) → Text
+  ProgramText : (shows body : Data) → Text
+  NoForm : Text
+
+-- a statement in its place: how many bodies it stands in, and the variables around it
+pub record Placed : Type 0 where
+  pub level : ℕ
+  pub variables : Bindings
+  pub text : Text
+
+-- copies of statements, each with its bodies; a `for` has its turns in the place of its first body
+mutual
+  pub data Copy : Type 0 where
+    At : Placed → Copies → Copies → Copy
+
+  pub data Copies : Type 0 where
+    Done : Copies
+    Then : Copy → Copies → Copies
+
+abbrev pub at : ℕ → Bindings → Text → Copies → Copies → Copy
+at level variables text one two = At (record { level = level; variables = variables; text = text }) one two
+
+-- a copy of a body for each of so many numbers from the first on
+abbrev pub turns : ℕ → Bindings → (ℕ → Copies) → ℕ → ℕ → Copies
+turns level variables body first zero = Done
+turns level variables body first (suc more) =
+    Then (at level variables Turn (body first) Done) (turns level variables body (suc first) more)
+
+unfoldable mutual
+  -- `[statement, ..]`
+  pub copies : ℕ → Data → Bindings → Copies
+  copies level (array ds) variables = copies_of level ds variables
+  copies level _ variables = Then (at level variables NoForm Done Done) Done
+
+  pub copies_of : ℕ → Items → Bindings → Copies
+  copies_of level no_items variables = Done
+  copies_of level (item d ds) variables = Then (copy level d variables) (copies_of level ds variables)
+
+  -- `["wait"]`, `["set", cell, value]`, `["add", cell, value]`, `["task", [clause, ..], body]`,
+  -- `["group", [section, ..], body]`, `["if", value, body, body]` and `["for", variable, size, size, body]`
+  pub copy : ℕ → Data → Bindings → Copy
+  copy level (array (item t no_items)) variables =
+      if is_word t (codes "wait") then at level variables WaitText Done Done else
+      at level variables NoForm Done Done
+  copy level (array (item t (item a (item b no_items)))) variables =
+      if is_word t (codes "set") then at level variables (SetText a b) Done Done else
+      (if is_word t (codes "add") then at level variables (AddText a b) Done Done else
+      (if is_word t (codes "task") then at level variables (TaskText a b) (copies (level + 1) b variables) Done else
+      (if is_word t (codes "group") then at level variables (GroupText a b) (copies (level + 1) b variables) Done else
+      at level variables NoForm Done Done)))
+  copy level (array (item t (item a (item b (item c no_items))))) variables =
+      if is_word t (codes "if")
+      then at level variables (IfText a b c) (copies (level + 1) b variables) (copies (level + 1) c variables)
+      else at level variables NoForm Done Done
+  copy level (array (item t (item a (item b (item c (item d no_items)))))) variables =
+      if is_word t (codes "for")
+      then at level variables (ForText a b c d) (turns level variables (λ n. copies (level + 1) d ((letters a, n) ∷ variables))
+      (size variables b) (size variables c - size variables b)) Done
+      else at level variables NoForm Done Done
+  copy level _ variables = at level variables NoForm Done Done
+
+-- Expanded order: a statement before its bodies, and the first body before the second.
+abbrev mutual
+  pub in_copy : Copy → List Placed
+  in_copy (At p one two) = p ∷ (in_order one ++ in_order two)
+
+  pub in_order : Copies → List Placed
+  in_order Done = []
+  in_order (Then c rest) = in_copy c ++ in_order rest
+
+-- ---- the tree
+
+module _ (shape : Arrays) where
+  -- a statement, its bodies given; a `for` is what its turns are
+  abbrev pub statement : Bindings → Text → List S → List S → List S
+  statement variables (SetText a b) one two = Set (cell shape variables a) (value shape variables b) ∷ []
+  statement variables (AddText a b) one two = Add (cell shape variables a) (value shape variables b) ∷ []
+  statement variables (IfText a b c) one two = If (value shape variables a) (body_of one) (body_of two) ∷ []
+  statement variables (ForText a b c d) one two = one
+  statement variables Turn one two = one
+  statement variables (TaskText a b) one two = Task (uses (map (clause shape variables) (items a))) (body_of one) ∷ []
+  statement variables WaitText one two = Wait ∷ []
+  statement variables (GroupText a b) one two = Group (flat_map cells_of (map (section shape variables) (items a))) (body_of one) ∷ []
+  statement variables (ProgramText a b) one two = one
+  statement variables NoForm one two = []
+
+  abbrev mutual
+    pub statement_of : Copy → List S
+    statement_of (At p one two) = statement p.variables p.text (statements_of one) (statements_of two)
+
+    pub statements_of : Copies → List S
+    statements_of Done = []
+    statements_of (Then c rest) = statement_of c ++ statements_of rest

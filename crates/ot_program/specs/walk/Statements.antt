@@ -1,0 +1,180 @@
+-- Statements and bodies, in expanded order.
+use Rattle.ot_model.specs.Shapes.{Arrays}
+use Rattle.ot_model.specs.Tree.{E, S, Set, Add, If, Task, Wait, Group, body_of, Body}
+use Rattle.ot_model.specs.declared.expr.Cell.{Cell}
+use Rattle.ot_model.specs.declared.stmt.Use.{Use}
+use Rattle.ot_model.specs.Value.{cells_of}
+use Rattle.ot_program.specs.Limits.{cells_in}
+use Rattle.ot_program.specs.Meanings.{Bindings}
+use Rattle.ot_program.specs.Names.{is_name, is_word}
+use Rattle.ot_program.specs.walk.Parts.{cell_of, sections_of}
+use Rattle.ot_program.specs.walk.Reading.{◌>>=◌, both_of}
+use Rattle.ot_program.specs.walk.Sizes.{size_of, shallow}
+use Rattle.ot_program.specs.declared.counts.Counts.{Counts}
+use Rattle.ot_program.specs.declared.fault.Refusal.TheVariants.{Form}
+use Rattle.ot_program.specs.declared.fault.Refusal.{Refusal}
+use Rattle.serde_json.specs.Data.{Data, array, no_items, item, string, Items}
+use Rattle.std.specs.Prelude.{[], ℕ, List, ◌∷◌, Result, Ok, Err, if◌then◌else◌, suc, ◌+◌, codes, zero, ◌++◌, map, flat_map, ◌-◌, ⊤}
+use Rattle.ot_program.specs.walk.Counting.{counted, within_limits, with_expression, one_turn, one_task, deeper}
+use Rattle.ot_program.specs.walk.Values.{expression_of}
+use Rattle.ot_program.specs.walk.Clauses.{clauses_of, declaration}
+
+-- statements that were read, and the counts after them
+abbrev pub Read : Type 0
+Read = Result (List S × Counts) Refusal
+
+-- A reader goes on with the counts so far.
+abbrev pub Reader : Type 0
+Reader = Counts → Read
+
+abbrev pub refused : Refusal → Reader
+refused c n = Err c
+
+-- One after the other. So the first statement with a fault decides, and a count that passes its limit
+-- is a fault of the statement that passes it.
+abbrev pub one_then : Reader → Reader → Reader
+one_then first rest n = do
+  p ← first n
+  q ← rest p.1
+  Ok (p.0 ++ q.0, q.1)
+
+-- that a part of a statement is a list; what stands in it isn't looked at
+abbrev pub list_of : Data → Result ⊤ Refusal
+list_of (array ds) = Ok tt
+list_of _ = Err Form
+
+-- ---- a statement's own parts, and then its counts
+
+-- of `set` and `add`: the cell, and the value
+abbrev pub target_of : Arrays → Bindings → Data → Data → Counts → Result ((Cell × E) × Counts) Refusal
+target_of shape variables cell value n = do
+  p ← both_of (cell_of shape variables cell) (expression_of shape variables value)
+  m ← with_expression n p.1
+  Ok (p, m)
+
+-- of `if`: the condition, and that both bodies are lists
+abbrev pub condition_of : Arrays → Bindings → ℕ → Data → Data → Data → Counts → Result (E × Counts) Refusal
+condition_of shape variables level value one two n = do
+  p ← both_of (expression_of shape variables value) (both_of (list_of one) (list_of two))
+  fits ← deeper level
+  m ← with_expression n p.0
+  Ok (p.0, m)
+
+-- of `task`: what it declares
+abbrev pub declared_of : Arrays → Bindings → ℕ → Data → Data → Counts → Result (List Use × Counts) Refusal
+declared_of shape variables level clauses body n = do
+  p ← both_of (clauses_of shape variables clauses) (list_of body)
+  fits ← deeper level
+  m ← within_limits (counted n 1 0 (cells_in (map (λ c. c.section) p.0)))
+  k ← one_task shape.tasks m
+  uses ← declaration p.0
+  Ok (uses, k)
+
+-- of `group`: the cells that it names
+abbrev pub grouped_of : Arrays → Bindings → ℕ → Data → Data → Counts → Result (List Cell × Counts) Refusal
+grouped_of shape variables level sections body n = do
+  p ← both_of (sections_of shape variables sections) (list_of body)
+  fits ← deeper level
+  m ← within_limits (counted n 1 0 (cells_in p.0))
+  Ok (flat_map cells_of p.0, m)
+
+abbrev pub name_of : Data → Result (List ℕ) Refusal
+name_of (string s) = if is_name s then Ok s else Err Form
+name_of _ = Err Form
+
+-- of `for`: the variable, and its first number and the one behind its last
+pub record Range : Type 0 where
+  pub variable : List ℕ
+  pub first : ℕ
+  pub behind : ℕ
+
+abbrev pub range_of : Bindings → ℕ → Data → Data → Data → Data → Result Range Refusal
+range_of variables level variable first behind body = do
+  p ← both_of (name_of variable) (both_of (both_of (size_of variables first) (size_of variables behind)) (list_of body))
+  fits ← deeper level
+  fit ← both_of (shallow first) (shallow behind)
+  Ok (record { variable = p.0; first = p.1.0.0; behind = p.1.0.1 })
+
+-- ---- statements
+
+abbrev pub set_in : Arrays → Bindings → Data → Data → Reader
+set_in shape variables cell value n = do
+  p ← target_of shape variables cell value n
+  Ok (Set p.0.0 p.0.1 ∷ [], p.1)
+
+abbrev pub add_in : Arrays → Bindings → Data → Data → Reader
+add_in shape variables cell value n = do
+  p ← target_of shape variables cell value n
+  Ok (Add p.0.0 p.0.1 ∷ [], p.1)
+
+abbrev pub wait_in : Reader
+wait_in n = do
+  m ← within_limits (counted n 1 0 0)
+  Ok (Wait ∷ [], m)
+
+abbrev pub wait_form : Data → Reader
+wait_form tag = if is_word tag (codes "wait") then wait_in else refused Form
+
+-- the first body before the second
+abbrev pub if_in : (Counts → Result (E × Counts) Refusal) → Reader → Reader → Reader
+if_in condition one two n = do
+  p ← condition n
+  a ← one p.1
+  b ← two a.1
+  Ok (If p.0 (body_of a.0) (body_of b.0) ∷ [], b.1)
+
+-- a statement with one body
+abbrev pub with_body : {A : Type 0} → (A → Body → S) → (Counts → Result (A × Counts) Refusal) → Reader → Reader
+with_body statement own body n = do
+  p ← own n
+  b ← body p.1
+  Ok (statement p.0 (body_of b.0) ∷ [], b.1)
+
+-- one turn of a `for`
+abbrev pub turn : Reader → Reader
+turn body n = do
+  m ← one_turn n
+  body m
+
+-- so many turns from a number on, one after the other
+abbrev pub turns : (ℕ → Reader) → ℕ → ℕ → Reader
+turns body first zero = λ n. Ok ([], n)
+turns body first (suc more) = one_then (turn (body first)) (turns body (suc first) more)
+
+-- A `for` is its body once a turn, and nothing where its last number isn't above the first. What a
+-- body reads is a function of the bindings in it.
+abbrev pub for_in : Bindings → Result Range Refusal → (Bindings → Reader) → Reader
+for_in variables range body n = do
+  r ← range
+  turns (λ number. body ((r.variable, number) ∷ variables)) r.first (r.behind - r.first) n
+
+unfoldable mutual
+  -- `[statement, ..]`, a body at a level
+  pub body_in : Arrays → ℕ → Data → Bindings → Reader
+  body_in shape level (array ds) variables = all_in shape level ds variables
+  body_in shape level _ variables = refused Form
+
+  pub all_in : Arrays → ℕ → Items → Bindings → Reader
+  all_in shape level no_items variables = λ n. Ok ([], n)
+  all_in shape level (item d ds) variables = one_then (one_in shape level d variables) (all_in shape level ds variables)
+
+  -- the forms of statements, by how many items they have
+  pub one_in : Arrays → ℕ → Data → Bindings → Reader
+  one_in shape level (array (item t no_items)) variables = wait_form t
+  one_in shape level (array (item t (item a (item b no_items)))) variables =
+      if is_word t (codes "set") then set_in shape variables a b else
+      (if is_word t (codes "add") then add_in shape variables a b else
+      (if is_word t (codes "task")
+      then with_body Task (declared_of shape variables level a b) (body_in shape (level + 1) b variables) else
+      (if is_word t (codes "group")
+      then with_body Group (grouped_of shape variables level a b) (body_in shape (level + 1) b variables) else
+      refused Form)))
+  one_in shape level (array (item t (item a (item b (item c no_items))))) variables =
+      if is_word t (codes "if")
+      then if_in (condition_of shape variables level a b c) (body_in shape (level + 1) b variables) (body_in shape (level + 1) c variables)
+      else refused Form
+  one_in shape level (array (item t (item a (item b (item c (item d no_items)))))) variables =
+      if is_word t (codes "for")
+      then for_in variables (range_of variables level a b c d) (body_in shape (level + 1) d)
+      else refused Form
+  one_in shape level _ variables = refused Form
