@@ -7,8 +7,8 @@ use Rattle.clap.specs.Simple.{new_shape, on_top}
 unfoldable pub solo_words : Shape
 solo_words = new_shape (codes "solo")
 
--- one of the subcommands has to be given
+-- one of the subcommands has to be given, but where the version is asked for
 unfoldable pub program_words : App
 program_words =
-    let program = on_top (λ s. record s { subcommand_required = true }) (new_app (codes "omptaskd")) in
+    let program = on_top (λ s. record s { has_version = true; subcommand_required = true }) (new_app (codes "omptaskd")) in
     with_subcommand program solo_words

@@ -2,8 +2,8 @@
 use Rattle.std.specs.Prelude.{ℕ, List, codes}
 use Rattle.omptaskd.specs.declared.fault.Fault.{Fault}
 use Rattle.omptaskd.specs.declared.fault.Fault.TheVariants as of
-use Rattle.omptaskd.specs.declared.session.fault.FrontFault.{FrontFault}
-use Rattle.omptaskd.specs.declared.session.fault.FrontFault.TheVariants as front
+use Rattle.ot_front.specs.declared.fault.FrontFault.{FrontFault}
+use Rattle.ot_front.specs.declared.fault.FrontFault.TheVariants as front
 
 -- the line on standard error
 abbrev pub line_of : Fault → List ℕ

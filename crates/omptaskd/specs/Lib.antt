@@ -1,10 +1,2 @@
 pub mod Asked
-pub mod Device
 pub mod Fault
-pub mod Reading
-pub mod Writing
-pub mod Heard
-pub mod Told
-pub mod Answering
-pub mod Session
-pub mod Serving

@@ -2,7 +2,7 @@
 ghost use Rattle.std.specs.Prelude.{◌≡◌};
 ghost use Rattle.omptaskd.specs.Fault.{line_of, status_of, fault_of};
 
-use crate::session::fault::FrontFault;
+use ot_front::FrontFault;
 
 /// What went wrong, one variant for each line that the program may print.
 #[derive(Clone, Copy, Debug, PartialEq, Eq)]

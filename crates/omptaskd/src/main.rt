@@ -1,32 +1,27 @@
 //! omptaskd, a task server for many tenants.
 #![tactic(auto)]
 
-ghost use Rattle.std.specs.Prelude.{◌≡◌, IfOk};
+ghost use Rattle.std.specs.Prelude.{◌≡◌, ◌≢◌};
 ghost use Rattle.std.specs.Process.{exit_status};
+ghost use Rattle.clap.specs.Words.{kind_of};
 ghost use Rattle.omptaskd.specs.Fault.{status_of};
 
 pub mod asked;
+pub mod command_line;
 pub mod fault;
-pub mod reading;
-pub mod session;
-#[cfg(test)]
-mod tests;
 
 pub use asked::Words;
 use clap::error::ErrorKind;
+pub use command_line::words;
 pub use fault::{Fault, fault_line};
 use ot_book::{Book, Limits, Solo, Store};
-pub use reading::words;
-use session::fault::End;
-use session::reader::Reading;
-use session::serve::serve;
-use session::writer::Writing;
+use ot_front::{End, Reading, Writing, serve};
 use std::alloc::Global;
 use std::env::Env;
 use std::process::ExitCode;
 use std::{env, io};
 
-fn main(rt: HostRuntime) -> io::Result<ExitCode> {
+fn main(rt: HostRuntime) -> ExitCode {
     let alloc = rt.alloc();
     let owned = match given_words(&rt, alloc) {
         Ok(owned) => owned,
@@ -44,31 +39,46 @@ fn given_words(rt: &(impl Env + AllocGlobal), alloc: Global) -> io::Result<Vec<S
     Ok(env::args(rt)?.collect(alloc)?)
 }
 
-/// Tells why the words of the command line could not be had.
-fn refuse(rt: &impl Eprint, error: &io::Error) -> io::Result<ExitCode> {
+/// Tells why the words of the command line could not be had, and answers the status for it.
+fn refuse(rt: &impl Eprint, error: &io::Error) -> ExitCode {
     if error.kind() == io::ErrorKind::OutOfMemory {
         return tell(rt, &Fault::Memory);
     }
-    eprintln!(rt; "error: invalid UTF-8 was detected in one or more arguments")?;
-    Ok(ExitCode::from(2))
+    let _ = eprintln!(rt; "error: invalid UTF-8 was detected in one or more arguments");
+    ExitCode::from(2)
 }
 
-/// Does what the words ask for.
-fn run(rt: &(impl Input + Print + Eprint), alloc: Global, given: &[&str]) -> io::Result<ExitCode> {
+/// Does what the words ask for, and answers the status.
+fn run(rt: &(impl Input + Print + Eprint), alloc: Global, given: &[&str]) -> ExitCode {
     let asked = match words(alloc, given) {
         Ok(asked) => asked,
-        Err(error) if error.kind() == ErrorKind::OutOfMemory => return tell(rt, &Fault::Memory),
-        Err(error) => {
-            error.print(rt)?;
-            return Ok(ExitCode::from(error.exit_code() as u8));
-        }
+        Err(error) => return explain(rt, &error),
     };
     let ended = match asked {
         Words::Solo => solo(rt, alloc),
     };
     match ended {
-        Ok(_) => Ok(ExitCode::SUCCESS),
+        Ok(_) => ExitCode::SUCCESS,
         Err(fault) => tell(rt, &fault),
+    }
+}
+
+/// Prints what `clap` says of the words: a mistake in them, or the help or the version that they ask
+/// for. It answers the status, which is that of a mistake also where its text can't be written.
+fn explain(rt: &(impl Print + Eprint), error: &clap::Error) -> ExitCode
+    ensures mistake { kind_of error.now ≢ ErrorKind.OutOfMemory → kind_of error.now ≢ ErrorKind.DisplayHelp →
+        kind_of error.now ≢ ErrorKind.DisplayVersion → exit_status result ≡ 2 }
+{
+    if error.kind() == ErrorKind::OutOfMemory {
+        return tell(rt, &Fault::Memory);
+    }
+    let printed = error.print(rt);
+    if error.use_stderr() {
+        return ExitCode::from(2);
+    }
+    match printed {
+        Ok(()) => ExitCode::SUCCESS,
+        Err(_) => tell(rt, &Fault::WriteFailed),
     }
 }
 
@@ -83,11 +93,11 @@ fn solo<R: Input + Print>(rt: &R, alloc: Global) -> Result<End, Fault> {
     Ok(ended)
 }
 
-/// Prints what went wrong, and answers the status for it.
-fn tell(rt: &impl Eprint, fault: &Fault) -> io::Result<ExitCode>
-    ensures { IfOk result (λ code. exit_status code ≡ status_of fault.now) }
+/// Prints what went wrong, where standard error takes it, and answers the status for it.
+fn tell(rt: &impl Eprint, fault: &Fault) -> ExitCode
+    ensures { exit_status result ≡ status_of fault.now }
 {
     let (line, status) = fault_line(fault);
-    eprintln!(rt; "{line}")?;
-    Ok(ExitCode::from(status))
+    let _ = eprintln!(rt; "{line}");
+    ExitCode::from(status)
 }

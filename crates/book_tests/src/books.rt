@@ -1,0 +1,227 @@
+//! What a book answers that no session of the program shows: other limits than the usual ones, lines
+//! that a session doesn't hand on, and the ways in which a run ends.
+ghost use Rattle.std.specs.Prelude.{◌≡◌, IsTrue};
+
+use ot_book::{Book, Executor, Limits, Opened, Solo, Store, StoreFault, reply_text};
+use std::alloc::{AllocError, Global};
+use std::process::Abort;
+
+/// What a line is answered, and `full` where it isn't taken.
+fn ask(alloc: Global, book: &mut Book, line: &str) -> Result<String, AllocError> {
+    match book.open(alloc, line.as_bytes())? {
+        Opened::Full => return String::from_str(alloc, "full"),
+        Opened::Answered => {}
+        Opened::ToRun(spec) => match Solo.perform(alloc, &spec) {
+            Ok(outcome) => book.close(spec, outcome),
+            Err(_) => book.forget(spec),
+        },
+    }
+    last_reply(alloc, book, line)
+}
+
+/// The text of the last reply, which is to be to this line.
+fn last_reply(alloc: Global, book: &Book, line: &str) -> Result<String, AllocError> {
+    match book.log().last() {
+        Some(entry) if entry.line.as_slice() == line.as_bytes() => {
+            reply_text(alloc, &entry.reply)
+        }
+        _ => String::from_str(alloc, "another line"),
+    }
+}
+
+/// What a line is answered that runs a program, where memory is wanting for the run.
+fn refuse(alloc: Global, book: &mut Book, line: &str) -> Result<String, AllocError> {
+    match book.open(alloc, line.as_bytes())? {
+        Opened::ToRun(spec) => book.close_refused(spec),
+        _ => return String::from_str(alloc, "no run"),
+    }
+    last_reply(alloc, book, line)
+}
+
+/// Opens a line and gives up its run where it has one. The book is to be as before.
+fn forget(alloc: Global, book: &mut Book, line: &str) -> Result<String, AllocError> {
+    let before = format!(in alloc; "{book:?}")?;
+    let said = undone(alloc, book, line)?;
+    let after = format!(in alloc; "{book:?}")?;
+    if after == before {
+        return String::from_str(alloc, said);
+    }
+    Ok(after)
+}
+
+fn undone(alloc: Global, book: &mut Book, line: &str) -> Result<&'static str, AllocError> {
+    match book.open(alloc, line.as_bytes())? {
+        Opened::Full => Ok("full"),
+        Opened::Answered => Ok("answered"),
+        Opened::ToRun(spec) => {
+            if !book.is_open() || !book.is_full() || !is_closed_to_others(alloc, book) {
+                return Ok("open to others");
+            }
+            book.forget(spec);
+            Ok("forgotten")
+        }
+    }
+}
+
+/// Asks a line while another is open. It isn't taken, and the book stays as it is.
+fn is_closed_to_others(alloc: Global, book: &mut Book) -> bool
+    ensures { IsTrue result → book.new ≡ book.old }
+{
+    matches!(book.open(alloc, b"{}"), Ok(Opened::Full))
+}
+
+/// A copy of the job of a line that runs a program, printed.
+fn copy(alloc: Global, book: &mut Book, line: &str) -> Result<String, AllocError> {
+    match book.open(alloc, line.as_bytes())? {
+        Opened::ToRun(spec) => {
+            let copy = spec.copy(alloc)?;
+            format!(in alloc; "{copy:?}")
+        }
+        _ => String::from_str(alloc, "no run"),
+    }
+}
+
+/// What a book tells of itself: its name, its limits, the units of its runs, how many lines are
+/// logged, and the arrays that it began with.
+fn tell(alloc: Global, book: &Book) -> Result<String, AllocError> {
+    let limits = book.limits();
+    let (tasks, log) = (limits.tasks, limits.log);
+    format!(in alloc;
+        "{} {tasks} {log} {} {} {:?}",
+        book.name(),
+        book.used(),
+        book.log().len(),
+        book.base()
+    )
+}
+
+/// What a line is answered that has line ends in place of its spaces, of which no session hands one
+/// on.
+fn ask_broken(alloc: Global, book: &mut Book, line: &str) -> Result<String, AllocError> {
+    let line = line.replace(alloc, " ", "\n")?;
+    ask(alloc, book, line.as_str())
+}
+
+/// What is told of a row: a word says what is done with the line behind it.
+fn told(alloc: Global, book: &mut Book, word: &str, line: &str) -> Result<String, AllocError> {
+    match word {
+        "ask" => ask(alloc, book, line),
+        "broken" => ask_broken(alloc, book, line),
+        "refuse" => refuse(alloc, book, line),
+        "forget" => forget(alloc, book, line),
+        "copy" => copy(alloc, book, line),
+        _ => tell(alloc, book),
+    }
+}
+
+fn is_right(alloc: Global, book: &mut Book, row: &str) -> bool {
+    let Some((asked, gives)) = row.split_once(" gives ") else {
+        return false;
+    };
+    let (word, line) = asked.split_once(' ').unwrap_or((asked, ""));
+    match told(alloc, book, word, line) {
+        Ok(said) => said.as_str() == gives,
+        Err(_) => false,
+    }
+}
+
+/// The first row that is told something else than it gives.
+fn first_other(alloc: Global, book: &mut Book, rows: &'static str) -> Option<&'static str> {
+    for row in rows.lines() {
+        if !is_right(alloc, book, row) {
+            return Some(row);
+        }
+    }
+    None
+}
+
+/// Asserts that each row is told what it gives, of a book that begins with these arrays.
+fn assert_rows(
+    rt: &impl Abort,
+    alloc: Global,
+    limits: Limits,
+    store: Result<Store, StoreFault>,
+    rows: &'static str,
+) {
+    let Ok(store) = store else {
+        panic!(rt; "no arrays");
+    };
+    match Book::new(alloc, "t1", limits, store) {
+        Ok(mut book) => assert_eq!(rt; first_other(alloc, &mut book, rows), None),
+        Err(_) => panic!(rt; "no book"),
+    }
+}
+
+const LIMITS: Limits = Limits {
+    arrays: 2,
+    cells: 4,
+    tasks: 1,
+    log: 10,
+};
+
+const LIMITED: &str = r#"ask ["new","a",5] gives ["err",1,415]
+ask ["new","a",2] gives ["ok",2]
+ask ["new","a",3] gives ["err",3,413]
+ask ["new","b",3] gives ["err",4,415]
+ask ["new","b",2] gives ["ok",5]
+ask ["new","b",1] gives ["err",6,413]
+ask ["new","c",1] gives ["err",7,416]
+ask ["put","b",1,[6]] gives ["ok",8]
+ask ["get","b",0,2] gives ["cells",9,[0,6]]
+ask ["run",["program",[["b",0,2],["a",0,2]],[]]] gives ["done",10,0,0,[[0,6],[0,0]]]
+ask ["get","a",0,1] gives full
+ask ["nothing"] gives full
+ask [ gives full
+forget ["put","a",0,[9]] gives full
+forget ["run",["program",[],[]]] gives full
+tell gives t1 1 10 0 10 Store { arrays: [] }"#;
+
+#[test]
+fn limits_that_are_handed_in(rt: HostRuntime) {
+    let none = Ok(Store::empty(rt.alloc()));
+    assert_rows(&rt, rt.alloc(), LIMITS, none, LIMITED);
+}
+
+const RUNS: &str = r#"ask ["new","a",3] gives ["ok",1]
+ask ["put","a",0,[1,2,3]] gives ["ok",2]
+forget ["run",["program",[["a",0,3]],[["set",["c","a",0],9]]]] gives forgotten
+ask {} gives ["err",3,411]
+refuse ["run",["program",[["a",0,3]],[["set",["c","a",0],9]]]] gives ["err",4,508]
+tell gives t1 1024 4096 0 4 Store { arrays: [] }
+ask ["get","a",0,3] gives ["cells",5,[1,2,3]]
+ask ["run",["program",[["a",0,3]],[["set",["c","a",0],9]]]] gives ["done",6,0,1,[[9,2,3]]]
+ask ["bye"] gives ["err",7,411]
+broken "a b" gives ["err",8,410]
+tell gives t1 1024 4096 1 8 Store { arrays: [] }
+copy ["run",["program",[["a",0,3]],[["wait"]]]] gives JobSpec { program: Program { shows: [Section { array: 0, start: 0, len: 3 }], body: [Wait], statements: 1, tasks: 0 }, before: Cells { arrays: [[9, 2, 3]] } }"#;
+
+#[test]
+fn runs_that_end_in_other_ways(rt: HostRuntime) {
+    let none = Ok(Store::empty(rt.alloc()));
+    assert_rows(&rt, rt.alloc(), Limits::usual(), none, RUNS);
+}
+
+/// Two arrays.
+fn two_arrays(alloc: Global) -> Result<Store, StoreFault> {
+    let mut store = Store::empty(alloc);
+    store.create(alloc, "b", 1, &Limits::usual())?;
+    store.create(alloc, "a", 3, &Limits::usual())?;
+    store.put("a", 1, &[5, 6])?;
+    Ok(store)
+}
+
+const WRITTEN: &str = r#"ask ["put","b",0,[9]] gives ["ok",1]
+ask ["get","b",0,1] gives ["cells",2,[9]]
+ask ["get","a",0,3] gives ["cells",3,[0,5,6]]
+tell gives t1 1024 4096 0 3 Store { arrays: [NamedArray { name: "b", cells: [0] }, NamedArray { name: "a", cells: [0, 5, 6] }] }"#;
+
+#[test]
+fn a_book_that_begins_with_arrays(rt: HostRuntime) {
+    assert_rows(
+        &rt,
+        rt.alloc(),
+        Limits::usual(),
+        two_arrays(rt.alloc()),
+        WRITTEN,
+    );
+}

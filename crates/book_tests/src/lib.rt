@@ -1,0 +1,26 @@
+//! Tests of what the crates below the session are told and answer: the reader, the checker, the
+//! children of a body, rights over cells, and the book.
+#![tactic(auto)]
+
+#[cfg(test)]
+mod books;
+#[cfg(test)]
+mod checks;
+#[cfg(test)]
+mod children;
+#[cfg(test)]
+mod declarations;
+#[cfg(test)]
+mod limits;
+#[cfg(test)]
+mod modes;
+#[cfg(test)]
+mod names;
+#[cfg(test)]
+mod programs;
+#[cfg(test)]
+mod reading;
+#[cfg(test)]
+mod rights;
+#[cfg(test)]
+mod table;

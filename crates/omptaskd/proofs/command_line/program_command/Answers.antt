@@ -1,0 +1,19 @@
+use Rattle.std.proofs.Common.{ap, ap₂, ◌∙◌, true, Some}
+use Rattle.std.proofs.lemmas.Result.{IfOk-weaker}
+use Rattle.clap.specs.Words.{Shape, with_subcommand}
+use Rattle.clap.specs.Simple.{app_of_fields, on_top}
+use Rattle.clap.specs.declared.builder.command.Command.TheViews.{out-Command}
+use Rattle.omptaskd.specs.Asked.{program_words}
+use Rattle.omptaskd.proofs.command_line.program_command.Goals as goal
+
+pub returns : goal.returns
+unfolding program_words
+returns c =
+    let named = ap app_of_fields c.about.ensures ∙ c.new.ensures.app in
+    let versioned = ap app_of_fields {y = record (out-Command c.about.result) { version = Some _ }} c.version.ensures
+    ∙ ap (on_top (λ (s : Shape). record s { has_version = true })) named in
+    let required = ap app_of_fields {y = record (out-Command c.version.result) { subcommand_required = true }} c.subcommand_required.ensures in
+    let top = required ∙ ap (on_top (λ (s : Shape). record s { subcommand_required = true })) versioned in
+    IfOk-weaker c.subcommand.result _ _
+    (λ command added. added.shape c.solo_command.ensures.own ∙ ap₂ with_subcommand top c.solo_command.ensures.words)
+    c.subcommand.ensures

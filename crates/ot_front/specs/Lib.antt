@@ -1,0 +1,8 @@
+pub mod Device
+pub mod Reading
+pub mod Writing
+pub mod Heard
+pub mod Told
+pub mod Session
+pub mod Answering
+pub mod Serving

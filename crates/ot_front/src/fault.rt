@@ -1,0 +1,52 @@
+//! How a session ends.
+ghost use Rattle.std.specs.Prelude.{◌≡◌};
+ghost use Rattle.ot_front.specs.declared.fault.FrontFault.TheVariants.{Memory};
+
+use std::alloc::{AllocError, AllocFailed};
+use thiserror::Error;
+
+/// Why a session ended where nothing went wrong.
+#[derive(Clone, Copy, Debug, PartialEq, Eq)]
+pub enum End {
+    /// The client said goodbye.
+    Bye,
+    /// The input ended.
+    EndOfInput,
+    /// The log was full, and a further line came.
+    Full,
+    /// A line was longer than a line may be.
+    LongLine,
+    /// There was no pool to run on.
+    Closed,
+}
+
+/// What went wrong in a session.
+#[derive(Clone, Copy, Debug, PartialEq, Eq, Error)]
+pub enum FrontFault {
+    #[error("a read failed")]
+    ReadFailed,
+    #[error("a write failed")]
+    WriteFailed,
+    #[error("there was no memory")]
+    Memory,
+    #[error("the pool does not know the tenant, or holds another job of it")]
+    Stranger,
+    #[error("a session read 1000000 times, and its input had not ended")]
+    TooManyTurns,
+}
+
+impl From<AllocError> for FrontFault {
+    ghost from_gives = { λ _ e. e ≡ Memory };
+
+    fn from(_error: AllocError) -> FrontFault {
+        FrontFault::Memory
+    }
+}
+
+impl<T: Drop> From<AllocFailed<T>> for FrontFault {
+    ghost from_gives = { λ _ e. e ≡ Memory };
+
+    fn from(_error: AllocFailed<T>) -> FrontFault {
+        FrontFault::from(AllocError)
+    }
+}

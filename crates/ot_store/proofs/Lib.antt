@@ -1,0 +1,4 @@
+pub mod ArraysLemmas
+mod CallLemmas
+mod HeldLemmas
+mod RefillLemmas

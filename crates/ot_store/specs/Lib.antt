@@ -1,0 +1,4 @@
+pub mod Usual
+pub mod Refusals
+pub mod Arrays
+pub mod Held

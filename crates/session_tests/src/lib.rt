@@ -1,0 +1,10 @@
+//! Tests of sessions: what no contract of `ot_front` says, or says for every device alike. It has nothing
+//! but tests. Sessions that are lines in and replies out are files in `tests/sessions`.
+#![tactic(auto)]
+
+#[cfg(test)]
+mod devices;
+#[cfg(test)]
+mod fakes;
+#[cfg(test)]
+mod sessions;

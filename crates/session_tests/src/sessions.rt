@@ -1,0 +1,341 @@
+//! Whole sessions over memory: how they end, and what devices and executors that go wrong leave.
+ghost use Rattle.std.specs.Prelude.{◌≡◌, IfOk, None};
+
+use crate::fakes::{Dripping, Narrow, Refusing};
+use ot_book::{Book, Limits, NotDone, Solo, Store};
+use ot_front::{End, FrontFault, Reading, Writing, serve};
+use std::alloc::Global;
+use std::test::Fail;
+
+const FIRST: &str = "[\"new\",\"a\",3]\n[\"put\",\"a\",0,[1,2,3]]\n[\"get\",\"a\",0,3]\n";
+
+const FIRST_REPLIES: &str = "[\"ok\",1]\n[\"ok\",2]\n[\"cells\",3,[1,2,3]]\n";
+
+/// How many requests a log takes.
+const USUAL: u32 = 4_096;
+
+/// A book of a new tenant with usual limits, but that its log takes so many requests.
+fn book_of(alloc: Global, log: u32) -> Result<Book, Fail>
+    ensures { IfOk result (λ book. book.pending ≡ None) }
+{
+    let limits = Limits {
+        log,
+        ..Limits::usual()
+    };
+    Ok(Book::new(alloc, "t1", limits, Store::empty(alloc))?)
+}
+
+/// A session that is over: how it ended, how many requests it logged, and what it wrote.
+#[derive(Drop)]
+struct Told {
+    ended: Result<End, FrontFault>,
+    logged: usize,
+    written: Vec<u8>,
+}
+
+impl Told {
+    fn is(&self, ended: Result<End, FrontFault>, logged: usize, written: &[u8]) -> bool {
+        self.ended == ended && self.logged == logged && self.written.as_slice() == written
+    }
+}
+
+/// A session of a new tenant.
+fn session(alloc: Global, log: u32, reader: Dripping<'_>) -> Result<Told, Fail> {
+    let mut book = book_of(alloc, log)?;
+    let mut source = Reading::new(reader);
+    let mut sink = Writing::new(Vec::new(alloc));
+    let ended = serve(alloc, &mut book, &mut Solo, &mut source, &mut sink);
+    Ok(Told {
+        ended,
+        logged: book.log().len(),
+        written: sink.into_inner(),
+    })
+}
+
+/// A reader of all of the bytes, so many a read.
+fn whole(bytes: &[u8], a_read: usize) -> Dripping<'_> {
+    Dripping {
+        bytes,
+        a_read,
+        left: bytes.len(),
+        fails: false,
+    }
+}
+
+/// Sessions: how many requests the log takes, the input, the end, how many requests are logged, and what
+/// is written.
+const ENDS: [(u32, &str, End, usize, &str); 9] = [
+    (USUAL, "", End::EndOfInput, 0, ""),
+    (USUAL, FIRST, End::EndOfInput, 3, FIRST_REPLIES),
+    (USUAL, "\n", End::EndOfInput, 1, "[\"err\",1,410]\n"),
+    (USUAL, "[\"new\",\"a\",3]", End::EndOfInput, 0, ""),
+    (USUAL, "[\"bye\"]\n[\"new\",\"a\",3]\n", End::Bye, 0, ""),
+    (USUAL, " \t[\"bye\"]\r\n", End::Bye, 0, ""),
+    (
+        USUAL,
+        "[ \"bye\"]\n",
+        End::EndOfInput,
+        1,
+        "[\"err\",1,411]\n",
+    ),
+    (
+        2,
+        FIRST,
+        End::Full,
+        2,
+        "[\"ok\",1]\n[\"ok\",2]\n[\"full\"]\n",
+    ),
+    (
+        2,
+        "{}\n{}\n[\"bye\"]\n",
+        End::Bye,
+        2,
+        "[\"err\",1,411]\n[\"err\",2,411]\n",
+    ),
+];
+
+/// The first input that ends otherwise, or is answered otherwise.
+fn first_other_end(alloc: Global) -> Result<Option<&'static str>, Fail> {
+    for (log, input, end, logged, replies) in &ENDS {
+        let told = session(alloc, *log, whole(input.as_bytes(), 65_536))?;
+        if !told.is(Ok(*end), *logged, replies.as_bytes()) {
+            return Ok(Some(*input));
+        }
+    }
+    Ok(None)
+}
+
+#[test]
+fn sessions_end_as_they_are_told(rt: HostRuntime) -> Result<(), Fail> {
+    assert_eq!(rt; first_other_end(rt.alloc())?, None);
+    Ok(())
+}
+
+/// The first three lines, the last one with so many spaces behind it.
+fn padded(alloc: Global, spaces: usize) -> Result<String, Fail> {
+    let mut input = String::from_str(alloc, FIRST)?;
+    let _ = input.pop();
+    for _ in 0..spaces {
+        input.push(' ')?;
+    }
+    input.push('\n')?;
+    Ok(input)
+}
+
+/// How many spaces stand behind the last line, how the session ends, how many requests are logged, and
+/// what is written.
+const LONG_LINES: [(usize, End, usize, &str); 2] = [
+    (65_521, End::EndOfInput, 3, FIRST_REPLIES),
+    (
+        65_522,
+        End::LongLine,
+        2,
+        "[\"ok\",1]\n[\"ok\",2]\n[\"long\"]\n",
+    ),
+];
+
+fn first_other_long_line(alloc: Global) -> Result<Option<usize>, Fail> {
+    for (spaces, end, logged, replies) in &LONG_LINES {
+        let input = padded(alloc, *spaces)?;
+        let told = session(alloc, USUAL, whole(input.as_bytes(), 65_536))?;
+        if !told.is(Ok(*end), *logged, replies.as_bytes()) {
+            return Ok(Some(*spaces));
+        }
+    }
+    Ok(None)
+}
+
+#[test]
+fn the_longest_line(rt: HostRuntime) -> Result<(), Fail> {
+    assert_eq!(rt; first_other_long_line(rt.alloc())?, None);
+    Ok(())
+}
+
+/// A session of the first three lines whose sink takes so many bytes.
+fn cut_off(alloc: Global, may_take: usize) -> Result<Told, Fail> {
+    let mut book = book_of(alloc, USUAL)?;
+    let mut source = Reading::new(FIRST.as_bytes());
+    let mut sink = Narrow {
+        taken: Vec::new(alloc),
+        may_take,
+        failures: 0,
+    };
+    let ended = serve(alloc, &mut book, &mut Solo, &mut source, &mut sink);
+    Ok(Told {
+        ended,
+        logged: book.log().len(),
+        written: sink.taken,
+    })
+}
+
+/// After how many bytes a failing write ends the session otherwise than it should, first. The replies
+/// have 38 bytes, and the request whose reply is cut is logged.
+fn first_other_write(alloc: Global) -> Result<Option<usize>, Fail> {
+    for may_take in 0..38 {
+        let logged = if may_take < 9 {
+            1
+        } else if may_take < 18 {
+            2
+        } else {
+            3
+        };
+        let front = &FIRST_REPLIES.as_bytes()[..may_take];
+        let told = cut_off(alloc, may_take)?;
+        if !told.is(Err(FrontFault::WriteFailed), logged, front) {
+            return Ok(Some(may_take));
+        }
+    }
+    Ok(None)
+}
+
+#[test]
+fn a_write_that_fails_at_each_place(rt: HostRuntime) -> Result<(), Fail> {
+    assert_eq!(rt; first_other_write(rt.alloc())?, None);
+    Ok(())
+}
+
+/// After how many bytes an input that ends, or one that fails, ends the session otherwise than it should,
+/// first. The input has 52 bytes, read one by one.
+fn first_other_read(alloc: Global, fails: bool) -> Result<Option<usize>, Fail> {
+    let end = if fails {
+        Err(FrontFault::ReadFailed)
+    } else {
+        Ok(End::EndOfInput)
+    };
+    for left in 0..53 {
+        let (logged, bytes) = if left < 14 {
+            (0, 0)
+        } else if left < 36 {
+            (1, 9)
+        } else if left < 52 {
+            (2, 18)
+        } else {
+            (3, 38)
+        };
+        let reader = Dripping {
+            bytes: FIRST.as_bytes(),
+            a_read: 1,
+            left,
+            fails,
+        };
+        let told = session(alloc, USUAL, reader)?;
+        if !told.is(end, logged, &FIRST_REPLIES.as_bytes()[..bytes]) {
+            return Ok(Some(left));
+        }
+    }
+    Ok(None)
+}
+
+#[test]
+fn a_read_that_fails_or_ends_at_each_place(rt: HostRuntime) -> Result<(), Fail> {
+    assert_eq!(rt; first_other_read(rt.alloc(), true)?, None);
+    assert_eq!(rt; first_other_read(rt.alloc(), false)?, None);
+    Ok(())
+}
+
+/// So many lines of 60,000 spaces each.
+fn blank_lines(alloc: Global, count: u32) -> Result<Vec<u8>, Fail> {
+    let spaces = vec![in alloc; b' '; 60_000]?;
+    let mut lines = Vec::new(alloc);
+    for _ in 0..count {
+        lines.extend_from_slice(&spaces)?;
+        lines.push(b'\n')?;
+    }
+    Ok(lines)
+}
+
+/// The replies to 20 lines that are no JSON.
+const NO_JSON: &str =
+    "[\"err\",1,410]\n[\"err\",2,410]\n[\"err\",3,410]\n[\"err\",4,410]\n[\"err\",5,410]\n\
+[\"err\",6,410]\n[\"err\",7,410]\n[\"err\",8,410]\n[\"err\",9,410]\n[\"err\",10,410]\n\
+[\"err\",11,410]\n[\"err\",12,410]\n[\"err\",13,410]\n[\"err\",14,410]\n[\"err\",15,410]\n\
+[\"err\",16,410]\n[\"err\",17,410]\n[\"err\",18,410]\n[\"err\",19,410]\n[\"err\",20,410]\n";
+
+/// How many such lines come in, how many bytes a read, how the session ends, how many requests are logged,
+/// and how many bytes of their replies are written.
+const BLANK: [(u32, usize, Result<End, FrontFault>, usize, usize); 2] = [
+    (17, 1, Err(FrontFault::TooManyTurns), 16, 231),
+    (20, 65_536, Ok(End::EndOfInput), 20, 291),
+];
+
+fn first_other_blank(alloc: Global) -> Result<Option<u32>, Fail> {
+    for (count, a_read, end, logged, bytes) in &BLANK {
+        let lines = blank_lines(alloc, *count)?;
+        let told = session(alloc, USUAL, whole(&lines, *a_read))?;
+        if !told.is(*end, *logged, &NO_JSON.as_bytes()[..*bytes]) {
+            return Ok(Some(*count));
+        }
+    }
+    Ok(None)
+}
+
+#[test]
+fn reads_of_one_byte_and_of_many(rt: HostRuntime) -> Result<(), Fail> {
+    assert_eq!(rt; first_other_blank(rt.alloc())?, None);
+    Ok(())
+}
+
+/// The first three lines, a run, and a line that asks for the cells behind it.
+const RUN: &str = "[\"new\",\"a\",3]\n[\"put\",\"a\",0,[1,2,3]]\n[\"get\",\"a\",0,3]\n\
+[\"run\",[\"program\",[],[[\"set\",[\"c\",\"a\",0],9]]]]\n[\"get\",\"a\",0,3]\n";
+
+/// Why the run isn't performed, how the session ends, how many requests are logged behind a second one
+/// that asks for the cells again, and what both write.
+const REFUSALS: [(NotDone, Result<End, FrontFault>, usize, &str); 3] = [
+    (
+        NotDone::Memory,
+        Ok(End::EndOfInput),
+        6,
+        "[\"ok\",1]\n[\"ok\",2]\n[\"cells\",3,[1,2,3]]\n[\"err\",4,508]\n[\"cells\",5,[1,2,3]]\n[\"cells\",6,[1,2,3]]\n",
+    ),
+    (
+        NotDone::Closed,
+        Ok(End::Closed),
+        4,
+        "[\"ok\",1]\n[\"ok\",2]\n[\"cells\",3,[1,2,3]]\n[\"cells\",4,[1,2,3]]\n",
+    ),
+    (
+        NotDone::Stranger,
+        Err(FrontFault::Stranger),
+        4,
+        "[\"ok\",1]\n[\"ok\",2]\n[\"cells\",3,[1,2,3]]\n[\"cells\",4,[1,2,3]]\n",
+    ),
+];
+
+/// How a session whose run isn't performed ended, and what stands in the book and was written after a
+/// second one.
+fn refused(alloc: Global, why: NotDone) -> Result<Told, Fail> {
+    let mut book = book_of(alloc, USUAL)?;
+    let mut sink = Writing::new(Vec::new(alloc));
+    let mut source = Reading::new(RUN.as_bytes());
+    let ended = serve(
+        alloc,
+        &mut book,
+        &mut Refusing { why },
+        &mut source,
+        &mut sink,
+    );
+    let mut source = Reading::new("[\"get\",\"a\",0,3]\n".as_bytes());
+    let _ = serve(alloc, &mut book, &mut Solo, &mut source, &mut sink);
+    Ok(Told {
+        ended,
+        logged: book.log().len(),
+        written: sink.into_inner(),
+    })
+}
+
+fn first_other_refusal(alloc: Global) -> Result<Option<NotDone>, Fail> {
+    for (why, end, logged, replies) in &REFUSALS {
+        let told = refused(alloc, *why)?;
+        if !told.is(*end, *logged, replies.as_bytes()) {
+            return Ok(Some(*why));
+        }
+    }
+    Ok(None)
+}
+
+#[test]
+fn a_run_that_is_not_performed(rt: HostRuntime) -> Result<(), Fail> {
+    assert_eq!(rt; first_other_refusal(rt.alloc())?, None);
+    Ok(())
+}
