@@ -78,7 +78,7 @@ fn written(alloc: Global, first: &[u8], second: &[u8]) -> Result<Vec<u8>, Failed
 /// Whether they do.
 fn writes_both(alloc: Global) -> bool {
     match written(alloc, REPLY.as_bytes(), b"[\"ok\",2]\n") {
-        Ok(all) => all.as_slice() == b"[\"ok\",1]\n[\"ok\",2]\n",
+        Ok(all) => all.as_slice() == b"[\"ok\",1]\n[\"ok\",2]\n".as_slice(),
         Err(_) => false,
     }
 }
