@@ -36,6 +36,7 @@ none_unfinished = count_by-zero is_unfinished (λ s. IsTrue s.finished) (λ s. o
     out : (finished : Bool) → not finished ≡ false → finished ≡ true
     out true none = refl
     out false none = sym none
+
     back : (finished : Bool) → finished ≡ true → not finished ≡ false
     back true done = refl
     back false done = sym done
@@ -48,6 +49,7 @@ none_unfinished_in group =
     out : (finished here : Bool) → (not finished && here) ≡ false → here ≡ true → finished ≡ true
     out true here none there = refl
     out false here none there = sym (sym there ∙ none)
+
     back : (finished here : Bool) → (here ≡ true → finished ≡ true) → (not finished && here) ≡ false
     back true here done = refl
     back false true done = sym (done refl)

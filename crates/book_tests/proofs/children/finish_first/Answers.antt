@@ -20,5 +20,5 @@ finish-requires-2-clause-unfinished c =
 pub finish-requires-3-clause-unfinished : goal.finish-requires-3-clause-unfinished
 finish-requires-3-clause-unfinished c =
     let once : IsUnfinished c.finish.new.self 2 =
-        subst (λ s. IsUnfinished s 2) (sym c.finish.ensures) (kept c.args.siblings.now 0 2 (λ same. omega (arith, same)) c.requires.two) in
+    subst (λ s. IsUnfinished s 2) (sym c.finish.ensures) (kept c.args.siblings.now 0 2 (λ same. omega (arith, same)) c.requires.two) in
     subst (λ s. IsUnfinished s 2) (sym c.finish-2.ensures) (kept c.finish.new.self 1 2 (λ same. omega (arith, same)) once)
