@@ -2,7 +2,8 @@
 //! that a session doesn't hand on, and the ways in which a run ends.
 ghost use Rattle.std.specs.Prelude.{◌≡◌, IsTrue};
 
-use ot_book::{Book, Executor, Limits, Opened, Solo, Store, StoreFault, reply_text};
+use ot_book::{Book, Executor, Opened, Solo, reply_text};
+use ot_store::{Limits, Store, StoreFault};
 use std::alloc::{AllocError, Global};
 use std::process::Abort;
 
@@ -19,13 +20,18 @@ fn ask(alloc: Global, book: &mut Book, line: &str) -> Result<String, AllocError>
     last_reply(alloc, book, line)
 }
 
-/// The text of the last reply, which is to be to this line.
+/// The text of the last reply, which is to be to this line and to have the number before the next.
 fn last_reply(alloc: Global, book: &Book, line: &str) -> Result<String, AllocError> {
-    match book.log().last() {
-        Some(entry) if entry.line.as_slice() == line.as_bytes() => {
-            reply_text(alloc, &entry.reply)
-        }
-        _ => String::from_str(alloc, "another line"),
+    let Some(entry) = book.log().last() else {
+        return String::from_str(alloc, "no line");
+    };
+    let Some(reply) = book.reply_at(book.log().len() - 1) else {
+        return String::from_str(alloc, "no reply");
+    };
+    if entry.line.as_slice() == line.as_bytes() && reply.number < book.next_number() {
+        reply_text(alloc, &reply)
+    } else {
+        String::from_str(alloc, "another line")
     }
 }
 
@@ -81,17 +87,17 @@ fn copy(alloc: Global, book: &mut Book, line: &str) -> Result<String, AllocError
     }
 }
 
-/// What a book tells of itself: its name, its limits, the units of its runs, how many lines are
-/// logged, and the arrays that it began with.
+/// What a book tells of itself: its name, its limits, whether a request is open, the units of its
+/// runs, how many lines are logged, and the cells of the arrays that it began with.
 fn tell(alloc: Global, book: &Book) -> Result<String, AllocError> {
-    let limits = book.limits();
-    let (tasks, log) = (limits.tasks, limits.log);
+    let base = book.base().cells(alloc)?;
     format!(in alloc;
-        "{} {tasks} {log} {} {} {:?}",
+        "{} {:?} {} {} {} {base:?}",
         book.name(),
+        book.limits(),
+        book.is_open(),
         book.used(),
-        book.log().len(),
-        book.base()
+        book.log().len()
     )
 }
 
@@ -156,7 +162,7 @@ const LIMITS: Limits = Limits {
     arrays: 2,
     cells: 4,
     tasks: 1,
-    log: 10,
+    log: 11,
 };
 
 const LIMITED: &str = r#"ask ["new","a",5] gives ["err",1,415]
@@ -169,12 +175,13 @@ ask ["new","c",1] gives ["err",7,416]
 ask ["put","b",1,[6]] gives ["ok",8]
 ask ["get","b",0,2] gives ["cells",9,[0,6]]
 ask ["run",["program",[["b",0,2],["a",0,2]],[]]] gives ["done",10,0,0,[[0,6],[0,0]]]
+ask ["run",["program",[],[["task",[],[]],["task",[],[]]]]] gives ["err",11,423]
 ask ["get","a",0,1] gives full
 ask ["nothing"] gives full
 ask [ gives full
 forget ["put","a",0,[9]] gives full
 forget ["run",["program",[],[]]] gives full
-tell gives t1 1 10 0 10 Store { arrays: [] }"#;
+tell gives t1 Limits { arrays: 2, cells: 4, tasks: 1, log: 11 } false 0 11 Cells { arrays: [] }"#;
 
 #[test]
 fn limits_that_are_handed_in(rt: HostRuntime) {
@@ -182,18 +189,71 @@ fn limits_that_are_handed_in(rt: HostRuntime) {
     assert_rows(&rt, rt.alloc(), LIMITS, none, LIMITED);
 }
 
+const NINE: Limits = Limits {
+    arrays: 2,
+    cells: 4,
+    tasks: 1,
+    log: 9,
+};
+
+const FREED: &str = r#"ask ["new","a",3] gives ["ok",1]
+ask ["new","b",2] gives ["err",2,415]
+ask ["new","b",1] gives ["ok",3]
+ask ["new","c",1] gives ["err",4,416]
+ask ["new","a",9] gives ["err",5,413]
+ask ["free","a"] gives ["ok",6]
+ask ["new","a",1] gives ["ok",7]
+ask ["list"] gives ["arrays",8,[["b",1],["a",1]]]
+ask ["used"] gives ["used",9,0]
+ask ["used"] gives full
+tell gives t1 Limits { arrays: 2, cells: 4, tasks: 1, log: 9 } false 0 9 Cells { arrays: [] }"#;
+
+#[test]
+fn arrays_that_are_freed_and_named(rt: HostRuntime) {
+    let none = Ok(Store::empty(rt.alloc()));
+    assert_rows(&rt, rt.alloc(), NINE, none, FREED);
+}
+
+const TASKS: &str = r#"ask ["list"] gives ["arrays",1,[]]
+ask ["free","a"] gives ["err",2,412]
+ask ["new","a",3] gives ["ok",3]
+ask ["put","a",0,[1,2,3]] gives ["ok",4]
+ask ["run",["program",[["a",0,3]],[["task",[["out",["a",0,1]]],[["set",["c","a",0],7]]],["task",[["in",["a",0,1]],["out",["a",1,1]]],[["set",["c","a",1],["+",["c","a",0],1]]]],["wait"]]]] gives ["done",5,2,5,[[7,8,3]]]
+ask ["used"] gives ["used",6,5]
+ask ["run",["program",[],[["set",["c","a",2],4],["task",[["in",["a",0,1]]],[["set",["c","a",0],9]]]]]] gives ["err",7,425,3]
+ask ["run",["program",[],[["task",[["out",["a",0,1]]],[["set",["c","a",0],9]]],["set",["c","a",1],["c","a",0]]]]] gives ["err",8,427,3]
+refuse ["run",["program",[],[["set",["c","a",0],9]]]] gives ["err",9,508]
+ask ["used"] gives ["used",10,5]
+ask ["get","a",0,3] gives ["cells",11,[7,8,3]]
+ask ["list",1] gives ["err",12,411]
+ask ["used",1] gives ["err",13,411]
+ask ["free"] gives ["err",14,411]
+ask ["free","A b"] gives ["err",15,411]
+ask ["free","a",1] gives ["err",16,411]
+ask ["Used"] gives ["err",17,411]
+ask [] gives ["err",18,411]
+ask ["list"] gives ["arrays",19,[["a",3]]]"#;
+
+#[test]
+fn programs_with_tasks(rt: HostRuntime) {
+    let none = Ok(Store::empty(rt.alloc()));
+    assert_rows(&rt, rt.alloc(), Limits::usual(), none, TASKS);
+}
+
 const RUNS: &str = r#"ask ["new","a",3] gives ["ok",1]
 ask ["put","a",0,[1,2,3]] gives ["ok",2]
 forget ["run",["program",[["a",0,3]],[["set",["c","a",0],9]]]] gives forgotten
 ask {} gives ["err",3,411]
 refuse ["run",["program",[["a",0,3]],[["set",["c","a",0],9]]]] gives ["err",4,508]
-tell gives t1 1024 4096 0 4 Store { arrays: [] }
+tell gives t1 Limits { arrays: 16, cells: 65536, tasks: 1024, log: 4096 } false 0 4 Cells { arrays: [] }
 ask ["get","a",0,3] gives ["cells",5,[1,2,3]]
 ask ["run",["program",[["a",0,3]],[["set",["c","a",0],9]]]] gives ["done",6,0,1,[[9,2,3]]]
 ask ["bye"] gives ["err",7,411]
 broken "a b" gives ["err",8,410]
-tell gives t1 1024 4096 1 8 Store { arrays: [] }
-copy ["run",["program",[["a",0,3]],[["wait"]]]] gives JobSpec { program: Program { shows: [Section { array: 0, start: 0, len: 3 }], body: [Wait], statements: 1, tasks: 0 }, before: Cells { arrays: [[9, 2, 3]] } }"#;
+tell gives t1 Limits { arrays: 16, cells: 65536, tasks: 1024, log: 4096 } false 1 8 Cells { arrays: [] }
+ask ["run",["program",[],[["wait"],["wait"],["wait"]]]] gives ["done",9,0,3,[]]
+tell gives t1 Limits { arrays: 16, cells: 65536, tasks: 1024, log: 4096 } false 4 9 Cells { arrays: [] }
+copy ["run",["program",[["a",0,3]],[["wait"]]]] gives JobSpec { checked: Checked { program: Program { shows: [Section { array: 0, start: 0, len: 3 }], body: [Wait], statements: 1, tasks: 0 } }, before: Cells { arrays: [[9, 2, 3]] } }"#;
 
 #[test]
 fn runs_that_end_in_other_ways(rt: HostRuntime) {
@@ -206,14 +266,16 @@ fn two_arrays(alloc: Global) -> Result<Store, StoreFault> {
     let mut store = Store::empty(alloc);
     store.create(alloc, "b", 1, &Limits::usual())?;
     store.create(alloc, "a", 3, &Limits::usual())?;
-    store.put("a", 1, &[5, 6])?;
-    Ok(store)
+    match store.put("a", 1, &[5, 6]) {
+        Ok(()) => Ok(store),
+        Err(refusal) => Err(StoreFault::Refused(refusal)),
+    }
 }
 
 const WRITTEN: &str = r#"ask ["put","b",0,[9]] gives ["ok",1]
 ask ["get","b",0,1] gives ["cells",2,[9]]
 ask ["get","a",0,3] gives ["cells",3,[0,5,6]]
-tell gives t1 1024 4096 0 3 Store { arrays: [NamedArray { name: "b", cells: [0] }, NamedArray { name: "a", cells: [0, 5, 6] }] }"#;
+tell gives t1 Limits { arrays: 16, cells: 65536, tasks: 1024, log: 4096 } false 0 3 Cells { arrays: [[0], [0, 5, 6]] }"#;
 
 #[test]
 fn a_book_that_begins_with_arrays(rt: HostRuntime) {

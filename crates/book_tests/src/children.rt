@@ -120,7 +120,7 @@ fn is_refused(alloc: Global, siblings: &mut Siblings) -> Option<bool> {
 #[test]
 fn a_refused_child_changes_nothing(rt: HostRuntime) {
     let mut siblings = Siblings::new(rt.alloc());
-    for _ in 0..3 {
+    for _ in 0..4 {
         match is_refused(rt.alloc(), &mut siblings) {
             Some(true) => {
                 let _ = println!(rt; "memory was refused");

@@ -11,6 +11,8 @@ mod children;
 #[cfg(test)]
 mod declarations;
 #[cfg(test)]
+mod held;
+#[cfg(test)]
 mod limits;
 #[cfg(test)]
 mod modes;

@@ -1,5 +1,5 @@
 //! What is read of programs, and what of their copies.
-use super::reading::read;
+use super::reading::{read, two_arrays};
 use super::table::{Asked, assert_rows};
 use ot_model::Shape;
 use std::alloc::{AllocError, Global};
@@ -61,27 +61,19 @@ fn copies_are_as_their_originals(rt: HostRuntime) {
     assert_rows(&rt, rt.alloc(), Asked::Copy, [3, 5, 4], READ);
 }
 
-/// Programs over the same arrays, and whether a reduction stands in them.
-const GROUPED: &str = r#"[],[] gives false
-[],[["task",[["out",["a",0,1]]],[["set",["c","a",0],7]]],["task",[["in",["a",0,1]],["out",["a",1,1]]],[["set",["c","a",1],["+",["c","a",0],1]]]],["wait"]] gives false
-[],[["if",["<",["c","a",0],2],[["set",["c","a",2],9]],[["set",["c","a",2],4]]]] gives false
-[],[["group",[["a",1,2],["a",0,1]],[["wait"]]],["wait"]] gives true
-[],[["group",[],[]]] gives true
-[],[["task",[["red",["a",0,1]]],[]]] gives true
-[],[["task",[["red",["b",0,1]],["in",["a",0,1]]],[]]] gives true
-[],[["task",[],[]],["task",[],[["task",[["red",["a",0,1]]],[]]]]] gives true
-[],[["if",0,[["wait"]],[["if",1,[["group",[],[]]],[]]]]] gives true
-[],[["if",0,[["wait"]],[["if",1,[["task",[],[]]],[]]]]] gives false"#;
-
-/// Whether a reduction stands in what is read.
-pub(crate) fn is_grouped(alloc: Global, text: &str, shape: &Shape) -> Result<String, AllocError> {
-    match read(alloc, text, shape) {
-        Ok(program) => format!(in alloc; "{}", program.grouped()),
-        Err(fault) => format!(in alloc; "{fault:?}"),
-    }
+/// What a shape is told to have.
+fn shown(alloc: Global) -> Result<String, AllocError> {
+    let shape = two_arrays(alloc, 3, 5, 4)?;
+    format!(in alloc; "{:?} {}", shape.arrays(), shape.tasks())
 }
 
 #[test]
-fn a_reduction_is_found_however_deep(rt: HostRuntime) {
-    assert_rows(&rt, rt.alloc(), Asked::Grouped, [3, 5, 4], GROUPED);
+fn a_shape_keeps_its_arrays_and_its_limit(rt: HostRuntime) {
+    match shown(rt.alloc()) {
+        Ok(text) => assert_eq!(rt;
+            text.as_str(),
+            "[ArrayShape { name: \"a\", len: 3 }, ArrayShape { name: \"b\", len: 5 }] 4"
+        ),
+        Err(_) => panic!(rt; "no memory"),
+    }
 }

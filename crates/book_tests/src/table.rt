@@ -4,7 +4,7 @@ use super::children::finished;
 use super::declarations::met;
 use super::limits::{counted, grown};
 use super::names::is_name_text;
-use super::programs::{is_grouped, printed, printed_copy};
+use super::programs::{printed, printed_copy};
 use super::reading::two_arrays;
 use super::rights::lent;
 use ot_model::Shape;
@@ -20,8 +20,6 @@ pub(crate) enum Asked {
     Program,
     /// A copy of its program, printed.
     Copy,
-    /// Whether a reduction stands in it.
-    Grouped,
     /// How many statements and task statements it has.
     Counts,
     /// The same, of a text that has a part many times over.
@@ -82,7 +80,6 @@ fn told(alloc: Global, asked: Asked, text: &str, shape: &Shape) -> Result<String
         Asked::Name => is_name_text(alloc, text),
         Asked::Program => printed(alloc, text, shape),
         Asked::Copy => printed_copy(alloc, text, shape),
-        Asked::Grouped => is_grouped(alloc, text, shape),
         Asked::Counts => counted(alloc, text, shape),
         Asked::Grown => grown(alloc, text, shape),
         Asked::Pair => met(alloc, text, shape),

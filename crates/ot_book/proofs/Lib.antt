@@ -1,10 +1,9 @@
-pub mod ArraysLemmas
 pub mod RepliesLemmas
 pub mod RequestLemmas
 pub mod LineLemmas
+pub mod JudgedLemmas
 pub mod BookLemmas
 pub mod OpenLemmas
 pub mod SerialLengths
 pub mod ShownLemmas
 pub mod CloseLemmas
-pub mod OpenedLemmas

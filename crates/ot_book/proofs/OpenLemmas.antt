@@ -1,13 +1,14 @@
 -- What opening and closing a request does to the fields of a book.
-use Rattle.std.proofs.Common.{◌≡◌, ℕ, ◌+◌, ◌-◌, ◌^◌, ◌≤◌, ◌<◌, ◌⊎◌, ◌↔◌, inl, inr, List, [], ◌∷◌, ◌++◌, length, refl, sym, ap, ◌∙◌, subst, arith, Bool, true, false, vec_len}
-use Rattle.std.specs.Prelude.{Option, Some, None, option_map, IsSome}
+use Rattle.std.proofs.Common.{◌≡◌, ℕ, ◌+◌, ◌-◌, ◌^◌, ◌≤◌, ◌<◌, ◌⊎◌, ◌↔◌, inl, inr, List, [], ◌∷◌, ◌++◌, length, get_or, refl, sym, ap, ◌∙◌, subst, arith, Bool, true, false, vec_len}
+use Rattle.std.specs.Prelude.{Option, Some, None, option_map, slice_get, IsSome}
+use Rattle.std.proofs.lemmas.Option.{slice_get-map, slice_get-get_or}
 use Rattle.std.proofs.Math.ListN.{length-map}
 use Rattle.std.proofs.lemmas.List.{map-append}
-use Rattle.ot_book.specs.Arrays.{Named}
-use Rattle.ot_book.specs.Replies.{Said, Refused}
-use Rattle.ot_book.specs.ReplyView.{said_of}
-use Rattle.ot_book.specs.Answers.{State, Now, step_of, finished}
-use Rattle.ot_book.specs.Books.{Register, state_in, IsRight, next_step, logged}
+use Rattle.ot_store.specs.Arrays.{Named}
+use Rattle.ot_book.specs.Replies.{Told, Lost}
+use Rattle.ot_book.specs.ReplyView.{told_of}
+use Rattle.ot_book.specs.Answers.{State, Now, finished}
+use Rattle.ot_book.specs.Books.{Register, state_in, IsRight, next_step, logged, reply_at}
 use Rattle.ot_book.specs.BookView.{entries_of, register_of, IsBook}
 use Rattle.ot_book.specs.Opening.{IsFull, AnswersNow}
 use Rattle.ot_book.specs.declared.book.Entry.{Entry}
@@ -16,38 +17,37 @@ use Rattle.ot_book.specs.declared.book.Book.TheInside.{Inside}
 use Rattle.ot_book.proofs.BookLemmas.{right-logged}
 
 -- the register with what a line was answered
-abbrev pub placed : Register → List ℕ → Said × State → Register
+abbrev pub placed : Register → List ℕ → Told × State → Register
 placed b line a = record b { store = a.1.arrays; log = b.log ++ (line, a.0) ∷ []; pending = None; used = a.1.used }
 
 -- a line that is answered at once
-pub logged-now : (b : Register) (line : List ℕ) (said : Said) (arrays : List Named) → next_step b line ≡ Now said arrays →
-    logged b line false ≡ record b { store = arrays; log = b.log ++ (line, said) ∷ []; pending = None }
-logged-now b line said arrays is = ap (λ step. placed b line (finished (state_in b) step)) is
+pub logged-now : (b : Register) (line : List ℕ) (told : Told) (arrays : List Named) → next_step b line ≡ Now told arrays →
+    logged b line false ≡ record b { store = arrays; log = b.log ++ (line, told) ∷ []; pending = None }
+logged-now b line told arrays is = ap (λ step. placed b line (finished (state_in b) step)) is
 
-pub answered-now : (b : Register) (line : List ℕ) (n : ℕ) (said : Said) (arrays : List Named) → b.pending ≡ None → n ≡ length b.log + 1 →
-    (((said ≡ Refused n 508) × (arrays ≡ b.store)) ⊎ (step_of b.limits n b.store line ≡ Now said arrays)) →
-    AnswersNow b line (record b { store = arrays; log = b.log ++ (line, said) ∷ [] })
-answered-now b line n said arrays closed count (inl lost) = record {
+pub answered-now : (b : Register) (line : List ℕ) (told : Told) (arrays : List Named) → b.pending ≡ None →
+    (((told ≡ Lost) × (arrays ≡ b.store)) ⊎ (next_step b line ≡ Now told arrays)) →
+    AnswersNow b line (record b { store = arrays; log = b.log ++ (line, told) ∷ [] })
+answered-now b line told arrays closed (inl lost) = record {
   memory = true;
   new_is =
-      ap (λ o. record b { store = arrays; log = b.log ++ (line, said) ∷ []; pending = o }) closed
-      ∙ ap (λ xs. record b { store = xs; log = b.log ++ (line, said) ∷ []; pending = None }) lost.1
-      ∙ ap (λ s. record b { log = b.log ++ (line, s) ∷ []; pending = None }) (lost.0 ∙ ap (λ m. Refused m 508) count);
+      ap (λ o. record b { store = arrays; log = b.log ++ (line, told) ∷ []; pending = o }) closed
+      ∙ ap (λ xs. record b { store = xs; log = b.log ++ (line, told) ∷ []; pending = None }) lost.1
+      ∙ ap (λ t. record b { log = b.log ++ (line, t) ∷ []; pending = None }) lost.0;
   at_once = inl refl;
 }
-answered-now b line n said arrays closed count (inr step) =
-    let next : next_step b line ≡ Now said arrays = ap (λ m. step_of b.limits m b.store line) (sym count) ∙ step in record {
-      memory = false;
-      new_is = ap (λ o. record b { store = arrays; log = b.log ++ (line, said) ∷ []; pending = o }) closed ∙ sym (logged-now b line said arrays next);
-      at_once = inr (said, arrays, next);
-    }
+answered-now b line told arrays closed (inr step) = record {
+  memory = false;
+  new_is = ap (λ o. record b { store = arrays; log = b.log ++ (line, told) ∷ []; pending = o }) closed ∙ sym (logged-now b line told arrays step);
+  at_once = inr (told, arrays, step);
+}
 
 -- one entry more
-pub entries_of-more : (entries : List Entry) (e : Entry) → entries_of (entries ++ e ∷ []) ≡ entries_of entries ++ (e.line.items, said_of e.reply) ∷ []
-entries_of-more entries e = map-append (λ (x : Entry). (x.line.items, said_of x.reply)) entries (e ∷ [])
+pub entries_of-more : (entries : List Entry) (e : Entry) → entries_of (entries ++ e ∷ []) ≡ entries_of entries ++ (e.line.items, told_of e.told) ∷ []
+entries_of-more entries e = map-append (λ (x : Entry). (x.line.items, told_of x.told)) entries (e ∷ [])
 
 pub length-entries_of : (entries : List Entry) → length (entries_of entries) ≡ length entries
-length-entries_of entries = length-map entries (λ (x : Entry). (x.line.items, said_of x.reply))
+length-entries_of entries = length-map entries (λ (x : Entry). (x.line.items, told_of x.told))
 
 none_from : (o : Option Pending) → (IsSome (option_map (λ p. p.line.items) o) → ⊥) → o ≡ None
 none_from None h = refl
@@ -75,3 +75,13 @@ book-logged b new line memory h is count few used closed = record {
 -- a test that answered no
 pub free_from : (inside now : Register) (test : Bool) → inside ≡ now → ((test ≡ true) ↔ IsFull now) → test ≡ false → ¬ (IsFull inside)
 free_from inside now test is tells no_test = λ full. let yes : test ≡ true = tells.1 (subst IsFull is full) in cc
+
+-- the reply at a place of the log
+pub reply_at-entry : (b : Inside) (place : ℕ) (e : Entry) (n : ℕ) → place < length b.log.items → e ≡ get_or b.log.items place e → n ≡ place + 1 →
+    Some (n, told_of e.told) ≡ reply_at (register_of b) place
+reply_at-entry b place e n inside is count =
+    let there : slice_get (entries_of b.log.items) place ≡ Some (e.line.items, told_of e.told) =
+    slice_get-map (λ (x : Entry). (x.line.items, told_of x.told)) b.log.items place
+    ∙ ap (option_map (λ (x : Entry). (x.line.items, told_of x.told))) (slice_get-get_or b.log.items place e inside ∙ ap Some (sym is)) in
+    ap (λ k. Some (k, told_of e.told)) count
+    ∙ sym (ap (option_map (λ (x : List ℕ × Told). (place + 1, x.1))) there)

@@ -2,18 +2,17 @@
 use Rattle.std.proofs.Common.{◌≡◌, ◌≢◌, ◌∙◌, ℕ, ◌+◌, ◌<◌, List, [], ◌∷◌, ◌++◌, drop, length, get_or, refl, sym, ap, append_assoc}
 use Rattle.std.specs.Prelude.{Option, Some, None, option_map, option_and_then}
 use Rattle.std.proofs.lemmas.List.{at_drop_more}
-use Rattle.serde_json.specs.Data.{Data}
 use Rattle.serde_json.specs.View.{view, items_view}
 use Rattle.serde_json.specs.declared.value.Value.{Value}
 use Rattle.ot_book.specs.Requests.{form_of, number_in, all_numbers}
 
-pub no_form : (vs : List Value) → length vs ≢ 2 → length vs ≢ 3 → length vs ≢ 4 → form_of (items_view vs) ≡ None
-no_form [] two three four = refl
-no_form (a ∷ []) two three four = refl
-no_form (a ∷ b ∷ []) two three four = absurd (two refl)
-no_form (a ∷ b ∷ c ∷ []) two three four = absurd (three refl)
-no_form (a ∷ b ∷ c ∷ d ∷ []) two three four = absurd (four refl)
-no_form (a ∷ b ∷ c ∷ d ∷ e ∷ vs) two three four = refl
+pub no_form : (vs : List Value) → length vs ≢ 1 → length vs ≢ 2 → length vs ≢ 3 → length vs ≢ 4 → form_of (items_view vs) ≡ None
+no_form [] one two three four = refl
+no_form (a ∷ []) one two three four = absurd (one refl)
+no_form (a ∷ b ∷ []) one two three four = absurd (two refl)
+no_form (a ∷ b ∷ c ∷ []) one two three four = absurd (three refl)
+no_form (a ∷ b ∷ c ∷ d ∷ []) one two three four = absurd (four refl)
+no_form (a ∷ b ∷ c ∷ d ∷ e ∷ vs) one two three four = refl
 
 -- the numbers so far with those that are left
 abbrev pub with_numbers : List ℕ → Option (List ℕ) → Option (List ℕ)

@@ -44,6 +44,10 @@ section-fits cells s row h is =
     let long : length row ≡ h.len = row_from (slice_get cells s.array) h.len row (sym (slice_get-map length cells s.array) ∙ h.array) there in
     (there, omega (arith, long, h.within))
 
+-- the items of the list at a place
+pub list-at : {V : Type 0} (items : V → List ℕ) (lists : List V) (i : ℕ) (l : V) → l ≡ get_or lists i l → items l ≡ get_or (map items lists) i (items l)
+list-at items lists i l is = sym (get_or-map items lists i l ∙ ap items (sym is))
+
 -- a list is as long as the section at its place
 pub list-long : {V : Type 0} (items : V → List ℕ) (lists : List V) (sections : List Section) (i : ℕ) (v : V) (s : Section) →
     map (λ r. length (items r)) lists ≡ map (λ t. t.len) sections → i < length lists → v ≡ get_or lists i v → s ≡ get_or sections i s →

@@ -1,77 +1,83 @@
--- What requests are answered, one after another.
-use Rattle.std.specs.Prelude.{ℕ, ◌+◌, ◌==◌, ◌&&◌, not, List, [], ◌∷◌, map, slice_range, slice_get, unwrap_or, Bool, true, false, if◌then◌else◌, Option, Some, None, Result, Ok, Err}
+-- What requests are answered, one after another. No answer knows its number.
+use Rattle.std.specs.Prelude.{ℕ, ◌+◌, List, [], ◌∷◌, map, slice_range, slice_get, unwrap_or, Bool, true, false, if◌then◌else◌, Option, Some, None, Result, Ok, Err}
 use Rattle.std.specs.Str.{is_utf8}
 use Rattle.serde_json.specs.Data.{Data}
 use Rattle.serde_json.specs.Read.{read}
 use Rattle.ot_model.specs.Programs.{Expanded}
-use Rattle.ot_model.specs.Grouped.{is_grouped}
 use Rattle.ot_model.specs.Serial.{serial_run}
 use Rattle.ot_model.specs.declared.expr.Section.{Section}
 use Rattle.ot_program.specs.Programs.{program_of}
-use Rattle.ot_program.specs.Refusals.{code_of}
+use Rattle.ot_program.specs.Refusals as program
 use Rattle.ot_program.specs.declared.fault.Refusal.{Refusal}
-use Rattle.ot_program.specs.declared.fault.Refusal.TheVariants.{Form}
-use Rattle.ot_book.specs.Arrays.{Named, created, put, got, cells_in, recelled, shape_in}
-use Rattle.ot_book.specs.Codes.{number_of, code_of_store}
-use Rattle.ot_book.specs.Replies.{Said, Accepted, Cells, Done, Refused}
-use Rattle.ot_book.specs.Requests.{Request, New, Put, Get, Run, request_of}
-use Rattle.ot_book.specs.declared.limits.Limits.{Limits}
-use Rattle.ot_book.specs.declared.store.StoreFault.{StoreFault}
+use Rattle.ot_check.specs.FirstOffence.{first_offence}
+use Rattle.ot_check.specs.Codes as check
+use Rattle.ot_check.specs.declared.fault.Offence.{Offence}
+use Rattle.ot_store.specs.Arrays.{Named, created, freed, put, got, listed, cells_in, recelled, shape_in}
+use Rattle.ot_store.specs.Refusals as store
+use Rattle.ot_store.specs.declared.fault.StoreRefusal.{StoreRefusal}
+use Rattle.ot_store.specs.declared.limits.Limits.{Limits}
+use Rattle.ot_book.specs.Replies.{Told, Accepted, Cells, Arrays, Used, Done, Refused, Offends, Lost}
+use Rattle.ot_book.specs.Requests as r
 
 -- a tenant's arrays, how many requests there were, and the units of all done replies
 pub record State : Type 0 where
   pub arrays : List Named
-  pub number : ℕ
+  pub requests : ℕ
   pub used : ℕ
 
 -- before the first request
 abbrev pub opening : List Named → State
-opening arrays = record { arrays = arrays; number = 0; used = 0 }
+opening arrays = record { arrays = arrays; requests = 0; used = 0 }
 
 -- a request is answered at once and leaves these arrays, or runs a program
 pub data Step : Type 0 where
-  Now : Said → List Named → Step
+  Now : Told → List Named → Step
   Runs : Expanded → Step
 
-abbrev pub changed : ℕ → List Named → Result (List Named) StoreFault → Step
-changed n arrays (Ok new) = Now (Accepted n) new
-changed n arrays (Err e) = Now (Refused n (number_of (code_of_store e))) arrays
+abbrev pub changed : List Named → Result (List Named) StoreRefusal → Step
+changed arrays (Ok new) = Now Accepted new
+changed arrays (Err refusal) = Now (Refused (store.code_of refusal)) arrays
 
-abbrev pub told : ℕ → List Named → Result (List ℕ) StoreFault → Step
-told n arrays (Ok values) = Now (Cells n values) arrays
-told n arrays (Err e) = Now (Refused n (number_of (code_of_store e))) arrays
+abbrev pub fetched : List Named → Result (List ℕ) StoreRefusal → Step
+fetched arrays (Ok values) = Now (Cells values) arrays
+fetched arrays (Err refusal) = Now (Refused (store.code_of refusal)) arrays
 
--- a program without tasks and reductions
-abbrev pub cannot_race : Expanded → Bool
-cannot_race p = p.tasks == 0 && not (is_grouped p.body)
+-- a program is run where nothing in it is an offence; otherwise its first offence is told
+abbrev pub judged : List Named → Expanded → Option (ℕ × Offence) → Step
+judged arrays p None = Runs p
+judged arrays p (Some first) = Now (Offends (check.code_of first.1) first.0) arrays
 
--- As long as nothing checks that tasks can't race, only plain programs are run.
-abbrev pub started : ℕ → List Named → Result Expanded Refusal → Step
-started n arrays (Ok p) = if cannot_race p then Runs p else Now (Refused n (code_of Form)) arrays
-started n arrays (Err refusal) = Now (Refused n (code_of refusal)) arrays
+-- What `first_offence` is says `first_offence_is_first` of ot_check: the first of the offences on the
+-- paths of the body, and no other value.
+abbrev pub started : List Named → Result Expanded Refusal → Step
+started arrays (Ok p) = judged arrays p (first_offence p.body)
+started arrays (Err refusal) = Now (Refused (program.code_of refusal)) arrays
 
--- what request n does
-abbrev pub performed : Limits → ℕ → List Named → Request → Step
-performed limits n arrays (New name len) = changed n arrays (created name len limits arrays)
-performed limits n arrays (Put name start values) = changed n arrays (put name start values arrays)
-performed limits n arrays (Get name start len) = told n arrays (got name start len arrays)
-performed limits n arrays (Run text) = started n arrays (program_of (shape_in limits arrays) text)
+-- what a request does to these arrays, after done replies of so many units
+abbrev pub performed : Limits → List Named → ℕ → r.Request → Step
+performed limits arrays used (r.New name len) = changed arrays (created name len limits arrays)
+performed limits arrays used (r.Free name) = changed arrays (freed name arrays)
+performed limits arrays used (r.Put name start values) = changed arrays (put name start values arrays)
+performed limits arrays used (r.Get name start len) = fetched arrays (got name start len arrays)
+performed limits arrays used r.Arrays = Now (Arrays (listed arrays)) arrays
+performed limits arrays used r.Used = Now (Used used) arrays
+performed limits arrays used (r.Run text) = started arrays (program_of (shape_in limits arrays) text)
 
-abbrev pub asked : Limits → ℕ → List Named → Option Request → Step
-asked limits n arrays None = Now (Refused n 411) arrays
-asked limits n arrays (Some request) = performed limits n arrays request
+abbrev pub asked : Limits → List Named → ℕ → Option r.Request → Step
+asked limits arrays used None = Now (Refused 411) arrays
+asked limits arrays used (Some request) = performed limits arrays used request
 
-abbrev pub parsed : Limits → ℕ → List Named → Option Data → Step
-parsed limits n arrays None = Now (Refused n 410) arrays
-parsed limits n arrays (Some d) = asked limits n arrays (request_of d)
+abbrev pub parsed : Limits → List Named → ℕ → Option Data → Step
+parsed limits arrays used None = Now (Refused 410) arrays
+parsed limits arrays used (Some d) = asked limits arrays used (r.request_of d)
 
 -- the value of a line, where it is JSON in UTF-8
 abbrev pub value_of : List ℕ → Option Data
 value_of line = if is_utf8 line then read line else None
 
--- what the line does as request n
-abbrev pub step_of : Limits → ℕ → List Named → List ℕ → Step
-step_of limits n arrays line = parsed limits n arrays (value_of line)
+-- what a line does
+abbrev pub step_of : Limits → List Named → ℕ → List ℕ → Step
+step_of limits arrays used line = parsed limits arrays used (value_of line)
 
 -- the numbers of each section
 abbrev pub shown : List Section → List (List ℕ) → List (List ℕ)
@@ -79,38 +85,31 @@ shown shows cells = map (λ s. slice_range (unwrap_or (slice_get cells s.array) 
 
 -- A program is executed from the arrays, each task where it is created. The sections are shown as
 -- they are after it.
-abbrev pub finished : State → Step → Said × State
-finished s (Now said arrays) = (said, record { arrays = arrays; number = s.number + 1; used = s.used })
+abbrev pub finished : State → Step → Told × State
+finished s (Now told arrays) = (told, record { arrays = arrays; requests = s.requests + 1; used = s.used })
 finished s (Runs p) =
     let run = serial_run p.body (cells_in s.arrays) in (
-      Done (s.number + 1) run.tasks run.units (shown p.shows run.cells),
-      record { arrays = recelled s.arrays run.cells; number = s.number + 1; used = s.used + run.units },
+      Done run.tasks run.units (shown p.shows run.cells),
+      record { arrays = recelled s.arrays run.cells; requests = s.requests + 1; used = s.used + run.units },
     )
 
--- one request: its reply, and the state after it
-abbrev pub answer : Limits → State → List ℕ → Said × State
-answer limits s line = finished s (step_of limits (s.number + 1) s.arrays line)
+-- one request: what is told, and the state after it
+abbrev pub answer : Limits → State → List ℕ → Told × State
+answer limits s line = finished s (step_of limits s.arrays s.used line)
 
--- the reply for want of memory, and the state after it
-abbrev pub lost : State → Said × State
-lost s = (Refused (s.number + 1) 508, record s { number = s.number + 1 })
+-- the answer for want of memory, and the state after it
+abbrev pub lost : State → Told × State
+lost s = (Lost, record s { requests = s.requests + 1 })
 
-abbrev pub answer_or_lost : Limits → State → List ℕ → Bool → Said × State
+abbrev pub answer_or_lost : Limits → State → List ℕ → Bool → Told × State
 answer_or_lost limits s line true = lost s
 answer_or_lost limits s line false = answer limits s line
 
--- The replies to lines, and the state after them. Beside each line stands whether it was answered
+-- The answers to lines, and the state after them. Beside each line stands whether it was answered
 -- for want of memory.
-abbrev pub replies : Limits → State → List (List ℕ × Bool) → List Said × State
-replies limits s [] = ([], s)
-replies limits s (l ∷ ls) =
+abbrev pub answers : Limits → State → List (List ℕ × Bool) → List Told × State
+answers limits s [] = ([], s)
+answers limits s (l ∷ ls) =
     let one = answer_or_lost limits s l.0 l.1 in
-    let rest = replies limits one.1 ls in
+    let rest = answers limits one.1 ls in
     (one.0 ∷ rest.0, rest.1)
-
--- whether it was told for want of memory
-abbrev pub is_lost : Said → Bool
-is_lost (Accepted n) = false
-is_lost (Cells n values) = false
-is_lost (Done n tasks units shows) = false
-is_lost (Refused n code) = code == 508

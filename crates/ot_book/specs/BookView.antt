@@ -2,16 +2,16 @@
 use Rattle.std.specs.Prelude.{◌≡◌, ℕ, ◌*◌, ◌^◌, ◌-◌, ◌≤◌, ◌<◌, List, map, length, option_map, string_bytes, vec_len, vec_capacity}
 use Rattle.std.specs.Option.{ForSome}
 use Rattle.ot_model.specs.Programs.{Expanded}
-use Rattle.ot_book.specs.Replies.{Said}
-use Rattle.ot_book.specs.ReplyView.{said_of}
+use Rattle.ot_book.specs.Replies.{Told}
+use Rattle.ot_book.specs.ReplyView.{told_of}
 use Rattle.ot_book.specs.Answers.{Runs}
 use Rattle.ot_book.specs.Books.{Register, IsRight, next_step}
 use Rattle.ot_book.specs.declared.book.Entry.{Entry}
 use Rattle.ot_book.specs.declared.book.Pending.{Pending}
 use Rattle.ot_book.specs.declared.book.Book.TheInside.{Inside}
 
-abbrev pub entries_of : List Entry → List (List ℕ × Said)
-entries_of entries = map (λ e. (e.line.items, said_of e.reply)) entries
+abbrev pub entries_of : List Entry → List (List ℕ × Told)
+entries_of entries = map (λ e. (e.line.items, told_of e.told)) entries
 
 abbrev pub register_of : Inside → Register
 register_of b = record {

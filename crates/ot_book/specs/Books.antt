@@ -1,33 +1,41 @@
--- A book: the requests of one tenant in order, with their replies.
-use Rattle.std.specs.Prelude.{◌≡◌, ℕ, ◌+◌, List, [], ◌∷◌, ◌++◌, map, length, Bool, Option, Some, None}
+-- A book: the requests of one tenant in order, with what was told of each.
+use Rattle.std.specs.Prelude.{◌≡◌, ℕ, ◌+◌, List, [], ◌∷◌, ◌++◌, map, length, slice_get, Bool, true, false, Option, Some, None, option_map, unwrap_or, IsSome}
 use Rattle.ot_model.specs.Programs.{expanded_of}
-use Rattle.ot_book.specs.Arrays.{Named, cells_in}
-use Rattle.ot_book.specs.Replies.{Said}
-use Rattle.ot_book.specs.Answers.{State, Step, Runs, opening, step_of, answer_or_lost, replies, is_lost}
-use Rattle.ot_book.specs.Jobs.{Job}
-use Rattle.ot_book.specs.declared.limits.Limits.{Limits}
+use Rattle.ot_check.specs.Jobs.{Spec}
+use Rattle.ot_store.specs.Arrays.{Named, cells_in}
+use Rattle.ot_store.specs.declared.limits.Limits.{Limits}
+use Rattle.ot_book.specs.Replies.{Told, is_lost}
+use Rattle.ot_book.specs.Answers.{State, Step, Runs, opening, step_of, answer_or_lost, answers}
 
--- a tenant's name and limits, its opening arrays and its present ones, its lines with their replies,
+-- a tenant's name and limits, its opening arrays and its present ones, its lines with what was told,
 -- the line of an open request, and the units of its done replies
 pub record Register : Type 0 where
   pub name : List ℕ
   pub limits : Limits
   pub base : List Named
   pub store : List Named
-  pub log : List (List ℕ × Said)
+  pub log : List (List ℕ × Told)
   pub pending : Option (List ℕ)
   pub used : ℕ
 
 abbrev pub state_in : Register → State
-state_in b = record { arrays = b.store; number = length b.log; used = b.used }
+state_in b = record { arrays = b.store; requests = length b.log; used = b.used }
 
 -- the lines of a log, with those answered for want of memory marked
-abbrev pub lines_in : List (List ℕ × Said) → List (List ℕ × Bool)
+abbrev pub lines_in : List (List ℕ × Told) → List (List ℕ × Bool)
 lines_in log = map (λ e. (e.0, is_lost e.1)) log
 
--- the replies, the arrays and the used units are those of the opening arrays and the lines
+-- what was told, the arrays and the used units are those of the opening arrays and the lines
 abbrev pub IsRight : Register → Type 0
-IsRight b = replies b.limits (opening b.base) (lines_in b.log) ≡ (map (λ e. e.1) b.log, state_in b)
+IsRight b = answers b.limits (opening b.base) (lines_in b.log) ≡ (map (λ e. e.1) b.log, state_in b)
+
+-- the number of the request at a place of the log, counted from 0; nothing else numbers requests
+abbrev pub number_at : Register → ℕ → ℕ
+number_at b place = place + 1
+
+-- the reply at a place of the log: its number and what was told
+abbrev pub reply_at : Register → ℕ → Option (ℕ × Told)
+reply_at b place = option_map (λ e. (number_at b place, e.1)) (slice_get b.log place)
 
 -- a new book
 abbrev pub new_register : List ℕ → Limits → List Named → Register
@@ -36,7 +44,7 @@ new_register name limits arrays =
 
 -- what the line does as the next request
 abbrev pub next_step : Register → List ℕ → Step
-next_step b line = step_of b.limits (length b.log + 1) b.store line
+next_step b line = step_of b.limits b.store b.used line
 
 -- the book with the line answered: as the next request, or for want of memory
 abbrev pub logged : Register → List ℕ → Bool → Register
@@ -45,16 +53,31 @@ logged b line memory =
     record b { store = a.1.arrays; log = b.log ++ (line, a.0) ∷ []; pending = None; used = a.1.used }
 
 -- the book with the line's request open
-abbrev pub with_pending : Register → Option (List ℕ) → Register
-with_pending b line = record b { pending = line }
+abbrev pub opened : Register → List ℕ → Register
+opened b line = record b { pending = Some line }
 
--- the line runs this program from the book's cells
-pub record Asks (b : Register) (line : List ℕ) (job : Job) : Type 0 where
-  pub program : next_step b line ≡ Runs (expanded_of job.program)
-  pub cells : job.before ≡ cells_in b.store
+-- the line of the open request
+abbrev pub open_line : Register → List ℕ
+open_line b = unwrap_or b.pending []
 
--- the line is open, and this is its job
-pub record IsOpenFor (b : Register) (job : Job) : Type 0 where
-  pub line : List ℕ
-  pub is : b.pending ≡ Some line
-  pub asks : Asks b line job
+-- what the open request does
+abbrev pub open_step : Register → Step
+open_step b = next_step b (open_line b)
+
+-- the book with its open request answered
+abbrev pub closed : Register → Register
+closed b = logged b (open_line b) false
+
+-- the book with its open request answered for want of memory
+abbrev pub refused : Register → Register
+refused b = logged b (open_line b) true
+
+-- the book with its open request given up
+abbrev pub given_up : Register → Register
+given_up b = record b { pending = None }
+
+-- The open request runs this program from the book's cells. A struct may keep that as a ghost field.
+pub record IsOpenFor (b : Register) (spec : Spec) : Type 0 where
+  pub is_open : IsSome b.pending
+  pub asks : ∥ open_step b ≡ Runs (expanded_of spec.checked.program) ∥₁
+  pub cells : spec.before ≡ cells_in b.store

@@ -1,11 +1,8 @@
-pub mod Usual
-pub mod Arrays
-pub mod Stores
-pub mod Jobs
-pub mod Outcomes
-pub mod Replies
 pub mod Codes
+pub mod Faults
+pub mod Replies
 pub mod ReplyView
+pub mod Pieces
 pub mod Requests
 pub mod RequestView
 pub mod Answers

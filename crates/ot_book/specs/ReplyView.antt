@@ -1,12 +1,23 @@
--- The reply that a value of the code stands for.
-use Rattle.std.specs.Prelude.{map}
-use Rattle.ot_book.specs.Replies.{Said, Accepted, Cells, Done, Refused}
+-- What a value of the code tells.
+use Rattle.std.specs.Prelude.{ℕ, map}
+use Rattle.ot_model.specs.ShapeView.{arrays_of}
+use Rattle.ot_check.specs.Codes.{code_of}
+use Rattle.ot_book.specs.Replies as r
 use Rattle.ot_book.specs.Codes.{number_of}
+use Rattle.ot_book.specs.declared.told.Told.{Told}
+use Rattle.ot_book.specs.declared.told.Told.TheVariants as v
 use Rattle.ot_book.specs.declared.reply.Reply.{Reply}
-use Rattle.ot_book.specs.declared.reply.Reply.TheVariants as v
 
-abbrev pub said_of : Reply → Said
-said_of (v.Accepted n) = Accepted n
-said_of (v.Cells n vs) = Cells n vs.items
-said_of (v.Done n tasks units shows) = Done n tasks units (map (λ s. s.items) shows.items)
-said_of (v.Refused n code) = Refused n (number_of code)
+abbrev pub told_of : Told → r.Told
+told_of v.Accepted = r.Accepted
+told_of (v.Cells values) = r.Cells values.items
+told_of (v.Arrays arrays) = r.Arrays (arrays_of arrays.items)
+told_of (v.Used units) = r.Used units
+told_of (v.Done tasks units shows) = r.Done tasks units (map (λ s. s.items) shows.items)
+told_of (v.Refused code) = r.Refused (number_of code)
+told_of (v.Offends offence place) = r.Offends (code_of offence) place
+told_of v.Lost = r.Lost
+
+-- a reply: its number and what it tells
+abbrev pub reply_of : Reply → ℕ × r.Told
+reply_of reply = (reply.number, told_of reply.told.now)

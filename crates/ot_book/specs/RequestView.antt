@@ -6,6 +6,9 @@ use Rattle.ot_book.specs.declared.request.Request.TheVariants as v
 
 abbrev pub asked_by : Request → r.Request
 asked_by (v.New name len) = r.New name.now len
+asked_by (v.Free name) = r.Free name.now
 asked_by (v.Put name start values) = r.Put name.now start values.items
 asked_by (v.Get name start len) = r.Get name.now start len
+asked_by v.Arrays = r.Arrays
+asked_by v.Used = r.Used
 asked_by (v.Run text) = r.Run (view text.now)

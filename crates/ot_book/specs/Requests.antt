@@ -6,15 +6,21 @@ use Rattle.ot_program.specs.Names.{is_name, is_word}
 
 pub data Request : Type 0 where
   New : List ℕ → ℕ → Request
+  Free : List ℕ → Request
   Put : List ℕ → ℕ → List ℕ → Request
   Get : List ℕ → ℕ → ℕ → Request
+  Arrays : Request
+  Used : Request
   Run : Data → Request
 
 -- an array has at least one cell
 abbrev pub IsProper : Request → Type 0
 IsProper (New name len) = 0 < len
+IsProper (Free name) = Unit {0}
 IsProper (Put name start values) = Unit {0}
 IsProper (Get name start len) = Unit {0}
+IsProper Arrays = Unit {0}
+IsProper Used = Unit {0}
 IsProper (Run text) = Unit {0}
 
 abbrev pub name_in : Data → Option (List ℕ)
@@ -42,6 +48,9 @@ numbers_in d = option_and_then some_of (option_and_then all_numbers (as_array d)
 abbrev pub new_of : Data → Data → Option Request
 new_of name len = option_and_then (λ n. option_map (New n) (size_in 1 len)) (name_in name)
 
+abbrev pub free_of : Data → Option Request
+free_of name = option_map Free (name_in name)
+
 abbrev pub put_of : Data → Data → Data → Option Request
 put_of name start values =
     option_and_then (λ n. option_and_then (λ s. option_map (Put n s) (numbers_in values)) (size_in 0 start)) (name_in name)
@@ -49,11 +58,14 @@ put_of name start values =
 abbrev pub get_of : Data → Data → Data → Option Request
 get_of name start len = option_and_then (λ n. option_and_then (λ s. option_map (Get n s) (size_in 1 len)) (size_in 0 start)) (name_in name)
 
--- `["run", program]`, `["new", name, len]`, `["put", name, start, [v, ..]]`, `["get", name, start, len]`
+-- `["list"]`, `["used"]`, `["run", program]`, `["free", name]`, `["new", name, len]`,
+-- `["put", name, start, [v, ..]]`, `["get", name, start, len]`
 abbrev pub form_of : Items → Option Request
 form_of no_items = None
-form_of (item t no_items) = None
-form_of (item t (item a no_items)) = if is_word t (codes "run") then Some (Run a) else None
+form_of (item t no_items) =
+    if is_word t (codes "list") then Some Arrays else (if is_word t (codes "used") then Some Used else None)
+form_of (item t (item a no_items)) =
+    if is_word t (codes "run") then Some (Run a) else (if is_word t (codes "free") then free_of a else None)
 form_of (item t (item a (item b no_items))) = if is_word t (codes "new") then new_of a b else None
 form_of (item t (item a (item b (item c no_items)))) =
     if is_word t (codes "put") then put_of a b c else (if is_word t (codes "get") then get_of a b c else None)

@@ -3,20 +3,20 @@ ghost use Rattle.ot_model.specs.Cells.{lengths};
 ghost use Rattle.ot_model.specs.Names.{FitsShape};
 ghost use Rattle.ot_book.specs.Answers.{shown};
 
-use crate::job::{JobSpec, Outcome};
-use crate::limits::Limits;
-use crate::reply::{Code, Reply};
+use crate::reply::Reply;
 use crate::step::{Considered, consider};
-use crate::store::Store;
+use crate::told::Told;
+use ot_check::{JobSpec, Outcome};
 use ot_model::{Cells, Section};
+use ot_store::{Limits, Store};
 use std::alloc::{AllocError, Global};
 use std::marker::Model;
 
-/// A line with its reply.
+/// A line with what was told.
 #[derive(Debug, Drop)]
 pub struct Entry {
     pub line: Vec<u8>,
-    pub reply: Reply,
+    pub told: Told,
 }
 
 /// A request whose program is to be run: its line, and the lists of its reply at their full length.
@@ -26,7 +26,7 @@ pub struct Pending {
     shows: Vec<Vec<u64>>,
 }
 
-/// The requests of one tenant in order with their replies, and its arrays after them.
+/// The requests of one tenant in order with what was told of each, and its arrays after them.
 #[derive(Debug, Drop)]
 pub struct Book {
     name: String,
@@ -62,11 +62,12 @@ pub enum Opened {
 }
 
 impl Book {
-    ghost use Rattle.std.specs.Prelude.{◌≡◌, ◌↔◌, ℕ, List, Some, None, IfOk, OnErr, IsTrue, IsSome, true, false};
-    ghost use Rattle.ot_book.specs.Books.{IsRight, new_register, logged, with_pending, IsOpenFor};
+    ghost use Rattle.std.specs.Prelude.{◌≡◌, ◌↔◌, ◌<◌, ◌^◌, IfOk, OnErr, IsTrue, IsSome, length, option_map};
+    ghost use Rattle.ot_check.specs.Jobs.{IsMeaning};
+    ghost use Rattle.ot_book.specs.Books.{IsRight, IsOpenFor, new_register, number_at, reply_at, closed, refused, given_up};
+    ghost use Rattle.ot_book.specs.ReplyView.{reply_of};
     ghost use Rattle.ot_book.specs.BookView.{entries_of};
     ghost use Rattle.ot_book.specs.Opening.{Opens, IsFull};
-    ghost use Rattle.ot_book.specs.Outcomes.{IsMeaning};
 
     /// A book that begins with these arrays.
     pub fn new(alloc: Global, name: &str, limits: Limits, store: Store) -> Result<Book, AllocError>
@@ -113,13 +114,39 @@ impl Book {
         &self.store
     }
 
-    /// The lines with their replies, in order. They are right: the replies, the arrays and the used
+    /// The lines with what was told, in order. They are right: what was told, the arrays and the used
     /// units are those that the lines give, one after another, from the arrays at the beginning.
     pub fn log(&self) -> &[Entry]
         ensures entries { entries_of result.now ≡ self.now.log }
         ensures right { IsRight self.now }
     {
         self.log.as_slice()
+    }
+
+    /// The number of the next request.
+    pub fn next_number(&self) -> u64
+        ensures { result ≡ number_at self.now (length self.now.log) }
+    {
+        self.number_at(self.log.len())
+    }
+
+    /// The reply at a place of the log, counted from 0, where the log has it.
+    pub fn reply_at(&self, place: usize) -> Option<Reply<'_>>
+        ensures { option_map reply_of result ≡ reply_at self.now place }
+    {
+        let entry = self.log.get(place)?;
+        Some(Reply {
+            number: self.number_at(place),
+            told: &entry.told,
+        })
+    }
+
+    // The number of the request at a place of the log. Nothing else numbers requests.
+    fn number_at(&self, place: usize) -> u64
+        requires { place < 2 ^ 63 }
+        ensures { result ≡ number_at self.now place }
+    {
+        place as u64 + 1
     }
 
     /// The units of all done replies.
@@ -144,7 +171,7 @@ impl Book {
     }
 
     /// Takes a line as the next request. Memory is told only before the reply's place is reserved,
-    /// and nothing has changed then. Afterwards want of memory is the reply 508.
+    /// and nothing has changed then. Afterwards want of memory is what the tenant is told.
     pub fn open(&mut self, alloc: Global, line: &[u8]) -> Result<Opened, AllocError>
         ensures opened { IfOk result (λ opened. Opens self.old line.now self.new opened) }
         ensures memory { OnErr result (self.new ≡ self.old) }
@@ -154,10 +181,9 @@ impl Book {
         }
         self.log.reserve(1)?;
         let kept = Vec::from_slice(alloc, line)?;
-        let number = self.log.len() as u32 + 1;
-        match consider(alloc, &self.limits, &mut self.store, number, line) {
-            Considered::Now(reply) => {
-                self.log.push_reserved(Entry { line: kept, reply });
+        match consider(alloc, &self.limits, &mut self.store, self.used, line) {
+            Considered::Now(told) => {
+                self.log.push_reserved(Entry { line: kept, told });
                 Ok(Opened::Answered)
             }
             Considered::Runs(spec, shows) => {
@@ -172,39 +198,37 @@ impl Book {
     pub fn close(&mut self, spec: JobSpec, outcome: Outcome)
         requires open { IsOpenFor self.old spec }
         requires meaning { IsMeaning spec outcome }
-        ensures { (line : List ℕ) → self.old.pending ≡ Some line → self.new ≡ logged self.old line false }
+        ensures { self.new ≡ closed self.old }
     {
         let Some(pending) = self.pending.take() else {
             unreachable!()
         };
         let Pending { line, mut shows } = pending;
-        show_all(&mut shows, &spec.program().shows, &outcome.cells);
-        let number = self.log.len() as u32 + 1;
-        let reply = Reply::Done(number, outcome.counts.tasks, outcome.counts.units, shows);
+        show_all(&mut shows, &spec.checked().program.shows, &outcome.cells);
+        let told = Told::Done(outcome.counts.tasks, outcome.counts.units, shows);
         self.store.set_cells(outcome.cells);
         self.used += u64::from(outcome.counts.units);
-        self.log.push_reserved(Entry { line, reply });
+        self.log.push_reserved(Entry { line, told });
     }
 
-    /// Ends the open request for want of memory: 508 is logged, and the arrays and units stay. It
+    /// Ends the open request for want of memory: that is logged, and the arrays and units stay. It
     /// takes no memory.
     pub fn close_refused(&mut self, spec: JobSpec)
         requires { IsOpenFor self.old spec }
-        ensures { (line : List ℕ) → self.old.pending ≡ Some line → self.new ≡ logged self.old line true }
+        ensures { self.new ≡ refused self.old }
     {
         let Some(pending) = self.pending.take() else {
             unreachable!()
         };
         let Pending { line, shows: _ } = pending;
-        let number = self.log.len() as u32 + 1;
-        let reply = Reply::Refused(number, Code::NoMemory);
-        self.log.push_reserved(Entry { line, reply });
+        let told = Told::Lost;
+        self.log.push_reserved(Entry { line, told });
     }
 
     /// Gives the open request up: the book is as before it was opened. It takes no memory.
     pub fn forget(&mut self, spec: JobSpec)
         requires { IsOpenFor self.old spec }
-        ensures { self.new ≡ with_pending self.old None }
+        ensures { self.new ≡ given_up self.old }
     {
         self.pending = None;
     }

@@ -1,16 +1,16 @@
-//! A tenant's book: its arrays, its requests in order and their replies.
+//! A tenant's book: its arrays, its requests in order and what it was told of each.
 #![tactic(auto)]
 
 pub mod book;
-pub mod job;
-pub mod limits;
+pub mod code;
+pub mod executor;
 pub mod reply;
 mod request;
 mod step;
-pub mod store;
+pub mod told;
 
 pub use book::{Book, Entry, Opened};
-pub use job::{Executor, JobSpec, NotDone, Outcome, Solo};
-pub use limits::Limits;
-pub use reply::{Code, Reply, reply_text};
-pub use store::{Store, StoreFault};
+pub use code::Code;
+pub use executor::{Executor, NotDone, Solo};
+pub use reply::{Reply, reply_text};
+pub use told::Told;

@@ -1,186 +1,119 @@
-ghost use Rattle.std.specs.Prelude.{◌≡◌, [], ◌∷◌, ◌++◌, map, IfOk, string_bytes};
+ghost use Rattle.std.specs.Prelude.{◌≡◌, [], ◌∷◌, ◌++◌, map, IfOk, OnOk, string_bytes};
+ghost use Rattle.json.specs.Token as token;
 ghost use Rattle.serde_json.specs.Data.{array, string};
-ghost use Rattle.serde_json.specs.View.{view, items_of};
-ghost use Rattle.ot_book.specs.Replies.{json_of, nat, nats, text_of};
-ghost use Rattle.ot_book.specs.ReplyView.{said_of};
+ghost use Rattle.serde_json.specs.View.{items_of};
+ghost use Rattle.ot_model.specs.ShapeView.{arrays_of};
+ghost use Rattle.ot_book.specs.Replies.{json_of, nat, nats, sized, text_of};
+ghost use Rattle.ot_book.specs.ReplyView.{told_of};
+ghost use Rattle.ot_book.specs.Pieces.{tokens_of, tokens_of_all};
 
-use crate::store::StoreFault;
-use ot_program::{ProgramFault, Refusal};
-use serde_json::Value;
-use std::alloc::{AllocError, AllocFailed, Global};
+use crate::told::Told;
+use json::Writer;
+use ot_model::ArrayShape;
+use std::alloc::{AllocError, Global};
 
-/// Why a request was refused.
-#[derive(Clone, Copy, Debug, PartialEq, Eq)]
-pub enum Code {
-    /// 410: the line is no JSON, no UTF-8, or nested deeper than 127.
-    NotJson,
-    /// 411: the line is JSON, but no request.
-    NotRequest,
-    /// 412: no array has this name.
-    UnknownArray,
-    /// 413: an array has this name already.
-    NameTaken,
-    /// 414: the array has no such cells.
-    OutOfRange,
-    /// 415: too many cells.
-    TooManyCells,
-    /// 416: too many arrays.
-    TooManyArrays,
-    /// The code of the program's refusal.
-    Program(Refusal),
-    /// 508: memory ran out.
-    NoMemory,
-}
-
-impl Code {
-    ghost use Rattle.std.specs.Prelude.{◌≡◌};
-    ghost use Rattle.ot_book.specs.Codes.{number_of};
-
-    /// The number that a client is told.
-    pub fn number(self) -> u32
-        ensures { result ≡ number_of self }
-    {
-        match self {
-            Code::NotJson => 410,
-            Code::NotRequest => 411,
-            Code::UnknownArray => 412,
-            Code::NameTaken => 413,
-            Code::OutOfRange => 414,
-            Code::TooManyCells => 415,
-            Code::TooManyArrays => 416,
-            Code::Program(refusal) => refusal.code(),
-            Code::NoMemory => 508,
-        }
-    }
-}
-
-impl From<AllocError> for Code {
-    ghost use Rattle.std.specs.Prelude.{◌≡◌};
-    ghost use Rattle.ot_book.specs.declared.reply.Code.TheVariants.{NoMemory};
-
-    ghost from_gives = { λ _ c. c ≡ NoMemory };
-
-    fn from(_error: AllocError) -> Code {
-        Code::NoMemory
-    }
-}
-
-impl<T: Drop> From<AllocFailed<T>> for Code {
-    ghost use Rattle.std.specs.Prelude.{◌≡◌};
-    ghost use Rattle.ot_book.specs.declared.reply.Code.TheVariants.{NoMemory};
-
-    ghost from_gives = { λ _ c. c ≡ NoMemory };
-
-    fn from(_error: AllocFailed<T>) -> Code {
-        Code::NoMemory
-    }
-}
-
-impl From<StoreFault> for Code {
-    ghost use Rattle.std.specs.Prelude.{◌≡◌};
-    ghost use Rattle.ot_book.specs.Codes.{code_of_store};
-
-    ghost from_gives = { λ fault c. c ≡ code_of_store fault };
-
-    fn from(fault: StoreFault) -> Code {
-        match fault {
-            StoreFault::UnknownArray => Code::UnknownArray,
-            StoreFault::NameTaken => Code::NameTaken,
-            StoreFault::OutOfRange => Code::OutOfRange,
-            StoreFault::TooManyCells => Code::TooManyCells,
-            StoreFault::TooManyArrays => Code::TooManyArrays,
-            StoreFault::Memory => Code::NoMemory,
-        }
-    }
-}
-
-impl From<ProgramFault> for Code {
-    ghost use Rattle.std.specs.Prelude.{◌≡◌};
-    ghost use Rattle.ot_book.specs.Codes.{code_of_program};
-
-    ghost from_gives = { λ fault c. c ≡ code_of_program fault };
-
-    fn from(fault: ProgramFault) -> Code {
-        match fault {
-            ProgramFault::Memory => Code::NoMemory,
-            ProgramFault::Refused(refusal) => Code::Program(refusal),
-        }
-    }
-}
-
-/// What a tenant is told of one request. Each has the request's number in the log, from 1.
+/// What was told of a request, and the number of the request.
 #[derive(Debug, Drop)]
-pub enum Reply {
-    Accepted(u32),
-    /// The numbers that were asked for.
-    Cells(u32, Vec<u64>),
-    /// Executed task statements, units, and the numbers of each section shown after the run.
-    Done(u32, u32, u32, Vec<Vec<u64>>),
-    Refused(u32, Code),
+pub struct Reply<'a> {
+    pub number: u64,
+    pub told: &'a Told,
 }
 
-/// The reply as compact JSON, with no LF.
-pub fn reply_text(alloc: Global, reply: &Reply) -> Result<String, AllocError>
-    ensures { IfOk result (λ text. string_bytes text ≡ text_of (said_of reply.now)) }
+/// The reply as compact JSON, with no LF. It is written straight from its numbers.
+pub fn reply_text(alloc: Global, reply: &Reply<'_>) -> Result<String, AllocError>
+    ensures { IfOk result (λ text. string_bytes text ≡ text_of reply.now.number (told_of reply.now.told.now)) }
 {
-    reply_value(alloc, reply)?.to_string(alloc)
+    let mut out = Writer::new(Vec::new(alloc));
+    write_told(reply.number, reply.told, &mut out)?;
+    Ok(String::from_utf8(out.into_inner()).unwrap())
 }
 
-fn reply_value(alloc: Global, reply: &Reply) -> Result<Value, AllocError>
-    ensures { IfOk result (λ value. view value ≡ json_of (said_of reply.now)) }
+fn write_told(number: u64, told: &Told, out: &mut Writer) -> Result<(), AllocError>
+    ensures tokens { OnOk result (out.new.tokens ≡ out.old.tokens ++ tokens_of (json_of number (told_of told.now))) }
+    ensures before { out.new.before ≡ out.old.before }
 {
-    match reply {
-        Reply::Accepted(number) => Ok(Value::Array(listed(alloc, "ok", &[*number])?)),
-        Reply::Cells(number, values) => {
-            let list = listed(alloc, "cells", &[*number])?;
-            with_last(list, numbers_value(alloc, values)?)
+    match told {
+        Told::Accepted => write_list("ok", &[number], out),
+        Told::Cells(values) => {
+            write_front("cells", &[number], out)?;
+            write_numbers(values.as_slice(), out)?;
+            out.end_array()
         }
-        Reply::Done(number, tasks, units, shows) => {
-            let list = listed(alloc, "done", &[*number, *tasks, *units])?;
-            with_last(list, shows_value(alloc, shows)?)
+        Told::Arrays(arrays) => {
+            write_front("arrays", &[number], out)?;
+            write_arrays(arrays.as_slice(), out)?;
+            out.end_array()
         }
-        Reply::Refused(number, code) => {
-            Ok(Value::Array(listed(alloc, "err", &[*number, code.number()])?))
+        Told::Used(units) => write_list("used", &[number, *units], out),
+        Told::Done(tasks, units, shows) => {
+            let counts = [number, u64::from(*tasks), u64::from(*units)];
+            write_front("done", &counts, out)?;
+            write_shows(shows.as_slice(), out)?;
+            out.end_array()
         }
+        Told::Refused(code) => write_list("err", &[number, u64::from(code.number())], out),
+        Told::Offends(offence, place) => {
+            let offence = u64::from(offence.code());
+            write_list("err", &[number, offence, u64::from(*place)], out)
+        }
+        Told::Lost => write_list("err", &[number, 508], out),
     }
 }
 
-/// A word, and then numbers.
-fn listed(alloc: Global, word: &str, numbers: &[u32]) -> Result<Vec<Value>, AllocError>
-    ensures { IfOk result (λ list. map view list.items ≡ string word.now ∷ map nat numbers.now) }
+/// An array of a word, and then numbers.
+fn write_list(word: &str, numbers: &[u64], out: &mut Writer) -> Result<(), AllocError>
+    ensures tokens { OnOk result (out.new.tokens ≡ out.old.tokens ++ tokens_of (array (items_of (string word.now ∷ map nat numbers.now)))) }
+    ensures before { out.new.before ≡ out.old.before }
 {
-    let mut list = Vec::with_capacity(alloc, numbers.len() + 2)?;
-    list.push(Value::String(String::from_str(alloc, word)?))?;
+    write_front(word, numbers, out)?;
+    out.end_array()
+}
+
+/// The same without its end.
+fn write_front(word: &str, numbers: &[u64], out: &mut Writer) -> Result<(), AllocError>
+    ensures tokens { OnOk result
+        (out.new.tokens ≡ out.old.tokens ++ (token.begin_array ∷ token.string word.now ∷ tokens_of_all (map nat numbers.now))) }
+    ensures before { out.new.before ≡ out.old.before }
+{
+    out.begin_array()?;
+    out.string(word)?;
     for number in numbers {
-        list.push(Value::from(*number))?;
+        out.u64(*number)?;
     }
-    Ok(list)
+    Ok(())
 }
 
-fn with_last(list: Vec<Value>, last: Value) -> Result<Value, AllocError>
-    ensures { IfOk result (λ value. view value ≡ array (items_of (map view list.items ++ view last ∷ []))) }
+fn write_numbers(numbers: &[u64], out: &mut Writer) -> Result<(), AllocError>
+    ensures tokens { OnOk result (out.new.tokens ≡ out.old.tokens ++ tokens_of (nats numbers.now)) }
+    ensures before { out.new.before ≡ out.old.before }
 {
-    let mut list = list;
-    list.push(last)?;
-    Ok(Value::Array(list))
-}
-
-fn numbers_value(alloc: Global, numbers: &Vec<u64>) -> Result<Value, AllocError>
-    ensures { IfOk result (λ value. view value ≡ nats numbers.now.items) }
-{
-    let mut list = Vec::with_capacity(alloc, numbers.len())?;
+    out.begin_array()?;
     for number in numbers {
-        list.push(Value::from(*number))?;
+        out.u64(*number)?;
     }
-    Ok(Value::Array(list))
+    out.end_array()
 }
 
-fn shows_value(alloc: Global, shows: &Vec<Vec<u64>>) -> Result<Value, AllocError>
-    ensures { IfOk result (λ value. view value ≡ array (items_of (map nats (map (λ s. s.items) shows.now.items)))) }
+fn write_shows(shows: &[Vec<u64>], out: &mut Writer) -> Result<(), AllocError>
+    ensures tokens { OnOk result
+        (out.new.tokens ≡ out.old.tokens ++ tokens_of (array (items_of (map nats (map (λ s. s.items) shows.now))))) }
+    ensures before { out.new.before ≡ out.old.before }
 {
-    let mut list = Vec::with_capacity(alloc, shows.len())?;
+    out.begin_array()?;
     for numbers in shows {
-        list.push(numbers_value(alloc, numbers)?)?;
+        write_numbers(numbers.as_slice(), out)?;
     }
-    Ok(Value::Array(list))
+    out.end_array()
+}
+
+fn write_arrays(arrays: &[ArrayShape], out: &mut Writer) -> Result<(), AllocError>
+    ensures tokens { OnOk result
+        (out.new.tokens ≡ out.old.tokens ++ tokens_of (array (items_of (map sized (arrays_of arrays.now))))) }
+    ensures before { out.new.before ≡ out.old.before }
+{
+    out.begin_array()?;
+    for array in arrays {
+        write_list(array.name.as_str(), &[u64::from(array.len)], out)?;
+    }
+    out.end_array()
 }

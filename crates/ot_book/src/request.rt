@@ -1,6 +1,7 @@
 ghost use Rattle.std.specs.Prelude.{◌≡◌, ◌≤◌, ◌^◌, Some, None, IfOk, IfSome, OnOk, option_map, length};
+ghost use Rattle.serde_json.specs.Data.{item, no_items};
 ghost use Rattle.serde_json.specs.View.{view, items_view};
-ghost use Rattle.ot_book.specs.Requests.{request_of, form_of, name_in, size_in, number_in, numbers_in, all_numbers, new_of, put_of, get_of, IsProper};
+ghost use Rattle.ot_book.specs.Requests.{request_of, form_of, name_in, size_in, number_in, numbers_in, all_numbers, new_of, free_of, put_of, get_of, IsProper};
 ghost use Rattle.ot_book.specs.RequestView.{asked_by};
 
 use ot_program::{is_name, is_word};
@@ -12,10 +13,16 @@ use std::alloc::{AllocError, Global};
 pub(crate) enum Request<'a> {
     /// Make an array of so many cells.
     New(&'a str, u32),
+    /// Take an array away.
+    Free(&'a str),
     /// Write numbers from a cell on.
     Put(&'a str, u32, Vec<u64>),
     /// Read so many cells from one on.
     Get(&'a str, u32, u32),
+    /// Name the arrays.
+    Arrays,
+    /// Tell the units of all done replies.
+    Used,
     /// Run a program.
     Run(&'a Value),
 }
@@ -36,12 +43,16 @@ fn read_form(alloc: Global, items: &[Value]) -> Result<Option<Request<'_>>, Allo
     ensures request { IfOk result (λ request. option_map asked_by request ≡ form_of (items_view items.now)) }
     ensures proper { IfOk result (λ request. IfSome request (λ r. IsProper (asked_by r))) }
 {
-    if items.len() != 2 && items.len() != 3 && items.len() != 4 {
+    let len = items.len();
+    if len != 1 && len != 2 && len != 3 && len != 4 {
         return Ok(None);
     }
     match items {
-        [tag, program] => Ok(if is_word(tag, "run") {
-            Some(Request::Run(program))
+        [tag] => Ok(word_request(tag)),
+        [tag, last] => Ok(if is_word(tag, "run") {
+            Some(Request::Run(last))
+        } else if is_word(tag, "free") {
+            free_request(last)
         } else {
             None
         }),
@@ -61,6 +72,27 @@ fn read_form(alloc: Global, items: &[Value]) -> Result<Option<Request<'_>>, Allo
         }
         _ => unreachable!(),
     }
+}
+
+fn word_request<'a>(tag: &Value) -> Option<Request<'a>>
+    ensures request { option_map asked_by result ≡ form_of (item (view tag.now) no_items) }
+    ensures proper { IfSome result (λ r. IsProper (asked_by r)) }
+{
+    if is_word(tag, "list") {
+        Some(Request::Arrays)
+    } else if is_word(tag, "used") {
+        Some(Request::Used)
+    } else {
+        None
+    }
+}
+
+fn free_request(name: &Value) -> Option<Request<'_>>
+    ensures request { option_map asked_by result ≡ free_of (view name.now) }
+    ensures proper { IfSome result (λ r. IsProper (asked_by r)) }
+{
+    let name = read_name(name)?;
+    Some(Request::Free(name))
 }
 
 fn new_request<'a>(name: &'a Value, len: &Value) -> Option<Request<'a>>

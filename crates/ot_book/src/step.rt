@@ -1,21 +1,24 @@
 ghost use Rattle.std.specs.Prelude.{◌≡◌, ◌≢◌, Some, None, IfOk, IfErr, OnErr, map, length};
 ghost use Rattle.serde_json.specs.View.{view};
-ghost use Rattle.ot_model.specs.Programs.{expanded_of};
-ghost use Rattle.ot_book.specs.Answers.{value_of, step_of, performed, Now};
-ghost use Rattle.ot_book.specs.Codes.{number_of};
-ghost use Rattle.ot_book.specs.Considering.{Considers, ConsidersRequest};
-ghost use Rattle.ot_book.specs.Replies.{Refused};
+ghost use Rattle.ot_model.specs.Shapes.{array_lengths};
+ghost use Rattle.ot_model.specs.Programs.{expanded_of, IsNamedIn};
+ghost use Rattle.ot_program.specs.Programs.{program_of};
+ghost use Rattle.ot_store.specs.Arrays.{shape_in};
+ghost use Rattle.ot_book.specs.Answers.{value_of, step_of, performed, started};
+ghost use Rattle.ot_book.specs.Considering.{Tells, ComesTo};
 ghost use Rattle.ot_book.specs.Requests.{Run, IsProper};
 ghost use Rattle.ot_book.specs.RequestView.{asked_by};
-ghost use Rattle.ot_book.specs.declared.reply.Code.TheVariants.{NoMemory, NotJson};
+ghost use Rattle.ot_book.specs.declared.code.Code.TheVariants.{NotJson};
+ghost use Rattle.ot_book.specs.declared.told.Told.TheVariants.{Refused, Lost};
 
-use crate::job::JobSpec;
-use crate::limits::Limits;
-use crate::reply::{Code, Reply};
+use crate::code::Code;
 use crate::request::{Request, read_request};
-use crate::store::Store;
+use crate::told::Told;
+use ot_check::laws::first_offence_is_first;
+use ot_check::{JobSpec, check};
 use ot_model::Section;
-use ot_program::{Refusal, read_program};
+use ot_program::read_program;
+use ot_store::{Limits, Store};
 use serde_json::Value;
 use std::alloc::{AllocError, Global};
 
@@ -23,58 +26,58 @@ use std::alloc::{AllocError, Global};
 #[derive(Debug, Drop)]
 pub(crate) enum Considered {
     /// It is answered at once.
-    Now(Reply),
+    Now(Told),
     /// It runs a program, whose reply has these lists.
     Runs(JobSpec, Vec<Vec<u64>>),
 }
 
-/// Takes a line as request `number`. Where memory runs out nothing has changed.
+/// Takes a line as the next request, after done replies of `used` units. Where memory runs out
+/// nothing has changed.
 pub(crate) fn consider(
     alloc: Global,
     limits: &Limits,
     store: &mut Store,
-    number: u32,
+    used: u64,
     line: &[u8],
 ) -> Considered
-    ensures { Considers limits.now number store.old line.now store.new result }
+    ensures { ComesTo (step_of limits.now store.old used line.now) store.old store.new result }
 {
-    match attempt(alloc, limits, store, number, line) {
+    match attempt(alloc, limits, store, used, line) {
         Ok(considered) => considered,
-        Err(code) => Considered::Now(Reply::Refused(number, code)),
+        Err(told) => Considered::Now(told),
     }
 }
 
+/// An error is what is told of a request that is refused, and changes nothing.
 fn attempt(
     alloc: Global,
     limits: &Limits,
     store: &mut Store,
-    number: u32,
+    used: u64,
     line: &[u8],
-) -> Result<Considered, Code>
-    ensures ok { IfOk result (λ considered. Considers limits.now number store.old line.now store.new considered) }
-    ensures refused { IfErr result (λ code. code ≢ NoMemory →
-        step_of limits.now number store.old line.now ≡ Now (Refused number (number_of code)) store.old) }
-    ensures kept { OnErr result (store.new ≡ store.old) }
+) -> Result<Considered, Told>
+    ensures ok { IfOk result (λ considered. ComesTo (step_of limits.now store.old used line.now) store.old store.new considered) }
+    ensures refused { IfErr result (λ told. Tells (step_of limits.now store.old used line.now) store.old store.new told) }
 {
     let value = read_line(alloc, line)?;
     let Some(request) = read_request(alloc, &value)? else {
-        return Err(Code::NotRequest);
+        return Err(Told::Refused(Code::NotRequest));
     };
-    perform(alloc, limits, store, number, request)
+    perform(alloc, limits, store, used, request)
 }
 
 /// The value of a line.
-fn read_line(alloc: Global, line: &[u8]) -> Result<Value, Code>
+fn read_line(alloc: Global, line: &[u8]) -> Result<Value, Told>
     ensures ok { IfOk result (λ value. value_of line.now ≡ Some (view value)) }
-    ensures refused { IfErr result (λ code. code ≢ NoMemory → (code ≡ NotJson) × (value_of line.now ≡ None)) }
+    ensures refused { IfErr result (λ told. told ≢ Lost → (told ≡ Refused NotJson) × (value_of line.now ≡ None)) }
 {
     match Value::from_slice(alloc, line) {
         Ok(value) => Ok(value),
         Err(error) => {
             if error.is_memory() {
-                return Err(Code::NoMemory);
+                return Err(Told::Lost);
             }
-            Err(Code::NotJson)
+            Err(Told::Refused(Code::NotJson))
         }
     }
 }
@@ -83,53 +86,51 @@ fn perform(
     alloc: Global,
     limits: &Limits,
     store: &mut Store,
-    number: u32,
+    used: u64,
     request: Request<'_>,
-) -> Result<Considered, Code>
+) -> Result<Considered, Told>
     requires { IsProper (asked_by request) }
-    ensures ok { IfOk result (λ considered. ConsidersRequest limits.now number store.old (asked_by request.entry) store.new considered) }
-    ensures refused { IfErr result (λ code. code ≢ NoMemory →
-        performed limits.now number store.old (asked_by request.entry) ≡ Now (Refused number (number_of code)) store.old) }
-    ensures kept { OnErr result (store.new ≡ store.old) }
+    ensures ok { IfOk result (λ considered. ComesTo (performed limits.now store.old used (asked_by request.entry)) store.old store.new considered) }
+    ensures refused { IfErr result (λ told. Tells (performed limits.now store.old used (asked_by request.entry)) store.old store.new told) }
 {
     match request {
         Request::New(name, len) => {
             store.create(alloc, name, len, limits)?;
-            Ok(Considered::Now(Reply::Accepted(number)))
+            Ok(Considered::Now(Told::Accepted))
+        }
+        Request::Free(name) => {
+            store.free(name)?;
+            Ok(Considered::Now(Told::Accepted))
         }
         Request::Put(name, start, values) => {
             store.put(name, start, values.as_slice())?;
-            Ok(Considered::Now(Reply::Accepted(number)))
+            Ok(Considered::Now(Told::Accepted))
         }
         Request::Get(name, start, len) => {
             let values = store.get(alloc, name, start, len)?;
-            Ok(Considered::Now(Reply::Cells(number, values)))
+            Ok(Considered::Now(Told::Cells(values)))
         }
-        Request::Run(text) => start(alloc, limits, store, number, text),
+        Request::Arrays => Ok(Considered::Now(Told::Arrays(store.list(alloc)?))),
+        Request::Used => Ok(Considered::Now(Told::Used(used))),
+        Request::Run(text) => start(alloc, limits, store, text),
     }
 }
 
-/// Reads a program over the arrays of the store, and makes room for its reply. A program with tasks
-/// or a reduction is refused, as long as nothing checks that it can't race.
-fn start(
-    alloc: Global,
-    limits: &Limits,
-    store: &Store,
-    number: u32,
-    text: &Value,
-) -> Result<Considered, Code>
-    ensures ok { IfOk result (λ considered. ConsidersRequest limits.now number store.now (Run (view text.now)) store.now considered) }
-    ensures refused { IfErr result (λ code. code ≢ NoMemory →
-        performed limits.now number store.now (Run (view text.now)) ≡ Now (Refused number (number_of code)) store.now) }
+/// Reads a program over the arrays of the store, checks that it can't race, and makes room for its
+/// reply.
+fn start(alloc: Global, limits: &Limits, store: &Store, text: &Value) -> Result<Considered, Told>
+    ensures ok { IfOk result (λ considered.
+        ComesTo (started store.now (program_of (shape_in limits.now store.now) (view text.now))) store.now store.now considered) }
+    ensures refused { IfErr result (λ told.
+        Tells (started store.now (program_of (shape_in limits.now store.now) (view text.now))) store.now store.now told) }
 {
     let shape = store.shape(alloc, limits)?;
     let program = read_program(alloc, text, &shape)?;
-    if program.tasks > 0 || program.grouped() {
-        return Err(Code::Program(Refusal::Form));
-    }
+    first_offence_is_first();
+    let checked = check(alloc, program, &shape)?;
     let before = store.cells(alloc)?;
-    let shows = empty_lists(alloc, &program.shows)?;
-    Ok(Considered::Runs(JobSpec::new(program, before), shows))
+    let shows = empty_lists(alloc, &checked.program.shows)?;
+    Ok(Considered::Runs(JobSpec::new(checked, before), shows))
 }
 
 /// A list for each section, as long as it is.

@@ -1,28 +1,23 @@
 -- What a task's body may do, where nothing in the program is an offence.
-use Rattle.std.proofs.Common.{◌≡◌, ◌<◌, ℕ, zero, suc, ◌+◌, ◌%◌, Bool, true, false, not, ◌&&◌, ◌||◌, List, [], ◌∷◌, map, refl, sym, ap, subst, ◌∙◌, ◌⊎◌, inl, inr, arith}
-use Rattle.std.specs.Prelude.{◌==◌, if◌then◌else◌, Option, Some, None}
-use Rattle.std.specs.List.{list_any, range_with_len}
-use Rattle.std.proofs.Math.Nat.{mod-lt}
-use Rattle.std.proofs.lemmas.Bool.Decides.{nat_tests}
-use Rattle.std.proofs.lemmas.List.Folds.{list_any-append}
-use Rattle.ot_model.specs.Tree.{E, Literal, CellAt, Apply, PickFrom, S, Set, Add, If, Task, Wait, Group, Body, End, Next}
-use Rattle.ot_model.specs.Value.{cell_at, cells_named}
-use Rattle.ot_model.specs.Counts.{size, size_one}
+use Rattle.std.proofs.Common.{◌≡◌, ℕ, Bool, true, false, not, ◌&&◌, ◌||◌, List, [], ◌∷◌, refl, sym, subst, ◌∙◌, inl, inr}
+use Rattle.std.specs.Prelude.{Some, None}
+use Rattle.std.specs.List.{list_any}
+use Rattle.ot_model.specs.Tree.{E, S, Set, Add, If, Task, Wait, Group, Body, End, Next}
+use Rattle.ot_model.specs.Value.{cells_named}
 use Rattle.ot_model.specs.Names.{NamedIn, OneNamedIn, ValueNamedIn}
-use Rattle.ot_model.specs.Grouped.{is_adds}
+use Rattle.ot_model.specs.Uses.{is_adds}
 use Rattle.ot_model.specs.declared.expr.Cell.{Cell}
 use Rattle.ot_model.specs.declared.stmt.Mode.{Mode}
 use Rattle.ot_model.specs.declared.stmt.Mode.TheVariants.{Reads, Writes, Adds}
 use Rattle.ot_model.specs.declared.stmt.Use.{Use}
 use Rattle.ot_check.specs.Paths.{use_as}
-use Rattle.ot_check.specs.Offences.{Declared, allows, adds_to, exceeds, misfits, covers, has_cell, Offends, IsFirstOf}
+use Rattle.ot_check.specs.Offences.{Declared, allows, adds_to, exceeds, misfits, covers, has_cell}
 use Rattle.ot_check.specs.walk.Walk.{Children, nobody, nothing_open, behind_one, with_group}
 use Rattle.ot_check.specs.walk.Fine.{IsClean, IsFineInside, IsFine}
 use Rattle.ot_check.specs.Disciplined.{OffendsNowhere}
 use Rattle.ot_model.specs.Cells.{same_cell}
 use Rattle.ot_check.specs.Touches.{EachRead, EachTouch, EachTouchOne, EachTask, EachTaskOne}
-use Rattle.ot_check.specs.declared.fault.Offence.{Offence}
-use Rattle.ot_check.specs.declared.fault.Offence.TheVariants.{NotDeclared, ChildBeyond, ReductionMisuse, ConflictsWithChild, EndsWithChildren}
+use Rattle.ot_check.specs.declared.fault.Offence.TheVariants.{NotDeclared, ChildBeyond, ReductionMisuse}
 use Rattle.ot_check.proofs.OffenceLemmas.{is_offence-Set, is_offence-Add, is_offence-If, is_offence-ChildBeyond, is_offence-ReductionMisuse, is_offence-Group}
 use Rattle.ot_check.proofs.ApartLemmas.{read-weaker, touch-weaker}
 use Rattle.ot_check.proofs.SameLemmas.{same_is}

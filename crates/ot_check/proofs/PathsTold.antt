@@ -1,7 +1,7 @@
 -- What stands on some path is met by the walk.
 use Rattle.std.proofs.Common.{◌≡◌, ◌≢◌, ℕ, ◌+◌, ◌++◌, Bool, true, false, not, ◌&&◌, ◌||◌, List, [], ◌∷◌, map, refl, sym, ap, subst, inl, inr, ◌∙◌, append_assoc, append-nil}
 use Rattle.std.specs.Prelude.{◌⊎◌, Some, if◌then◌else◌}
-use Rattle.ot_model.specs.Grouped.{is_adds}
+use Rattle.ot_model.specs.Uses.{is_adds}
 use Rattle.std.specs.List.{list_any}
 use Rattle.ot_model.specs.Tree.{S, Set, Add, If, Task, Wait, Group, Body, End, Next}
 use Rattle.ot_model.specs.Counts.{size, size_one}
@@ -13,7 +13,7 @@ use Rattle.ot_check.specs.Offences.{Declared, adds_to, allows, breaks, misfits, 
 use Rattle.ot_check.specs.walk.Walk.{Children, may_break, anyone, nobody, nothing_open, behind_one, with_group, is_offence, marks, after}
 use Rattle.ot_check.proofs.Steps.{some_unawaited, closed_of, touched-balanced, touched-open, touched-unawaited, touched-waits, passes_one-closed, passes_one-open, unawaited-append, open-append}
 use Rattle.ot_check.specs.declared.fault.Offence.{Offence}
-use Rattle.ot_check.specs.declared.fault.Offence.TheVariants.{NotDeclared, ChildBeyond, ReductionMisuse, ConflictsWithChild, EndsWithChildren}
+use Rattle.ot_check.specs.declared.fault.Offence.TheVariants.{ReductionMisuse, ConflictsWithChild, EndsWithChildren}
 use Rattle.ot_check.proofs.After.{after-from, after-from_one}
 use Rattle.ot_check.proofs.Meeting.{Meets, MeetsOne}
 use Rattle.ot_check.proofs.Bits.{true_or, or_right, or_none, and_one, any-same, any-more}

@@ -1,6 +1,6 @@
 -- What stands at a place, from cell to cell.
-use Rattle.std.proofs.Common.{take_all, zero-add, ◌≡◌, ◌≢◌, ◌<◌, ◌≤◌, ℕ, zero, suc, ◌+◌, ◌++◌, Bool, true, false, not, ◌&&◌, ◌||◌, List, [], ◌∷◌, length, map, take, get_or, refl, sym, ap, subst, ◌∙◌, ◌⊎◌, inl, inr, arith}
-use Rattle.std.specs.Prelude.{Some, None, IsSome, slice_get, option_and_then, All, ◌==◌}
+use Rattle.std.proofs.Common.{take_all, zero-add, ◌≡◌, ◌≢◌, ◌<◌, ◌≤◌, ℕ, zero, suc, ◌+◌, ◌++◌, Bool, true, false, not, ◌&&◌, ◌||◌, List, [], ◌∷◌, length, map, take, get_or, refl, sym, ap, subst, ◌∙◌, inl, inr, arith}
+use Rattle.std.specs.Prelude.{Some, None, IsSome, slice_get, option_and_then, All}
 use Rattle.std.specs.List.{list_any, range_with_len}
 use Rattle.std.proofs.lemmas.List.FromFn.{length-map-range_with_len, get_or-map-range_with_len, map-range_with_len_more}
 use Rattle.ot_model.specs.Value.{cell_at}
@@ -9,8 +9,7 @@ use Rattle.std.proofs.lemmas.List.Folds.{list_any-append, list_any_more, list_an
 use Rattle.std.proofs.lemmas.List.Elements.{All-get_or}
 use Rattle.std.proofs.lemmas.List.{take_more}
 use Rattle.ot_model.specs.Names.{IsInShape}
-use Rattle.ot_model.specs.Grouped.{is_adds}
-use Rattle.ot_model.specs.Uses.{conflicts}
+use Rattle.ot_model.specs.Uses.{conflicts, is_adds}
 use Rattle.ot_model.specs.declared.expr.Cell.{Cell}
 use Rattle.ot_model.specs.declared.stmt.Mode.{Mode}
 use Rattle.ot_model.specs.declared.stmt.Mode.TheVariants.{Reads, Writes, Adds}
@@ -29,7 +28,7 @@ use Rattle.ot_check.specs.declared.standing.Standing.{Standing}
 use Rattle.ot_check.proofs.GridLemmas.{found_at-filled}
 use Rattle.ot_check.proofs.SameLemmas.{same_itself, same_apart, cells_equal}
 use Rattle.ot_check.proofs.StateLemmas.{found_at-merged, found_at-cleared, at_map}
-use Rattle.ot_check.proofs.Bits.{or_none, and_false, or_assoc, any-same, none_any}
+use Rattle.ot_check.proofs.Bits.{or_none, or_assoc, any-same, none_any}
 
 -- ---- cells that are there
 

@@ -3,7 +3,7 @@ use Rattle.std.proofs.Common.{◌≡◌, Bool, true, false, not, ◌&&◌, ◌||
 use Rattle.std.specs.Prelude.{if◌then◌else◌, Some}
 use Rattle.std.specs.List.{list_any}
 use Rattle.ot_model.specs.Cells.{same_cell}
-use Rattle.ot_model.specs.Grouped.{is_adds}
+use Rattle.ot_model.specs.Uses.{is_adds}
 use Rattle.ot_model.specs.declared.expr.Cell.{Cell}
 use Rattle.ot_model.specs.declared.stmt.Mode.{Mode}
 use Rattle.ot_model.specs.declared.stmt.Mode.TheVariants.{Reads, Writes, Adds}

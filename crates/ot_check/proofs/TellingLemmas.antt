@@ -1,5 +1,5 @@
 -- What the walk tells, from part to whole.
-use Rattle.std.proofs.Common.{◌≡◌, ℕ, ◌+◌, Bool, sym, ap, subst, ◌∙◌, Ok, Err, Result, IsErrAnd}
+use Rattle.std.proofs.Common.{◌≡◌, ℕ, Bool, sym, ap, subst, ◌∙◌, Err, Result, IsErrAnd}
 use Rattle.std.specs.Prelude.{Option, None, IsErr}
 use Rattle.std.specs.Option.{option_or}
 use Rattle.std.proofs.lemmas.Result.{err_from_is_err_and}

@@ -1,5 +1,5 @@
 -- Laws of bodies, for whoever runs them in another order.
-use Rattle.std.specs.Prelude.{◌≡◌, ℕ, true, List, Some, None}
+use Rattle.std.specs.Prelude.{◌≡◌, ℕ, true, List, Some}
 use Rattle.ot_model.specs.Tree.{Body}
 use Rattle.ot_model.specs.Names.{NamedIn}
 use Rattle.ot_model.specs.Serial.{State, serial}

@@ -4,8 +4,7 @@ use Rattle.std.specs.List.{list_any}
 use Rattle.ot_model.specs.Tree.{S, Set, Add, If, Task, Wait, Group, Body, End, Next}
 use Rattle.ot_model.specs.Cells.{same_cell}
 use Rattle.ot_model.specs.Counts.{size, size_one}
-use Rattle.ot_model.specs.Grouped.{is_adds}
-use Rattle.ot_model.specs.Uses.{conflicts}
+use Rattle.ot_model.specs.Uses.{conflicts, is_adds}
 use Rattle.ot_model.specs.declared.expr.Cell.{Cell}
 use Rattle.ot_model.specs.declared.stmt.Mode.{Mode}
 use Rattle.ot_model.specs.declared.stmt.Mode.TheVariants.{Reads, Writes, Adds}

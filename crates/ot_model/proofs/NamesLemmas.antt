@@ -1,13 +1,12 @@
 -- A cell that is named in the shape is there.
-use Rattle.std.proofs.Common.{◌≡◌, ℕ, ◌+◌, ◌^◌, ◌<◌, ◌≤◌, List, [], ◌∷◌, length, sym, ap, ◌∙◌, arith}
+use Rattle.std.proofs.Common.{◌≡◌, ℕ, ◌<◌, List, length, sym, ap, ◌∙◌, arith}
 use Rattle.std.specs.Prelude.{Option, Some, None, IsSome, is_some, option_map, option_and_then, slice_get}
 use Rattle.std.proofs.lemmas.Option.{slice_get-map, slice_get-get_or}
 use Rattle.ot_model.specs.Tree.{E, Literal, CellAt, Apply, PickFrom, Body, End, Next, append}
 use Rattle.ot_model.specs.Cells.{cell_of, lengths}
 use Rattle.ot_model.specs.Value.{HasAll, cell_at}
-use Rattle.ot_model.specs.Names.{IsInShape, FitsShape, ValueNamedIn, NamedIn}
+use Rattle.ot_model.specs.Names.{IsInShape, ValueNamedIn, NamedIn}
 use Rattle.ot_model.specs.declared.expr.Cell.{Cell}
-use Rattle.ot_model.specs.declared.expr.Section.{Section}
 
 found_row : (o : Option (List ℕ)) (len i : ℕ) → option_map length o ≡ Some len → i < len → IsSome (option_and_then (λ row. slice_get row i) o)
 found_row None len i there within = cc

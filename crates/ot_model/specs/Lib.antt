@@ -7,7 +7,6 @@ pub mod Meeting
 pub mod Shapes
 pub mod ShapeView
 pub mod Counts
-pub mod Grouped
 pub mod Serial
 pub mod Names
 pub mod Runs

@@ -15,6 +15,10 @@ AreInOrder [] = Unit {0}
 AreInOrder (u ∷ []) = Unit {0}
 AreInOrder (u ∷ v ∷ us) = Precedes u.cell v.cell × AreInOrder (v ∷ us)
 
+abbrev pub is_adds : Mode → Bool
+is_adds Adds = true
+is_adds _ = false
+
 -- whether two uses of one cell conflict: they do unless both read or both add
 abbrev pub conflicts : Mode → Mode → Bool
 conflicts Reads Reads = false

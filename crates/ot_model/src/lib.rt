@@ -4,7 +4,6 @@
 
 pub mod cells;
 pub mod expr;
-mod grouped;
 mod meeting;
 pub mod plain;
 pub mod program;

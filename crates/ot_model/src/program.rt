@@ -3,7 +3,6 @@ ghost use Rattle.ot_model.specs.View.{stmts_of};
 ghost use Rattle.ot_model.specs.Counts.{size, tasks_in};
 
 use crate::expr::Section;
-use crate::grouped::is_grouped;
 use crate::stmt::{Stmt, copy_stmts};
 use std::alloc::{AllocError, Global};
 
@@ -23,14 +22,6 @@ pub struct Program {
 impl Program {
     ghost use Rattle.std.specs.Prelude.{IfOk};
     ghost use Rattle.ot_model.specs.Programs.{expanded_of};
-    ghost use Rattle.ot_model.specs.Grouped.{is_grouped};
-
-    /// Whether a group, or a declaration that adds, stands anywhere in the body. It takes no memory.
-    pub fn grouped(&self) -> bool
-        ensures { result ≡ is_grouped (stmts_of self.now.body.items) }
-    {
-        is_grouped(&self.body)
-    }
 
     /// The same program once more.
     pub fn copy(&self, alloc: Global) -> Result<Program, AllocError>

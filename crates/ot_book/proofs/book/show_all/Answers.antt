@@ -3,8 +3,7 @@ use Rattle.std.proofs.Common.{◌≡◌, ◌+◌, ◌<◌, [], length, get_or, s
 use Rattle.std.proofs.Math.Seq.{map-set_same}
 use Rattle.ot_model.specs.Cells.{lengths}
 use Rattle.ot_model.specs.Names.{FitsShape}
-use Rattle.ot_book.proofs.ArraysLemmas.{list-at}
-use Rattle.ot_book.proofs.ShownLemmas.{shown_one, shown-more, section-fits, list-long, as-many}
+use Rattle.ot_book.proofs.ShownLemmas.{shown_one, list-at, shown-more, section-fits, list-long, as-many}
 use Rattle.ot_book.proofs.book.show_all.Goals as goal
 
 pub show-requires : goal.show-requires

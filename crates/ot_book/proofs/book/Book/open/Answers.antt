@@ -1,13 +1,14 @@
-use Rattle.std.proofs.Common.{◌≡◌, ◌+◌, ◌++◌, [], ◌∷◌, length, sym, ap, ◌∙◌, subst, refl, arith, ◌≤◌, ◌⊎◌, vec_len, None}
+use Rattle.std.proofs.Common.{◌≡◌, ◌+◌, ◌++◌, [], ◌∷◌, sym, ap, ◌∙◌, subst, refl, arith, ◌≤◌, ◌⊎◌, vec_len, None}
 use Rattle.std.specs.Prelude.{option_map}
-use Rattle.ot_book.specs.Replies.{Refused}
-use Rattle.ot_book.specs.Answers.{Now, step_of}
+use Rattle.ot_book.specs.Replies.{Lost}
+use Rattle.ot_book.specs.Answers.{Now}
+use Rattle.ot_book.specs.Books.{next_step}
 use Rattle.ot_book.specs.declared.book.Book.TheInside.{Inside}
-use Rattle.ot_book.specs.ReplyView.{said_of}
+use Rattle.ot_book.specs.ReplyView.{told_of}
 use Rattle.ot_book.specs.BookView.{register_of, entries_of}
 use Rattle.ot_book.specs.Opening.{IsFull, AnswersNow}
 use Rattle.ot_book.proofs.CloseLemmas.{entries_of-pushed, register-is}
-use Rattle.ot_book.proofs.OpenLemmas.{free_from, book-logged, length-entries_of, answered-now, not_pending, not_at_limit}
+use Rattle.ot_book.proofs.OpenLemmas.{free_from, book-logged, answered-now, not_pending, not_at_limit}
 use Rattle.ot_book.proofs.book.Book.open.Goals as goal
 
 -- the fields after the reply was logged
@@ -29,18 +30,15 @@ answers_now : (c : goal.After-push_reserved) → AnswersNow (register_of c.self.
 answers_now c =
     let inside = c.self.inside in
     let b = register_of inside in
-    let n = c.len.result + 1 in
-    let said = said_of c.in-Now.reply in
+    let told = told_of c.in-Now.told in
     let store = c.consider.new.store in
     let line = c.args.line.now in
     let closed : inside.pending ≡ None = not_pending inside (free_at c) in
-    let count : n ≡ length b.log + 1 =
-    omega (arith, c.len.ensures, c.in_ok-reserve.ensures.len, length-entries_of inside.log.items, inside.log.ok.0) in
-    let items = c.push_reserved.ensures.items ∙ ap (λ es. es ++ record { line = c.in_ok-kept.kept; reply = c.in-Now.reply } ∷ []) c.in_ok-reserve.ensures.items in
-    let log : entries_of c.push_reserved.new.self.items ≡ b.log ++ (line, said) ∷ [] =
-    entries_of-pushed inside.log.items c.push_reserved.new.self.items _ items ∙ ap (λ l. b.log ++ (l, said) ∷ []) c.in_ok-kept.ensures.items in
-    let came : ((said ≡ Refused n 508) × (store ≡ b.store)) ⊎ (step_of b.limits n b.store line ≡ Now said store) = c.in-Now.ensures in
-    let now = answered-now b line n said store (ap (option_map (λ q. q.line.items)) closed) count came in
+    let items = c.push_reserved.ensures.items ∙ ap (λ es. es ++ record { line = c.in_ok-kept.kept; told = c.in-Now.told } ∷ []) c.in_ok-reserve.ensures.items in
+    let log : entries_of c.push_reserved.new.self.items ≡ b.log ++ (line, told) ∷ [] =
+    entries_of-pushed inside.log.items c.push_reserved.new.self.items _ items ∙ ap (λ l. b.log ++ (l, told) ∷ []) c.in_ok-kept.ensures.items in
+    let came : ((told ≡ Lost) × (store ≡ b.store)) ⊎ (next_step b line ≡ Now told store) = c.in-Now.ensures in
+    let now = answered-now b line told store (ap (option_map (λ q. q.line.items)) closed) came in
     subst (AnswersNow b line) (sym (register-is b store store _ _ b.pending b.pending b.used b.used refl log refl refl)) now
 
 pub invariant_of-self-in-Now : goal.invariant_of-self-in-Now

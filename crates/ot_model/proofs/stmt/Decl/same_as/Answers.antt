@@ -1,4 +1,4 @@
-use Rattle.std.proofs.Common.{◌≡◌, ◌∙◌, sym}
+use Rattle.std.proofs.Common.{◌∙◌, sym}
 use Rattle.std.proofs.lemmas.Slice.Eq.{slice_eq-Decides}
 use Rattle.ot_model.proofs.EqualLemmas.{use-decides}
 use Rattle.ot_model.proofs.stmt.Decl.same_as.Goals as goal

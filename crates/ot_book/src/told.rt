@@ -1,0 +1,101 @@
+use crate::code::Code;
+use ot_check::{CheckFault, Offence};
+use ot_model::ArrayShape;
+use ot_program::ProgramFault;
+use ot_store::{StoreFault, StoreRefusal};
+use std::alloc::{AllocError, AllocFailed};
+
+/// What a tenant is told of one request.
+#[derive(Debug, Drop)]
+pub enum Told {
+    Accepted,
+    /// The numbers that were asked for.
+    Cells(Vec<u64>),
+    /// The arrays in order of creation.
+    Arrays(Vec<ArrayShape>),
+    /// The units of all done replies.
+    Used(u64),
+    /// Executed task statements, units, and the numbers of each section shown after the run.
+    Done(u32, u32, Vec<Vec<u64>>),
+    Refused(Code),
+    /// The program could race: its first offence, and the number of the statement, from 1.
+    Offends(Offence, u32),
+    /// 508: memory ran out.
+    Lost,
+}
+
+impl From<AllocError> for Told {
+    ghost use Rattle.std.specs.Prelude.{◌≡◌};
+    ghost use Rattle.ot_book.specs.declared.told.Told.TheVariants.{Lost};
+
+    ghost from_gives = { λ _ told. told ≡ Lost };
+
+    fn from(_error: AllocError) -> Told {
+        Told::Lost
+    }
+}
+
+impl<T: Drop> From<AllocFailed<T>> for Told {
+    ghost use Rattle.std.specs.Prelude.{◌≡◌};
+    ghost use Rattle.ot_book.specs.declared.told.Told.TheVariants.{Lost};
+
+    ghost from_gives = { λ _ told. told ≡ Lost };
+
+    fn from(_error: AllocFailed<T>) -> Told {
+        Told::Lost
+    }
+}
+
+impl From<StoreRefusal> for Told {
+    ghost use Rattle.std.specs.Prelude.{◌≡◌};
+    ghost use Rattle.ot_book.specs.declared.code.Code.TheVariants.{Store};
+    ghost use Rattle.ot_book.specs.declared.told.Told.TheVariants.{Refused};
+
+    ghost from_gives = { λ refusal told. told ≡ Refused (Store refusal) };
+
+    fn from(refusal: StoreRefusal) -> Told {
+        Told::Refused(Code::Store(refusal))
+    }
+}
+
+impl From<StoreFault> for Told {
+    ghost use Rattle.std.specs.Prelude.{◌≡◌};
+    ghost use Rattle.ot_book.specs.Faults.{told_by_store};
+
+    ghost from_gives = { λ fault told. told ≡ told_by_store fault };
+
+    fn from(fault: StoreFault) -> Told {
+        match fault {
+            StoreFault::Memory => Told::Lost,
+            StoreFault::Refused(refusal) => Told::Refused(Code::Store(refusal)),
+        }
+    }
+}
+
+impl From<ProgramFault> for Told {
+    ghost use Rattle.std.specs.Prelude.{◌≡◌};
+    ghost use Rattle.ot_book.specs.Faults.{told_by_program};
+
+    ghost from_gives = { λ fault told. told ≡ told_by_program fault };
+
+    fn from(fault: ProgramFault) -> Told {
+        match fault {
+            ProgramFault::Memory => Told::Lost,
+            ProgramFault::Refused(refusal) => Told::Refused(Code::Program(refusal)),
+        }
+    }
+}
+
+impl From<CheckFault> for Told {
+    ghost use Rattle.std.specs.Prelude.{◌≡◌};
+    ghost use Rattle.ot_book.specs.Faults.{told_by_check};
+
+    ghost from_gives = { λ fault told. told ≡ told_by_check fault };
+
+    fn from(fault: CheckFault) -> Told {
+        match fault {
+            CheckFault::Memory => Told::Lost,
+            CheckFault::Offence(offence, place) => Told::Offends(offence, place),
+        }
+    }
+}
