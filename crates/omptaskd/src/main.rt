@@ -9,13 +9,16 @@ ghost use Rattle.omptaskd.specs.Fault.{status_of};
 pub mod asked;
 pub mod command_line;
 pub mod fault;
+#[cfg(test)]
+mod tests;
 
 pub use asked::Words;
 use clap::error::ErrorKind;
 pub use command_line::words;
 pub use fault::{Fault, fault_line};
-use ot_book::{Book, Limits, Solo, Store};
+use ot_book::{Book, Solo};
 use ot_front::{End, Reading, Writing, serve};
+use ot_store::{Limits, Store};
 use std::alloc::Global;
 use std::env::Env;
 use std::process::ExitCode;

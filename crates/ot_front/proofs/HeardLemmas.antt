@@ -1,17 +1,11 @@
--- What a session hears of one byte more, and what a book is after one line more.
-use Rattle.std.proofs.Common.{◌≡◌, ◌≢◌, ℕ, ◌+◌, ◌≤◌, ◌<◌, List, [], ◌∷◌, ◌++◌, length, refl, sym, ap, ◌∙◌, arith, append_assoc, append-nil, length-append, Bool, true, false}
-use Rattle.std.specs.Prelude.{Option, Some, None, fold, nat_le, is_some, if◌then◌else◌, IsSome, ◌==◌, ◌↔◌}
+-- What a session hears of a byte, a line or a piece more.
+use Rattle.std.proofs.Common.{◌≡◌, ◌≢◌, ℕ, suc, ◌+◌, ◌≤◌, ◌<◌, List, [], ◌∷◌, ◌++◌, length, refl, sym, ap, ◌∙◌, arith, append_assoc, append-nil, length-append, Bool, true, false}
+use Rattle.std.specs.Prelude.{Some, None, fold, nat_le, is_some, if◌then◌else◌, ◌==◌}
 use Rattle.std.proofs.Common.{inl, inr}
-use Rattle.std.proofs.Math.ListN.{length-map}
-use Rattle.std.proofs.lemmas.List.{map-append}
 use Rattle.std.proofs.lemmas.List.Sums.{fold-append}
 use Rattle.std.proofs.lemmas.Bool.{le-leb}
 use Rattle.std.proofs.lemmas.Bool.Decides.{leb_tells, nat_tests}
-use Rattle.ot_book.specs.Books.{Register, logged}
-use Rattle.ot_book.specs.Opening.{IsFull}
-use Rattle.ot_front.specs.Heard.{Heard, nothing_heard, hear, heard, with_line, with_byte, is_bye, max_line}
-use Rattle.ot_front.specs.Told.{after, told, reply_to, reply_line, room_of}
-use Rattle.ot_front.specs.Session.{Lines, texts}
+use Rattle.ot_front.specs.Heard.{Heard, nothing_heard, hear, heard, with_line, with_byte, is_bye, max_line, HasNoEnd}
 use Rattle.ot_front.specs.declared.fault.End.{End}
 use Rattle.ot_front.specs.declared.fault.End.TheVariants.{Bye, Full, LongLine}
 
@@ -45,66 +39,12 @@ pub with_byte-more : (lines : List (List ℕ)) (partial : List ℕ) (byte : ℕ)
     with_byte (at_line lines partial) byte ≡ at_line lines (partial ++ byte ∷ [])
 with_byte-more lines partial byte short = rw (not_le max_line (length partial) short) refl
 
--- ---- the book after lines
-
-pub after-more : (book : Register) (lines : Lines) (line : List ℕ × Bool) → after book (lines ++ line ∷ []) ≡ logged (after book lines) line.0 line.1
-after-more book [] line = refl
-after-more book (l ∷ lines) line = after-more (logged book l.0 l.1) lines line
-
-pub told-more : (book : Register) (lines : Lines) (line : List ℕ × Bool) →
-    told book (lines ++ line ∷ []) ≡ told book lines ++ reply_line (reply_to (after book lines) line)
-told-more book [] line = simp append-nil refl
-told-more book (l ∷ lines) line =
-    ap (λ rest. reply_line (reply_to book l) ++ rest) (told-more (logged book l.0 l.1) lines line)
-    ∙ sym (append_assoc (reply_line (reply_to book l)) (told (logged book l.0 l.1) lines) (reply_line (reply_to (after (logged book l.0 l.1) lines) line)))
-
-pub limits-after : (book : Register) (lines : Lines) → (after book lines).limits ≡ book.limits
-limits-after book [] = refl
-limits-after book (l ∷ lines) = limits-after (logged book l.0 l.1) lines
-
-pub length-log-after : (book : Register) (lines : Lines) → length (after book lines).log ≡ length book.log + length lines
-length-log-after book [] = omega arith
-length-log-after book (l ∷ lines) =
-    let one : length (logged book l.0 l.1).log ≡ length book.log + 1 = length-append book.log ((l.0, reply_to book l) ∷ []) in
-    omega (arith, one, length-log-after (logged book l.0 l.1) lines)
-
-pub pending-after : (book : Register) (lines : Lines) → book.pending ≡ None → (after book lines).pending ≡ None
-pending-after book [] closed = closed
-pending-after book (l ∷ lines) closed = pending-after (logged book l.0 l.1) lines refl
-
-some_none : {A : Type 0} (o : Option A) → o ≡ None → IsSome o → ⊥
-some_none None none some = cc
-some_none (Some x) none some = cc
-
--- the log after the lines is full exactly where it had room for no more
-pub full-after : (book : Register) (lines : Lines) → book.pending ≡ None → IsFull (after book lines) → room_of book ≤ length lines
-full-after book lines closed (inl limit) =
-    let limits : (after book lines).limits.log ≡ book.limits.log = ap (λ l. l.log) (limits-after book lines) in
-    omega (arith, limit, limits, length-log-after book lines)
-full-after book lines closed (inr some) = let none = pending-after book lines closed in absurd (some_none _ none some)
-
-pub free-after : (book : Register) (lines : Lines) → ¬ (IsFull (after book lines)) → length lines < room_of book
-free-after book lines free =
-    let limits : (after book lines).limits.log ≡ book.limits.log = ap (λ l. l.log) (limits-after book lines) in
-    let below : (after book lines).limits.log ≤ length (after book lines).log → ⊥ = λ le. free (inl le) in
-    omega (arith, below, limits, length-log-after book lines)
-
-pub length-texts : (lines : Lines) → length (texts lines) ≡ length lines
-length-texts lines = length-map lines (λ (l : List ℕ × Bool). l.0)
-
-pub texts-more : (lines : Lines) (line : List ℕ × Bool) → texts (lines ++ line ∷ []) ≡ texts lines ++ line.0 ∷ []
-texts-more lines line = map-append (λ (l : List ℕ × Bool). l.0) lines (line ∷ [])
-
 eqb_other : (byte : ℕ) → byte ≢ 10 → (byte == 10) ≡ false
 eqb_other byte other = grind (arith, nat_tests)
 
 -- a byte that isn't an LF
 pub hear-other : (room : ℕ) (lines : List (List ℕ)) (partial : List ℕ) (byte : ℕ) → byte ≢ 10 → hear room (at_line lines partial) byte ≡ with_byte (at_line lines partial) byte
 hear-other room lines partial byte other = rw (eqb_other byte other) refl
-
--- a test that answered no
-pub not_so : (P : Type 0) (test : Bool) → ((test ≡ true) ↔ P) → test ≡ false → ¬ P
-not_so P test tells no_test = λ so. let yes : test ≡ true = tells.1 so in cc
 
 -- ---- more bytes
 
@@ -148,3 +88,39 @@ lines_grow room h (b ∷ more) =
     let one = grows-hear room h b in
     let rest = lines_grow room (hear room h b) more in
     (one.0 ++ rest.0, rest.1 ∙ ap (λ ls. ls ++ rest.0) one.1 ∙ append_assoc h.lines one.0 rest.0)
+
+-- ---- a piece of a line, in which no LF stands
+
+without_first : (b : ℕ) (bs : List ℕ) → HasNoEnd (b ∷ bs) → HasNoEnd bs
+without_first b bs clean = λ k within. clean (suc k) (omega (arith, within))
+
+-- a piece is appended
+pub heard-piece : (room : ℕ) (lines : List (List ℕ)) (partial piece : List ℕ) → HasNoEnd piece → length partial + length piece ≤ max_line →
+    fold (hear room) (at_line lines partial) piece ≡ at_line lines (partial ++ piece)
+heard-piece room lines partial [] clean fits = ap (at_line lines) (sym (append-nil partial))
+heard-piece room lines partial (b ∷ bs) clean fits =
+    let one : hear room (at_line lines partial) b ≡ at_line lines (partial ++ b ∷ []) =
+    hear-other room lines partial b (clean 0 (omega arith)) ∙ with_byte-more lines partial b (omega (arith, fits)) in
+    let long : length (partial ++ b ∷ []) ≡ length partial + 1 = length-append partial (b ∷ []) in
+    ap (λ h. fold (hear room) h bs) one
+    ∙ heard-piece room lines (partial ++ b ∷ []) bs (without_first b bs clean) (omega (arith, fits, long))
+    ∙ ap (at_line lines) (append_assoc partial (b ∷ []) bs)
+
+-- a piece that is too long for a line
+pub heard-long : (room : ℕ) (lines : List (List ℕ)) (partial piece : List ℕ) → HasNoEnd piece → length partial ≤ max_line → max_line < length partial + length piece →
+    (part : List ℕ) × (fold (hear room) (at_line lines partial) piece ≡ record { lines = lines; partial = part; end = Some LongLine })
+heard-long room lines partial [] clean short long = absurd (omega (arith, short, long))
+heard-long room lines partial (b ∷ bs) clean short long =
+    let other = hear-other room lines partial b (clean 0 (omega arith)) in
+    elim (leb_tells max_line (length partial)) [
+      | inl (test, past) ↦ (
+        partial,
+        ap (λ h. fold (hear room) h bs) (other ∙ with_byte-long lines partial b past)
+            ∙ heard_ended room (record { lines = lines; partial = partial; end = Some LongLine }) LongLine bs refl,
+      )
+      | inr (test, below) ↦ (
+          let more : length (partial ++ b ∷ []) ≡ length partial + 1 = length-append partial (b ∷ []) in
+          let rest = heard-long room lines (partial ++ b ∷ []) bs (without_first b bs clean) (omega (arith, below, more)) (omega (arith, long, more)) in
+          (rest.0, ap (λ h. fold (hear room) h bs) (other ∙ with_byte-more lines partial b (omega (arith, below))) ∙ rest.1)
+          )
+    ]

@@ -1,7 +1,9 @@
 pub mod Appending
 pub mod Counting
 pub mod FaultLemmas
-pub mod BookSteps
-pub mod AnsweredLemmas
 pub mod HeardLemmas
+pub mod ToldLemmas
+pub mod RunLemmas
 pub mod SessionLemmas
+pub mod ChunkLemmas
+pub mod ServingLemmas

@@ -1,7 +1,11 @@
 -- What a session hears: its input as lines, and where it ends.
-use Rattle.std.specs.Prelude.{ℕ, ◌==◌, ◌||◌, List, [], ◌∷◌, ◌++◌, length, reverse, fold, codes, bytes_eq, nat_le, is_some, Bool, if◌then◌else◌, Option, Some, None}
+use Rattle.std.specs.Prelude.{◌≢◌, ◌<◌, ℕ, slice_index, ◌==◌, ◌||◌, List, [], ◌∷◌, ◌++◌, length, reverse, fold, codes, bytes_eq, nat_le, is_some, Bool, if◌then◌else◌, Option, Some, None}
 use Rattle.ot_front.specs.declared.fault.End.{End}
 use Rattle.ot_front.specs.declared.fault.End.TheVariants.{Bye, Full, LongLine}
+
+-- no LF stands in the bytes
+abbrev pub HasNoEnd : List ℕ → Type 0
+HasNoEnd bytes = (k : ℕ) → k < length bytes → slice_index bytes k ≢ 10
 
 -- the white space of JSON that a line can have: space, tab, CR
 abbrev pub is_blank : ℕ → Bool

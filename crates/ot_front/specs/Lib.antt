@@ -4,5 +4,4 @@ pub mod Writing
 pub mod Heard
 pub mod Told
 pub mod Session
-pub mod Answering
 pub mod Serving

@@ -1,63 +1,88 @@
 -- What a session writes, and what it leaves, is a function of what it reads.
-use Rattle.std.specs.Prelude.{◌≡◌, ◌⊎◌, ℕ, List, [], ◌∷◌, ◌++◌, take, map, Bool, Option, Some, None, Result, Ok, Err}
+use Rattle.std.specs.Prelude.{◌≡◌, ◌≤◌, ◌⊎◌, ℕ, ◌-◌, List, [], ◌∷◌, ◌++◌, length, take, slice_get, codes, Bool, Option, Some, None, Result, Ok, Err}
 use Rattle.std.specs.Io.KnownBytes.{Appends, Consumes}
 use Rattle.ot_book.specs.Books.{Register}
 use Rattle.ot_front.specs.Heard.{Heard, heard}
-use Rattle.ot_front.specs.Told.{reply_line, reply_to, after, told, closing, room_of}
+use Rattle.ot_front.specs.Told.{Lines, marked, after, told, RunsProgram}
 use Rattle.ot_front.specs.declared.fault.End.{End}
-use Rattle.ot_front.specs.declared.fault.End.TheVariants.{Bye, EndOfInput, Full, LongLine, Closed}
+use Rattle.ot_front.specs.declared.fault.End.TheVariants.{EndOfInput, Full, LongLine, Closed}
 use Rattle.ot_front.specs.declared.fault.FrontFault.{FrontFault}
-use Rattle.ot_front.specs.declared.fault.FrontFault.TheVariants.{ReadFailed, WriteFailed, Memory, Stranger, TooManyTurns}
+use Rattle.ot_front.specs.declared.fault.FrontFault.TheVariants.{WriteFailed, Memory, Stranger}
 
--- lines, each with whether it was answered for want of memory
-abbrev pub Lines : Type 0
-Lines = List (List ℕ × Bool)
+-- how a session closes
+abbrev pub closing : Option End → List ℕ
+closing (Some Full) = codes "[\"full\"]" ++ 10 ∷ []
+closing (Some LongLine) = codes "[\"long\"]" ++ 10 ∷ []
+closing end = []
 
-abbrev pub texts : Lines → List (List ℕ)
-texts lines = map (λ l. l.0) lines
+-- how many lines the log has room for
+abbrev pub room_of : Register → ℕ
+room_of book = book.limits.log - length book.log
 
--- some line was heard and isn't logged
-abbrev pub LeavesNext : Heard → Lines → Type 0
-LeavesNext h lines = (next : List ℕ) × (rest : List (List ℕ)) × (h.lines ≡ texts lines ++ next ∷ rest)
+-- what a session hears in the bytes
+abbrev pub heard_in : Register → List ℕ → Heard
+heard_in book bytes = heard (room_of book) bytes
 
--- all lines are logged
-abbrev pub LogsAll : Heard → Lines → Type 0
-LogsAll h lines = h.lines ≡ texts lines
+-- What a session writes: the replies to the lines that it hears in the bytes, and then how it closes.
+-- Beside the first lines stands whether they are answered for want of memory.
+abbrev pub session_text : Register → List ℕ → List Bool → List ℕ
+session_text book bytes lost =
+    let h = heard_in book bytes in
+    told book (marked h.lines lost) ++ closing h.end
 
--- The text that was written is the beginning of the session's, and of the replies to the logged
--- lines it misses at most bytes of the last.
-abbrev pub WritesFront : Register → Heard → Lines → List ℕ → Type 0
-WritesFront first h lines written =
-    (written ≡ told first lines)
-    ⊎ (((before : Lines) × (last : List ℕ × Bool) × (n : ℕ)
-    × (lines ≡ before ++ last ∷ []) × (written ≡ told first before ++ take n (reply_line (reply_to (after first before) last))))
-    ⊎ (LogsAll h lines × ((n : ℕ) × (written ≡ told first lines ++ take n (closing h.end)))))
+-- the first of the lines, one for each mark: they are logged
+abbrev pub logged_lines : Register → List ℕ → List Bool → Lines
+logged_lines book bytes lost = take (length lost) (marked (heard_in book bytes).lines lost)
 
--- how the session's text ends in each case
-abbrev pub EndsAs : Register → Heard → Lines → List ℕ → Result End FrontFault → Type 0
-EndsAs first h lines written (Ok Bye) = (h.end ≡ Some Bye) × LogsAll h lines × (written ≡ told first lines)
-EndsAs first h lines written (Ok EndOfInput) = (h.end ≡ None) × LogsAll h lines × (written ≡ told first lines)
-EndsAs first h lines written (Ok Full) = (h.end ≡ Some Full) × LogsAll h lines × (written ≡ told first lines ++ closing (Some Full))
-EndsAs first h lines written (Ok LongLine) = (h.end ≡ Some LongLine) × LogsAll h lines × (written ≡ told first lines ++ closing (Some LongLine))
-EndsAs first h lines written (Ok Closed) = LeavesNext h lines × (written ≡ told first lines)
-EndsAs first h lines written (Err ReadFailed) = (h.end ≡ None) × LogsAll h lines × (written ≡ told first lines)
-EndsAs first h lines written (Err TooManyTurns) = (h.end ≡ None) × LogsAll h lines × (written ≡ told first lines)
-EndsAs first h lines written (Err Stranger) = LeavesNext h lines × (written ≡ told first lines)
-EndsAs first h lines written (Err WriteFailed) = WritesFront first h lines written
-EndsAs first h lines written (Err Memory) = WritesFront first h lines written
+-- All lines are logged, the whole text is written, and the session has come to this end.
+pub record TellsAll (book : Register) (bytes : List ℕ) (lost : List Bool) (written : List ℕ) (end : Option End) : Type 0 where
+  pub ends : (heard_in book bytes).end ≡ end
+  pub logs : length lost ≡ length (heard_in book bytes).lines
+  pub tells : written ≡ session_text book bytes lost
 
--- The session has ended: the lines that it logged are the first of those that were heard.
-pub record Ended (first : Register) (start : Option (List ℕ)) (bytes : List ℕ) (book : Register) (held : Option (List ℕ)) (result : Result End FrontFault) : Type 0 where
-  pub lines : Lines
-  pub rest : List (List ℕ)
-  pub first_lines : (heard (room_of first) bytes).lines ≡ texts lines ++ rest
-  pub logs : book ≡ after first lines
+-- The next line runs a program and isn't logged. The replies to the lines before it are written, and
+-- nothing else.
+pub record LeavesRun (book : Register) (bytes : List ℕ) (lost : List Bool) (written : List ℕ) : Type 0 where
+  pub next : List ℕ
+  pub is_next : slice_get (heard_in book bytes).lines (length lost) ≡ Some next
+  pub runs : RunsProgram (after book (logged_lines book bytes lost)) next
+  pub tells : written ≡ told book (logged_lines book bytes lost)
+
+-- A beginning of the text is written. Of the replies to the lines that are logged at most bytes of the
+-- last are missing, and no other line is answered.
+pub record BreaksOff (book : Register) (bytes : List ℕ) (lost : List Bool) (written : List ℕ) : Type 0 where
+  pub missing : List ℕ
+  pub begins : session_text book bytes lost ≡ written ++ missing
+  pub all_but_last : length (told book (take (length lost - 1) (logged_lines book bytes lost))) ≤ length written
+  pub no_other : (length written ≤ length (told book (logged_lines book bytes lost))) ⊎ (length lost ≡ length (heard_in book bytes).lines)
+
+-- what is written and logged, by the result
+abbrev pub Tells : Register → List ℕ → List Bool → List ℕ → Result End FrontFault → Type 0
+Tells book bytes lost written (Ok EndOfInput) = TellsAll book bytes lost written None
+Tells book bytes lost written (Ok Closed) = LeavesRun book bytes lost written
+Tells book bytes lost written (Ok end) = TellsAll book bytes lost written (Some end)
+Tells book bytes lost written (Err Stranger) = LeavesRun book bytes lost written
+Tells book bytes lost written (Err WriteFailed) = BreaksOff book bytes lost written
+Tells book bytes lost written (Err Memory) = BreaksOff book bytes lost written
+Tells book bytes lost written (Err fault) = TellsAll book bytes lost written None
+
+-- A session over bytes: the first of the lines that it hears are logged, and so much of its text is
+-- written as its result tells.
+pub record Session (old new : Register) (bytes : List ℕ) (start held : Option (List ℕ)) (result : Result End FrontFault) : Type 0 where
+  pub lost : List Bool
   pub written : List ℕ
+  pub few : length lost ≤ length (heard_in old bytes).lines
+  pub logs : new ≡ after old (logged_lines old bytes lost)
   pub writes : Appends start held written
-  pub ends : EndsAs first (heard (room_of first) bytes) lines written result
+  pub tells : Tells old bytes lost written result
 
--- A session over the bytes that it read.
-pub record Serves (old new : Register) (ahead left start held : Option (List ℕ)) (result : Result End FrontFault) : Type 0 where
-  pub bytes : List ℕ
-  pub reads : Consumes ahead left bytes
-  pub ended : Ended old start bytes new held result
+-- A session over the bytes that it read. Before the last read, which gave at most `latest` of them, it
+-- had heard no end, and it has logged all lines that it had heard.
+pub record Serves (old new : Register) (ahead left : Option (List ℕ)) (latest : ℕ) (start held : Option (List ℕ)) (result : Result End FrontFault) : Type 0 where
+  pub before : List ℕ
+  pub last : List ℕ
+  pub reads : Consumes ahead left (before ++ last)
+  pub few : length last ≤ latest
+  pub session : Session old new (before ++ last) start held result
+  pub goes_on : (heard_in old before).end ≡ None
+  pub logs : length (heard_in old before).lines ≤ length session.lost

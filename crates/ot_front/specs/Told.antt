@@ -1,38 +1,44 @@
--- What a session tells: the replies to the lines that it heard, and how it says that it ends.
-use Rattle.std.specs.Prelude.{ℕ, ◌-◌, List, [], ◌∷◌, ◌++◌, length, codes, Bool, Option, Some, None}
-use Rattle.ot_book.specs.Answers.{answer_or_lost}
-use Rattle.ot_book.specs.Books.{Register, state_in, logged}
-use Rattle.ot_book.specs.Replies.{Said, text_of}
-use Rattle.ot_front.specs.declared.fault.End.{End}
-use Rattle.ot_front.specs.declared.fault.End.TheVariants.{Bye, EndOfInput, Full, LongLine, Closed}
+-- The replies to lines, one after another.
+use Rattle.std.specs.Prelude.{ℕ, List, [], ◌∷◌, ◌++◌, map, Bool, false, length, ◌-◌, ◌≡◌, option_map, unwrap_or}
+use Rattle.ot_model.specs.Programs.{Expanded}
+use Rattle.ot_book.specs.Answers.{Runs}
+use Rattle.ot_book.specs.Books.{Register, next_step, reply_at, logged}
+use Rattle.ot_book.specs.Replies.{text_of}
 
--- a reply, ended by one LF
-abbrev pub reply_line : Said → List ℕ
-reply_line said = text_of said ++ 10 ∷ []
+-- lines, each with whether it is answered for want of memory
+abbrev pub Lines : Type 0
+Lines = List (List ℕ × Bool)
 
--- the reply to a line, beside which stands whether it is told for want of memory
-abbrev pub reply_to : Register → List ℕ × Bool → Said
-reply_to book line = (answer_or_lost book.limits (state_in book) line.0 line.1).0
+abbrev pub texts : Lines → List (List ℕ)
+texts lines = map (λ l. l.0) lines
+
+abbrev pub marks : Lines → List Bool
+marks lines = map (λ l. l.1) lines
+
+-- the lines with these marks beside them, and after the last mark with none
+abbrev pub marked : List (List ℕ) → List Bool → Lines
+marked [] lost = []
+marked (line ∷ lines) [] = (line, false) ∷ marked lines []
+marked (line ∷ lines) (mark ∷ lost) = (line, mark) ∷ marked lines lost
 
 -- the book after the lines, one after another
-abbrev pub after : Register → List (List ℕ × Bool) → Register
+abbrev pub after : Register → Lines → Register
 after book [] = book
 after book (line ∷ lines) = after (logged book line.0 line.1) lines
 
+-- the last reply of a log, ended by one LF
+abbrev pub last_reply : Register → List ℕ
+last_reply book = unwrap_or (option_map (λ r. text_of r.0 r.1 ++ 10 ∷ []) (reply_at book (length book.log - 1))) []
+
+-- the reply to a line as the next request: it stands last once the line is logged
+abbrev pub reply_line : Register → List ℕ × Bool → List ℕ
+reply_line book line = last_reply (logged book line.0 line.1)
+
 -- the replies to the lines, one after another
-abbrev pub told : Register → List (List ℕ × Bool) → List ℕ
+abbrev pub told : Register → Lines → List ℕ
 told book [] = []
-told book (line ∷ lines) = reply_line (reply_to book line) ++ told (logged book line.0 line.1) lines
+told book (line ∷ lines) = reply_line book line ++ told (logged book line.0 line.1) lines
 
--- what is written at the end of a session
-abbrev pub closing : Option End → List ℕ
-closing None = []
-closing (Some Bye) = []
-closing (Some EndOfInput) = []
-closing (Some Full) = codes "[\"full\"]" ++ 10 ∷ []
-closing (Some LongLine) = codes "[\"long\"]" ++ 10 ∷ []
-closing (Some Closed) = []
-
--- how many lines the log has room for
-abbrev pub room_of : Register → ℕ
-room_of book = book.limits.log - length book.log
+-- the line runs a program
+abbrev pub RunsProgram : Register → List ℕ → Type 0
+RunsProgram book line = (program : Expanded) × (next_step book line ≡ Runs program)

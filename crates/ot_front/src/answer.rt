@@ -1,19 +1,19 @@
 //! One line of a session: the book takes it, and its reply is written.
-ghost use Rattle.std.specs.Prelude.{◌≡◌, ◌≢◌, ◌<◌, None, Err, length};
+ghost use Rattle.std.specs.Prelude.{◌≡◌, ◌≢◌, ◌<◌, ◌⊎◌, ℕ, Bool, None, length, take, string_bytes, IfOk, IfErr, OnOk, OnErr};
 ghost use Rattle.std.specs.Io.KnownBytes.{Appends};
 ghost use Rattle.ot_book.specs.Books.{logged};
 ghost use Rattle.ot_book.specs.Opening.{IsFull};
-ghost use Rattle.ot_book.specs.Replies.{Said};
-ghost use Rattle.ot_front.specs.Device.{next_count};
-ghost use Rattle.ot_front.specs.Told.{reply_line};
-ghost use Rattle.ot_front.specs.Answering.{Answers, Replies};
-ghost use Rattle.ot_front.specs.declared.fault.FrontFault.TheVariants.{ReadFailed, WriteFailed, TooManyTurns};
+ghost use Rattle.ot_book.specs.declared.executor.NotDone.TheVariants as not_done;
+ghost use Rattle.ot_front.specs.Device.{count_after};
+ghost use Rattle.ot_front.specs.Told.{last_reply, RunsProgram};
+ghost use Rattle.ot_front.specs.Serving.{failed_writes};
+ghost use Rattle.ot_front.specs.declared.stop.Stop.TheVariants.{WriteFailed, Memory};
 
 use crate::device::Sink;
-use crate::fault::{End, FrontFault};
+use crate::stop::Stop;
 use crate::whole::write_whole;
 use ot_book::{Book, Executor, NotDone, Opened, reply_text};
-use std::alloc::Global;
+use std::alloc::{AllocError, Global};
 
 /// Takes a line as the next request and performs it whole. Where there is no pool to run on, or the
 /// pool doesn't know the tenant, or memory ran out before the reply's place was reserved, the book
@@ -23,54 +23,65 @@ pub(crate) fn answer<E: Executor>(
     book: &mut Book,
     executor: &mut E,
     line: &[u8],
-) -> Result<Option<End>, FrontFault>
+) -> Result<(), NotDone>
     requires closed { book.old.pending ≡ None }
     requires free { ¬ (IsFull book.old) }
-    ensures { Answers book.old line.now book.new result }
+    ensures logged { OnOk result ((lost : Bool) × (book.new ≡ logged book.old line.now lost)) }
+    ensures unlogged { OnErr result (book.new ≡ book.old) }
+    ensures runs { IfErr result (λ why. why ≢ not_done.Memory → RunsProgram book.old line.now) }
 {
-    match book.open(alloc, line)? {
+    let Ok(opened) = book.open(alloc, line) else {
+        return Err(NotDone::Memory);
+    };
+    match opened {
         Opened::Full => unreachable!(),
-        Opened::Answered => Ok(None),
+        Opened::Answered => Ok(()),
         Opened::ToRun(spec) => match executor.perform(alloc, &spec) {
             Ok(outcome) => {
                 book.close(spec, outcome);
-                Ok(None)
+                Ok(())
             }
             Err(NotDone::Memory) => {
                 book.close_refused(spec);
-                Ok(None)
+                Ok(())
             }
             Err(NotDone::Closed) => {
                 book.forget(spec);
-                Ok(Some(End::Closed))
+                Err(NotDone::Closed)
             }
             Err(NotDone::Stranger) => {
                 book.forget(spec);
-                Err(FrontFault::Stranger)
+                Err(NotDone::Stranger)
             }
         },
     }
 }
 
 /// Writes the reply to the last line of the book, ended by one LF.
-pub(crate) fn write_last<W: Sink>(
-    alloc: Global,
-    book: &Book,
-    sink: &mut W,
-) -> Result<(), FrontFault>
+pub(crate) fn write_last<W: Sink>(alloc: Global, book: &Book, sink: &mut W) -> Result<(), Stop>
     requires { 0 < length book.now.log }
-    ensures replies { Replies book.now (W.contents sink.old) (W.contents sink.new) result }
-    ensures worked { result ≢ Err WriteFailed → W.failures sink.new ≡ W.failures sink.old }
-    ensures failed { result ≡ Err WriteFailed → W.failures sink.new ≡ next_count (W.failures sink.old) }
-    ensures not_read { (result ≢ Err ReadFailed) × (result ≢ Err TooManyTurns) }
+    ensures written { OnOk result (Appends (W.contents sink.old) (W.contents sink.new) (last_reply book.now)) }
+    ensures cut { OnErr result ((n : ℕ) × Appends (W.contents sink.old) (W.contents sink.new) (take n (last_reply book.now))) }
+    ensures stops { IfErr result (λ stop. (stop ≡ WriteFailed) ⊎ (stop ≡ Memory)) }
+    ensures failures { W.failures sink.new ≡ count_after (failed_writes result) (W.failures sink.old) }
 {
-    let Some(entry) = book.log().last() else {
+    let Ok(text) = last_text(alloc, book) else {
+        return Err(Stop::Memory);
+    };
+    match write_whole(sink, text.as_bytes()) {
+        Ok(()) => Ok(()),
+        Err(_) => Err(Stop::WriteFailed),
+    }
+}
+
+fn last_text(alloc: Global, book: &Book) -> Result<String, AllocError>
+    requires { 0 < length book.now.log }
+    ensures { IfOk result (λ text. string_bytes text ≡ last_reply book.now) }
+{
+    let Some(reply) = book.reply_at(book.log().len() - 1) else {
         unreachable!()
     };
-    let mut text = reply_text(alloc, &entry.reply)?;
+    let mut text = reply_text(alloc, &reply)?;
     text.push('\n')?;
-    if write_whole(sink, text.as_bytes()).is_err() {
-        return Err(FrontFault::WriteFailed);
-    }
-    Ok(())
+    Ok(text)
 }

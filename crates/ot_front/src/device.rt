@@ -15,6 +15,9 @@ pub trait Source {
     // The bytes still to come, where they are known.
     ghost ahead: { Self → Option (List ℕ) };
 
+    // How many bytes its last read gave.
+    ghost latest: { Self → ℕ };
+
     // How often it was read, failed, and told the end of input.
     ghost reads: { Self → ℕ };
 
@@ -28,6 +31,10 @@ pub trait Source {
         ensures bound { IfOk result (λ n. n ≤ length buffer.new) }
         ensures bytes { ReadConsumes (ahead self.old) (ahead self.new) result buffer.new }
         ensures counted { reads self.new ≡ next_count (reads self.old) }
+
+        // How many bytes it gave.
+        ensures gave { IfOk result (λ n. latest self.new ≡ n) }
+        ensures gave_none { OnErr result (latest self.new ≡ 0) }
 
         // How often it failed.
         ensures worked { OnOk result (failures self.new ≡ failures self.old) }

@@ -1,8 +1,4 @@
 //! How a session ends.
-ghost use Rattle.std.specs.Prelude.{◌≡◌};
-ghost use Rattle.ot_front.specs.declared.fault.FrontFault.TheVariants.{Memory};
-
-use std::alloc::{AllocError, AllocFailed};
 use thiserror::Error;
 
 /// Why a session ended where nothing went wrong.
@@ -33,20 +29,4 @@ pub enum FrontFault {
     Stranger,
     #[error("a session read 1000000 times, and its input had not ended")]
     TooManyTurns,
-}
-
-impl From<AllocError> for FrontFault {
-    ghost from_gives = { λ _ e. e ≡ Memory };
-
-    fn from(_error: AllocError) -> FrontFault {
-        FrontFault::Memory
-    }
-}
-
-impl<T: Drop> From<AllocFailed<T>> for FrontFault {
-    ghost from_gives = { λ _ e. e ≡ Memory };
-
-    fn from(_error: AllocFailed<T>) -> FrontFault {
-        FrontFault::from(AllocError)
-    }
 }

@@ -7,6 +7,7 @@ pub mod fault;
 mod line;
 pub mod reader;
 pub mod session;
+mod stop;
 pub mod whole;
 pub mod writer;
 

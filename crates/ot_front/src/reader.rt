@@ -9,6 +9,7 @@ use std::io::Read;
 #[derive(Drop)]
 pub struct Reading<R: Read> {
     reader: R,
+    latest: usize,
     reads: u64,
     failures: u64,
     ends: u64,
@@ -26,6 +27,7 @@ impl<R: Read> Reading<R> {
     {
         Reading {
             reader,
+            latest: 0,
             reads: 0,
             failures: 0,
             ends: 0,
@@ -42,6 +44,8 @@ impl<R: Read> Reading<R> {
 impl<R: Read> Source for Reading<R> {
     ghost ahead = { λ s. R.remaining s.reader };
 
+    ghost latest = { λ s. s.latest };
+
     ghost reads = { λ s. s.reads };
 
     ghost failures = { λ s. s.failures };
@@ -50,10 +54,12 @@ impl<R: Read> Source for Reading<R> {
 
     fn read(&mut self, buffer: &mut [u8]) -> Result<usize, Failed> {
         self.reads = self.reads.wrapping_add(1);
+        self.latest = 0;
         let Ok(count) = self.reader.read(buffer) else {
             self.failures = self.failures.wrapping_add(1);
             return Err(Failed);
         };
+        self.latest = count;
         if count == 0 {
             self.ends = self.ends.wrapping_add(1);
         }

@@ -1,10 +1,11 @@
 //! A session from bytes to bytes: lines come in, one reply goes out for each.
-ghost use Rattle.std.specs.Prelude.{◌≡◌, ◌≢◌, ◌++◌, ◌∷◌, ◌<◌, [], ℕ, List, Option, None, Ok, Err, length};
+ghost use Rattle.std.specs.Prelude.{◌≡◌, ◌≢◌, ◌++◌, ◌∷◌, ◌<◌, ◌≤◌, [], ℕ, List, Option, None, Ok, Err, length};
 ghost use Rattle.std.specs.Io.KnownBytes.{IsAtEnd};
 ghost use Rattle.ot_book.specs.Books.{Register};
 ghost use Rattle.ot_front.specs.Device.{next_count, count_after};
+ghost use Rattle.ot_front.specs.Heard.{HasNoEnd};
 ghost use Rattle.ot_front.specs.Session.{Serves};
-ghost use Rattle.ot_front.specs.Serving.{Going, Goes};
+ghost use Rattle.ot_front.specs.Serving.{failed_writes, Going, Goes};
 ghost use Rattle.ot_front.specs.declared.fault.End.TheVariants.{EndOfInput};
 ghost use Rattle.ot_front.specs.declared.fault.FrontFault.TheVariants.{ReadFailed, WriteFailed, TooManyTurns};
 
@@ -12,8 +13,10 @@ use crate::answer::{answer, write_last};
 use crate::device::{Sink, Source};
 use crate::fault::{End, FrontFault};
 use crate::line::is_bye;
+use crate::stop::Stop;
 use crate::whole::write_whole;
-use ot_book::{Book, Executor};
+use memchr::memchr;
+use ot_book::{Book, Executor, NotDone};
 use std::alloc::Global;
 
 /// How many bytes a line may have, without its LF.
@@ -36,20 +39,20 @@ pub fn serve<E: Executor, R: Source, W: Sink>(
     sink: &mut W,
 ) -> Result<End, FrontFault>
     requires { book.old.pending ≡ None }
-    ensures serves { Serves book.old book.new (R.ahead source.old) (R.ahead source.new)
+    ensures serves { Serves book.old book.new (R.ahead source.old) (R.ahead source.new) (R.latest source.new)
         (W.contents sink.old) (W.contents sink.new) result }
     ensures closed { book.new.pending ≡ None }
+    ensures reads { (k : ℕ) × (k ≤ 1000000) × (R.reads source.new ≡ count_after k (R.reads source.old)) }
+    ensures turns { result ≡ Err TooManyTurns → R.reads source.new ≡ count_after 1000000 (R.reads source.old) }
     ensures at_end { result ≡ Ok EndOfInput → IsAtEnd (R.ahead source.new) }
     ensures end_told { result ≡ Ok EndOfInput → R.ends source.new ≡ next_count (R.ends source.old) }
     ensures read_failed { result ≡ Err ReadFailed → R.failures source.new ≡ next_count (R.failures source.old) }
     ensures read_worked { result ≢ Err ReadFailed → R.failures source.new ≡ R.failures source.old }
     ensures write_failed { result ≡ Err WriteFailed → W.failures sink.new ≡ next_count (W.failures sink.old) }
     ensures write_worked { result ≢ Err WriteFailed → W.failures sink.new ≡ W.failures sink.old }
-    ensures turns { result ≡ Err TooManyTurns → R.reads source.new ≡ count_after 1000000 (R.reads source.old) }
 {
-    let mut room = match vec![in alloc; 0u8; READ_SIZE] {
-        Ok(room) => room,
-        Err(_) => return Err(FrontFault::Memory),
+    let Ok(mut room) = vec![in alloc; 0u8; READ_SIZE] else {
+        return Err(FrontFault::Memory);
     };
     converse(alloc, book, executor, source, sink, room.as_mut_slice())
 }
@@ -66,16 +69,17 @@ fn converse<E: Executor, R: Source, W: Sink>(
 ) -> Result<End, FrontFault>
     requires closed { book.old.pending ≡ None }
     requires room { 0 < length room.old }
-    ensures serves { Serves book.old book.new (R.ahead source.old) (R.ahead source.new)
+    ensures serves { Serves book.old book.new (R.ahead source.old) (R.ahead source.new) (R.latest source.new)
         (W.contents sink.old) (W.contents sink.new) result }
     ensures closed { book.new.pending ≡ None }
+    ensures reads { (k : ℕ) × (k ≤ 1000000) × (R.reads source.new ≡ count_after k (R.reads source.old)) }
+    ensures turns { result ≡ Err TooManyTurns → R.reads source.new ≡ count_after 1000000 (R.reads source.old) }
     ensures at_end { result ≡ Ok EndOfInput → IsAtEnd (R.ahead source.new) }
     ensures end_told { result ≡ Ok EndOfInput → R.ends source.new ≡ next_count (R.ends source.old) }
     ensures read_failed { result ≡ Err ReadFailed → R.failures source.new ≡ next_count (R.failures source.old) }
     ensures read_worked { result ≢ Err ReadFailed → R.failures source.new ≡ R.failures source.old }
     ensures write_failed { result ≡ Err WriteFailed → W.failures sink.new ≡ next_count (W.failures sink.old) }
     ensures write_worked { result ≢ Err WriteFailed → W.failures sink.new ≡ W.failures sink.old }
-    ensures turns { result ≡ Err TooManyTurns → R.reads source.new ≡ count_after 1000000 (R.reads source.old) }
 {
     let mut partial = Vec::new(alloc);
     for _ in 0..MAX_READS {
@@ -85,10 +89,8 @@ fn converse<E: Executor, R: Source, W: Sink>(
         if count == 0 {
             return Ok(End::EndOfInput);
         }
-        match take_chunk(alloc, book, executor, sink, &mut partial, &room[..count]) {
-            Ok(None) => {}
-            Ok(Some(end)) => return Ok(end),
-            Err(fault) => return Err(fault),
+        if let Err(stop) = take_chunk(alloc, book, executor, sink, &mut partial, &room[..count]) {
+            return stop.result();
         }
     }
     Err(FrontFault::TooManyTurns)
@@ -102,54 +104,66 @@ fn take_chunk<E: Executor, W: Sink>(
     sink: &mut W,
     partial: &mut Vec<u8>,
     chunk: &[u8],
-) -> Result<Option<End>, FrontFault>
+) -> Result<(), Stop>
     ensures goes { (first : Register) (start : Option (List ℕ)) (bytes : List ℕ) → first.pending ≡ None →
         Going first start bytes partial.old.items book.old (W.contents sink.old) →
         Goes first start (bytes ++ chunk.now) partial.new.items book.new (W.contents sink.new) result }
-    ensures worked { result ≢ Err WriteFailed → W.failures sink.new ≡ W.failures sink.old }
-    ensures failed { result ≡ Err WriteFailed → W.failures sink.new ≡ next_count (W.failures sink.old) }
-    ensures not_read { (result ≢ Err ReadFailed) × (result ≢ Err TooManyTurns) }
+    ensures grows { length book.old.log ≤ length book.new.log }
+    ensures failures { W.failures sink.new ≡ count_after (failed_writes result) (W.failures sink.old) }
 {
-    for byte in chunk {
-        match take_byte(alloc, book, executor, sink, partial, *byte) {
-            Ok(None) => {}
-            Ok(Some(end)) => return Ok(Some(end)),
-            Err(fault) => return Err(fault),
+    let mut rest = chunk;
+    while let Some(at) = memchr(b'\n', rest) {
+        let (piece, behind) = rest.split_at(at);
+        let (_, after) = behind.split_at(1);
+        if let Err(stop) = take_last_piece(alloc, book, executor, sink, partial, piece) {
+            return Err(stop);
         }
+        rest = after;
     }
-    Ok(None)
+    take_piece(sink, partial, rest)
 }
 
-/// One byte more of the input.
-fn take_byte<E: Executor, W: Sink>(
+/// The last piece of a line, behind which its LF stands.
+fn take_last_piece<E: Executor, W: Sink>(
     alloc: Global,
     book: &mut Book,
     executor: &mut E,
     sink: &mut W,
     partial: &mut Vec<u8>,
-    byte: u8,
-) -> Result<Option<End>, FrontFault>
+    piece: &[u8],
+) -> Result<(), Stop>
+    requires { HasNoEnd piece.now }
     ensures goes { (first : Register) (start : Option (List ℕ)) (bytes : List ℕ) → first.pending ≡ None →
         Going first start bytes partial.old.items book.old (W.contents sink.old) →
-        Goes first start (bytes ++ byte ∷ []) partial.new.items book.new (W.contents sink.new) result }
-    ensures worked { result ≢ Err WriteFailed → W.failures sink.new ≡ W.failures sink.old }
-    ensures failed { result ≡ Err WriteFailed → W.failures sink.new ≡ next_count (W.failures sink.old) }
-    ensures not_read { (result ≢ Err ReadFailed) × (result ≢ Err TooManyTurns) }
+        Goes first start ((bytes ++ piece.now) ++ 10 ∷ []) partial.new.items book.new (W.contents sink.new) result }
+    ensures grows { length book.old.log ≤ length book.new.log }
+    ensures failures { W.failures sink.new ≡ count_after (failed_writes result) (W.failures sink.old) }
 {
-    if byte == b'\n' {
-        let ended = take_line(alloc, book, executor, sink, partial);
-        partial.clear();
-        return ended;
+    if let Err(stop) = take_piece(sink, partial, piece) {
+        return Err(stop);
     }
-    if partial.len() >= MAX_LINE {
+    let taken = take_line(alloc, book, executor, sink, partial);
+    partial.clear();
+    taken
+}
+
+/// A piece of a line, without its LF.
+fn take_piece<W: Sink>(sink: &mut W, partial: &mut Vec<u8>, piece: &[u8]) -> Result<(), Stop>
+    requires { HasNoEnd piece.now }
+    ensures goes { (first : Register) (start : Option (List ℕ)) (bytes : List ℕ) (book : Register) →
+        Going first start bytes partial.old.items book (W.contents sink.old) →
+        Goes first start (bytes ++ piece.now) partial.new.items book (W.contents sink.new) result }
+    ensures failures { W.failures sink.new ≡ count_after (failed_writes result) (W.failures sink.old) }
+{
+    if partial.len() + piece.len() > MAX_LINE {
         return match write_whole(sink, b"[\"long\"]\n".as_slice()) {
-            Ok(()) => Ok(Some(End::LongLine)),
-            Err(_) => Err(FrontFault::WriteFailed),
+            Ok(()) => Err(Stop::LongLine),
+            Err(_) => Err(Stop::WriteFailed),
         };
     }
-    match partial.push(byte) {
-        Ok(()) => Ok(None),
-        Err(_) => Err(FrontFault::Memory),
+    match partial.extend_from_slice(piece) {
+        Ok(()) => Ok(()),
+        Err(_) => Err(Stop::Memory),
     }
 }
 
@@ -160,29 +174,26 @@ fn take_line<E: Executor, W: Sink>(
     executor: &mut E,
     sink: &mut W,
     line: &[u8],
-) -> Result<Option<End>, FrontFault>
+) -> Result<(), Stop>
     ensures goes { (first : Register) (start : Option (List ℕ)) (bytes : List ℕ) → first.pending ≡ None →
         Going first start bytes line.now book.old (W.contents sink.old) →
         Goes first start (bytes ++ 10 ∷ []) [] book.new (W.contents sink.new) result }
-    ensures worked { result ≢ Err WriteFailed → W.failures sink.new ≡ W.failures sink.old }
-    ensures failed { result ≡ Err WriteFailed → W.failures sink.new ≡ next_count (W.failures sink.old) }
-    ensures not_read { (result ≢ Err ReadFailed) × (result ≢ Err TooManyTurns) }
+    ensures grows { length book.old.log ≤ length book.new.log }
+    ensures failures { W.failures sink.new ≡ count_after (failed_writes result) (W.failures sink.old) }
 {
     if is_bye(line) {
-        return Ok(Some(End::Bye));
+        return Err(Stop::Bye);
     }
     if book.is_full() {
         return match write_whole(sink, b"[\"full\"]\n".as_slice()) {
-            Ok(()) => Ok(Some(End::Full)),
-            Err(_) => Err(FrontFault::WriteFailed),
+            Ok(()) => Err(Stop::Full),
+            Err(_) => Err(Stop::WriteFailed),
         };
     }
     match answer(alloc, book, executor, line) {
-        Err(fault) => Err(fault),
-        Ok(Some(end)) => Ok(Some(end)),
-        Ok(None) => match write_last(alloc, book, sink) {
-            Ok(()) => Ok(None),
-            Err(fault) => Err(fault),
-        },
+        Ok(()) => write_last(alloc, book, sink),
+        Err(NotDone::Memory) => Err(Stop::Memory),
+        Err(NotDone::Closed) => Err(Stop::Closed),
+        Err(NotDone::Stranger) => Err(Stop::Stranger),
     }
 }

@@ -1,7 +1,8 @@
 //! Devices, and an executor, that go wrong where a test asks them to.
 ghost use Rattle.std.specs.Prelude.{Some};
 
-use ot_book::{Executor, JobSpec, NotDone, Outcome};
+use ot_book::{Executor, NotDone, Solo};
+use ot_check::{JobSpec, Outcome};
 use ot_front::{Failed, Sink};
 use std::alloc::Global;
 use std::io;
@@ -96,5 +97,21 @@ pub struct Refusing {
 impl Executor for Refusing {
     fn perform(&mut self, _alloc: Global, _spec: &JobSpec) -> Result<Outcome, NotDone> {
         Err(self.why)
+    }
+}
+
+/// An executor that runs each job, and keeps how many statements each had.
+#[derive(Drop)]
+pub struct Counting {
+    pub performed: Vec<u32>,
+}
+
+impl Executor for Counting {
+    fn perform(&mut self, alloc: Global, spec: &JobSpec) -> Result<Outcome, NotDone> {
+        let statements = spec.checked().program.statements;
+        if self.performed.push(statements).is_err() {
+            return Err(NotDone::Memory);
+        }
+        Solo.perform(alloc, spec)
     }
 }

@@ -1,9 +1,10 @@
 //! Whole sessions over memory: how they end, and what devices and executors that go wrong leave.
 ghost use Rattle.std.specs.Prelude.{◌≡◌, IfOk, None};
 
-use crate::fakes::{Dripping, Narrow, Refusing};
-use ot_book::{Book, Limits, NotDone, Solo, Store};
+use crate::fakes::{Counting, Dripping, Narrow, Refusing};
+use ot_book::{Book, NotDone, Solo};
 use ot_front::{End, FrontFault, Reading, Writing, serve};
+use ot_store::{Limits, Store};
 use std::alloc::Global;
 use std::test::Fail;
 
@@ -337,5 +338,59 @@ fn first_other_refusal(alloc: Global) -> Result<Option<NotDone>, Fail> {
 #[test]
 fn a_run_that_is_not_performed(rt: HostRuntime) -> Result<(), Fail> {
     assert_eq!(rt; first_other_refusal(rt.alloc())?, None);
+    Ok(())
+}
+
+/// Runs of one, two and three statements, between them one that is no program and one that could race,
+/// and behind the goodbye a run of four.
+const RUNS: &str = "[\"new\",\"a\",1]\n\
+[\"run\",[\"program\",[[\"a\",0,1]],[[\"add\",[\"c\",\"a\",0],1]]]]\n\
+[\"run\",[\"program\",[],[[\"nonsense\"]]]]\n\
+[\"run\",[\"program\",[],[[\"add\",[\"c\",\"a\",0],1],[\"add\",[\"c\",\"a\",0],1]]]]\n\
+[\"run\",[\"program\",[],[[\"task\",[[\"out\",[\"a\",0,1]]],[[\"set\",[\"c\",\"a\",0],7]]],[\"set\",[\"c\",\"a\",0],1]]]]\n\
+[\"run\",[\"program\",[],[[\"task\",[[\"out\",[\"a\",0,1]]],[[\"add\",[\"c\",\"a\",0],1]]],[\"wait\"]]]]\n\
+[\"get\",\"a\",0,1]\n[\"bye\"]\n\
+[\"run\",[\"program\",[],[[\"wait\"],[\"wait\"],[\"wait\"],[\"wait\"]]]]\n";
+
+const RUN_REPLIES: &str =
+    "[\"ok\",1]\n[\"done\",2,0,1,[[1]]]\n[\"err\",3,420]\n[\"done\",4,0,2,[]]\n\
+[\"err\",5,427,3]\n[\"done\",6,1,3,[]]\n[\"cells\",7,[4]]\n";
+
+const FULL_REPLIES: &str = "[\"ok\",1]\n[\"done\",2,0,1,[[1]]]\n[\"full\"]\n";
+
+/// How many requests the log takes, how many statements the programs have that are performed, the end, how
+/// many requests are logged, and what is written.
+const PERFORMED: [(u32, &[u32], End, usize, &str); 2] = [
+    (USUAL, &[1, 2, 3], End::Bye, 7, RUN_REPLIES),
+    (2, &[1], End::Full, 2, FULL_REPLIES),
+];
+
+/// The number of requests of the first log with which the runs are performed otherwise than once each.
+fn first_other_count(alloc: Global) -> Result<Option<u32>, Fail> {
+    for (log, performed, end, logged, replies) in &PERFORMED {
+        let mut book = book_of(alloc, *log)?;
+        let mut executor = Counting {
+            performed: Vec::new(alloc),
+        };
+        let mut source = Reading::new(RUNS.as_bytes());
+        let mut sink = Writing::new(Vec::new(alloc));
+        let ended = serve(alloc, &mut book, &mut executor, &mut source, &mut sink);
+        let told = Told {
+            ended,
+            logged: book.log().len(),
+            written: sink.into_inner(),
+        };
+        if executor.performed.as_slice() != *performed
+            || !told.is(Ok(*end), *logged, replies.as_bytes())
+        {
+            return Ok(Some(*log));
+        }
+    }
+    Ok(None)
+}
+
+#[test]
+fn each_logged_run_is_performed_once(rt: HostRuntime) -> Result<(), Fail> {
+    assert_eq!(rt; first_other_count(rt.alloc())?, None);
     Ok(())
 }

@@ -1,5 +1,5 @@
-use Rattle.ot_front.proofs.SessionLemmas.{serves_nothing}
+use Rattle.ot_front.proofs.ServingLemmas.{serves_nothing}
 use Rattle.ot_front.proofs.session.serve.Goals as goal
 
-pub returns-in-Err-clause-serves : goal.returns-in-Err-clause-serves
-returns-in-Err-clause-serves g c = serves_nothing _ _ _
+pub returns-in_default-clause-serves : goal.returns-in_default-clause-serves
+returns-in_default-clause-serves g c = serves_nothing _ _ _ _

@@ -1,0 +1,150 @@
+-- What a session is between its reads and where it ends.
+use Rattle.std.proofs.Common.{◌≡◌, ℕ, zero, suc, ◌≤◌, List, [], ◌∷◌, ◌++◌, length, take, refl, sym, ap, ◌∙◌, subst, arith, append-nil, le_refl, Bool}
+use Rattle.std.specs.Prelude.{Option, None, Result, Ok, Err}
+use Rattle.std.specs.Io.KnownBytes.{Consumes, Keeps}
+use Rattle.std.proofs.KnownBytes.{Appends-nil, Consumes-nil, Consumes-trans, Consumes-kept}
+use Rattle.std.proofs.lemmas.List.{length-take-le}
+use Rattle.ot_book.specs.Books.{Register}
+use Rattle.ot_front.specs.Heard.{Heard}
+use Rattle.ot_front.specs.Told.{Lines, marks, marked, after, told}
+use Rattle.ot_front.specs.Session.{closing, heard_in, logged_lines, TellsAll, Tells, Session, Serves}
+use Rattle.ot_front.specs.Serving.{result_of, Going, Serving}
+use Rattle.ot_front.specs.declared.fault.End.{End}
+use Rattle.ot_front.specs.declared.fault.End.TheVariants.{EndOfInput}
+use Rattle.ot_front.specs.declared.fault.FrontFault.{FrontFault}
+use Rattle.ot_front.specs.declared.fault.FrontFault.TheVariants.{ReadFailed, Memory, TooManyTurns}
+use Rattle.ot_front.specs.declared.stop.Stop.{Stop}
+use Rattle.ot_front.proofs.ToldLemmas.{pending-after, length-texts, length-marked, length-log-after}
+use Rattle.ot_front.proofs.SessionLemmas.{session_all, session_of, breaks_between}
+
+-- ---- a session that begins
+
+pub serving_first : (book : Register) (ahead held : Option (List ℕ)) (partial : List ℕ) → partial ≡ [] → Serving book ahead ahead held partial book held
+serving_first book ahead held partial none =
+    let going : Going book held [] [] book held = record {
+      lines = [];
+      hears = refl;
+      short = omega arith;
+      logs = refl;
+      writes = Appends-nil held;
+    } in record {
+      bytes = [];
+      reads = Consumes-nil ahead;
+      going = subst (λ p. Going book held [] p book held) (sym none) going;
+    }
+
+-- a session that could not begin
+pub serves_nothing : (book : Register) (ahead : Option (List ℕ)) (latest : ℕ) (held : Option (List ℕ)) → Serves book book ahead ahead latest held held (Err Memory)
+serves_nothing book ahead latest held = record {
+  before = [];
+  last = [];
+  reads = Consumes-nil ahead;
+  few = omega arith;
+  session = session_of book held [] book held [] [] [] (Err Memory) refl refl (Appends-nil held) (breaks_between book [] [] [] refl);
+  goes_on = refl;
+  logs = omega arith;
+}
+
+-- ---- a session that goes on
+
+pub serving_on : {first : Register} {ahead left start : Option (List ℕ)} {partial : List ℕ} {book : Register} {held : Option (List ℕ)} →
+    (next : Option (List ℕ)) (chunk more : List ℕ) (new : Register) (now : Option (List ℕ)) → (s : Serving first ahead left start partial book held) →
+    Consumes left next chunk → Going first start (s.bytes ++ chunk) more new now → Serving first ahead next start more new now
+serving_on {first} {ahead} {left} next chunk more new now s consumes going = record {
+  bytes = s.bytes ++ chunk;
+  reads = Consumes-trans ahead left next s.bytes chunk s.reads consumes;
+  going = going;
+}
+
+-- the lines that were logged are no more than in the end
+logs_more : (first book new : Register) (bytes : List ℕ) (lines : Lines) (lost : List Bool) → book ≡ after first lines → new ≡ after first (logged_lines first bytes lost) →
+    length lost ≤ length (heard_in first bytes).lines → length book.log ≤ length new.log → length lines ≤ length lost
+logs_more first book new bytes lines lost logs new_logs few grows =
+    let count : length (logged_lines first bytes lost) ≡ length lost =
+    length-take-le (length lost) (marked (heard_in first bytes).lines lost) (omega (arith, few, length-marked (heard_in first bytes).lines lost)) in
+    omega (
+      arith,
+      grows,
+      count,
+      ap (λ (b : Register). length b.log) logs,
+      ap (λ (b : Register). length b.log) new_logs,
+      length-log-after first lines,
+      length-log-after first (logged_lines first bytes lost),
+    )
+
+-- the lines heard so far are no more than those logged
+heard_logged : {first : Register} {start : Option (List ℕ)} {bytes partial : List ℕ} {book : Register} {held : Option (List ℕ)} →
+    (going : Going first start bytes partial book held) (new : Register) (now : Option (List ℕ)) (more : List ℕ) (result : Result End FrontFault) →
+    (s : Session first new more start now result) → length book.log ≤ length new.log → length (heard_in first bytes).lines ≤ length s.lost
+heard_logged {first} {start} {bytes} {partial} {book} going new now more result s grows =
+    let lines = logs_more first book new more going.lines s.lost going.logs s.logs s.few grows in
+    omega (arith, lines, ap (λ (h : Heard). length h.lines) going.hears, length-texts going.lines)
+
+length-take-below : (n : ℕ) (xs : List ℕ) → length (take n xs) ≤ n
+length-take-below zero xs = omega arith
+length-take-below (suc n) [] = omega arith
+length-take-below (suc n) (x ∷ xs) = omega (arith, length-take-below n xs)
+
+-- it stopped in what the last read gave
+pub serves_chunk : {first : Register} {ahead left start : Option (List ℕ)} {partial : List ℕ} {book : Register} {held : Option (List ℕ)} →
+    (next : Option (List ℕ)) (latest n : ℕ) (buffer : List ℕ) (new : Register) (now : Option (List ℕ)) (result : Result End FrontFault) (stop : Stop) →
+    (s : Serving first ahead left start partial book held) → latest ≡ n → Consumes left next (take n buffer) → result ≡ result_of stop →
+    Session first new (s.bytes ++ take n buffer) start now (result_of stop) → length book.log ≤ length new.log → Serves first new ahead next latest start now result
+serves_chunk {first} {ahead} {left} {start} next latest n buffer new now result stop s gave consumes is session grows =
+    let same = subst (Session first new (s.bytes ++ take n buffer) start now) (sym is) session in record {
+      before = s.bytes;
+      last = take n buffer;
+      reads = Consumes-trans ahead left next s.bytes (take n buffer) s.reads consumes;
+      few = omega (arith, gave, length-take-below n buffer);
+      session = same;
+      goes_on = ap (λ (h : Heard). h.end) s.going.hears;
+      logs = heard_logged s.going new now (s.bytes ++ take n buffer) result same grows;
+    }
+
+-- it wanted more and got none
+serves_idle : {first : Register} {ahead left start : Option (List ℕ)} {partial : List ℕ} {book : Register} {held : Option (List ℕ)} →
+    (next : Option (List ℕ)) (latest : ℕ) (result : Result End FrontFault) → (s : Serving first ahead left start partial book held) → Consumes ahead next s.bytes →
+    ((bytes : List ℕ) (lines : Lines) (written : List ℕ) → TellsAll first bytes (marks lines) written None → Tells first bytes (marks lines) written result) →
+    Serves first book ahead next latest start held result
+serves_idle {first} {ahead} {left} {start} {partial} {book} {held} next latest result s reads tells =
+    let all : s.bytes ≡ s.bytes ++ [] = sym (append-nil s.bytes) in
+    let session : Session first book (s.bytes ++ []) start held result =
+    subst (λ bytes. Session first book bytes start held result) all
+    (session_all first start s.bytes book held held s.going.lines partial None result s.going.hears s.going.logs s.going.writes (Appends-nil held)
+    (tells s.bytes s.going.lines (told first s.going.lines ++ closing None))) in record {
+      before = s.bytes;
+      last = [];
+      reads = subst (Consumes ahead next) all reads;
+      few = omega arith;
+      session = session;
+      goes_on = ap (λ (h : Heard). h.end) s.going.hears;
+      logs = heard_logged s.going book held (s.bytes ++ []) result session (le_refl (length book.log));
+    }
+
+pub serves_end : {first : Register} {ahead left start : Option (List ℕ)} {partial : List ℕ} {book : Register} {held : Option (List ℕ)} →
+    (next : Option (List ℕ)) (latest n : ℕ) (buffer : List ℕ) → (s : Serving first ahead left start partial book held) →
+    n ≡ 0 → Consumes left next (take n buffer) → Serves first book ahead next latest start held (Ok EndOfInput)
+serves_end {first} {ahead} {left} next latest n buffer s none consumes =
+    let nothing : Consumes left next [] = subst (λ k. Consumes left next (take k buffer)) none consumes in
+    serves_idle next latest (Ok EndOfInput) s (subst (Consumes ahead next) (append-nil s.bytes) (Consumes-trans ahead left next s.bytes [] s.reads nothing))
+    (λ bytes lines written all. all)
+
+pub serves_failed : {first : Register} {ahead left start : Option (List ℕ)} {partial : List ℕ} {book : Register} {held : Option (List ℕ)} →
+    (next : Option (List ℕ)) (latest : ℕ) → (s : Serving first ahead left start partial book held) → Keeps left next → Serves first book ahead next latest start held (Err ReadFailed)
+serves_failed {first} {ahead} {left} next latest s keeps =
+    serves_idle next latest (Err ReadFailed) s (Consumes-kept ahead left next s.bytes s.reads keeps) (λ bytes lines written all. all)
+
+pub serves_turns : {first : Register} {ahead left start : Option (List ℕ)} {partial : List ℕ} {book : Register} {held : Option (List ℕ)} →
+    (latest : ℕ) → (s : Serving first ahead left start partial book held) → Serves first book ahead left latest start held (Err TooManyTurns)
+serves_turns {first} {ahead} {left} latest s = serves_idle left latest (Err TooManyTurns) s s.reads (λ bytes lines written all. all)
+
+-- ---- no request is left open
+
+pub closed_after : {old new : Register} {ahead left start held : Option (List ℕ)} {latest : ℕ} {result : Result End FrontFault} →
+    Serves old new ahead left latest start held result → old.pending ≡ None → new.pending ≡ None
+closed_after {old} s closed =
+    ap (λ (b : Register). b.pending) s.session.logs ∙ pending-after old (logged_lines old (s.before ++ s.last) s.session.lost) closed
+
+pub closed_serving : {first : Register} {ahead left start : Option (List ℕ)} {partial : List ℕ} {book : Register} {held : Option (List ℕ)} →
+    Serving first ahead left start partial book held → first.pending ≡ None → book.pending ≡ None
+closed_serving {first} s closed = ap (λ (b : Register). b.pending) s.going.logs ∙ pending-after first s.going.lines closed

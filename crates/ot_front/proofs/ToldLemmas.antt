@@ -1,0 +1,116 @@
+-- A book after more lines, and the replies to them.
+use Rattle.std.proofs.Common.{◌≡◌, ℕ, suc, ◌+◌, ◌≤◌, ◌<◌, List, [], ◌∷◌, ◌++◌, length, take, drop, refl, sym, ap, ◌∙◌, arith, append_assoc, append-nil, length-append, Bool, true, false, inl, inr}
+use Rattle.std.specs.Prelude.{Option, Some, None, IsSome, ◌↔◌, slice_get}
+use Rattle.std.proofs.Math.ListN.{length-map, get_or-append, take-append-drop}
+use Rattle.std.proofs.Math.Seq.{get_or-append_seam}
+use Rattle.std.proofs.lemmas.List.{map-append}
+use Rattle.std.proofs.lemmas.Option.{slice_get-get_or, slice_get_within, get_or_from_slice_get}
+use Rattle.ot_book.specs.Books.{Register, logged}
+use Rattle.ot_book.specs.Opening.{IsFull}
+use Rattle.ot_front.specs.Told.{Lines, texts, marks, marked, after, told, reply_line}
+use Rattle.ot_front.specs.Session.{room_of}
+
+-- ---- lines and marks
+
+pub length-texts : (lines : Lines) → length (texts lines) ≡ length lines
+length-texts lines = length-map lines (λ (l : List ℕ × Bool). l.0)
+
+pub length-marks : (lines : Lines) → length (marks lines) ≡ length lines
+length-marks lines = length-map lines (λ (l : List ℕ × Bool). l.1)
+
+pub texts-more : (lines : Lines) (line : List ℕ × Bool) → texts (lines ++ line ∷ []) ≡ texts lines ++ line.0 ∷ []
+texts-more lines line = map-append (λ (l : List ℕ × Bool). l.0) lines (line ∷ [])
+
+-- lines whose marks stand beside them, and further ones
+pub marked-texts : (lines : Lines) (rest : List (List ℕ)) → marked (texts lines ++ rest) (marks lines) ≡ lines ++ marked rest []
+marked-texts [] [] = refl
+marked-texts [] (line ∷ rest) = refl
+marked-texts (line ∷ lines) rest = ap (λ ls. line ∷ ls) (marked-texts lines rest)
+
+pub marked-append : (lines more : List (List ℕ)) (lost : List Bool) → length lost ≤ length lines → marked (lines ++ more) lost ≡ marked lines lost ++ marked more []
+marked-append [] more [] few = refl
+marked-append [] more (m ∷ lost) few = absurd (omega (arith, few))
+marked-append (line ∷ lines) more [] few = ap (λ ls. (line, false) ∷ ls) (marked-append lines more [] (omega arith))
+marked-append (line ∷ lines) more (m ∷ lost) few = ap (λ ls. (line, m) ∷ ls) (marked-append lines more lost (omega (arith, few)))
+
+pub length-marked : (lines : List (List ℕ)) (lost : List Bool) → length (marked lines lost) ≡ length lines
+length-marked [] lost = refl
+length-marked (line ∷ lines) [] = ap suc (length-marked lines [])
+length-marked (line ∷ lines) (m ∷ lost) = ap suc (length-marked lines lost)
+
+-- ---- the book after lines
+
+pub after-append : (book : Register) (lines more : Lines) → after book (lines ++ more) ≡ after (after book lines) more
+after-append book [] more = refl
+after-append book (l ∷ lines) more = after-append (logged book l.0 l.1) lines more
+
+pub after-more : (book : Register) (lines : Lines) (line : List ℕ × Bool) → after book (lines ++ line ∷ []) ≡ logged (after book lines) line.0 line.1
+after-more book lines line = after-append book lines (line ∷ [])
+
+pub told-append : (book : Register) (lines more : Lines) → told book (lines ++ more) ≡ told book lines ++ told (after book lines) more
+told-append book [] more = refl
+told-append book (l ∷ lines) more =
+    ap (λ rest. reply_line book l ++ rest) (told-append (logged book l.0 l.1) lines more)
+    ∙ sym (append_assoc (reply_line book l) (told (logged book l.0 l.1) lines) (told (after (logged book l.0 l.1) lines) more))
+
+pub told-more : (book : Register) (lines : Lines) (line : List ℕ × Bool) → told book (lines ++ line ∷ []) ≡ told book lines ++ reply_line (after book lines) line
+told-more book lines line = told-append book lines (line ∷ []) ∙ ap (λ text. told book lines ++ text) (append-nil (reply_line (after book lines) line))
+
+-- the replies to the first lines are no longer than those to all
+pub told-take : (book : Register) (lines : Lines) (n : ℕ) → length (told book (take n lines)) ≤ length (told book lines)
+told-take book lines n =
+    let all = ap (told book) (sym (take-append-drop n lines)) ∙ told-append book (take n lines) (drop n lines) in
+    omega (arith, ap length all, length-append (told book (take n lines)) (told (after book (take n lines)) (drop n lines)))
+
+pub limits-after : (book : Register) (lines : Lines) → (after book lines).limits ≡ book.limits
+limits-after book [] = refl
+limits-after book (l ∷ lines) = limits-after (logged book l.0 l.1) lines
+
+pub length-log-after : (book : Register) (lines : Lines) → length (after book lines).log ≡ length book.log + length lines
+length-log-after book [] = omega arith
+length-log-after book (l ∷ lines) =
+    let one : length (logged book l.0 l.1).log ≡ length book.log + 1 = length-append book.log (_ ∷ []) in
+    omega (arith, one, length-log-after (logged book l.0 l.1) lines)
+
+-- a line that is logged makes the log longer
+pub log_grows : (book new : Register) (line : List ℕ) → (lost : Bool) × (new ≡ logged book line lost) → length book.log ≤ length new.log
+log_grows book new line is =
+    let one : length (logged book line is.0).log ≡ length book.log + 1 = length-append book.log (_ ∷ []) in
+    omega (arith, one, ap (λ (b : Register). length b.log) is.1)
+
+pub pending-after : (book : Register) (lines : Lines) → book.pending ≡ None → (after book lines).pending ≡ None
+pending-after book [] closed = closed
+pending-after book (l ∷ lines) closed = pending-after (logged book l.0 l.1) lines refl
+
+some_none : {A : Type 0} (o : Option A) → o ≡ None → IsSome o → ⊥
+some_none None none some = cc
+some_none (Some x) none some = cc
+
+-- the log after the lines is full exactly where it had room for no more
+pub full-after : (book : Register) (lines : Lines) → book.pending ≡ None → IsFull (after book lines) → room_of book ≤ length lines
+full-after book lines closed (inl limit) =
+    let limits : (after book lines).limits.log ≡ book.limits.log = ap (λ l. l.log) (limits-after book lines) in
+    omega (arith, limit, limits, length-log-after book lines)
+full-after book lines closed (inr some) = let none = pending-after book lines closed in absurd (some_none _ none some)
+
+pub free-after : (book : Register) (lines : Lines) → ¬ (IsFull (after book lines)) → length lines < room_of book
+free-after book lines free =
+    let limits : (after book lines).limits.log ≡ book.limits.log = ap (λ l. l.log) (limits-after book lines) in
+    let below : (after book lines).limits.log ≤ length (after book lines).log → ⊥ = λ le. free (inl le) in
+    omega (arith, below, limits, length-log-after book lines)
+
+-- a test that answered no
+pub not_so : (P : Type 0) (test : Bool) → ((test ≡ true) ↔ P) → test ≡ false → ¬ P
+not_so P test tells no_test = λ so. let yes : test ≡ true = tells.1 so in cc
+
+-- ---- places of a list
+
+pub slice_get-front : {A : Type 0} (xs ys : List A) (n : ℕ) (x : A) → slice_get xs n ≡ Some x → slice_get (xs ++ ys) n ≡ Some x
+slice_get-front xs ys n x is =
+    let within = slice_get_within xs n x is in
+    slice_get-get_or (xs ++ ys) n x (omega (arith, within, length-append xs ys))
+    ∙ ap Some (get_or-append xs ys x n within ∙ get_or_from_slice_get xs n x x is)
+
+pub slice_get-seam : {A : Type 0} (xs : List A) (y : A) (ys : List A) → slice_get (xs ++ y ∷ ys) (length xs) ≡ Some y
+slice_get-seam xs y ys =
+    slice_get-get_or (xs ++ y ∷ ys) (length xs) y (omega (arith, length-append xs (y ∷ ys))) ∙ ap Some (get_or-append_seam xs y ys y)
