@@ -1,21 +1,21 @@
 -- What a session is between its reads and where it ends.
 use Rattle.std.proofs.Common.{◌≡◌, ℕ, zero, suc, ◌≤◌, List, [], ◌∷◌, ◌++◌, length, take, refl, sym, ap, ◌∙◌, subst, arith, append-nil, le_refl, Bool}
 use Rattle.std.specs.Prelude.{Option, None, Result, Ok, Err}
-use Rattle.std.specs.Io.KnownBytes.{Consumes, Keeps}
+use Rattle.std.specs.Io.KnownBytes.{Appends, Consumes, Keeps}
 use Rattle.std.proofs.KnownBytes.{Appends-nil, Consumes-nil, Consumes-trans, Consumes-kept}
 use Rattle.std.proofs.lemmas.List.{length-take-le}
 use Rattle.ot_book.specs.Books.{Register}
 use Rattle.ot_front.specs.Heard.{Heard}
-use Rattle.ot_front.specs.Told.{Lines, marks, marked, after, told}
-use Rattle.ot_front.specs.Session.{closing, heard_in, logged_lines, TellsAll, Tells, Session, Serves}
+use Rattle.ot_front.specs.Told.{Lines, texts, marks, marked, after, told}
+use Rattle.ot_front.specs.Session.{heard_in, logged_lines, Tells, Session, Serves}
 use Rattle.ot_front.specs.Serving.{result_of, Going, Serving}
 use Rattle.ot_front.specs.declared.fault.End.{End}
-use Rattle.ot_front.specs.declared.fault.End.TheVariants.{EndOfInput}
+use Rattle.ot_front.specs.declared.fault.End.TheVariants.{Bye, EndOfInput, Full, LongLine, Closed}
 use Rattle.ot_front.specs.declared.fault.FrontFault.{FrontFault}
-use Rattle.ot_front.specs.declared.fault.FrontFault.TheVariants.{ReadFailed, Memory, TooManyTurns}
+use Rattle.ot_front.specs.declared.fault.FrontFault.TheVariants.{ReadFailed, WriteFailed, Memory, Stranger, TooManyTurns}
 use Rattle.ot_front.specs.declared.stop.Stop.{Stop}
 use Rattle.ot_front.proofs.ToldLemmas.{pending-after, length-texts, length-marked, length-log-after}
-use Rattle.ot_front.proofs.SessionLemmas.{session_all, session_of, breaks_between}
+use Rattle.ot_front.proofs.SessionLemmas.{session_of, tells_all, breaks_between, breaks_closing}
 
 -- ---- a session that begins
 
@@ -101,17 +101,39 @@ serves_chunk {first} {ahead} {left} {start} next latest n buffer new now result 
       logs = heard_logged s.going new now (s.bytes ++ take n buffer) result same grows;
     }
 
--- it wanted more and got none
-serves_idle : {first : Register} {ahead left start : Option (List ℕ)} {partial : List ℕ} {book : Register} {held : Option (List ℕ)} →
-    (next : Option (List ℕ)) (latest : ℕ) (result : Result End FrontFault) → (s : Serving first ahead left start partial book held) → Consumes ahead next s.bytes →
-    ((bytes : List ℕ) (lines : Lines) (written : List ℕ) → TellsAll first bytes (marks lines) written None → Tells first bytes (marks lines) written result) →
+-- what a session may answer that wanted more and got none
+abbrev pub IsIdle : Result End FrontFault → Type 0
+IsIdle (Ok EndOfInput) = Unit {0}
+IsIdle (Err ReadFailed) = Unit {0}
+IsIdle (Err TooManyTurns) = Unit {0}
+IsIdle (Err Memory) = Unit {0}
+IsIdle result = ⊥
+
+tells_idle : (first : Register) (bytes : List ℕ) (lines : Lines) (partial : List ℕ) (result : Result End FrontFault) → IsIdle result →
+    heard_in first bytes ≡ record { lines = texts lines; partial = partial; end = None } → Tells first bytes (marks lines) (told first lines ++ []) result
+tells_idle first bytes lines partial (Ok EndOfInput) idle hears = tells_all first bytes lines partial None hears
+tells_idle first bytes lines partial (Ok Bye) idle hears = absurd idle
+tells_idle first bytes lines partial (Ok Full) idle hears = absurd idle
+tells_idle first bytes lines partial (Ok LongLine) idle hears = absurd idle
+tells_idle first bytes lines partial (Ok Closed) idle hears = absurd idle
+tells_idle first bytes lines partial (Err ReadFailed) idle hears = tells_all first bytes lines partial None hears
+tells_idle first bytes lines partial (Err TooManyTurns) idle hears = tells_all first bytes lines partial None hears
+tells_idle first bytes lines partial (Err Memory) idle hears = breaks_closing first bytes lines partial None 0 hears
+tells_idle first bytes lines partial (Err WriteFailed) idle hears = absurd idle
+tells_idle first bytes lines partial (Err Stranger) idle hears = absurd idle
+
+pub serves_idle : {first : Register} {ahead left start : Option (List ℕ)} {partial : List ℕ} {book : Register} {held : Option (List ℕ)} →
+    (next : Option (List ℕ)) (latest : ℕ) (result : Result End FrontFault) → (s : Serving first ahead left start partial book held) → Consumes ahead next s.bytes → IsIdle result →
     Serves first book ahead next latest start held result
-serves_idle {first} {ahead} {left} {start} {partial} {book} {held} next latest result s reads tells =
+serves_idle {first} {ahead} {left} {start} {partial} {book} {held} next latest result s reads idle =
     let all : s.bytes ≡ s.bytes ++ [] = sym (append-nil s.bytes) in
+    let lines = s.going.lines in
     let session : Session first book (s.bytes ++ []) start held result =
     subst (λ bytes. Session first book bytes start held result) all
-    (session_all first start s.bytes book held held s.going.lines partial None result s.going.hears s.going.logs s.going.writes (Appends-nil held)
-    (tells s.bytes s.going.lines (told first s.going.lines ++ closing None))) in record {
+    (session_of first start s.bytes book held lines [] (told first lines ++ []) result
+    (ap (λ (h : Heard). h.lines) s.going.hears ∙ sym (append-nil (texts lines))) s.going.logs
+    (subst (Appends start held) (sym (append-nil (told first lines))) s.going.writes)
+    (tells_idle first s.bytes lines partial result idle s.going.hears)) in record {
       before = s.bytes;
       last = [];
       reads = subst (Consumes ahead next) all reads;
@@ -121,22 +143,18 @@ serves_idle {first} {ahead} {left} {start} {partial} {book} {held} next latest r
       logs = heard_logged s.going book held (s.bytes ++ []) result session (le_refl (length book.log));
     }
 
-pub serves_end : {first : Register} {ahead left start : Option (List ℕ)} {partial : List ℕ} {book : Register} {held : Option (List ℕ)} →
-    (next : Option (List ℕ)) (latest n : ℕ) (buffer : List ℕ) → (s : Serving first ahead left start partial book held) →
-    n ≡ 0 → Consumes left next (take n buffer) → Serves first book ahead next latest start held (Ok EndOfInput)
-serves_end {first} {ahead} {left} next latest n buffer s none consumes =
+-- a read gave no byte
+pub consumes_none : {first : Register} {ahead left start : Option (List ℕ)} {partial : List ℕ} {book : Register} {held : Option (List ℕ)} →
+    (next : Option (List ℕ)) (n : ℕ) (buffer : List ℕ) → (s : Serving first ahead left start partial book held) →
+    n ≡ 0 → Consumes left next (take n buffer) → Consumes ahead next s.bytes
+consumes_none {first} {ahead} {left} next n buffer s none consumes =
     let nothing : Consumes left next [] = subst (λ k. Consumes left next (take k buffer)) none consumes in
-    serves_idle next latest (Ok EndOfInput) s (subst (Consumes ahead next) (append-nil s.bytes) (Consumes-trans ahead left next s.bytes [] s.reads nothing))
-    (λ bytes lines written all. all)
+    subst (Consumes ahead next) (append-nil s.bytes) (Consumes-trans ahead left next s.bytes [] s.reads nothing)
 
-pub serves_failed : {first : Register} {ahead left start : Option (List ℕ)} {partial : List ℕ} {book : Register} {held : Option (List ℕ)} →
-    (next : Option (List ℕ)) (latest : ℕ) → (s : Serving first ahead left start partial book held) → Keeps left next → Serves first book ahead next latest start held (Err ReadFailed)
-serves_failed {first} {ahead} {left} next latest s keeps =
-    serves_idle next latest (Err ReadFailed) s (Consumes-kept ahead left next s.bytes s.reads keeps) (λ bytes lines written all. all)
-
-pub serves_turns : {first : Register} {ahead left start : Option (List ℕ)} {partial : List ℕ} {book : Register} {held : Option (List ℕ)} →
-    (latest : ℕ) → (s : Serving first ahead left start partial book held) → Serves first book ahead left latest start held (Err TooManyTurns)
-serves_turns {first} {ahead} {left} latest s = serves_idle left latest (Err TooManyTurns) s s.reads (λ bytes lines written all. all)
+-- a read failed
+pub consumes_kept : {first : Register} {ahead left start : Option (List ℕ)} {partial : List ℕ} {book : Register} {held : Option (List ℕ)} →
+    (next : Option (List ℕ)) → (s : Serving first ahead left start partial book held) → Keeps left next → Consumes ahead next s.bytes
+consumes_kept {first} {ahead} {left} next s keeps = Consumes-kept ahead left next s.bytes s.reads keeps
 
 -- ---- no request is left open
 

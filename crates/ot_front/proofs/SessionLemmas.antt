@@ -64,7 +64,7 @@ session_of first start bytes book held lines rest written result hears logs writ
 }
 
 -- all lines are logged and all is told
-tells_all : (first : Register) (bytes : List ℕ) (lines : Lines) (partial : List ℕ) (end : Option End) → heard_in first bytes ≡ record { lines = texts lines; partial = partial; end = end } →
+pub tells_all : (first : Register) (bytes : List ℕ) (lines : Lines) (partial : List ℕ) (end : Option End) → heard_in first bytes ≡ record { lines = texts lines; partial = partial; end = end } →
     TellsAll first bytes (marks lines) (told first lines ++ closing end) end
 tells_all first bytes lines partial end hears =
     let all : (heard_in first bytes).lines ≡ texts lines = ap (λ (h : Heard). h.lines) hears in
@@ -75,7 +75,7 @@ tells_all first bytes lines partial end hears =
     }
 
 -- a session that has told all
-pub session_all : (first : Register) (start : Option (List ℕ)) (bytes : List ℕ) (book : Register) (held now : Option (List ℕ)) (lines : Lines) (partial : List ℕ) (end : Option End) (result : Result End FrontFault) →
+session_all : (first : Register) (start : Option (List ℕ)) (bytes : List ℕ) (book : Register) (held now : Option (List ℕ)) (lines : Lines) (partial : List ℕ) (end : Option End) (result : Result End FrontFault) →
     heard_in first bytes ≡ record { lines = texts lines; partial = partial; end = end } → book ≡ after first lines → Appends start held (told first lines) → Appends held now (closing end) →
     (TellsAll first bytes (marks lines) (told first lines ++ closing end) end → Tells first bytes (marks lines) (told first lines ++ closing end) result) →
     Session first book bytes start now result
@@ -116,7 +116,7 @@ breaks_between first bytes lines rest hears =
     (told-take first lines (length lines - 1)) (inl (le_refl (length (told first lines))))
 
 -- it broke off in the way it closes
-breaks_closing : (first : Register) (bytes : List ℕ) (lines : Lines) (partial : List ℕ) (end : Option End) (n : ℕ) →
+pub breaks_closing : (first : Register) (bytes : List ℕ) (lines : Lines) (partial : List ℕ) (end : Option End) (n : ℕ) →
     heard_in first bytes ≡ record { lines = texts lines; partial = partial; end = end } → BreaksOff first bytes (marks lines) (told first lines ++ take n (closing end))
 breaks_closing first bytes lines partial end n hears =
     let all : (heard_in first bytes).lines ≡ texts lines ++ [] = ap (λ (h : Heard). h.lines) hears ∙ sym (append-nil (texts lines)) in

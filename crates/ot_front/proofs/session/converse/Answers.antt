@@ -1,13 +1,13 @@
 use Rattle.std.proofs.Common.{take, ap, ◌∙◌}
 use Rattle.ot_front.specs.Device.{next_count}
 use Rattle.ot_front.proofs.Counting.{next_count-count_after, not_zero}
-use Rattle.ot_front.proofs.ServingLemmas.{closed_serving, closed_after, serving_on, serves_failed, serves_end, serves_chunk, serves_turns}
+use Rattle.ot_front.proofs.ServingLemmas.{closed_serving, closed_after, serving_on, serves_idle, consumes_none, consumes_kept, serves_chunk}
 use Rattle.ot_front.proofs.session.converse.Goals as goal
 
 -- ---- the read failed
 
 pub returns-in_default-clause-serves : goal.returns-in_default-clause-serves
-returns-in_default-clause-serves g c = serves_failed _ _ c.loop.invariant.0 c.in_default.ensures.bytes
+returns-in_default-clause-serves g c = serves_idle _ _ _ c.loop.invariant.0 (consumes_kept _ c.loop.invariant.0 c.in_default.ensures.bytes) tt
 
 pub returns-in_default-clause-closed : goal.returns-in_default-clause-closed
 returns-in_default-clause-closed g c = closed_serving c.loop.invariant.0 c.requires.closed
@@ -16,7 +16,7 @@ returns-in_default-clause-closed g c = closed_serving c.loop.invariant.0 c.requi
 
 pub returns-then-count-eq0-clause-serves : goal.returns-then-count-eq0-clause-serves
 returns-then-count-eq0-clause-serves g c =
-    serves_end _ _ c.in-Ok.count c.read.new.buffer c.loop.invariant.0 c.if-count-eq0.true c.in-Ok.ensures.bytes.0
+    serves_idle _ _ _ c.loop.invariant.0 (consumes_none _ c.in-Ok.count c.read.new.buffer c.loop.invariant.0 c.if-count-eq0.true c.in-Ok.ensures.bytes.0) tt
 
 pub returns-then-count-eq0-clause-closed : goal.returns-then-count-eq0-clause-closed
 returns-then-count-eq0-clause-closed g c = closed_serving c.loop.invariant.0 c.requires.closed
@@ -47,7 +47,7 @@ loop-preserved g c =
 -- ---- the reads are over
 
 pub returns-clause-serves : goal.returns-clause-serves
-returns-clause-serves g c = serves_turns _ c.loop.invariant.0
+returns-clause-serves g c = serves_idle _ _ _ c.loop.invariant.0 c.loop.invariant.0.reads tt
 
 pub returns-clause-closed : goal.returns-clause-closed
 returns-clause-closed g c = closed_serving c.loop.invariant.0 c.requires.closed
