@@ -1,5 +1,5 @@
 //! The children of one body: readers and a writer of one cell, and one for which memory is refused.
-ghost use Rattle.std.specs.Prelude.{◌≡◌, ◌++◌, ◌∷◌, [], OnOk, IfOk};
+ghost use Rattle.std.specs.Prelude.{◌≡◌, ◌++◌, ◌∷◌, [], OnOk, IfOk, length};
 ghost use Rattle.ot_depend.specs.Siblings.{IsUnfinished, created};
 
 use super::table::{Asked, assert_rows};
@@ -31,6 +31,7 @@ fn family(alloc: Global) -> Result<Siblings, AllocError>
     ensures zero { IfOk result (λ siblings. IsUnfinished siblings 0) }
     ensures one { IfOk result (λ siblings. IsUnfinished siblings 1) }
     ensures two { IfOk result (λ siblings. IsUnfinished siblings 2) }
+    ensures four { IfOk result (λ siblings. length siblings ≡ 4) }
 {
     let mut siblings = Siblings::new(alloc);
     let _ = add(alloc, &mut siblings, Mode::Reads, &[])?;
@@ -129,4 +130,38 @@ fn a_refused_child_changes_nothing(rt: HostRuntime) {
             None => panic!(rt; "another state"),
         }
     }
+}
+
+/// For how many siblings each child of the family waits by itself, none having finished.
+fn waits(alloc: Global) -> Result<[usize; 4], AllocError> {
+    let family = family(alloc)?;
+    Ok([
+        family.waiting(0),
+        family.waiting(1),
+        family.waiting(2),
+        family.waiting(3),
+    ])
+}
+
+/// Three writers of one cell.
+fn writers(alloc: Global) -> Result<Siblings, AllocError>
+    ensures { IfOk result (λ siblings. length siblings ≡ 3) }
+{
+    let mut siblings = Siblings::new(alloc);
+    let _ = add(alloc, &mut siblings, Mode::Writes, &[])?;
+    let _ = add(alloc, &mut siblings, Mode::Writes, &[])?;
+    let _ = add(alloc, &mut siblings, Mode::Writes, &[])?;
+    Ok(siblings)
+}
+
+/// The last of three writers waits for the one before it alone, though it depends on both.
+#[test]
+fn a_child_waits_for_those_just_before(rt: HostRuntime) -> Result<(), AllocError> {
+    assert_eq!(rt; waits(rt.alloc())?, [0, 0, 2, 1]);
+    let writers = writers(rt.alloc())?;
+    assert_eq!(rt;
+        [writers.waiting(0), writers.waiting(1), writers.waiting(2)],
+        [0, 1, 1]
+    );
+    Ok(())
 }

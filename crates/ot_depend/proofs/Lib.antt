@@ -1,4 +1,16 @@
 pub mod SiblingsLemmas
-pub mod ViewLemmas
 pub mod ReadyLemmas
 pub mod CountLemmas
+pub mod RowLemmas
+pub mod HeartLemmas
+pub mod ListLemmas
+pub mod LinkLemmas
+pub mod AddLemmas
+pub mod ChildrenLemmas
+pub mod WakeLemmas
+pub mod LineLemmas
+pub mod TableLemmas
+pub mod TruthLemmas
+pub mod EnterLemmas
+pub mod KeptLemmas
+pub mod WaitLemmas

@@ -13,16 +13,16 @@ use Rattle.ot_depend.specs.Siblings.{Sibling, IsReady, depends_on, is_ready}
 use Rattle.ot_depend.proofs.SiblingsLemmas.{LetsRun, IsReady-from_All, All-from_IsReady}
 
 -- a test of some element finds one that passes, and one that passes is found
-any_found : {A : Type 0} (P : A → Type 0) (p : A → Bool) → ((x : A) → p x ≡ true → P x) → (xs : List A) → list_any p xs ≡ true → Any P xs
+pub any_found : {A : Type 0} (P : A → Type 0) (p : A → Bool) → ((x : A) → p x ≡ true → P x) → (xs : List A) → list_any p xs ≡ true → Any P xs
 any_found P p passes xs passed = let found = Any-from_list_any p xs passed in (found.0, found.1, found.2, found.3, passes found.1 found.4)
 
-any_tested : {A : Type 0} (P : A → Type 0) (p : A → Bool) → ((x : A) → P x → p x ≡ true) → (xs : List A) → Any P xs → list_any p xs ≡ true
+pub any_tested : {A : Type 0} (P : A → Type 0) (p : A → Bool) → ((x : A) → P x → p x ≡ true) → (xs : List A) → Any P xs → list_any p xs ≡ true
 any_tested P p passes xs (k, x, within, is, holds) = list_any-from_Any p xs (k, x, within, is, passes x holds)
 
-one_cell : (c d : Cell) → same_cell c d ≡ true → c ≡ d
+pub one_cell : (c d : Cell) → same_cell c d ≡ true → c ≡ d
 one_cell c d same = cells.same_cell c d (grind (arith, nat_tests)) (grind (arith, nat_tests))
 
-cell_itself : (c d : Cell) → c ≡ d → same_cell c d ≡ true
+pub cell_itself : (c d : Cell) → c ≡ d → same_cell c d ≡ true
 cell_itself c d is = let array : c.array ≡ d.array = ap (λ x. x.array) is in let index : c.index ≡ d.index = ap (λ x. x.index) is in grind (arith, nat_tests)
 
 both : (a b : Bool) → (a && b) ≡ true → (a ≡ true) × (b ≡ true)

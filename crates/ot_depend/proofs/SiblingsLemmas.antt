@@ -8,7 +8,7 @@ use Rattle.ot_model.specs.declared.stmt.Use.{Use}
 use Rattle.ot_depend.specs.Siblings.{Sibling, IsReady, FinishedAreReady, with_finished}
 
 -- what is put behind a list moves nothing in it
-slice_get-push : {A : Type 0} (xs : List A) (y : A) (i : ℕ) → i < length xs → slice_get (xs ++ y ∷ []) i ≡ slice_get xs i
+pub slice_get-push : {A : Type 0} (xs : List A) (y : A) (i : ℕ) → i < length xs → slice_get (xs ++ y ∷ []) i ≡ slice_get xs i
 slice_get-push [] y i within = absurd (omega arith)
 slice_get-push (x ∷ xs) y zero within = refl
 slice_get-push (x ∷ xs) y (suc i) within = slice_get-push xs y i (omega arith)

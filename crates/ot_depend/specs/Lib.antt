@@ -1,3 +1,9 @@
 pub mod Siblings
 pub mod View
 pub mod Laws
+pub mod Direct
+pub mod Kept
+pub mod Numbers
+pub mod Children
+pub mod Groups
+pub mod Cells

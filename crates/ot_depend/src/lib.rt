@@ -1,7 +1,12 @@
 //! The children of one body, and which of them may run.
 #![tactic(auto)]
 
+mod cells;
+mod child;
+mod groups;
+mod kept;
 pub mod laws;
+mod numbers;
 pub mod siblings;
 
 pub use siblings::Siblings;

@@ -1,42 +1,13 @@
+use crate::kept::Kept;
 use ot_model::Decl;
 use std::alloc::{AllocError, Global};
 use std::marker::Model;
-
-/// One child of the body.
-#[derive(Debug, Drop)]
-struct Child {
-    decl: Decl,
-    /// The groups that were open where it was created.
-    groups: Vec<u32>,
-    finished: bool,
-}
-
-impl Child {
-    ghost use Rattle.std.specs.Prelude.{◌≡◌, ◌↔◌, IsTrue};
-    ghost use Rattle.ot_model.specs.Uses.{DependsOn};
-    ghost use Rattle.ot_depend.specs.Siblings.{is_unfinished_in};
-    ghost use Rattle.ot_depend.specs.View.{sibling_of};
-
-    /// Whether a later sibling with this declaration need not wait for it.
-    fn lets_run(&self, later: &Decl) -> bool
-        ensures { IsTrue result ↔ (DependsOn self.now.decl later.now → IsTrue self.now.finished) }
-    {
-        self.finished || !later.depends_on(&self.decl)
-    }
-
-    /// Whether it has not finished, and was created in this group.
-    fn is_unfinished_in(&self, group: u32) -> bool
-        ensures { result ≡ is_unfinished_in group (sibling_of self.now) }
-    {
-        !self.finished && self.groups.contains(&group)
-    }
-}
 
 /// The children of one body, numbered from 0 in order of their creation: what each declares, the
 /// groups that were open where it was created, and whether it has finished.
 #[derive(Debug, Drop)]
 pub struct Siblings {
-    children: Vec<Child>,
+    kept: Kept,
 }
 
 impl Model for Siblings {
@@ -45,16 +16,16 @@ impl Model for Siblings {
 
     ghost Value = { List Sibling };
 
-    ghost use Rattle.ot_depend.specs.Siblings.{FinishedAreReady};
-    ghost use Rattle.ot_depend.specs.View.{siblings_of};
+    ghost use Rattle.ot_depend.specs.View.{siblings_in, IsKept};
 
-    ghost view = { λ s. siblings_of s.children.items };
+    ghost view = { λ s. siblings_in s.kept };
 
-    ghost invariant = { λ s. FinishedAreReady (siblings_of s.children.items) };
+    ghost invariant = { λ s. IsKept s.kept };
 }
 
 impl Siblings {
-    ghost use Rattle.std.specs.Prelude.{◌≡◌, ◌++◌, ◌↔◌, [], ◌∷◌, IsTrue, IfOk, OnOk, OnErr, length, count_by};
+    ghost use Rattle.std.specs.Prelude.{◌≡◌, ◌<◌, ◌++◌, ◌↔◌, [], ◌∷◌, IsTrue, IfOk, OnOk, OnErr, length, count_by};
+    ghost use Rattle.ot_depend.specs.Direct.{waiting_for};
     ghost use Rattle.ot_depend.specs.Siblings.{IsReady, IsUnfinished, FinishedAreReady, created, with_finished, is_ready, is_unfinished, is_unfinished_in};
 
     /// No children. It takes no memory.
@@ -62,7 +33,7 @@ impl Siblings {
         ensures { result ≡ [] }
     {
         Siblings {
-            children: Vec::new(alloc),
+            kept: Kept::new(alloc),
         }
     }
 
@@ -73,14 +44,9 @@ impl Siblings {
         ensures added { OnOk result (self.new ≡ self.old ++ created decl groups.now ∷ []) }
         ensures refused { OnErr result (self.new ≡ self.old) }
     {
-        let child = self.children.len();
         let groups = groups.to_vec(alloc)?;
-        self.children.push(Child {
-            decl,
-            groups,
-            finished: false,
-        })?;
-        Ok(child)
+        let plan = self.kept.plan(alloc, decl.uses(), &groups)?;
+        Ok(self.kept.add(alloc, decl, groups, &plan))
     }
 
     /// Marks a child as finished. It is to be ready, and not to have finished before. It takes no
@@ -90,7 +56,7 @@ impl Siblings {
         requires unfinished { IsUnfinished self.old child }
         ensures { self.new ≡ with_finished self.old child }
     {
-        self.children[child].finished = true;
+        self.kept.finish(child);
     }
 
     /// Whether the child may run as far as its dependences go: each earlier sibling on which it
@@ -102,12 +68,18 @@ impl Siblings {
         ensures test { result ≡ is_ready self.now child }
         ensures finished { FinishedAreReady self.now }
     {
-        let Some(later) = self.children.get(child) else {
-            return false;
-        };
-        self.children[..child]
-            .iter()
-            .all(|earlier| earlier.lets_run(&later.decl))
+        self.kept.is_ready(child)
+    }
+
+    /// For how many unfinished siblings the child waits by itself: those on which it depends at a
+    /// cell that no sibling between the two writes. It waits for none exactly where it is ready. The
+    /// child is to be known. It takes no memory.
+    pub fn waiting(&self, child: usize) -> usize
+        requires { child < length self.now }
+        ensures exact { result ≡ waiting_for self.now child }
+        ensures none { (result ≡ 0) ↔ IsReady self.now child }
+    {
+        self.kept.waiting(child)
     }
 
     /// How many children have not finished (`taskwait` waits for them, OpenMP API 5.2, section
@@ -115,7 +87,7 @@ impl Siblings {
     pub fn unfinished(&self) -> usize
         ensures { result ≡ count_by is_unfinished self.now }
     {
-        self.children.iter().filter(|child| !child.finished).count()
+        self.kept.unfinished
     }
 
     /// How many children have not finished of those in whose creation this group was open (the end
@@ -123,9 +95,6 @@ impl Siblings {
     pub fn unfinished_in(&self, group: u32) -> usize
         ensures { result ≡ count_by (is_unfinished_in group) self.now }
     {
-        self.children
-            .iter()
-            .filter(|child| child.is_unfinished_in(group))
-            .count()
+        self.kept.groups.of(group)
     }
 }

@@ -1,0 +1,165 @@
+//! For each cell that is declared, the last child that writes it and the children that use it since.
+ghost use Rattle.std.specs.Prelude.{◌≡◌, ◌++◌, ◌<◌, ℕ, IfOk, OnOk, All, Some, length, map, slice_get};
+ghost use Rattle.ot_model.specs.declared.expr.Cell.{Cell};
+
+use crate::numbers::{make_room, put_last};
+use ot_model::{Cell, Mode, Use};
+use std::alloc::{AllocError, Global};
+use std::collections::BTreeMap;
+
+/// The children for whom a child may have to wait that uses the cell next.
+#[derive(Debug, Drop)]
+pub(crate) struct Row {
+    cell: Cell,
+    /// The last child that writes it.
+    writer: Option<usize>,
+    /// The children that use it since then.
+    users: Vec<usize>,
+}
+
+/// A use, with the place of its cell's row.
+#[derive(Clone, Copy, Debug)]
+pub(crate) struct Spot {
+    one: Use,
+    place: usize,
+}
+
+/// The rows, and where that of a cell is.
+#[derive(Debug, Drop)]
+pub(crate) struct Table {
+    places: BTreeMap<(u32, u32), usize>,
+    rows: Vec<Row>,
+}
+
+impl Row {
+    ghost use Rattle.ot_depend.specs.Numbers.{Admits};
+    ghost use Rattle.ot_depend.specs.Kept.{found};
+    ghost use Rattle.ot_depend.specs.Cells.{entry_in, line_of, enter};
+
+    /// A child uses the cell so. There is to be room for it. It takes no memory.
+    fn enter(&mut self, child: usize, mode: Mode)
+        requires { Admits child self.old.users }
+        ensures exact { line_of self.new ≡ enter child mode (line_of self.old) }
+        ensures admits { Admits child self.new.users }
+    {
+        if matches!(mode, Mode::Writes) {
+            self.writer = Some(child);
+            self.users.clear();
+        } else {
+            put_last(&mut self.users, child);
+        }
+    }
+
+    /// Puts the children behind the list for whom one that uses the cell so has to wait.
+    fn list(&self, mode: Mode, earlier: &mut Vec<usize>) -> Result<(), AllocError>
+        ensures { OnOk result (earlier.new.items ≡ earlier.old.items ++ found (entry_in self.now) mode) }
+    {
+        if let Some(writer) = self.writer {
+            earlier.push(writer)?;
+        }
+        let is_written = matches!(mode, Mode::Writes);
+        if is_written {
+            earlier.extend_from_slice(&self.users)?;
+        }
+        Ok(())
+    }
+}
+
+impl Table {
+    ghost use Rattle.ot_depend.specs.declared.cells.Spot.{Spot};
+    ghost use Rattle.ot_depend.specs.Cells.{place_of, lines_of, nobody, entry_of, IsSound, IsPlaced, HasRoomIn, AdmitsIn, enter_all, found_all};
+
+    /// No cell is declared. It takes no memory.
+    pub(crate) fn new(alloc: Global) -> Table
+        ensures sound { IsSound result }
+        ensures empty { (cell : Cell) → entry_of result cell ≡ nobody }
+    {
+        Table {
+            places: BTreeMap::new(alloc),
+            rows: Vec::new(alloc),
+        }
+    }
+
+    /// The place of a cell's row, which is made where the cell has none.
+    fn place(&mut self, alloc: Global, cell: Cell) -> Result<usize, AllocError>
+        requires { IsSound self.old }
+        ensures sound { IsSound self.new }
+        ensures same { (other : Cell) → entry_of self.new other ≡ entry_of self.old other }
+        ensures placed { IfOk result (λ place. place_of self.new cell ≡ Some place) }
+        ensures kept { (other : Cell) (place : ℕ) → place_of self.old other ≡ Some place → place_of self.new other ≡ Some place }
+        ensures rows { (place : ℕ) → place < length self.old.rows.items → slice_get self.new.rows.items place ≡ slice_get self.old.rows.items place }
+    {
+        let key = (cell.array, cell.index);
+        if let Some(place) = self.places.get(&key) {
+            return Ok(*place);
+        }
+        let place = self.rows.len();
+        self.rows.push(Row {
+            cell,
+            writer: None,
+            users: Vec::new(alloc),
+        })?;
+        self.places.insert(key, place)?;
+        Ok(place)
+    }
+
+    /// The use with the place of its cell's row, which has room for one more child.
+    fn spot(&mut self, alloc: Global, one: Use) -> Result<Spot, AllocError>
+        requires { IsSound self.old }
+        ensures sound { IsSound self.new }
+        ensures same { (cell : Cell) → entry_of self.new cell ≡ entry_of self.old cell }
+        ensures itself { IfOk result (λ s. s.one ≡ one) }
+        ensures placed { IfOk result (λ s. IsPlaced self.new s) }
+        ensures made { IfOk result (λ s. HasRoomIn self.new s) }
+        ensures kept { OnOk result ((s : Spot) → IsPlaced self.old s → IsPlaced self.new s × (HasRoomIn self.old s → HasRoomIn self.new s)) }
+    {
+        let place = self.place(alloc, one.cell)?;
+        make_room(&mut self.rows[place].users)?;
+        Ok(Spot { one, place })
+    }
+
+    /// The uses with the places of their rows, each with room for one more child.
+    pub(crate) fn spots(&mut self, alloc: Global, uses: &[Use]) -> Result<Vec<Spot>, AllocError>
+        requires { IsSound self.old }
+        ensures sound { IsSound self.new }
+        ensures same { (cell : Cell) → entry_of self.new cell ≡ entry_of self.old cell }
+        ensures uses { IfOk result (λ spots. map (λ s. s.one) spots.items ≡ uses.now) }
+        ensures placed { IfOk result (λ spots. All (IsPlaced self.new) spots.items) }
+        ensures made { IfOk result (λ spots. All (HasRoomIn self.new) spots.items) }
+    {
+        let mut spots = Vec::new(alloc);
+        for one in uses {
+            let spot = self.spot(alloc, *one)?;
+            spots.push(spot)?;
+        }
+        Ok(spots)
+    }
+
+    /// The children for whom a child that has these uses waits by itself, where they have not
+    /// finished: of each cell the last one that writes it, and where it is written now, those that
+    /// use it since.
+    pub(crate) fn earlier(&self, alloc: Global, spots: &[Spot]) -> Result<Vec<usize>, AllocError>
+        requires sound { IsSound self.now }
+        requires placed { All (IsPlaced self.now) spots.now }
+        ensures { IfOk result (λ earlier. earlier.items ≡ found_all (lines_of self.now.rows.items) spots.now) }
+    {
+        let mut earlier = Vec::new(alloc);
+        for spot in spots {
+            self.rows[spot.place].list(spot.one.mode, &mut earlier)?;
+        }
+        Ok(earlier)
+    }
+
+    /// A child has these uses. There is to be room for it. It takes no memory.
+    pub(crate) fn enter(&mut self, child: usize, spots: &[Spot])
+        requires sound { IsSound self.old }
+        requires placed { All (IsPlaced self.old) spots.now }
+        requires room { All (AdmitsIn child self.old) spots.now }
+        ensures lines { lines_of self.new.rows.items ≡ enter_all child (lines_of self.old.rows.items) spots.now }
+        ensures places { (cell : Cell) → place_of self.new cell ≡ place_of self.old cell }
+    {
+        for spot in spots {
+            self.rows[spot.place].enter(child, spot.one.mode);
+        }
+    }
+}

@@ -1,0 +1,121 @@
+//! The children of a body with what is kept beside them: the rows of the cells and the counters.
+ghost use Rattle.std.specs.Prelude.{◌≡◌, ◌++◌, ◌∷◌, [], ◌↔◌, ◌<◌, IsTrue, IfOk, length};
+ghost use Rattle.ot_depend.specs.Direct.{waiting_for};
+ghost use Rattle.ot_depend.specs.Siblings.{created, with_finished, IsReady, IsUnfinished};
+
+use crate::cells::{Spot, Table};
+use crate::child::{Child, enlist, make_rooms, wake};
+use crate::groups::Groups;
+use ot_model::{Decl, Use};
+use std::alloc::{AllocError, Global};
+
+/// The children, and what is kept so that none has to be passed over.
+#[derive(Debug, Drop)]
+pub(crate) struct Kept {
+    pub(crate) children: Vec<Child>,
+    cells: Table,
+    /// How many have not finished, by group.
+    pub(crate) groups: Groups,
+    /// How many have not finished.
+    pub(crate) unfinished: usize,
+}
+
+/// What was looked up for a child that is to be added.
+#[derive(Debug, Drop)]
+pub(crate) struct Plan {
+    spots: Vec<Spot>,
+    /// The children for whom it waits by itself, where they have not finished.
+    earlier: Vec<usize>,
+}
+
+impl Kept {
+    ghost use Rattle.ot_depend.specs.View.{siblings_in, IsKept, IsPlanned};
+
+    /// No children. It takes no memory.
+    pub(crate) fn new(alloc: Global) -> Kept
+        ensures none { siblings_in result ≡ [] }
+        ensures kept { IsKept result }
+    {
+        Kept {
+            children: Vec::new(alloc),
+            cells: Table::new(alloc),
+            groups: Groups::new(alloc),
+            unfinished: 0,
+        }
+    }
+
+    /// Looks up what adding a child with these uses needs, and makes room for it.
+    pub(crate) fn plan(
+        &mut self,
+        alloc: Global,
+        uses: &[Use],
+        groups: &[u32],
+    ) -> Result<Plan, AllocError>
+        requires { IsKept self.old }
+        ensures kept { IsKept self.new }
+        ensures same { siblings_in self.new ≡ siblings_in self.old }
+        ensures planned { IfOk result (λ plan. IsPlanned self.new plan uses.now groups.now) }
+    {
+        self.groups.make_room(groups)?;
+        let spots = self.cells.spots(alloc, uses)?;
+        let earlier = self.cells.earlier(alloc, &spots)?;
+        make_rooms(&mut self.children, &earlier)?;
+        self.children.reserve(1)?;
+        Ok(Plan { spots, earlier })
+    }
+
+    /// Adds a child as planned, and tells its number. It takes no memory.
+    pub(crate) fn add(&mut self, alloc: Global, decl: Decl, groups: Vec<u32>, plan: &Plan) -> usize
+        requires kept { IsKept self.old }
+        requires planned { IsPlanned self.old plan.now decl groups.items }
+        ensures number { result ≡ length (siblings_in self.old) }
+        ensures added { siblings_in self.new ≡ siblings_in self.old ++ created decl groups.items ∷ [] }
+        ensures kept { IsKept self.new }
+    {
+        let child = self.children.len();
+        let waiting = enlist(&mut self.children, &plan.earlier, child);
+        self.cells.enter(child, &plan.spots);
+        self.groups.raise(&groups);
+        self.unfinished += 1;
+        self.children.push_reserved(Child {
+            decl,
+            groups,
+            finished: false,
+            waiting,
+            waiters: Vec::new(alloc),
+        });
+        child
+    }
+
+    /// Marks a child as finished, and tells those that wait for it. It takes no memory.
+    pub(crate) fn finish(&mut self, child: usize)
+        requires kept { IsKept self.old }
+        requires ready { IsReady (siblings_in self.old) child }
+        requires unfinished { IsUnfinished (siblings_in self.old) child }
+        ensures marked { siblings_in self.new ≡ with_finished (siblings_in self.old) child }
+        ensures kept { IsKept self.new }
+    {
+        wake(&mut self.children, child);
+        self.groups.lower(&self.children[child].groups);
+        self.unfinished -= 1;
+        self.children[child].finished = true;
+    }
+
+    /// Whether the child is known and waits for none.
+    pub(crate) fn is_ready(&self, child: usize) -> bool
+        requires { IsKept self.now }
+        ensures { IsTrue result ↔ IsReady (siblings_in self.now) child }
+    {
+        child < self.children.len() && self.children[child].waiting == 0
+    }
+
+    /// For how many unfinished children a known child waits by itself.
+    pub(crate) fn waiting(&self, child: usize) -> usize
+        requires kept { IsKept self.now }
+        requires known { child < length (siblings_in self.now) }
+        ensures exact { result ≡ waiting_for (siblings_in self.now) child }
+        ensures none { (result ≡ 0) ↔ IsReady (siblings_in self.now) child }
+    {
+        self.children[child].waiting
+    }
+}
