@@ -1,0 +1,118 @@
+-- An `if` and a wait are executed: what holds of the region stays.
+use Rattle.std.proofs.Common.{◌≡◌, ℕ, ◌<◌, Bool, true, false, ◌&&◌, List, [], ◌∷◌, length, refl, sym, ap, subst, ◌∙◌, true≢false, inl, inr}
+use Rattle.std.specs.Prelude.{if◌then◌else◌, Some}
+use Rattle.std.specs.List.{list_any}
+use Rattle.ot_check.proofs.Bits.{or_true, true_or, or_right, and_left, and_right, and_true}
+use Rattle.ot_depend.specs.Siblings.{Sibling, is_unfinished}
+use Rattle.ot_model.specs.declared.expr.Cell.{Cell}
+use Rattle.ot_model.specs.Tree.{E, If, Group, Wait, Body, Next, append}
+use Rattle.ot_model.specs.Cells.{updated}
+use Rattle.ot_model.specs.declared.stmt.Use.{Use}
+use Rattle.ot_check.specs.Offences.{allows}
+use Rattle.ot_check.specs.Touches.{EachTouch, EachTask}
+use Rattle.ot_job.specs.Place.{todo, IsFineAt, AwaitsAll, unawaited}
+use Rattle.ot_job.proofs.PlaceLemmas.{at-one, at-two, at-wait, at-enter}
+use Rattle.ot_job.specs.Regions.{Region, with_rest, inside}
+use Rattle.ot_job.specs.Sound.{at, LetsAll, IsPlaced, IsSound}
+use Rattle.ot_job.proofs.KeptLemmas.{todo-append, todo-next}
+use Rattle.ot_job.proofs.GroupLemmas.{touch-append, task-append, placed-enter}
+use Rattle.ot_job.proofs.AwaitsLemmas.{awaits-one, awaits-two, awaits-wait, awaits-enter}
+use Rattle.ot_job.proofs.FreeLemmas.{fine-innermost}
+use Rattle.ot_job.proofs.ChangedLemmas.{sound-changed}
+
+abbrev pub waits : Body → Region → Region
+waits rest r = record r { rest = rest; waiting = true }
+
+module _ (r : Region) (p : IsPlaced r) (alive : r.ended ≡ false) where
+  placed-next : (next : Body) → IsFineAt r.own (unawaited r.waiting r.children) next r.groups → EachTouch (λ u. allows r.own u ≡ true) (todo next r.groups)
+      → EachTask LetsAll (todo next r.groups) → ((uses : List Use) → r.own ≡ Some uses → AwaitsAll (unawaited r.waiting r.children) next r.groups) → IsPlaced (with_rest next r)
+  placed-next next fine inside tasks awaits = record {
+    fine = fine;
+    inside = inside;
+    tasks = tasks;
+    awaits = awaits;
+    within = p.within;
+    apart = p.apart;
+    over = λ e. absurd (true≢false (sym e ∙ alive));
+    writes = p.writes;
+    sums = p.sums;
+    reduced = p.reduced;
+    exclusive = p.exclusive;
+  }
+
+  pub placed-branch : (taken : Bool) (e : E) (a b rest : Body) → r.rest ≡ Next (If e a b) rest → IsPlaced (with_rest (append (if taken then a else b) rest) r)
+  placed-branch taken e a b rest was = by taken
+    where
+      P : Use → Type 0
+      P u = allows r.own u ≡ true
+
+      each : EachTask LetsAll (Next (If e a b) (todo rest r.groups))
+      each = subst (EachTask LetsAll) (ap (λ x. todo x r.groups) was ∙ todo-next (If e a b) rest r.groups) p.tasks
+
+      await : (uses : List Use) → r.own ≡ Some uses → AwaitsAll (unawaited r.waiting r.children) (Next (If e a b) rest) r.groups
+      await uses own = subst (λ x. AwaitsAll (unawaited r.waiting r.children) x r.groups) was (p.awaits uses own)
+
+      fine : IsFineAt r.own (unawaited r.waiting r.children) (Next (If e a b) rest) r.groups
+      fine = subst (λ x. IsFineAt r.own (unawaited r.waiting r.children) x r.groups) was p.fine
+
+      by : (t : Bool) → IsPlaced (with_rest (append (if t then a else b) rest) r)
+      by true = let t = subst (EachTouch (λ u. allows r.own u ≡ true)) (ap (λ x. todo x r.groups) was ∙ todo-next (If e a b) rest r.groups) p.inside in
+          placed-next (append a rest) (at-one r.own (unawaited r.waiting r.children) e a b rest r.groups fine)
+          (subst (EachTouch (λ u. allows r.own u ≡ true)) (sym (todo-append a rest r.groups)) (touch-append (λ u. allows r.own u ≡ true) a (todo rest r.groups) t.0.1 t.1))
+          (subst (EachTask LetsAll) (sym (todo-append a rest r.groups)) (task-append LetsAll a (todo rest r.groups) each.0.0 each.1))
+          (λ uses own. awaits-one (unawaited r.waiting r.children) e a b rest r.groups (await uses own))
+      by false = let t = subst (EachTouch (λ u. allows r.own u ≡ true)) (ap (λ x. todo x r.groups) was ∙ todo-next (If e a b) rest r.groups) p.inside in
+          placed-next (append b rest) (at-two r.own (unawaited r.waiting r.children) e a b rest r.groups fine)
+          (subst (EachTouch (λ u. allows r.own u ≡ true)) (sym (todo-append b rest r.groups)) (touch-append (λ u. allows r.own u ≡ true) b (todo rest r.groups) t.0.2 t.1))
+          (subst (EachTask LetsAll) (sym (todo-append b rest r.groups)) (task-append LetsAll b (todo rest r.groups) each.0.1 each.1))
+          (λ uses own. awaits-two (unawaited r.waiting r.children) e a b rest r.groups (await uses own))
+
+  pub placed-wait : (rest : Body) → r.rest ≡ Next Wait rest → IsPlaced (waits rest r)
+  placed-wait rest was =
+      let t = subst (EachTouch (λ u. allows r.own u ≡ true)) (ap (λ x. todo x r.groups) was ∙ todo-next Wait rest r.groups) p.inside in
+      record {
+        fine = at-wait r.own (unawaited r.waiting r.children) rest r.groups (subst (λ x. IsFineAt r.own (unawaited r.waiting r.children) x r.groups) was p.fine);
+        inside = t.1;
+        tasks = (subst (EachTask LetsAll) (ap (λ x. todo x r.groups) was ∙ todo-next Wait rest r.groups) p.tasks).1;
+        awaits = λ uses own. awaits-wait (unawaited r.waiting r.children) rest r.groups (subst (λ x. AwaitsAll (unawaited r.waiting r.children) x r.groups) was (p.awaits uses own));
+        within = p.within;
+        apart = p.apart;
+        over = λ e. absurd (true≢false (sym e ∙ alive));
+        writes = p.writes;
+        sums = p.sums;
+        reduced = p.reduced;
+        exclusive = p.exclusive;
+      }
+
+module _ (ws : List Region) (s : IsSound ws) (i : ℕ) (h : i < length ws) (alive : (at ws i).ended ≡ false) where
+  pub sound-branch : (taken : Bool) (e : E) (a b rest : Body) → (at ws i).rest ≡ Next (If e a b) rest → IsSound (updated ws i (with_rest (append (if taken then a else b) rest)))
+  sound-branch taken e a b rest was =
+      sound-changed ws i (with_rest (append (if taken then a else b) rest)) h (record { parent = λ r. refl; child = λ r. refl; own = λ r. refl; children = λ r. refl; ended = λ r. refl }) s
+      (placed-branch (at ws i) (s.placed i) alive taken e a b rest was)
+
+  pub sound-wait : (rest : Body) → (at ws i).rest ≡ Next Wait rest → IsSound (updated ws i (waits rest))
+  sound-wait rest was =
+      sound-changed ws i (waits rest) h (record { parent = λ r. refl; child = λ r. refl; own = λ r. refl; children = λ r. refl; ended = λ r. refl }) s (placed-wait (at ws i) (s.placed i) alive rest was)
+
+weaker-any : (kids : List Sibling) (f g : Sibling → Bool) → ((s : Sibling) → f s ≡ true → g s ≡ true) → list_any (λ s. is_unfinished s && f s) kids ≡ true → list_any (λ s. is_unfinished s && g s) kids ≡ true
+weaker-any [] f g w h = h
+weaker-any (x ∷ kids) f g w h =
+    elim (or_true (is_unfinished x && f x) (list_any (λ s. is_unfinished s && f s) kids) h) [
+      | inl e ↦ true_or (is_unfinished x && g x) (list_any (λ s. is_unfinished s && g s) kids) (and_true (is_unfinished x) (g x) (and_left (is_unfinished x) (f x) e) (w x (and_right (is_unfinished x) (f x) e)))
+      | inr e ↦ or_right (is_unfinished x && g x) (list_any (λ s. is_unfinished s && g s) kids) (weaker-any kids f g w e)
+    ]
+
+monotone : (waiting : Bool) (kids : List Sibling) (f g : Sibling → Bool) → ((s : Sibling) → f s ≡ true → g s ≡ true) → unawaited waiting kids f ≡ true → unawaited waiting kids g ≡ true
+monotone true kids f g w h = h
+monotone false kids f g w h = weaker-any kids f g w h
+
+module _ (ws : List Region) (s : IsSound ws) (i : ℕ) (h : i < length ws) (calm : (at ws i).waiting ≡ false) where
+  pub sound-enter : (g : ℕ) (cs : List Cell) (b rest : Body) → (at ws i).rest ≡ Next (Group cs b) rest → IsSound (updated ws i (λ r. inside g cs b (with_rest rest r)))
+  sound-enter g cs b rest was =
+      let r = at ws i in
+      let fine = subst (λ x. IsFineAt r.own (unawaited r.waiting r.children) x r.groups) was (s.placed i).fine in
+      sound-changed ws i (λ r. inside g cs b (with_rest rest r)) h (record { parent = λ r. refl; child = λ r. refl; own = λ r. refl; children = λ r. refl; ended = λ r. refl }) s
+      (placed-enter r (s.placed i) g cs b rest was calm (fine-innermost r.own (unawaited r.waiting r.children) (Next (Group cs b) rest) r.groups fine).0
+      (at-enter r.own (unawaited r.waiting r.children) cs b rest g r.groups (λ f k w u. monotone r.waiting r.children f k w u) fine)
+      (λ uses own. awaits-enter (unawaited r.waiting r.children) cs b rest g r.groups (λ f k w u. monotone r.waiting r.children f k w u)
+      (subst (λ x. AwaitsAll (unawaited r.waiting r.children) x r.groups) was ((s.placed i).awaits uses own))))

@@ -1,0 +1,130 @@
+-- A task goes on where neither a wait nor a group's end holds it.
+use Rattle.std.proofs.Common.{◌≡◌, ℕ, zero, suc, ◌+◌, ◌<◌, Bool, true, false, cond, not, ◌&&◌, ◌||◌, List, [], ◌∷◌, length, refl, sym, ap, subst, ◌∙◌, inl, inr, arith, true≢false}
+use Rattle.std.specs.Prelude.{Some, slice_get, count_by, ◌==◌}
+use Rattle.std.specs.List.{list_any}
+use Rattle.std.proofs.lemmas.Bool.Decides.{nat_tests}
+use Rattle.std.proofs.lemmas.List.Sums.{sum_by-cons}
+use Rattle.ot_model.specs.Tree.{Body, End, Next}
+use Rattle.ot_model.specs.Cells.{updated}
+use Rattle.ot_depend.specs.Siblings.{Sibling, is_unfinished, is_unfinished_in, is_in}
+use Rattle.ot_check.proofs.Bits.{or_true, true_or, or_right, and_left, and_right}
+use Rattle.ot_job.specs.Place.{Open, IsFineAt, AwaitsAll, unawaited}
+use Rattle.ot_job.proofs.PlaceLemmas.{at-fewer, at-leave}
+use Rattle.ot_job.proofs.AwaitsLemmas.{awaits-fewer, awaits-leave}
+use Rattle.ot_job.specs.Regions.{Region}
+use Rattle.ot_job.specs.Sound.{at, IsPlaced, IsSound}
+use Rattle.ot_job.specs.Pieces.{passed, awake}
+use Rattle.ot_job.specs.Claiming.{is_let_go, end_lets_go}
+use Rattle.ot_job.proofs.GroupLemmas.{placed-leave}
+use Rattle.ot_job.proofs.ChangedLemmas.{sound-changed}
+
+-- none passes where none is counted
+none-counted : (p : Sibling → Bool) (kids : List Sibling) → count_by p kids ≡ 0 → list_any p kids ≡ false
+none-counted p [] h = refl
+none-counted p (x ∷ kids) h = by (none-counted p kids) (p x) refl
+  where
+    sum : cond (p x) 1 0 + count_by p kids ≡ 0
+    sum = sym (sum_by-cons (λ s. cond (p s) 1 0) x kids) ∙ h
+
+    by : (count_by p kids ≡ 0 → list_any p kids ≡ false) → (b : Bool) → p x ≡ b → list_any p (x ∷ kids) ≡ false
+    by more true e = absurd (let one : 1 + count_by p kids ≡ 0 = (rw e at sum) in omega (arith, one))
+    by more false e = rw e (more (let rest : 0 + count_by p kids ≡ 0 = (rw e at sum) in omega (arith, rest)))
+
+weaker-any : (p q : Sibling → Bool) → ((s : Sibling) → p s ≡ true → q s ≡ true) → (kids : List Sibling) → list_any p kids ≡ true → list_any q kids ≡ true
+weaker-any p q f [] h = h
+weaker-any p q f (x ∷ kids) h =
+    elim (or_true (p x) (list_any p kids) h) [
+      | inl e ↦ true_or (q x) (list_any q kids) (f x e)
+      | inr e ↦ or_right (q x) (list_any q kids) (weaker-any p q f kids e)
+    ]
+
+pub is-zero : (n : ℕ) → (n == 0) ≡ true → n ≡ 0
+is-zero n h = grind (arith, nat_tests)
+
+module _ (r : Region) (p : IsPlaced r) where
+  pub placed-calm : (r.waiting ≡ true → count_by is_unfinished r.children ≡ 0) → IsPlaced (record r { waiting = false })
+  placed-calm none = record {
+    fine = at-fewer r.own (unawaited false r.children) (unawaited r.waiting r.children) r.rest r.groups (λ test h. by test h r.waiting refl) p.fine;
+    inside = p.inside;
+    tasks = p.tasks;
+    awaits = λ uses own. awaits-fewer (unawaited false r.children) (unawaited r.waiting r.children) r.rest r.groups (λ test h. by test h r.waiting refl) (p.awaits uses own);
+    within = p.within;
+    apart = p.apart;
+    over = p.over;
+    writes = p.writes;
+    sums = p.sums;
+    reduced = p.reduced;
+    exclusive = p.exclusive;
+  }
+    where
+      by : (test : Sibling → Bool) → unawaited false r.children test ≡ true → (w : Bool) → r.waiting ≡ w → unawaited r.waiting r.children test ≡ true
+      by test h true e = absurd (true≢false (sym (weaker-any (λ s. is_unfinished s && test s) is_unfinished (λ s g. and_left (is_unfinished s) (test s) g) r.children h) ∙ none-counted is_unfinished r.children (none e)))
+      by test h false e = rw e h
+
+-- none that has not finished was created in the group
+not-in : (g : ℕ) (kids : List Sibling) → list_any (is_unfinished_in g) kids ≡ false → (k : ℕ) (s : Sibling) → slice_get kids k ≡ Some s → s.finished ≡ false → is_in g s ≡ false
+not-in g [] none k s there alive = cc
+not-in g (x ∷ kids) none zero s there alive =
+    let here : x ≡ s = cc in
+    bits (is_unfinished s) (is_in g s) (ap not alive) (subst (λ (y : Sibling). (is_unfinished y && is_in g y) ≡ false) here (left (is_unfinished_in g x) (list_any (is_unfinished_in g) kids) none))
+  where
+    left : (a b : Bool) → (a || b) ≡ false → a ≡ false
+    left true b h = h
+    left false b h = refl
+
+    bits : (u t : Bool) → u ≡ true → (u && t) ≡ false → t ≡ false
+    bits true t h g = g
+    bits false t h g = absurd (true≢false (sym h))
+not-in g (x ∷ kids) none (suc k) s there alive = not-in g kids (right (is_unfinished_in g x) (list_any (is_unfinished_in g) kids) none) k s there alive
+  where
+    right : (a b : Bool) → (a || b) ≡ false → b ≡ false
+    right true b h = absurd (true≢false h)
+    right false b h = h
+
+-- they are all created elsewhere
+elsewhere : (g : ℕ) (kids : List Sibling) → list_any (is_unfinished_in g) kids ≡ false → (test : Sibling → Bool)
+    → list_any (λ s. is_unfinished s && test s) kids ≡ true → list_any (λ s. is_unfinished s && (not (is_in g s) && test s)) kids ≡ true
+elsewhere g [] none test h = h
+elsewhere g (x ∷ kids) none test h =
+    bits (is_unfinished x) (is_in g x) (test x) _ _ _ none h (λ n l. elsewhere g kids n test l)
+  where
+    bits : (u i t n l m : Bool) → ((u && i) || n) ≡ false → ((u && t) || l) ≡ true → (n ≡ false → l ≡ true → m ≡ true) → ((u && (not i && t)) || m) ≡ true
+    bits true true t n l m a b f = absurd (true≢false a)
+    bits true false true n l m a b f = refl
+    bits true false false n l m a b f = f a b
+    bits false i t n l m a b f = f a b
+
+module _ (r : Region) (p : IsPlaced r) (calm : r.waiting ≡ false) where
+  pub placed-passed : (rest : Body) (gs : List Open) → r.rest ≡ rest → r.groups ≡ gs → end_lets_go rest gs r.children ≡ true
+      → IsPlaced (record r { rest = (passed rest gs).rest; groups = (passed rest gs).groups })
+  placed-passed (Next x b) gs was here go = subst IsPlaced (ap (λ b. record r { rest = b }) was ∙ ap (λ g. record r { rest = Next x b; groups = g }) here) p
+  placed-passed End [] was here go = subst IsPlaced (ap (λ b. record r { rest = b }) was ∙ ap (λ g. record r { rest = End; groups = g }) here) p
+  placed-passed End (o ∷ os) was here go =
+      let none = none-counted (is_unfinished_in o.group) r.children (is-zero _ go) in
+      placed-leave r p o os was here (not-in o.group r.children none)
+      (subst (λ w. IsFineAt r.own (unawaited w r.children) o.behind os) (sym calm)
+      (at-leave r.own (unawaited false r.children) o os (λ test h. elsewhere o.group r.children none test h)
+      (subst (λ gs. IsFineAt r.own (unawaited false r.children) End gs) here
+      (subst (λ b. IsFineAt r.own (unawaited false r.children) b r.groups) was
+      (subst (λ w. IsFineAt r.own (unawaited w r.children) r.rest r.groups) calm p.fine)))))
+      (λ uses own.
+      subst (λ w. AwaitsAll (unawaited w r.children) o.behind os) (sym calm)
+      (awaits-leave (unawaited false r.children) o os (λ test h. elsewhere o.group r.children none test h)
+      (subst (λ gs. AwaitsAll (unawaited false r.children) End gs) here
+      (subst (λ b. AwaitsAll (unawaited false r.children) b r.groups) was
+      (subst (λ w. AwaitsAll (unawaited w r.children) r.rest r.groups) calm (p.awaits uses own))))))
+
+pub placed-awake : (r : Region) → IsPlaced r → is_let_go r ≡ true → IsPlaced (awake r)
+placed-awake r p go =
+    let wait = and_left (not r.waiting || (count_by is_unfinished r.children == 0)) (end_lets_go r.rest r.groups r.children) go in
+    placed-passed (record r { waiting = false }) (placed-calm r p (λ w. is-zero _ (by r.waiting _ w wait))) refl r.rest r.groups refl refl
+    (and_right (not r.waiting || (count_by is_unfinished r.children == 0)) (end_lets_go r.rest r.groups r.children) go)
+  where
+    by : (w b : Bool) → w ≡ true → (not w || b) ≡ true → b ≡ true
+    by true b e h = h
+    by false b e h = absurd (true≢false (sym e))
+
+-- a claim leaves a job sound
+pub sound-awake : (rs : List Region) (i : ℕ) → i < length rs → IsSound rs → is_let_go (at rs i) ≡ true → IsSound (updated rs i awake)
+sound-awake rs i h s go =
+    sound-changed rs i awake h (record { parent = λ r. refl; child = λ r. refl; own = λ r. refl; children = λ r. refl; ended = λ r. refl }) s (placed-awake (at rs i) (s.placed i) go)

@@ -1,0 +1,74 @@
+-- One region moves on, and who is whose child stays.
+use Rattle.std.proofs.Common.{◌≡◌, ℕ, ◌<◌, List, length, sym, ap, subst, ◌∙◌, ◌⊎◌, inl, inr, arith}
+use Rattle.std.specs.Prelude.{slice_get}
+use Rattle.std.proofs.lemmas.Bool.{cases_eq}
+use Rattle.ot_model.specs.Cells.{updated}
+use Rattle.ot_model.proofs.CellsLemmas.{length-updated}
+use Rattle.ot_depend.specs.Siblings.{IsReady}
+use Rattle.ot_job.specs.Regions.{Region}
+use Rattle.ot_job.specs.Sound.{at, parent_of, IsBegun, IsPlaced, IsSound}
+use Rattle.ot_job.proofs.KeptLemmas.{at-updated, at-updated-other}
+
+-- what says who is whose child stays
+pub record IsKept (f : Region → Region) : Type 0 where
+  pub parent : (r : Region) → (f r).parent ≡ r.parent
+  pub child : (r : Region) → (f r).child ≡ r.child
+  pub own : (r : Region) → (f r).own ≡ r.own
+  pub children : (r : Region) → (f r).children ≡ r.children
+  pub ended : (r : Region) → (f r).ended ≡ r.ended
+
+module _ (rs : List Region) (i : ℕ) (f : Region → Region) (h : i < length rs) (k : IsKept f) where
+  field : {A : Type 0} (g : Region → A) → ((r : Region) → g (f r) ≡ g r) → (j : ℕ) → g (at (updated rs i f) j) ≡ g (at rs j)
+  field g keeps j = pick (cases_eq j i)
+    where
+      pick : (j ≡ i) ⊎ (j ≡ i → ⊥) → g (at (updated rs i f) j) ≡ g (at rs j)
+      pick (inl e) = ap (λ n. g (at (updated rs i f) n)) e ∙ ap g (at-updated rs i f h) ∙ keeps (at rs i) ∙ ap (λ n. g (at rs n)) (sym e)
+      pick (inr e) = ap g (at-updated-other rs i j f e)
+
+  parents-same : (j : ℕ) → parent_of (updated rs i f) j ≡ parent_of rs j
+  parents-same = field (λ r. r.parent) k.parent
+
+  table : (j : ℕ) → (at (updated rs i f) (parent_of (updated rs i f) j)).children ≡ (at rs (parent_of rs j)).children
+  table j = field (λ r. r.children) k.children (parent_of (updated rs i f) j) ∙ ap (λ p. (at rs p).children) (parents-same j)
+
+  pub begun-changed : (j : ℕ) → IsBegun rs j → IsBegun (updated rs i f) j
+  begun-changed j b pos =
+      let r = b pos in (
+        omega (arith, r.0, length-updated rs i f),
+        subst (λ c. IsReady (at (updated rs i f) (parent_of (updated rs i f) j)).children c) (sym (field (λ r. r.child) k.child j)) (subst (λ t. IsReady t (at rs j).child) (sym (table j)) r.1),
+      )
+
+  pub sound-changed : IsSound rs → IsPlaced (f (at rs i)) → IsSound (updated rs i f)
+  sound-changed s placed = record {
+    root = field (λ r. r.own) k.own 0 ∙ s.root;
+    top = parents-same 0 ∙ s.top;
+    down = λ j pos. subst (λ n. n < j) (sym (parents-same j)) (s.down j pos);
+    kin = λ j pos below.
+        let w = s.kin j pos (omega (arith, below, length-updated rs i f)) in
+        record {
+          entry = w.entry;
+          there = ap (λ t. slice_get t (at (updated rs i f) j).child) (table j) ∙ ap (slice_get (at rs (parent_of rs j)).children) (field (λ r. r.child) k.child j) ∙ w.there;
+          uses = field (λ r. r.own) k.own j ∙ w.uses;
+          finished = w.finished ∙ sym (field (λ r. r.ended) k.ended j);
+        };
+    entries = λ p l x there.
+        let e = s.entries p l x (ap (λ t. slice_get t l) (sym (field (λ r. r.children) k.children p)) ∙ there) in
+        record {
+          task = e.task;
+          below = e.below;
+          known = omega (arith, e.known, length-updated rs i f);
+          of = parents-same e.task ∙ e.of;
+          is = field (λ r. r.child) k.child e.task ∙ e.is;
+        };
+    older = λ a b pos lt below same.
+        let o = s.older a b pos lt (omega (arith, below, length-updated rs i f)) (sym (parents-same b) ∙ same ∙ parents-same a) in
+        omega (arith, o, field (λ r. r.child) k.child a, field (λ r. r.child) k.child b);
+    begun = λ j pos below. subst (IsBegun (updated rs i f)) (sym (parents-same j)) (begun-changed (parent_of rs j) (s.begun j pos (omega (arith, below, length-updated rs i f))));
+    placed = λ j. at-place j (cases_eq j i);
+    done = λ j pos over l x there.
+        s.done j pos (sym (field (λ r. r.ended) k.ended j) ∙ over) l x (ap (λ t. slice_get t l) (sym (field (λ r. r.children) k.children j)) ∙ there);
+  }
+    where
+      at-place : (j : ℕ) → (j ≡ i) ⊎ (j ≡ i → ⊥) → IsPlaced (at (updated rs i f) j)
+      at-place j (inl e) = subst (λ n. IsPlaced (at (updated rs i f) n)) (sym e) (subst IsPlaced (sym (at-updated rs i f h)) placed)
+      at-place j (inr e) = subst IsPlaced (sym (at-updated-other rs i j f e)) (s.placed j)

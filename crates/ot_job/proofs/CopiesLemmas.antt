@@ -1,0 +1,95 @@
+-- Assignments on copies, given back, are the assignments on the cells.
+use Rattle.std.proofs.Common.{◌≡◌, ℕ, ◌+◌, ◌%◌, ◌^◌, Bool, true, false, refl, sym, ap, subst, ◌∙◌, inl, inr, arith}
+use Rattle.std.specs.Prelude.{if◌then◌else◌, Option, Some, None, option_map}
+use Rattle.std.proofs.Math.Nat.{mod-add-mod, add-mod-mod}
+use Rattle.ot_model.specs.Tree.{E, Set, Add, If, Task, Wait, Group, Body, End, Next}
+use Rattle.ot_model.specs.Value.{val}
+use Rattle.ot_model.specs.Cells.{cell_of, with_cell}
+use Rattle.ot_model.specs.Serial.{State, bump, change, serial}
+use Rattle.ot_model.specs.declared.expr.Cell.{Cell}
+use Rattle.ot_model.specs.declared.stmt.Mode.{Mode}
+use Rattle.ot_model.specs.declared.stmt.Mode.TheVariants.{Reads, Writes, Adds}
+use Rattle.ot_model.proofs.CellsLemmas as model
+use Rattle.ot_check.specs.Paths.{use_as}
+use Rattle.ot_model.specs.Cells.{same_cell}
+use Rattle.ot_check.specs.Touches.{EachRead, EachTouch}
+use Rattle.ot_check.proofs.ApartLemmas.{read-weaker, value-same}
+use Rattle.ot_job.specs.Copies.{Look, with_copy, assigned, IsGiven, Lets, LetsMode}
+use Rattle.ot_check.specs.walk.Fine.{AreAssigns}
+use Rattle.ot_check.proofs.SameLemmas.{same_is}
+use Rattle.ot_job.proofs.CellLemmas.{same_self}
+
+module _ (modes : Cell → Option Mode) (before : Look) where
+  abbrev pub Given : Look → State → Type 0
+  Given copies s = (d : Cell) → IsGiven (modes d) (before d) (copies d) (cell_of s.cells d)
+
+  -- what may be read has its value in the copy
+  read-same : (o : Option Mode) (was copy now : Option ℕ) → IsGiven o was copy now → LetsMode Reads o → now ≡ copy
+  read-same None was copy now g may = absurd may
+  read-same (Some Reads) was copy now g may = g.0 ∙ sym g.1
+  read-same (Some Writes) was copy now g may = g
+  read-same (Some Adds) was copy now g may = absurd may
+
+  pub value-copies : (copies : Look) (s : State) (e : E) → Given copies s → EachRead (λ c. Lets modes (use_as Reads c)) e → val (cell_of s.cells) e ≡ val copies e
+  value-copies copies s e g may = value-same (cell_of s.cells) copies e (read-weaker _ _ e (λ c h. read-same (modes c) (before c) (copies c) (cell_of s.cells c) (g c) h) may)
+
+  sums : (a b c : ℕ) → ((a + b) % 2 ^ 64 + c) % 2 ^ 64 ≡ (a + (b + c) % 2 ^ 64) % 2 ^ 64
+  sums a b c =
+      let e : a + b + c ≡ a + (b + c) = omega arith in
+      mod-add-mod (a + b) (2 ^ 64) c ∙ ap (λ m. m % 2 ^ 64) e ∙ sym (add-mod-mod a (b + c) (2 ^ 64))
+
+  set_at : (o : Option Mode) (was copy now : Option ℕ) (n : ℕ) → LetsMode Writes o → IsGiven o was copy now
+      → IsGiven o was (option_map (λ _. n) copy) (option_map (λ _. n) now)
+  set_at None was copy now n may g = absurd may
+  set_at (Some Reads) was copy now n may g = absurd may
+  set_at (Some Writes) was copy now n may g = ap (option_map (λ _. n)) g
+  set_at (Some Adds) was copy now n may g = absurd may
+
+  add_at : (o : Option Mode) (was copy now : Option ℕ) (v : ℕ) → LetsMode Adds o → IsGiven o was copy now
+      → IsGiven o was (option_map (λ n. (n + v) % 2 ^ 64) copy) (option_map (λ n. (n + v) % 2 ^ 64) now)
+  add_at None was copy now v may g = absurd may
+  add_at (Some Reads) was copy now v may g = absurd may
+  add_at (Some Writes) was copy now v may g = ap (option_map (λ n. (n + v) % 2 ^ 64)) g
+  add_at (Some Adds) was copy now v may (stored, sum, p, q, inl r) =
+      (stored, (sum + v) % 2 ^ 64, p, ap (option_map (λ n. (n + v) % 2 ^ 64)) q, inl (ap (option_map (λ n. (n + v) % 2 ^ 64)) r ∙ ap Some (sums stored sum v)))
+  add_at (Some Adds) was copy now v may (stored, sum, p, q, inr r) =
+      let z : sum + v ≡ v = omega (arith, r.0) in (
+        stored,
+        (sum + v) % 2 ^ 64,
+        p,
+        ap (option_map (λ n. (n + v) % 2 ^ 64)) q,
+        inl (ap (option_map (λ n. (n + v) % 2 ^ 64)) (r.1 ∙ p) ∙ ap Some (sym (add-mod-mod stored v (2 ^ 64)) ∙ ap (λ m. (stored + m % 2 ^ 64) % 2 ^ 64) (sym z))),
+      )
+
+  -- one copy and its cell change alike, and no other does
+  moved : (copies : Look) (s : State) (c : Cell) (f : ℕ → ℕ) → Given copies s
+      → IsGiven (modes c) (before c) (option_map f (copies c)) (option_map f (cell_of s.cells c)) → Given (with_copy copies c f) (change s c f)
+  moved copies s c f g here d = at (same_cell c d) refl
+    where
+      at : (b : Bool) → same_cell c d ≡ b → IsGiven (modes d) (before d) (if same_cell c d then option_map f (copies d) else copies d) (cell_of (with_cell s.cells c f) d)
+      at true e =
+          rw e (subst (λ x. IsGiven (modes x) (before x) (option_map f (copies x)) (cell_of (with_cell s.cells c f) x)) (same_is c d e)
+          (subst (IsGiven (modes c) (before c) (option_map f (copies c))) (sym (model.cell_of-with_cell s.cells c f)) here))
+      at false e =
+          rw e (subst (IsGiven (modes d) (before d) (copies d)) (sym (model.cell_of-with_cell-other s.cells c d f (λ same. none (sym (same_self c d same) ∙ e)))) (g d))
+        where
+          none : true ≡ false → ⊥
+          none h = cc
+
+  -- the copies after the assignments, given back, are the cells after them
+  pub given-serial : (piece : Body) (copies : Look) (s : State) → AreAssigns piece → EachTouch (Lets modes) piece → Given copies s → Given (assigned piece copies) (serial piece s)
+  given-serial End copies s only may g = g
+  given-serial (Next (Set c e) rest) copies s only may g =
+      let v = val (cell_of s.cells) e in
+      let same = value-copies copies s e g may.0.0 in
+      given-serial rest (with_copy copies c (λ _. val copies e)) (bump 0 1 (change s c (λ _. v))) only may.1
+      (subst (λ n. Given (with_copy copies c (λ _. n)) (change s c (λ _. v))) same (moved copies s c (λ _. v) g (set_at (modes c) (before c) (copies c) (cell_of s.cells c) v may.0.1 (g c))))
+  given-serial (Next (Add c e) rest) copies s only may g =
+      let v = val (cell_of s.cells) e in
+      let same = value-copies copies s e g may.0.0 in
+      given-serial rest (with_copy copies c (λ n. (n + val copies e) % 2 ^ 64)) (bump 0 1 (change s c (λ n. (n + v) % 2 ^ 64))) only may.1
+      (subst (λ w. Given (with_copy copies c (λ n. (n + w) % 2 ^ 64)) (change s c (λ n. (n + v) % 2 ^ 64))) same (moved copies s c (λ n. (n + v) % 2 ^ 64) g (add_at (modes c) (before c) (copies c) (cell_of s.cells c) v may.0.1 (g c))))
+  given-serial (Next (If e a b) rest) copies s only may g = absurd only
+  given-serial (Next (Task d b) rest) copies s only may g = absurd only
+  given-serial (Next Wait rest) copies s only may g = absurd only
+  given-serial (Next (Group cs b) rest) copies s only may g = absurd only

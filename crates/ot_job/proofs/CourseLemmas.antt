@@ -1,0 +1,279 @@
+-- A settle leaves a job on its course.
+use Rattle.std.proofs.Common.{◌≡◌, ℕ, zero, suc, ◌<◌, ◌≤◌, true, false, List, [], ◌∷◌, length, refl, sym, ap, subst, ◌∙◌, ◌⊎◌, inl, inr, arith}
+use Rattle.std.specs.Prelude.{Some, option_map, nat_lt, IsSome, IsPermutation}
+use Rattle.std.specs.List.{All}
+use Rattle.std.proofs.lemmas.Bool.{cases_eq}
+use Rattle.std.proofs.lemmas.List.{length-map}
+use Rattle.std.proofs.lemmas.List.Sorted.{IsPermutation-sym, IsPermutation-trans}
+use Rattle.ot_model.specs.Tree.{E, Body, append}
+use Rattle.ot_model.specs.Value.{val}
+use Rattle.ot_model.specs.Names.{NamedIn}
+use Rattle.ot_model.specs.Counts.{size, tasks_in}
+use Rattle.ot_model.specs.Cells.{cell_of, updated, lengths}
+use Rattle.ot_model.specs.Uses.{AreInOrder}
+use Rattle.ot_model.specs.Serial.{State, serial, serial_run}
+use Rattle.ot_model.specs.Runs.{state_of}
+use Rattle.ot_model.specs.declared.expr.Cell.{Cell}
+use Rattle.ot_model.specs.declared.stmt.Use.{Use}
+use Rattle.ot_model.proofs.CellsLemmas.{length-updated}
+use Rattle.ot_check.specs.Paths.{use_as}
+use Rattle.ot_check.specs.Offences.{adds_to, allows}
+use Rattle.ot_model.specs.declared.stmt.Mode.TheVariants.{Reads}
+use Rattle.ot_check.specs.Touches.{EachTouch}
+use Rattle.ot_check.specs.walk.Fine.{IsFine}
+use Rattle.ot_owner.specs.Owning.{Owned}
+use Rattle.ot_owner.specs.Leases.{Lease, lease_of, lent_from}
+use Rattle.ot_owner.specs.Lending.{first_at, value_at}
+use Rattle.ot_owner.specs.Worth.{AreJoined, worths}
+use Rattle.ot_owner.proofs.OutLemmas.{permutation_rest}
+use Rattle.ot_job.specs.Copies.{assigned, Lets}
+use Rattle.ot_job.specs.Place.{todo, opened, children_of, unawaited, IsFineAt}
+use Rattle.ot_job.specs.Regions.{Region, Run, with_rest, next_task}
+use Rattle.ot_job.specs.Sound.{at, todo_at, parents, left_of, IsBegun, IsSound}
+use Rattle.ot_job.specs.Pieces.{leading, test_of}
+use Rattle.ot_job.specs.Touched.{held, piece_touches}
+use Rattle.ot_job.specs.Whole.{assigns_out, whole, wholes, leases_out}
+use Rattle.ot_job.specs.Running.{RunsWell}
+use Rattle.ot_job.specs.Live.{Seen}
+use Rattle.ot_job.specs.Weighing.{weight_of}
+use Rattle.ot_job.proofs.WeighingLemmas.{weight-settled}
+use Rattle.ot_job.specs.Well.{IsOnCourse, IsWell}
+use Rattle.ot_job.specs.Settling.{Came, IsOut, taken_by, moved_on, settled, counted, counts_after}
+use Rattle.ot_job.proofs.BackLemmas.{mode_at, back-serial, test-serial, HasInputs}
+use Rattle.ot_job.proofs.KeptLemmas.{at-updated, at-updated-other, todo-append, kept-piece}
+use Rattle.ot_job.proofs.ChangedLemmas.{begun-changed}
+use Rattle.ot_job.proofs.FreeLemmas.{at-whole, fine-innermost, pieces_apart}
+use Rattle.ot_job.proofs.StopLemmas.{sound-piece, may-run}
+use Rattle.ot_job.proofs.SettleLemmas.{is-known, cells-there}
+use Rattle.ot_job.proofs.WellLemmas.{named-front, named-back, worths-stored, settle-may}
+use Rattle.ot_job.proofs.LetsLemmas.{lets-piece, lets-test}
+use Rattle.ot_job.proofs.InputsLemmas.{has-inputs, inputs-kept}
+use Rattle.ot_job.proofs.CountLemmas.{left-grows, serial-few, piece-cells, piece-lengths, settled-state}
+use Rattle.ot_job.proofs.MovedLemmas.{Goes, goes-on}
+use Rattle.ot_job.proofs.MovesLemmas.{wholes-settled, still-out, leases-settled, length-settled}
+
+-- a job on its course has counted at most what its program has
+pub counts-few : (j : Seen) → IsOnCourse j → (j.counts.tasks ≤ tasks_in j.program.body) × (j.counts.units ≤ size j.program.body)
+counts-few j o =
+    let s = state_of (worths j.owned j.cells) j.counts in
+    let g = left-grows (todo_at (wholes j.regions)) (parents (wholes j.regions)) s in
+    let f = serial-few j.program.body (record { cells = j.before; tasks = 0; units = 0 }) in
+    let t = ap (λ (x : State). x.tasks) o.kept in
+    let u = ap (λ (x : State). x.units) o.kept in
+    (omega (arith, g.0, t, f.0), omega (arith, g.1, u, f.1))
+
+module _ (j : Seen) (w : IsWell j) (working : j.failing ≡ false) (d : Came) (out : IsOut j.regions d)
+    (made : (c : Cell) → value_at d.lent c ≡ assigned d.assigns (first_at d.lent) c) (told : d.answer ≡ option_map (λ e. val (value_at d.lent) e) d.test)
+    (cells : List (List ℕ)) (owned : Owned) (back : AreJoined d.lent (cell_of j.cells) (cell_of cells)) (long : lengths cells ≡ lengths j.cells)
+    (ended : IsPermutation j.owned.out (lease_of d.lent ∷ owned.out))
+    (ordered : (child : List Use × Body) → next_task (at j.regions d.task).rest ≡ Some child → AreInOrder child.0) where
+  abbrev i : ℕ
+  i = d.task
+
+  abbrev r : Region
+  r = at j.regions i
+
+  abbrev run : Run
+  run = record { assigns = d.assigns; lease = lease_of d.lent }
+
+  abbrev pub settles : Seen
+  settles = record j {
+    regions = settled (taken_by d.answer) j.counts.units i j.regions;
+    cells = cells;
+    owned = owned;
+    counts = counts_after j.counts d.assigns r.rest;
+  }
+
+  o : IsOnCourse j
+  o = w.course working
+
+  well : RunsWell r run
+  well = o.runs i run out.0
+
+  known : i < length j.regions
+  known = is-known j d (settle-may j w o) out
+
+  -- ---- the piece
+
+  abbrev ws : List Region
+  ws = wholes j.regions
+
+  abbrev lens : List ℕ
+  lens = lengths j.cells
+
+  h : i < length ws
+  h = omega (arith, known, length-map j.regions whole)
+
+  rest-was : (at ws i).rest ≡ append d.assigns r.rest
+  rest-was = ap (λ (x : Region). x.rest) (at-whole j.regions i) ∙ ap (λ p. append (assigns_out p) r.rest) out.0
+
+  alive : (at ws i).ended ≡ false
+  alive = ap (λ (x : Region). x.ended) (at-whole j.regions i) ∙ well.alive
+
+  calm : (at ws i).waiting ≡ false
+  calm = ap (λ (x : Region). x.waiting) (at-whole j.regions i) ∙ well.calm
+
+  named-all : NamedIn lens (append d.assigns r.rest)
+  named-all = subst (NamedIn lens) rest-was (named-front lens (at ws i).rest (at ws i).groups (o.named i))
+
+  there : All (λ l. IsSome (cell_of j.cells l.cell)) d.lent
+  there = cells-there j d (settle-may j w o) out
+
+  inputs : All (HasInputs j.cells) d.lent
+  inputs = has-inputs j.cells d.lent (ap (λ (l : Lease). l.firsts) (o.inputs i run out.0)) there
+
+  fine-here : IsFine r.own (opened r.groups) (children_of (unawaited r.waiting r.children)) (append d.assigns r.rest)
+  fine-here =
+      let f = subst (λ (x : Region). IsFineAt x.own (unawaited x.waiting x.children) x.rest x.groups) (at-whole j.regions i) (o.sound.placed i).fine in
+      subst (IsFine r.own (opened r.groups) (children_of (unawaited r.waiting r.children))) (ap (λ p. append (assigns_out p) r.rest) out.0)
+      (fine-innermost r.own (unawaited r.waiting r.children) (whole r).rest r.groups f)
+
+  exclusive : (c : Cell) → adds_to r.own c ≡ true → allows r.own (use_as Reads c) ≡ false
+  exclusive = subst (λ (x : Region). (c : Cell) → adds_to x.own c ≡ true → allows x.own (use_as Reads c) ≡ false) (at-whole j.regions i) (o.sound.placed i).exclusive
+
+  may : EachTouch (Lets (mode_at d.lent)) d.assigns
+  may = lets-piece lens r.own (opened r.groups) (children_of (unawaited r.waiting r.children)) d.assigns r.rest well.assigns named-all fine-here exclusive d.lent well.modes
+
+  -- what came back is what the assigns make of the cells
+  cells-now : cells ≡ (serial_run d.assigns j.cells).cells
+  cells-now =
+      back-serial d.lent d.lent j.cells cells d.assigns (λ c. refl) inputs made well.assigns may back there
+      (long ∙ sym (piece-lengths d.assigns (record { cells = j.cells; tasks = 0; units = 0 }) well.assigns))
+
+  test-now : (e : E) → test_of r.rest ≡ Some e → taken_by d.answer ≡ nat_lt 0 (val (cell_of cells) e)
+  test-now e is =
+      ap taken_by (told ∙ ap (option_map (λ x. val (value_at d.lent) x)) (out.1 ∙ is))
+      ∙ ap (nat_lt 0) (test-serial d.lent d.lent j.cells cells d.assigns (λ c. refl) inputs made well.assigns may back there e
+      (lets-test lens r.own (opened r.groups) (children_of (unawaited r.waiting r.children)) d.assigns r.rest well.assigns named-all fine-here exclusive d.lent well.modes e is)
+      ∙ ap (λ c. val (cell_of c) e) (sym cells-now))
+
+  abbrev t : State
+  t = state_of j.cells j.counts
+
+  abbrev t1 : State
+  t1 = serial d.assigns t
+
+  abbrev ws1 : List Region
+  ws1 = updated ws i (with_rest r.rest)
+
+  h1 : i < length ws1
+  h1 = omega (arith, h, length-updated ws i (with_rest r.rest))
+
+  here1 : at ws1 i ≡ with_rest r.rest (at ws i)
+  here1 = at-updated ws i (with_rest r.rest) h
+
+  rest1 : (at ws1 i).rest ≡ r.rest
+  rest1 = ap (λ (x : Region). x.rest) here1
+
+  begun : IsBegun ws i
+  begun = o.begun i run out.0
+
+  begun1 : (k : ℕ) → IsBegun ws k → IsBegun ws1 k
+  begun1 = begun-changed ws i (with_rest r.rest) h (record { parent = λ r. refl; child = λ r. refl; own = λ r. refl; children = λ r. refl; ended = λ r. refl })
+
+  named1 : (k : ℕ) → NamedIn lens (todo_at ws1 k)
+  named1 k = pick (cases_eq k i)
+    where
+      mine : NamedIn lens (todo r.rest (at ws i).groups)
+      mine = named-back lens d.assigns (todo r.rest (at ws i).groups)
+          (subst (NamedIn lens) (ap (λ b. todo b (at ws i).groups) rest-was ∙ todo-append d.assigns r.rest (at ws i).groups) (o.named i))
+
+      pick : (k ≡ i) ⊎ (k ≡ i → ⊥) → NamedIn lens (todo_at ws1 k)
+      pick (inl e) = subst (λ (x : Region). NamedIn lens (todo x.rest x.groups)) (sym (ap (at ws1) e ∙ here1)) mine
+      pick (inr e) = subst (λ (x : Region). NamedIn lens (todo x.rest x.groups)) (sym (at-updated-other ws i k (with_rest r.rest) e)) (o.named k)
+
+  cells1 : t1.cells ≡ cells
+  cells1 = piece-cells d.assigns t ∙ sym cells-now
+
+  -- ---- the statement behind it
+
+  goes : Goes lens ws1 (moved_on (taken_by d.answer) j.counts.units i ws1) t1 (counted (at ws1 i).rest t1)
+  goes =
+      goes-on lens ws1 (sound-piece ws o.sound i h d.assigns r.rest rest-was well.assigns alive) i h1
+      (ap (λ (x : Region). x.ended) here1 ∙ alive) (ap (λ (x : Region). x.waiting) here1 ∙ calm) (begun1 i begun) named1 t1 (taken_by d.answer) j.counts.units
+      (ap leading rest1 ∙ well.stops)
+      (λ e is. test-now e (sym (ap test_of rest1) ∙ is) ∙ ap (λ c. nat_lt 0 (val (cell_of c) e)) (sym cells1))
+      (λ child is. ordered child (sym (ap next_task rest1) ∙ is))
+
+  now-is : wholes settles.regions ≡ moved_on (taken_by d.answer) j.counts.units i ws1
+  now-is = wholes-settled (taken_by d.answer) j.counts.units i j.regions known
+
+  state-now : state_of (worths owned cells) (counts_after j.counts d.assigns r.rest) ≡ counted (at ws1 i).rest t1
+  state-now =
+      ap (λ c. state_of c (counts_after j.counts d.assigns r.rest)) (worths-stored owned cells ∙ cells-now)
+      ∙ sym (settled-state d.assigns r.rest j.cells j.counts well.assigns) ∙ ap (λ b. counted b t1) (sym rest1)
+
+  kept-now : left_of (wholes settles.regions) (state_of (worths owned cells) (counts_after j.counts d.assigns r.rest)) ≡ serial_run j.program.body j.before
+  kept-now =
+      ap (λ l. left_of l (state_of (worths owned cells) (counts_after j.counts d.assigns r.rest))) now-is
+      ∙ ap (left_of (moved_on (taken_by d.answer) j.counts.units i ws1)) state-now
+      ∙ goes.same
+      ∙ kept-piece ws o.sound i h d.assigns r.rest t rest-was
+      (may-run ws o.sound i h d.assigns r.rest rest-was well.assigns alive lens (named-front lens (at ws i).rest (at ws i).groups (o.named i)) calm begun)
+      ∙ ap (λ c. left_of ws (state_of c j.counts)) (sym (worths-stored j.owned j.cells)) ∙ o.kept
+
+  -- ---- the pieces of others
+
+  other-out : (k : ℕ) (x : Run) → (at settles.regions k).running ≡ Some x → (at j.regions k).running ≡ Some x
+  other-out k x is = sym (still-out (taken_by d.answer) j.counts.units i j.regions k x is).1.running ∙ is
+
+  runs-now : (k : ℕ) (x : Run) → (at settles.regions k).running ≡ Some x → RunsWell (at settles.regions k) x
+  runs-now k x is =
+      let a = (still-out (taken_by d.answer) j.counts.units i j.regions k x is).1 in
+      let v = o.runs k x (other-out k x is) in
+      let before = at j.regions k in
+      let now = at settles.regions k in
+      record {
+        modes = λ c. v.modes c ∙ ap (λ p. held p (piece_touches x.assigns (test_of before.rest)) c) (sym a.own) ∙ ap (λ b. held now.own (piece_touches x.assigns (test_of b)) c) (sym a.rest);
+        ordered = v.ordered;
+        assigns = v.assigns;
+        stops = ap leading a.rest ∙ v.stops;
+        calm = a.waiting ∙ v.calm;
+        alive = a.ended ∙ v.alive;
+      }
+
+  runs-known : (rs : List Region) (k : ℕ) (x : Run) → (at rs k).running ≡ Some x → k < length rs
+  runs-known [] k x is = cc
+  runs-known (y ∷ rs) zero x is = omega arith
+  runs-known (y ∷ rs) (suc k) x is = omega (arith, runs-known rs k x is)
+
+  begun-now : (k : ℕ) (x : Run) → (at settles.regions k).running ≡ Some x → IsBegun (wholes settles.regions) k
+  begun-now k x is =
+      let was = other-out k x is in
+      subst (λ l. IsBegun l k) (sym now-is)
+      (goes.begun k (omega (arith, runs-known j.regions k x was, length-map j.regions whole, length-updated ws i (with_rest r.rest))) (begun1 k (o.begun k x was)))
+
+  inputs-now : (k : ℕ) (x : Run) → (at settles.regions k).running ≡ Some x → x.lease ≡ lease_of (lent_from cells x.lease.uses)
+  inputs-now k x is =
+      let was = other-out k x is in
+      o.inputs k x was
+      ∙ ap lease_of (sym (inputs-kept d.lent j.cells cells back x.lease.uses
+      (pieces_apart j.regions o.sound lens (λ n. named-front lens (at ws n).rest (at ws n).groups (o.named n)) o.runs o.begun i k run x out.0 was
+      (λ e. (still-out (taken_by d.answer) j.counts.units i j.regions k x is).0 (sym e)))))
+
+  pub settle-course : IsOnCourse settles
+  settle-course = record {
+    some = omega (arith, o.some, length-map j.regions whole, length-updated ws i (with_rest r.rest), goes.long, ap length now-is, length-map settles.regions whole);
+    sound = subst IsSound (sym now-is) goes.sound;
+    named = λ k. subst (λ l. NamedIn l (todo_at (wholes settles.regions) k)) (sym long) (subst (λ l. NamedIn lens (todo_at l k)) (sym now-is) (goes.named k));
+    runs = runs-now;
+    begun = begun-now;
+    inputs = inputs-now;
+    kept = kept-now;
+  }
+
+  pub settle-lighter : weight_of settles.regions < weight_of j.regions
+  settle-lighter = weight-settled (taken_by d.answer) j.counts.units i j.regions run known out.0 well.alive well.stops
+
+  pub settle-well : IsWell settles
+  settle-well = record {
+    rights =
+        permutation_rest (lease_of d.lent) owned.out (leases_out settles.regions)
+        (IsPermutation-trans (lease_of d.lent ∷ owned.out) j.owned.out (lease_of d.lent ∷ leases_out settles.regions) (IsPermutation-sym j.owned.out (lease_of d.lent ∷ owned.out) ended)
+        (IsPermutation-trans j.owned.out (leases_out j.regions) (lease_of d.lent ∷ leases_out settles.regions) w.rights
+        (leases-settled (taken_by d.answer) j.counts.units i j.regions run known out.0)));
+    few = (counts-few settles settle-course).1;
+    created = omega (arith, length-settled (taken_by d.answer) j.counts.units i j.regions known, w.created);
+    light = omega (arith, w.light, weight-settled (taken_by d.answer) j.counts.units i j.regions run known out.0 well.alive well.stops);
+    course = λ z. settle-course;
+  }

@@ -1,0 +1,199 @@
+-- Each touch of a piece may be made on what it holds.
+use Rattle.std.proofs.Common.{◌≡◌, ◌≢◌, ◌<◌, ℕ, zero, suc, ◌+◌, Bool, true, false, List, [], ◌∷◌, ◌++◌, map, refl, sym, ap, subst, ◌∙◌, inl, inr, arith, true≢false}
+use Rattle.std.specs.Prelude.{Option, Some, None, IsSome, cond, option_map, if◌then◌else◌}
+use Rattle.std.specs.List.{fold, find, range_with_len}
+use Rattle.ot_model.specs.Tree.{E, Literal, CellAt, Apply, PickFrom, Set, Add, If, Task, Wait, Group, Body, End, Next}
+use Rattle.ot_model.specs.Names.{NamedIn, ValueNamedIn}
+use Rattle.ot_model.specs.Value.{cell_at, HasAll}
+use Rattle.ot_model.specs.declared.expr.Cell.{Cell}
+use Rattle.ot_model.specs.declared.expr.Section.{Section}
+use Rattle.ot_model.specs.declared.stmt.Mode.{Mode}
+use Rattle.ot_model.specs.declared.stmt.Mode.TheVariants.{Reads, Writes, Adds}
+use Rattle.ot_model.specs.declared.stmt.Use.{Use}
+use Rattle.ot_check.specs.Paths.{use_as, touches}
+use Rattle.ot_model.specs.Value.{cells_named}
+use Rattle.ot_check.specs.Offences.{Declared, adds_to}
+use Rattle.ot_model.specs.Cells.{same_cell}
+use Rattle.ot_owner.specs.Leases.{lent_from, copy_of}
+use Rattle.ot_owner.specs.Lending.{first_at, value_at, is_at, MayChange}
+use Rattle.ot_check.proofs.SameLemmas.{same_is}
+use Rattle.ot_job.proofs.CellLemmas.{same_self}
+use Rattle.ot_check.specs.walk.Fine.{AreAssigns}
+use Rattle.ot_job.specs.Assigns.{CanAssign}
+use Rattle.ot_job.specs.Touched.{assign_touches, held, noted, with_mode, mode_held, mode_in}
+use Rattle.ot_job.proofs.HeldLemmas.{reads-append}
+use Rattle.ot_job.proofs.HoldsLemmas.{Among}
+
+-- what is held lets a touch in this mode be made
+abbrev pub Covers : Option Mode → Mode → Type 0
+Covers None m = ⊥
+Covers (Some Reads) Reads = Unit {0}
+Covers (Some Reads) m = ⊥
+Covers (Some held) m = Unit {0}
+
+grow : (o : Option Mode) (n w : Mode) → Covers o w → Covers (Some (with_mode o n)) w
+grow None n w h = absurd h
+grow (Some Reads) Reads Reads h = tt
+grow (Some Reads) Writes Reads h = tt
+grow (Some Reads) Adds Reads h = tt
+grow (Some Reads) n Writes h = absurd h
+grow (Some Reads) n Adds h = absurd h
+grow (Some Writes) n w h = tt
+grow (Some Adds) Reads w h = tt
+grow (Some Adds) Writes w h = tt
+grow (Some Adds) Adds w h = tt
+
+itself : (o : Option Mode) (n : Mode) → Covers (Some (with_mode o n)) n
+itself None Reads = tt
+itself None Writes = tt
+itself None Adds = tt
+itself (Some Reads) Reads = tt
+itself (Some Reads) Writes = tt
+itself (Some Reads) Adds = tt
+itself (Some Writes) n = tt
+itself (Some Adds) Reads = tt
+itself (Some Adds) Writes = tt
+itself (Some Adds) Adds = tt
+
+module _ (own : Declared) where
+  stays : (c : Cell) (us : List Use) (o : Option Mode) (w : Mode) → Covers o w → Covers (fold (noted own c) o us) w
+  stays c [] o w h = h
+  stays c (u ∷ us) o w h = stays c us (noted own c o u) w (by (same_cell u.cell c) refl)
+    where
+      by : (b : Bool) → same_cell u.cell c ≡ b → Covers (if same_cell u.cell c then Some (with_mode o (mode_held own u)) else o) w
+      by true e = rw e (grow o (mode_held own u) w h)
+      by false e = rw e h
+
+  pub covered : (us : List Use) (o : Option Mode) (u : Use) → Among u us → Covers (fold (noted own u.cell) o us) (mode_held own u)
+  covered [] o u h = absurd h
+  covered (v ∷ us) o u (inl e) =
+      stays u.cell us (noted own u.cell o v) (mode_held own u)
+      (rw (same_self v.cell u.cell (ap (λ (x : Use). x.cell) e)) (subst (λ (x : Use). Covers (Some (with_mode o (mode_held own v))) (mode_held own x)) e (itself o (mode_held own v))))
+  covered (v ∷ us) o u (inr h) = covered us (noted own u.cell o v) u h
+
+-- ---- on the lent copies
+
+pub flip : (c d : Cell) (b : Bool) → same_cell c d ≡ b → same_cell d c ≡ b
+flip c d true e = same_self d c (sym (same_is c d e))
+flip c d false e = by (same_cell d c) refl
+  where
+    by : (b : Bool) → same_cell d c ≡ b → same_cell d c ≡ false
+    by true k = absurd (true≢false (sym (same_self c d (sym (same_is d c k))) ∙ e))
+    by false k = k
+
+valued : (cells : List (List ℕ)) (d : List Use) (c : Cell) (w : Mode) → Covers (mode_in d c) w → IsSome (value_at (lent_from cells d) c)
+valued cells [] c w h = absurd h
+valued cells (u ∷ d) c w h = by (valued cells d c w) (same_cell c u.cell) refl
+  where
+    by : (Covers (mode_in d c) w → IsSome (value_at (lent_from cells d) c)) → (b : Bool) → same_cell c u.cell ≡ b → IsSome (value_at (lent_from cells (u ∷ d)) c)
+    by more true e = rw (flip c u.cell true e) refl
+    by more false e = rw (flip c u.cell false e) (more (rw e at h))
+
+changes : (cells : List (List ℕ)) (d : List Use) (c : Cell) (w : Mode) → w ≢ Reads → Covers (mode_in d c) w → MayChange (lent_from cells d) c
+changes cells [] c w other h = absurd h
+changes cells (u ∷ d) c w other h = by (changes cells d c w other) (same_cell c u.cell) refl
+  where
+    writes : (m w : Mode) → w ≢ Reads → Covers (Some m) w → m ≢ Reads
+    writes Reads Reads other h e = other refl
+    writes Reads Writes other h e = absurd h
+    writes Reads Adds other h e = absurd h
+    writes Writes w other h e = cc
+    writes Adds w other h e = cc
+
+    by : (Covers (mode_in d c) w → MayChange (lent_from cells d) c) → (b : Bool) → same_cell c u.cell ≡ b → MayChange (lent_from cells (u ∷ d)) c
+    by more true e = (0, copy_of cells u, omega arith, refl, (sym (same_is c u.cell e), writes u.mode w other (rw e at h)))
+    by more false e = let g = more (rw e at h) in (suc g.0, g.1, omega (arith, g.2), g.3, g.4)
+
+-- ---- a piece may be run on its copies
+
+pub among-left : (u : Use) (us vs : List Use) → Among u us → Among u (us ++ vs)
+among-left u [] vs h = absurd h
+among-left u (v ∷ us) vs (inl e) = inl e
+among-left u (v ∷ us) vs (inr h) = inr (among-left u us vs h)
+
+pub among-right : (u : Use) (us vs : List Use) → Among u vs → Among u (us ++ vs)
+among-right u [] vs h = h
+among-right u (v ∷ us) vs h = inr (among-right u us vs h)
+
+pub in-section : (s : Section) (a n k : ℕ) → k < n → Among (use_as Reads (cell_at s (a + k))) (map (use_as Reads) (map (cell_at s) (range_with_len a n)))
+in-section s a zero k l = absurd (omega (arith, l))
+in-section s a (suc n) zero l = let e : a ≡ a + 0 = omega arith in inl (ap (λ m. use_as Reads (cell_at s m)) e)
+in-section s a (suc n) (suc k) l =
+    let e : a + 1 + k ≡ a + suc k = omega arith in
+    inr (subst (λ m. Among (use_as Reads (cell_at s m)) (map (use_as Reads) (map (cell_at s) (range_with_len (a + 1) n)))) e (in-section s (a + 1) n k (omega (arith, l))))
+
+pub value-all : (lens : List ℕ) (look : Cell → Option ℕ) (e : E) → ValueNamedIn lens e → ((c : Cell) → Among (use_as Reads c) (map (use_as Reads) (cells_named e)) → IsSome (look c)) → HasAll look e
+value-all lens look (Literal n) h f = tt
+value-all lens look (CellAt c) h f = f c (inl refl)
+value-all lens look (Apply o a b) h f = (
+  value-all lens look a h.0 (λ c k. f c (subst (Among (use_as Reads c)) (sym (reads-append (cells_named a) (cells_named b))) (among-left (use_as Reads c) (map (use_as Reads) (cells_named a)) (map (use_as Reads) (cells_named b)) k))),
+  value-all lens look b h.1 (λ c k. f c (subst (Among (use_as Reads c)) (sym (reads-append (cells_named a) (cells_named b))) (among-right (use_as Reads c) (map (use_as Reads) (cells_named a)) (map (use_as Reads) (cells_named b)) k))),
+)
+value-all lens look (PickFrom s e) h f =
+    let cells = map (cell_at s) (range_with_len 0 s.len) in
+    let back = λ (c : Cell). subst (Among (use_as Reads c)) (sym (reads-append cells (cells_named e))) in (
+      h.0.some,
+      omega (arith, h.0.within, h.0.short),
+      (λ k l. f (cell_at s k) (back (cell_at s k) (among-left (use_as Reads (cell_at s k)) (map (use_as Reads) cells) (map (use_as Reads) (cells_named e))
+          (let z : 0 + k ≡ k = omega arith in subst (λ m. Among (use_as Reads (cell_at s m)) (map (use_as Reads) cells)) z (in-section s 0 s.len k l))))),
+      value-all lens look e h.1 (λ c k. f c (back c (among-right (use_as Reads c) (map (use_as Reads) cells) (map (use_as Reads) (cells_named e)) k))),
+    )
+
+module _ (lens : List ℕ) (own : Declared) (cells : List (List ℕ)) (d : List Use) where
+  abbrev Ready : List Use → Type 0
+  Ready us = (u : Use) → Among u us → Covers (mode_in d u.cell) (mode_held own u)
+
+  pub reads-ready : (e : E) (more : List Use) → ValueNamedIn lens e → Ready (map (use_as Reads) (cells_named e) ++ more) → HasAll (value_at (lent_from cells d)) e
+  reads-ready e more n f = value-all lens (value_at (lent_from cells d)) e n (λ c k. valued cells d c Reads (f (use_as Reads c) (among-left (use_as Reads c) (map (use_as Reads) (cells_named e)) more k)))
+
+  held-adds : (c : Cell) → mode_held own (use_as Adds c) ≢ Reads
+  held-adds c = by (adds_to own c) refl
+    where
+      by : (b : Bool) → adds_to own c ≡ b → mode_held own (use_as Adds c) ≢ Reads
+      by true e h = let k : Adds ≡ Reads = (rw e at h) in cc
+      by false e h = let k : Writes ≡ Reads = (rw e at h) in cc
+
+  can-assign : (b : Body) → AreAssigns b → NamedIn lens b → Ready (assign_touches b) → CanAssign b (lent_from cells d)
+  can-assign End only n f = tt
+  can-assign (Next (Set c e) rest) only n f =
+      let reads = map (use_as Reads) (cells_named e) in
+      let first : Ready (touches (Set c e)) = λ u k. f u (among-left u (touches (Set c e)) (assign_touches rest) k) in (
+        reads-ready e (use_as Writes c ∷ []) n.0.1 first,
+        changes cells d c Writes (λ h. cc) (first (use_as Writes c) (among-right (use_as Writes c) reads (use_as Writes c ∷ []) (inl refl))),
+        can-assign rest only n.1 (λ u k. f u (among-right u (touches (Set c e)) (assign_touches rest) k)),
+      )
+  can-assign (Next (Add c e) rest) only n f =
+      let reads = map (use_as Reads) (cells_named e) in
+      let first : Ready (touches (Add c e)) = λ u k. f u (among-left u (touches (Add c e)) (assign_touches rest) k) in (
+        reads-ready e (use_as Adds c ∷ []) n.0.1 first,
+        changes cells d c (mode_held own (use_as Adds c)) (held-adds c) (first (use_as Adds c) (among-right (use_as Adds c) reads (use_as Adds c ∷ []) (inl refl))),
+        can-assign rest only n.1 (λ u k. f u (among-right u (touches (Add c e)) (assign_touches rest) k)),
+      )
+  can-assign (Next (If e a b) rest) only n f = absurd only
+  can-assign (Next (Task u b) rest) only n f = absurd only
+  can-assign (Next Wait rest) only n f = absurd only
+  can-assign (Next (Group cs b) rest) only n f = absurd only
+
+-- a piece that holds what its touches ask may make its assigns
+pub piece-can : (lens : List ℕ) (own : Declared) (cells : List (List ℕ)) (d : List Use) (piece : Body) (more : List Use) → AreAssigns piece → NamedIn lens piece
+    → ((c : Cell) → mode_in d c ≡ held own (assign_touches piece ++ more) c) → CanAssign piece (lent_from cells d)
+piece-can lens own cells d piece more only n modes =
+    can-assign lens own cells d piece only n (λ u k. subst (λ o. Covers o (mode_held own u)) (sym (modes u.cell)) (covered own (assign_touches piece ++ more) None u (among-left u (assign_touches piece) more k)))
+
+-- and its condition's cells are lent
+pub piece-reads : (lens : List ℕ) (own : Declared) (cells : List (List ℕ)) (d : List Use) (piece : Body) (e : E) → ValueNamedIn lens e
+    → ((c : Cell) → mode_in d c ≡ held own (assign_touches piece ++ map (use_as Reads) (cells_named e)) c) → HasAll (value_at (lent_from cells d)) e
+piece-reads lens own cells d piece e named modes =
+    let all = assign_touches piece ++ map (use_as Reads) (cells_named e) in
+    value-all lens (value_at (lent_from cells d)) e named
+    (λ c k. valued cells d c Reads (subst (λ o. Covers o Reads) (sym (modes c)) (covered own all None (use_as Reads c) (among-right (use_as Reads c) (assign_touches piece) (map (use_as Reads) (cells_named e)) k))))
+
+-- a copy begins as what it was lent with
+pub lent-fresh : (cells : List (List ℕ)) (d : List Use) (c : Cell) → value_at (lent_from cells d) c ≡ first_at (lent_from cells d) c
+lent-fresh cells [] c = refl
+lent-fresh cells (u ∷ d) c = by (same_cell u.cell c) (lent-fresh cells d c)
+  where
+    by : (b : Bool) → value_at (lent_from cells d) c ≡ first_at (lent_from cells d) c
+        → option_map (λ l. l.value) (cond b (Some (copy_of cells u)) (find (is_at c) (lent_from cells d))) ≡ option_map (λ l. l.first) (cond b (Some (copy_of cells u)) (find (is_at c) (lent_from cells d)))
+    by true more = refl
+    by false more = more

@@ -1,0 +1,264 @@
+-- Two pieces that are out hold nothing that conflicts.
+use Rattle.std.proofs.Common.{◌≡◌, ◌≢◌, ℕ, zero, suc, ◌<◌, ◌≤◌, Bool, true, false, not, ◌&&◌, ◌||◌, List, [], ◌∷◌, length, get_or, refl, sym, ap, subst, ◌∙◌, ◌⊎◌, inl, inr, ⊎_elim, arith, true≢false}
+use Rattle.std.specs.Prelude.{Some, None, slice_get, if◌then◌else◌, IsTrue, Any}
+use Rattle.std.specs.List.{list_any}
+use Rattle.std.proofs.lemmas.Bool.{cases_lt}
+use Rattle.ot_check.specs.declared.fault.Offence.TheVariants.{NotDeclared}
+use Rattle.ot_model.specs.Tree.{Set, Add, If, Task, Wait, Group, Body, End, Next, append}
+use Rattle.ot_model.specs.Names.{NamedIn}
+use Rattle.ot_model.specs.Uses.{Precedes, AreInOrder, Conflict, conflicts, is_adds}
+use Rattle.ot_model.specs.declared.expr.Cell.{Cell}
+use Rattle.ot_model.specs.declared.stmt.Mode.{Mode}
+use Rattle.ot_model.specs.declared.stmt.Mode.TheVariants.{Reads, Writes, Adds}
+use Rattle.ot_model.specs.declared.stmt.Use.{Use}
+use Rattle.ot_depend.specs.Siblings.{Sibling, is_unfinished, is_in}
+use Rattle.ot_check.specs.Paths.{use_as}
+use Rattle.ot_check.specs.Offences.{Declared, allows, covers, adds_to, has_cell}
+use Rattle.ot_check.specs.walk.Walk.{Children}
+use Rattle.ot_model.specs.Cells.{same_cell}
+use Rattle.ot_check.specs.Touches.{Agree}
+use Rattle.ot_check.proofs.Bits.{or_true, true_or, or_right, and_left}
+use Rattle.ot_check.specs.walk.Fine.{IsFine}
+use Rattle.ot_job.specs.Rights.{IsRight}
+use Rattle.ot_job.specs.Place.{Open, opened, children_of, IsFineAt, unawaited, Kids}
+use Rattle.ot_job.proofs.Order.{IsBefore, Each, Ordered, order, order-ordered}
+use Rattle.ot_job.proofs.Kept.{In}
+use Rattle.ot_check.specs.walk.Fine.{IsHarmless, AreAssigns}
+use Rattle.ot_check.proofs.TouchLemmas.{harmless, harmless_if}
+use Rattle.ot_check.proofs.SameLemmas.{same_is}
+use Rattle.ot_job.proofs.CellLemmas.{same_self}
+use Rattle.ot_job.proofs.RightsLemmas.{right_apart, right_may, rights_apart}
+use Rattle.ot_job.specs.Regions.{Region, Run}
+use Rattle.ot_job.specs.Sound.{at, parent_of, todo_at, may_at, ended_at, parents, sums_in, IsBegun, IsPlaced, IsSound}
+use Rattle.ot_job.specs.Pieces.{test_of}
+use Rattle.ot_job.specs.Touched.{mode_in, piece_touches, assign_touches, test_touches}
+use Rattle.ot_job.specs.Running.{RunsWell}
+use Rattle.ot_job.specs.Whole.{assigns_out, whole, wholes}
+use Rattle.ot_job.proofs.SoundLemmas.{sound, at-past}
+use Rattle.ot_job.proofs.KeptLemmas.{here, family_of}
+use Rattle.ot_job.proofs.GroupLemmas.{kid-none}
+use Rattle.ot_job.proofs.HoldsLemmas.{Among, among-split, held-right, each-assign, each-test}
+
+-- ---- who stands where
+
+pair-ordered : (R : ℕ → ℕ → Type 0) (xs : List ℕ) (i j : ℕ) → Ordered R xs → In i xs → In j xs → i ≢ j → R i j ⊎ R j i
+pair-ordered R [] i j o a b n = absurd a
+pair-ordered R (x ∷ xs) i j o (inl a) (inl b) n = absurd (n (a ∙ sym b))
+pair-ordered R (x ∷ xs) i j o (inl a) (inr b) n = inl (subst (λ k. R k j) (sym a) (at-each (R x) xs j o.0 b))
+  where
+    at-each : (P : ℕ → Type 0) (xs : List ℕ) (j : ℕ) → Each P xs → In j xs → P j
+    at-each P [] j h k = absurd k
+    at-each P (x ∷ xs) j h (inl e) = subst P (sym e) h.0
+    at-each P (x ∷ xs) j h (inr k) = at-each P xs j h.1 k
+pair-ordered R (x ∷ xs) i j o (inr a) (inl b) n = inr (subst (λ k. R k i) (sym b) (at-each (R x) xs i o.0 a))
+  where
+    at-each : (P : ℕ → Type 0) (xs : List ℕ) (j : ℕ) → Each P xs → In j xs → P j
+    at-each P [] j h k = absurd k
+    at-each P (x ∷ xs) j h (inl e) = subst P (sym e) h.0
+    at-each P (x ∷ xs) j h (inr k) = at-each P xs j h.1 k
+pair-ordered R (x ∷ xs) i j o (inr a) (inr b) n = pair-ordered R xs i j o.1 a b n
+
+pub total : (ws : List Region) (s : IsSound ws) (i j : ℕ) → i < length ws → j < length ws → i ≢ j → IsBefore (parent_of ws) j i ⊎ IsBefore (parent_of ws) i j
+total ws s i j hi hj n =
+    ⊎_elim (λ r. inr r.1) (λ r. inl r.1)
+    (pair-ordered (λ x y. (x ≢ y) × IsBefore (parent_of ws) x y) (order (parents ws)) i j (order-ordered (parent_of ws) s.down (parents ws) (family_of ws s i hi)) (here ws s i hi) (here ws s j hj) n)
+
+-- ---- each cell once
+
+precedes-other : (a b : Cell) → Precedes a b → same_cell b a ≡ true → ⊥
+precedes-other a b (inl lt) same = let e : b ≡ a = same_is b a same in absurd (omega (arith, lt, ap (λ (c : Cell). c.array) e))
+precedes-other a b (inr lt) same = let e : b ≡ a = same_is b a same in absurd (omega (arith, lt.1, ap (λ (c : Cell). c.index) e))
+
+precedes-on : (a b c : Cell) → Precedes a b → Precedes b c → Precedes a c
+precedes-on a b c (inl p) (inl q) = inl (omega (arith, p, q))
+precedes-on a b c (inl p) (inr q) = inl (omega (arith, p, q.0))
+precedes-on a b c (inr p) (inl q) = inl (omega (arith, p.0, q))
+precedes-on a b c (inr p) (inr q) = inr (p.0 ∙ q.0, omega (arith, p.1, q.1))
+
+in-order-later : (u : Use) (us : List Use) → AreInOrder (u ∷ us) → (v : Use) → Among v us → Precedes u.cell v.cell
+in-order-later u [] o v h = absurd h
+in-order-later u (w ∷ us) o v (inl e) = subst (λ (x : Use). Precedes u.cell x.cell) e o.0
+in-order-later u (w ∷ us) o v (inr h) = precedes-on u.cell w.cell v.cell o.0 (in-order-later w us o.1 v h)
+
+pub mode-once : (us : List Use) → AreInOrder us → (u : Use) → Among u us → mode_in us u.cell ≡ Some u.mode
+mode-once [] o u h = absurd h
+mode-once (v ∷ us) o u (inl e) = rw (same_self u.cell v.cell (sym (ap (λ (x : Use). x.cell) e))) (ap (λ (x : Use). Some x.mode) e)
+mode-once (v ∷ us) o u (inr h) = by (same_cell u.cell v.cell) refl (mode-once us (tail us o) u h)
+  where
+    tail : (us : List Use) → AreInOrder (v ∷ us) → AreInOrder us
+    tail [] o = tt
+    tail (w ∷ us) o = o.1
+
+    by : (b : Bool) → same_cell u.cell v.cell ≡ b → mode_in us u.cell ≡ Some u.mode → (if same_cell u.cell v.cell then Some v.mode else mode_in us u.cell) ≡ Some u.mode
+    by true e m = absurd (precedes-other v.cell u.cell (in-order-later v us o u h) e)
+    by false e m = rw e m
+
+any-among : (us : List Use) (P : Use → Type 0) → Any P us → (u : Use) × Among u us × P u
+any-among us P (k, u, within, is, p) = (u, at-k us k within is, p)
+  where
+    at-k : (us : List Use) (k : ℕ) → k < length us → get_or us k u ≡ u → Among u us
+    at-k [] k w e = absurd (omega (arith, w))
+    at-k (x ∷ us) zero w e = inl e
+    at-k (x ∷ us) (suc k) w e = inr (at-k us k (omega (arith, w)) e)
+
+-- uses that agree don't conflict
+pub none-conflict : (us vs : List Use) → AreInOrder us → AreInOrder vs
+    → ((u v : Use) → mode_in us u.cell ≡ Some u.mode → mode_in vs v.cell ≡ Some v.mode → Agree u v) → Conflict us vs → ⊥
+none-conflict us vs ou ov agree c =
+    let a = any-among us (λ u. Any (λ v. (u.cell ≡ v.cell) × IsTrue (conflicts u.mode v.mode)) vs) c in
+    let b = any-among vs (λ v. (a.0.cell ≡ v.cell) × IsTrue (conflicts a.0.mode v.mode)) a.2 in
+    true≢false (sym b.2.1 ∙ agree a.0 b.0 (mode-once us ou a.0 a.1) (mode-once vs ov b.0 b.1) b.2.0)
+
+-- ---- what a body may do
+
+allowed-writes : (own : Declared) (c : Cell) → allows own (use_as Adds c) ≡ true → adds_to own c ≡ false → allows own (use_as Writes c) ≡ true
+allowed-writes None c may none = refl
+allowed-writes (Some []) c may none = may
+allowed-writes (Some (d ∷ us)) c may none =
+    elim (or_true (same_cell d.cell c && covers d.mode Adds) (allows (Some us) (use_as Adds c)) may) [
+      | inl h ↦ true_or (same_cell d.cell c && covers d.mode Writes) (allows (Some us) (use_as Writes c)) (one (same_cell d.cell c) d.mode h (left (same_cell d.cell c && is_adds d.mode) (adds_to (Some us) c) none))
+      | inr h ↦ or_right (same_cell d.cell c && covers d.mode Writes) (allows (Some us) (use_as Writes c)) (allowed-writes (Some us) c h (right (same_cell d.cell c && is_adds d.mode) (adds_to (Some us) c) none))
+    ]
+  where
+    left : (a b : Bool) → (a || b) ≡ false → a ≡ false
+    left true b h = h
+    left false b h = refl
+
+    right : (a b : Bool) → (a || b) ≡ false → b ≡ false
+    right true b h = absurd (true≢false h)
+    right false b h = h
+
+    one : (b : Bool) (m : Mode) → (b && covers m Adds) ≡ true → (b && is_adds m) ≡ false → (b && covers m Writes) ≡ true
+    one true Reads h n = absurd (true≢false (sym h))
+    one true Writes h n = refl
+    one true Adds h n = absurd (true≢false n)
+    one false m h n = h
+
+sums-opened : (gs : List Open) (s : Sibling) (c : Cell) → sums_in gs s c ≡ true → opened gs c ≡ true
+sums-opened [] s c h = absurd (true≢false (sym h))
+sums-opened (o ∷ os) s c h =
+    elim (or_true (has_cell o.cells c && is_in o.group s) (sums_in os s c) h) [
+      | inl e ↦ or_right (opened os c) (has_cell o.cells c) (and_left (has_cell o.cells c) (is_in o.group s) e)
+      | inr e ↦ true_or (opened os c) (has_cell o.cells c) (sums-opened os s c e)
+    ]
+
+-- ---- a piece's touches are no offence
+
+module _ (lens : List ℕ) (own : Declared) (op : Cell → Bool) (ch : Children) where
+  test-safe : (b : Body) → NamedIn lens b → IsFine own op ch b → (u : Use) → Among u (test_touches (test_of b)) → IsHarmless own op ch u
+  test-safe End n f u k = absurd k
+  test-safe (Next (Set c e) rest) n f u k = absurd k
+  test-safe (Next (Add c e) rest) n f u k = absurd k
+  test-safe (Next (If e a b) rest) n f u k = each-test (IsHarmless own op ch) e (harmless_if lens own op ch e a b rest n.0.0 f) u k
+  test-safe (Next (Task d b) rest) n f u k = absurd k
+  test-safe (Next Wait rest) n f u k = absurd k
+  test-safe (Next (Group cs b) rest) n f u k = absurd k
+
+  fine-behind : (piece rest : Body) → AreAssigns piece → IsFine own op ch (append piece rest) → IsFine own op ch rest
+  fine-behind End rest only f = f
+  fine-behind (Next (Set c e) more) rest only f = fine-behind more rest only f.2
+  fine-behind (Next (Add c e) more) rest only f = fine-behind more rest only f.2
+  fine-behind (Next (If e a b) more) rest only f = absurd only
+  fine-behind (Next (Task d b) more) rest only f = absurd only
+  fine-behind (Next Wait more) rest only f = absurd only
+  fine-behind (Next (Group cs b) more) rest only f = absurd only
+
+  pub named-both : (piece rest : Body) → NamedIn lens (append piece rest) → NamedIn lens piece × NamedIn lens rest
+  named-both End rest n = (tt, n)
+  named-both (Next x more) rest n = let w = named-both more rest n.1 in ((n.0, w.0), w.1)
+
+  pub piece-safe : (piece rest : Body) → AreAssigns piece → NamedIn lens (append piece rest) → IsFine own op ch (append piece rest) → (u : Use) → Among u (piece_touches piece (test_of rest)) → IsHarmless own op ch u
+  piece-safe piece rest only n f u k =
+      let w = named-both piece rest n in
+      ⊎_elim (each-assign (IsHarmless own op ch) piece (harmless lens own op ch piece rest only w.0 f) u)
+      (test-safe rest w.1 (fine-behind piece rest only f) u)
+      (among-split u (assign_touches piece) (test_touches (test_of rest)) k)
+
+pub fine-innermost : (own : Declared) (kids : Kids) (rest : Body) (gs : List Open) → IsFineAt own kids rest gs → IsFine own (opened gs) (children_of kids) rest
+fine-innermost own kids rest [] f = f
+fine-innermost own kids rest (o ∷ os) f = f.0
+
+pub at-whole : (rs : List Region) (i : ℕ) → at (wholes rs) i ≡ whole (at rs i)
+at-whole [] i = refl
+at-whole (r ∷ rs) zero = refl
+at-whole (r ∷ rs) (suc i) = at-whole rs i
+
+-- ---- one piece, and the children of its task
+
+module _ (lens : List ℕ) (r : Region) (p : IsPlaced (whole r)) (named : NamedIn lens (whole r).rest) (run : Run) (is : r.running ≡ Some run) (w : RunsWell r run) where
+  abbrev Touched : Use → Type 0
+  Touched u = Among u (piece_touches run.assigns (test_of r.rest))
+
+  rest-is : (whole r).rest ≡ append run.assigns r.rest
+  rest-is = ap (λ o. append (assigns_out o) r.rest) is
+
+  safe : (u : Use) → Touched u → IsHarmless r.own (opened r.groups) (children_of (unawaited r.waiting r.children)) u
+  safe = piece-safe lens r.own (opened r.groups) (children_of (unawaited r.waiting r.children)) run.assigns r.rest w.assigns
+      (subst (NamedIn lens) rest-is named)
+      (subst (IsFine r.own (opened r.groups) (children_of (unawaited r.waiting r.children))) rest-is (fine-innermost r.own (unawaited r.waiting r.children) (whole r).rest r.groups p.fine))
+
+  right-of : (u : Use) → mode_in run.lease.uses u.cell ≡ Some u.mode → IsRight r.own Touched u
+  right-of u h = held-right r.own u.cell (piece_touches run.assigns (test_of r.rest)) u.mode (sym (w.modes u.cell) ∙ h)
+
+  pub piece-may : (u : Use) → mode_in run.lease.uses u.cell ≡ Some u.mode → allows r.own u ≡ true
+  piece-may u h =
+      right_may r.own Touched (λ v t. by (allows r.own v) (safe v t NotDeclared)) u.cell u.mode (allowed-writes r.own) (right-of u h)
+    where
+      by : (b : Bool) → not b ≡ false → b ≡ true
+      by true h = refl
+      by false h = absurd (true≢false h)
+
+  pub piece-meets : (k : ℕ) (s : Sibling) → slice_get r.children k ≡ Some s → s.finished ≡ false → (u v : Use) → mode_in run.lease.uses u.cell ≡ Some u.mode → allows (Some s.uses) v ≡ true → Agree u v
+  piece-meets k s there alive u v h may =
+      right_apart r.own (opened r.groups) (children_of (unawaited r.waiting r.children)) Touched safe s.uses
+      (λ test none. kid-none r.children (λ x. test x.uses) k s (subst (λ b. (not b && list_any (λ x. is_unfinished x && test x.uses) r.children) ≡ false) w.calm none) there alive)
+      (λ c adds. ⊎_elim inl (λ e. inr (sums-opened r.groups s c e)) (p.sums k s there alive c adds))
+      u.cell u.mode v (right-of u h) may
+
+-- ---- two pieces
+
+module _ (rs : List Region) (s : IsSound (wholes rs)) (lens : List ℕ) (named : (i : ℕ) → NamedIn lens (at (wholes rs) i).rest)
+    (well : (i : ℕ) (run : Run) → (at rs i).running ≡ Some run → RunsWell (at rs i) run)
+    (started : (i : ℕ) (run : Run) → (at rs i).running ≡ Some run → IsBegun (wholes rs) i) where
+  abbrev ws : List Region
+  ws = wholes rs
+
+  abbrev Runs : ℕ → Type 0
+  Runs i = (run : Run) × ((at rs i).running ≡ Some run)
+
+  abbrev Holds : ℕ → Use → Type 0
+  Holds i u = (run : Run) × ((at rs i).running ≡ Some run) × (mode_in run.lease.uses u.cell ≡ Some u.mode)
+
+  placed-at : (i : ℕ) → IsPlaced (whole (at rs i))
+  placed-at i = subst IsPlaced (at-whole rs i) (s.placed i)
+
+  named-at : (i : ℕ) → NamedIn lens (whole (at rs i)).rest
+  named-at i = subst (λ r. NamedIn lens r.rest) (at-whole rs i) (named i)
+
+  meets : (i : ℕ) → Runs i → (c : ℕ) → parent_of ws c ≡ i → 0 < c → ended_at ws c ≡ false → (u v : Use) → Holds i u → may_at ws c v → Agree u v
+  meets i ri c up pos alive u v holds may = by (cases_lt c (length ws))
+    where
+      by : (c < length ws) ⊎ (length ws ≤ c) → Agree u v
+      by (inr past) = absurd (true≢false (sym (ap (λ r. r.ended) (at-past ws c past)) ∙ alive))
+      by (inl below) =
+          let kin = s.kin c pos below in
+          let there : slice_get (at rs i).children (at ws c).child ≡ Some kin.entry = sym (ap (λ r. slice_get r.children (at ws c).child) (ap (at ws) up ∙ at-whole rs i)) ∙ kin.there in
+          piece-meets lens (at rs i) (placed-at i) (named-at i) holds.0 holds.1 (well i holds.0 holds.1) (at ws c).child kin.entry there (kin.finished ∙ alive) u v holds.2
+          (ap (λ (o : Declared). allows o v) (sym kin.uses) ∙ may)
+
+  runs-known : (rs : List Region) (i : ℕ) (run : Run) → (at rs i).running ≡ Some run → i < length (wholes rs)
+  runs-known [] i run h = cc
+  runs-known (r ∷ rs) zero run h = omega arith
+  runs-known (r ∷ rs) (suc i) run h = omega (arith, runs-known rs i run h)
+
+  -- no two of them conflict
+  pub pieces_apart : (i j : ℕ) (one two : Run) → (at rs i).running ≡ Some one → (at rs j).running ≡ Some two → i ≢ j → Conflict one.lease.uses two.lease.uses → ⊥
+  pieces_apart i j one two ri rj other =
+      none-conflict one.lease.uses two.lease.uses (well i one ri).ordered (well j two rj).ordered
+      (λ u v hu hv.
+      rights_apart (parent_of ws) (may_at ws) (todo_at ws) (ended_at ws) (IsBegun ws) (sound ws s) Holds Runs
+      (λ k r. started k r.0 r.1)
+      (λ k r. ap (λ x. x.ended) (at-whole rs k) ∙ (well k r.0 r.1).alive)
+      (λ k r u h. ap (λ x. allows x.own u) (at-whole rs k) ∙ piece-may lens (at rs k) (placed-at k) (named-at k) h.0 h.1 (well k h.0 h.1) u h.2)
+      meets i j (one, ri) (two, rj)
+      (total ws s i j (runs-known rs i one ri) (runs-known rs j two rj) other) u v (one, ri, hu) (two, rj, hv))

@@ -1,0 +1,116 @@
+-- Entering a group and passing its end leave what holds of a region.
+use Rattle.std.proofs.Common.{◌≡◌, ℕ, zero, suc, Bool, true, false, not, ◌&&◌, ◌||◌, List, [], ◌∷◌, refl, sym, ap, subst, ◌∙◌, inl, inr, ⊎_elim, true≢false}
+use Rattle.std.specs.Prelude.{Some, slice_get}
+use Rattle.std.specs.List.{list_any}
+use Rattle.ot_model.specs.Tree.{S, Body, End, Next, Group, append}
+use Rattle.ot_model.specs.declared.expr.Cell.{Cell}
+use Rattle.ot_model.specs.declared.stmt.Mode.TheVariants.{Reads, Writes}
+use Rattle.ot_model.specs.declared.stmt.Use.{Use}
+use Rattle.ot_depend.specs.Siblings.{Sibling, is_unfinished, is_in}
+use Rattle.ot_check.specs.Paths.{use_as}
+use Rattle.ot_check.specs.Touches.{EachTouch, EachTask}
+use Rattle.ot_check.specs.Offences.{allows, clashes, has_cell}
+use Rattle.ot_model.specs.Cells.{same_cell}
+use Rattle.ot_check.specs.declared.fault.Offence.TheVariants.{ReductionMisuse, ConflictsWithChild}
+use Rattle.ot_check.proofs.Bits.{or_true, true_or, or_right, or_false_left, or_false_right}
+use Rattle.ot_check.proofs.OffenceLemmas.{is_offence-Group}
+use Rattle.ot_check.proofs.InsideLemmas.{groups_inside}
+use Rattle.ot_check.specs.walk.Fine.{IsClean}
+use Rattle.ot_job.specs.Place.{Open, todo, opened, children_of, IsFineAt, AwaitsAll, unawaited}
+use Rattle.ot_check.proofs.SameLemmas.{same_is}
+use Rattle.ot_check.proofs.TouchLemmas.{clash_free}
+use Rattle.ot_job.specs.Regions.{Region, with_rest, inside}
+use Rattle.ot_job.specs.Sound.{LetsAll, IsPlaced, sums_in}
+use Rattle.ot_job.proofs.KeptLemmas.{todo-next}
+
+pub touch-append : (P : Use → Type 0) (a b : Body) → EachTouch P a → EachTouch P b → EachTouch P (append a b)
+touch-append P End b h g = g
+touch-append P (Next x a) b h g = (h.0, touch-append P a b h.1 g)
+
+pub task-append : (P : List Use → Body → Type 0) (a b : Body) → EachTask P a → EachTask P b → EachTask P (append a b)
+task-append P End b h g = g
+task-append P (Next x a) b h g = (h.0, task-append P a b h.1 g)
+
+-- what is true of no child that may be unawaited is true of no unfinished one
+pub kid-none : (kids : List Sibling) (test : Sibling → Bool) (k : ℕ) (s : Sibling) → list_any (λ s. is_unfinished s && test s) kids ≡ false → slice_get kids k ≡ Some s → s.finished ≡ false → test s ≡ false
+kid-none [] test k s free there alive = cc
+kid-none (x ∷ kids) test zero s free there alive =
+    let here : x ≡ s = cc in
+    bits (is_unfinished s) (test s) (ap not alive) (subst (λ (y : Sibling). (is_unfinished y && test y) ≡ false) here (or_false_left (is_unfinished x && test x) (list_any (λ s. is_unfinished s && test s) kids) free))
+  where
+    bits : (u t : Bool) → u ≡ true → (u && t) ≡ false → t ≡ false
+    bits true t h g = g
+    bits false t h g = absurd (true≢false (sym h))
+kid-none (x ∷ kids) test (suc k) s free there alive = kid-none kids test k s (or_false_right (is_unfinished x && test x) (list_any (λ s. is_unfinished s && test s) kids) free) there alive
+
+-- a group names no cell that an unfinished child reads
+unread : (cs : List Cell) (kids : List Sibling) (k : ℕ) (s : Sibling) (c : Cell) → list_any (λ c. unawaited false kids (λ s. clashes (use_as Writes c) s.uses)) cs ≡ false
+    → slice_get kids k ≡ Some s → s.finished ≡ false → has_cell cs c ≡ true → allows (Some s.uses) (use_as Reads c) ≡ false
+unread [] kids k s c free there alive named = absurd (true≢false (sym named))
+unread (d ∷ cs) kids k s c free there alive named =
+    elim (or_true (same_cell d c) (has_cell cs c) named) [
+      | inl here ↦
+          let none = kid-none kids (λ s. clashes (use_as Writes d) s.uses) k s (or_false_left (unawaited false kids (λ s. clashes (use_as Writes d) s.uses)) (list_any (λ c. unawaited false kids (λ s. clashes (use_as Writes c) s.uses)) cs) free) there alive in
+          never (allows (Some s.uses) (use_as Reads c)) (λ reads. true≢false (clash_free (use_as Writes d) (use_as Reads c) s.uses none reads (same_is d c here)))
+      | inr later ↦ unread cs kids k s c (or_false_right (unawaited false kids (λ s. clashes (use_as Writes d) s.uses)) (list_any (λ c. unawaited false kids (λ s. clashes (use_as Writes c) s.uses)) cs) free) there alive later
+    ]
+  where
+    never : (b : Bool) → (b ≡ true → ⊥) → b ≡ false
+    never true h = absurd (h refl)
+    never false h = refl
+
+module _ (r : Region) (p : IsPlaced r) where
+  pub placed-enter : (g : ℕ) (cs : List Cell) (b rest : Body) → r.rest ≡ Next (Group cs b) rest → r.waiting ≡ false
+      → IsClean r.own (opened r.groups) (children_of (unawaited r.waiting r.children)) (Group cs b)
+      → IsFineAt r.own (unawaited r.waiting r.children) b (record { group = g; cells = cs; behind = rest } ∷ r.groups)
+      → ((uses : List Use) → r.own ≡ Some uses → AwaitsAll (unawaited r.waiting r.children) b (record { group = g; cells = cs; behind = rest } ∷ r.groups))
+      → IsPlaced (inside g cs b (with_rest rest r))
+  placed-enter g cs b rest was calm clean fine awaits = record {
+    fine = fine;
+    inside = let t = subst (EachTouch (λ u. allows r.own u ≡ true)) (ap (λ x. todo x r.groups) was ∙ todo-next (Group cs b) rest r.groups) p.inside in
+        touch-append (λ u. allows r.own u ≡ true) b (todo rest r.groups) t.0 t.1;
+    tasks = let t = subst (EachTask LetsAll) (ap (λ x. todo x r.groups) was ∙ todo-next (Group cs b) rest r.groups) p.tasks in
+        task-append LetsAll b (todo rest r.groups) t.0 t.1;
+    awaits = awaits;
+    within = p.within;
+    apart = p.apart;
+    over = λ e. absurd (never (sym (sym (ap (λ x. todo x r.groups) was ∙ todo-next (Group cs b) rest r.groups) ∙ p.over e)));
+    writes = groups_inside r.own (opened r.groups) cs p.writes (sym (is_offence-Group r.own (opened r.groups) (children_of (unawaited r.waiting r.children)) cs b ReductionMisuse) ∙ clean ReductionMisuse);
+    sums = λ k s there alive c adds. ⊎_elim (λ e. inl e) (λ e. inr (or_right (has_cell cs c && is_in g s) (sums_in r.groups s c) e)) (p.sums k s there alive c adds);
+    reduced = λ k s there alive c here. ⊎_elim (λ e. p.reduced k s there alive c e) (λ e. unread cs r.children k s c awaited there alive e) (or_true (opened r.groups c) (has_cell cs c) here);
+    exclusive = p.exclusive;
+  }
+    where
+      never : {x : S} {y : Body} → End ≡ Next x y → ⊥
+      never e = cc
+
+      awaited : list_any (λ c. unawaited false r.children (λ s. clashes (use_as Writes c) s.uses)) cs ≡ false
+      awaited = ap (λ w. list_any (λ c. unawaited w r.children (λ s. clashes (use_as Writes c) s.uses)) cs) (sym calm)
+          ∙ sym (is_offence-Group r.own (opened r.groups) (children_of (unawaited r.waiting r.children)) cs b ConflictsWithChild) ∙ clean ConflictsWithChild
+
+  pub placed-leave : (o : Open) (os : List Open) → r.rest ≡ End → r.groups ≡ o ∷ os
+      → ((k : ℕ) (s : Sibling) → slice_get r.children k ≡ Some s → s.finished ≡ false → is_in o.group s ≡ false)
+      → IsFineAt r.own (unawaited r.waiting r.children) o.behind os
+      → ((uses : List Use) → r.own ≡ Some uses → AwaitsAll (unawaited r.waiting r.children) o.behind os) → IsPlaced (record r { rest = o.behind; groups = os })
+  placed-leave o os was here none fine awaits = record {
+    fine = fine;
+    inside = subst (EachTouch (λ u. allows r.own u ≡ true)) same p.inside;
+    tasks = subst (EachTask LetsAll) same p.tasks;
+    awaits = awaits;
+    within = p.within;
+    apart = p.apart;
+    over = λ e. sym same ∙ p.over e;
+    writes = λ c h. p.writes c (ap (λ gs. opened gs c) here ∙ true_or (opened os c) (has_cell o.cells c) h);
+    sums = λ k s there alive c adds. ⊎_elim (λ e. inl e)
+        (λ e. inr (outer (has_cell o.cells c) (is_in o.group s) (sums_in os s c) (none k s there alive) (sym (ap (λ gs. sums_in gs s c) here) ∙ e))) (p.sums k s there alive c adds);
+    reduced = λ k s there alive c h. p.reduced k s there alive c (ap (λ gs. opened gs c) here ∙ true_or (opened os c) (has_cell o.cells c) h);
+    exclusive = p.exclusive;
+  }
+    where
+      same : todo r.rest r.groups ≡ todo o.behind os
+      same = ap (λ x. todo x r.groups) was ∙ ap (todo End) here
+
+      outer : (a i b : Bool) → i ≡ false → ((a && i) || b) ≡ true → b ≡ true
+      outer true true b h g = absurd (true≢false h)
+      outer true false b h g = g
+      outer false i b h g = g

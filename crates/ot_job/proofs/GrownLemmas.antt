@@ -1,0 +1,269 @@
+-- A task is created: what holds of the regions stays.
+use Rattle.std.proofs.Common.{◌≡◌, ℕ, zero, suc, ◌<◌, ◌≤◌, true, false, ◌||◌, List, [], ◌∷◌, ◌++◌, map, length, refl, sym, ap, subst, ◌∙◌, ◌⊎◌, inl, inr, arith, true≢false}
+use Rattle.std.specs.Prelude.{Some, None, slice_get, ◌==◌}
+use Rattle.std.specs.List.{list_any}
+use Rattle.std.proofs.lemmas.Bool.{cases_eq, cases_lt}
+use Rattle.ot_model.specs.Tree.{Task, Body, Next}
+use Rattle.ot_model.specs.Cells.{updated}
+use Rattle.ot_model.specs.Uses.{AreInOrder}
+use Rattle.ot_model.specs.declared.stmt.Use.{Use}
+use Rattle.ot_model.proofs.CellsLemmas.{length-updated}
+use Rattle.ot_depend.specs.Siblings.{Sibling, created, is_in}
+use Rattle.ot_check.specs.Touches.{EachTouch, EachTask}
+use Rattle.ot_check.specs.walk.Fine.{IsFine, IsClean}
+use Rattle.ot_check.specs.walk.Walk.{marks, may_break}
+use Rattle.ot_check.specs.Offences.{allows}
+use Rattle.ot_check.specs.declared.fault.Offence.TheVariants.{EndsWithChildren}
+use Rattle.ot_check.proofs.Bits.{or_false_right, true_or}
+use Rattle.ot_job.specs.Place.{Open, todo, opened, children_of, IsFineAt, AwaitsAll, unawaited}
+use Rattle.ot_job.specs.Regions.{Region, with_rest, with_child, new_region}
+use Rattle.ot_job.specs.Sound.{at, gone, parent_of, ended_at, LetsAll, IsBegun, IsPlaced, HasTask, IsSound}
+use Rattle.ot_job.proofs.PlaceLemmas.{at-fewer, at-task}
+use Rattle.ot_job.proofs.AwaitsLemmas.{awaits-fewer, awaits-task}
+use Rattle.ot_job.proofs.KeptLemmas.{at-updated, todo-next}
+use Rattle.ot_job.proofs.SoundLemmas.{at-past}
+use Rattle.ot_job.proofs.ChangedLemmas.{sound-changed, begun-changed}
+use Rattle.ot_job.proofs.FreeLemmas.{fine-innermost}
+use Rattle.ot_job.proofs.CreatedLemmas.{group_self, kids-more, placed-parent}
+use Rattle.ot_job.proofs.KinLemmas.{child, more, long, at-fresh, at-parent, at-others, same-field, get-within, kin-more, begun-more}
+use Rattle.ot_job.proofs.OwnLemmas.{adds-alone}
+
+first_group : (gs : List Open) (o : Open) (more : List Open) (uses : List Use) → gs ≡ o ∷ more → is_in o.group (created uses (map (λ p. p.group) gs)) ≡ true
+first_group gs o os uses is = subst (λ ps. is_in o.group (created uses (map (λ p. p.group) ps)) ≡ true) (sym is) (true_or (o.group == o.group) _ (group_self o.group))
+
+module _ (r : Region) (p : IsPlaced r) (alive : r.ended ≡ false) (uses : List Use) (body rest : Body) (was : r.rest ≡ Next (Task uses body) rest) (ordered : AreInOrder uses) where
+  abbrev new : Sibling
+  new = created uses (map (λ o. o.group) r.groups)
+
+  each : EachTask LetsAll (Next (Task uses body) (todo rest r.groups))
+  each = subst (EachTask LetsAll) (ap (λ x. todo x r.groups) was ∙ todo-next (Task uses body) rest r.groups) p.tasks
+
+  fine-was : IsFineAt r.own (unawaited r.waiting r.children) (Next (Task uses body) rest) r.groups
+  fine-was = subst (λ x. IsFineAt r.own (unawaited r.waiting r.children) x r.groups) was p.fine
+
+  innermost : IsFine r.own (opened r.groups) (children_of (unawaited r.waiting r.children)) (Next (Task uses body) rest)
+  innermost = fine-innermost r.own (unawaited r.waiting r.children) (Next (Task uses body) rest) r.groups fine-was
+
+  fine-next : IsFineAt r.own (λ test. unawaited r.waiting r.children test || test new) rest r.groups
+  fine-next = at-task r.own (unawaited r.waiting r.children) uses body rest r.groups new refl (λ o more is. first_group r.groups o more uses is) fine-was
+
+  awaits-next : (own : List Use) → r.own ≡ Some own → AwaitsAll (λ test. unawaited r.waiting r.children test || test new) rest r.groups
+  awaits-next own is =
+      awaits-task (unawaited r.waiting r.children) uses body rest r.groups new (λ o more is. first_group r.groups o more uses is)
+      (subst (λ x. AwaitsAll (unawaited r.waiting r.children) x r.groups) was (p.awaits own is))
+
+  -- the statement is taken off
+  pub placed-off : IsPlaced (with_rest rest r)
+  placed-off = record {
+    fine = at-fewer r.own (unawaited r.waiting r.children) (λ test. unawaited r.waiting r.children test || test new) rest r.groups (λ test h. true_or _ _ h) fine-next;
+    inside = (subst (EachTouch (λ u. allows r.own u ≡ true)) (ap (λ x. todo x r.groups) was ∙ todo-next (Task uses body) rest r.groups) p.inside).1;
+    tasks = each.1;
+    awaits = λ own is. awaits-fewer (unawaited r.waiting r.children) (λ test. unawaited r.waiting r.children test || test new) rest r.groups (λ test h. true_or _ _ h) (awaits-next own is);
+    within = p.within;
+    apart = p.apart;
+    over = λ e. absurd (true≢false (sym e ∙ alive));
+    writes = p.writes;
+    sums = p.sums;
+    reduced = p.reduced;
+    exclusive = p.exclusive;
+  }
+
+  -- the child is noted
+  pub placed-noted : IsPlaced (with_child uses (with_rest rest r))
+  placed-noted =
+      placed-parent r p uses body rest was (λ own is. subst (λ o. IsClean o (opened r.groups) (children_of (unawaited r.waiting r.children)) (Task uses body)) (sym is) innermost.0) (adds-alone uses ordered)
+      (at-fewer r.own (unawaited r.waiting (r.children ++ new ∷ [])) (λ test. unawaited r.waiting r.children test || test new) rest r.groups (kids-more r.waiting r.children new) fine-next)
+      (λ own is. awaits-fewer (unawaited r.waiting (r.children ++ new ∷ [])) (λ test. unawaited r.waiting r.children test || test new) rest r.groups (kids-more r.waiting r.children new) (awaits-next own is))
+
+  -- and begins
+  pub placed-new : (parent child : ℕ) → IsPlaced (new_region parent child uses body)
+  placed-new parent child = record {
+    fine = innermost.1;
+    inside = each.0.0;
+    tasks = each.0.1;
+    awaits = λ own is. or_false_right (list_any (λ m. may_break r.own (opened r.groups) (children_of (unawaited r.waiting r.children)) m EndsWithChildren) (marks (Task uses body))) _ (innermost.0 EndsWithChildren);
+    within = λ k s h. cc;
+    apart = λ k l s t h. cc;
+    over = λ e. absurd (true≢false (sym e));
+    writes = λ c h. absurd (true≢false (sym h));
+    sums = λ k s h. cc;
+    reduced = λ k s h. cc;
+    exclusive = adds-alone uses ordered;
+  }
+
+-- ---- all regions
+
+-- where an entry stands in a table with one more
+last-or : (kids : List Sibling) (x s : Sibling) (k : ℕ) → slice_get (kids ++ x ∷ []) k ≡ Some s → (slice_get kids k ≡ Some s) ⊎ (k ≡ length kids)
+last-or [] x s zero h = inr refl
+last-or [] x s (suc k) h = cc
+last-or (y ∷ kids) x s zero h = inl h
+last-or (y ∷ kids) x s (suc k) h = next (last-or kids x s k h)
+  where
+    next : (slice_get kids k ≡ Some s) ⊎ (k ≡ length kids) → (slice_get kids k ≡ Some s) ⊎ (suc k ≡ suc (length kids))
+    next (inl e) = inl e
+    next (inr e) = inr (ap suc e)
+
+module _ (rs : List Region) (s : IsSound rs) (i : ℕ) (h : i < length rs) (alive : ended_at rs i ≡ false) (started : IsBegun rs i)
+    (uses : List Use) (body : Body) (noted : IsPlaced (with_child uses (at rs i))) (fresh : IsPlaced (new_region i (length (at rs i).children) uses body)) where
+  abbrev now : List Region
+  now = more rs i h uses body
+
+  -- an old task, the new one, or none
+  place : (j : ℕ) → (j < length rs) ⊎ ((j ≡ length rs) ⊎ (length now ≤ j))
+  place j = first (cases_lt j (length rs))
+    where
+      first : (j < length rs) ⊎ (length rs ≤ j) → (j < length rs) ⊎ ((j ≡ length rs) ⊎ (length now ≤ j))
+      first (inl below) = inl below
+      first (inr past) = inr (second (cases_eq j (length rs)))
+        where
+          second : (j ≡ length rs) ⊎ (j ≡ length rs → ⊥) → (j ≡ length rs) ⊎ (length now ≤ j)
+          second (inl e) = inl e
+          second (inr e) = inr (omega (arith, past, e, long rs i h uses body))
+
+  fresh-at : (j : ℕ) → j ≡ length rs → at now j ≡ new_region i (length (at rs i).children) uses body
+  fresh-at j e = ap (at now) e ∙ at-fresh rs i h uses body
+
+  gone-at : (j : ℕ) → length now ≤ j → at now j ≡ gone
+  gone-at j past = at-past now j past
+
+  parent-old : (j : ℕ) → j < length rs → parent_of now j ≡ parent_of rs j
+  parent-old = same-field rs i h uses body (λ r. r.parent) (λ r. refl)
+
+  child-old : (j : ℕ) → j < length rs → (at now j).child ≡ (at rs j).child
+  child-old = same-field rs i h uses body (λ r. r.child) (λ r. refl)
+
+  some : 0 < length rs
+  some = omega (arith, h)
+
+  entries-now : (p k : ℕ) (x : Sibling) → slice_get (at now p).children k ≡ Some x → HasTask now p k
+  entries-now p k x there = by (place p)
+    where
+      old : p < length rs → slice_get (at rs p).children k ≡ Some x → HasTask now p k
+      old below is =
+          let e = s.entries p k x is in
+          record {
+            task = e.task;
+            below = e.below;
+            known = omega (arith, e.known, long rs i h uses body);
+            of = parent-old e.task e.known ∙ e.of;
+            is = child-old e.task e.known ∙ e.is;
+          }
+
+      here : p ≡ i → HasTask now p k
+      here e = pick (last-or (at rs i).children (created uses (map (λ o. o.group) (at rs i).groups)) x k
+          (ap (λ (r : Region). slice_get r.children k) (sym (ap (at now) e ∙ at-parent rs i h uses body)) ∙ there))
+        where
+          pick : (slice_get (at rs i).children k ≡ Some x) ⊎ (k ≡ length (at rs i).children) → HasTask now p k
+          pick (inl is) = old (omega (arith, e, h)) (ap (λ n. slice_get (at rs n).children k) e ∙ is)
+          pick (inr is) = record {
+            task = length rs;
+            below = some;
+            known = omega (arith, long rs i h uses body);
+            of = ap (λ (r : Region). r.parent) (at-fresh rs i h uses body) ∙ sym e;
+            is = ap (λ (r : Region). r.child) (at-fresh rs i h uses body) ∙ sym is;
+          }
+
+      by : (p < length rs) ⊎ ((p ≡ length rs) ⊎ (length now ≤ p)) → HasTask now p k
+      by (inl below) = pick (cases_eq p i)
+        where
+          pick : (p ≡ i) ⊎ (p ≡ i → ⊥) → HasTask now p k
+          pick (inl e) = here e
+          pick (inr e) = old below (ap (λ (r : Region). slice_get r.children k) (sym (at-others rs i h uses body p below e)) ∙ there)
+      by (inr (inl e)) = absurd (never (ap (λ (r : Region). slice_get r.children k) (sym (fresh-at p e)) ∙ there))
+        where
+          never : None ≡ Some x → ⊥
+          never e = cc
+      by (inr (inr past)) = absurd (never (ap (λ (r : Region). slice_get r.children k) (sym (gone-at p past)) ∙ there))
+        where
+          never : None ≡ Some x → ⊥
+          never e = cc
+
+  older-now : (a b : ℕ) → 0 < b → b < a → a < length now → parent_of now b ≡ parent_of now a → (at now b).child < (at now a).child
+  older-now a b pos lt below same = by (place a)
+    where
+      by : (a < length rs) ⊎ ((a ≡ length rs) ⊎ (length now ≤ a)) → (at now b).child < (at now a).child
+      by (inl old) =
+          let b-old : b < length rs = omega (arith, lt, old) in
+          let o = s.older a b pos lt old (sym (parent-old b b-old) ∙ same ∙ parent-old a old) in
+          omega (arith, o, child-old a old, child-old b b-old)
+      by (inr (inl e)) =
+          let b-old : b < length rs = omega (arith, lt, e) in
+          let up : parent_of rs b ≡ i = sym (parent-old b b-old) ∙ same ∙ ap (λ (r : Region). r.parent) (fresh-at a e) in
+          let k = s.kin b pos b-old in
+          let place : (at rs b).child < length (at rs i).children = get-within (at rs i).children (at rs b).child k.entry (ap (λ n. slice_get (at rs n).children (at rs b).child) (sym up) ∙ k.there) in
+          omega (arith, place, child-old b b-old, ap (λ (r : Region). r.child) (fresh-at a e))
+      by (inr (inr past)) = absurd (omega (arith, past, below))
+
+  pub begun-now : (j : ℕ) → j < length rs → IsBegun rs j → IsBegun now j
+  begun-now = begun-more rs i h uses body s
+
+  pub sound-grown : IsSound now
+  sound-grown = record {
+    root = same-field rs i h uses body (λ r. r.own) (λ r. refl) 0 some ∙ s.root;
+    top = parent-old 0 some ∙ s.top;
+    down = λ j pos. down j pos (place j);
+    kin = kin-more rs i h uses body s;
+    entries = entries-now;
+    older = older-now;
+    begun = λ j pos below. begun j pos below (place j);
+    placed = λ j. placed j (place j);
+    done = λ j pos over k x there. done j pos over k x there (place j);
+  }
+    where
+      down : (j : ℕ) → 0 < j → (j < length rs) ⊎ ((j ≡ length rs) ⊎ (length now ≤ j)) → parent_of now j < j
+      down j pos (inl old) = omega (arith, parent-old j old, s.down j pos)
+      down j pos (inr (inl e)) = omega (arith, ap (λ (r : Region). r.parent) (fresh-at j e), h, e)
+      down j pos (inr (inr past)) = omega (arith, ap (λ (r : Region). r.parent) (gone-at j past), pos)
+
+      begun : (j : ℕ) → 0 < j → j < length now → (j < length rs) ⊎ ((j ≡ length rs) ⊎ (length now ≤ j)) → IsBegun now (parent_of now j)
+      begun j pos below (inl old) = subst (IsBegun now) (sym (parent-old j old)) (begun-now (parent_of rs j) (omega (arith, s.down j pos, old)) (s.begun j pos old))
+      begun j pos below (inr (inl e)) = subst (IsBegun now) (sym (ap (λ (r : Region). r.parent) (fresh-at j e))) (begun-now i h started)
+      begun j pos below (inr (inr past)) = absurd (omega (arith, past, below))
+
+      placed : (j : ℕ) → (j < length rs) ⊎ ((j ≡ length rs) ⊎ (length now ≤ j)) → IsPlaced (at now j)
+      placed j (inl old) = pick (cases_eq j i)
+        where
+          pick : (j ≡ i) ⊎ (j ≡ i → ⊥) → IsPlaced (at now j)
+          pick (inl e) = subst IsPlaced (sym (ap (at now) e ∙ at-parent rs i h uses body)) noted
+          pick (inr e) = subst IsPlaced (sym (at-others rs i h uses body j old e)) (s.placed j)
+      placed j (inr (inl e)) = subst IsPlaced (sym (fresh-at j e)) fresh
+      placed j (inr (inr past)) = subst IsPlaced (at-past rs j (omega (arith, past, long rs i h uses body)) ∙ sym (gone-at j past)) (s.placed j)
+
+      done : (j : ℕ) → 0 < j → ended_at now j ≡ true → (k : ℕ) (x : Sibling) → slice_get (at now j).children k ≡ Some x → (j < length rs) ⊎ ((j ≡ length rs) ⊎ (length now ≤ j)) → x.finished ≡ true
+      done j pos over k x there (inl old) = pick (cases_eq j i)
+        where
+          pick : (j ≡ i) ⊎ (j ≡ i → ⊥) → x.finished ≡ true
+          pick (inl e) = absurd (true≢false (sym over ∙ ap (λ (r : Region). r.ended) (ap (at now) e ∙ at-parent rs i h uses body) ∙ alive))
+          pick (inr e) =
+              let same = at-others rs i h uses body j old e in
+              s.done j pos (ap (λ (r : Region). r.ended) (sym same) ∙ over) k x (ap (λ (r : Region). slice_get r.children k) (sym same) ∙ there)
+      done j pos over k x there (inr (inl e)) = absurd (true≢false (sym over ∙ ap (λ (r : Region). r.ended) (fresh-at j e)))
+      done j pos over k x there (inr (inr past)) = absurd (never (ap (λ (r : Region). slice_get r.children k) (sym (gone-at j past)) ∙ there))
+        where
+          never : None ≡ Some x → ⊥
+          never e = cc
+
+-- the task statement that comes next is executed
+module _ (ws : List Region) (s : IsSound ws) (i : ℕ) (h : i < length ws) (alive : ended_at ws i ≡ false) (started : IsBegun ws i)
+    (uses : List Use) (body rest : Body) (was : (at ws i).rest ≡ Next (Task uses body) rest) (ordered : AreInOrder uses) where
+  off : IsSound (updated ws i (with_rest rest))
+  off = sound-changed ws i (with_rest rest) h (record { parent = λ r. refl; child = λ r. refl; own = λ r. refl; children = λ r. refl; ended = λ r. refl }) s
+      (placed-off (at ws i) (s.placed i) alive uses body rest was ordered)
+
+  pub hr : i < length (updated ws i (with_rest rest))
+  hr = omega (arith, h, length-updated ws i (with_rest rest))
+
+  here : at (updated ws i (with_rest rest)) i ≡ with_rest rest (at ws i)
+  here = at-updated ws i (with_rest rest) h
+
+  begun-off : (j : ℕ) → IsBegun ws j → IsBegun (updated ws i (with_rest rest)) j
+  begun-off j = begun-changed ws i (with_rest rest) h (record { parent = λ r. refl; child = λ r. refl; own = λ r. refl; children = λ r. refl; ended = λ r. refl }) j
+
+  pub sound-task : IsSound (more (updated ws i (with_rest rest)) i hr uses body)
+  sound-task = sound-grown (updated ws i (with_rest rest)) off i hr (ap (λ (r : Region). r.ended) here ∙ alive) (begun-off i started) uses body
+      (subst (λ (r : Region). IsPlaced (with_child uses r)) (sym here) (placed-noted (at ws i) (s.placed i) alive uses body rest was ordered))
+      (placed-new (at ws i) (s.placed i) alive uses body rest was ordered i (length (at (updated ws i (with_rest rest)) i).children))
+
+  pub begun-task : (j : ℕ) → j < length ws → IsBegun ws j → IsBegun (more (updated ws i (with_rest rest)) i hr uses body) j
+  begun-task j below b = begun-more (updated ws i (with_rest rest)) i hr uses body off j (omega (arith, below, length-updated ws i (with_rest rest))) (begun-off j b)

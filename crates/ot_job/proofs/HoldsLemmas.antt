@@ -1,0 +1,127 @@
+-- What a piece holds is a right of its touches, and what is true of each touch is true of each use of the list.
+use Rattle.std.proofs.Common.{◌≡◌, ◌<◌, ℕ, zero, suc, ◌+◌, ◌%◌, Bool, true, false, List, [], ◌∷◌, ◌++◌, map, refl, sym, ap, subst, ◌∙◌, ◌⊎◌, inl, inr, ⊎_elim, arith}
+use Rattle.std.specs.Prelude.{Option, Some, None, if◌then◌else◌}
+use Rattle.std.specs.List.{fold, range_with_len}
+use Rattle.std.proofs.lemmas.Option.{same_Some, none-some}
+use Rattle.std.proofs.Math.Nat.{mod-eq_of_lt}
+use Rattle.ot_model.specs.Tree.{E, Literal, CellAt, Apply, PickFrom, Set, Add, If, Task, Wait, Group, Body, End, Next}
+use Rattle.ot_model.specs.Value.{cell_at}
+use Rattle.ot_model.specs.declared.expr.Cell.{Cell}
+use Rattle.ot_model.specs.declared.expr.Section.{Section}
+use Rattle.ot_model.specs.declared.stmt.Mode.{Mode}
+use Rattle.ot_model.specs.declared.stmt.Mode.TheVariants.{Reads, Writes, Adds}
+use Rattle.ot_model.specs.declared.stmt.Use.{Use}
+use Rattle.ot_check.specs.Paths.{use_as, touches}
+use Rattle.ot_model.specs.Value.{cells_named}
+use Rattle.ot_check.specs.Offences.{Declared, adds_to}
+use Rattle.ot_model.specs.Cells.{same_cell}
+use Rattle.ot_check.specs.Touches.{EachRead, EachTouch}
+use Rattle.ot_job.specs.Rights.{IsRight}
+use Rattle.ot_check.proofs.SameLemmas.{same_is}
+use Rattle.ot_job.specs.Touched.{assign_touches, test_touches, held, noted, with_mode, stronger, mode_held}
+use Rattle.ot_job.proofs.HeldLemmas.{reads-append}
+
+abbrev pub Among : Use → List Use → Type 0
+Among u [] = ⊥
+Among u (v ∷ vs) = (v ≡ u) ⊎ Among u vs
+
+pub among-split : (u : Use) (us vs : List Use) → Among u (us ++ vs) → Among u us ⊎ Among u vs
+among-split u [] vs h = inr h
+among-split u (v ∷ us) vs (inl e) = inl (inl e)
+among-split u (v ∷ us) vs (inr h) = ⊎_elim (λ k. inl (inr k)) inr (among-split u us vs h)
+
+-- ---- the mode is that of a touch
+
+one-of : (e n : Mode) → (stronger e n ≡ e) ⊎ (stronger e n ≡ n)
+one-of Reads n = inr refl
+one-of Writes n = inl refl
+one-of Adds Reads = inl refl
+one-of Adds Writes = inr refl
+one-of Adds Adds = inl refl
+
+module _ (own : Declared) (c : Cell) where
+  abbrev HeldBy : List Use → Mode → Type 0
+  HeldBy us m = (u : Use) × Among u us × (u.cell ≡ c) × (mode_held own u ≡ m)
+
+  later : (us : List Use) (v : Use) (m : Mode) → HeldBy us m → HeldBy (v ∷ us) m
+  later us v m h = (h.0, inr h.1, h.2, h.3)
+
+  held-by : (us : List Use) (o : Option Mode) (m : Mode) → fold (noted own c) o us ≡ Some m → (o ≡ Some m) ⊎ HeldBy us m
+  held-by [] o m h = inl h
+  held-by (u ∷ us) o m h = ⊎_elim (λ e. here (same_cell u.cell c) refl o e) (λ k. inr (later us u m k)) (held-by us (noted own c o u) m h)
+    where
+      mixed : (o : Option Mode) (n : Mode) → with_mode o n ≡ m → (o ≡ Some m) ⊎ (n ≡ m)
+      mixed None n e = inr e
+      mixed (Some x) n e = ⊎_elim (λ k. inl (ap Some (sym k ∙ e))) (λ k. inr (sym k ∙ e)) (one-of x n)
+
+      here : (b : Bool) → same_cell u.cell c ≡ b → (o : Option Mode) → (if same_cell u.cell c then Some (with_mode o (mode_held own u)) else o) ≡ Some m → (o ≡ Some m) ⊎ HeldBy (u ∷ us) m
+      here true same o e =
+          ⊎_elim inl (λ k. inr (u, inl refl, same_is u.cell c same, k)) (mixed o (mode_held own u) (same_Some (with_mode o (mode_held own u)) m (rw same at e)))
+      here false same o e = inl (rw same at e)
+
+  right-by : (Touched : Use → Type 0) (k : Mode) (m : Mode) → Touched (use_as k c) → mode_held own (use_as k c) ≡ m → IsRight own Touched (use_as m c)
+  right-by Touched Reads m t e = subst (λ n. IsRight own Touched (use_as n c)) e t
+  right-by Touched Writes m t e = subst (λ n. IsRight own Touched (use_as n c)) e (inl t)
+  right-by Touched Adds m t e = by (adds_to own c) refl
+    where
+      by : (b : Bool) → adds_to own c ≡ b → IsRight own Touched (use_as m c)
+      by true a = subst (λ n. IsRight own Touched (use_as n c)) (rw a at e) (t, a)
+      by false a = subst (λ n. IsRight own Touched (use_as n c)) (rw a at e) (inr (t, a))
+
+  pub held-right : (us : List Use) (m : Mode) → held own us c ≡ Some m → IsRight own (λ u. Among u us) (use_as m c)
+  held-right us m h = ⊎_elim (λ e. absurd (none-some m e)) found (held-by us None m h)
+    where
+      found : HeldBy us m → IsRight own (λ u. Among u us) (use_as m c)
+      found k =
+          let is : k.0 ≡ use_as k.0.mode c = ap (λ d. use_as k.0.mode d) k.2 in
+          right-by (λ u. Among u us) k.0.mode m (subst (λ u. Among u us) is k.1) (ap (mode_held own) (sym is) ∙ k.3)
+
+-- ---- each touch
+
+module _ (Q : Use → Type 0) where
+  section-among : (s : Section) (u : Use) (a n : ℕ) → Among u (map (use_as Reads) (map (cell_at s) (range_with_len a n))) → (k : ℕ) × (k < a + n) × (use_as Reads (cell_at s k) ≡ u)
+  section-among s u a zero h = absurd h
+  section-among s u a (suc n) (inl e) = (a, omega arith, e)
+  section-among s u a (suc n) (inr h) = let r = section-among s u (a + 1) n h in (r.0, omega (arith, r.1), r.2)
+
+  each-read : (e : E) → EachRead (λ c. Q (use_as Reads c)) e → (u : Use) → Among u (map (use_as Reads) (cells_named e)) → Q u
+  each-read (Literal n) h u k = absurd k
+  each-read (CellAt c) h u (inl e) = subst Q e h
+  each-read (CellAt c) h u (inr k) = absurd k
+  each-read (Apply o a b) h u k =
+      ⊎_elim (each-read a h.0 u) (each-read b h.1 u)
+      (among-split u (map (use_as Reads) (cells_named a)) (map (use_as Reads) (cells_named b)) (subst (Among u) (reads-append (cells_named a) (cells_named b)) k))
+  each-read (PickFrom s e) h u k =
+      ⊎_elim
+      (λ w.
+      let r = section-among s u 0 s.len w in
+      let small : r.0 % s.len ≡ r.0 = mod-eq_of_lt (let l : r.0 < s.len = omega (arith, r.1) in l) in
+      subst Q (ap (λ n. use_as Reads (cell_at s n)) small ∙ r.2) (h.0 r.0))
+      (each-read e h.1 u)
+      (among-split u (map (use_as Reads) (map (cell_at s) (range_with_len 0 s.len))) (map (use_as Reads) (cells_named e)) (subst (Among u) (reads-append (map (cell_at s) (range_with_len 0 s.len)) (cells_named e)) k))
+
+  -- of assigns
+  pub each-assign : (b : Body) → EachTouch Q b → (u : Use) → Among u (assign_touches b) → Q u
+  each-assign End h u k = absurd k
+  each-assign (Next (Set c e) rest) h u k =
+      ⊎_elim (λ w. ⊎_elim (each-read e h.0.0 u) (one c Writes h.0.1 u) (among-split u (map (use_as Reads) (cells_named e)) (use_as Writes c ∷ []) w)) (each-assign rest h.1 u)
+      (among-split u (touches (Set c e)) (assign_touches rest) k)
+    where
+      one : (c : Cell) (m : Mode) → Q (use_as m c) → (u : Use) → Among u (use_as m c ∷ []) → Q u
+      one c m q u (inl e) = subst Q e q
+      one c m q u (inr k) = absurd k
+  each-assign (Next (Add c e) rest) h u k =
+      ⊎_elim (λ w. ⊎_elim (each-read e h.0.0 u) (one c Adds h.0.1 u) (among-split u (map (use_as Reads) (cells_named e)) (use_as Adds c ∷ []) w)) (each-assign rest h.1 u)
+      (among-split u (touches (Add c e)) (assign_touches rest) k)
+    where
+      one : (c : Cell) (m : Mode) → Q (use_as m c) → (u : Use) → Among u (use_as m c ∷ []) → Q u
+      one c m q u (inl e) = subst Q e q
+      one c m q u (inr k) = absurd k
+  each-assign (Next (If e a b) rest) h u k = ⊎_elim (each-read e h.0.0 u) (each-assign rest h.1 u) (among-split u (map (use_as Reads) (cells_named e)) (assign_touches rest) k)
+  each-assign (Next (Task d b) rest) h u k = each-assign rest h.1 u k
+  each-assign (Next Wait rest) h u k = each-assign rest h.1 u k
+  each-assign (Next (Group cs b) rest) h u k = each-assign rest h.1 u k
+
+  -- of a condition
+  pub each-test : (e : E) → EachTouch Q (Next (If e End End) End) → (u : Use) → Among u (test_touches (Some e)) → Q u
+  each-test e h u k = each-read e h.0.0 u k

@@ -1,0 +1,133 @@
+-- A task that is created leaves who is whose child.
+use Rattle.std.proofs.Common.{◌≡◌, ◌≢◌, ℕ, zero, suc, ◌+◌, ◌<◌, ◌≤◌, List, [], ◌∷◌, ◌++◌, map, length, refl, sym, ap, subst, ◌∙◌, ◌⊎◌, inl, inr, arith, length-append}
+use Rattle.std.specs.Prelude.{Some, slice_get}
+use Rattle.std.proofs.lemmas.Bool.{cases_eq, cases_lt}
+use Rattle.ot_model.specs.Tree.{Body}
+use Rattle.ot_model.specs.Cells.{updated}
+use Rattle.ot_model.proofs.CellsLemmas.{length-updated}
+use Rattle.ot_model.specs.declared.stmt.Use.{Use}
+use Rattle.ot_depend.specs.Siblings.{Sibling, created, IsReady}
+use Rattle.ot_job.specs.Regions.{Region, with_child, new_region}
+use Rattle.ot_job.specs.Sound.{at, parent_of, IsBegun, IsKin, IsSound}
+use Rattle.ot_job.proofs.KeptLemmas.{at-updated, at-updated-other, at-more, at-new}
+
+get-more : {A : Type 0} (xs ys : List A) (k : ℕ) (x : A) → slice_get xs k ≡ Some x → slice_get (xs ++ ys) k ≡ Some x
+get-more [] ys k x h = cc
+get-more (y ∷ xs) ys zero x h = h
+get-more (y ∷ xs) ys (suc k) x h = get-more xs ys k x h
+
+pub get-last : {A : Type 0} (xs : List A) (x : A) → slice_get (xs ++ x ∷ []) (length xs) ≡ Some x
+get-last [] x = refl
+get-last (y ∷ xs) x = get-last xs x
+
+pub get-within : {A : Type 0} (xs : List A) (k : ℕ) (x : A) → slice_get xs k ≡ Some x → k < length xs
+get-within [] k x h = cc
+get-within (y ∷ xs) zero x h = omega arith
+get-within (y ∷ xs) (suc k) x h = omega (arith, get-within xs k x h)
+
+get-front : {A : Type 0} (xs ys : List A) (k : ℕ) (x : A) → k < length xs → slice_get (xs ++ ys) k ≡ Some x → slice_get xs k ≡ Some x
+get-front [] ys k x l h = absurd (omega (arith, l))
+get-front (y ∷ xs) ys zero x l h = h
+get-front (y ∷ xs) ys (suc k) x l h = get-front xs ys k x (omega (arith, l)) h
+
+-- who is ready stays so when a child is added
+pub ready-more : (kids : List Sibling) (new : Sibling) (k : ℕ) → IsReady kids k → IsReady (kids ++ new ∷ []) k
+ready-more kids new k r = record {
+  itself = r.itself;
+  known = get-more kids (new ∷ []) k r.itself r.known;
+  awaited = λ place earlier below there depends. r.awaited place earlier below (get-front kids (new ∷ []) place earlier (omega (arith, below, get-within kids k r.itself r.known)) there) depends;
+}
+
+module _ (rs : List Region) (i : ℕ) (h : i < length rs) (uses : List Use) (body : Body) where
+  abbrev pub child : ℕ
+  child = length (at rs i).children
+
+  abbrev pub more : List Region
+  more = updated rs i (with_child uses) ++ new_region i child uses body ∷ []
+
+  pub n-long : length (updated rs i (with_child uses)) ≡ length rs
+  n-long = length-updated rs i (with_child uses)
+
+  pub long : length more ≡ length rs + 1
+  long = length-append (updated rs i (with_child uses)) (new_region i child uses body ∷ []) ∙ ap (λ n. n + 1) n-long
+
+  pub at-old : (j : ℕ) → j < length rs → at more j ≡ at (updated rs i (with_child uses)) j
+  at-old j l = at-more (updated rs i (with_child uses)) (new_region i child uses body) j (omega (arith, n-long, l))
+
+  pub at-fresh : at more (length rs) ≡ new_region i child uses body
+  at-fresh = ap (at more) (sym n-long) ∙ at-new (updated rs i (with_child uses)) (new_region i child uses body)
+
+  pub at-parent : at more i ≡ with_child uses (at rs i)
+  at-parent = at-old i h ∙ at-updated rs i (with_child uses) h
+
+  pub at-others : (j : ℕ) → j < length rs → j ≢ i → at more j ≡ at rs j
+  at-others j l other = at-old j l ∙ at-updated-other rs i j (with_child uses) other
+
+  -- each field but the children is as before
+  pub same-field : {A : Type 0} (f : Region → A) → ((r : Region) → f (with_child uses r) ≡ f r) → (j : ℕ) → j < length rs → f (at more j) ≡ f (at rs j)
+  same-field f keeps j l = pick (cases_eq j i)
+    where
+      pick : (j ≡ i) ⊎ (j ≡ i → ⊥) → f (at more j) ≡ f (at rs j)
+      pick (inl e) = ap (λ n. f (at more n)) e ∙ ap f at-parent ∙ keeps (at rs i) ∙ ap (λ n. f (at rs n)) (sym e)
+      pick (inr e) = ap f (at-others j l e)
+
+  -- an entry stays in its table
+  entry-kept : (p k : ℕ) (s : Sibling) → p < length rs → slice_get (at rs p).children k ≡ Some s → slice_get (at more p).children k ≡ Some s
+  entry-kept p k s l there = pick (cases_eq p i)
+    where
+      pick : (p ≡ i) ⊎ (p ≡ i → ⊥) → slice_get (at more p).children k ≡ Some s
+      pick (inl e) =
+          ap (λ n. slice_get (at more n).children k) e ∙ ap (λ (r : Region). slice_get r.children k) at-parent
+          ∙ get-more (at rs i).children _ k s (subst (λ n. slice_get (at rs n).children k ≡ Some s) e there)
+      pick (inr e) = ap (λ (r : Region). slice_get r.children k) (at-others p l e) ∙ there
+
+  module _ (s : IsSound rs) where
+    kin-old : (j : ℕ) → 0 < j → j < length rs → IsKin more j
+    kin-old j pos l =
+        let k = s.kin j pos l in
+        let p = same-field (λ r. r.parent) (λ r. refl) j l in
+        let c = same-field (λ r. r.child) (λ r. refl) j l in
+        record {
+          entry = k.entry;
+          there = ap (λ n. slice_get (at more n).children (at more j).child) p ∙ ap (λ n. slice_get (at more (parent_of rs j)).children n) c
+              ∙ entry-kept (parent_of rs j) (at rs j).child k.entry (omega (arith, s.down j pos, l)) k.there;
+          uses = same-field (λ r. r.own) (λ r. refl) j l ∙ k.uses;
+          finished = k.finished ∙ sym (same-field (λ r. r.ended) (λ r. refl) j l);
+        }
+
+    kin-new : IsKin more (length rs)
+    kin-new = record {
+      entry = created uses (map (λ o. o.group) (at rs i).groups);
+      there = ap (λ (r : Region). slice_get (at more r.parent).children r.child) at-fresh ∙ ap (λ (r : Region). slice_get r.children child) at-parent ∙ get-last (at rs i).children _;
+      uses = ap (λ (r : Region). r.own) at-fresh;
+      finished = sym (ap (λ (r : Region). r.ended) at-fresh);
+    }
+
+    pub kin-more : (j : ℕ) → 0 < j → j < length more → IsKin more j
+    kin-more j pos l = pick (cases_lt j (length rs))
+      where
+        pick : (j < length rs) ⊎ (length rs ≤ j) → IsKin more j
+        pick (inl below) = kin-old j pos below
+        pick (inr past) = subst (IsKin more) (omega (arith, past, l, long)) kin-new
+
+    pub begun-more : (j : ℕ) → j < length rs → IsBegun rs j → IsBegun more j
+    begun-more j l begun pos =
+        let b = begun pos in
+        let p = same-field (λ r. r.parent) (λ r. refl) j l in
+        let c = same-field (λ r. r.child) (λ r. refl) j l in (
+          omega (arith, b.0, longer),
+          subst (λ n. IsReady (at more n).children (at more j).child) (sym p)
+              (subst (IsReady (at more (parent_of rs j)).children) (sym c) (ready (parent_of rs j) (at rs j).child (omega (arith, s.down j pos, l)) b.1)),
+        )
+      where
+        longer : length rs ≤ length more
+        longer = omega (arith, long)
+
+        ready : (q k : ℕ) → q < length rs → IsReady (at rs q).children k → IsReady (at more q).children k
+        ready q k below r = pick (cases_eq q i)
+          where
+            pick : (q ≡ i) ⊎ (q ≡ i → ⊥) → IsReady (at more q).children k
+            pick (inl e) =
+                subst (λ n. IsReady (at more n).children k) (sym e)
+                (subst (λ (x : Region). IsReady x.children k) (sym at-parent) (ready-more (at rs i).children _ k (subst (λ n. IsReady (at rs n).children k) e r)))
+            pick (inr e) = subst (λ (x : Region). IsReady x.children k) (sym (at-others q below e)) r

@@ -1,0 +1,178 @@
+-- The copies that a piece was lent let each of its touches be made as it is meant: what is read is no sum, what is written
+-- is lent to be written.
+use Rattle.std.proofs.Common.{◌≡◌, ◌<◌, ℕ, ◌+◌, ◌%◌, Bool, true, false, not, cond, ◌&&◌, List, [], ◌∷◌, map, refl, sym, ap, subst, ◌∙◌, inl, inr, arith, true≢false}
+use Rattle.std.specs.Prelude.{Option, Some, None, option_map, if◌then◌else◌}
+use Rattle.std.specs.List.{find, range_with_len}
+use Rattle.std.proofs.Math.Nat.{mod-lt}
+use Rattle.ot_model.specs.Tree.{E, Literal, CellAt, Apply, PickFrom, Set, Add, If, Task, Wait, Group, Body, End, Next, append}
+use Rattle.ot_model.specs.Names.{NamedIn, ValueNamedIn}
+use Rattle.ot_model.specs.Value.{cell_at, cells_named}
+use Rattle.ot_model.specs.Cells.{same_cell}
+use Rattle.ot_model.specs.Uses.{is_adds}
+use Rattle.ot_model.specs.declared.expr.Cell.{Cell}
+use Rattle.ot_model.specs.declared.stmt.Mode.{Mode}
+use Rattle.ot_model.specs.declared.stmt.Mode.TheVariants.{Reads, Writes, Adds}
+use Rattle.ot_model.specs.declared.stmt.Use.{Use}
+use Rattle.ot_check.specs.Paths.{use_as, touches}
+use Rattle.ot_check.specs.Offences.{Declared, allows, adds_to, covers}
+use Rattle.ot_check.specs.Touches.{EachRead, EachTouch}
+use Rattle.ot_check.specs.walk.Walk.{Children}
+use Rattle.ot_check.specs.walk.Fine.{IsFine, AreAssigns}
+use Rattle.ot_check.specs.declared.fault.Offence.TheVariants.{NotDeclared}
+use Rattle.ot_check.proofs.Bits.{or_true, true_or, or_right, and_left, and_right, and_true}
+use Rattle.ot_owner.specs.Lending.{is_at, uses_of}
+use Rattle.ot_owner.specs.declared.lent.LentCell.{LentCell}
+use Rattle.ot_job.specs.Copies.{Lets, LetsMode}
+use Rattle.ot_job.specs.Rights.{IsRight}
+use Rattle.ot_job.specs.Pieces.{test_of}
+use Rattle.ot_job.specs.Touched.{assign_touches, test_touches, piece_touches, held, mode_held, mode_in}
+use Rattle.ot_job.proofs.BackLemmas.{mode_at}
+use Rattle.ot_job.proofs.CoverLemmas.{Covers, covered, flip, in-section, among-left, among-right}
+use Rattle.ot_job.proofs.FreeLemmas.{piece-safe}
+use Rattle.ot_job.proofs.HeldLemmas.{reads-append}
+use Rattle.ot_job.proofs.HoldsLemmas.{Among, held-right}
+
+-- ---- from each touch in the list to each touch of the body
+
+read-from : (Q : Cell → Type 0) (lens : List ℕ) (e : E) → ValueNamedIn lens e → ((c : Cell) → Among (use_as Reads c) (map (use_as Reads) (cells_named e)) → Q c) → EachRead Q e
+read-from Q lens (Literal n) h f = tt
+read-from Q lens (CellAt c) h f = f c (inl refl)
+read-from Q lens (Apply o a b) h f = (
+  read-from Q lens a h.0 (λ c k. f c (subst (Among (use_as Reads c)) (sym (reads-append (cells_named a) (cells_named b))) (among-left (use_as Reads c) (map (use_as Reads) (cells_named a)) (map (use_as Reads) (cells_named b)) k))),
+  read-from Q lens b h.1 (λ c k. f c (subst (Among (use_as Reads c)) (sym (reads-append (cells_named a) (cells_named b))) (among-right (use_as Reads c) (map (use_as Reads) (cells_named a)) (map (use_as Reads) (cells_named b)) k))),
+)
+read-from Q lens (PickFrom s e) h f =
+    let cells = map (cell_at s) (range_with_len 0 s.len) in
+    let back = λ (c : Cell). subst (Among (use_as Reads c)) (sym (reads-append cells (cells_named e))) in (
+      (λ k.
+          let l : k % s.len < s.len = mod-lt k h.0.some in
+          let z : 0 + k % s.len ≡ k % s.len = omega arith in
+          f (cell_at s (k % s.len)) (back (cell_at s (k % s.len)) (among-left (use_as Reads (cell_at s (k % s.len))) (map (use_as Reads) cells) (map (use_as Reads) (cells_named e))
+          (subst (λ m. Among (use_as Reads (cell_at s m)) (map (use_as Reads) cells)) z (in-section s 0 s.len (k % s.len) l))))),
+      read-from Q lens e h.1 (λ c k. f c (back c (among-right (use_as Reads c) (map (use_as Reads) cells) (map (use_as Reads) (cells_named e)) k))),
+    )
+
+touch-from : (P : Use → Type 0) (lens : List ℕ) (b : Body) → AreAssigns b → NamedIn lens b → ((u : Use) → Among u (assign_touches b) → P u) → EachTouch P b
+touch-from P lens End only n f = tt
+touch-from P lens (Next (Set c e) rest) only n f =
+    let reads = map (use_as Reads) (cells_named e) in
+    let first : (u : Use) → Among u (touches (Set c e)) → P u = λ u k. f u (among-left u (touches (Set c e)) (assign_touches rest) k) in (
+      (
+        read-from (λ d. P (use_as Reads d)) lens e n.0.1 (λ d k. first (use_as Reads d) (among-left (use_as Reads d) reads (use_as Writes c ∷ []) k)),
+        first (use_as Writes c) (among-right (use_as Writes c) reads (use_as Writes c ∷ []) (inl refl)),
+      ),
+      touch-from P lens rest only n.1 (λ u k. f u (among-right u (touches (Set c e)) (assign_touches rest) k)),
+    )
+touch-from P lens (Next (Add c e) rest) only n f =
+    let reads = map (use_as Reads) (cells_named e) in
+    let first : (u : Use) → Among u (touches (Add c e)) → P u = λ u k. f u (among-left u (touches (Add c e)) (assign_touches rest) k) in (
+      (
+        read-from (λ d. P (use_as Reads d)) lens e n.0.1 (λ d k. first (use_as Reads d) (among-left (use_as Reads d) reads (use_as Adds c ∷ []) k)),
+        first (use_as Adds c) (among-right (use_as Adds c) reads (use_as Adds c ∷ []) (inl refl)),
+      ),
+      touch-from P lens rest only n.1 (λ u k. f u (among-right u (touches (Add c e)) (assign_touches rest) k)),
+    )
+touch-from P lens (Next (If e a b) rest) only n f = absurd only
+touch-from P lens (Next (Task d b) rest) only n f = absurd only
+touch-from P lens (Next Wait rest) only n f = absurd only
+touch-from P lens (Next (Group cs b) rest) only n f = absurd only
+
+-- ---- the mode of a copy
+
+pub mode-lent : (lent : List LentCell) (c : Cell) → mode_at lent c ≡ mode_in (uses_of lent) c
+mode-lent [] c = refl
+mode-lent (l ∷ lent) c = by (same_cell c l.cell) refl (mode-lent lent c)
+  where
+    by : (b : Bool) → same_cell c l.cell ≡ b → mode_at lent c ≡ mode_in (uses_of lent) c
+        → option_map (λ x. x.mode) (cond (same_cell l.cell c) (Some l) (find (is_at c) lent)) ≡ (if same_cell c l.cell then Some l.mode else mode_in (uses_of lent) c)
+    by true e more = rw (e, flip c l.cell true e) refl
+    by false e more = rw (e, flip c l.cell false e) more
+
+-- who may write a cell may read it
+writes-reads : (own : Declared) (c : Cell) → allows own (use_as Writes c) ≡ true → allows own (use_as Reads c) ≡ true
+writes-reads None c h = refl
+writes-reads (Some []) c h = h
+writes-reads (Some (d ∷ us)) c h =
+    elim (or_true (same_cell d.cell c && covers d.mode Writes) (allows (Some us) (use_as Writes c)) h) [
+      | inl here ↦ true_or (same_cell d.cell c && covers d.mode Reads) (allows (Some us) (use_as Reads c))
+          (and_true (same_cell d.cell c) (covers d.mode Reads) (and_left (same_cell d.cell c) (covers d.mode Writes) here) (all d.mode (and_right (same_cell d.cell c) (covers d.mode Writes) here)))
+      | inr later ↦ or_right (same_cell d.cell c && covers d.mode Reads) (allows (Some us) (use_as Reads c)) (writes-reads (Some us) c later)
+    ]
+  where
+    all : (m : Mode) → covers m Writes ≡ true → covers m Reads ≡ true
+    all Writes h = refl
+    all Reads h = absurd (true≢false (sym h))
+    all Adds h = absurd (true≢false (sym h))
+
+module _ (lens : List ℕ) (own : Declared) (opened : Cell → Bool) (children : Children) (piece rest : Body) (only : AreAssigns piece) (named : NamedIn lens (append piece rest))
+    (fine : IsFine own opened children (append piece rest)) (exclusive : (c : Cell) → adds_to own c ≡ true → allows own (use_as Reads c) ≡ false)
+    (lent : List LentCell) (modes : (c : Cell) → mode_in (uses_of lent) c ≡ held own (piece_touches piece (test_of rest)) c) where
+  abbrev all : List Use
+  all = piece_touches piece (test_of rest)
+
+  may : (u : Use) → Among u all → allows own u ≡ true
+  may u k = by (allows own u) (piece-safe lens own opened children piece rest only named fine u k NotDeclared)
+    where
+      by : (b : Bool) → not b ≡ false → b ≡ true
+      by true h = refl
+      by false h = absurd (true≢false h)
+
+  lets : (u : Use) → Among u all → Lets (mode_at lent) u
+  lets u k =
+      subst (LetsMode u.mode) (sym (mode-lent lent u.cell ∙ modes u.cell))
+      (by u.mode refl (held own all u.cell) (covered own all None u k) (held-right own u.cell all))
+    where
+      reads : u.mode ≡ Reads → allows own (use_as Reads u.cell) ≡ true
+      reads e = subst (λ m. allows own (use_as m u.cell) ≡ true) e (may u k)
+
+      writes : u.mode ≡ Writes → allows own (use_as Writes u.cell) ≡ true
+      writes e = subst (λ m. allows own (use_as m u.cell) ≡ true) e (may u k)
+
+      held-writes : u.mode ≡ Writes → mode_held own u ≡ Writes
+      held-writes e = ap (λ m. if is_adds m && not (adds_to own u.cell) then Writes else m) e
+
+      held-adds : u.mode ≡ Adds → Covers (Some Reads) (mode_held own u) → ⊥
+      held-adds e h = bit (adds_to own u.cell) (subst (Covers (Some Reads)) (ap (λ m. if is_adds m && not (adds_to own u.cell) then Writes else m) e) h)
+        where
+          bit : (b : Bool) → Covers (Some Reads) (if not b then Writes else Adds) → ⊥
+          bit true h = h
+          bit false h = h
+
+      by : (m : Mode) → u.mode ≡ m → (o : Option Mode) → Covers o (mode_held own u) → ((n : Mode) → o ≡ Some n → IsRight own (λ v. Among v all) (use_as n u.cell)) → LetsMode m o
+      by m e None h right = absurd h
+      by Reads e (Some Reads) h right = tt
+      by Reads e (Some Writes) h right = tt
+      by Reads e (Some Adds) h right = absurd (true≢false (sym (reads e) ∙ exclusive u.cell (right Adds refl).1))
+      by Writes e (Some Reads) h right = subst (Covers (Some Reads)) (held-writes e) h
+      by Writes e (Some Writes) h right = tt
+      by Writes e (Some Adds) h right = absurd (true≢false (sym (writes-reads own u.cell (writes e)) ∙ exclusive u.cell (right Adds refl).1))
+      by Adds e (Some Reads) h right = absurd (held-adds e h)
+      by Adds e (Some Writes) h right = tt
+      by Adds e (Some Adds) h right = tt
+
+  front : (a b : Body) → NamedIn lens (append a b) → NamedIn lens a
+  front End b n = tt
+  front (Next x a) b n = (n.0, front a b n.1)
+
+  back : (a b : Body) → NamedIn lens (append a b) → NamedIn lens b
+  back End b n = n
+  back (Next x a) b n = back a b n.1
+
+  -- the assigns
+  pub lets-piece : EachTouch (Lets (mode_at lent)) piece
+  lets-piece = touch-from (Lets (mode_at lent)) lens piece only (front piece rest named) (λ u k. lets u (among-left u (assign_touches piece) (test_touches (test_of rest)) k))
+
+  -- the condition
+  pub lets-test : (e : E) → test_of rest ≡ Some e → EachRead (λ c. Lets (mode_at lent) (use_as Reads c)) e
+  lets-test e is =
+      read-from (λ c. Lets (mode_at lent) (use_as Reads c)) lens e (value-named rest is (back piece rest named))
+      (λ c k. lets (use_as Reads c) (among-right (use_as Reads c) (assign_touches piece) (test_touches (test_of rest)) (subst (λ o. Among (use_as Reads c) (test_touches o)) (sym is) k)))
+    where
+      value-named : (b : Body) → test_of b ≡ Some e → NamedIn lens b → ValueNamedIn lens e
+      value-named End is n = cc
+      value-named (Next (Set c x) r) is n = cc
+      value-named (Next (Add c x) r) is n = cc
+      value-named (Next (If x a b) r) is n = let same : x ≡ e = cc in subst (ValueNamedIn lens) same n.0.0
+      value-named (Next (Task d b) r) is n = cc
+      value-named (Next Wait r) is n = cc
+      value-named (Next (Group cs b) r) is n = cc

@@ -1,0 +1,101 @@
+-- Who is claimable, as the code finds it.
+use Rattle.std.proofs.Common.{◌≡◌, ◌<◌, ◌≤◌, ℕ, zero, suc, ◌+◌, ◌-◌, Bool, true, false, cond, not, ◌&&◌, ◌||◌, List, [], ◌∷◌, length, get_or, refl, sym, ap, subst, ◌∙◌, arith, true≢false}
+use Rattle.std.specs.Prelude.{◌==◌, ◌%◌, Option, Some, None, slice_get, filter}
+use Rattle.std.specs.List.{range_with_len}
+use Rattle.std.proofs.lemmas.Option.{same_Some}
+use Rattle.std.proofs.lemmas.Bool.Decides.{nat_tests}
+use Rattle.ot_model.specs.declared.stmt.Use.{Use}
+use Rattle.ot_depend.specs.Siblings.{Sibling, IsReady, depends_on, is_ready}
+use Rattle.ot_depend.proofs.ReadyLemmas.{depends_on-from_DependsOn}
+use Rattle.ot_depend.proofs.SiblingsLemmas.{IsReady-from_All}
+use Rattle.std.specs.List.{list_all}
+use Rattle.std.specs.Prelude.{take}
+use Rattle.std.proofs.lemmas.List.Sums.{AllPass-from_list_all}
+use Rattle.ot_job.specs.Regions.{Region}
+use Rattle.ot_job.specs.RegionView.{region_of, regions_of}
+use Rattle.ot_job.specs.Sound.{at, gone}
+use Rattle.ot_job.specs.Claiming.{is_claimable, claimable_of, picked}
+use Rattle.ot_depend.specs.Siblings.{is_ready}
+use Rattle.ot_job.specs.declared.task.Task.{Task}
+
+-- ---- regions by their records
+
+pub at-past : (tasks : List Task) (i : ℕ) → length tasks ≤ i → at (regions_of tasks) i ≡ gone
+at-past [] i h = refl
+at-past (x ∷ tasks) zero h = absurd (omega (arith, h))
+at-past (x ∷ tasks) (suc i) h = at-past tasks i (omega (arith, h))
+
+pub at-here : (tasks : List Task) (i : ℕ) (t : Task) → i < length tasks → t ≡ get_or tasks i t → at (regions_of tasks) i ≡ region_of t
+at-here [] i t within is = absurd (omega (arith, within))
+at-here (x ∷ tasks) zero t within is = ap region_of (sym is)
+at-here (x ∷ tasks) (suc i) t within is = at-here tasks i t (omega (arith, within)) is
+
+-- ---- ready
+
+-- whether an earlier sibling lets one with these uses run
+abbrev lets_run : List Use → Sibling → Bool
+lets_run later earlier = earlier.finished || not (depends_on earlier.uses later)
+
+-- the test tells that a child is ready
+pub ready-from : (siblings : List Sibling) (child : ℕ) → is_ready siblings child ≡ true → IsReady siblings child
+ready-from siblings child passed = by (slice_get siblings child) refl
+  where
+    told : (finished on : Bool) → (finished || not on) ≡ true → on ≡ true → finished ≡ true
+    told true on passed here = refl
+    told false true passed here = passed
+    told false false passed here = here
+
+    by : (found : Option Sibling) → slice_get siblings child ≡ found → IsReady siblings child
+    by None none = absurd (true≢false (sym passed ∙ rw none refl))
+    by (Some itself) known =
+        let same : is_ready siblings child ≡ list_all (lets_run itself.uses) (take child siblings) = rw known refl in
+        let all = AllPass-from_list_all (lets_run itself.uses) (take child siblings) (sym same ∙ passed) in
+        IsReady-from_All siblings child itself known (λ k d within depends.
+        let earlier = get_or (take child siblings) k d in
+        told earlier.finished (depends_on earlier.uses itself.uses) (all k d within) (depends_on-from_DependsOn earlier.uses itself.uses depends))
+
+-- ---- those from a number on
+
+pub claimable-more : (test : ℕ → Bool) (i n : ℕ) → i < n
+    → filter test (range_with_len i (n - i)) ≡ cond (test i) (i ∷ filter test (range_with_len (i + 1) (n - (i + 1)))) (filter test (range_with_len (i + 1) (n - (i + 1))))
+claimable-more test i n below = let left : n - i ≡ suc (n - (i + 1)) = omega (arith, below) in rw left refl
+
+-- three tests in a row
+pub all-three : (idle begun free : Bool) → idle ≡ true → begun ≡ true → free ≡ (idle && (begun && free))
+all-three true true free a b = refl
+all-three true false free a b = absurd (true≢false (sym b))
+all-three false begun free a b = absurd (true≢false (sym a))
+
+pub not-begun : (idle begun free : Bool) → (idle && begun) ≡ false → false ≡ (idle && (begun && free))
+not-begun true true free h = absurd (true≢false h)
+not-begun true false free h = refl
+not-begun false begun free h = refl
+
+pub zero-or : (i : ℕ) (b : Bool) → i ≡ 0 → ((i == 0) || b) ≡ true
+zero-or i b h = ap (λ n. (n == 0) || b) h
+
+pub other-or : (i : ℕ) (b : Bool) → (i ≡ 0 → ⊥) → ((i == 0) || b) ≡ b
+other-or i b h = let none : (i == 0) ≡ false = grind (arith, nat_tests) in ap (λ t. t || b) none
+
+-- ---- who is picked is claimable
+
+found-among : (test : ℕ → Bool) (a n k i : ℕ) → slice_get (filter test (range_with_len a n)) k ≡ Some i → (i < a + n) × (test i ≡ true)
+found-among test a zero k i h = cc
+found-among test a (suc n) k i h = by (λ k h. found-among test (a + 1) n k i h) (test a) refl k h
+  where
+    by : ((k : ℕ) → slice_get (filter test (range_with_len (a + 1) n)) k ≡ Some i → (i < a + 1 + n) × (test i ≡ true))
+        → (b : Bool) → test a ≡ b → (k : ℕ) → slice_get (cond (test a) (a ∷ filter test (range_with_len (a + 1) n)) (filter test (range_with_len (a + 1) n))) k ≡ Some i → (i < a + suc n) × (test i ≡ true)
+    by later true e zero h =
+        let is : a ≡ i = same_Some a i (rw e at h) in
+        (omega (arith, is), subst (λ x. test x ≡ true) is e)
+    by later true e (suc k) h = let r = later k (rw e at h) in (omega (arith, r.0), r.1)
+    by later false e k h = let r = later k (rw e at h) in (omega (arith, r.0), r.1)
+
+pub picked-claimable : (rs : List Region) (pick i : ℕ) → picked (claimable_of rs) pick ≡ Some i → (i < length rs) × (is_claimable rs i ≡ true)
+picked-claimable rs pick i h = by (claimable_of rs) refl h
+  where
+    by : (xs : List ℕ) → claimable_of rs ≡ xs → picked xs pick ≡ Some i → (i < length rs) × (is_claimable rs i ≡ true)
+    by [] e h = cc
+    by (x ∷ xs) e h =
+        let r = found-among (is_claimable rs) 0 (length rs) (pick % length (x ∷ xs)) i (ap (λ l. slice_get l (pick % length (x ∷ xs))) e ∙ h) in
+        (omega (arith, r.0), r.1)

@@ -1,0 +1,74 @@
+-- A piece that is out.
+use Rattle.std.proofs.Common.{false, true, sym, true≢false, ◌≡◌, ◌<◌, ℕ, zero, suc, List, [], ◌∷◌, length, refl, arith}
+use Rattle.std.specs.Prelude.{All, Contains, IsSome, Some, Result, Ok, Err, OnOk, is_err}
+use Rattle.std.proofs.lemmas.List.Elements.{All-nil, All-cons, All-head, All-tail}
+use Rattle.ot_model.specs.Tree.{Body, End, Next}
+use Rattle.ot_model.specs.Cells.{cell_of}
+use Rattle.ot_job.specs.Place.{Open}
+use Rattle.ot_model.specs.declared.stmt.Use.{Use}
+use Rattle.ot_depend.specs.Siblings.{IsReady, IsUnfinished}
+use Rattle.ot_owner.specs.Leases.{lease_of}
+use Rattle.ot_owner.specs.Lending.{uses_of}
+use Rattle.ot_owner.specs.declared.lent.LentCell.{LentCell}
+use Rattle.ot_job.specs.Regions.{Region, Run, next_task}
+use Rattle.ot_job.specs.Sound.{at, parent_of}
+use Rattle.ot_job.specs.Live.{Seen}
+use Rattle.ot_job.specs.Pieces.{leading_len}
+use Rattle.ot_job.specs.Assigns.{assigns_of}
+use Rattle.ot_job.specs.declared.assign.Assign.{Assign}
+use Rattle.ot_job.specs.declared.assign.Assign.TheVariants as v
+use Rattle.ot_job.specs.Settling.{Came, IsOut, MaySettle, is_at_end}
+
+runs-known : (rs : List Region) (i : ℕ) (run : Run) → (at rs i).running ≡ Some run → i < length rs
+runs-known [] i run h = cc
+runs-known (r ∷ rs) zero run h = omega arith
+runs-known (r ∷ rs) (suc i) run h = omega (arith, runs-known rs i run h)
+
+uses-there : (cells : List (List ℕ)) (lent : List LentCell) → All (λ u. IsSome (cell_of cells u.cell)) (uses_of lent) → All (λ l. IsSome (cell_of cells l.cell)) lent
+uses-there cells [] h = All-nil (λ l. IsSome (cell_of cells l.cell))
+uses-there cells (l ∷ ls) h =
+    All-cons (λ l. IsSome (cell_of cells l.cell)) l ls (All-head (λ u. IsSome (cell_of cells u.cell)) _ (uses_of ls) h)
+    (uses-there cells ls (All-tail (λ u. IsSome (cell_of cells u.cell)) _ (uses_of ls) h))
+
+run_of : Came → Run
+run_of d = record { assigns = d.assigns; lease = lease_of d.lent }
+
+module _ (j : Seen) (d : Came) (may : MaySettle j) (out : IsOut j.regions d) where
+  pub is-known : d.task < length j.regions
+  unfolding run_of
+  is-known = runs-known j.regions d.task (run_of d) out.0
+
+  pub lease-out : Contains j.owned.out (lease_of d.lent)
+  unfolding run_of
+  lease-out = (may.out d.task (run_of d) out.0).0
+
+  pub cells-there : All (λ l. IsSome (cell_of j.cells l.cell)) d.lent
+  unfolding run_of
+  cells-there = uses-there j.cells d.lent (may.out d.task (run_of d) out.0).1
+
+  pub parent-known : 0 < d.task → parent_of j.regions d.task < length j.regions
+  unfolding run_of
+  parent-known some = (may.kin d.task (run_of d) out.0 some).0
+
+  pub child-ready : 0 < d.task → IsReady (at j.regions (parent_of j.regions d.task)).children (at j.regions d.task).child
+  unfolding run_of
+  child-ready some = (may.kin d.task (run_of d) out.0 some).1
+
+  pub child-unfinished : 0 < d.task → IsUnfinished (at j.regions (parent_of j.regions d.task)).children (at j.regions d.task).child
+  unfolding run_of
+  child-unfinished some = (may.kin d.task (run_of d) out.0 some).2
+
+pub assigns-len : (xs : List Assign) → leading_len (assigns_of xs) ≡ length xs
+assigns-len [] = refl
+assigns-len (v.Set c e ∷ xs) = let h = assigns-len xs in omega (arith, h)
+assigns-len (v.Add c e ∷ xs) = let h = assigns-len xs in omega (arith, h)
+
+-- at a body's end no task comes next
+pub none-next : {P : Type 0} (rest : Body) (gs : List Open) → is_at_end rest gs ≡ true → (child : List Use × Body) → next_task rest ≡ Some child → P
+none-next End gs at-end child is = cc
+none-next (Next x rest) gs at-end child is = absurd (true≢false (sym at-end))
+
+-- what is so where a call succeeds is so once it has
+pub ok-holds : {A B P : Type 0} (r : Result A B) → is_err r ≡ false → OnOk r P → P
+ok-holds (Ok x) ok holds = holds
+ok-holds (Err e) ok holds = absurd (true≢false ok)

@@ -1,0 +1,129 @@
+-- A job's regions make it sound.
+use Rattle.std.proofs.Common.{◌≡◌, ℕ, zero, suc, ◌<◌, ◌≤◌, true, false, List, [], ◌∷◌, length, refl, sym, ap, subst, ◌∙◌, ◌⊎◌, inl, inr, arith, ◌&&◌, true≢false}
+use Rattle.std.specs.Prelude.{Some, slice_get}
+use Rattle.std.proofs.lemmas.Bool.{cases_lt}
+use Rattle.std.proofs.lemmas.Option.{same_Some}
+use Rattle.std.proofs.lemmas.List.Folds.{Any-from_list_any, list_any-from_Any}
+use Rattle.ot_check.proofs.Bits.{and_left, and_right, and_true}
+use Rattle.ot_check.proofs.SameLemmas.{same_is}
+use Rattle.ot_job.proofs.CellLemmas.{same_self}
+use Rattle.ot_model.specs.Uses.{DependsOn, one_writes, conflicts, is_adds}
+use Rattle.ot_model.specs.declared.stmt.Mode.{Mode}
+use Rattle.ot_model.specs.declared.stmt.Mode.TheVariants.{Reads, Writes, Adds}
+use Rattle.ot_model.specs.declared.stmt.Use.{Use}
+use Rattle.ot_depend.specs.Siblings.{Sibling, IsReady}
+use Rattle.ot_check.specs.Offences.{Declared, allows, covers}
+use Rattle.ot_model.specs.Cells.{same_cell}
+use Rattle.ot_check.specs.Touches.{Agree}
+use Rattle.ot_job.proofs.Kept.{Sound}
+use Rattle.ot_job.specs.Regions.{Region}
+use Rattle.ot_job.specs.Sound.{at, gone, parent_of, todo_at, may_at, ended_at, IsBegun, DontMix, IsSound}
+
+pub at-past : (rs : List Region) (i : ℕ) → length rs ≤ i → at rs i ≡ gone
+at-past [] i h = refl
+at-past (r ∷ rs) zero h = absurd (omega (arith, h))
+at-past (r ∷ rs) (suc i) h = at-past rs i (omega (arith, h))
+
+-- siblings of which the later doesn't depend on the earlier, and neither reads what the other adds to
+agree-siblings : (us vs : List Use) → (DependsOn vs us → ⊥) → DontMix us vs → DontMix vs us → (u v : Use) → allows (Some us) u ≡ true → allows (Some vs) v ≡ true → Agree u v
+agree-siblings us vs free one two u v mu mv same =
+    let d = Any-from_list_any (λ d. same_cell d.cell u.cell && covers d.mode u.mode) us mu in
+    let e = Any-from_list_any (λ d. same_cell d.cell v.cell && covers d.mode v.mode) vs mv in
+    let at_d = same_is d.1.cell u.cell (and_left (same_cell d.1.cell u.cell) (covers d.1.mode u.mode) d.4) in
+    let at_e = same_is e.1.cell v.cell (and_left (same_cell e.1.cell v.cell) (covers e.1.mode v.mode) e.4) in
+    modes d.1.mode e.1.mode u.mode v.mode
+    (and_right (same_cell d.1.cell u.cell) (covers d.1.mode u.mode) d.4)
+    (and_right (same_cell e.1.cell v.cell) (covers e.1.mode v.mode) e.4)
+    (λ w. free (e.0, e.1, e.2, e.3, (d.0, d.1, d.2, d.3, (at_e ∙ sym same ∙ sym at_d, w))))
+    (λ reads adds. one u.cell (list_any-from_Any (λ x. same_cell x.cell u.cell && covers x.mode Reads) us (d.0, d.1, d.2, d.3, and_true (same_cell d.1.cell u.cell) (covers d.1.mode Reads) (same_self d.1.cell u.cell at_d) reads))
+    (list_any-from_Any (λ x. same_cell x.cell u.cell && is_adds x.mode) vs (e.0, e.1, e.2, e.3, and_true (same_cell e.1.cell u.cell) (is_adds e.1.mode) (same_self e.1.cell u.cell (at_e ∙ sym same)) adds)))
+    (λ reads adds. two u.cell (list_any-from_Any (λ x. same_cell x.cell u.cell && covers x.mode Reads) vs (e.0, e.1, e.2, e.3, and_true (same_cell e.1.cell u.cell) (covers e.1.mode Reads) (same_self e.1.cell u.cell (at_e ∙ sym same)) reads))
+    (list_any-from_Any (λ x. same_cell x.cell u.cell && is_adds x.mode) us (d.0, d.1, d.2, d.3, and_true (same_cell d.1.cell u.cell) (is_adds d.1.mode) (same_self d.1.cell u.cell at_d) adds)))
+  where
+    modes : (d e m n : Mode) → covers d m ≡ true → covers e n ≡ true → (one_writes e d ≡ true → ⊥) → (covers d Reads ≡ true → is_adds e ≡ true → ⊥) → (covers e Reads ≡ true → is_adds d ≡ true → ⊥) → conflicts m n ≡ false
+    modes Writes Reads m n p q f g h = absurd (f refl)
+    modes Writes Writes m n p q f g h = absurd (f refl)
+    modes Writes Adds m n p q f g h = absurd (f refl)
+    modes Reads Writes m n p q f g h = absurd (f refl)
+    modes Adds Writes m n p q f g h = absurd (f refl)
+    modes Reads Adds m n p q f g h = absurd (g refl refl)
+    modes Adds Reads m n p q f g h = absurd (h refl refl)
+    modes Reads Reads Reads Reads p q f g h = refl
+    modes Reads Reads Reads Writes p q f g h = cc
+    modes Reads Reads Reads Adds p q f g h = cc
+    modes Reads Reads Writes n p q f g h = cc
+    modes Reads Reads Adds n p q f g h = cc
+    modes Adds Adds Adds Adds p q f g h = refl
+    modes Adds Adds Adds Writes p q f g h = cc
+    modes Adds Adds Adds Reads p q f g h = cc
+    modes Adds Adds Writes n p q f g h = cc
+    modes Adds Adds Reads n p q f g h = cc
+
+module _ (rs : List Region) (s : IsSound rs) where
+  inside_or : (i : ℕ) → (i < length rs) ⊎ (length rs ≤ i)
+  inside_or i = cases_lt i (length rs)
+
+  past_parent : (i : ℕ) → length rs ≤ i → parent_of rs i ≡ 0
+  past_parent i h = ap (λ (r : Region). r.parent) (at-past rs i h)
+
+  within : (i : ℕ) → 0 < i → (u : Use) → may_at rs i u → may_at rs (parent_of rs i) u
+  within i pos u may = at_place (inside_or i)
+    where
+      at_place : (i < length rs) ⊎ (length rs ≤ i) → may_at rs (parent_of rs i) u
+      at_place (inl h) =
+          let kin = s.kin i pos h in
+          (s.placed (parent_of rs i)).within (at rs i).child kin.entry kin.there u (ap (λ (o : Declared). allows o u) (sym kin.uses) ∙ may)
+      at_place (inr h) = ap (λ n. allows (at rs n).own u) (past_parent i h) ∙ ap (λ (o : Declared). allows o u) s.root
+
+  alive : (i : ℕ) → 0 < parent_of rs i → ended_at rs (parent_of rs i) ≡ true → ended_at rs i ≡ true
+  alive i pos over = at_place (inside_or i)
+    where
+      at_place : (i < length rs) ⊎ (length rs ≤ i) → ended_at rs i ≡ true
+      at_place (inl h) =
+          let root : (i ≡ 0) ⊎ (0 < i) = zero_or i in
+          from root h
+        where
+          zero_or : (i : ℕ) → (i ≡ 0) ⊎ (0 < i)
+          zero_or zero = inl refl
+          zero_or (suc i) = inr (omega arith)
+
+          from : (i ≡ 0) ⊎ (0 < i) → i < length rs → ended_at rs i ≡ true
+          from (inl e) h = absurd (omega (arith, pos, ap (parent_of rs) e, s.top))
+          from (inr below) h = let kin = s.kin i below h in sym kin.finished ∙ s.done (parent_of rs i) pos over (at rs i).child kin.entry kin.there
+      at_place (inr h) = absurd (omega (arith, pos, past_parent i h))
+
+  ready : (a b : ℕ) → parent_of rs b ≡ parent_of rs a → 0 < b → b < a → IsBegun rs a → ended_at rs a ≡ false → ended_at rs b ≡ false
+      → (u v : Use) → may_at rs a u → may_at rs b v → Agree u v
+  ready a b same pos lt begun alive_a alive_b u v mu mv =
+      let r = begun (omega (arith, pos, lt)) in
+      let ka = s.kin a (omega (arith, pos, lt)) r.0 in
+      let kb = s.kin b pos (omega (arith, lt, r.0)) in
+      let there : slice_get (at rs (parent_of rs a)).children (at rs b).child ≡ Some kb.entry = subst (λ n. slice_get (at rs n).children (at rs b).child ≡ Some kb.entry) same kb.there in
+      let p = s.placed (parent_of rs a) in
+      let fa = ka.finished ∙ alive_a in let fb = kb.finished ∙ alive_b in
+      agree-siblings ka.entry.uses kb.entry.uses
+      (λ depends.
+      let itself = same_Some r.1.itself ka.entry (sym r.1.known ∙ ka.there) in
+      let waited : kb.entry.finished ≡ true = r.1.awaited (at rs b).child kb.entry (s.older a b pos lt r.0 same) there (subst (λ (x : Sibling). DependsOn kb.entry.uses x.uses) (sym itself) depends) in
+      true≢false (sym waited ∙ fb))
+      (p.apart (at rs a).child (at rs b).child ka.entry kb.entry ka.there there fa fb)
+      (p.apart (at rs b).child (at rs a).child kb.entry ka.entry there ka.there fb fa) u v
+      (ap (λ (o : Declared). allows o u) (sym ka.uses) ∙ mu) (ap (λ (o : Declared). allows o v) (sym kb.uses) ∙ mv)
+
+  begun_up : (i : ℕ) → 0 < i → IsBegun rs (parent_of rs i)
+  begun_up i pos up = at_place (inside_or i)
+    where
+      at_place : (i < length rs) ⊎ (length rs ≤ i) → (parent_of rs i < length rs) × IsReady (at rs (parent_of rs (parent_of rs i))).children (at rs (parent_of rs i)).child
+      at_place (inl h) = s.begun i pos h up
+      at_place (inr h) = absurd (omega (arith, up, past_parent i h))
+
+  pub sound : Sound (parent_of rs) (may_at rs) (todo_at rs) (ended_at rs) (IsBegun rs)
+  sound = record {
+    down = s.down;
+    inside = λ i. (s.placed i).inside;
+    within = within;
+    alive = alive;
+    over = λ i. (s.placed i).over;
+    ready = ready;
+    begun_up = begun_up;
+  }

@@ -1,0 +1,215 @@
+-- A job begins well, and where it has ended its cells and counts are the serial meaning of its program.
+use Rattle.std.proofs.Common.{◌≡◌, ℕ, zero, suc, ◌+◌, ◌*◌, ◌<◌, ◌≤◌, Bool, true, false, List, [], ◌∷◌, length, refl, sym, ap, subst, ◌∙◌, arith, true≢false, ◌==◌}
+use Rattle.std.specs.Prelude.{Option, is_some, ◌||◌, Some, None, slice_get, if◌then◌else◌, IsPermutation, Contains}
+use Rattle.std.proofs.lemmas.List.Sorted.{IsPermutation-refl, IsPermutation-sym, IsPermutation-trans, Contains-permutation}
+use Rattle.ot_model.specs.Tree.{Body, End, Next}
+use Rattle.ot_model.specs.Counts.{size}
+use Rattle.ot_job.specs.Weighing.{weight_of}
+use Rattle.ot_job.proofs.WeighingLemmas.{weight-few, weight-stopped}
+use Rattle.ot_model.specs.Cells.{lengths, updated}
+use Rattle.ot_model.specs.Names.{NamedIn}
+use Rattle.ot_model.specs.Programs.{Expanded}
+use Rattle.ot_model.specs.Serial.{State, serial, serial_run}
+use Rattle.ot_model.specs.Runs.{state_of}
+use Rattle.ot_model.proofs.CellsLemmas.{length-updated}
+use Rattle.ot_depend.specs.Siblings.{Sibling}
+use Rattle.ot_check.specs.Disciplined.{IsDisciplined}
+use Rattle.ot_check.specs.Offences.{allows}
+use Rattle.ot_check.proofs.Bits.{and_left, and_right}
+use Rattle.ot_check.proofs.FineLemmas.{disciplined-fine}
+use Rattle.ot_check.proofs.InsideLemmas.{inside}
+use Rattle.ot_owner.specs.Owning.{Owned}
+use Rattle.ot_owner.specs.Leases.{lease_of}
+use Rattle.ot_owner.specs.Worth.{worths}
+use Rattle.ot_owner.proofs.OutLemmas.{permutation_rest}
+use Rattle.ot_job.specs.Left.{left, children_left}
+use Rattle.ot_job.specs.Regions.{Region, Run}
+use Rattle.ot_job.specs.Sound.{at, gone, parent_of, todo_at, parents, left_of, IsPlaced, IsSound}
+use Rattle.ot_job.specs.Whole.{wholes, leases_out}
+use Rattle.ot_job.specs.Live.{Seen}
+use Rattle.ot_job.specs.Well.{IsWell}
+use Rattle.ot_job.specs.States.{root_region, all_ended, any_out, state_in}
+use Rattle.ot_job.specs.declared.state.State.TheVariants.{Working, Failing, Ended, Failed}
+use Rattle.ot_job.specs.Settling.{Came, IsOut, stopped}
+use Rattle.ot_job.proofs.Kept.{touch-all}
+use Rattle.ot_job.proofs.FreeLemmas.{at-whole}
+use Rattle.ot_job.proofs.WellLemmas.{worths-stored, out-contained}
+use Rattle.ot_job.proofs.MovesLemmas.{one-less}
+
+-- ---- the root alone
+
+placed-gone : IsPlaced gone
+placed-gone = record {
+  fine = tt;
+  inside = tt;
+  tasks = tt;
+  awaits = λ uses is. cc;
+  within = λ k s h. cc;
+  apart = λ k l s t h. cc;
+  over = λ e. refl;
+  writes = λ c h. absurd (true≢false (sym h));
+  sums = λ k s h. cc;
+  reduced = λ k s h. cc;
+  exclusive = λ c h. absurd (true≢false (sym h));
+}
+
+module _ (program : Expanded) (disciplined : IsDisciplined program) (lens : List ℕ) (named : NamedIn lens program.body) where
+  abbrev root : List Region
+  root = root_region program.body ∷ []
+
+  placed-root : IsPlaced (root_region program.body)
+  placed-root = record {
+    fine = disciplined-fine program.body disciplined;
+    inside = touch-all (λ u. allows None u ≡ true) (λ u. refl) program.body;
+    tasks = inside lens program.body named disciplined;
+    awaits = λ uses is. cc;
+    within = λ k s h. cc;
+    apart = λ k l s t h. cc;
+    over = λ e. absurd (true≢false (sym e));
+    writes = λ c h. absurd (true≢false (sym h));
+    sums = λ k s h. cc;
+    reduced = λ k s h. cc;
+    exclusive = λ c h. absurd (true≢false (sym h));
+  }
+
+  placed-each : (i : ℕ) → IsPlaced (at root i)
+  placed-each zero = placed-root
+  placed-each (suc i) = placed-gone
+
+  no-entry : {P : Type 0} (p k : ℕ) (s : Sibling) → slice_get (at root p).children k ≡ Some s → P
+  no-entry zero k s there = cc
+  no-entry (suc p) k s there = cc
+
+  down : (i : ℕ) → 0 < i → parent_of root i < i
+  down zero pos = absurd (omega (arith, pos))
+  down (suc i) pos = pos
+
+  pub sound-root : IsSound root
+  sound-root = record {
+    root = refl;
+    top = refl;
+    down = down;
+    kin = λ i pos below. absurd (omega (arith, pos, below));
+    entries = λ p k s there. no-entry p k s there;
+    older = λ a b pos lt below same. absurd (omega (arith, pos, lt, below));
+    begun = λ i pos below. absurd (omega (arith, pos, below));
+    placed = placed-each;
+    done = λ i pos over k s there. no-entry i k s there;
+  }
+
+  named-each : (i : ℕ) → NamedIn lens (todo_at root i)
+  named-each zero = named
+  named-each (suc i) = tt
+
+  idle : {P : Type 0} (i : ℕ) (run : Run) → (at root i).running ≡ Some run → P
+  idle zero run is = cc
+  idle (suc i) run is = cc
+
+pub root-light : (body : Body) → weight_of (root_region body ∷ []) ≤ 2 * size body + 1
+root-light End = omega arith
+root-light (Next x rest) = omega (arith, weight-few (Next x rest))
+
+-- a job begins well
+pub starts-well : (j : Seen) → IsDisciplined j.program → NamedIn (lengths j.cells) j.program.body → j.owned.out ≡ [] → j.regions ≡ root_region j.program.body ∷ []
+    → j.cells ≡ j.before → j.counts.tasks ≡ 0 → j.counts.units ≡ 0 → IsWell j
+starts-well j disciplined named out regions cells tasks units = record {
+  rights = subst (λ rs. IsPermutation j.owned.out (leases_out rs)) (sym regions) (subst (λ o. IsPermutation o []) (sym out) (IsPermutation-refl []));
+  few = omega (arith, units);
+  created = subst (λ rs. length rs ≡ 1 + j.counts.tasks) (sym regions) (omega (arith, tasks));
+  light = subst (λ rs. weight_of rs ≤ 2 * size j.program.body + 1) (sym regions) (root-light j.program.body);
+  course = λ working. record {
+    some = subst (λ rs. 0 < length rs) (sym regions) (omega arith);
+    sound = subst (λ rs. IsSound (wholes rs)) (sym regions) (sound-root j.program disciplined (lengths j.cells) named);
+    named = subst (λ rs. (i : ℕ) → NamedIn (lengths j.cells) (todo_at (wholes rs) i)) (sym regions) (named-each j.program disciplined (lengths j.cells) named);
+    runs = λ i run is. idle j.program disciplined (lengths j.cells) named i run (ap (λ rs. (at rs i).running) (sym regions) ∙ is);
+    begun = λ i run is. idle j.program disciplined (lengths j.cells) named i run (ap (λ rs. (at rs i).running) (sym regions) ∙ is);
+    inputs = λ i run is. idle j.program disciplined (lengths j.cells) named i run (ap (λ rs. (at rs i).running) (sym regions) ∙ is);
+    kept = ap (λ rs. left_of (wholes rs) (state_of (worths j.owned j.cells) j.counts)) regions ∙ ap (serial j.program.body) begins;
+  };
+}
+  where
+    begins : state_of (worths j.owned j.cells) j.counts ≡ record { cells = j.before; tasks = 0; units = 0 }
+    begins =
+        ap (λ c. let s : State = record { cells = c; tasks = j.counts.tasks; units = j.counts.units } in s) (worths-stored j.owned j.cells ∙ cells)
+        ∙ ap (λ n. let s : State = record { cells = j.before; tasks = n; units = j.counts.units } in s) tasks
+        ∙ ap (λ n. let s : State = record { cells = j.before; tasks = 0; units = n } in s) units
+
+-- ---- all have ended
+
+each-ended : (rs : List Region) → all_ended rs ≡ true → (i : ℕ) → (at rs i).ended ≡ true
+each-ended [] h i = refl
+each-ended (r ∷ rs) h zero = and_left r.ended (all_ended rs) h
+each-ended (r ∷ rs) h (suc i) = each-ended rs (and_right r.ended (all_ended rs) h) i
+
+nothing-left : (p k : ℕ) (qs : List ℕ) (s : State) → children_left (λ i. End) p k qs s ≡ s
+nothing-left p k [] s = refl
+nothing-left p k (q ∷ qs) s =
+    ap (λ t. children_left (λ i. End) p (k + 1) qs (if q == p then t else s)) (nothing-left k (k + 1) qs s) ∙ by (q == p) (nothing-left p (k + 1) qs s)
+  where
+    by : (b : Bool) → children_left (λ i. End) p (k + 1) qs s ≡ s → children_left (λ i. End) p (k + 1) qs (if b then s else s) ≡ s
+    by true h = h
+    by false h = h
+
+-- an ended job's cells and counts are the serial meaning
+pub ended-meaning : (j : Seen) → IsWell j → j.failing ≡ false → all_ended j.regions ≡ true → state_of j.cells j.counts ≡ serial_run j.program.body j.before
+ended-meaning j w working ended =
+    let o = w.course working in
+    let s = state_of (worths j.owned j.cells) j.counts in
+    let over : (i : ℕ) → todo_at (wholes j.regions) i ≡ End = λ i. (o.sound.placed i).over (ap (λ (r : Region). r.ended) (at-whole j.regions i) ∙ each-ended j.regions ended i) in
+    ap (λ c. state_of c j.counts) (sym (worths-stored j.owned j.cells))
+    ∙ sym (ap (λ (f : ℕ → Body). left f (parents (wholes j.regions)) s) (λ z i. over i z) ∙ nothing-left 0 1 (parents (wholes j.regions)) s)
+    ∙ o.kept
+
+-- ---- a piece comes back without results
+
+pub runs-within : (rs : List Region) (i : ℕ) (run : Run) → (at rs i).running ≡ Some run → i < length rs
+runs-within [] i run is = cc
+runs-within (r ∷ rs) zero run is = omega arith
+runs-within (r ∷ rs) (suc i) run is = omega (arith, runs-within rs i run is)
+
+pub fails-out : (j : Seen) (d : Came) → IsWell j → IsOut j.regions d → Contains j.owned.out (lease_of d.lent)
+fails-out j d w out =
+    Contains-permutation (leases_out j.regions) j.owned.out (lease_of d.lent) (IsPermutation-sym j.owned.out (leases_out j.regions) w.rights)
+    (out-contained j.regions d.task (record { assigns = d.assigns; lease = lease_of d.lent }) out.0)
+
+pub fails-well : (j : Seen) (d : Came) (owned : Owned) → IsWell j → IsOut j.regions d → IsPermutation j.owned.out (lease_of d.lent ∷ owned.out)
+    → IsWell (record j { regions = updated j.regions d.task stopped; owned = owned; failing = true })
+fails-well j d owned w out ended = record {
+  rights =
+      permutation_rest (lease_of d.lent) owned.out (leases_out (updated j.regions d.task stopped))
+      (IsPermutation-trans (lease_of d.lent ∷ owned.out) j.owned.out (lease_of d.lent ∷ leases_out (updated j.regions d.task stopped)) (IsPermutation-sym j.owned.out (lease_of d.lent ∷ owned.out) ended)
+      (IsPermutation-trans j.owned.out (leases_out j.regions) (lease_of d.lent ∷ leases_out (updated j.regions d.task stopped)) w.rights
+      (one-less j.regions d.task (record { assigns = d.assigns; lease = lease_of d.lent }) out.0)));
+  few = w.few;
+  created = length-updated j.regions d.task stopped ∙ w.created;
+  light = omega (arith, w.light, weight-stopped j.regions d.task (runs-within j.regions d.task (record { assigns = d.assigns; lease = lease_of d.lent }) out.0));
+  course = λ working. absurd (true≢false working);
+}
+
+pub state-ended : (j : Seen) → state_in j ≡ Ended → (j.failing ≡ false) × (all_ended j.regions ≡ true)
+state-ended j h = by j.failing (any_out j.regions) (all_ended j.regions) h
+  where
+    by : (f a e : Bool) → (if f then (if a then Failing else Failed) else if e then Ended else Working) ≡ Ended → (f ≡ false) × (e ≡ true)
+    by true true e h = cc
+    by true false e h = cc
+    by false a true h = (refl, refl)
+    by false a false h = cc
+
+-- a task with a piece out has not ended
+one-out : (rs : List Region) → any_out rs ≡ true → (i : ℕ) × (run : Run) × ((at rs i).running ≡ Some run)
+one-out [] h = absurd (true≢false (sym h))
+one-out (r ∷ rs) h = by r.running refl (λ g. one-out rs g)
+  where
+    by : (o : Option Run) → r.running ≡ o → (any_out rs ≡ true → (i : ℕ) × (run : Run) × ((at rs i).running ≡ Some run)) → (i : ℕ) × (run : Run) × ((at (r ∷ rs) i).running ≡ Some run)
+    by (Some run) e more = (0, run, e)
+    by None e more = let m = more (ap (λ o. is_some o || any_out rs) (sym e) ∙ h) in (suc m.0, m.1, m.2)
+
+-- no piece of an ended job is out
+pub ended-none-out : (j : Seen) → IsWell j → j.failing ≡ false → all_ended j.regions ≡ true → any_out j.regions ≡ false
+ended-none-out j w working ended = by (any_out j.regions) refl
+  where
+    by : (b : Bool) → any_out j.regions ≡ b → b ≡ false
+    by false e = refl
+    by true e =
+        let o = one-out j.regions e in
+        absurd (true≢false (sym (each-ended j.regions ended o.0) ∙ ((w.course working).runs o.0 o.1 o.2).alive))

@@ -1,0 +1,59 @@
+-- A piece that is claimed may be run on its copies.
+use Rattle.std.proofs.Common.{◌≡◌, ℕ, List, sym, subst}
+use Rattle.std.specs.Prelude.{IfSome}
+use Rattle.ot_model.specs.Tree.{Set, Add, If, Task, Wait, Group, Body, End, Next, append}
+use Rattle.ot_model.specs.Names.{NamedIn}
+use Rattle.ot_model.specs.Value.{HasAll}
+use Rattle.ot_model.specs.Cells.{lengths}
+use Rattle.ot_model.specs.declared.expr.Cell.{Cell}
+use Rattle.ot_owner.specs.Leases.{lent_from}
+use Rattle.ot_owner.specs.Lending.{first_at, value_at, uses_of}
+use Rattle.ot_owner.specs.declared.lent.LentCell.{LentCell}
+use Rattle.ot_job.specs.Assigns.{CanAssign, CanRun}
+use Rattle.ot_job.specs.Regions.{Region}
+use Rattle.ot_job.specs.Sound.{at}
+use Rattle.ot_job.specs.Pieces.{leading, behind, test_of, awake}
+use Rattle.ot_job.specs.Touched.{mode_in, held, piece_touches, test_touches}
+use Rattle.ot_job.specs.Claims.{AreHeld}
+use Rattle.ot_job.specs.Live.{Seen}
+use Rattle.ot_job.specs.Well.{IsOnCourse}
+use Rattle.ot_job.proofs.WholeLemmas.{whole-again}
+use Rattle.ot_job.proofs.CoverLemmas.{piece-can, piece-reads, lent-fresh}
+use Rattle.ot_job.proofs.WellLemmas.{leading-assigns, named-awake}
+
+front : (lens : List ℕ) (a b : Body) → NamedIn lens (append a b) → NamedIn lens a
+front lens End b n = tt
+front lens (Next x a) b n = (n.0, front lens a b n.1)
+
+back : (lens : List ℕ) (a b : Body) → NamedIn lens (append a b) → NamedIn lens b
+back lens End b n = n
+back lens (Next x a) b n = back lens a b n.1
+
+module _ (j : Seen) (o : IsOnCourse j) (i : ℕ) (lent : List LentCell) (are : AreHeld (at j.regions i) (uses_of lent)) (inputs : lent ≡ lent_from j.cells (uses_of lent)) where
+  abbrev r : Region
+  r = at j.regions i
+
+  abbrev ahead : Body
+  ahead = (awake r).rest
+
+  named : NamedIn (lengths j.cells) (append (leading ahead) (behind ahead))
+  named = subst (NamedIn (lengths j.cells)) (sym (whole-again ahead)) (named-awake j o i)
+
+  readable : (b : Body) → NamedIn (lengths j.cells) b → ((c : Cell) → mode_in (uses_of lent) c ≡ held r.own (piece_touches (leading ahead) (test_of b)) c)
+      → IfSome (test_of b) (λ e. HasAll (value_at (lent_from j.cells (uses_of lent))) e)
+  readable End n modes = tt
+  readable (Next (Set c e) rest) n modes = tt
+  readable (Next (Add c e) rest) n modes = tt
+  readable (Next (If e a b) rest) n modes = piece-reads (lengths j.cells) r.own j.cells (uses_of lent) (leading ahead) e n.0.0 modes
+  readable (Next (Task d b) rest) n modes = tt
+  readable (Next Wait rest) n modes = tt
+  readable (Next (Group cs b) rest) n modes = tt
+
+  pub claim-can : CanRun (leading ahead) (test_of (behind ahead)) lent
+  claim-can = record {
+    assignable = subst (CanAssign (leading ahead)) (sym inputs)
+        (piece-can (lengths j.cells) r.own j.cells (uses_of lent) (leading ahead) (test_touches (test_of (behind ahead))) (leading-assigns ahead) (front (lengths j.cells) (leading ahead) (behind ahead) named) are);
+    readable = subst (λ (l : List LentCell). IfSome (test_of (behind ahead)) (λ e. HasAll (value_at l) e)) (sym inputs)
+        (readable (behind ahead) (back (lengths j.cells) (leading ahead) (behind ahead) named) are);
+    fresh = λ c. subst (λ (l : List LentCell). value_at l c ≡ first_at l c) (sym inputs) (lent-fresh j.cells (uses_of lent) c);
+  }

@@ -1,0 +1,214 @@
+-- Each settle makes a job lighter, and nothing makes it heavier.
+use Rattle.std.proofs.Common.{◌≡◌, ℕ, zero, suc, ◌+◌, ◌*◌, ◌<◌, ◌≤◌, max, Bool, true, false, List, [], ◌∷◌, ◌++◌, length, map, reverse, refl, sym, ap, ◌∙◌, arith, true≢false}
+use Rattle.std.specs.Prelude.{Option, Some, None, is_some, nat_lt, if◌then◌else◌}
+use Rattle.ot_model.specs.Tree.{S, Set, Add, If, Task, Wait, Group, Body, End, Next, append, body_of}
+use Rattle.ot_model.specs.View.{stmt_of, stmts_of}
+use Rattle.ot_model.specs.declared.stmt.Stmt.{Stmt}
+use Rattle.ot_job.specs.PlaceView.{open_of, rest_of}
+use Rattle.ot_job.specs.declared.place.OpenGroup.{OpenGroup}
+use Rattle.std.proofs.lemmas.Grind.{reverse_onto}
+use Rattle.ot_job.proofs.ViewLemmas.{map-reverse}
+use Rattle.ot_model.specs.Counts.{size}
+use Rattle.ot_model.specs.Cells.{updated}
+use Rattle.ot_model.specs.declared.stmt.Use.{Use}
+use Rattle.ot_model.proofs.CellsLemmas.{length-updated, updated-updated}
+use Rattle.ot_owner.specs.Leases.{Lease}
+use Rattle.ot_job.specs.Place.{Open}
+use Rattle.ot_job.specs.Regions.{Region, Run, with_child, new_region, with_created, stepped, stepped_from, executed, next_task, rest_at, children_at}
+use Rattle.ot_job.specs.Sound.{at, parent_of}
+use Rattle.ot_job.specs.Pieces.{leading, behind, passed, begun}
+use Rattle.ot_job.specs.Settling.{over, stopped, without, closed, is_at_end, settled}
+use Rattle.ot_job.specs.Weighing.{weight, weight_behind, weight_left, region_weight, weight_of}
+use Rattle.ot_job.proofs.SettledLemmas.{front, rest-here}
+use Rattle.ot_job.proofs.MovesLemmas.{tell, tell-field, tell-long}
+
+weight-append : (a b : Body) → weight (append a b) ≡ weight a + weight b
+weight-append End b = omega arith
+weight-append (Next x a) b = let h = weight-append a b in omega (arith, h)
+
+weight-after : (b : Body) → weight (behind b) ≡ weight b
+weight-after End = refl
+weight-after (Next (Set c e) rest) = omega (arith, weight-after rest)
+weight-after (Next (Add c e) rest) = omega (arith, weight-after rest)
+weight-after (Next (If e a b) rest) = refl
+weight-after (Next (Task d b) rest) = refl
+weight-after (Next Wait rest) = refl
+weight-after (Next (Group cs b) rest) = refl
+
+-- at most twice the statements
+pub weight-few : (b : Body) → weight b ≤ 2 * size b
+weight-few End = omega arith
+weight-few (Next (Set c e) rest) = omega (arith, weight-few rest)
+weight-few (Next (Add c e) rest) = omega (arith, weight-few rest)
+weight-few (Next (If e a b) rest) = omega (arith, weight-few rest, weight-few a, weight-few b)
+weight-few (Next (Task d b) rest) = omega (arith, weight-few rest, weight-few b)
+weight-few (Next Wait rest) = omega (arith, weight-few rest)
+weight-few (Next (Group cs b) rest) = omega (arith, weight-few rest, weight-few b)
+
+left-≤ : (out : Bool) (rest : Body) (os : List Open) → weight_left out rest os ≤ weight rest + weight_behind os
+left-≤ true rest os = omega arith
+left-≤ false End [] = omega arith
+left-≤ false End (o ∷ os) = omega arith
+left-≤ false (Next x rest) os = omega arith
+
+-- ---- one region among all
+
+weight-updated : (rs : List Region) (i : ℕ) (f : Region → Region) → i < length rs → weight_of (updated rs i f) + region_weight (at rs i) ≡ weight_of rs + region_weight (f (at rs i))
+weight-updated [] i f h = absurd (omega (arith, h))
+weight-updated (r ∷ rs) zero f h = omega arith
+weight-updated (r ∷ rs) (suc i) f h = let w = weight-updated rs i f (omega (arith, h)) in omega (arith, w)
+
+weight-same : (rs : List Region) (i : ℕ) (f : Region → Region) → ((r : Region) → region_weight (f r) ≡ region_weight r) → weight_of (updated rs i f) ≡ weight_of rs
+weight-same [] i f same = refl
+weight-same (r ∷ rs) zero f same = ap (λ n. n + weight_of rs) (same r)
+weight-same (r ∷ rs) (suc i) f same = ap (λ n. region_weight r + n) (weight-same rs i f same)
+
+weight-more : (rs : List Region) (new : Region) → weight_of (rs ++ new ∷ []) ≡ weight_of rs + region_weight new
+weight-more [] new = omega arith
+weight-more (r ∷ rs) new = let w = weight-more rs new in omega (arith, w)
+
+-- ---- a claim
+
+begun-left : (lease : Lease) (rest : Body) (os : List Open) → weight_left true (behind (passed rest os).rest) (passed rest os).groups ≡ weight_left false rest os
+begun-left lease End [] = refl
+begun-left lease End (o ∷ os) = ap (λ n. n + weight_behind os) (weight-after o.behind)
+begun-left lease (Next x rest) os = ap (λ n. n + weight_behind os) (weight-after (Next x rest))
+
+pub weight-begun : (lease : Lease) (rs : List Region) (i : ℕ) → i < length rs → (at rs i).running ≡ None → weight_of (updated rs i (begun lease)) ≡ weight_of rs
+weight-begun lease rs i h idle =
+    let w = weight-updated rs i (begun lease) h in
+    let same : region_weight (begun lease (at rs i)) ≡ region_weight (at rs i) =
+    ap (λ n. if (at rs i).ended then 0 else 1 + n) (begun-left lease (at rs i).rest (at rs i).groups ∙ ap (λ o. weight_left (is_some o) (at rs i).rest (at rs i).groups) (sym idle)) in
+    omega (arith, w, same)
+
+-- ---- a piece that comes back without results
+
+pub weight-stopped : (rs : List Region) (i : ℕ) → i < length rs → weight_of (updated rs i stopped) ≤ weight_of rs
+weight-stopped rs i h =
+    let w = weight-updated rs i stopped h in
+    let less = one (at rs i).ended (is_some (at rs i).running) in
+    omega (arith, w, less)
+  where
+    one : (e out : Bool) → (if e then 0 else 1 + weight_left false (at rs i).rest (at rs i).groups) ≤ (if e then 0 else 1 + weight_left out (at rs i).rest (at rs i).groups)
+    one true out = omega arith
+    one false true = omega (arith, left-≤ false (at rs i).rest (at rs i).groups)
+    one false false = omega arith
+
+-- ---- a settle
+
+stopped-weight : (r : Region) → r.ended ≡ false → region_weight (stopped r) ≤ 1 + weight r.rest + weight_behind r.groups
+stopped-weight r alive =
+    let e : region_weight (stopped r) ≡ 1 + weight_left false r.rest r.groups = ap (λ b. if b then 0 else 1 + weight_left false r.rest r.groups) alive in
+    omega (arith, e, left-≤ false r.rest r.groups)
+
+-- of a task that is created
+abbrev new_weight : Option (List Use × Body) → ℕ
+new_weight None = 0
+new_weight (Some child) = 1 + weight child.1
+
+-- the control statement is executed, and no piece is out any more
+step-lighter : (taken : Bool) (g : ℕ) (b : Body) (gs : List Open) (r : Region) → r.rest ≡ b → r.groups ≡ gs → r.ended ≡ false → leading b ≡ End → is_at_end b gs ≡ false
+    → region_weight (stopped (stepped_from taken g b r)) + new_weight (next_task b) < 1 + weight b + weight_behind gs
+step-lighter taken g End [] r was groups alive stops goes = absurd (true≢false goes)
+step-lighter taken g End (o ∷ os) r was groups alive stops goes =
+    let e : region_weight (stopped r) ≡ 1 + (weight o.behind + weight_behind os) =
+    ap (λ b. if b then 0 else 1 + weight_left false r.rest r.groups) alive ∙ ap (λ b. 1 + weight_left false b r.groups) was ∙ ap (λ gs. 1 + weight_left false End gs) groups in
+    omega (arith, e)
+step-lighter taken g (Next (Set c e) rest) gs r was groups alive stops goes = cc
+step-lighter taken g (Next (Add c e) rest) gs r was groups alive stops goes = cc
+step-lighter taken g (Next (If e a b) rest) gs r was groups alive stops goes = by taken
+  where
+    by : (t : Bool) → region_weight (stopped (stepped_from t g (Next (If e a b) rest) r)) + 0 < 1 + (1 + max (weight a) (weight b) + weight rest) + weight_behind gs
+    by true = omega (arith, stopped-weight (record r { rest = append a rest }) alive, weight-append a rest, ap weight_behind groups)
+    by false = omega (arith, stopped-weight (record r { rest = append b rest }) alive, weight-append b rest, ap weight_behind groups)
+step-lighter taken g (Next (Task d b) rest) gs r was groups alive stops goes = omega (arith, stopped-weight (record r { rest = rest }) alive, ap weight_behind groups)
+step-lighter taken g (Next Wait rest) gs r was groups alive stops goes = omega (arith, stopped-weight (record r { rest = rest; waiting = true }) alive, ap weight_behind groups)
+step-lighter taken g (Next (Group cs b) rest) gs r was groups alive stops goes =
+    omega (arith, stopped-weight (record r { rest = b; groups = record { group = g; cells = cs; behind = rest } ∷ r.groups }) alive, ap weight_behind groups)
+
+created-weight : (i : ℕ) (child : Option (List Use × Body)) (xs : List Region) → i < length xs
+    → weight_of (updated (with_created i child xs) i stopped) ≡ weight_of (updated xs i stopped) + new_weight child
+created-weight i None xs h = omega arith
+created-weight i (Some child) xs h =
+    let with : Region → Region = with_child child.0 in
+    let new = new_region i (children_at xs i) child.0 child.1 in
+    let same = weight-updated xs i stopped h in
+    let both = weight-updated xs i (λ r. stopped (with r)) h in
+    let one = ap weight_of (front (updated xs i with) new i stopped (omega (arith, h, length-updated xs i with)) ∙ ap (λ l. l ++ new ∷ []) (updated-updated xs i with stopped)) in
+    let more = weight-more (updated xs i (λ r. stopped (with r))) new in
+    let fresh : region_weight new ≡ 1 + weight child.1 = left child.1 in
+    omega (arith, same, both, one, more, fresh)
+  where
+    left : (b : Body) → 1 + weight_left false b [] ≡ 1 + weight b
+    left End = omega arith
+    left (Next x rest) = omega arith
+
+module _ (taken : Bool) (g i : ℕ) (rs : List Region) (run : Run) (h : i < length rs) (out : (at rs i).running ≡ Some run) (alive : (at rs i).ended ≡ false) (stops : leading (at rs i).rest ≡ End) where
+  now-weight : region_weight (at rs i) ≡ 1 + weight (at rs i).rest + weight_behind (at rs i).groups
+  now-weight =
+      ap (λ b. if b then 0 else 1 + weight_left (is_some (at rs i).running) (at rs i).rest (at rs i).groups) alive
+      ∙ ap (λ o. 1 + weight_left (is_some o) (at rs i).rest (at rs i).groups) out ∙ omega arith
+
+  closed-lighter : weight_of (updated (closed i rs) i stopped) < weight_of rs
+  closed-lighter =
+      let some = nat_lt 0 i in
+      let p = parent_of rs i in
+      let c = (at rs i).child in
+      let told = tell some p c rs in
+      let w = weight-updated told i (λ r. stopped (over r)) (omega (arith, h, tell-long some p c rs)) in
+      let one = ap weight_of (updated-updated told i over stopped) in
+      let here = tell-field region_weight (λ c r. refl) some p c rs i in
+      let all = tells some in
+      omega (arith, w, one, here, all, now-weight)
+    where
+      tells : (some : Bool) → weight_of (tell some (parent_of rs i) (at rs i).child rs) ≡ weight_of rs
+      tells true = weight-same rs (parent_of rs i) (without (at rs i).child) (λ r. refl)
+      tells false = refl
+
+  executed-lighter : is_at_end (at rs i).rest (at rs i).groups ≡ false → weight_of (updated (executed taken g i rs) i stopped) < weight_of rs
+  executed-lighter goes =
+      let xs = updated rs i (stepped taken g) in
+      let one = created-weight i (next_task (rest_at rs i)) xs (omega (arith, h, length-updated rs i (stepped taken g))) in
+      let two = ap weight_of (updated-updated rs i (stepped taken g) stopped) in
+      let three = weight-updated rs i (λ r. stopped (stepped taken g r)) h in
+      let step = step-lighter taken g (at rs i).rest (at rs i).groups (at rs i) refl refl alive stops goes in
+      let child = ap (λ b. new_weight (next_task b)) (rest-here rs i) in
+      omega (arith, one, two, three, step, child, now-weight)
+
+  pub weight-settled : weight_of (settled taken g i rs) < weight_of rs
+  weight-settled = by (is_at_end (at rs i).rest (at rs i).groups) refl
+    where
+      by : (b : Bool) → is_at_end (at rs i).rest (at rs i).groups ≡ b → weight_of (updated (if is_at_end (at rs i).rest (at rs i).groups then closed i rs else executed taken g i rs) i stopped) < weight_of rs
+      by true e = rw e closed-lighter
+      by false e = rw e (executed-lighter e)
+
+-- ---- as the code's lists have it: what comes next last
+
+weight-join : (xs ys : List S) → weight (body_of (xs ++ ys)) ≡ weight (body_of xs) + weight (body_of ys)
+weight-join [] ys = omega arith
+weight-join (x ∷ xs) ys = let h = weight-join xs ys in omega (arith, h)
+
+weight-reverse : (xs : List S) → weight (body_of (reverse xs)) ≡ weight (body_of xs)
+weight-reverse [] = refl
+weight-reverse (x ∷ xs) = let h = weight-reverse xs in let s = ap (λ l. weight (body_of l)) (reverse_onto xs x []) ∙ weight-join (reverse xs) (x ∷ []) in omega (arith, h, s)
+
+pub weight-rest : (items : List Stmt) → weight (rest_of items) ≡ weight (stmts_of items)
+weight-rest items = ap (λ l. weight (body_of l)) (map-reverse stmt_of items) ∙ weight-reverse (map stmt_of items)
+
+behind-join : (xs ys : List Open) → weight_behind (xs ++ ys) ≡ weight_behind xs + weight_behind ys
+behind-join [] ys = omega arith
+behind-join (x ∷ xs) ys = let h = behind-join xs ys in omega (arith, h)
+
+pub behind-reverse : (xs : List Open) → weight_behind (reverse xs) ≡ weight_behind xs
+behind-reverse [] = refl
+behind-reverse (x ∷ xs) = let h = behind-reverse xs in let s = ap weight_behind (reverse_onto xs x []) ∙ behind-join (reverse xs) (x ∷ []) in omega (arith, h, s)
+
+pub left-≥ : (out : Bool) (rest : Body) (os : List Open) → weight rest + weight_behind os ≤ 1 + weight_left out rest os
+left-≥ true rest os = omega arith
+left-≥ false End [] = omega arith
+left-≥ false End (o ∷ os) = omega arith
+left-≥ false (Next x rest) os = omega arith
+
+pub some-behind : (items : List OpenGroup) → 0 < length items → 0 < weight_behind (reverse (map open_of items))
+some-behind [] h = absurd (omega (arith, h))
+some-behind (o ∷ items) h = omega (arith, behind-reverse (map open_of (o ∷ items)))

@@ -1,0 +1,347 @@
+-- A claim is free to be made, and leaves a job well.
+use Rattle.std.proofs.Common.{◌≡◌, ◌≢◌, ℕ, zero, suc, ◌<◌, true, false, not, ◌&&◌, ◌||◌, List, [], ◌∷◌, length, refl, sym, ap, subst, ◌∙◌, ◌⊎◌, inl, inr, ⊎_elim, arith, true≢false}
+use Rattle.std.specs.Prelude.{Option, Some, None, is_some, option_map, slice_get, ◌==◌, All, Contains, IsSome, IsPermutation}
+use Rattle.std.proofs.lemmas.Bool.{cases_eq}
+use Rattle.std.proofs.lemmas.Bool.Decides.{nat_tests}
+use Rattle.std.proofs.lemmas.Option.{same_Some}
+use Rattle.std.proofs.lemmas.List.{length-map}
+use Rattle.std.proofs.lemmas.List.Elements.{All-nil, All-cons}
+use Rattle.std.proofs.lemmas.List.Sorted.{Contains-permutation, All-permutation, IsPermutation-sym, IsPermutation-trans, IsPermutation-cons}
+use Rattle.ot_model.specs.Tree.{Set, Add, If, Task, Wait, Group, Body, End, Next, append}
+use Rattle.ot_model.specs.Names.{NamedIn}
+use Rattle.ot_model.specs.Cells.{updated, lengths, cell_of}
+use Rattle.ot_model.specs.Uses.{AreInOrder, Conflict}
+use Rattle.ot_model.specs.declared.stmt.Use.{Use}
+use Rattle.ot_model.specs.Serial.{State}
+use Rattle.ot_depend.specs.Siblings.{IsReady, IsUnfinished}
+use Rattle.ot_check.proofs.Bits.{and_left, and_right, or_true, not_true}
+use Rattle.ot_owner.specs.Leases.{Lease, lease_of, lent_from}
+use Rattle.ot_owner.specs.Owning.{IsFreeFor}
+use Rattle.ot_job.specs.Left.{left}
+use Rattle.ot_job.specs.Place.{Open, todo}
+use Rattle.ot_check.specs.walk.Fine.{AreAssigns}
+use Rattle.ot_job.specs.Regions.{Region, Run}
+use Rattle.ot_job.specs.Sound.{at, parent_of, todo_at, parents, left_of, IsBegun, IsSound}
+use Rattle.ot_model.proofs.CellsLemmas.{length-updated}
+use Rattle.ot_job.specs.Pieces.{leading, behind, test_of, passed, awake, begun}
+use Rattle.ot_job.specs.Whole.{assigns_out, whole, wholes, with_lease, leases_out}
+use Rattle.ot_job.specs.Running.{RunsWell}
+use Rattle.ot_job.proofs.WeighingLemmas.{weight-begun}
+use Rattle.ot_job.specs.Well.{IsWell, IsOnCourse}
+use Rattle.ot_owner.specs.Owning.{Owned}
+use Rattle.ot_owner.specs.Worth.{worths}
+use Rattle.ot_owner.proofs.WorthLemmas.{worths-combined}
+use Rattle.ot_model.specs.Runs.{state_of}
+use Rattle.ot_job.specs.Live.{Seen}
+use Rattle.ot_job.specs.Claims.{AreHeld}
+use Rattle.ot_job.specs.Claiming.{is_claimable, is_let_go}
+use Rattle.ot_depend.specs.Siblings.{is_ready}
+use Rattle.ot_job.proofs.KeptLemmas.{parents-updated, at-updated, at-updated-other, todo-append}
+use Rattle.ot_job.proofs.ChangedLemmas.{begun-changed}
+use Rattle.ot_job.proofs.WholeLemmas.{wholes-begun, one-more}
+use Rattle.ot_job.proofs.AwakeLemmas.{sound-awake}
+use Rattle.ot_job.proofs.FreeLemmas.{pieces_apart, at-whole}
+use Rattle.ot_job.proofs.PickLemmas.{ready-from}
+use Rattle.ot_job.specs.Touched.{piece_touches, assign_touches, test_touches}
+use Rattle.ot_job.specs.Settling.{MaySettle}
+use Rattle.ot_job.proofs.HeldLemmas.{AllIn, all-append, reads-in, held-there}
+
+pub leading-assigns : (b : Body) → AreAssigns (leading b)
+leading-assigns End = tt
+leading-assigns (Next (Set c e) rest) = leading-assigns rest
+leading-assigns (Next (Add c e) rest) = leading-assigns rest
+leading-assigns (Next (If e a b) rest) = tt
+leading-assigns (Next (Task d b) rest) = tt
+leading-assigns (Next Wait rest) = tt
+leading-assigns (Next (Group cs b) rest) = tt
+
+leading-behind : (b : Body) → leading (behind b) ≡ End
+leading-behind End = refl
+leading-behind (Next (Set c e) rest) = leading-behind rest
+leading-behind (Next (Add c e) rest) = leading-behind rest
+leading-behind (Next (If e a b) rest) = refl
+leading-behind (Next (Task d b) rest) = refl
+leading-behind (Next Wait rest) = refl
+leading-behind (Next (Group cs b) rest) = refl
+
+-- passing a group's end leaves what is left
+todo-passed : (rest : Body) (gs : List Open) → todo (passed rest gs).rest (passed rest gs).groups ≡ todo rest gs
+todo-passed End [] = refl
+todo-passed End (o ∷ os) = refl
+todo-passed (Next x b) gs = refl
+
+pub named-front : (lens : List ℕ) (rest : Body) (gs : List Open) → NamedIn lens (todo rest gs) → NamedIn lens rest
+named-front lens rest [] n = n
+named-front lens rest (o ∷ os) n = named-append rest (todo o.behind os) n
+  where
+    named-append : (a b : Body) → NamedIn lens (append a b) → NamedIn lens a
+    named-append End b n = tt
+    named-append (Next x a) b n = (n.0, named-append a b n.1)
+
+pub named-back : (lens : List ℕ) (a b : Body) → NamedIn lens (append a b) → NamedIn lens b
+named-back lens End b n = n
+named-back lens (Next x a) b n = named-back lens a b n.1
+
+idle-whole : (r : Region) → r.running ≡ None → whole r ≡ record r { running = None }
+idle-whole r idle = ap (λ o. record r { rest = append (assigns_out o) r.rest; running = None }) idle
+
+-- a claimable task has no piece out
+pub claimable-idle : (rs : List Region) (i : ℕ) → is_claimable rs i ≡ true → (at rs i).running ≡ None
+claimable-idle rs i can =
+    by (at rs i).running
+    (not_true (is_some (at rs i).running)
+    (and_right (not (at rs i).ended) (not (is_some (at rs i).running))
+    (and_left (not (at rs i).ended && not (is_some (at rs i).running)) (((i == 0) || is_ready (at rs (at rs i).parent).children (at rs i).child) && is_let_go (at rs i)) can)))
+  where
+    by : (o : Option Run) → is_some o ≡ false → o ≡ None
+    by None e = refl
+    by (Some x) e = absurd (true≢false e)
+
+-- ---- one claim
+
+module _ (lens : List ℕ) (rs : List Region) (s : IsSound (wholes rs)) (named : (i : ℕ) → NamedIn lens (todo_at (wholes rs) i))
+    (runs : (i : ℕ) (run : Run) → (at rs i).running ≡ Some run → RunsWell (at rs i) run)
+    (started : (i : ℕ) (run : Run) → (at rs i).running ≡ Some run → IsBegun (wholes rs) i)
+    (i : ℕ) (h : i < length rs) (can : is_claimable rs i ≡ true) (lease : Lease) (are : AreHeld (at rs i) lease.uses) (ordered : AreInOrder lease.uses) where
+  abbrev r : Region
+  r = at rs i
+
+  abbrev rs' : List Region
+  rs' = updated rs i (begun lease)
+
+  first-half : (not r.ended && not (is_some r.running)) ≡ true
+  first-half = and_left (not r.ended && not (is_some r.running)) (((i == 0) || is_ready (at rs r.parent).children r.child) && is_let_go r) can
+
+  second-half : (((i == 0) || is_ready (at rs r.parent).children r.child) && is_let_go r) ≡ true
+  second-half = and_right (not r.ended && not (is_some r.running)) (((i == 0) || is_ready (at rs r.parent).children r.child) && is_let_go r) can
+
+  pub idle : r.running ≡ None
+  idle = by r.running (not_true (is_some r.running) (and_right (not r.ended) (not (is_some r.running)) first-half))
+    where
+      by : (o : Option Run) → is_some o ≡ false → o ≡ None
+      by None e = refl
+      by (Some x) e = absurd (true≢false e)
+
+  awake-alive : r.ended ≡ false
+  awake-alive = not_true r.ended (and_left (not r.ended) (not (is_some r.running)) first-half)
+
+  hw : i < length (wholes rs)
+  hw = omega (arith, h, length-map rs whole)
+
+  let-go : is_let_go (at (wholes rs) i) ≡ true
+  let-go = ap is_let_go (at-whole rs i ∙ idle-whole r idle) ∙ and_right ((i == 0) || is_ready (at rs r.parent).children r.child) (is_let_go r) second-half
+
+  wholes-now : wholes rs' ≡ updated (wholes rs) i awake
+  wholes-now = wholes-begun lease rs i idle
+
+  pub sound-now : IsSound (wholes rs')
+  sound-now = subst IsSound (sym wholes-now) (sound-awake (wholes rs) i hw s let-go)
+
+  todo-now : (k : ℕ) → todo_at (wholes rs') k ≡ todo_at (wholes rs) k
+  todo-now k = ap (λ l. todo_at l k) wholes-now ∙ pick (cases_eq k i)
+    where
+      pick : (k ≡ i) ⊎ (k ≡ i → ⊥) → todo_at (updated (wholes rs) i awake) k ≡ todo_at (wholes rs) k
+      pick (inl e) =
+          ap (λ n. todo_at (updated (wholes rs) i awake) n) e ∙ ap (λ (x : Region). todo x.rest x.groups) (at-updated (wholes rs) i awake hw)
+          ∙ todo-passed (at (wholes rs) i).rest (at (wholes rs) i).groups ∙ ap (todo_at (wholes rs)) (sym e)
+      pick (inr e) = ap (λ (x : Region). todo x.rest x.groups) (at-updated-other (wholes rs) i k awake e)
+
+  pub named-now : (k : ℕ) → NamedIn lens (todo_at (wholes rs') k)
+  named-now k = subst (NamedIn lens) (sym (todo-now k)) (named k)
+
+  pub well-now : (k : ℕ) (run : Run) → (at rs' k).running ≡ Some run → RunsWell (at rs' k) run
+  well-now k run is = pick (cases_eq k i)
+    where
+      at-i : (run : Run) → (begun lease r).running ≡ Some run → RunsWell (begun lease r) run
+      at-i run e =
+          subst (RunsWell (begun lease r)) (same_Some (record { assigns = leading (awake r).rest; lease = lease }) run e)
+          (record { modes = are; ordered = ordered; assigns = leading-assigns (awake r).rest; stops = leading-behind (awake r).rest; calm = refl; alive = awake-alive })
+
+      pick : (k ≡ i) ⊎ (k ≡ i → ⊥) → RunsWell (at rs' k) run
+      pick (inl e) =
+          let here : at rs' k ≡ begun lease r = ap (at rs') e ∙ at-updated rs i (begun lease) h in
+          subst (λ x. RunsWell x run) (sym here) (at-i run (sym (ap (λ (x : Region). x.running) here) ∙ is))
+      pick (inr e) =
+          let other = at-updated-other rs i k (begun lease) e in
+          subst (λ x. RunsWell x run) (sym other) (runs k run (sym (ap (λ (x : Region). x.running) other) ∙ is))
+
+  begun-here : IsBegun (wholes rs) i
+  begun-here pos =
+      let ready : is_ready (at rs r.parent).children r.child ≡ true = ⊎_elim (λ z. absurd (let n : i ≡ 0 = (grind (arith, nat_tests)) in omega (arith, n, pos))) (λ e. e)
+      (or_true (i == 0) (is_ready (at rs r.parent).children r.child) (and_left ((i == 0) || is_ready (at rs r.parent).children r.child) (is_let_go r) second-half)) in
+      let one : parent_of (wholes rs) i ≡ r.parent = ap (λ (x : Region). x.parent) (at-whole rs i) in
+      let two : (at (wholes rs) i).child ≡ r.child = ap (λ (x : Region). x.child) (at-whole rs i) in
+      let table : (at (wholes rs) (parent_of (wholes rs) i)).children ≡ (at rs r.parent).children = ap (λ n. (at (wholes rs) n).children) one ∙ ap (λ (x : Region). x.children) (at-whole rs r.parent) in
+      (hw, subst (λ c. IsReady (at (wholes rs) (parent_of (wholes rs) i)).children c) (sym two) (subst (λ t. IsReady t r.child) (sym table) (ready-from (at rs r.parent).children r.child ready)))
+
+  kept-begun : (k : ℕ) → IsBegun (wholes rs) k → IsBegun (wholes rs') k
+  kept-begun k b = subst (λ l. IsBegun l k) (sym wholes-now) (begun-changed (wholes rs) i awake hw (record { parent = λ r. refl; child = λ r. refl; own = λ r. refl; children = λ r. refl; ended = λ r. refl }) k b)
+
+  pub started-now : (k : ℕ) (run : Run) → (at rs' k).running ≡ Some run → IsBegun (wholes rs') k
+  started-now k run is = pick (cases_eq k i)
+    where
+      pick : (k ≡ i) ⊎ (k ≡ i → ⊥) → IsBegun (wholes rs') k
+      pick (inl e) = kept-begun k (subst (IsBegun (wholes rs)) (sym e) begun-here)
+      pick (inr e) = kept-begun k (started k run (sym (ap (λ (x : Region). x.running) (at-updated-other rs i k (begun lease) e)) ∙ is))
+
+  -- what is left of the job stays
+  pub kept-now : (t : State) → left_of (wholes rs') t ≡ left_of (wholes rs) t
+  kept-now t =
+      ap (λ (l : List Region). left (todo_at (wholes rs')) (parents l) t) wholes-now
+      ∙ ap (λ ps. left (todo_at (wholes rs')) ps t) (parents-updated (wholes rs) i awake (λ x. refl))
+      ∙ ap (λ (f : ℕ → Body). left f (parents (wholes rs)) t) (λ z k. todo-now k z)
+
+  -- what is out doesn't conflict with it
+  apart-from : (k : ℕ) (run : Run) → (at rs k).running ≡ Some run → Conflict run.lease.uses lease.uses → ⊥
+  apart-from k run is =
+      let differs : k ≢ i = λ e. (let none : None ≡ Some run = sym idle ∙ ap (λ n. (at rs n).running) (sym e) ∙ is in cc) in
+      pieces_apart rs' sound-now lens (λ j. named-front lens (at (wholes rs') j).rest (at (wholes rs') j).groups (named-now j)) well-now started-now k i run (record { assigns = leading (awake r).rest; lease = lease })
+      (ap (λ (x : Region). x.running) (at-updated-other rs i k (begun lease) differs) ∙ is)
+      (ap (λ (x : Region). x.running) (at-updated rs i (begun lease) h)) differs
+
+  pub free-now : IsFreeFor (leases_out rs) lease.uses
+  free-now = each rs (λ k run is. apart-from k run is)
+    where
+      each : (xs : List Region) → ((k : ℕ) (run : Run) → (at xs k).running ≡ Some run → Conflict run.lease.uses lease.uses → ⊥) → All (λ l. Conflict l.uses lease.uses → ⊥) (leases_out xs)
+      each [] f = All-nil (λ l. Conflict l.uses lease.uses → ⊥)
+      each (x ∷ xs) f = by x.running (λ run e. f 0 run e) (each xs (λ k run e. f (suc k) run e))
+        where
+          by : (o : Option Run) → ((run : Run) → o ≡ Some run → Conflict run.lease.uses lease.uses → ⊥) → All (λ l. Conflict l.uses lease.uses → ⊥) (leases_out xs) → All (λ l. Conflict l.uses lease.uses → ⊥) (with_lease o (leases_out xs))
+          by None g rest = rest
+          by (Some run) g rest = All-cons (λ l. Conflict l.uses lease.uses → ⊥) run.lease (leases_out xs) (g run refl) rest
+
+-- ---- a job on its course
+
+-- what a task goes on with names cells that are there
+pub named-awake : (j : Seen) → IsOnCourse j → (i : ℕ) → NamedIn (lengths j.cells) (awake (at j.regions i)).rest
+named-awake j w i =
+    let lens = lengths j.cells in
+    let r = at j.regions i in
+    let all = subst (λ (x : Region). NamedIn lens (todo x.rest x.groups)) (at-whole j.regions i) (w.named i) in
+    let left = named-back lens (assigns_out r.running) (todo r.rest r.groups) (subst (NamedIn lens) (todo-append (assigns_out r.running) r.rest r.groups) all) in
+    named-front lens (awake r).rest (awake r).groups (subst (NamedIn lens) (sym (todo-passed r.rest r.groups)) left)
+
+-- what its piece holds is free
+pub claim-free : (j : Seen) → IsWell j → IsOnCourse j → (i : ℕ) → i < length j.regions → is_claimable j.regions i ≡ true → (d : List Use) → AreHeld (at j.regions i) d → AreInOrder d → IsFreeFor j.owned.out d
+claim-free j w o i h can d are ordered =
+    All-permutation (λ l. Conflict l.uses d → ⊥) (leases_out j.regions) j.owned.out (IsPermutation-sym j.owned.out (leases_out j.regions) w.rights)
+    (free-now (lengths j.cells) j.regions o.sound o.named o.runs o.begun i h can (record { uses = d; firsts = [] }) are ordered)
+
+-- what cells are worth is what is stored, as long as no private copy is kept
+pub worths-stored : (owned : Owned) (cells : List (List ℕ)) → worths owned cells ≡ cells
+worths-stored owned cells = worths-combined owned cells (λ cells cell. by (cell_of cells cell))
+  where
+    by : (o : Option ℕ) → option_map (λ (stored : ℕ). stored) o ≡ o
+    by None = refl
+    by (Some n) = refl
+
+-- the inputs of all pieces, where one begins
+inputs-begun : (cells : List (List ℕ)) (rs : List Region) (i : ℕ) (lease : Lease) → i < length rs → lease ≡ lease_of (lent_from cells lease.uses)
+    → ((k : ℕ) (run : Run) → (at rs k).running ≡ Some run → run.lease ≡ lease_of (lent_from cells run.lease.uses))
+    → (k : ℕ) (run : Run) → (at (updated rs i (begun lease)) k).running ≡ Some run → run.lease ≡ lease_of (lent_from cells run.lease.uses)
+inputs-begun cells rs i lease h fresh old k run is = pick (cases_eq k i)
+  where
+    pick : (k ≡ i) ⊎ (k ≡ i → ⊥) → run.lease ≡ lease_of (lent_from cells run.lease.uses)
+    pick (inl e) =
+        let same : record { assigns = leading (awake (at rs i)).rest; lease = lease } ≡ run =
+        same_Some (record { assigns = leading (awake (at rs i)).rest; lease = lease }) run
+        (sym (ap (λ (x : Region). x.running) (ap (at (updated rs i (begun lease))) e ∙ at-updated rs i (begun lease) h)) ∙ is) in
+        subst (λ (r : Run). r.lease ≡ lease_of (lent_from cells r.lease.uses)) same fresh
+    pick (inr e) = old k run (sym (ap (λ (x : Region). x.running) (at-updated-other rs i k (begun lease) e)) ∙ is)
+
+module _ (j : Seen) (w : IsWell j) (working : j.failing ≡ false) (i : ℕ) (h : i < length j.regions) (can : is_claimable j.regions i ≡ true) (lease : Lease)
+    (are : AreHeld (at j.regions i) lease.uses) (ordered : AreInOrder lease.uses) (fresh : lease ≡ lease_of (lent_from j.cells lease.uses))
+    (owned : Owned) (out : IsPermutation (lease ∷ j.owned.out) owned.out) where
+  abbrev pub claimed : Seen
+  claimed = record j { regions = updated j.regions i (begun lease); owned = owned }
+
+  o : IsOnCourse j
+  o = w.course working
+
+  -- a claim leaves it well
+  pub claim-well : IsWell claimed
+  claim-well = record {
+    rights =
+        IsPermutation-trans owned.out (lease ∷ j.owned.out) (leases_out (updated j.regions i (begun lease))) (IsPermutation-sym (lease ∷ j.owned.out) owned.out out)
+        (IsPermutation-trans (lease ∷ j.owned.out) (lease ∷ leases_out j.regions) (leases_out (updated j.regions i (begun lease))) (IsPermutation-cons lease j.owned.out (leases_out j.regions) w.rights)
+        (IsPermutation-sym (leases_out (updated j.regions i (begun lease))) (lease ∷ leases_out j.regions)
+        (one-more lease j.regions i h (idle (lengths j.cells) j.regions o.sound o.named o.runs o.begun i h can lease are ordered))));
+    few = w.few;
+    created = length-updated j.regions i (begun lease) ∙ w.created;
+    light = omega (arith, w.light, weight-begun lease j.regions i h (idle (lengths j.cells) j.regions o.sound o.named o.runs o.begun i h can lease are ordered));
+    course = λ z. record {
+      some = omega (arith, o.some, length-updated j.regions i (begun lease));
+      sound = sound-now (lengths j.cells) j.regions o.sound o.named o.runs o.begun i h can lease are ordered;
+      named = named-now (lengths j.cells) j.regions o.sound o.named o.runs o.begun i h can lease are ordered;
+      runs = well-now (lengths j.cells) j.regions o.sound o.named o.runs o.begun i h can lease are ordered;
+      begun = started-now (lengths j.cells) j.regions o.sound o.named o.runs o.begun i h can lease are ordered;
+      inputs = inputs-begun j.cells j.regions i lease h fresh o.inputs;
+      kept =
+          ap (λ c. left_of (wholes (updated j.regions i (begun lease))) (state_of c j.counts)) (worths-stored owned j.cells ∙ sym (worths-stored j.owned j.cells))
+          ∙ kept-now (lengths j.cells) j.regions o.sound o.named o.runs o.begun i h can lease are ordered (state_of (worths j.owned j.cells) j.counts) ∙ o.kept;
+    };
+  }
+
+-- ---- a settle may be made
+
+pub out-contained : (rs : List Region) (i : ℕ) (run : Run) → (at rs i).running ≡ Some run → Contains (leases_out rs) run.lease
+out-contained [] i run h = cc
+out-contained (r ∷ rs) zero run h = subst (λ o. Contains (with_lease o (leases_out rs)) run.lease) (sym h) (0, omega arith, refl)
+out-contained (r ∷ rs) (suc i) run h = by r.running (out-contained rs i run h)
+  where
+    by : (o : Option Run) → Contains (leases_out rs) run.lease → Contains (with_lease o (leases_out rs)) run.lease
+    by None c = c
+    by (Some x) (k, within, is) = (suc k, omega (arith, within), is)
+
+piece-named : (lens : List ℕ) (piece : Body) → AreAssigns piece → NamedIn lens piece → AllIn lens (assign_touches piece)
+piece-named lens End only n = tt
+piece-named lens (Next (Set c e) rest) only n = all-append lens _ _ (all-append lens _ _ (reads-in lens e n.0.1) (n.0.0, tt)) (piece-named lens rest only n.1)
+piece-named lens (Next (Add c e) rest) only n = all-append lens _ _ (all-append lens _ _ (reads-in lens e n.0.1) (n.0.0, tt)) (piece-named lens rest only n.1)
+piece-named lens (Next (If e a b) rest) only n = absurd only
+piece-named lens (Next (Task d b) rest) only n = absurd only
+piece-named lens (Next Wait rest) only n = absurd only
+piece-named lens (Next (Group cs b) rest) only n = absurd only
+
+test-named : (lens : List ℕ) (b : Body) → NamedIn lens b → AllIn lens (test_touches (test_of b))
+test-named lens End n = tt
+test-named lens (Next (Set c e) rest) n = tt
+test-named lens (Next (Add c e) rest) n = tt
+test-named lens (Next (If e a b) rest) n = reads-in lens e n.0.0
+test-named lens (Next (Task d b) rest) n = tt
+test-named lens (Next Wait rest) n = tt
+test-named lens (Next (Group cs b) rest) n = tt
+
+pub settle-may : (j : Seen) → IsWell j → IsOnCourse j → MaySettle j
+settle-may j v w = record { out = out; kin = kin }
+  where
+    out : (i : ℕ) (run : Run) → (at j.regions i).running ≡ Some run → Contains j.owned.out run.lease × All (λ u. IsSome (cell_of j.cells u.cell)) run.lease.uses
+    out i run is =
+        let lens = lengths j.cells in
+        let r = at j.regions i in
+        let well = w.runs i run is in
+        let whole-named = subst (λ (x : Region). NamedIn lens x.rest) (at-whole j.regions i) (named-front lens (at (wholes j.regions) i).rest (at (wholes j.regions) i).groups (w.named i)) in
+        let both = subst (NamedIn lens) (ap (λ o. append (assigns_out o) r.rest) is) whole-named in (
+          Contains-permutation (leases_out j.regions) j.owned.out run.lease (IsPermutation-sym j.owned.out (leases_out j.regions) v.rights) (out-contained j.regions i run is),
+          held-there j.cells r.own (piece_touches run.assigns (test_of r.rest)) run.lease.uses
+              (all-append lens (assign_touches run.assigns) (test_touches (test_of r.rest)) (piece-named lens run.assigns well.assigns (named-front lens run.assigns (record { group = 0; cells = []; behind = r.rest } ∷ []) both)) (test-named lens r.rest (named-back lens run.assigns r.rest both)))
+              well.modes,
+        )
+
+    kin : (i : ℕ) (run : Run) → (at j.regions i).running ≡ Some run → 0 < i
+        → (parent_of j.regions i < length j.regions) × IsReady (at j.regions (parent_of j.regions i)).children (at j.regions i).child
+        × IsUnfinished (at j.regions (parent_of j.regions i)).children (at j.regions i).child
+    kin i run is pos =
+        let rs = j.regions in
+        let begun = w.begun i run is pos in
+        let one : parent_of (wholes rs) i ≡ parent_of rs i = ap (λ (x : Region). x.parent) (at-whole rs i) in
+        let two : (at (wholes rs) i).child ≡ (at rs i).child = ap (λ (x : Region). x.child) (at-whole rs i) in
+        let table : (at (wholes rs) (parent_of (wholes rs) i)).children ≡ (at rs (parent_of rs i)).children = ap (λ n. (at (wholes rs) n).children) one ∙ ap (λ (x : Region). x.children) (at-whole rs (parent_of rs i)) in
+        let k = w.sound.kin i pos begun.0 in (
+          omega (arith, one, w.sound.down i pos, begun.0, length-map rs whole),
+          subst (λ t. IsReady t (at rs i).child) table (subst (λ c. IsReady (at (wholes rs) (parent_of (wholes rs) i)).children c) two begun.1),
+          record {
+            itself = k.entry;
+            known = sym (ap (λ t. slice_get t (at rs i).child) table) ∙ ap (slice_get (at (wholes rs) (parent_of (wholes rs) i)).children) (sym two) ∙ k.there;
+            unfinished = k.finished ∙ ap (λ (x : Region). x.ended) (at-whole rs i) ∙ (w.runs i run is).alive;
+          },
+        )

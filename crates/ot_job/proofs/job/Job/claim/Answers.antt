@@ -1,0 +1,179 @@
+use Rattle.std.proofs.Common.{rules, [], map, set, ◌≡◌, ◌<◌, ◌∙◌, ap, sym, subst, arith, length, List, Bool}
+use Rattle.std.specs.Prelude.{Some, Option, option_map, if◌then◌else◌}
+use Rattle.std.proofs.lemmas.List.{length-map}
+use Rattle.ot_model.specs.Tree.{E, Body}
+use Rattle.ot_model.specs.Cells.{lengths, updated}
+use Rattle.ot_model.specs.Names.{NamedIn}
+use Rattle.ot_model.specs.Programs.{expanded_of}
+use Rattle.ot_model.specs.Uses.{AreInOrder}
+use Rattle.ot_model.specs.View.{expr_of}
+use Rattle.ot_owner.specs.Leases.{lease_of, lent_from}
+use Rattle.ot_owner.proofs.RightsLemmas.{lent_uses}
+use Rattle.ot_job.specs.Live.{Live, Seen, seen_of}
+use Rattle.ot_job.specs.Regions.{Region}
+use Rattle.ot_job.specs.RegionView.{region_of, regions_of}
+use Rattle.ot_job.specs.Sound.{at}
+use Rattle.ot_job.specs.Pieces.{leading, behind, test_of, awake, begun, leading_len}
+use Rattle.ot_job.specs.Assigns.{assigns_of, CanRun}
+use Rattle.ot_job.specs.Claiming.{claimable_of, picked}
+use Rattle.ot_job.specs.Claims.{AreHeld, Claims}
+use Rattle.ot_job.specs.Taken.{Taken, Parts, taken_of}
+use Rattle.ot_job.specs.Well.{IsWell}
+use Rattle.ot_job.proofs.WellLemmas.{claimable-idle, named-awake, claim-free, claim-well}
+use Rattle.ot_model.proofs.CountsLemmas.{tasks_in-≤-size}
+use Rattle.ot_job.proofs.CourseLemmas.{counts-few}
+use Rattle.ot_job.proofs.TakenLemmas.{claim-can}
+use Rattle.ot_job.proofs.PickLemmas.{picked-claimable, at-here}
+use Rattle.ot_job.proofs.ViewLemmas.{map-changed}
+use Rattle.ot_job.specs.Weighing.{weight_of}
+use Rattle.ot_job.proofs.WeighingLemmas.{weight-begun}
+use Rattle.ot_job.proofs.job.Job.claim.Goals as goal
+
+pub index-requires : goal.index-requires
+index-requires c =
+    let is : picked (claimable_of (regions_of c.self.inside.tasks.items)) c.args.pick ≡ Some c.in-Some.task = search rules in
+    omega (arith, (picked-claimable (regions_of c.self.inside.tasks.items) c.args.pick c.in-Some.task is).0, length-map c.self.inside.tasks.items region_of)
+
+pub prepare-requires : goal.prepare-requires
+prepare-requires c =
+    let tasks = c.self.inside.tasks.items in
+    let is : picked (claimable_of (regions_of tasks)) c.args.pick ≡ Some c.in-Some.task = search rules in
+    let within : c.in-Some.task < length tasks = omega (arith, (picked-claimable (regions_of tasks) c.args.pick c.in-Some.task is).0, length-map tasks region_of) in
+    let here = at-here tasks c.in-Some.task c.index.result.now within c.index.ensures in
+    let named = named-awake _ (c.self.invariant.course c.if-self.false) c.in-Some.task in
+    record { named = subst (λ r. NamedIn (lengths c.self.inside.cells) (awake r).rest) here named }
+
+pub lease-requires-clause-free : goal.lease-requires-clause-free
+lease-requires-clause-free c =
+    let tasks = c.self.inside.tasks.items in
+    let is : picked (claimable_of (regions_of tasks)) c.args.pick ≡ Some c.in-Some.task = search rules in
+    let both = picked-claimable (regions_of tasks) c.args.pick c.in-Some.task is in
+    let within : c.in-Some.task < length tasks = omega (arith, both.0, length-map tasks region_of) in
+    let here = at-here tasks c.in-Some.task c.index.result.now within c.index.ensures in
+    claim-free _ c.self.invariant (c.self.invariant.course c.if-self.false) c.in-Some.task both.0 both.1 c.in_ok-room.field-0.decl
+    (subst (λ r. AreHeld r c.in_ok-room.field-0.decl) (sym here) c.in_ok-room.ensures.held) c.in_ok-room.ensures.ordered
+
+pub index_mut-requires : goal.index_mut-requires
+index_mut-requires c =
+    let is : picked (claimable_of (regions_of c.self.inside.tasks.items)) c.args.pick ≡ Some c.in-Some.task = search rules in
+    omega (arith, (picked-claimable (regions_of c.self.inside.tasks.items) c.args.pick c.in-Some.task is).0, length-map c.self.inside.tasks.items region_of)
+
+pub begin-requires-clause-room : goal.begin-requires-clause-room
+begin-requires-clause-room c =
+    let tasks = c.self.inside.tasks.items in
+    let is : picked (claimable_of (regions_of tasks)) c.args.pick ≡ Some c.in-Some.task = search rules in
+    let within : c.in-Some.task < length tasks = omega (arith, (picked-claimable (regions_of tasks) c.args.pick c.in-Some.task is).0, length-map tasks region_of) in
+    let one = at-here tasks c.in-Some.task c.index.result.now within c.index.ensures in
+    let two = at-here tasks c.in-Some.task c.index_mut.result.now within c.index_mut.ensures.value in
+    let same = ap (λ r. leading_len (awake r).rest) (sym two ∙ one) in
+    omega (arith, same, c.in_ok-room.ensures.room)
+
+pub overflow_cast-task : goal.overflow_cast-task
+overflow_cast-task c =
+    let j : Seen = record {
+      program = expanded_of c.self.inside.spec.checked.program;
+      before = c.self.inside.spec.before;
+      cells = c.self.inside.cells;
+      owned = c.self.inside.owners;
+      regions = regions_of c.self.inside.tasks.items;
+      counts = c.self.inside.counts;
+      failing = c.self.inside.failing;
+    } in
+    let is : picked (claimable_of j.regions) c.args.pick ≡ Some c.in-Some.task = search rules in
+    let within = (picked-claimable j.regions c.args.pick c.in-Some.task is).0 in
+    let few = counts-few j (c.self.invariant.course c.if-self.false) in
+    omega (arith, within, c.self.invariant.created, few.0, tasks_in-≤-size j.program.body, c.self.inside.spec.checked.program.few, c.self.inside.spec.checked.program.statements_are)
+
+pub new-requires : goal.new-requires
+new-requires c =
+    let tasks = c.self.inside.tasks.items in
+    let rs = regions_of tasks in
+    let i = c.in-Some.task in
+    let is : picked (claimable_of rs) c.args.pick ≡ Some i = search rules in
+    let within : i < length tasks = omega (arith, (picked-claimable rs c.args.pick i is).0, length-map tasks region_of) in
+    let here = at-here tasks i c.index.result.now within c.index.ensures in
+    let lent = c.in_ok-lent.ensures.lent in
+    let uses = lent_uses c.self.inside.cells c.in_ok-room.field-0.decl c.in_ok-lent.lent lent in
+    let held = subst (AreHeld (at rs i)) (sym uses) (subst (λ r. AreHeld r c.in_ok-room.field-0.decl) (sym here) c.in_ok-room.ensures.held) in
+    let can = claim-can _ (c.self.invariant.course c.if-self.false) i c.in_ok-lent.lent held (lent ∙ ap (lent_from c.self.inside.cells) (sym uses)) in
+    let assigns : assigns_of c.in_ok-room.field-0.assigns.items ≡ leading (awake (at rs i)).rest = c.in_ok-room.ensures.assigns ∙ ap (λ r. leading (awake r).rest) (sym here) in
+    let test : option_map expr_of c.in_ok-room.field-0.condition ≡ test_of (behind (awake (at rs i)).rest) = c.in_ok-room.ensures.test ∙ ap (λ r. test_of (behind (awake r).rest)) (sym here) in
+    subst (λ (b : Body). CanRun b (option_map expr_of c.in_ok-room.field-0.condition) c.in_ok-lent.lent) (sym assigns)
+    (subst (λ (t : Option E). CanRun (leading (awake (at rs i)).rest) t c.in_ok-lent.lent) (sym test) can)
+
+pub invariant_of-self-2 : goal.invariant_of-self-2
+invariant_of-self-2 c =
+    let tasks = c.self.inside.tasks.items in
+    let rs = regions_of tasks in
+    let i = c.in-Some.task in
+    let is : picked (claimable_of rs) c.args.pick ≡ Some i = search rules in
+    let both = picked-claimable rs c.args.pick i is in
+    let within : i < length tasks = omega (arith, both.0, length-map tasks region_of) in
+    let here = at-here tasks i c.index.result.now within c.index.ensures in
+    let lent = c.in_ok-lent.ensures.lent in
+    let uses = lent_uses c.self.inside.cells c.in_ok-room.field-0.decl c.in_ok-lent.lent lent in
+    let lease : c.in_ok-room.field-0.right ≡ lease_of c.in_ok-lent.lent = c.in_ok-room.ensures.right ∙ ap lease_of (sym lent) in
+    let now = map-changed region_of tasks i c.index_mut.result.now c.begin.new.self (begun c.in_ok-room.field-0.right) c.index_mut.ensures.value c.begin.ensures ∙ ap (λ l. updated rs i (begun l)) lease in
+    let held = subst (AreHeld (at rs i)) (sym uses) (subst (λ r. AreHeld r c.in_ok-room.field-0.decl) (sym here) c.in_ok-room.ensures.held) in
+    let seen : List Region → Seen = λ regions. record {
+      program = expanded_of c.self.inside.spec.checked.program;
+      before = c.self.inside.spec.before;
+      cells = c.self.inside.cells;
+      owned = c.lease.new.self;
+      regions = regions;
+      counts = c.self.inside.counts;
+      failing = c.self.inside.failing;
+    } in
+    subst (λ (l : List Region). IsWell (seen l)) (sym now)
+    (claim-well _ c.self.invariant c.if-self.false i both.0 both.1 (lease_of c.in_ok-lent.lent) held (subst AreInOrder (sym uses) c.in_ok-room.ensures.ordered)
+    (ap lease_of (lent ∙ ap (lent_from c.self.inside.cells) (sym uses))) c.lease.new.self c.in_ok-lent.ensures.out)
+
+pub returns-clause-claimed : goal.returns-clause-claimed
+returns-clause-claimed c =
+    let tasks = c.self.inside.tasks.items in
+    let rs = regions_of tasks in
+    let i = c.in-Some.task in
+    let is : picked (claimable_of rs) c.args.pick ≡ Some i = search rules in
+    let within : i < length tasks = omega (arith, (picked-claimable rs c.args.pick i is).0, length-map tasks region_of) in
+    let here = at-here tasks i c.index.result.now within c.index.ensures in
+    let lent = c.in_ok-lent.ensures.lent in
+    let uses = lent_uses c.self.inside.cells c.in_ok-room.field-0.decl c.in_ok-lent.lent lent in
+    let lease : c.in_ok-room.field-0.right ≡ lease_of c.in_ok-lent.lent = c.in_ok-room.ensures.right ∙ ap lease_of (sym lent) in
+    let now = map-changed region_of tasks i c.index_mut.result.now c.begin.new.self (begun c.in_ok-room.field-0.right) c.index_mut.ensures.value c.begin.ensures ∙ ap (λ l. updated rs i (begun l)) lease in
+    let seen : List Region → Seen = λ regions. record {
+      program = expanded_of c.self.inside.spec.checked.program;
+      before = c.self.inside.spec.before;
+      cells = c.self.inside.cells;
+      owned = c.lease.new.self;
+      regions = regions;
+      counts = c.self.inside.counts;
+      failing = c.self.inside.failing;
+    } in
+    let piece : Taken = record { task = i; assigns = assigns_of c.in_ok-room.field-0.assigns.items; test = option_map expr_of c.in_ok-room.field-0.condition; lent = c.in_ok-lent.lent } in
+    let new : Seen = seen (map region_of (set tasks i c.begin.new.self)) in
+    subst (λ (p : Parts). Claims (seen_of c.args.self.now) c.args.pick (taken_of p) new) (sym c.new.ensures) (subst (λ (l : Live). Claims (seen_of l) c.args.pick piece new) c.self.view_is (record {
+      task = ap (λ (b : Bool). picked (if b then [] else claimable_of rs) c.args.pick) c.if-self.false ∙ is;
+      assigns = c.in_ok-room.ensures.assigns ∙ ap (λ r. leading (awake r).rest) (sym here);
+      test = c.in_ok-room.ensures.test ∙ ap (λ r. test_of (behind (awake r).rest)) (sym here);
+      held = subst (AreHeld (at rs i)) (sym uses) (subst (λ r. AreHeld r c.in_ok-room.field-0.decl) (sym here) c.in_ok-room.ensures.held);
+      inputs = lent ∙ ap (lent_from c.self.inside.cells) (sym uses);
+      out = c.in_ok-lent.ensures.out;
+      worth = c.in_ok-lent.ensures.worth;
+      now = ap seen now;
+    }))
+
+pub returns-clause-weight : goal.returns-clause-weight
+returns-clause-weight c =
+    let tasks = c.self.inside.tasks.items in
+    let rs = regions_of tasks in
+    let i = c.in-Some.task in
+    let is : picked (claimable_of rs) c.args.pick ≡ Some i = search rules in
+    let both = picked-claimable rs c.args.pick i is in
+    let within : i < length tasks = omega (arith, both.0, length-map tasks region_of) in
+    let here = at-here tasks i c.index.result.now within c.index.ensures in
+    let lent = c.in_ok-lent.ensures.lent in
+    let uses = lent_uses c.self.inside.cells c.in_ok-room.field-0.decl c.in_ok-lent.lent lent in
+    let lease : c.in_ok-room.field-0.right ≡ lease_of c.in_ok-lent.lent = c.in_ok-room.ensures.right ∙ ap lease_of (sym lent) in
+    let now = map-changed region_of tasks i c.index_mut.result.now c.begin.new.self (begun c.in_ok-room.field-0.right) c.index_mut.ensures.value c.begin.ensures ∙ ap (λ l. updated rs i (begun l)) lease in
+    let idle = claimable-idle rs i both.1 in
+    omega (arith, weight-begun (lease_of c.in_ok-lent.lent) rs i both.0 idle, ap weight_of now, ap (λ (l : Live). weight_of (regions_of l.tasks)) c.self.view_is)

@@ -1,0 +1,108 @@
+use Rattle.std.proofs.Common.{rules, ◌≡◌, ap, sym, subst, arith, List, true, inl, set}
+use Rattle.std.proofs.lemmas.List.{length-map}
+use Rattle.ot_model.specs.Programs.{expanded_of}
+use Rattle.ot_owner.specs.Leases.{lease_of}
+use Rattle.ot_job.specs.Live.{Live, Seen, seen_of}
+use Rattle.ot_job.specs.Regions.{Region}
+use Rattle.ot_job.specs.RegionView.{region_of, regions_of}
+use Rattle.ot_job.specs.Settling.{Came, IsOut, stopped}
+use Rattle.ot_job.specs.DoneView.{done_of}
+use Rattle.ot_job.specs.States.{Fails}
+use Rattle.ot_job.specs.Well.{IsWell}
+use Rattle.ot_job.specs.declared.task.Task.{Task}
+use Rattle.ot_job.proofs.StartLemmas.{fails-out, fails-well, runs-within}
+use Rattle.ot_job.specs.Weighing.{weight_of}
+use Rattle.ot_job.proofs.WeighingLemmas.{weight-stopped}
+use Rattle.ot_job.proofs.ViewLemmas.{map-changed}
+use Rattle.ot_job.proofs.job.Job.fail.Goals as goal
+
+pub drop_right-requires : goal.drop_right-requires
+drop_right-requires c =
+    let j : Seen = record {
+      program = expanded_of c.self.inside.spec.checked.program;
+      before = c.self.inside.spec.before;
+      cells = c.self.inside.cells;
+      owned = c.self.inside.owners;
+      regions = regions_of c.self.inside.tasks.items;
+      counts = c.self.inside.counts;
+      failing = c.self.inside.failing;
+    } in
+    let d : Came = done_of c.args.done in
+    let yes : c.is_out-out.result ≡ true = search rules in
+    let out : IsOut j.regions d = subst (λ (l : List Task). IsOut (regions_of l) d) c.deref.ensures.value (c.is_out-out.ensures.0 yes) in
+    fails-out j d c.self.invariant out
+
+pub index_mut-requires : goal.index_mut-requires
+index_mut-requires c =
+    let j : Seen = record {
+      program = expanded_of c.self.inside.spec.checked.program;
+      before = c.self.inside.spec.before;
+      cells = c.self.inside.cells;
+      owned = c.self.inside.owners;
+      regions = regions_of c.self.inside.tasks.items;
+      counts = c.self.inside.counts;
+      failing = c.self.inside.failing;
+    } in
+    let d : Came = done_of c.args.done in
+    let yes : c.is_out-out.result ≡ true = search rules in
+    let out : IsOut j.regions d = subst (λ (l : List Task). IsOut (regions_of l) d) c.deref.ensures.value (c.is_out-out.ensures.0 yes) in
+    omega (arith, runs-within j.regions d.task (record { assigns = d.assigns; lease = lease_of d.lent }) out.0, length-map c.self.inside.tasks.items region_of)
+
+pub invariant_of-self : goal.invariant_of-self
+invariant_of-self c =
+    let j : Seen = record {
+      program = expanded_of c.self.inside.spec.checked.program;
+      before = c.self.inside.spec.before;
+      cells = c.self.inside.cells;
+      owned = c.self.inside.owners;
+      regions = regions_of c.self.inside.tasks.items;
+      counts = c.self.inside.counts;
+      failing = c.self.inside.failing;
+    } in
+    let d : Came = done_of c.args.done in
+    let yes : c.is_out-out.result ≡ true = search rules in
+    let out : IsOut j.regions d = subst (λ (l : List Task). IsOut (regions_of l) d) c.deref.ensures.value (c.is_out-out.ensures.0 yes) in
+    let seen : List Region → Seen = λ regions. record { program = j.program; before = j.before; cells = j.cells; owned = c.drop_right.new.self; regions = regions; counts = j.counts; failing = true } in
+    let now = map-changed region_of c.self.inside.tasks.items d.task c.index_mut.result.now c.stop.new.self stopped c.index_mut.ensures.value c.stop.ensures in
+    subst (λ (l : List Region). IsWell (seen l)) (sym now) (fails-well j d c.drop_right.new.self c.self.invariant out c.drop_right.ensures.ended)
+
+pub returns-clause-fails : goal.returns-clause-fails
+returns-clause-fails c =
+    let j : Seen = record {
+      program = expanded_of c.self.inside.spec.checked.program;
+      before = c.self.inside.spec.before;
+      cells = c.self.inside.cells;
+      owned = c.self.inside.owners;
+      regions = regions_of c.self.inside.tasks.items;
+      counts = c.self.inside.counts;
+      failing = c.self.inside.failing;
+    } in
+    let d : Came = done_of c.args.done in
+    let yes : c.is_out-out.result ≡ true = search rules in
+    let out : IsOut j.regions d = subst (λ (l : List Task). IsOut (regions_of l) d) c.deref.ensures.value (c.is_out-out.ensures.0 yes) in
+    let seen : List Region → Seen = λ regions. record { program = j.program; before = j.before; cells = j.cells; owned = c.drop_right.new.self; regions = regions; counts = j.counts; failing = true } in
+    let now = map-changed region_of c.self.inside.tasks.items d.task c.index_mut.result.now c.stop.new.self stopped c.index_mut.ensures.value c.stop.ensures in
+    subst (λ (l : Live). Fails (seen_of l) d (seen (regions_of (set c.self.inside.tasks.items d.task c.stop.new.self)))) c.self.view_is (inl (record {
+      out = out;
+      ended = c.drop_right.ensures.ended;
+      worth = c.drop_right.ensures.worth;
+      now = ap seen now;
+    }))
+
+pub returns-clause-weight : goal.returns-clause-weight
+returns-clause-weight c =
+    let j : Seen = record {
+      program = expanded_of c.self.inside.spec.checked.program;
+      before = c.self.inside.spec.before;
+      cells = c.self.inside.cells;
+      owned = c.self.inside.owners;
+      regions = regions_of c.self.inside.tasks.items;
+      counts = c.self.inside.counts;
+      failing = c.self.inside.failing;
+    } in
+    let d : Came = done_of c.args.done in
+    let yes : c.is_out-out.result ≡ true = search rules in
+    let out : IsOut j.regions d = subst (λ (l : List Task). IsOut (regions_of l) d) c.deref.ensures.value (c.is_out-out.ensures.0 yes) in
+    let now = map-changed region_of c.self.inside.tasks.items d.task c.index_mut.result.now c.stop.new.self stopped c.index_mut.ensures.value c.stop.ensures in
+    let less = weight-stopped j.regions d.task (runs-within j.regions d.task (record { assigns = d.assigns; lease = lease_of d.lent }) out.0) in
+    omega (arith, less, ap weight_of now, ap (λ (l : Live). weight_of (regions_of l.tasks)) c.self.view_is)

@@ -1,0 +1,412 @@
+use Rattle.std.proofs.Common.{rules, refl, ◌≡◌, ◌≤◌, ◌+◌, ◌∙◌, ℕ, ap, sym, subst, arith, List, Bool, true, false}
+use Rattle.std.specs.Prelude.{if◌then◌else◌, option_map, is_err}
+use Rattle.ot_model.specs.Value.{val}
+use Rattle.ot_model.specs.View.{expr_of}
+use Rattle.ot_owner.specs.Lending.{value_at}
+use Rattle.ot_job.proofs.RunLemmas.{through}
+use Rattle.std.proofs.lemmas.List.{length-map}
+use Rattle.ot_model.specs.Programs.{expanded_of}
+use Rattle.ot_model.specs.Counts.{size, tasks_in}
+use Rattle.ot_model.proofs.CountsLemmas.{tasks_in-≤-size}
+use Rattle.ot_job.specs.Live.{Live, Seen, seen_of}
+use Rattle.ot_job.specs.Regions.{Region}
+use Rattle.ot_job.specs.RegionView.{region_of, regions_of}
+use Rattle.ot_job.specs.Sound.{at}
+use Rattle.ot_job.specs.Pieces.{leading_len}
+use Rattle.ot_job.specs.Settling.{IsOut, Settles, Came, CreatesInOrder, is_control, tasks_next, taken_by, settled, units_of}
+use Rattle.ot_job.specs.DoneView.{done_of}
+use Rattle.ot_job.specs.Well.{IsWell}
+use Rattle.ot_job.specs.declared.task.Task.{Task}
+use Rattle.ot_job.proofs.WellLemmas.{settle-may}
+use Rattle.ot_job.proofs.PickLemmas.{at-here}
+use Rattle.ot_job.proofs.SettleLemmas.{ok-holds, is-known, lease-out, cells-there, parent-known, child-ready, child-unfinished, assigns-len}
+use Rattle.ot_job.proofs.CourseLemmas.{counts-few, settle-course, settle-lighter, settle-well}
+use Rattle.ot_job.specs.Weighing.{weight_of}
+use Rattle.ot_job.proofs.job.Job.settle.Goals as goal
+
+pub index-requires : goal.index-requires
+index-requires c =
+    let j : Seen = record {
+      program = expanded_of c.self.inside.spec.checked.program;
+      before = c.self.inside.spec.before;
+      cells = c.self.inside.cells;
+      owned = c.self.inside.owners;
+      regions = regions_of c.self.inside.tasks.items;
+      counts = c.self.inside.counts;
+      failing = c.self.inside.failing;
+    } in
+    let d : Came = done_of c.args.done in
+    let may = settle-may j c.self.invariant (c.self.invariant.course c.if-self.false) in
+    let yes : c.is_out.result ≡ true = search rules in
+    let out : IsOut j.regions d = subst (λ (l : List Task). IsOut (regions_of l) d) c.deref.ensures.value (c.is_out.ensures.0 yes) in
+    omega (arith, is-known j d may out, length-map c.self.inside.tasks.items region_of)
+
+pub index-requires-2 : goal.index-requires-2
+index-requires-2 c =
+    let j : Seen = record {
+      program = expanded_of c.self.inside.spec.checked.program;
+      before = c.self.inside.spec.before;
+      cells = c.self.inside.cells;
+      owned = c.self.inside.owners;
+      regions = regions_of c.self.inside.tasks.items;
+      counts = c.self.inside.counts;
+      failing = c.self.inside.failing;
+    } in
+    let d : Came = done_of c.args.done in
+    let may = settle-may j c.self.invariant (c.self.invariant.course c.if-self.false) in
+    let yes : c.is_out.result ≡ true = search rules in
+    let out : IsOut j.regions d = subst (λ (l : List Task). IsOut (regions_of l) d) c.deref.ensures.value (c.is_out.ensures.0 yes) in
+    omega (arith, is-known j d may out, length-map c.self.inside.tasks.items region_of)
+
+pub settle-requires-clause-known : goal.settle-requires-clause-known
+settle-requires-clause-known c =
+    let j : Seen = record {
+      program = expanded_of c.self.inside.spec.checked.program;
+      before = c.self.inside.spec.before;
+      cells = c.self.inside.cells;
+      owned = c.self.inside.owners;
+      regions = regions_of c.self.inside.tasks.items;
+      counts = c.self.inside.counts;
+      failing = c.self.inside.failing;
+    } in
+    let d : Came = done_of c.args.done in
+    let may = settle-may j c.self.invariant (c.self.invariant.course c.if-self.false) in
+    let yes : c.is_out.result ≡ true = search rules in
+    let out : IsOut j.regions d = subst (λ (l : List Task). IsOut (regions_of l) d) c.deref.ensures.value (c.is_out.ensures.0 yes) in
+    omega (arith, is-known j d may out, length-map c.self.inside.tasks.items region_of)
+
+pub settle-requires-clause-parent : goal.settle-requires-clause-parent
+settle-requires-clause-parent c = λ some.
+    let j : Seen = record {
+      program = expanded_of c.self.inside.spec.checked.program;
+      before = c.self.inside.spec.before;
+      cells = c.self.inside.cells;
+      owned = c.self.inside.owners;
+      regions = regions_of c.self.inside.tasks.items;
+      counts = c.self.inside.counts;
+      failing = c.self.inside.failing;
+    } in
+    let d : Came = done_of c.args.done in
+    let may = settle-may j c.self.invariant (c.self.invariant.course c.if-self.false) in
+    let yes : c.is_out.result ≡ true = search rules in
+    let out : IsOut j.regions d = subst (λ (l : List Task). IsOut (regions_of l) d) c.deref.ensures.value (c.is_out.ensures.0 yes) in
+    omega (arith, parent-known j d may out some, length-map c.self.inside.tasks.items region_of)
+
+pub settle-requires-clause-ready : goal.settle-requires-clause-ready
+settle-requires-clause-ready c = λ some.
+    let j : Seen = record {
+      program = expanded_of c.self.inside.spec.checked.program;
+      before = c.self.inside.spec.before;
+      cells = c.self.inside.cells;
+      owned = c.self.inside.owners;
+      regions = regions_of c.self.inside.tasks.items;
+      counts = c.self.inside.counts;
+      failing = c.self.inside.failing;
+    } in
+    let d : Came = done_of c.args.done in
+    let may = settle-may j c.self.invariant (c.self.invariant.course c.if-self.false) in
+    let yes : c.is_out.result ≡ true = search rules in
+    let out : IsOut j.regions d = subst (λ (l : List Task). IsOut (regions_of l) d) c.deref.ensures.value (c.is_out.ensures.0 yes) in
+    child-ready j d may out some
+
+pub settle-requires-clause-unfinished : goal.settle-requires-clause-unfinished
+settle-requires-clause-unfinished c = λ some.
+    let j : Seen = record {
+      program = expanded_of c.self.inside.spec.checked.program;
+      before = c.self.inside.spec.before;
+      cells = c.self.inside.cells;
+      owned = c.self.inside.owners;
+      regions = regions_of c.self.inside.tasks.items;
+      counts = c.self.inside.counts;
+      failing = c.self.inside.failing;
+    } in
+    let d : Came = done_of c.args.done in
+    let may = settle-may j c.self.invariant (c.self.invariant.course c.if-self.false) in
+    let yes : c.is_out.result ≡ true = search rules in
+    let out : IsOut j.regions d = subst (λ (l : List Task). IsOut (regions_of l) d) c.deref.ensures.value (c.is_out.ensures.0 yes) in
+    child-unfinished j d may out some
+
+pub give_back-requires-clause-out : goal.give_back-requires-clause-out
+give_back-requires-clause-out c =
+    let j : Seen = record {
+      program = expanded_of c.self.inside.spec.checked.program;
+      before = c.self.inside.spec.before;
+      cells = c.self.inside.cells;
+      owned = c.self.inside.owners;
+      regions = regions_of c.self.inside.tasks.items;
+      counts = c.self.inside.counts;
+      failing = c.self.inside.failing;
+    } in
+    let d : Came = done_of c.args.done in
+    let may = settle-may j c.self.invariant (c.self.invariant.course c.if-self.false) in
+    let yes : c.is_out.result ≡ true = search rules in
+    let out : IsOut j.regions d = subst (λ (l : List Task). IsOut (regions_of l) d) c.deref.ensures.value (c.is_out.ensures.0 yes) in
+    lease-out j d may out
+
+pub give_back-requires-clause-there : goal.give_back-requires-clause-there
+give_back-requires-clause-there c =
+    let j : Seen = record {
+      program = expanded_of c.self.inside.spec.checked.program;
+      before = c.self.inside.spec.before;
+      cells = c.self.inside.cells;
+      owned = c.self.inside.owners;
+      regions = regions_of c.self.inside.tasks.items;
+      counts = c.self.inside.counts;
+      failing = c.self.inside.failing;
+    } in
+    let d : Came = done_of c.args.done in
+    let may = settle-may j c.self.invariant (c.self.invariant.course c.if-self.false) in
+    let yes : c.is_out.result ≡ true = search rules in
+    let out : IsOut j.regions d = subst (λ (l : List Task). IsOut (regions_of l) d) c.deref.ensures.value (c.is_out.ensures.0 yes) in
+    cells-there j d may out
+
+pub overflow_cast-units : goal.overflow_cast-units
+overflow_cast-units c =
+    let j : Seen = record {
+      program = expanded_of c.self.inside.spec.checked.program;
+      before = c.self.inside.spec.before;
+      cells = c.self.inside.cells;
+      owned = c.self.inside.owners;
+      regions = regions_of c.self.inside.tasks.items;
+      counts = c.self.inside.counts;
+      failing = c.self.inside.failing;
+    } in
+    let d : Came = done_of c.args.done in
+    let may = settle-may j c.self.invariant (c.self.invariant.course c.if-self.false) in
+    let yes : c.is_out.result ≡ true = search rules in
+    let out : IsOut j.regions d = subst (λ (l : List Task). IsOut (regions_of l) d) c.deref.ensures.value (c.is_out.ensures.0 yes) in
+    let no_err : is_err c.settle.result ≡ false = search rules in
+    let ordered : CreatesInOrder (at j.regions d.task) = ok-holds c.settle.result no_err c.settle.ensures.ordered in
+    let told = c.args.done.told ∙ through expr_of (λ x. val (value_at c.args.done.lent) x) c.args.done.condition (option_map expr_of c.args.done.condition) refl in
+    let few = counts-few _ (settle-course j c.self.invariant c.if-self.false d out c.args.done.made told c.give_back.new.cells c.give_back.new.self
+    c.give_back.ensures.stored c.give_back.ensures.lengths c.give_back.ensures.ended ordered) in
+    let here = at-here c.self.inside.tasks.items c.args.done.task c.index.result.now (omega (arith, is-known j d may out, length-map c.self.inside.tasks.items region_of)) c.index.ensures in
+    let small : size j.program.body ≤ 20000 = omega (arith, c.self.inside.spec.checked.program.few, c.self.inside.spec.checked.program.statements_are) in
+    let fewer : tasks_in j.program.body ≤ 20000 = omega (arith, small, tasks_in-≤-size j.program.body) in
+    let long : c.len-assigns.result ≡ leading_len d.assigns = grind (arith, c.len-assigns.ensures, assigns-len c.args.done.assigns.items, c.args.done.assigns.ok) in
+    let control : c.units_next-control.result ≡ (if is_control (at j.regions d.task).rest then 1 else 0) = c.units_next-control.ensures.exact ∙ ap (λ (r : Region). if is_control r.rest then 1 else 0) (sym here) in
+    let more : units_of d.assigns (at j.regions d.task).rest ≡ c.len-assigns.result + c.units_next-control.result = omega (arith, long, control) in
+    omega (arith, few.1, small, more)
+
+pub overflow_add-units : goal.overflow_add-units
+overflow_add-units c =
+    let j : Seen = record {
+      program = expanded_of c.self.inside.spec.checked.program;
+      before = c.self.inside.spec.before;
+      cells = c.self.inside.cells;
+      owned = c.self.inside.owners;
+      regions = regions_of c.self.inside.tasks.items;
+      counts = c.self.inside.counts;
+      failing = c.self.inside.failing;
+    } in
+    let d : Came = done_of c.args.done in
+    let may = settle-may j c.self.invariant (c.self.invariant.course c.if-self.false) in
+    let yes : c.is_out.result ≡ true = search rules in
+    let out : IsOut j.regions d = subst (λ (l : List Task). IsOut (regions_of l) d) c.deref.ensures.value (c.is_out.ensures.0 yes) in
+    let no_err : is_err c.settle.result ≡ false = search rules in
+    let ordered : CreatesInOrder (at j.regions d.task) = ok-holds c.settle.result no_err c.settle.ensures.ordered in
+    let told = c.args.done.told ∙ through expr_of (λ x. val (value_at c.args.done.lent) x) c.args.done.condition (option_map expr_of c.args.done.condition) refl in
+    let few = counts-few _ (settle-course j c.self.invariant c.if-self.false d out c.args.done.made told c.give_back.new.cells c.give_back.new.self
+    c.give_back.ensures.stored c.give_back.ensures.lengths c.give_back.ensures.ended ordered) in
+    let here = at-here c.self.inside.tasks.items c.args.done.task c.index.result.now (omega (arith, is-known j d may out, length-map c.self.inside.tasks.items region_of)) c.index.ensures in
+    let small : size j.program.body ≤ 20000 = omega (arith, c.self.inside.spec.checked.program.few, c.self.inside.spec.checked.program.statements_are) in
+    let fewer : tasks_in j.program.body ≤ 20000 = omega (arith, small, tasks_in-≤-size j.program.body) in
+    let long : c.len-assigns.result ≡ leading_len d.assigns = grind (arith, c.len-assigns.ensures, assigns-len c.args.done.assigns.items, c.args.done.assigns.ok) in
+    let control : c.units_next-control.result ≡ (if is_control (at j.regions d.task).rest then 1 else 0) = c.units_next-control.ensures.exact ∙ ap (λ (r : Region). if is_control r.rest then 1 else 0) (sym here) in
+    let more : units_of d.assigns (at j.regions d.task).rest ≡ c.len-assigns.result + c.units_next-control.result = omega (arith, long, control) in
+    omega (arith, few.1, small, more)
+
+pub overflow_add-self : goal.overflow_add-self
+overflow_add-self c =
+    let j : Seen = record {
+      program = expanded_of c.self.inside.spec.checked.program;
+      before = c.self.inside.spec.before;
+      cells = c.self.inside.cells;
+      owned = c.self.inside.owners;
+      regions = regions_of c.self.inside.tasks.items;
+      counts = c.self.inside.counts;
+      failing = c.self.inside.failing;
+    } in
+    let d : Came = done_of c.args.done in
+    let may = settle-may j c.self.invariant (c.self.invariant.course c.if-self.false) in
+    let yes : c.is_out.result ≡ true = search rules in
+    let out : IsOut j.regions d = subst (λ (l : List Task). IsOut (regions_of l) d) c.deref.ensures.value (c.is_out.ensures.0 yes) in
+    let no_err : is_err c.settle.result ≡ false = search rules in
+    let ordered : CreatesInOrder (at j.regions d.task) = ok-holds c.settle.result no_err c.settle.ensures.ordered in
+    let told = c.args.done.told ∙ through expr_of (λ x. val (value_at c.args.done.lent) x) c.args.done.condition (option_map expr_of c.args.done.condition) refl in
+    let few = counts-few _ (settle-course j c.self.invariant c.if-self.false d out c.args.done.made told c.give_back.new.cells c.give_back.new.self
+    c.give_back.ensures.stored c.give_back.ensures.lengths c.give_back.ensures.ended ordered) in
+    let here = at-here c.self.inside.tasks.items c.args.done.task c.index.result.now (omega (arith, is-known j d may out, length-map c.self.inside.tasks.items region_of)) c.index.ensures in
+    let small : size j.program.body ≤ 20000 = omega (arith, c.self.inside.spec.checked.program.few, c.self.inside.spec.checked.program.statements_are) in
+    let fewer : tasks_in j.program.body ≤ 20000 = omega (arith, small, tasks_in-≤-size j.program.body) in
+    let long : c.len-assigns.result ≡ leading_len d.assigns = grind (arith, c.len-assigns.ensures, assigns-len c.args.done.assigns.items, c.args.done.assigns.ok) in
+    let control : c.units_next-control.result ≡ (if is_control (at j.regions d.task).rest then 1 else 0) = c.units_next-control.ensures.exact ∙ ap (λ (r : Region). if is_control r.rest then 1 else 0) (sym here) in
+    let more : units_of d.assigns (at j.regions d.task).rest ≡ c.len-assigns.result + c.units_next-control.result = omega (arith, long, control) in
+    let here-2 = at-here c.self.inside.tasks.items c.args.done.task c.index-2.result.now (omega (arith, is-known j d may out, length-map c.self.inside.tasks.items region_of)) c.index-2.ensures in
+    let created : c.tasks_next-created.result ≡ tasks_next (at j.regions d.task).rest = c.tasks_next-created.ensures.exact ∙ ap (λ (r : Region). tasks_next r.rest) (sym here-2) in
+    omega (arith, few.0, fewer, created)
+
+pub overflow_add-self-2 : goal.overflow_add-self-2
+overflow_add-self-2 c =
+    let j : Seen = record {
+      program = expanded_of c.self.inside.spec.checked.program;
+      before = c.self.inside.spec.before;
+      cells = c.self.inside.cells;
+      owned = c.self.inside.owners;
+      regions = regions_of c.self.inside.tasks.items;
+      counts = c.self.inside.counts;
+      failing = c.self.inside.failing;
+    } in
+    let d : Came = done_of c.args.done in
+    let may = settle-may j c.self.invariant (c.self.invariant.course c.if-self.false) in
+    let yes : c.is_out.result ≡ true = search rules in
+    let out : IsOut j.regions d = subst (λ (l : List Task). IsOut (regions_of l) d) c.deref.ensures.value (c.is_out.ensures.0 yes) in
+    let no_err : is_err c.settle.result ≡ false = search rules in
+    let ordered : CreatesInOrder (at j.regions d.task) = ok-holds c.settle.result no_err c.settle.ensures.ordered in
+    let told = c.args.done.told ∙ through expr_of (λ x. val (value_at c.args.done.lent) x) c.args.done.condition (option_map expr_of c.args.done.condition) refl in
+    let few = counts-few _ (settle-course j c.self.invariant c.if-self.false d out c.args.done.made told c.give_back.new.cells c.give_back.new.self
+    c.give_back.ensures.stored c.give_back.ensures.lengths c.give_back.ensures.ended ordered) in
+    let here = at-here c.self.inside.tasks.items c.args.done.task c.index.result.now (omega (arith, is-known j d may out, length-map c.self.inside.tasks.items region_of)) c.index.ensures in
+    let small : size j.program.body ≤ 20000 = omega (arith, c.self.inside.spec.checked.program.few, c.self.inside.spec.checked.program.statements_are) in
+    let fewer : tasks_in j.program.body ≤ 20000 = omega (arith, small, tasks_in-≤-size j.program.body) in
+    let long : c.len-assigns.result ≡ leading_len d.assigns = grind (arith, c.len-assigns.ensures, assigns-len c.args.done.assigns.items, c.args.done.assigns.ok) in
+    let control : c.units_next-control.result ≡ (if is_control (at j.regions d.task).rest then 1 else 0) = c.units_next-control.ensures.exact ∙ ap (λ (r : Region). if is_control r.rest then 1 else 0) (sym here) in
+    let more : units_of d.assigns (at j.regions d.task).rest ≡ c.len-assigns.result + c.units_next-control.result = omega (arith, long, control) in
+    omega (arith, few.1, small, more)
+
+pub invariant_of-self-2 : goal.invariant_of-self-2
+invariant_of-self-2 c =
+    let j : Seen = record {
+      program = expanded_of c.self.inside.spec.checked.program;
+      before = c.self.inside.spec.before;
+      cells = c.self.inside.cells;
+      owned = c.self.inside.owners;
+      regions = regions_of c.self.inside.tasks.items;
+      counts = c.self.inside.counts;
+      failing = c.self.inside.failing;
+    } in
+    let d : Came = done_of c.args.done in
+    let may = settle-may j c.self.invariant (c.self.invariant.course c.if-self.false) in
+    let yes : c.is_out.result ≡ true = search rules in
+    let out : IsOut j.regions d = subst (λ (l : List Task). IsOut (regions_of l) d) c.deref.ensures.value (c.is_out.ensures.0 yes) in
+    let no_err : is_err c.settle.result ≡ false = search rules in
+    let ordered : CreatesInOrder (at j.regions d.task) = ok-holds c.settle.result no_err c.settle.ensures.ordered in
+    let told = c.args.done.told ∙ through expr_of (λ x. val (value_at c.args.done.lent) x) c.args.done.condition (option_map expr_of c.args.done.condition) refl in
+    let few = counts-few _ (settle-course j c.self.invariant c.if-self.false d out c.args.done.made told c.give_back.new.cells c.give_back.new.self
+    c.give_back.ensures.stored c.give_back.ensures.lengths c.give_back.ensures.ended ordered) in
+    let here = at-here c.self.inside.tasks.items c.args.done.task c.index.result.now (omega (arith, is-known j d may out, length-map c.self.inside.tasks.items region_of)) c.index.ensures in
+    let small : size j.program.body ≤ 20000 = omega (arith, c.self.inside.spec.checked.program.few, c.self.inside.spec.checked.program.statements_are) in
+    let fewer : tasks_in j.program.body ≤ 20000 = omega (arith, small, tasks_in-≤-size j.program.body) in
+    let long : c.len-assigns.result ≡ leading_len d.assigns = grind (arith, c.len-assigns.ensures, assigns-len c.args.done.assigns.items, c.args.done.assigns.ok) in
+    let control : c.units_next-control.result ≡ (if is_control (at j.regions d.task).rest then 1 else 0) = c.units_next-control.ensures.exact ∙ ap (λ (r : Region). if is_control r.rest then 1 else 0) (sym here) in
+    let more : units_of d.assigns (at j.regions d.task).rest ≡ c.len-assigns.result + c.units_next-control.result = omega (arith, long, control) in
+    let here-2 = at-here c.self.inside.tasks.items c.args.done.task c.index-2.result.now (omega (arith, is-known j d may out, length-map c.self.inside.tasks.items region_of)) c.index-2.ensures in
+    let created : c.tasks_next-created.result ≡ tasks_next (at j.regions d.task).rest = c.tasks_next-created.ensures.exact ∙ ap (λ (r : Region). tasks_next r.rest) (sym here-2) in
+    let ok : regions_of c.settle.new.tasks.items ≡ settled c.is_taken.result j.counts.units d.task j.regions = ok-holds c.settle.result no_err c.settle.ensures.settled in
+    let regions : regions_of c.settle.new.tasks.items ≡ settled (taken_by d.answer) j.counts.units d.task j.regions = ok ∙ ap (λ (b : Bool). settled b j.counts.units d.task j.regions) c.is_taken.ensures in
+    let now : List Region → ℕ → ℕ → Seen = λ regions tasks units. record {
+      program = j.program;
+      before = j.before;
+      cells = c.give_back.new.cells;
+      owned = c.give_back.new.self;
+      regions = regions;
+      counts = record { tasks = j.counts.tasks + tasks; units = j.counts.units + units };
+      failing = j.failing;
+    } in
+    let is : now (regions_of c.settle.new.tasks.items) c.tasks_next-created.result (c.len-assigns.result + c.units_next-control.result)
+    ≡ now (settled (taken_by d.answer) j.counts.units d.task j.regions) (tasks_next (at j.regions d.task).rest) (units_of d.assigns (at j.regions d.task).rest) =
+    ap (λ (l : List Region). now l c.tasks_next-created.result (c.len-assigns.result + c.units_next-control.result)) regions
+    ∙ ap (λ (n : ℕ). now (settled (taken_by d.answer) j.counts.units d.task j.regions) n (c.len-assigns.result + c.units_next-control.result)) created
+    ∙ ap (λ (n : ℕ). now (settled (taken_by d.answer) j.counts.units d.task j.regions) (tasks_next (at j.regions d.task).rest) n) (sym more) in
+    subst IsWell (sym is)
+    (settle-well j c.self.invariant c.if-self.false d out c.args.done.made told c.give_back.new.cells c.give_back.new.self
+    c.give_back.ensures.stored c.give_back.ensures.lengths c.give_back.ensures.ended ordered)
+
+pub returns-clause-settled : goal.returns-clause-settled
+returns-clause-settled c =
+    let j : Seen = record {
+      program = expanded_of c.self.inside.spec.checked.program;
+      before = c.self.inside.spec.before;
+      cells = c.self.inside.cells;
+      owned = c.self.inside.owners;
+      regions = regions_of c.self.inside.tasks.items;
+      counts = c.self.inside.counts;
+      failing = c.self.inside.failing;
+    } in
+    let d : Came = done_of c.args.done in
+    let may = settle-may j c.self.invariant (c.self.invariant.course c.if-self.false) in
+    let yes : c.is_out.result ≡ true = search rules in
+    let out : IsOut j.regions d = subst (λ (l : List Task). IsOut (regions_of l) d) c.deref.ensures.value (c.is_out.ensures.0 yes) in
+    let no_err : is_err c.settle.result ≡ false = search rules in
+    let ordered : CreatesInOrder (at j.regions d.task) = ok-holds c.settle.result no_err c.settle.ensures.ordered in
+    let told = c.args.done.told ∙ through expr_of (λ x. val (value_at c.args.done.lent) x) c.args.done.condition (option_map expr_of c.args.done.condition) refl in
+    let few = counts-few _ (settle-course j c.self.invariant c.if-self.false d out c.args.done.made told c.give_back.new.cells c.give_back.new.self
+    c.give_back.ensures.stored c.give_back.ensures.lengths c.give_back.ensures.ended ordered) in
+    let here = at-here c.self.inside.tasks.items c.args.done.task c.index.result.now (omega (arith, is-known j d may out, length-map c.self.inside.tasks.items region_of)) c.index.ensures in
+    let small : size j.program.body ≤ 20000 = omega (arith, c.self.inside.spec.checked.program.few, c.self.inside.spec.checked.program.statements_are) in
+    let fewer : tasks_in j.program.body ≤ 20000 = omega (arith, small, tasks_in-≤-size j.program.body) in
+    let long : c.len-assigns.result ≡ leading_len d.assigns = grind (arith, c.len-assigns.ensures, assigns-len c.args.done.assigns.items, c.args.done.assigns.ok) in
+    let control : c.units_next-control.result ≡ (if is_control (at j.regions d.task).rest then 1 else 0) = c.units_next-control.ensures.exact ∙ ap (λ (r : Region). if is_control r.rest then 1 else 0) (sym here) in
+    let more : units_of d.assigns (at j.regions d.task).rest ≡ c.len-assigns.result + c.units_next-control.result = omega (arith, long, control) in
+    let here-2 = at-here c.self.inside.tasks.items c.args.done.task c.index-2.result.now (omega (arith, is-known j d may out, length-map c.self.inside.tasks.items region_of)) c.index-2.ensures in
+    let created : c.tasks_next-created.result ≡ tasks_next (at j.regions d.task).rest = c.tasks_next-created.ensures.exact ∙ ap (λ (r : Region). tasks_next r.rest) (sym here-2) in
+    let ok : regions_of c.settle.new.tasks.items ≡ settled c.is_taken.result j.counts.units d.task j.regions = ok-holds c.settle.result no_err c.settle.ensures.settled in
+    let regions : regions_of c.settle.new.tasks.items ≡ settled (taken_by d.answer) j.counts.units d.task j.regions = ok ∙ ap (λ (b : Bool). settled b j.counts.units d.task j.regions) c.is_taken.ensures in
+    let now : List Region → ℕ → ℕ → Seen = λ regions tasks units. record {
+      program = j.program;
+      before = j.before;
+      cells = c.give_back.new.cells;
+      owned = c.give_back.new.self;
+      regions = regions;
+      counts = record { tasks = j.counts.tasks + tasks; units = j.counts.units + units };
+      failing = j.failing;
+    } in
+    let is : now (regions_of c.settle.new.tasks.items) c.tasks_next-created.result (c.len-assigns.result + c.units_next-control.result)
+    ≡ now (settled (taken_by d.answer) j.counts.units d.task j.regions) (tasks_next (at j.regions d.task).rest) (units_of d.assigns (at j.regions d.task).rest) =
+    ap (λ (l : List Region). now l c.tasks_next-created.result (c.len-assigns.result + c.units_next-control.result)) regions
+    ∙ ap (λ (n : ℕ). now (settled (taken_by d.answer) j.counts.units d.task j.regions) n (c.len-assigns.result + c.units_next-control.result)) created
+    ∙ ap (λ (n : ℕ). now (settled (taken_by d.answer) j.counts.units d.task j.regions) (tasks_next (at j.regions d.task).rest) n) (sym more) in
+    subst (λ (l : Live). Settles (seen_of l) d (c.len-assigns.result + c.units_next-control.result) (now (regions_of c.settle.new.tasks.items) c.tasks_next-created.result (c.len-assigns.result + c.units_next-control.result))) c.self.view_is (record {
+      out = out;
+      working = c.if-self.false;
+      units = sym more;
+      stored = c.give_back.ensures.stored;
+      lengths = c.give_back.ensures.lengths;
+      worth = c.give_back.ensures.worth;
+      ended = c.give_back.ensures.ended;
+      now = is;
+    })
+
+pub returns-clause-lighter : goal.returns-clause-lighter
+returns-clause-lighter c =
+    let j : Seen = record {
+      program = expanded_of c.self.inside.spec.checked.program;
+      before = c.self.inside.spec.before;
+      cells = c.self.inside.cells;
+      owned = c.self.inside.owners;
+      regions = regions_of c.self.inside.tasks.items;
+      counts = c.self.inside.counts;
+      failing = c.self.inside.failing;
+    } in
+    let d : Came = done_of c.args.done in
+    let may = settle-may j c.self.invariant (c.self.invariant.course c.if-self.false) in
+    let yes : c.is_out.result ≡ true = search rules in
+    let out : IsOut j.regions d = subst (λ (l : List Task). IsOut (regions_of l) d) c.deref.ensures.value (c.is_out.ensures.0 yes) in
+    let no_err : is_err c.settle.result ≡ false = search rules in
+    let ordered : CreatesInOrder (at j.regions d.task) = ok-holds c.settle.result no_err c.settle.ensures.ordered in
+    let told = c.args.done.told ∙ through expr_of (λ x. val (value_at c.args.done.lent) x) c.args.done.condition (option_map expr_of c.args.done.condition) refl in
+    let few = counts-few _ (settle-course j c.self.invariant c.if-self.false d out c.args.done.made told c.give_back.new.cells c.give_back.new.self
+    c.give_back.ensures.stored c.give_back.ensures.lengths c.give_back.ensures.ended ordered) in
+    let here = at-here c.self.inside.tasks.items c.args.done.task c.index.result.now (omega (arith, is-known j d may out, length-map c.self.inside.tasks.items region_of)) c.index.ensures in
+    let small : size j.program.body ≤ 20000 = omega (arith, c.self.inside.spec.checked.program.few, c.self.inside.spec.checked.program.statements_are) in
+    let fewer : tasks_in j.program.body ≤ 20000 = omega (arith, small, tasks_in-≤-size j.program.body) in
+    let long : c.len-assigns.result ≡ leading_len d.assigns = grind (arith, c.len-assigns.ensures, assigns-len c.args.done.assigns.items, c.args.done.assigns.ok) in
+    let control : c.units_next-control.result ≡ (if is_control (at j.regions d.task).rest then 1 else 0) = c.units_next-control.ensures.exact ∙ ap (λ (r : Region). if is_control r.rest then 1 else 0) (sym here) in
+    let more : units_of d.assigns (at j.regions d.task).rest ≡ c.len-assigns.result + c.units_next-control.result = omega (arith, long, control) in
+    let here-2 = at-here c.self.inside.tasks.items c.args.done.task c.index-2.result.now (omega (arith, is-known j d may out, length-map c.self.inside.tasks.items region_of)) c.index-2.ensures in
+    let created : c.tasks_next-created.result ≡ tasks_next (at j.regions d.task).rest = c.tasks_next-created.ensures.exact ∙ ap (λ (r : Region). tasks_next r.rest) (sym here-2) in
+    let ok : regions_of c.settle.new.tasks.items ≡ settled c.is_taken.result j.counts.units d.task j.regions = ok-holds c.settle.result no_err c.settle.ensures.settled in
+    let regions : regions_of c.settle.new.tasks.items ≡ settled (taken_by d.answer) j.counts.units d.task j.regions = ok ∙ ap (λ (b : Bool). settled b j.counts.units d.task j.regions) c.is_taken.ensures in
+    let less = settle-lighter j c.self.invariant c.if-self.false d out c.args.done.made told c.give_back.new.cells c.give_back.new.self
+    c.give_back.ensures.stored c.give_back.ensures.lengths c.give_back.ensures.ended ordered in
+    omega (arith, less, ap weight_of regions, ap (λ (l : Live). weight_of (regions_of l.tasks)) c.self.view_is)

@@ -1,0 +1,14 @@
+use Rattle.std.proofs.Common.{◌∙◌, ap, sym, arith}
+use Rattle.ot_depend.specs.Siblings.{is_ready}
+use Rattle.ot_job.specs.Regions.{Region}
+use Rattle.ot_job.proofs.PickLemmas.{at-here, at-past}
+use Rattle.ot_job.proofs.pick.is_ready.Goals as goal
+
+pub returns-then-parent-tasks : goal.returns-then-parent-tasks
+returns-then-parent-tasks c =
+    sym (ap (λ (r : Region). is_ready r.children c.args.child) (at-past c.args.tasks.now c.args.parent (omega (arith, c.if-parent-tasks.true))))
+
+pub returns : goal.returns
+returns c =
+    c.lets_begin.ensures ∙ sym (ap (λ (r : Region). is_ready r.children c.args.child)
+    (at-here c.args.tasks.now c.args.parent c.index-tasks-parent.result (omega (arith, c.if-parent-tasks.false)) c.index-tasks-parent.is))

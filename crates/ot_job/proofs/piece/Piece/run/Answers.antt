@@ -1,0 +1,21 @@
+use Rattle.std.proofs.Common.{◌∙◌, ap}
+use Rattle.ot_model.specs.View.{expr_of}
+use Rattle.ot_model.specs.Value.{val}
+use Rattle.ot_owner.specs.Lending.{value_at}
+use Rattle.ot_job.specs.Assigns.{assigns_of}
+use Rattle.ot_job.specs.Copies.{assigned}
+use Rattle.ot_job.proofs.RunLemmas.{readable-still, through, made-of}
+use Rattle.ot_job.proofs.piece.Piece.run.Goals as goal
+
+pub answer-answer-requires : goal.answer-answer-requires
+answer-answer-requires c =
+    readable-still (λ e. e.now) c.as_ref.result c.self.inside.condition expr_of (value_at c.self.inside.lent) (value_at c.assign_all.new.lent)
+    c.as_ref.ensures.value c.assign_all.ensures.there c.self.invariant.readable
+
+pub invariant_of-result : goal.invariant_of-result
+invariant_of-result c =
+    record {
+      made = made-of (assigns_of c.self.inside.assigns.items) c.self.inside.lent c.assign_all.new.lent c.assign_all.ensures.lease c.self.invariant.fresh
+          (λ cell. c.assign_all.ensures.made cell ∙ ap (λ xs. assigned (assigns_of xs) (value_at c.self.inside.lent) cell) c.deref.ensures.value);
+      told = c.answer-answer.ensures ∙ through (λ e. e.now) (λ e. val (value_at c.assign_all.new.lent) (expr_of e)) c.as_ref.result c.self.inside.condition c.as_ref.ensures.value;
+    }

@@ -1,0 +1,118 @@
+-- What a settle does to a job.
+use Rattle.std.specs.Prelude.{◌≡◌, ◌<◌, ℕ, ◌+◌, Bool, true, false, if◌then◌else◌, List, ◌∷◌, [], Option, Some, None, All, Contains, IsSome, length, IsPermutation, unwrap_or, nat_lt}
+use Rattle.ot_model.specs.Tree.{E, Task, Body, End, Next}
+use Rattle.ot_model.specs.Serial.{State, bump}
+use Rattle.ot_model.specs.declared.plain.Counts.{Counts}
+use Rattle.ot_model.specs.Cells.{cell_of, updated, lengths}
+use Rattle.ot_model.specs.Uses.{AreInOrder}
+use Rattle.ot_model.specs.declared.stmt.Use.{Use}
+use Rattle.ot_depend.specs.Siblings.{IsReady, IsUnfinished, with_finished}
+use Rattle.ot_owner.specs.Leases.{lease_of}
+use Rattle.ot_owner.specs.Worth.{AreJoined, worth}
+use Rattle.ot_owner.specs.declared.lent.LentCell.{LentCell}
+use Rattle.ot_job.specs.Place.{Open}
+use Rattle.ot_job.specs.Regions.{Region, Run, executed, next_task}
+use Rattle.ot_job.specs.Sound.{at, parent_of}
+use Rattle.ot_job.specs.Live.{Seen}
+use Rattle.ot_job.specs.declared.piece.Refused.{Refused}
+use Rattle.ot_job.specs.declared.piece.Refused.TheVariants.{Stranger, Failing, Memory}
+use Rattle.ot_job.specs.Pieces.{test_of, leading_len}
+
+-- a piece that comes back: what it was claimed with, and the value of its condition
+pub record Came : Type 0 where
+  pub task : ℕ
+  pub assigns : Body
+  pub test : Option E
+  pub lent : List LentCell
+  pub answer : Option ℕ
+
+-- the region runs these assigns with this condition on these inputs
+abbrev pub Runs : Region → Body → Option E → List LentCell → Type 0
+Runs r assigns test lent = (r.running ≡ Some (record { assigns = assigns; lease = lease_of lent })) × (test ≡ test_of r.rest)
+
+abbrev pub IsOut : List Region → Came → Type 0
+IsOut rs d = Runs (at rs d.task) d.assigns d.test d.lent
+
+-- whether the condition's value takes the first body
+abbrev pub taken_by : Option ℕ → Bool
+taken_by answer = nat_lt 0 (unwrap_or answer 0)
+
+-- no piece of it is out
+abbrev pub stopped : Region → Region
+stopped r = record r { running = None }
+
+abbrev pub over : Region → Region
+over r = record r { ended = true }
+
+abbrev pub without : ℕ → Region → Region
+without child r = record r { children = with_finished r.children child }
+
+-- task i has finished, as its parent's table tells
+abbrev pub told_parent : ℕ → List Region → List Region
+told_parent i rs = if nat_lt 0 i then updated rs (parent_of rs i) (without (at rs i).child) else rs
+
+-- task i has ended its body
+abbrev pub closed : ℕ → List Region → List Region
+closed i rs = updated (told_parent i rs) i over
+
+-- whether the place is at the body's end
+abbrev pub is_at_end : Body → List Open → Bool
+is_at_end End [] = true
+is_at_end rest os = false
+
+-- the place behind the piece, and the control statement executed that comes next
+abbrev pub moved_on : Bool → ℕ → ℕ → List Region → List Region
+moved_on taken g i rs = if is_at_end (at rs i).rest (at rs i).groups then closed i rs else executed taken g i rs
+
+abbrev pub settled : Bool → ℕ → ℕ → List Region → List Region
+settled taken g i rs = updated (moved_on taken g i rs) i stopped
+
+-- what the control statement that comes next counts: one unit, and one task where it is a task
+abbrev pub counted : Body → State → State
+counted End s = s
+counted (Next (Task d b) rest) s = bump 1 1 s
+counted (Next x rest) s = bump 0 1 s
+
+-- how many tasks it creates
+abbrev pub tasks_next : Body → ℕ
+tasks_next (Next (Task d b) rest) = 1
+tasks_next rest = 0
+
+-- where a task comes next, its declaration is in order
+abbrev pub CreatesInOrder : Region → Type 0
+CreatesInOrder r = (child : List Use × Body) → next_task r.rest ≡ Some child → AreInOrder child.0
+
+-- the units: the assigns, and one more where a control statement was executed
+abbrev pub is_control : Body → Bool
+is_control End = false
+is_control (Next x rest) = true
+
+abbrev pub units_of : Body → Body → ℕ
+units_of assigns rest = leading_len assigns + (if is_control rest then 1 else 0)
+
+-- the counts once a piece has come back, and the control statement behind it is executed
+abbrev pub counts_after : Counts → Body → Body → Counts
+counts_after counts assigns rest = record { tasks = counts.tasks + tasks_next rest; units = counts.units + units_of assigns rest }
+
+pub record Settles (old : Seen) (d : Came) (number : ℕ) (new : Seen) : Type 0 where
+  pub out : IsOut old.regions d
+  pub working : old.failing ≡ false
+  pub units : number ≡ units_of d.assigns (at old.regions d.task).rest
+  pub stored : AreJoined d.lent (cell_of old.cells) (cell_of new.cells)
+  pub lengths : lengths new.cells ≡ lengths old.cells
+  pub worth : AreJoined d.lent (worth old.owned old.cells) (worth new.owned new.cells)
+  pub ended : IsPermutation old.owned.out (lease_of d.lent ∷ new.owned.out)
+  pub now : new ≡ record old { regions = settled (taken_by d.answer) old.counts.units d.task old.regions; cells = new.cells; owned = new.owned; counts = counts_after old.counts d.assigns (at old.regions d.task).rest }
+
+-- what holds of a job for each piece that is out: its lease is out, its cells are there, and its parent's table lets it finish
+pub record MaySettle (j : Seen) : Type 0 where
+  pub out : (i : ℕ) (run : Run) → (at j.regions i).running ≡ Some run → Contains j.owned.out run.lease × All (λ u. IsSome (cell_of j.cells u.cell)) run.lease.uses
+  pub kin : (i : ℕ) (run : Run) → (at j.regions i).running ≡ Some run → 0 < i
+      → (parent_of j.regions i < length j.regions) × IsReady (at j.regions (parent_of j.regions i)).children (at j.regions i).child
+      × IsUnfinished (at j.regions (parent_of j.regions i)).children (at j.regions i).child
+
+-- why a piece that comes back is refused
+abbrev pub Refuses : Seen → Came → Refused → Type 0
+Refuses old d Stranger = IsOut old.regions d → ⊥
+Refuses old d Failing = IsOut old.regions d × (old.failing ≡ true)
+Refuses old d Memory = IsOut old.regions d × (old.failing ≡ false)

@@ -1,0 +1,251 @@
+use crate::pick::{all_ended, any_out, count_claimable, pick_claimable};
+use crate::piece::{Done, Piece, Refused};
+use crate::prepare::{Prepared, prepare};
+use crate::settle::{is_out, settle};
+use crate::start::beginning;
+use crate::state::State;
+use crate::task::Task;
+use crate::weigh::weigh_tasks;
+use ot_check::{JobSpec, Outcome};
+use ot_model::{Cells, Counts};
+use ot_owner::Owners;
+use std::alloc::{AllocError, Global};
+use std::marker::Model;
+
+/// A live job: what it was asked to run, its cells, who holds which of them, its tasks, and what it has
+/// executed. As long as it hasn't failed, what is left of it, run serially from what its cells are worth,
+/// gives the serial meaning of its program.
+#[derive(Debug, Drop)]
+pub struct Job {
+    spec: JobSpec,
+    cells: Cells,
+    owners: Owners,
+    tasks: Vec<Task>,
+    counts: Counts,
+    failing: bool,
+}
+
+impl Model for Job {
+    ghost use Rattle.std.specs.Coded.{codes};
+    ghost use Rattle.ot_check.specs.contracts.checked.Checked as c;
+    ghost use Rattle.ot_job.specs.contracts.task.Task as t;
+    ghost use Rattle.ot_job.specs.Live.{Live};
+
+    ghost Value = { Live };
+
+    ghost coded = { Prim.hlevel (codes, c.the_row.coded, t.the_row.coded) };
+
+    ghost use Rattle.ot_model.specs.Programs.{expanded_of};
+    ghost use Rattle.ot_job.specs.RegionView.{regions_of};
+    ghost use Rattle.ot_job.specs.Well.{IsWell};
+
+    ghost view = { λ j. record { spec = j.spec; cells = j.cells; owned = j.owners; tasks = j.tasks.items; counts = j.counts; failing = j.failing } };
+
+    ghost invariant = { λ j. IsWell (record {
+      program = expanded_of j.spec.checked.program;
+      before = j.spec.before;
+      cells = j.cells;
+      owned = j.owners;
+      regions = regions_of j.tasks.items;
+      counts = j.counts;
+      failing = j.failing;
+    }) };
+}
+
+impl Job {
+    ghost use Rattle.std.specs.Prelude.{◌≡◌, ◌<◌, ◌≤◌, ◌+◌, ◌*◌, length, false, OnOk, OnErr};
+    ghost use Rattle.std.specs.Prelude.{IfOk, IfErr, option_map};
+    ghost use Rattle.ot_job.specs.Settling.{Settles, Refuses};
+    ghost use Rattle.ot_job.specs.DoneView.{done_of};
+    ghost use Rattle.ot_job.specs.Live.{seen_of};
+    ghost use Rattle.ot_job.specs.Claims.{Claimed};
+    ghost use Rattle.ot_job.specs.Taken.{taken_of};
+    ghost use Rattle.ot_job.specs.States.{Starts, Fails, state_in, any_out, claimable_in, aborted};
+    ghost use Rattle.ot_job.specs.declared.state.State.TheVariants.{Working, Ended, Failed};
+    ghost use Rattle.ot_check.specs.Jobs.{IsMeaning};
+    ghost use Rattle.ot_job.specs.Weighing.{weight_of};
+    ghost use Rattle.ot_job.specs.Well.{IsWell};
+
+    /// A job that begins. It has the whole program left. Where memory is refused, the spec comes back.
+    pub fn start(alloc: Global, spec: JobSpec) -> Result<Job, (JobSpec, AllocError)>
+        ensures starts { IfOk result (λ job. Starts spec (seen_of job)) }
+        ensures spec { IfOk result (λ job. job.spec ≡ spec) }
+        ensures weight { IfOk result (λ job. weight_of (seen_of job).regions ≤ 2 * spec.checked.program.statements + 1) }
+        ensures refused { IfErr result (λ r. r.0 ≡ spec) }
+    {
+        match beginning(alloc, &spec) {
+            Ok((cells, tasks)) => Ok(Job {
+                spec,
+                cells,
+                owners: Owners::new(alloc),
+                tasks,
+                counts: Counts { tasks: 0, units: 0 },
+                failing: false,
+            }),
+            Err(error) => Err((spec, error)),
+        }
+    }
+
+    /// Where it stands, and what holds of it there. It takes no memory.
+    pub fn state(&self) -> State
+        ensures state { result ≡ state_in (seen_of self.now) }
+        ensures well { IsWell (seen_of self.now) }
+        ensures ended { result ≡ Ended → any_out (seen_of self.now).regions ≡ false }
+    {
+        if self.failing {
+            if any_out(&self.tasks) {
+                State::Failing
+            } else {
+                State::Failed
+            }
+        } else if all_ended(&self.tasks) {
+            State::Ended
+        } else {
+            State::Working
+        }
+    }
+
+    /// How many tasks are claimable. Some task of a working job is, where no piece of it is out. It takes
+    /// no memory.
+    pub fn claimable(&self) -> usize
+        ensures count { result ≡ length (claimable_in (seen_of self.now)) }
+        ensures never_stuck { state_in (seen_of self.now) ≡ Working → any_out (seen_of self.now).regions ≡ false → 0 < result }
+    {
+        if self.failing {
+            return 0;
+        }
+        count_claimable(&self.tasks)
+    }
+
+    /// How many settles it may still take, at most. It takes no memory.
+    pub fn weight(&self) -> u64
+        ensures { result ≡ weight_of (seen_of self.now).regions }
+    {
+        weigh_tasks(&self.tasks)
+    }
+
+    /// Hands out the next piece of the claimable task at `pick` modulo their count. Where memory is
+    /// refused, nothing changes.
+    pub fn claim(&mut self, alloc: Global, pick: usize) -> Result<Option<Piece>, AllocError>
+        ensures weight { weight_of (seen_of self.new).regions ≡ weight_of (seen_of self.old).regions }
+        ensures spec { self.new.spec ≡ self.old.spec }
+        ensures claimed { IfOk result (λ p. Claimed (seen_of self.old) pick (option_map taken_of p) (seen_of self.new)) }
+        ensures refused { OnErr result (seen_of self.new ≡ seen_of self.old) }
+    {
+        if self.failing {
+            return Ok(None);
+        }
+        let Some(task) = pick_claimable(&self.tasks, pick) else {
+            return Ok(None);
+        };
+        let Prepared {
+            room,
+            assigns,
+            condition,
+            decl,
+            right,
+        } = prepare(alloc, &self.tasks[task], &self.cells)?;
+        let lent = self.owners.lease(alloc, &self.cells, decl)?;
+        self.tasks[task].begin(room, right);
+        Ok(Some(Piece::new(task as u32, assigns, condition, lent)))
+    }
+
+    /// Takes a piece back: its cells have their present values from now on, and the control statement
+    /// that ended it takes effect. The answer is the units. Where it is refused, nothing changes.
+    pub fn settle(&mut self, alloc: Global, done: Done) -> Result<u32, (Done, Refused)>
+        ensures lighter { OnOk result (weight_of (seen_of self.new).regions < weight_of (seen_of self.old).regions) }
+        ensures spec { self.new.spec ≡ self.old.spec }
+        ensures settled { IfOk result (λ units. Settles (seen_of self.old) (done_of done) units (seen_of self.new)) }
+        ensures same { IfErr result (λ r. done_of r.0 ≡ done_of done) }
+        ensures refuses { IfErr result (λ r. Refuses (seen_of self.old) (done_of done) r.1) }
+        ensures refused { OnErr result (seen_of self.new ≡ seen_of self.old) }
+    {
+        if !is_out(&self.tasks, &done) {
+            return Err((done, Refused::Stranger));
+        }
+        if self.failing {
+            return Err((done, Refused::Failing));
+        }
+        let task = done.task as usize;
+        let assigns = done.assigns.len();
+        let control = self.tasks[task].units_next();
+        let created = self.tasks[task].tasks_next();
+        if settle(
+            &mut self.tasks,
+            alloc,
+            task,
+            done.is_taken(),
+            self.counts.units,
+        )
+        .is_err()
+        {
+            return Err((done, Refused::Memory));
+        }
+        let Done {
+            task: _,
+            assigns: _,
+            condition: _,
+            lent,
+            answer: _,
+        } = done;
+        self.owners.give_back(&mut self.cells, lent);
+        let units = assigns as u32 + control;
+        self.counts = Counts {
+            tasks: self.counts.tasks + created,
+            units: self.counts.units + units,
+        };
+        Ok(units)
+    }
+
+    /// Takes a piece back without its results: its rights end, and the job fails. A piece that isn't out
+    /// changes nothing. It takes no memory.
+    pub fn fail(&mut self, done: Done)
+        ensures fails { Fails (seen_of self.old) (done_of done) (seen_of self.new) }
+        ensures spec { self.new.spec ≡ self.old.spec }
+        ensures weight { weight_of (seen_of self.new).regions ≤ weight_of (seen_of self.old).regions }
+    {
+        let out = is_out(&self.tasks, &done);
+        let Done {
+            task,
+            assigns: _,
+            condition: _,
+            lent,
+            answer: _,
+        } = done;
+        if !out {
+            lent.discard();
+            return;
+        }
+        self.owners.drop_right(lent);
+        self.tasks[task as usize].stop();
+        self.failing = true;
+    }
+
+    /// Makes a working job fail. It takes no memory.
+    pub fn abort(&mut self)
+        requires { state_in (seen_of self.old) ≡ Working }
+        ensures spec { self.new.spec ≡ self.old.spec }
+        ensures aborted { seen_of self.new ≡ aborted (seen_of self.old) }
+    {
+        self.failing = true;
+    }
+
+    /// What an ended job leaves: the serial meaning of its spec. It takes no memory.
+    pub fn into_outcome(self) -> Outcome
+        requires { state_in (seen_of self) ≡ Ended }
+        ensures { IsMeaning self.spec result }
+    {
+        Outcome {
+            cells: self.cells,
+            counts: self.counts,
+        }
+    }
+
+    /// The spec of a failed job, as it was handed in. It takes no memory.
+    pub fn into_spec(self) -> JobSpec
+        requires { state_in (seen_of self) ≡ Failed }
+        ensures { result ≡ self.spec }
+    {
+        self.spec
+    }
+}

@@ -1,0 +1,30 @@
+//! A live job: a checked program whose tasks are run piece by piece, elsewhere and in any order.
+//!
+//! `Job::start` begins with the root task alone. `Job::claim` hands out the next piece of a claimable
+//! task: its sets and adds up to the next `if`, task, wait or group, with copies of the cells that they
+//! touch. `Piece::run` runs it on these copies, and `Job::settle` takes it back: its cells get their
+//! values, and the statement behind it is executed. At every moment what is left of the job, run serially
+//! from what its cells are worth, is the serial meaning of its program.
+#![tactic(auto)]
+
+mod arena;
+mod assign;
+mod job;
+mod leading;
+mod pick;
+mod piece;
+mod place;
+mod prepare;
+mod room;
+mod same;
+mod settle;
+mod start;
+mod state;
+mod task;
+mod touched;
+mod weigh;
+
+pub use assign::Assign;
+pub use job::Job;
+pub use piece::{Done, Piece, Refused};
+pub use state::State;

@@ -1,0 +1,143 @@
+ghost use Rattle.std.specs.Prelude.{◌≡◌, IfSome, option_map};
+ghost use Rattle.ot_model.specs.View.{expr_of};
+ghost use Rattle.ot_model.specs.Value.{val, HasAll};
+ghost use Rattle.ot_model.specs.declared.expr.Cell.{Cell};
+ghost use Rattle.ot_owner.specs.Lending.{first_at, value_at};
+ghost use Rattle.ot_job.specs.Assigns.{assigns_of};
+ghost use Rattle.ot_job.specs.Copies.{assigned};
+
+use crate::assign::{Assign, assign_all};
+use ot_model::{Expr, value};
+use ot_owner::Lent;
+use std::marker::Model;
+
+/// A piece of a task's body that was claimed: sets and adds, the condition of an `if` that comes
+/// behind them, and copies of the cells that these touch. What it does, it does to its copies alone.
+#[derive(Debug)]
+pub struct Piece {
+    task: u32,
+    assigns: Vec<Assign>,
+    condition: Option<Expr>,
+    lent: Lent,
+}
+
+impl Model for Piece {
+    ghost use Rattle.std.specs.Coded.{codes};
+    ghost use Rattle.ot_model.specs.contracts.expr.Expr as e;
+    ghost use Rattle.ot_job.specs.contracts.assign.Assign as a;
+    ghost use Rattle.ot_job.specs.Taken.{Parts};
+
+    ghost Value = { Parts };
+
+    ghost coded = { Prim.hlevel (codes, e.the_row.coded, a.the_row.coded) };
+
+    ghost use Rattle.std.specs.Prelude.{option_map};
+    ghost use Rattle.ot_model.specs.View.{expr_of};
+    ghost use Rattle.ot_job.specs.Assigns.{assigns_of, CanRun};
+
+    ghost view = { λ p. record { task = p.task; assigns = p.assigns.items; condition = p.condition; lent = p.lent } };
+
+    ghost invariant = { λ p. CanRun (assigns_of p.assigns.items) (option_map expr_of p.condition) p.lent };
+}
+
+/// A piece that was run: its copies have what its assigns make of the inputs, and the answer is its
+/// condition's value on them.
+#[derive(Debug)]
+pub struct Done {
+    pub task: u32,
+    pub assigns: Vec<Assign>,
+    pub condition: Option<Expr>,
+    pub lent: Lent,
+    pub answer: Option<u64>,
+    ghost made: { (cell : Cell) → value_at lent cell ≡ assigned (assigns_of assigns.items) (first_at lent) cell },
+    ghost told: { answer ≡ option_map (λ e. val (value_at lent) (expr_of e)) condition },
+}
+
+impl Piece {
+    ghost use Rattle.std.specs.Prelude.{◌≡◌, option_map};
+    ghost use Rattle.ot_model.specs.View.{expr_of};
+    ghost use Rattle.ot_owner.specs.Leases.{lease_of};
+    ghost use Rattle.ot_job.specs.Assigns.{assigns_of, CanRun};
+
+    /// A piece that may be run on these copies.
+    pub(crate) fn new(task: u32, assigns: Vec<Assign>, condition: Option<Expr>, lent: Lent) -> Piece
+        requires { CanRun (assigns_of assigns.items) (option_map expr_of condition) lent }
+        ensures { result ≡ record { task = task; assigns = assigns.items; condition = condition; lent = lent } }
+    {
+        Piece {
+            task,
+            assigns,
+            condition,
+            lent,
+        }
+    }
+
+    /// The number of its task.
+    pub fn task(&self) -> u32
+        ensures { result ≡ self.now.task }
+    {
+        self.task
+    }
+
+    /// Makes the assignments on the copies, and evaluates the condition. It takes no memory.
+    pub fn run(self) -> Done
+        ensures task { result.task ≡ self.task }
+        ensures assigns { result.assigns.items ≡ self.assigns }
+        ensures condition { result.condition ≡ self.condition }
+        ensures inputs { lease_of result.lent ≡ lease_of self.lent }
+    {
+        let Piece {
+            task,
+            assigns,
+            condition,
+            lent,
+        } = self;
+        let mut lent = lent;
+        assign_all(&assigns, &mut lent);
+        let answer = answer(condition.as_ref(), &lent);
+        Done {
+            task,
+            assigns,
+            condition,
+            lent,
+            answer,
+        }
+    }
+}
+
+/// The condition's value on the copies, if there is one.
+fn answer(condition: Option<&Expr>, lent: &Lent) -> Option<u64>
+    requires { IfSome condition (λ e. HasAll (value_at lent.now) (expr_of e.now)) }
+    ensures { result ≡ option_map (λ e. val (value_at lent.now) (expr_of e.now)) condition.entry }
+{
+    match condition {
+        None => None,
+        Some(condition) => Some(value(condition, lent)),
+    }
+}
+
+impl Done {
+    ghost use Rattle.std.specs.Prelude.{◌≡◌};
+    ghost use Rattle.ot_job.specs.Settling.{taken_by};
+
+    /// Whether the condition's value takes the first body.
+    pub(crate) fn is_taken(&self) -> bool
+        ensures { result ≡ taken_by self.now.answer }
+    {
+        match self.answer {
+            Some(number) => number > 0,
+            None => false,
+        }
+    }
+}
+
+/// Why a piece that comes back was refused.
+#[derive(Clone, Copy, Debug, PartialEq, Eq)]
+pub enum Refused {
+    /// That task does not run these assigns with this condition on these inputs.
+    Stranger,
+    /// The job fails.
+    Failing,
+    /// Memory was refused.
+    Memory,
+}
