@@ -1,0 +1,97 @@
+//! Who chooses among moves.
+use std::alloc::AllocError;
+
+/// Chooses one of so many moves, which stand in order from 0.
+pub(crate) trait Choose {
+    fn choose(&mut self, count: usize) -> Result<usize, AllocError>;
+}
+
+/// The first, the last, or the two in turn.
+#[derive(Clone, Copy, Debug)]
+pub(crate) enum Ends {
+    First,
+    Last,
+    /// The first, and the last next time.
+    FirstInTurn,
+    /// The last, and the first next time.
+    LastInTurn,
+}
+
+impl Choose for Ends {
+    fn choose(&mut self, count: usize) -> Result<usize, AllocError> {
+        let last = count.saturating_sub(1);
+        match *self {
+            Ends::First => Ok(0),
+            Ends::Last => Ok(last),
+            Ends::FirstInTurn => {
+                *self = Ends::LastInTurn;
+                Ok(0)
+            }
+            Ends::LastInTurn => {
+                *self = Ends::FirstInTurn;
+                Ok(last)
+            }
+        }
+    }
+}
+
+/// The choices of one run: what was chosen, and among how many. Run after run it goes each way once.
+#[derive(Drop)]
+pub(crate) struct Script {
+    choices: Vec<(usize, usize)>,
+    made: usize,
+}
+
+impl Script {
+    /// The first way: always the first move.
+    pub(crate) fn new(none: Vec<(usize, usize)>) -> Script {
+        Script {
+            choices: none,
+            made: 0,
+        }
+    }
+
+    /// Goes over to the next way, if there is one.
+    pub(crate) fn turn(&mut self) -> Result<bool, AllocError> {
+        self.made = 0;
+        for _ in 0..self.choices.len() {
+            let Some((chosen, count)) = self.choices.pop() else {
+                break;
+            };
+            let next = chosen.saturating_add(1);
+            if next < count {
+                self.choices.push((next, count))?;
+                return Ok(true);
+            }
+        }
+        Ok(false)
+    }
+}
+
+impl Choose for Script {
+    fn choose(&mut self, count: usize) -> Result<usize, AllocError> {
+        let place = self.made;
+        self.made = place.saturating_add(1);
+        if let Some((chosen, _)) = self.choices.get(place) {
+            return Ok(*chosen);
+        }
+        self.choices.push((0, count))?;
+        Ok(0)
+    }
+}
+
+/// Choices that come of a number, by xorshift.
+#[derive(Clone, Copy, Debug)]
+pub(crate) struct Random {
+    pub number: u64,
+}
+
+impl Choose for Random {
+    fn choose(&mut self, count: usize) -> Result<usize, AllocError> {
+        self.number ^= self.number << 13;
+        self.number ^= self.number >> 7;
+        self.number ^= self.number << 17;
+        let high = (self.number >> 33) as usize;
+        Ok(high.checked_rem(count).unwrap_or(0))
+    }
+}

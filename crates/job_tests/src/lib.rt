@@ -1,0 +1,24 @@
+//! Tests of live jobs: bodies that are run in many orders, pieces of another job, want of memory, and
+//! programs at their limits.
+#![tactic(auto)]
+
+#[cfg(test)]
+mod choosers;
+#[cfg(test)]
+mod driving;
+#[cfg(test)]
+mod foreign;
+#[cfg(test)]
+mod memory;
+#[cfg(test)]
+mod orders;
+#[cfg(test)]
+mod random;
+#[cfg(test)]
+mod reading;
+#[cfg(test)]
+mod rows;
+#[cfg(test)]
+mod sizes;
+#[cfg(test)]
+mod weights;

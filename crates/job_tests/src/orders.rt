@@ -1,0 +1,64 @@
+//! Each order in which pieces can be claimed and settled.
+use super::choosers::Script;
+use super::driving::{Width, run};
+use super::reading::job_of;
+use ot_check::JobSpec;
+use ot_program::ProgramFault;
+use std::alloc::{AllocError, Global};
+
+/// Bodies by what they are, over 1, 2, 3: how many orders there are, and the executed task statements,
+/// the units and the cells that each leaves.
+const BODIES: &str =
+    r#"a reduction past the modulus: [["group",[["a",0,1]],[["task",[["red",["a",0,1]]],[["add",["c","a",0],18446744073709551615]]],["task",[["red",["a",0,1]]],[["add",["c","a",0],1]]],["task",[["red",["a",0,1]]],[["add",["c","a",0],5]]]]]] gives 675 orders to 3 7 [6, 2, 3]
+tasks in a task, and the end of the job: [["task",[["inout",["a",0,3]]],[["task",[["out",["a",0,1]]],[["set",["c","a",0],4]]],["task",[["out",["a",1,1]]],[["set",["c","a",1],5]]],["wait"],["set",["c","a",2],["+",["c","a",0],["c","a",1]]]]]] gives 15288 orders to 3 7 [4, 5, 9]
+an adder in an adder: [["group",[["a",0,1]],[["task",[["red",["a",0,1]]],[["task",[["red",["a",0,1]]],[["add",["c","a",0],4]]],["add",["c","a",0],3],["wait"]]]]]] gives 6 orders to 2 6 [8, 2, 3]
+a group in a body of an if, in a task that adds beside another: [["group",[["a",0,1]],[["task",[["red",["a",0,1]],["inout",["a",1,1]]],[["if",["<",["c","a",1],3],[["group",[["a",1,1]],[["task",[["red",["a",1,1]]],[["add",["c","a",1],40]]],["add",["c","a",0],5]]]],[["set",["c","a",1],9]]],["add",["c","a",0],6]]],["task",[["red",["a",0,1]],["in",["a",2,1]]],[["add",["c","a",0],["c","a",2]]]]]],["set",["c","a",2],["+",["c","a",0],["c","a",1]]]] gives 10920 orders to 3 11 [15, 42, 57]
+a reader with a group in a body of an if, a writer behind it, and an if behind both: [["task",[["in",["a",0,1]],["inout",["a",2,1]]],[["if",["=",["c","a",2],["+",["c","a",0],1]],[["set",["c","a",2],8]],[["group",[],[["task",[["in",["a",0,1]],["inout",["a",2,1]]],[["set",["c","a",2],["*",["c","a",0],7]]]]]],["add",["c","a",2],1]]]]],["task",[["out",["a",0,1]]],[["set",["c","a",0],50]]],["wait"],["if",["<",["c","a",0],["c","a",2]],[],[["set",["c","a",1],["-",["c","a",0],["c","a",2]]]]]] gives 1771 orders to 3 11 [50, 42, 8]"#;
+
+/// How many orders there are and what each leaves, or the first that leaves something else than the
+/// first of all.
+fn orders(alloc: Global, spec: &JobSpec) -> Result<String, AllocError> {
+    let mut script = Script::new(Vec::new(alloc));
+    let first = run(alloc, spec.copy(alloc)?, &mut script, Width::Any)?;
+    for count in 1..1_000_000_u32 {
+        if !script.turn()? {
+            return format!(in alloc; "{count} orders to {first}");
+        }
+        let said = run(alloc, spec.copy(alloc)?, &mut script, Width::Any)?;
+        if said.as_str() != first.as_str() {
+            return format!(in alloc; "{said} behind {count} orders to {first}");
+        }
+    }
+    String::from_str(alloc, "more orders")
+}
+
+fn orders_of(alloc: Global, body: &str) -> Result<String, ProgramFault> {
+    let spec = job_of(alloc, 1, body)?;
+    Ok(orders(alloc, &spec)?)
+}
+
+fn is_right(alloc: Global, row: &str) -> bool {
+    let Some((named, gives)) = row.split_once(" gives ") else {
+        return false;
+    };
+    let (_, body) = named.split_once(": ").unwrap_or(("", ""));
+    match orders_of(alloc, body) {
+        Ok(said) => said.as_str() == gives,
+        Err(_) => false,
+    }
+}
+
+/// The first row that gives something else.
+fn first_other(alloc: Global) -> Option<&'static str> {
+    for row in BODIES.lines() {
+        if !is_right(alloc, row) {
+            return Some(row);
+        }
+    }
+    None
+}
+
+#[test]
+fn each_order_leaves_the_same(rt: HostRuntime) {
+    assert_eq!(rt; first_other(rt.alloc()), None);
+}

@@ -1,0 +1,70 @@
+//! Random bodies in random orders, by scripts/random_jobs.
+use super::choosers::Random;
+use super::driving::{Width, run};
+use super::reading::job_over;
+use ot_check::JobSpec;
+use ot_program::ProgramFault;
+use std::alloc::{AllocError, Global};
+use std::{env, fs};
+
+/// Whether a job leaves this in each of so many orders.
+fn leaves(
+    alloc: Global,
+    spec: &JobSpec,
+    chooser: &mut Random,
+    orders: u32,
+    gives: &str,
+) -> Result<bool, AllocError> {
+    for _ in 0..orders {
+        let said = run(alloc, spec.copy(alloc)?, chooser, Width::Any)?;
+        if said.as_str() != gives {
+            return Ok(false);
+        }
+    }
+    Ok(true)
+}
+
+/// Whether the job of a row's body, over 1 to 6, leaves what the row gives in each of so many orders.
+fn is_right(
+    alloc: Global,
+    row: &str,
+    chooser: &mut Random,
+    orders: u32,
+) -> Result<bool, ProgramFault> {
+    let Some((body, gives)) = row.split_once(" gives ") else {
+        return Ok(false);
+    };
+    let spec = job_over(alloc, vec![in alloc; 1, 2, 3, 4, 5, 6]?, body)?;
+    Ok(leaves(alloc, &spec, chooser, orders, gives)?)
+}
+
+/// The first row that isn't right.
+fn first_other<'a>(alloc: Global, rows: &'a str, orders: u32) -> Option<&'a str> {
+    let mut chooser = Random {
+        number: 88172645463325252,
+    };
+    for row in rows.lines() {
+        match is_right(alloc, row, &mut chooser, orders) {
+            Ok(true) => {}
+            _ => return Some(row),
+        }
+    }
+    None
+}
+
+/// It runs the body of each row of the file that RANDOM_JOBS names in as many orders as RANDOM_ORDERS
+/// says, and nothing where no file is named.
+#[test]
+fn random_orders_leave_what_bodies_mean(rt: HostRuntime) {
+    let Ok(path) = env::var(&rt, "RANDOM_JOBS") else {
+        return;
+    };
+    let orders = match env::var(&rt, "RANDOM_ORDERS") {
+        Ok(orders) => orders.parse::<u32>().unwrap_or(1),
+        Err(_) => 1,
+    };
+    match fs::read_to_string(&rt, path.as_str()) {
+        Ok(rows) => assert_eq!(rt; first_other(rt.alloc(), rows.as_str(), orders), None),
+        Err(_) => panic!(rt; "no file"),
+    }
+}

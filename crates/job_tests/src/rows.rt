@@ -1,0 +1,67 @@
+//! What bodies leave, by whomever their moves are chosen.
+use super::choosers::Ends;
+use super::driving::{Width, run};
+use super::reading::job_of;
+use ot_program::ProgramFault;
+use std::alloc::{AllocError, Global};
+
+/// Bodies by what they are, over 1, 2, 3: the executed task statements, the units and the cells.
+const BODIES: &str =
+    r#"read after write: [["task",[["out",["a",0,1]]],[["set",["c","a",0],7]]],["task",[["in",["a",0,1]],["out",["a",1,1]]],[["set",["c","a",1],["+",["c","a",0],1]]]],["wait"]] gives 2 5 [7, 8, 3]
+write after read: [["task",[["in",["a",0,1]],["out",["a",1,1]]],[["set",["c","a",1],["+",["c","a",0],1]]]],["task",[["out",["a",0,1]]],[["set",["c","a",0],9]]],["wait"]] gives 2 5 [9, 2, 3]
+a reduction past the modulus: [["group",[["a",0,1]],[["task",[["red",["a",0,1]]],[["add",["c","a",0],18446744073709551615]]],["task",[["red",["a",0,1]]],[["add",["c","a",0],1]]],["task",[["red",["a",0,1]]],[["add",["c","a",0],5]]]]]] gives 3 7 [6, 2, 3]
+tasks in a task, and the end of the job: [["task",[["inout",["a",0,3]]],[["task",[["out",["a",0,1]]],[["set",["c","a",0],4]]],["task",[["out",["a",1,1]]],[["set",["c","a",1],5]]],["wait"],["set",["c","a",2],["+",["c","a",0],["c","a",1]]]]]] gives 3 7 [4, 5, 9]
+overlapping sections: [["task",[["inout",["a",0,2]]],[["set",["c","a",1],6]]],["task",[["inout",["a",1,2]]],[["set",["c","a",2],["*",["c","a",1],10]]]]] gives 2 4 [1, 6, 60]
+an adder in an adder: [["group",[["a",0,1]],[["task",[["red",["a",0,1]]],[["task",[["red",["a",0,1]]],[["add",["c","a",0],4]]],["add",["c","a",0],3],["wait"]]]]]] gives 2 6 [8, 2, 3]
+a read behind a group: [["group",[["a",0,1]],[["task",[["red",["a",0,1]]],[["add",["c","a",0],5]]]]],["set",["c","a",1],["c","a",0]]] gives 1 4 [6, 6, 3]
+the empty program: [] gives 0 0 [1, 2, 3]
+a difference below zero: [["set",["c","a",0],["-",["c","a",0],2]]] gives 0 1 [18446744073709551615, 2, 3]
+a pick behind the end: [["set",["c","a",2],["pick",["a",0,3],7]]] gives 0 1 [1, 2, 2]
+the first body of a condition: [["if",["<",["c","a",0],2],[["set",["c","a",2],9]],[["set",["c","a",2],4]]]] gives 0 2 [1, 2, 9]"#;
+
+/// What is left of the body of a row.
+fn left(alloc: Global, body: &str, mut ends: Ends, width: Width) -> Result<String, ProgramFault> {
+    let spec = job_of(alloc, 1, body)?;
+    Ok(run(alloc, spec, &mut ends, width)?)
+}
+
+fn is_right(alloc: Global, row: &str, ends: Ends, width: Width) -> bool {
+    let Some((named, gives)) = row.split_once(" gives ") else {
+        return false;
+    };
+    let (_, body) = named.split_once(": ").unwrap_or(("", ""));
+    match left(alloc, body, ends, width) {
+        Ok(said) => said.as_str() == gives,
+        Err(_) => false,
+    }
+}
+
+/// The first row that leaves something else than it gives.
+fn first_other(alloc: Global, ends: Ends, width: Width) -> Option<&'static str> {
+    for row in BODIES.lines() {
+        if !is_right(alloc, row, ends, width) {
+            return Some(row);
+        }
+    }
+    None
+}
+
+const CHOOSERS: [(Ends, Width); 6] = [
+    (Ends::First, Width::One),
+    (Ends::Last, Width::One),
+    (Ends::FirstInTurn, Width::One),
+    (Ends::First, Width::All),
+    (Ends::Last, Width::All),
+    (Ends::FirstInTurn, Width::All),
+];
+
+#[test]
+fn bodies_leave_what_they_mean(rt: HostRuntime) {
+    for (ends, width) in CHOOSERS {
+        assert_eq!(rt;
+            first_other(rt.alloc(), ends, width),
+            None,
+            "by {ends:?} {width:?}"
+        );
+    }
+}
