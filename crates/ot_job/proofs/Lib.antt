@@ -45,3 +45,4 @@ pub mod RunLemmas
 pub mod StartLemmas
 pub mod FreeTaskLemmas
 pub mod WeighingLemmas
+pub mod DealingsLemmas

@@ -149,7 +149,7 @@ others-created i (Some child) rs k other = pick (cases_lt k (length two))
         pick-new (inl e) = ap (λ (r : Region). r.running) (ap (at (two ++ new ∷ [])) e ∙ at-new two new)
         pick-new (inr e) = ap (λ (r : Region). r.running) (at-past (two ++ new ∷ []) k (omega (arith, past, e, length-append two (new ∷ []))))
 
-others-moved : (taken : Bool) (g i : ℕ) (rs : List Region) (k : ℕ) → k ≢ i → Alike (at (moved_on taken g i rs) k) (at rs k) ⊎ ((at (moved_on taken g i rs) k).running ≡ None)
+pub others-moved : (taken : Bool) (g i : ℕ) (rs : List Region) (k : ℕ) → k ≢ i → Alike (at (moved_on taken g i rs) k) (at rs k) ⊎ ((at (moved_on taken g i rs) k).running ≡ None)
 others-moved taken g i rs k other = by (is_at_end (at rs i).rest (at rs i).groups)
   where
     by : (b : Bool) → Alike (at (if b then closed i rs else executed taken g i rs) k) (at rs k) ⊎ ((at (if b then closed i rs else executed taken g i rs) k).running ≡ None)

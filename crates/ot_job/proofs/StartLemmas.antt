@@ -136,7 +136,7 @@ starts-well j disciplined named out regions cells tasks units = record {
 
 -- ---- all have ended
 
-each-ended : (rs : List Region) → all_ended rs ≡ true → (i : ℕ) → (at rs i).ended ≡ true
+pub each-ended : (rs : List Region) → all_ended rs ≡ true → (i : ℕ) → (at rs i).ended ≡ true
 each-ended [] h i = refl
 each-ended (r ∷ rs) h zero = and_left r.ended (all_ended rs) h
 each-ended (r ∷ rs) h (suc i) = each-ended rs (and_right r.ended (all_ended rs) h) i
@@ -196,7 +196,7 @@ state-ended j h = by j.failing (any_out j.regions) (all_ended j.regions) h
     by false a false h = cc
 
 -- a task with a piece out has not ended
-one-out : (rs : List Region) → any_out rs ≡ true → (i : ℕ) × (run : Run) × ((at rs i).running ≡ Some run)
+pub one-out : (rs : List Region) → any_out rs ≡ true → (i : ℕ) × (run : Run) × ((at rs i).running ≡ Some run)
 one-out [] h = absurd (true≢false (sym h))
 one-out (r ∷ rs) h = by r.running refl (λ g. one-out rs g)
   where

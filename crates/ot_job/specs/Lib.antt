@@ -21,3 +21,4 @@ pub mod Whole
 pub mod Running
 pub mod Weighing
 pub mod Well
+pub mod Dealings

@@ -53,25 +53,27 @@ impl Model for Job {
 }
 
 impl Job {
-    ghost use Rattle.std.specs.Prelude.{◌≡◌, ◌<◌, ◌≤◌, ◌+◌, ◌*◌, length, false, OnOk, OnErr};
+    ghost use Rattle.std.specs.Prelude.{◌≡◌, ◌<◌, ◌≤◌, ◌+◌, ◌*◌, ◌↔◌, IsTrue, length, false, OnOk, OnErr};
     ghost use Rattle.std.specs.Prelude.{IfOk, IfErr, option_map};
-    ghost use Rattle.ot_job.specs.Settling.{Settles, Refuses};
+    ghost use Rattle.ot_job.specs.Settling.{Settles, Refuses as IsRefused};
     ghost use Rattle.ot_job.specs.DoneView.{done_of};
     ghost use Rattle.ot_job.specs.Live.{seen_of};
     ghost use Rattle.ot_job.specs.Claims.{Claimed};
     ghost use Rattle.ot_job.specs.Taken.{taken_of};
-    ghost use Rattle.ot_job.specs.States.{Starts, Fails, state_in, any_out, claimable_in, aborted};
-    ghost use Rattle.ot_job.specs.declared.state.State.TheVariants.{Working, Ended, Failed};
-    ghost use Rattle.ot_check.specs.Jobs.{IsMeaning};
+    ghost use Rattle.ot_job.specs.States.{Starts, Fails as HasFailed, state_in, any_out, claimable_in, aborted};
+    ghost use Rattle.ot_job.specs.Dealings.{state_of, IsBegun, IsOver, NoneOut, IsOf, Gives, Pays, Refuses, Fails, Aborts};
+    ghost use Rattle.ot_job.specs.declared.state.State.TheVariants.{Working, Failing, Ended, Failed};
+    ghost use Rattle.ot_check.specs.Jobs.{Spec, IsMeaning};
     ghost use Rattle.ot_job.specs.Weighing.{weight_of};
     ghost use Rattle.ot_job.specs.Well.{IsWell};
 
     /// A job that begins. It has the whole program left. Where memory is refused, the spec comes back.
     pub fn start(alloc: Global, spec: JobSpec) -> Result<Job, (JobSpec, AllocError)>
         ensures starts { IfOk result (λ job. Starts spec (seen_of job)) }
+        ensures begun { IfOk result (λ job. IsBegun spec (seen_of job)) }
         ensures spec { IfOk result (λ job. job.spec ≡ spec) }
         ensures weight { IfOk result (λ job. weight_of (seen_of job).regions ≤ 2 * spec.checked.program.statements + 1) }
-        ensures refused { IfErr result (λ r. r.0 ≡ spec) }
+        ensures back { IfErr result (λ r. r.0 ≡ spec) }
     {
         match beginning(alloc, &spec) {
             Ok((cells, tasks)) => Ok(Job {
@@ -88,7 +90,9 @@ impl Job {
 
     /// Where it stands, and what holds of it there. It takes no memory.
     pub fn state(&self) -> State
-        ensures state { result ≡ state_in (seen_of self.now) }
+        ensures is { result ≡ state_of (seen_of self.now) }
+        ensures calm { IsOver result → NoneOut (seen_of self.now) }
+        ensures going { result ≡ Failing → NoneOut (seen_of self.now) → ⊥ }
         ensures well { IsWell (seen_of self.now) }
         ensures ended { result ≡ Ended → any_out (seen_of self.now).regions ≡ false }
     {
@@ -109,7 +113,8 @@ impl Job {
     /// no memory.
     pub fn claimable(&self) -> usize
         ensures count { result ≡ length (claimable_in (seen_of self.now)) }
-        ensures never_stuck { state_in (seen_of self.now) ≡ Working → any_out (seen_of self.now).regions ≡ false → 0 < result }
+        ensures never_stuck { state_of (seen_of self.now) ≡ Working → NoneOut (seen_of self.now) → 0 < result }
+        ensures few { result ≤ 20001 }
     {
         if self.failing {
             return 0;
@@ -124,12 +129,21 @@ impl Job {
         weigh_tasks(&self.tasks)
     }
 
+    /// Whether it is the job of this spec. It takes no memory.
+    pub fn is_of(&self, spec: &JobSpec) -> bool
+        ensures { IsTrue result ↔ IsOf spec.now (seen_of self.now) }
+    {
+        spec.same_as(&self.spec)
+    }
+
     /// Hands out the next piece of the claimable task at `pick` modulo their count. Where memory is
     /// refused, nothing changes.
     pub fn claim(&mut self, alloc: Global, pick: usize) -> Result<Option<Piece>, AllocError>
         ensures weight { weight_of (seen_of self.new).regions ≡ weight_of (seen_of self.old).regions }
         ensures spec { self.new.spec ≡ self.old.spec }
         ensures claimed { IfOk result (λ p. Claimed (seen_of self.old) pick (option_map taken_of p) (seen_of self.new)) }
+        ensures gives { IfOk result (λ p. Gives (seen_of self.old) (option_map taken_of p) (seen_of self.new)) }
+        ensures working { OnErr result (state_of (seen_of self.old) ≡ Working) }
         ensures refused { OnErr result (seen_of self.new ≡ seen_of self.old) }
     {
         if self.failing {
@@ -156,7 +170,9 @@ impl Job {
         ensures lighter { OnOk result (weight_of (seen_of self.new).regions < weight_of (seen_of self.old).regions) }
         ensures spec { self.new.spec ≡ self.old.spec }
         ensures settled { IfOk result (λ units. Settles (seen_of self.old) (done_of done) units (seen_of self.new)) }
+        ensures pays { IfOk result (λ units. Pays (seen_of self.old) (done_of done) units (seen_of self.new)) }
         ensures same { IfErr result (λ r. done_of r.0 ≡ done_of done) }
+        ensures why { IfErr result (λ r. IsRefused (seen_of self.old) (done_of done) r.1) }
         ensures refuses { IfErr result (λ r. Refuses (seen_of self.old) (done_of done) r.1) }
         ensures refused { OnErr result (seen_of self.new ≡ seen_of self.old) }
     {
@@ -200,6 +216,7 @@ impl Job {
     /// Takes a piece back without its results: its rights end, and the job fails. A piece that isn't out
     /// changes nothing. It takes no memory.
     pub fn fail(&mut self, done: Done)
+        ensures failed { HasFailed (seen_of self.old) (done_of done) (seen_of self.new) }
         ensures fails { Fails (seen_of self.old) (done_of done) (seen_of self.new) }
         ensures spec { self.new.spec ≡ self.old.spec }
         ensures weight { weight_of (seen_of self.new).regions ≤ weight_of (seen_of self.old).regions }
@@ -226,6 +243,7 @@ impl Job {
         requires { state_in (seen_of self.old) ≡ Working }
         ensures spec { self.new.spec ≡ self.old.spec }
         ensures aborted { seen_of self.new ≡ aborted (seen_of self.old) }
+        ensures aborts { Aborts (seen_of self.old) (seen_of self.new) }
     {
         self.failing = true;
     }
@@ -233,7 +251,8 @@ impl Job {
     /// What an ended job leaves: the serial meaning of its spec. It takes no memory.
     pub fn into_outcome(self) -> Outcome
         requires { state_in (seen_of self) ≡ Ended }
-        ensures { IsMeaning self.spec result }
+        ensures means { IsMeaning self.spec result }
+        ensures meaning { (spec : Spec) → IsOf spec (seen_of self) → IsMeaning spec result }
     {
         Outcome {
             cells: self.cells,
@@ -244,7 +263,8 @@ impl Job {
     /// The spec of a failed job, as it was handed in. It takes no memory.
     pub fn into_spec(self) -> JobSpec
         requires { state_in (seen_of self) ≡ Failed }
-        ensures { result ≡ self.spec }
+        ensures spec { result ≡ self.spec }
+        ensures of { IsOf result (seen_of self) }
     {
         self.spec
     }

@@ -58,6 +58,9 @@ impl Piece {
     ghost use Rattle.ot_model.specs.View.{expr_of};
     ghost use Rattle.ot_owner.specs.Leases.{lease_of};
     ghost use Rattle.ot_job.specs.Assigns.{assigns_of, CanRun};
+    ghost use Rattle.ot_job.specs.Taken.{taken_of};
+    ghost use Rattle.ot_job.specs.DoneView.{done_of};
+    ghost use Rattle.ot_job.specs.Dealings.{brought, work_of};
 
     /// A piece that may be run on these copies.
     pub(crate) fn new(task: u32, assigns: Vec<Assign>, condition: Option<Expr>, lent: Lent) -> Piece
@@ -85,6 +88,7 @@ impl Piece {
         ensures assigns { result.assigns.items ≡ self.assigns }
         ensures condition { result.condition ≡ self.condition }
         ensures inputs { lease_of result.lent ≡ lease_of self.lent }
+        ensures ran { (result.task ≡ self.task) × (brought (done_of result) ≡ work_of (taken_of self)) }
     {
         let Piece {
             task,
@@ -102,6 +106,17 @@ impl Piece {
             lent,
             answer,
         }
+    }
+
+    /// Gives it up. No right ends by it.
+    pub fn discard(self) {
+        let Piece {
+            task: _,
+            assigns: _,
+            condition: _,
+            lent,
+        } = self;
+        lent.discard();
     }
 }
 
@@ -128,6 +143,18 @@ impl Done {
             Some(number) => number > 0,
             None => false,
         }
+    }
+
+    /// Gives it up. No right ends by it.
+    pub fn discard(self) {
+        let Done {
+            task: _,
+            assigns: _,
+            condition: _,
+            lent,
+            answer: _,
+        } = self;
+        lent.discard();
     }
 }
 

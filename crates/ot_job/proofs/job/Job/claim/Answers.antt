@@ -27,6 +27,11 @@ use Rattle.ot_job.proofs.PickLemmas.{picked-claimable, at-here}
 use Rattle.ot_job.proofs.ViewLemmas.{map-changed}
 use Rattle.ot_job.specs.Weighing.{weight_of}
 use Rattle.ot_job.proofs.WeighingLemmas.{weight-begun}
+use Rattle.ot_job.proofs.DealingsLemmas.{claimed-gives, picked-working}
+use Rattle.std.specs.Prelude.{None}
+use Rattle.ot_job.specs.Dealings.{state_of}
+use Rattle.ot_job.specs.declared.state.State.TheVariants.{Working}
+use Rattle.ot_job.proofs.ViewLemmas.{on_err_always}
 use Rattle.ot_job.proofs.job.Job.claim.Goals as goal
 
 pub index-requires : goal.index-requires
@@ -177,3 +182,40 @@ returns-clause-weight c =
     let now = map-changed region_of tasks i c.index_mut.result.now c.begin.new.self (begun c.in_ok-room.field-0.right) c.index_mut.ensures.value c.begin.ensures ∙ ap (λ l. updated rs i (begun l)) lease in
     let idle = claimable-idle rs i both.1 in
     omega (arith, weight-begun (lease_of c.in_ok-lent.lent) rs i both.0 idle, ap weight_of now, ap (λ (l : Live). weight_of (regions_of l.tasks)) c.self.view_is)
+
+pub returns-clause-gives : goal.returns-clause-gives
+returns-clause-gives c = claimed-gives (seen_of c.args.self.now) c.args.pick (Some (taken_of c.new.result)) _ (returns-clause-claimed c)
+
+pub returns-in_default-clause-claimed : goal.returns-in_default-clause-claimed
+returns-in_default-clause-claimed c = search rules
+
+pub returns-in_default-clause-gives : goal.returns-in_default-clause-gives
+returns-in_default-clause-gives c = claimed-gives (seen_of c.args.self.now) c.args.pick None (seen_of c.args.self.now) (returns-in_default-clause-claimed c)
+
+pub returns-in_err-room-clause-working : goal.returns-in_err-room-clause-working
+returns-in_err-room-clause-working c =
+    let j : Seen = record {
+      program = expanded_of c.self.inside.spec.checked.program;
+      before = c.self.inside.spec.before;
+      cells = c.self.inside.cells;
+      owned = c.self.inside.owners;
+      regions = regions_of c.self.inside.tasks.items;
+      counts = c.self.inside.counts;
+      failing = c.self.inside.failing;
+    } in
+    let is : picked (claimable_of (regions_of c.self.inside.tasks.items)) c.args.pick ≡ Some c.in-Some.task = search rules in
+    on_err_always c.from_residual.result (subst (λ (l : Live). state_of (seen_of l) ≡ Working) c.self.view_is (picked-working j c.args.pick c.in-Some.task c.if-self.false is))
+
+pub returns-in_err-lent-clause-working : goal.returns-in_err-lent-clause-working
+returns-in_err-lent-clause-working c =
+    let j : Seen = record {
+      program = expanded_of c.self.inside.spec.checked.program;
+      before = c.self.inside.spec.before;
+      cells = c.self.inside.cells;
+      owned = c.self.inside.owners;
+      regions = regions_of c.self.inside.tasks.items;
+      counts = c.self.inside.counts;
+      failing = c.self.inside.failing;
+    } in
+    let is : picked (claimable_of (regions_of c.self.inside.tasks.items)) c.args.pick ≡ Some c.in-Some.task = search rules in
+    on_err_always c.from_residual-in_err-lent.result (subst (λ (l : Live). state_of (seen_of l) ≡ Working) c.self.view_is (picked-working j c.args.pick c.in-Some.task c.if-self.false is))

@@ -4,13 +4,33 @@ use Rattle.ot_job.specs.RegionView.{regions_of}
 use Rattle.ot_job.specs.Claiming.{claimable_of}
 use Rattle.ot_job.specs.Well.{IsWell}
 use Rattle.ot_job.proofs.FreeTaskLemmas.{state-working, has-claimable}
+use Rattle.ot_job.specs.Live.{Seen}
+use Rattle.ot_model.specs.Programs.{expanded_of}
+use Rattle.ot_model.proofs.CountsLemmas.{tasks_in-≤-size}
+use Rattle.ot_job.proofs.CourseLemmas.{counts-few}
+use Rattle.ot_job.proofs.DealingsLemmas.{out-none, claimable-few}
 use Rattle.ot_job.proofs.job.Job.claimable.Goals as goal
 
 pub returns-clause-never_stuck : goal.returns-clause-never_stuck
-returns-clause-never_stuck c = λ is out.
+returns-clause-never_stuck c = λ is none.
     let j = seen_of c.args.self.now in
     let w = subst (λ (l : Live). IsWell (seen_of l)) c.self.view_is c.self.invariant in
     let working = state-working j is in
-    let some = has-claimable j w working.0 working.1 out in
+    let some = has-claimable j w working.0 working.1 (out-none j none) in
     let tasks = c.deref.ensures.value ∙ ap (λ (l : Live). l.tasks) c.self.view_is in
     omega (arith, some, c.count_claimable.ensures, ap (λ ts. length (claimable_of (regions_of ts))) tasks)
+
+pub returns-clause-few : goal.returns-clause-few
+returns-clause-few c =
+    let j : Seen = record {
+      program = expanded_of c.self.inside.spec.checked.program;
+      before = c.self.inside.spec.before;
+      cells = c.self.inside.cells;
+      owned = c.self.inside.owners;
+      regions = regions_of c.self.inside.tasks.items;
+      counts = c.self.inside.counts;
+      failing = c.self.inside.failing;
+    } in
+    let few = counts-few j (c.self.invariant.course c.if-self.false) in
+    let tasks = ap (λ ts. length (claimable_of (regions_of ts))) c.deref.ensures.value in
+    omega (arith, claimable-few j.regions, c.count_claimable.ensures, tasks, c.self.invariant.created, few.0, tasks_in-≤-size j.program.body, c.self.inside.spec.checked.program.few, c.self.inside.spec.checked.program.statements_are)

@@ -14,6 +14,7 @@ use Rattle.ot_job.proofs.StartLemmas.{fails-out, fails-well, runs-within}
 use Rattle.ot_job.specs.Weighing.{weight_of}
 use Rattle.ot_job.proofs.WeighingLemmas.{weight-stopped}
 use Rattle.ot_job.proofs.ViewLemmas.{map-changed}
+use Rattle.ot_job.proofs.DealingsLemmas.{fails-deals}
 use Rattle.ot_job.proofs.job.Job.fail.Goals as goal
 
 pub drop_right-requires : goal.drop_right-requires
@@ -66,8 +67,8 @@ invariant_of-self c =
     let now = map-changed region_of c.self.inside.tasks.items d.task c.index_mut.result.now c.stop.new.self stopped c.index_mut.ensures.value c.stop.ensures in
     subst (λ (l : List Region). IsWell (seen l)) (sym now) (fails-well j d c.drop_right.new.self c.self.invariant out c.drop_right.ensures.ended)
 
-pub returns-clause-fails : goal.returns-clause-fails
-returns-clause-fails c =
+pub returns-clause-failed : goal.returns-clause-failed
+returns-clause-failed c =
     let j : Seen = record {
       program = expanded_of c.self.inside.spec.checked.program;
       before = c.self.inside.spec.before;
@@ -106,3 +107,7 @@ returns-clause-weight c =
     let now = map-changed region_of c.self.inside.tasks.items d.task c.index_mut.result.now c.stop.new.self stopped c.index_mut.ensures.value c.stop.ensures in
     let less = weight-stopped j.regions d.task (runs-within j.regions d.task (record { assigns = d.assigns; lease = lease_of d.lent }) out.0) in
     omega (arith, less, ap weight_of now, ap (λ (l : Live). weight_of (regions_of l.tasks)) c.self.view_is)
+
+pub returns-clause-fails : goal.returns-clause-fails
+returns-clause-fails c =
+    fails-deals (seen_of c.args.self.now) (done_of c.args.done) _ (subst (λ (l : Live). IsWell (seen_of l)) c.self.view_is c.self.invariant) (returns-clause-failed c)

@@ -22,6 +22,8 @@ use Rattle.ot_job.proofs.PickLemmas.{at-here}
 use Rattle.ot_job.proofs.SettleLemmas.{ok-holds, is-known, lease-out, cells-there, parent-known, child-ready, child-unfinished, assigns-len}
 use Rattle.ot_job.proofs.CourseLemmas.{counts-few, settle-course, settle-lighter, settle-well}
 use Rattle.ot_job.specs.Weighing.{weight_of}
+use Rattle.ot_job.specs.declared.piece.Refused.TheVariants.{Failing, Memory}
+use Rattle.ot_job.proofs.DealingsLemmas.{settles-pays, refuses-deals}
 use Rattle.ot_job.proofs.job.Job.settle.Goals as goal
 
 pub index-requires : goal.index-requires
@@ -410,3 +412,46 @@ returns-clause-lighter c =
     let less = settle-lighter j c.self.invariant c.if-self.false d out c.args.done.made told c.give_back.new.cells c.give_back.new.self
     c.give_back.ensures.stored c.give_back.ensures.lengths c.give_back.ensures.ended ordered in
     omega (arith, less, ap weight_of regions, ap (λ (l : Live). weight_of (regions_of l.tasks)) c.self.view_is)
+
+pub returns-clause-pays : goal.returns-clause-pays
+returns-clause-pays c =
+    let j : Seen = record {
+      program = expanded_of c.self.inside.spec.checked.program;
+      before = c.self.inside.spec.before;
+      cells = c.self.inside.cells;
+      owned = c.self.inside.owners;
+      regions = regions_of c.self.inside.tasks.items;
+      counts = c.self.inside.counts;
+      failing = c.self.inside.failing;
+    } in
+    let d : Came = done_of c.args.done in
+    let may = settle-may j c.self.invariant (c.self.invariant.course c.if-self.false) in
+    let yes : c.is_out.result ≡ true = search rules in
+    let out : IsOut j.regions d = subst (λ (l : List Task). IsOut (regions_of l) d) c.deref.ensures.value (c.is_out.ensures.0 yes) in
+    let no_err : is_err c.settle.result ≡ false = search rules in
+    let ordered : CreatesInOrder (at j.regions d.task) = ok-holds c.settle.result no_err c.settle.ensures.ordered in
+    let told = c.args.done.told ∙ through expr_of (λ x. val (value_at c.args.done.lent) x) c.args.done.condition (option_map expr_of c.args.done.condition) refl in
+    let few = counts-few _ (settle-course j c.self.invariant c.if-self.false d out c.args.done.made told c.give_back.new.cells c.give_back.new.self
+    c.give_back.ensures.stored c.give_back.ensures.lengths c.give_back.ensures.ended ordered) in
+    let here = at-here c.self.inside.tasks.items c.args.done.task c.index.result.now (omega (arith, is-known j d may out, length-map c.self.inside.tasks.items region_of)) c.index.ensures in
+    let small : size j.program.body ≤ 20000 = omega (arith, c.self.inside.spec.checked.program.few, c.self.inside.spec.checked.program.statements_are) in
+    let fewer : tasks_in j.program.body ≤ 20000 = omega (arith, small, tasks_in-≤-size j.program.body) in
+    let long : c.len-assigns.result ≡ leading_len d.assigns = grind (arith, c.len-assigns.ensures, assigns-len c.args.done.assigns.items, c.args.done.assigns.ok) in
+    let control : c.units_next-control.result ≡ (if is_control (at j.regions d.task).rest then 1 else 0) = c.units_next-control.ensures.exact ∙ ap (λ (r : Region). if is_control r.rest then 1 else 0) (sym here) in
+    let more : units_of d.assigns (at j.regions d.task).rest ≡ c.len-assigns.result + c.units_next-control.result = omega (arith, long, control) in
+    let well = subst (λ (l : Live). IsWell (seen_of l)) c.self.view_is c.self.invariant in
+    settles-pays (seen_of c.args.self.now) d (c.len-assigns.result + c.units_next-control.result) _ well (omega (arith, few.1, small, more)) (returns-clause-settled c)
+
+pub returns-then-self-clause-why : goal.returns-then-self-clause-why
+returns-then-self-clause-why c = search rules
+
+pub returns-then-self-clause-refuses : goal.returns-then-self-clause-refuses
+returns-then-self-clause-refuses c =
+    refuses-deals (seen_of c.args.self.now) (done_of c.args.done) Failing (subst (λ (l : Live). IsWell (seen_of l)) c.self.view_is c.self.invariant) (returns-then-self-clause-why c)
+
+pub returns-then-is_err-clause-why : goal.returns-then-is_err-clause-why
+returns-then-is_err-clause-why c = search rules
+
+pub returns-then-is_err-clause-refuses : goal.returns-then-is_err-clause-refuses
+returns-then-is_err-clause-refuses c =
+    refuses-deals (seen_of c.args.self.now) (done_of c.args.done) Memory (subst (λ (l : Live). IsWell (seen_of l)) c.self.view_is c.self.invariant) (returns-then-is_err-clause-why c)

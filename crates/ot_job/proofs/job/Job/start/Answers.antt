@@ -7,6 +7,7 @@ use Rattle.ot_job.specs.RegionView.{regions_of}
 use Rattle.ot_job.specs.States.{root_region}
 use Rattle.ot_job.proofs.StartLemmas.{starts-well, root-light}
 use Rattle.ot_job.specs.Weighing.{weight_of}
+use Rattle.ot_job.proofs.DealingsLemmas.{starts-begun}
 use Rattle.ot_job.proofs.job.Job.start.Goals as goal
 
 pub invariant_of-result : goal.invariant_of-result
@@ -30,3 +31,9 @@ returns-in-Ok-clause-weight c =
     let body = (expanded_of c.args.spec.checked.program).body in
     let regions : regions_of c.in-Ok.tasks.items ≡ root_region body ∷ [] = search rules in
     omega (arith, ap weight_of regions, root-light body, c.args.spec.checked.program.statements_are)
+
+pub returns-in-Ok-clause-starts : goal.returns-in-Ok-clause-starts
+returns-in-Ok-clause-starts c = search rules
+
+pub returns-in-Ok-clause-begun : goal.returns-in-Ok-clause-begun
+returns-in-Ok-clause-begun c = starts-begun c.args.spec _ (omega (arith, c.args.spec.checked.program.few)) (returns-in-Ok-clause-starts c) (returns-in-Ok-clause-weight c)

@@ -1,0 +1,468 @@
+-- A job's calls, as whoever deals with it sees them.
+use Rattle.std.proofs.Common.{◌≡◌, ◌≢◌, ℕ, zero, suc, ◌+◌, ◌*◌, ◌<◌, ◌≤◌, Bool, true, false, not, ◌&&◌, ◌||◌, List, [], ◌∷◌, ◌++◌, length, get_or, refl, sym, ap, subst, ◌∙◌, ◌⊎◌, inl, inr, arith, true≢false, length-append}
+use Rattle.std.specs.Prelude.{◌==◌, ◌%◌, Option, Some, None, is_some, option_map, nat_lt, if◌then◌else◌}
+use Rattle.std.specs.List.{range_with_len}
+use Rattle.std.proofs.lemmas.Bool.{cases_eq, cases_lt}
+use Rattle.std.proofs.lemmas.Bool.Decides.{nat_tests}
+use Rattle.std.proofs.lemmas.Nat.{mod_below}
+use Rattle.std.proofs.lemmas.Option.{same_Some, none-some, slice_get-get_or}
+use Rattle.std.proofs.lemmas.List.FromFn.{length-range_with_len}
+use Rattle.std.proofs.lemmas.List.Sums.{length-filter, count_by-le-length}
+use Rattle.std.proofs.lemmas.List.Sorted.{length_permutation}
+use Rattle.ot_model.specs.Tree.{E, Body}
+use Rattle.ot_model.specs.Programs.{expanded_of}
+use Rattle.ot_model.specs.Cells.{updated}
+use Rattle.ot_model.specs.declared.stmt.Use.{Use}
+use Rattle.ot_model.proofs.CellsLemmas.{length-updated}
+use Rattle.ot_check.specs.Jobs.{Spec}
+use Rattle.ot_check.proofs.Bits.{and_left, not_true}
+use Rattle.ot_owner.specs.Leases.{Lease, lease_of}
+use Rattle.ot_job.specs.Regions.{Region, Run, with_child, new_region, with_created, stepped, executed, next_task, rest_at, children_at}
+use Rattle.ot_job.specs.Sound.{at, parent_of}
+use Rattle.ot_job.specs.Live.{Seen}
+use Rattle.ot_job.specs.Taken.{Taken}
+use Rattle.ot_job.specs.Pieces.{behind, test_of, begun}
+use Rattle.ot_job.specs.Whole.{with_lease, leases_out}
+use Rattle.ot_job.specs.Claiming.{is_claimable, is_let_go, claimable_of, picked}
+use Rattle.ot_depend.specs.Siblings.{is_ready}
+use Rattle.ot_job.specs.Claims.{Claims, Claimed, ahead}
+use Rattle.ot_job.specs.Settling.{Came, IsOut, Settles, over, stopped, closed, is_at_end, moved_on, settled, taken_by}
+use Rattle.ot_job.specs.Settling.{Refuses as RefusesOut}
+use Rattle.ot_job.specs.States.{Starts, FailsBy, any_out, all_ended, claimable_in, aborted, root_region}
+use Rattle.ot_job.specs.States.{Fails as FailsOut}
+use Rattle.ot_job.specs.Weighing.{region_weight, weight_left}
+use Rattle.ot_job.specs.Weighing.{weight_of as weight_in}
+use Rattle.ot_job.specs.Running.{RunsWell}
+use Rattle.ot_job.specs.Well.{IsWell}
+use Rattle.ot_job.specs.declared.state.State.TheVariants.{Working, Failing, Ended, Failed}
+use Rattle.ot_job.specs.declared.piece.Refused.{Refused}
+use Rattle.ot_job.specs.declared.piece.Refused.TheVariants as r
+use Rattle.ot_job.specs.Dealings.{Work, work_of, brought, run_with, work_in, work_at, NoneOut, out_in, out_of, state_of, weight_of, settled_units, IsOver, after_failure, IsBegun, Takes, Returns, Gives, Pays, Breaks, Fails, Aborts, Refuses}
+use Rattle.ot_job.proofs.KeptLemmas.{at-updated, at-updated-other, at-more, at-new}
+use Rattle.ot_job.proofs.SoundLemmas.{at-past}
+use Rattle.ot_job.proofs.WellLemmas.{claimable-idle}
+use Rattle.ot_job.proofs.PickLemmas.{picked-claimable}
+use Rattle.ot_job.proofs.StartLemmas.{runs-within, each-ended, one-out, ended-none-out}
+use Rattle.ot_job.proofs.MovesLemmas.{Alike, tell, tell-field, others-moved, still-out, leases-settled}
+use Rattle.ot_job.proofs.WeighingLemmas.{weight-begun, weight-settled}
+
+-- ---- the piece that is out
+
+abbrev run_of : Came → Run
+run_of d = record { assigns = d.assigns; lease = lease_of d.lent }
+
+pub out-work : (j : Seen) (d : Came) → IsOut j.regions d → work_at j d.task ≡ Some (brought d)
+out-work j d out =
+    ap (option_map (run_with (test_of (at j.regions d.task).rest))) out.0
+    ∙ ap (λ (t : Option E). Some (run_with t (record { assigns = d.assigns; lease = lease_of d.lent }))) (sym out.1)
+
+pub work-out : (j : Seen) (d : Came) → work_at j d.task ≡ Some (brought d) → IsOut j.regions d
+work-out j d h = by (at j.regions d.task).running refl h
+  where
+    by : (o : Option Run) → (at j.regions d.task).running ≡ o → option_map (run_with (test_of (at j.regions d.task).rest)) o ≡ Some (brought d) → IsOut j.regions d
+    by None e same = absurd (none-some (brought d) same)
+    by (Some run) e same =
+        let one : run_with (test_of (at j.regions d.task).rest) run ≡ brought d = same_Some (run_with (test_of (at j.regions d.task).rest) run) (brought d) same in
+        (e ∙ ap (λ (w : Work). Some (let r : Run = record { assigns = w.assigns; lease = w.lease } in r)) one, sym (ap (λ (w : Work). w.test) one))
+
+work-same : (a b : Region) → a.running ≡ b.running → a.rest ≡ b.rest → work_in a ≡ work_in b
+work-same a b running rest = ap (option_map (run_with (test_of a.rest))) running ∙ ap (λ (x : Body). option_map (run_with (test_of x)) b.running) rest
+
+work-none : (a : Region) → a.running ≡ None → work_in a ≡ None
+work-none a none = ap (option_map (run_with (test_of a.rest))) none
+
+-- ---- how many are out
+
+abbrev one_out : Region → ℕ
+one_out r = if is_some r.running then 1 else 0
+
+count-updated : (rs : List Region) (i : ℕ) (f : Region → Region) → i < length rs → out_in (updated rs i f) + one_out (at rs i) ≡ out_in rs + one_out (f (at rs i))
+count-updated [] i f h = absurd (omega (arith, h))
+count-updated (r ∷ rs) zero f h = by (is_some r.running) (is_some (f r).running)
+  where
+    by : (b c : Bool) → (if c then 1 + out_in rs else out_in rs) + (if b then 1 else 0) ≡ (if b then 1 + out_in rs else out_in rs) + (if c then 1 else 0)
+    by true true = refl
+    by true false = omega arith
+    by false true = omega arith
+    by false false = refl
+count-updated (r ∷ rs) (suc i) f h = by (is_some r.running) (count-updated rs i f (omega (arith, h)))
+  where
+    by : (b : Bool) → out_in (updated rs i f) + one_out (at rs i) ≡ out_in rs + one_out (f (at rs i))
+        → (if b then 1 + out_in (updated rs i f) else out_in (updated rs i f)) + one_out (at rs i) ≡ (if b then 1 + out_in rs else out_in rs) + one_out (f (at rs i))
+    by true w = omega (arith, w)
+    by false w = w
+
+pub out-leases : (rs : List Region) → out_in rs ≡ length (leases_out rs)
+out-leases [] = refl
+out-leases (r ∷ rs) = by r.running (out-leases rs)
+  where
+    by : (o : Option Run) → out_in rs ≡ length (leases_out rs) → (if is_some o then 1 + out_in rs else out_in rs) ≡ length (with_lease o (leases_out rs))
+    by None h = h
+    by (Some run) h = omega (arith, h)
+
+-- each that is out weighs something
+pub out-light : (rs : List Region) → ((i : ℕ) (run : Run) → (at rs i).running ≡ Some run → (at rs i).ended ≡ false) → out_in rs ≤ weight_in rs
+out-light [] alive = omega arith
+out-light (r ∷ rs) alive = by r.running refl (out-light rs (λ i. alive (suc i)))
+  where
+    by : (o : Option Run) → r.running ≡ o → out_in rs ≤ weight_in rs → (if is_some o then 1 + out_in rs else out_in rs) ≤ region_weight r + weight_in rs
+    by None e h = omega (arith, h)
+    by (Some run) e h =
+        let heavy : region_weight r ≡ 1 + weight_left (is_some r.running) r.rest r.groups = ap (λ (b : Bool). if b then 0 else 1 + weight_left (is_some r.running) r.rest r.groups) (alive 0 run e) in
+        omega (arith, h, heavy)
+
+-- ---- whether one is out
+
+any-at : (rs : List Region) (i : ℕ) (run : Run) → (at rs i).running ≡ Some run → any_out rs ≡ true
+any-at [] i run is = absurd (none-some run is)
+any-at (r ∷ rs) zero run is = ap (λ (o : Option Run). is_some o || any_out rs) is
+any-at (r ∷ rs) (suc i) run is = by (is_some r.running) (any-at rs i run is)
+  where
+    by : (b : Bool) → any_out rs ≡ true → (b || any_out rs) ≡ true
+    by true h = refl
+    by false h = h
+
+none-at : (rs : List Region) → any_out rs ≡ false → (k : ℕ) → (at rs k).running ≡ None
+none-at [] h k = refl
+none-at (r ∷ rs) h k = by r.running refl (none-at rs) k
+  where
+    by : (o : Option Run) → r.running ≡ o → (any_out rs ≡ false → (k : ℕ) → (at rs k).running ≡ None) → (k : ℕ) → (at (r ∷ rs) k).running ≡ None
+    by (Some run) e more k = absurd (true≢false (sym (ap (λ (o : Option Run). is_some o || any_out rs) e) ∙ h))
+    by None e more zero = e
+    by None e more (suc k) = more (ap (λ (o : Option Run). is_some o || any_out rs) (sym e) ∙ h) k
+
+pub none-out : (j : Seen) → any_out j.regions ≡ false → NoneOut j
+none-out j h k = work-none (at j.regions k) (none-at j.regions h k)
+
+pub out-none : (j : Seen) → NoneOut j → any_out j.regions ≡ false
+out-none j none = by (any_out j.regions) refl
+  where
+    by : (b : Bool) → any_out j.regions ≡ b → b ≡ false
+    by false e = refl
+    by true e =
+        let o = one-out j.regions e in
+        absurd (none-some (run_with (test_of (at j.regions o.0).rest) o.1) (sym (none o.0) ∙ ap (option_map (run_with (test_of (at j.regions o.0).rest))) o.2))
+
+failed-state : (rs : List Region) → (if any_out rs then Failing else Failed) ≡ after_failure (out_in rs)
+failed-state [] = refl
+failed-state (r ∷ rs) = by r.running (failed-state rs)
+  where
+    by : (o : Option Run) → (if any_out rs then Failing else Failed) ≡ after_failure (out_in rs) → (if is_some o || any_out rs then Failing else Failed) ≡ after_failure ((if is_some o then 1 + out_in rs else out_in rs))
+    by None h = h
+    by (Some run) h = let some : (1 + out_in rs == 0) ≡ false = grind (arith, nat_tests) in ap (λ (b : Bool). if b then Failed else Failing) (sym some)
+
+-- ---- how it stands
+
+working-is : (j : Seen) → j.failing ≡ false → all_ended j.regions ≡ false → state_of j ≡ Working
+working-is j working left =
+    ap (λ (f : Bool). if f then (if any_out j.regions then Failing else Failed) else if all_ended j.regions then Ended else Working) working
+    ∙ ap (λ (e : Bool). if e then Ended else Working) left
+
+failing-is : (j : Seen) → j.failing ≡ true → state_of j ≡ after_failure (out_of j)
+failing-is j failing =
+    ap (λ (f : Bool). if f then (if any_out j.regions then Failing else Failed) else if all_ended j.regions then Ended else Working) failing
+    ∙ failed-state j.regions
+
+one-alive : (rs : List Region) (i : ℕ) → (at rs i).ended ≡ false → all_ended rs ≡ false
+one-alive rs i alive = by (all_ended rs) refl
+  where
+    by : (b : Bool) → all_ended rs ≡ b → b ≡ false
+    by false e = refl
+    by true e = absurd (true≢false (sym (each-ended rs e i) ∙ alive))
+
+pub is-calm : (j : Seen) → IsWell j → IsOver (state_of j) → NoneOut j
+is-calm j w over = by j.failing (any_out j.regions) (all_ended j.regions) refl refl refl over
+  where
+    by : (f a e : Bool) → j.failing ≡ f → any_out j.regions ≡ a → all_ended j.regions ≡ e → IsOver (if f then (if a then Failing else Failed) else if e then Ended else Working) → NoneOut j
+    by true true e failing any all h = absurd h
+    by true false e failing any all h = none-out j any
+    by false a true failing any all h = none-out j (ended-none-out j w failing all)
+    by false a false failing any all h = absurd h
+
+pub is-going : (j : Seen) → state_of j ≡ Failing → NoneOut j → ⊥
+is-going j is none = by j.failing (any_out j.regions) (all_ended j.regions) (out-none j none) is
+  where
+    by : (f a e : Bool) → a ≡ false → (if f then (if a then Failing else Failed) else if e then Ended else Working) ≡ Failing → ⊥
+    by true true e h is = true≢false h
+    by true false e h is = cc
+    by false a true h is = cc
+    by false a false h is = cc
+
+-- ---- a job begins
+
+root-none : (body : Body) (k : ℕ) → work_in (at (root_region body ∷ []) k) ≡ None
+root-none body zero = refl
+root-none body (suc k) = refl
+
+pub starts-begun : (spec : Spec) (j : Seen) → spec.checked.program.statements ≤ 20000 → Starts spec j → weight_of j ≤ 2 * spec.checked.program.statements + 1 → IsBegun spec j
+starts-begun spec j few s light = record {
+  of = record { program = sym s.program; before = sym s.before };
+  working = working-is j s.working (ap all_ended s.regions);
+  none = λ k. ap (λ (rs : List Region). work_in (at rs k)) s.regions ∙ root-none (expanded_of spec.checked.program).body k;
+  out = ap out_in s.regions;
+  weight = omega (arith, few, light);
+  units = s.units;
+}
+
+-- ---- a claim
+
+not-failing : (j : Seen) (pick i : ℕ) → picked (claimable_in j) pick ≡ Some i → j.failing ≡ false
+not-failing j pick i h = by j.failing refl h
+  where
+    by : (b : Bool) → j.failing ≡ b → picked (if b then [] else claimable_of j.regions) pick ≡ Some i → b ≡ false
+    by false e h = refl
+    by true e h = absurd (none-some i h)
+
+some-picked : (xs : List ℕ) (pick i : ℕ) → picked xs pick ≡ Some i → 0 < length xs
+some-picked [] pick i h = absurd (none-some i h)
+some-picked (x ∷ xs) pick i h = omega arith
+
+none-picked : (xs : List ℕ) (pick : ℕ) → picked xs pick ≡ None → xs ≡ []
+none-picked [] pick h = refl
+none-picked (x ∷ xs) pick h =
+    absurd (none-some (get_or (x ∷ xs) (pick % length (x ∷ xs)) 0) (sym h ∙ slice_get-get_or (x ∷ xs) (pick % length (x ∷ xs)) 0 (mod_below pick (length (x ∷ xs)) (omega arith))))
+
+claimable-alive : (rs : List Region) (i : ℕ) → is_claimable rs i ≡ true → (at rs i).ended ≡ false
+claimable-alive rs i can =
+    not_true (at rs i).ended
+    (and_left (not (at rs i).ended) (not (is_some (at rs i).running))
+    (and_left (not (at rs i).ended && not (is_some (at rs i).running)) (((i == 0) || is_ready (at rs (at rs i).parent).children (at rs i).child) && is_let_go (at rs i)) can))
+
+pub picked-working : (j : Seen) (pick i : ℕ) → j.failing ≡ false → picked (claimable_of j.regions) pick ≡ Some i → state_of j ≡ Working
+picked-working j pick i working h = working-is j working (one-alive j.regions i (claimable-alive j.regions i (picked-claimable j.regions pick i h).1))
+
+pub claims-takes : (old : Seen) (pick : ℕ) (p : Taken) (new : Seen) → Claims old pick p new → Takes old p.task (work_of p) new
+claims-takes old pick p new c = subst (λ (n : Seen). Takes old p.task (work_of p) n) (sym c.now) (record {
+  free = work-none (at rs i) idle;
+  taken =
+      ap work_in here
+      ∙ ap (λ (b : Body). Some (run_with (test_of (behind (ahead old i))) (let r : Run = record { assigns = b; lease = lease } in r))) (sym c.assigns)
+      ∙ ap (λ (t : Option E). Some (run_with t (let r : Run = record { assigns = p.assigns; lease = lease } in r))) (sym c.test);
+  others = λ k other. ap work_in (at-updated-other rs i k (begun lease) other);
+  out = counts;
+  weight = weight-begun lease rs i both.0 idle;
+  units = refl;
+  working = working-is old working left;
+  state = working-is now working left-now ∙ sym (working-is old working left);
+  same = record { program = refl; before = refl };
+})
+  where
+    rs : List Region
+    rs = old.regions
+
+    i : ℕ
+    i = p.task
+
+    lease : Lease
+    lease = lease_of p.lent
+
+    now : Seen
+    now = record old { regions = updated old.regions p.task (begun (lease_of p.lent)); owned = new.owned }
+
+    working : old.failing ≡ false
+    working = not-failing old pick i c.task
+
+    both : (i < length rs) × (is_claimable rs i ≡ true)
+    both = picked-claimable rs pick i (ap (λ (f : Bool). picked (if f then [] else claimable_of rs) pick) (sym working) ∙ c.task)
+
+    idle : (at rs i).running ≡ None
+    idle = claimable-idle rs i both.1
+
+    here : at (updated rs i (begun lease)) i ≡ begun lease (at rs i)
+    here = at-updated rs i (begun lease) both.0
+
+    left : all_ended rs ≡ false
+    left = one-alive rs i (claimable-alive rs i both.1)
+
+    left-now : all_ended (updated rs i (begun lease)) ≡ false
+    left-now = one-alive (updated rs i (begun lease)) i (ap (λ (r : Region). r.ended) here ∙ claimable-alive rs i both.1)
+
+    counts : out_in (updated rs i (begun lease)) ≡ out_in rs + 1
+    counts =
+        let one : one_out (at rs i) ≡ 0 = ap (λ (o : Option Run). if is_some o then 1 else 0) idle in
+        let w = count-updated rs i (begun lease) both.0 in
+        omega (arith, w, one)
+
+pub claimed-gives : (old : Seen) (pick : ℕ) (p : Option Taken) (new : Seen) → Claimed old pick p new → Gives old p new
+claimed-gives old pick None new c = (none-picked (claimable_in old) pick c.0, c.1)
+claimed-gives old pick (Some p) new c = (some-picked (claimable_in old) pick p.task c.task, claims-takes old pick p new c)
+
+pub claimable-few : (rs : List Region) → length (claimable_of rs) ≤ length rs
+claimable-few rs =
+    omega (arith, length-filter (is_claimable rs) (range_with_len 0 (length rs)), count_by-le-length (is_claimable rs) (range_with_len 0 (length rs)), length-range_with_len 0 (length rs))
+
+-- ---- a settle
+
+running-created : (i : ℕ) (child : Option (List Use × Body)) (rs : List Region) (k : ℕ) → k ≢ i → (at (with_created i child rs) k).running ≡ (at rs k).running
+running-created i None rs k other = refl
+running-created i (Some child) rs k other = pick (cases_lt k (length two))
+  where
+    two : List Region
+    two = updated rs i (with_child child.0)
+
+    new : Region
+    new = new_region i (children_at rs i) child.0 child.1
+
+    pick-new : length two ≤ k → (k ≡ length two) ⊎ (k ≡ length two → ⊥) → (at (two ++ new ∷ []) k).running ≡ None
+    pick-new past (inl e) = ap (λ (r : Region). r.running) (ap (at (two ++ new ∷ [])) e ∙ at-new two new)
+    pick-new past (inr e) = ap (λ (r : Region). r.running) (at-past (two ++ new ∷ []) k (omega (arith, past, e, length-append two (new ∷ []))))
+
+    pick : (k < length two) ⊎ (length two ≤ k) → (at (two ++ new ∷ []) k).running ≡ (at rs k).running
+    pick (inl below) = ap (λ (r : Region). r.running) (at-more two new k below ∙ at-updated-other rs i k (with_child child.0) other)
+    pick (inr past) =
+        pick-new past (cases_eq k (length two))
+        ∙ sym (ap (λ (r : Region). r.running) (at-past rs k (omega (arith, past, length-updated rs i (with_child child.0)))))
+
+running-moved : (taken : Bool) (g i : ℕ) (rs : List Region) (k : ℕ) → k ≢ i → (at (moved_on taken g i rs) k).running ≡ (at rs k).running
+running-moved taken g i rs k other = by (is_at_end (at rs i).rest (at rs i).groups)
+  where
+    by : (b : Bool) → (at (if b then closed i rs else executed taken g i rs) k).running ≡ (at rs k).running
+    by true =
+        ap (λ (r : Region). r.running) (at-updated-other (tell (nat_lt 0 i) (parent_of rs i) (at rs i).child rs) i k over other)
+        ∙ tell-field (λ r. r.running) (λ c r. refl) (nat_lt 0 i) (parent_of rs i) (at rs i).child rs k
+    by false =
+        running-created i (next_task (rest_at rs i)) (updated rs i (stepped taken g)) k other
+        ∙ ap (λ (r : Region). r.running) (at-updated-other rs i k (stepped taken g) other)
+
+work-settled-other : (taken : Bool) (g i : ℕ) (rs : List Region) (k : ℕ) → k ≢ i → work_in (at (settled taken g i rs) k) ≡ work_in (at rs k)
+work-settled-other taken g i rs k other = ap work_in (at-updated-other (moved_on taken g i rs) i k stopped other) ∙ pick (others-moved taken g i rs k other)
+  where
+    pick : Alike (at (moved_on taken g i rs) k) (at rs k) ⊎ ((at (moved_on taken g i rs) k).running ≡ None) → work_in (at (moved_on taken g i rs) k) ≡ work_in (at rs k)
+    pick (inl a) = work-same (at (moved_on taken g i rs) k) (at rs k) a.running a.rest
+    pick (inr none) =
+        work-none (at (moved_on taken g i rs) k) none ∙ sym (work-none (at rs k) (sym (running-moved taken g i rs k other) ∙ none))
+
+work-settled : (taken : Bool) (g i : ℕ) (rs : List Region) → work_in (at (settled taken g i rs) i) ≡ None
+work-settled taken g i rs = by (at (settled taken g i rs) i).running refl
+  where
+    by : (o : Option Run) → (at (settled taken g i rs) i).running ≡ o → work_in (at (settled taken g i rs) i) ≡ None
+    by None e = work-none (at (settled taken g i rs) i) e
+    by (Some run) e = absurd ((still-out taken g i rs i run e).0 refl)
+
+pub settles-returns : (old : Seen) (d : Came) (n : ℕ) (new : Seen) → Settles old d n new → Returns old d.task (brought d) new
+settles-returns old d n new s = record {
+  was = out-work old d s.out;
+  free = ap (λ (rs : List Region). work_in (at rs i)) regions ∙ work-settled (taken_by d.answer) old.counts.units i old.regions;
+  others = λ k other. ap (λ (rs : List Region). work_in (at rs k)) regions ∙ work-settled-other (taken_by d.answer) old.counts.units i old.regions k other;
+  out = counts;
+  same = record { program = ap (λ (j : Seen). j.program) s.now; before = ap (λ (j : Seen). j.before) s.now };
+}
+  where
+    i : ℕ
+    i = d.task
+
+    regions : new.regions ≡ settled (taken_by d.answer) old.counts.units i old.regions
+    regions = ap (λ (j : Seen). j.regions) s.now
+
+    counts : out_in new.regions + 1 ≡ out_in old.regions
+    counts =
+        let same = length_permutation (leases_out old.regions) (lease_of d.lent ∷ leases_out (settled (taken_by d.answer) old.counts.units i old.regions))
+        (leases-settled (taken_by d.answer) old.counts.units i old.regions (run_of d) (runs-within old.regions i (run_of d) s.out.0) s.out.0) in
+        omega (arith, same, ap out_in regions, out-leases old.regions, out-leases (settled (taken_by d.answer) old.counts.units i old.regions))
+
+pub settles-pays : (old : Seen) (d : Came) (n : ℕ) (new : Seen) → IsWell old → settled_units new ≤ 20000 → Settles old d n new → Pays old d n new
+settles-pays old d n new w few s = record {
+  returns = settles-returns old d n new s;
+  working = working-is old s.working (one-alive old.regions i well.alive);
+  after = after (all_ended new.regions) refl;
+  weight = lighter;
+  units = ap (λ (j : Seen). j.counts.units) s.now ∙ ap (λ (m : ℕ). old.counts.units + m) (sym s.units);
+  few = few;
+}
+  where
+    i : ℕ
+    i = d.task
+
+    run : Run
+    run = record { assigns = d.assigns; lease = lease_of d.lent }
+
+    well : RunsWell (at old.regions i) run
+    well = (w.course s.working).runs i run s.out.0
+
+    working-now : new.failing ≡ false
+    working-now = ap (λ (j : Seen). j.failing) s.now ∙ s.working
+
+    after : (b : Bool) → all_ended new.regions ≡ b → (state_of new ≡ Working) ⊎ (state_of new ≡ Ended)
+    after false e = inl (working-is new working-now e)
+    after true e =
+        inr (ap (λ (f : Bool). if f then (if any_out new.regions then Failing else Failed) else if all_ended new.regions then Ended else Working) working-now
+        ∙ ap (λ (x : Bool). if x then Ended else Working) e)
+
+    lighter : weight_in new.regions < weight_in old.regions
+    lighter =
+        let less = weight-settled (taken_by d.answer) old.counts.units i old.regions run (runs-within old.regions i run s.out.0) s.out.0 well.alive well.stops in
+        omega (arith, less, ap (λ (j : Seen). weight_in j.regions) s.now)
+
+-- ---- a piece comes back without results
+
+pub fails-breaks : (old : Seen) (d : Came) (new : Seen) → IsWell old → FailsBy old d new → Breaks old d new
+fails-breaks old d new w f = subst (λ (n : Seen). Breaks old d n) (sym f.now) (record {
+  returns = record {
+    was = out-work old d f.out;
+    free = ap work_in (at-updated rs i stopped within);
+    others = λ k other. ap work_in (at-updated-other rs i k stopped other);
+    out = counts;
+    same = record { program = refl; before = refl };
+  };
+  state = failed-state (updated rs i stopped);
+  going = going old.failing refl;
+  units = refl;
+})
+  where
+    rs : List Region
+    rs = old.regions
+
+    i : ℕ
+    i = d.task
+
+    run : Run
+    run = record { assigns = d.assigns; lease = lease_of d.lent }
+
+    within : i < length rs
+    within = runs-within rs i run f.out.0
+
+    counts : out_in (updated rs i stopped) + 1 ≡ out_in rs
+    counts =
+        let one : one_out (at rs i) ≡ 1 = ap (λ (o : Option Run). if is_some o then 1 else 0) f.out.0 in
+        let w = count-updated rs i stopped within in
+        omega (arith, w, one)
+
+    going : (b : Bool) → old.failing ≡ b → ((state_of old ≡ Working) × (out_of old ≤ weight_of old)) ⊎ (state_of old ≡ Failing)
+    going true e =
+        inr (ap (λ (x : Bool). if x then (if any_out rs then Failing else Failed) else if all_ended rs then Ended else Working) e
+        ∙ ap (λ (x : Bool). if x then Failing else Failed) (any-at rs i run f.out.0))
+    going false e =
+        let o = w.course e in
+        inl (working-is old e (one-alive rs i (o.runs i run f.out.0).alive), out-light rs (λ k x is. (o.runs k x is).alive))
+
+pub fails-deals : (old : Seen) (d : Came) (new : Seen) → IsWell old → FailsOut old d new → Fails old d new
+fails-deals old d new w (inl f) = record {
+  own = λ is. fails-breaks old d new w f;
+  stranger = λ not. absurd (not (out-work old d f.out));
+}
+fails-deals old d new w (inr s) = record {
+  own = λ is. absurd (s.0 (work-out old d is));
+  stranger = λ not. s.1;
+}
+
+pub aborted-aborts : (old new : Seen) → new ≡ aborted old → Aborts old new
+aborted-aborts old new is = subst (λ (n : Seen). Aborts old n) (sym is) (record {
+  state = failed-state old.regions;
+  works = λ k. refl;
+  out = refl;
+  units = refl;
+  same = record { program = refl; before = refl };
+})
+
+-- ---- a piece is refused
+
+state-by-out : (old : Seen) (d : Came) → IsOut old.regions d → old.failing ≡ true → state_of old ≡ Failing
+state-by-out old d out e =
+    ap (λ (x : Bool). if x then (if any_out old.regions then Failing else Failed) else if all_ended old.regions then Ended else Working) e
+    ∙ ap (λ (x : Bool). if x then Failing else Failed) (any-at old.regions d.task (record { assigns = d.assigns; lease = lease_of d.lent }) out.0)
+
+pub refuses-deals : (old : Seen) (d : Came) (why : Refused) → IsWell old → RefusesOut old d why → Refuses old d why
+refuses-deals old d r.Stranger w not = λ is. not (work-out old d is)
+refuses-deals old d r.Failing w (out, e) = (out-work old d out, state-by-out old d out e)
+refuses-deals old d r.Memory w (out, e) =
+    (out-work old d out, working-is old e (one-alive old.regions d.task ((w.course e).runs d.task (record { assigns = d.assigns; lease = lease_of d.lent }) out.0).alive))
