@@ -1,0 +1,290 @@
+-- Each event that drain takes leaves less to do, and where none is left every line is answered.
+use Rattle.std.proofs.Common.{◌≡◌, ◌<◌, ◌≤◌, ◌+◌, ◌-◌, ◌*◌, ◌⊎◌, inl, inr, ℕ, zero, suc, List, [], ◌∷◌, length, set, refl, sym, ap, ◌∙◌, subst, arith, true≢false, Bool, true, false}
+use Rattle.std.specs.Prelude.{Option, Some, None, is_some, slice_get, nat_lt, ◌==◌, ◌&&◌, if◌then◌else◌}
+use Rattle.std.specs.List.{sum_by}
+use Rattle.std.proofs.lemmas.Nat.{mul-le}
+use Rattle.std.proofs.lemmas.Bool.{cases_lt, cases_eq}
+use Rattle.std.proofs.lemmas.Bool.Decides.{nat_tests}
+use Rattle.std.proofs.lemmas.List.Sums.{sum_by-set, sum_by-cons}
+use Rattle.std.proofs.lemmas.List.{length-append}
+use Rattle.ot_book.specs.Answers.{answer_or_lost}
+use Rattle.ot_book.specs.Books.{state_in}
+use Rattle.std.proofs.lemmas.Option.{slice_get_within, get_or_from_slice_get, same_Some}
+use Rattle.ot_check.specs.Jobs.{Spec}
+use Rattle.ot_job.specs.Live.{Live, Seen, seen_of}
+use Rattle.ot_job.specs.States.{claimable_in}
+use Rattle.ot_job.specs.Dealings.{NoneOut, Work, after_failure, state_of, weight_of, out_of, work_at}
+use Rattle.ot_job.specs.declared.state.State.{State}
+use Rattle.ot_job.specs.declared.state.State.TheVariants.{Working, Failing, Ended, Failed}
+use Rattle.ot_core.specs.Accounts.{Account, answered}
+use Rattle.ot_core.specs.Asking.{IsUnopened, with_reply, next_line}
+use Rattle.ot_core.specs.Index.{job_of}
+use Rattle.ot_core.specs.Floors.{units_of}
+use Rattle.ot_core.specs.Scenes.{Scene, IsScene, IsHeld, Pairs, hand_of, out_at, seat_of}
+use Rattle.ot_core.specs.Steps.{moved, handed, Opens, RepliesTo, Starts, Finishes, CanOpen, CannotReply, Steps}
+use Rattle.ot_core.specs.Toil.{toil, toil_of, toil_by, unopened, one_if, free_hand}
+use Rattle.ot_core.specs.Draining.{opens_of, closed_by, over_of, over_by, claimable_of, moves_at, full_hand, sum_below, count_of, IsMove, MayStart, MayFinish, IsLively, LivelyAt, AllAnswered}
+use Rattle.ot_core.specs.declared.held.Held.{Held}
+use Rattle.ot_core.specs.declared.event.Event.{Event}
+use Rattle.ot_core.specs.declared.event.Event.TheVariants as event
+use Rattle.ot_core.specs.declared.event.Stepped.{Stepped}
+use Rattle.ot_core.specs.declared.event.Stepped.TheVariants.{Answered, Job, Replied, Started, Finished, FinishedFailed, NotNow}
+use Rattle.ot_core.proofs.AccountLemmas.{answered-≤}
+use Rattle.ot_core.proofs.FloorLemmas.{job-within}
+use Rattle.ot_core.proofs.SceneLemmas.{there}
+
+-- ---- less to do
+
+-- one tenant moves
+falls-moved : (s : Scene) (t : ℕ) (a b : Account) (job : Option Live) (units : List ℕ) → slice_get s.accounts t ≡ Some a → t < length s.floor.jobs
+    → 200000 * unopened b + toil_of job < 200000 * unopened a + toil_of (job_of s.floor.jobs t) → toil (moved s t b (record { jobs = set s.floor.jobs t job; units = units })) < toil s
+falls-moved s t a b job units at within less =
+    let accounts : sum_by unopened (set s.accounts t b) + unopened a ≡ sum_by unopened s.accounts + unopened b =
+    ap (λ x. sum_by unopened (set s.accounts t b) + unopened x) (sym (get_or_from_slice_get s.accounts t a a at))
+    ∙ sum_by-set unopened s.accounts t b a (slice_get_within s.accounts t a at) in
+    let jobs = sum_by-set toil_of s.floor.jobs t job None within in
+    omega (arith, less, accounts, jobs)
+
+-- a tenant's account alone moves
+falls-account : (s : Scene) (t : ℕ) (a b : Account) → slice_get s.accounts t ≡ Some a → unopened b < unopened a → toil (moved s t b s.floor) < toil s
+falls-account s t a b at less =
+    let accounts : sum_by unopened (set s.accounts t b) + unopened a ≡ sum_by unopened s.accounts + unopened b =
+    ap (λ x. sum_by unopened (set s.accounts t b) + unopened x) (sym (get_or_from_slice_get s.accounts t a a at))
+    ∙ sum_by-set unopened s.accounts t b a (slice_get_within s.accounts t a at) in
+    omega (arith, less, accounts)
+
+-- one worker takes a piece or gives it back
+falls-handed : (s : Scene) (t w : ℕ) (job : Option Live) (units : List ℕ) (hand : Option Held) → t < length s.floor.jobs → w < length s.hands
+    → toil_of job + free_hand hand < toil_of (job_of s.floor.jobs t) + free_hand (hand_of s.hands w) → toil (handed s (record { jobs = set s.floor.jobs t job; units = units }) w hand) < toil s
+falls-handed s t w job units hand within below less =
+    let jobs = sum_by-set toil_of s.floor.jobs t job None within in
+    let hands = sum_by-set free_hand s.hands w hand None below in
+    omega (arith, less, jobs, hands)
+
+-- a piece settles
+settled-less : (j k : Seen) → state_of j ≡ Working → weight_of k < weight_of j → (state_of k ≡ Working) ⊎ (state_of k ≡ Ended) → toil_by (state_of k) k + 1 < toil_by (state_of j) j
+settled-less j k working less after = elim after [
+  | inl still ↦ rw (still, working) (omega (arith, less))
+  | inr ended ↦ rw (ended, working) (omega (arith, less))
+]
+
+-- a piece fails
+failed-less : (j k : Seen) → ((state_of j ≡ Working) × (out_of j ≤ weight_of j)) ⊎ (state_of j ≡ Failing) → out_of k + 1 ≡ out_of j → (state_of k ≡ Failing) ⊎ (state_of k ≡ Failed)
+    → toil_by (state_of k) k + 1 < toil_by (state_of j) j
+failed-less j k before out after = elim before [
+  | inl working ↦ elim after [
+    | inl failing ↦ rw (failing, working.0) (omega (arith, working.1, out))
+    | inr over ↦ rw (over, working.0) (omega (arith, working.1, out))
+  ]
+  | inr was ↦ elim after [
+    | inl failing ↦ rw (failing, was) (omega (arith, out))
+    | inr over ↦ rw (over, was) (omega (arith, out))
+  ]
+]
+
+after-failing : (n : ℕ) → (after_failure n ≡ Failing) ⊎ (after_failure n ≡ Failed)
+after-failing n = elim (cases_eq n 0) [
+  | inl none ↦ inr (ap after_failure none)
+  | inr some ↦ let t : (n == 0) ≡ false = grind (arith, nat_tests, some) in inl (ap (λ b. if b then Failed else Failing) t)
+]
+
+-- ---- sums
+
+pub sum_below-more : (f : ℕ → ℕ) (n : ℕ) → sum_below f (n + 1) ≡ sum_below f n + f n
+sum_below-more f n = let same : n + 1 ≡ suc n = omega arith in ap (sum_below f) same
+
+none-below : (f : ℕ → ℕ) (n : ℕ) → sum_below f n ≡ 0 → (t : ℕ) → t < n → f t ≡ 0
+none-below f zero zero_is t below = absurd (omega (arith, below))
+none-below f (suc n) zero_is t below = elim (cases_lt t n) [
+  | inl less ↦ none-below f n (omega (arith, zero_is)) t less
+  | inr past ↦
+      let here : t ≡ n = omega (arith, past, below) in
+      let none : f n ≡ 0 = omega (arith, zero_is) in
+      ap f here ∙ none
+]
+
+-- a hand is free or full
+pub free-full : (hands : List (Option Held)) → sum_by free_hand hands + sum_by full_hand hands ≡ length hands
+free-full [] = refl
+free-full (None ∷ hands) = omega (arith, sum_by-cons free_hand None hands, sum_by-cons full_hand None hands, free-full hands)
+free-full (Some h ∷ hands) = omega (arith, sum_by-cons free_hand (Some h) hands, sum_by-cons full_hand (Some h) hands, free-full hands)
+
+all-free : (hands : List (Option Held)) → sum_by full_hand hands ≡ 0 → (w : ℕ) → hand_of hands w ≡ None
+all-free [] none w = refl
+all-free (None ∷ hands) none zero = refl
+all-free (None ∷ hands) none (suc w) = all-free hands (omega (arith, sum_by-cons full_hand None hands, none)) w
+all-free (Some h ∷ hands) none w = absurd (omega (arith, sum_by-cons full_hand (Some h) hands, none))
+
+-- ---- each move leaves less to do
+
+-- the hand of a worker is one of sixteen
+seated : (b : Bool) (n w : ℕ) → (b ≡ true → n < 16) → (if b then Some n else None) ≡ Some w → w < 16
+seated true n w below is = subst (λ m. m < 16) (same_Some n w is) (below refl)
+seated false n w below is = absurd (true≢false (sym (ap is_some is)))
+
+pub seat-within : (x w : ℕ) → seat_of x ≡ Some w → w < 16
+seat-within x w is = seated (nat_lt 0 x && nat_lt x 17) (x - 1) w (λ t. grind (arith, nat_tests, t)) is
+
+less-replied : (a b : Account) (lost : Bool) → b ≡ with_reply a lost → a.spec ≡ None → answered a < length a.asked → unopened b < unopened a
+less-replied a b lost is free below =
+    let count = length-append a.book.log ((next_line a, (answer_or_lost a.book.limits (state_in a.book) (next_line a) lost).0) ∷ []) in
+    omega (arith, below, ap unopened is, count, ap one_if free)
+
+few-open : (o : Option Spec) → one_if o ≤ 1
+few-open None = omega arith
+few-open (Some s) = omega arith
+
+same-replied : (a b : Account) (lost : Bool) → b ≡ with_reply a lost → unopened b ≤ unopened a
+same-replied a b lost is =
+    let count = length-append a.book.log ((next_line a, (answer_or_lost a.book.limits (state_in a.book) (next_line a) lost).0) ∷ []) in
+    omega (arith, ap unopened is, count, few-open a.spec)
+
+falls-open : (old new : Scene) (t : ℕ) (stepped : Stepped) → IsScene old → CanOpen old t → Opens old t stepped new → toil new < toil old
+falls-open old new t NotNow scene can did = absurd (did.0 can)
+falls-open old new t Answered scene can did =
+    let m = did.1 in
+    let same : can.0 ≡ m.account = same_Some can.0 m.account (sym can.1 ∙ m.is) in
+    let free : IsUnopened m.account = subst IsUnopened same can.2 in
+    subst (λ s. toil s < toil old) (sym m.new_is) (falls-account old t m.account m.next m.is (less-replied m.account m.next m.does.lost m.does.new_is free.1 free.0))
+falls-open old new t Job scene can did =
+    let m = did.1 in
+    let j = seen_of m.submits.job in
+    let same : can.0 ≡ m.account = same_Some can.0 m.account (sym can.1 ∙ m.is) in
+    let free : IsUnopened m.account = subst IsUnopened same can.2 in
+    let fewer : unopened m.next + 1 ≡ unopened m.account = omega (arith, free.0, ap unopened m.waits.new_is, ap one_if free.1) in
+    let most : toil_of (Some m.submits.job) ≡ 2 + 2 * weight_of j = ap (λ st. toil_by st j) m.submits.begun.working in
+    subst (λ s. toil s < toil old) (sym (m.new_is ∙ ap (moved old t m.next) m.submits.new_is))
+    (falls-moved old t m.account m.next (Some m.submits.job) old.floor.units m.is (there old t m.account scene m.is) (omega (arith, fewer, most, m.submits.begun.weight)))
+falls-open old new t other scene can did = absurd did
+
+over-not : (o : Option Live) → 0 < over_of o → CannotReply o → ⊥
+over-not None more not = absurd (omega (arith, more))
+over-not (Some j) more not = elim not [
+  | inl working ↦ absurd (omega (arith, more, ap over_by working))
+  | inr failing ↦ absurd (omega (arith, more, ap over_by failing))
+]
+
+falls-reply : (old new : Scene) (t : ℕ) (stepped : Stepped) → IsScene old → 0 < over_of (job_of old.floor.jobs t) → RepliesTo old t stepped new → toil new < toil old
+falls-reply old new t NotNow scene more did = absurd (over-not (job_of old.floor.jobs t) more did.0)
+falls-reply old new t Replied scene more did =
+    let j = seen_of did.job in
+    let one : toil_of (job_of old.floor.jobs t) ≡ 1 = ap toil_of did.job_is ∙ elim did.over [
+      | inl done ↦ ap (λ st. toil_by st j) done.1
+      | inr failed ↦ ap (λ st. toil_by st j) failed.1
+    ] in
+    let b = with_reply did.account did.lost in
+    subst (λ s. toil s < toil old) (sym did.new_is)
+    (falls-moved old t did.account b None old.floor.units did.is (there old t did.account scene did.is) (omega (arith, one, same-replied did.account b did.lost refl)))
+falls-reply old new t other scene more did = absurd did
+
+none-left : (o : Option Live) (jobs : List (Option Live)) (t : ℕ) → job_of jobs t ≡ o → 0 < claimable_of o → ((j : Live) → job_of jobs t ≡ Some j → claimable_in (seen_of j) ≡ []) → ⊥
+none-left None jobs t is more none = absurd (omega (arith, more))
+none-left (Some j) jobs t is more none = absurd (omega (arith, more, ap length (none j is)))
+
+falls-start : (old new : Scene) (x : ℕ) (o : Option ℕ) (t pick : ℕ) (stepped : Stepped) → seat_of x ≡ o → IsScene old → MayStart old o t → Starts old o t pick stepped new → toil new < toil old
+falls-start old new x None t pick stepped seat scene may did = absurd may.0
+falls-start old new x (Some w) t pick (Started k) seat scene may did =
+    let takes = did.claims.gives.1 in
+    let j = seen_of did.claims.job in
+    let n = seen_of did.claims.next in
+    let same : toil_of (Some did.claims.next) ≡ toil_of (job_of old.floor.jobs t) =
+    ap (λ st. toil_by st n) (takes.state ∙ takes.working) ∙ ap (λ x. 2 + 2 * x) takes.weight ∙ sym (ap toil_of did.claims.is ∙ ap (λ st. toil_by st j) takes.working) in
+    subst (λ s. toil s < toil old) (sym (did.new_is ∙ ap (λ f. handed old f w (Some (record { tenant = t; piece = did.piece }))) did.claims.new_is))
+    (falls-handed old t w (Some did.claims.next) old.floor.units _ (job-within old.floor.jobs t did.claims.job did.claims.is) (omega (arith, seat-within x w seat, scene.hands_many))
+    (omega (arith, same, ap free_hand may.0)))
+falls-start old new x (Some w) t pick NotNow seat scene may did = elim did.0 [
+  | inl full ↦ absurd (true≢false (sym full ∙ ap is_some may.0))
+  | inr none ↦ absurd (none-left (job_of old.floor.jobs t) old.floor.jobs t refl may.1 none)
+]
+falls-start old new x (Some w) t pick other seat scene may did = absurd did
+
+falls-finish : (old new : Scene) (x : ℕ) (o : Option ℕ) (stepped : Stepped) → seat_of x ≡ o → IsScene old → MayFinish old o → Finishes old o stepped new → toil new < toil old
+falls-finish old new x None stepped seat scene may did = absurd may
+falls-finish old new x (Some w) (Finished n) seat scene may did =
+    let t = did.held.tenant in
+    let d = did.does_so in
+    let less = settled-less (seen_of d.job) (seen_of d.next) d.pays.working d.pays.weight d.pays.after in
+    subst (λ s. toil s < toil old) (sym (did.new_is ∙ ap (λ f. handed old f w None) d.new_is))
+    (falls-handed old t w (Some d.next) (set old.floor.units t (units_of old.floor t + n)) None (job-within old.floor.jobs t d.job d.is) (omega (arith, seat-within x w seat, scene.hands_many))
+    (omega (arith, less, ap toil_of d.is, ap free_hand did.is)))
+falls-finish old new x (Some w) FinishedFailed seat scene may did =
+    let t = did.held.tenant in
+    let d = did.does_so in
+    let after : (state_of (seen_of d.next) ≡ Failing) ⊎ (state_of (seen_of d.next) ≡ Failed) = subst (λ st. (st ≡ Failing) ⊎ (st ≡ Failed)) (sym d.breaks.state) (after-failing (out_of (seen_of d.next))) in
+    let less = failed-less (seen_of d.job) (seen_of d.next) d.breaks.going d.breaks.returns.out after in
+    subst (λ s. toil s < toil old) (sym (did.new_is ∙ ap (λ f. handed old f w None) d.new_is))
+    (falls-handed old t w (Some d.next) old.floor.units None (job-within old.floor.jobs t d.job d.is) (omega (arith, seat-within x w seat, scene.hands_many))
+    (omega (arith, less, ap toil_of d.is, ap free_hand did.is)))
+falls-finish old new x (Some w) NotNow seat scene may did = absurd (true≢false (sym may ∙ ap is_some did.0))
+falls-finish old new x (Some w) other seat scene may did = absurd did
+
+pub toil-falls : (old new : Scene) (e : Event) (stepped : Stepped) → IsScene old → IsMove old e → Steps old e stepped new → toil new < toil old
+toil-falls old new (event.Admit t line) stepped scene move did = absurd move
+toil-falls old new (event.Open t) stepped scene move did = falls-open old new t stepped scene move did
+toil-falls old new (event.Start x t pick) stepped scene move did = falls-start old new x (seat_of x) t pick stepped refl scene move did
+toil-falls old new (event.Finish x) stepped scene move did = falls-finish old new x (seat_of x) stepped refl scene move did
+toil-falls old new (event.Reply t) stepped scene move did = falls-reply old new t stepped scene move did
+toil-falls old new (event.Abort t) stepped scene move did = absurd move
+
+-- ---- where no move is left
+
+none-out : (o : Option Work) → ((work : Work) → o ≡ Some work → ⊥) → o ≡ None
+none-out None not = refl
+none-out (Some work) not = absurd (not work refl)
+
+-- no piece is out
+calm : (s : Scene) → IsScene s → ((w : ℕ) → hand_of s.hands w ≡ None) → (t : ℕ) (j : Live) → job_of s.floor.jobs t ≡ Some j → NoneOut (seen_of j)
+calm s scene free t j job = λ k. none-out (work_at (seen_of j) k) (λ work is.
+    let held : IsHeld s.hands t k = scene.held.all t k work (ap (λ o. out_at o k) job ∙ is) in
+    true≢false (sym (ap is_some held.is) ∙ ap is_some (free held.hand)))
+
+-- a job with no piece out has a move
+state-of : (j : Seen) → IsLively j → NoneOut j → (st : State) → state_of j ≡ st → 0 < over_by (state_of j) + length (claimable_in j)
+state-of j lively none Working is = omega (arith, lively.works is none)
+state-of j lively none Failing is = absurd (lively.fails is none)
+state-of j lively none Ended is = omega (arith, ap over_by is)
+state-of j lively none Failed is = omega (arith, ap over_by is)
+
+no-job : (s : Scene) (t : ℕ) (o : Option Live) → IsScene s → ((w : ℕ) → hand_of s.hands w ≡ None) → job_of s.floor.jobs t ≡ o → LivelyAt o → over_of o ≡ 0 → claimable_of o ≡ 0 → o ≡ None
+no-job s t None scene free is lively over none = refl
+no-job s t (Some j) scene free is lively over none =
+    absurd (omega (arith, state-of (seen_of j) lively (calm s scene free t j is) (state_of (seen_of j)) refl, over, none))
+
+closed : (o : Option Spec) (job : Option Live) → Pairs o job → job ≡ None → o ≡ None
+closed None job pairs is = refl
+closed (Some x) None pairs is = absurd pairs
+closed (Some x) (Some j) pairs is = absurd (true≢false (ap is_some is))
+
+opens-one : (a : Account) → a.spec ≡ None → answered a < length a.asked → opens_of (Some a) ≡ 1
+opens-one a free below =
+    let less : nat_lt (answered a) (length a.asked) ≡ true = grind (arith, nat_tests, below) in
+    ap (λ b. if b then closed_by a.spec else 0) less ∙ ap closed_by free
+
+pub all-answered : (s : Scene) → IsScene s → ((t : ℕ) → t < length s.accounts → LivelyAt (job_of s.floor.jobs t)) → count_of s ≡ 0 → AllAnswered s
+all-answered s scene lively none t a at =
+    let within = slice_get_within s.accounts t a at in
+    let full : sum_by full_hand s.hands ≡ 0 = omega (arith, none) in
+    let moves : moves_at s t ≡ 0 = none-below (moves_at s) (length s.accounts) (omega (arith, none)) t within in
+    let hands : sum_by free_hand s.hands ≡ 16 = omega (arith, free-full s.hands, full, scene.hands_many) in
+    let starts : 16 * claimable_of (job_of s.floor.jobs t) ≡ sum_by free_hand s.hands * claimable_of (job_of s.floor.jobs t) = ap (λ n. n * claimable_of (job_of s.floor.jobs t)) (sym hands) in
+    let gone : job_of s.floor.jobs t ≡ None = no-job s t (job_of s.floor.jobs t) scene (all-free s.hands full) refl (lively t within) (omega (arith, moves)) (omega (arith, moves, starts)) in
+    let free : a.spec ≡ None = closed a.spec (job_of s.floor.jobs t) (scene.each t a at).pairs gone in
+    elim (cases_lt (answered a) (length a.asked)) [
+      | inl more ↦ absurd (omega (arith, moves, ap opens_of at, opens-one a free more))
+      | inr all ↦ omega (arith, all, answered-≤ a (scene.each t a at).sound)
+    ]
+
+-- ---- what is counted
+
+-- a tenant has not many moves
+pub moves-few : (opens over free claimable : ℕ) → opens ≤ 1 → over ≤ 1 → free ≤ 16 → claimable ≤ 20001 → opens + over + free * claimable ≤ 400000
+moves-few opens over free claimable one two few some = omega (arith, one, two, mul-le free claimable 16 20001 few some)
+
+pub free-few : (hands : List (Option Held)) → length hands ≡ 16 → sum_by free_hand hands ≤ 16
+free-few hands many = omega (arith, free-full hands, many)
+
+pub count-is : (s : Scene) (count tenant free : ℕ) → IsScene s → tenant ≡ length s.accounts → count ≡ sum_below (moves_at s) tenant → free ≡ sum_by free_hand s.hands
+    → count + (16 - free) ≡ count_of s
+count-is s count tenant free scene all is free_is =
+    let counted : count ≡ sum_below (moves_at s) (length s.accounts) = is ∙ ap (sum_below (moves_at s)) all in
+    omega (arith, counted, free_is, free-full s.hands, scene.hands_many)

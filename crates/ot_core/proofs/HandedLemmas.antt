@@ -1,0 +1,286 @@
+-- A world stays right when a worker takes a piece or gives one back, and when a job ends or fails.
+use Rattle.std.proofs.Common.{◌≡◌, ◌≢◌, ◌<◌, ◌≤◌, ◌+◌, ◌^◌, ◌⊎◌, inl, inr, ℕ, List, length, get_or, set, refl, sym, ap, ◌∙◌, subst, arith, true≢false, Bool, true, false}
+use Rattle.std.specs.Prelude.{Option, Some, None, is_some, option_map, slice_get, All, Result, Ok, Err, OnErr}
+use Rattle.std.proofs.lemmas.Bool.{cases_eq}
+use Rattle.std.proofs.lemmas.Option.{same_Some, slice_get_within, slice_get_cases}
+use Rattle.std.proofs.lemmas.List.{get_or-set_same, get_or-set_other, get_or_default, length-set, set-set, set-get_or}
+use Rattle.std.proofs.lemmas.List.Elements.{All-from_get_or}
+use Rattle.std.proofs.lemmas.List.Sums.{sum_by-le}
+use Rattle.ot_check.specs.Jobs.{Spec}
+use Rattle.ot_job.specs.Live.{Live, Seen, seen_of}
+use Rattle.ot_job.specs.DoneView.{done_of}
+use Rattle.ot_job.specs.Settling.{Came}
+use Rattle.ot_job.specs.States.{FailsBy, Fails as HasFailed}
+use Rattle.ot_job.specs.Dealings.{NoneOut, Returns, SameSpec, Fails, Breaks, brought, work_at, state_of, settled_units}
+use Rattle.ot_job.specs.Taken.{Parts as Piece}
+use Rattle.ot_job.specs.declared.piece.Done.{Done}
+use Rattle.ot_job.specs.declared.state.State.{State}
+use Rattle.ot_job.specs.declared.state.State.TheVariants as state
+use Rattle.ot_core.specs.Accounts.{Account, IsSound}
+use Rattle.ot_core.specs.Asking.{with_reply}
+use Rattle.ot_core.specs.Index.{job_of}
+use Rattle.ot_core.specs.Floors.{Floor, IsAsBefore, Claims, Settles, FailsIn, AbortsJob, IsWorking, IsStrange, NothingAt, HasJob, with_job, with_settled, units_of, total_of}
+use Rattle.ot_core.specs.Scenes.{Scene, IsScene, Pairs, Agrees, hand_of, held_work, out_at}
+use Rattle.ot_core.specs.Steps.{handed, moved, Takes, GivesBack, BreaksJob, SameScene, EndsJob, Stops, CannotReply, CannotStart}
+use Rattle.ot_core.specs.declared.held.Held.{Held}
+use Rattle.ot_core.proofs.AccountLemmas.{answered-≤}
+use Rattle.ot_core.proofs.FloorLemmas.{job-within, all-told}
+use Rattle.ot_core.proofs.HandLemmas.{OthersOut, held-taken, held-given}
+use Rattle.ot_core.proofs.SceneLemmas.{SameBut, but-none, but-set, job-set, scene-handed, scene-replied, agrees-same, agrees-job, held-same, out-but}
+
+-- ---- the units of all
+
+unit-small : (s : Scene) → IsScene s → (i : ℕ) → i < length s.floor.units → units_of s.floor i ≤ 85899345920000
+unit-small s scene i below = elim ((slice_get_cases s.accounts i).1) [
+  | inl at ↦
+      let g = scene.each i at.0 at.2 in
+      omega (arith, g.paid, g.bounded, answered-≤ at.0 g.sound, g.sound.few, g.sound.small)
+  | inr past ↦ absurd (omega (arith, past.0, below, scene.units_many))
+]
+
+-- the total is far from its bound
+pub total-small : (s : Scene) → IsScene s → total_of s.floor + 20000 < 2 ^ 63
+total-small s scene =
+    let all : All (λ u. u ≤ 85899345920000) s.floor.units = All-from_get_or (λ u. u ≤ 85899345920000) s.floor.units 0 (unit-small s scene) in
+    let sum = sum_by-le (λ u. u) 85899345920000 s.floor.units all in
+    omega (arith, sum, scene.few, scene.units_many)
+
+-- ---- hands
+
+-- what was read of a hand
+pub hand-read : (hands : List (Option Held)) (w : ℕ) (x r o : Option Held) → w < 16 → length hands ≡ 16 → x ≡ get_or hands w x → r ≡ x → r ≡ o → hand_of hands w ≡ o
+hand-read hands w x r o below many read was is = get_or_default hands w None x (omega (arith, below, many)) ∙ sym read ∙ sym was ∙ is
+
+others-out : (jobs : List (Option Live)) (t task : ℕ) (j k : Live) → job_of jobs t ≡ Some j → ((i : ℕ) → i ≢ task → work_at (seen_of k) i ≡ work_at (seen_of j) i)
+    → OthersOut jobs (set jobs t (Some k)) t task
+others-out jobs t task j k job others u i not = elim (cases_eq u t) [
+  | inl here ↦
+      ap (λ o. out_at o i) (ap (job_of (set jobs t (Some k))) here ∙ job-set jobs t (Some k) (job-within jobs t j job))
+      ∙ others i (not here) ∙ sym (ap (λ o. out_at o i) (ap (job_of jobs) here ∙ job))
+  | inr other ↦ ap (λ o. out_at o i) (get_or-set_other jobs t u (Some k) None other)
+]
+
+-- of the tenant with this job
+was : (s : Scene) (t : ℕ) (j : Live) (a : Account) → IsScene s → job_of s.floor.jobs t ≡ Some j → slice_get s.accounts t ≡ Some a → Agrees a (Some j) (units_of s.floor t)
+was s t j a scene job at = subst (λ o. Agrees a o (units_of s.floor t)) job (scene.each t a at)
+
+-- ---- a worker takes a piece
+
+scene-taken : (s : Scene) (w t pick : ℕ) (piece : Piece) (floor : Floor) → IsScene s → w < 16 → hand_of s.hands w ≡ None → Claims s.floor t pick piece floor
+    → IsScene (handed s floor w (Some (record { tenant = t; piece = piece })))
+scene-taken s w t pick piece floor scene below free claims =
+    let h : Held = record { tenant = t; piece = piece } in
+    let j = claims.job in
+    let k = claims.next in
+    let takes = claims.gives.1 in
+    let mine = job-set s.floor.jobs t (Some k) (job-within s.floor.jobs t j claims.is) in
+    subst (λ f. IsScene (handed s f w (Some h))) (sym claims.new_is)
+    (scene-handed s t (with_job s.floor t (Some k)) (set s.hands w (Some h)) scene (but-set s.floor.jobs t (Some k)) (but-none s.floor.units t)
+    (λ a at. subst (λ o. Agrees a o (units_of s.floor t)) (sym mine) (agrees-same a j k (units_of s.floor t) (was s t j a scene claims.is at) takes.same takes.units))
+    (length-set s.hands w (Some h) ∙ scene.hands_many)
+    (held-taken s.floor.jobs (set s.floor.jobs t (Some k)) s.hands w h scene.held (omega (arith, below, scene.hands_many)) free
+    (ap (λ o. out_at o piece.task) claims.is ∙ takes.free) (ap (λ o. out_at o piece.task) mine ∙ takes.taken) (others-out s.floor.jobs t piece.task j k claims.is takes.others)))
+
+pub taken : (s now : Scene) (w t pick task : ℕ) (piece : Piece) (floor : Floor) (hand : Option Held) → s ≡ now → IsScene s → w < 16 → hand_of s.hands w ≡ None → Claims s.floor t pick piece floor
+    → task ≡ piece.task → hand ≡ Some (record { tenant = t; piece = piece }) → IsScene (handed s floor w hand) × Takes now w t pick task (handed s floor w hand)
+taken s now w t pick task piece floor hand is scene below free claims task_is hand_is =
+    let h : Held = record { tenant = t; piece = piece } in
+    let does : Takes s w t pick task (handed s floor w (Some h)) = record { free = free; piece = piece; floor = floor; claims = claims; task_is = task_is; new_is = refl } in
+    subst (λ o. IsScene (handed s floor w o) × Takes now w t pick task (handed s floor w o)) (sym hand_is)
+    (scene-taken s w t pick piece floor scene below free claims, subst (λ o. Takes o w t pick task (handed s floor w (Some h))) is does)
+
+-- a tenant's job goes on with the same pieces out
+scene-goes_on : (s : Scene) (t : ℕ) (j k : Live) → IsScene s → job_of s.floor.jobs t ≡ Some j → SameSpec (seen_of j) (seen_of k) → settled_units (seen_of k) ≡ settled_units (seen_of j)
+    → ((i : ℕ) → work_at (seen_of k) i ≡ work_at (seen_of j) i) → IsScene (record { accounts = s.accounts; floor = with_job s.floor t (Some k); hands = s.hands })
+scene-goes_on s t j k scene job same units works =
+    let mine = job-set s.floor.jobs t (Some k) (job-within s.floor.jobs t j job) in
+    scene-handed s t (with_job s.floor t (Some k)) s.hands scene (but-set s.floor.jobs t (Some k)) (but-none s.floor.units t)
+    (λ a at. subst (λ o. Agrees a o (units_of s.floor t)) (sym mine) (agrees-same a j k (units_of s.floor t) (was s t j a scene job at) same units))
+    scene.hands_many
+    (held-same s.floor.jobs (set s.floor.jobs t (Some k)) s.hands
+    (out-but s.floor.jobs (set s.floor.jobs t (Some k)) t (but-set s.floor.jobs t (Some k)) (λ i. ap (λ o. out_at o i) mine ∙ works i ∙ sym (ap (λ o. out_at o i) job))) scene.held)
+
+-- nothing has changed but what a job reserves
+pub as-before : (s now : Scene) (t : ℕ) (floor : Floor) → s ≡ now → IsScene s → IsAsBefore s.floor t floor
+    → IsScene (record { accounts = s.accounts; floor = floor; hands = s.hands }) × SameScene now (record { accounts = s.accounts; floor = floor; hands = s.hands })
+as-before s now t floor is scene before =
+    let same : SameScene s (record { accounts = s.accounts; floor = floor; hands = s.hands }) = record { accounts = refl; floor = all-told s.floor floor t before; hands = refl } in (
+      elim before [
+        | inl one ↦ subst (λ f. IsScene (record { accounts = s.accounts; floor = f; hands = s.hands })) (sym one) scene
+        | inr r ↦ subst (λ f. IsScene (record { accounts = s.accounts; floor = f; hands = s.hands })) (sym r.new_is)
+            (scene-goes_on s t r.job r.next scene r.is (record { program = ap (λ (x : Seen). x.program) r.told; before = ap (λ (x : Seen). x.before) r.told })
+            (ap settled_units r.told) (λ i. ap (λ x. work_at x i) r.told))
+      ],
+      subst (λ o. SameScene o (record { accounts = s.accounts; floor = floor; hands = s.hands })) is same,
+    )
+
+-- a job fails
+pub stopped : (s now : Scene) (t : ℕ) (floor : Floor) → s ≡ now → IsScene s → IsWorking s.floor t → AbortsJob s.floor t floor
+    → IsScene (record { accounts = s.accounts; floor = floor; hands = s.hands }) × Stops now t (record { accounts = s.accounts; floor = floor; hands = s.hands })
+stopped s now t floor is scene working stops =
+    let does : Stops s t (record { accounts = s.accounts; floor = floor; hands = s.hands }) = record { working = working; floor = floor; aborts = stops; new_is = refl } in (
+      subst (λ f. IsScene (record { accounts = s.accounts; floor = f; hands = s.hands })) (sym stops.new_is)
+          (scene-goes_on s t stops.job stops.next scene stops.is stops.aborts.same stops.aborts.units stops.aborts.works),
+      subst (λ o. Stops o t (record { accounts = s.accounts; floor = floor; hands = s.hands })) is does,
+    )
+
+-- ---- a worker gives its piece back
+
+-- the piece in a hand runs in its tenant's job
+pub held-runs : (s : Scene) (w : ℕ) (h : Held) → IsScene s → hand_of s.hands w ≡ Some h
+    → (j : Live) × (job_of s.floor.jobs h.tenant ≡ Some j) × (work_at (seen_of j) h.piece.task ≡ Some (held_work h))
+held-runs s w h scene mine = runs (job_of s.floor.jobs h.tenant) (scene.held.out w h mine)
+  where
+    runs : (o : Option Live) → out_at o h.piece.task ≡ Some (held_work h) → (j : Live) × (o ≡ Some j) × (work_at (seen_of j) h.piece.task ≡ Some (held_work h))
+    runs None out = absurd (true≢false (sym (ap is_some out)))
+    runs (Some j) out = (j, refl, out)
+
+scene-given : (s : Scene) (w : ℕ) (h : Held) (j k : Live) (units : List ℕ) → IsScene s → w < 16 → hand_of s.hands w ≡ Some h → job_of s.floor.jobs h.tenant ≡ Some j
+    → Returns (seen_of j) h.piece.task (held_work h) (seen_of k) → SameBut s.floor.units h.tenant units
+    → ((a : Account) → slice_get s.accounts h.tenant ≡ Some a → Agrees a (Some k) (get_or units h.tenant 0))
+    → IsScene (handed s (record { jobs = set s.floor.jobs h.tenant (Some k); units = units }) w None)
+scene-given s w h j k units scene below mine job returns but agrees =
+    let t = h.tenant in
+    let now = job-set s.floor.jobs t (Some k) (job-within s.floor.jobs t j job) in
+    let floor : Floor = record { jobs = set s.floor.jobs t (Some k); units = units } in
+    scene-handed s t floor (set s.hands w None) scene (but-set s.floor.jobs t (Some k)) but
+    (λ a at. subst (λ o. Agrees a o (units_of floor t)) (sym now) (agrees a at))
+    (length-set s.hands w None ∙ scene.hands_many)
+    (held-given s.floor.jobs (set s.floor.jobs t (Some k)) s.hands w h scene.held (omega (arith, below, scene.hands_many)) mine
+    (ap (λ o. out_at o h.piece.task) now ∙ returns.free) (others-out s.floor.jobs t h.piece.task j k job returns.others))
+
+-- what came back is what was held
+returned : (j k : Seen) (done : Done) (h : Held) → done.task ≡ h.piece.task → brought (done_of done) ≡ held_work h → Returns j (done_of done).task (brought (done_of done)) k
+    → Returns j h.piece.task (held_work h) k
+returned j k done h task ran returns = subst (λ w. Returns j h.piece.task w k) ran (subst (λ t. Returns j t (brought (done_of done)) k) task returns)
+
+-- it is settled
+pub given : (s now : Scene) (w : ℕ) (h : Held) (done : Done) (n : ℕ) (floor : Floor) (hand : Option Held) → s ≡ now → IsScene s → w < 16 → hand_of s.hands w ≡ Some h
+    → done.task ≡ h.piece.task → brought (done_of done) ≡ held_work h → Settles s.floor h.tenant done n floor → hand ≡ None
+    → IsScene (handed s floor w hand) × GivesBack now w (λ f t d g. Settles f t d n g) (handed s floor w hand)
+given s now w h done n floor hand is scene below mine task ran does gone =
+    let t = h.tenant in
+    let j = does.job in
+    let k = does.next in
+    let more = units_of s.floor t + n in
+    let right : IsScene (handed s (with_settled s.floor t k n) w None) =
+    scene-given s w h j k (set s.floor.units t more) scene below mine does.is (returned (seen_of j) (seen_of k) done h task ran does.pays.returns) (but-set s.floor.units t more)
+    (λ a at. subst (Agrees a (Some k)) (sym (get_or-set_same s.floor.units t more 0 (omega (arith, slice_get_within s.accounts t a at, scene.units_many))))
+    (agrees-job a j k (units_of s.floor t) n (was s t j a scene does.is at) does.pays.returns.same does.pays.units does.pays.few)) in
+    let back : GivesBack s w (λ f t d g. Settles f t d n g) (handed s floor w None) =
+    record { held = h; is = mine; done = done; task_is = task; ran = ran; floor = floor; does_so = does; new_is = refl } in
+    subst (λ o. IsScene (handed s floor w o) × GivesBack now w (λ f t d g. Settles f t d n g) (handed s floor w o)) (sym gone)
+    (subst (λ f. IsScene (handed s f w None)) (sym does.new_is) right, subst (λ o. GivesBack o w (λ f t d g. Settles f t d n g) (handed s floor w None)) is back)
+
+-- a piece that breaks its job was out
+fails-by : (old new : Seen) (d : Came) → HasFailed old d new → Breaks old d new → FailsBy old d new
+fails-by old new d failed breaks = elim failed [
+  | inl by ↦ by
+  | inr not ↦ absurd (true≢false (ap is_some (sym breaks.returns.was ∙ ap (λ j. work_at j d.task) (sym not.1) ∙ breaks.returns.free)))
+]
+
+breaks-of : (f : Floor) (t : ℕ) (done back : Done) (j : Live) (floor : Floor) → job_of f.jobs t ≡ Some j → work_at (seen_of j) (done_of done).task ≡ Some (brought (done_of done))
+    → done_of back ≡ done_of done → FailsIn f t back (job_of f.jobs t) floor → BreaksJob f t done floor
+breaks-of f t done back j floor job out same fails =
+    let does = subst (λ o. FailsIn f t back o floor) job fails in
+    let broke = (subst (λ d. Fails (seen_of j) d (seen_of does.next)) same does.fails).own out in record {
+      job = j;
+      is = job;
+      next = does.next;
+      breaks = broke;
+      failed = fails-by (seen_of j) (seen_of does.next) (done_of done) (subst (λ d. HasFailed (seen_of j) d (seen_of does.next)) same does.failed) broke;
+      new_is = does.new_is;
+    }
+
+-- a piece that a settle refused fails its job
+breaks-again : (f mid : Floor) (t : ℕ) (done back : Done) (j : Live) (floor : Floor) → job_of f.jobs t ≡ Some j → work_at (seen_of j) (done_of done).task ≡ Some (brought (done_of done))
+    → IsAsBefore f t mid → done_of back ≡ done_of done → FailsIn mid t back (job_of mid.jobs t) floor → BreaksJob f t done floor
+breaks-again f mid t done back j floor job out before same fails = elim before [
+  | inl one ↦ breaks-of f t done back j floor job out same (subst (λ (g : Floor). FailsIn g t back (job_of g.jobs t) floor) one fails)
+  | inr r ↦
+      let g = with_job f t (Some r.next) in
+      let is_job : r.job ≡ j = same_Some r.job j (sym r.is ∙ job) in
+      let told : seen_of r.next ≡ seen_of j = r.told ∙ ap seen_of is_job in
+      let does : BreaksJob g t done floor =
+      breaks-of g t done back r.next floor (job-set f.jobs t (Some r.next) (job-within f.jobs t j job)) (ap (λ x. work_at x (done_of done).task) told ∙ out) same
+      (subst (λ (m : Floor). FailsIn m t back (job_of m.jobs t) floor) r.new_is fails) in
+      let again : does.job ≡ r.next = same_Some does.job r.next (sym does.is ∙ job-set f.jobs t (Some r.next) (job-within f.jobs t j job)) in
+      record {
+        job = j;
+        is = job;
+        next = does.next;
+        breaks = subst (λ x. Breaks x (done_of done) (seen_of does.next)) (ap seen_of again ∙ told) does.breaks;
+        failed = subst (λ x. FailsBy x (done_of done) (seen_of does.next)) (ap seen_of again ∙ told) does.failed;
+        new_is = does.new_is ∙ ap (λ js. let x : Floor = record { jobs = js; units = f.units } in x) (set-set f.jobs t (Some r.next) (Some does.next));
+      }
+]
+
+pub broken : (s now : Scene) (w : ℕ) (h : Held) (done back : Done) (mid floor : Floor) (hand : Option Held) → s ≡ now → IsScene s → w < 16 → hand_of s.hands w ≡ Some h
+    → done.task ≡ h.piece.task → brought (done_of done) ≡ held_work h → IsAsBefore s.floor h.tenant mid → done_of back ≡ done_of done
+    → FailsIn mid h.tenant back (job_of mid.jobs h.tenant) floor → hand ≡ None
+    → IsScene (handed s floor w hand) × GivesBack now w BreaksJob (handed s floor w hand)
+broken s now w h done back mid floor hand is scene below mine task ran before same fails gone =
+    let t = h.tenant in
+    let runs = held-runs s w h scene mine in
+    let out : work_at (seen_of runs.0) (done_of done).task ≡ Some (brought (done_of done)) = ap (work_at (seen_of runs.0)) task ∙ runs.2 ∙ ap Some (sym ran) in
+    let does : BreaksJob s.floor t done floor = breaks-again s.floor mid t done back runs.0 floor runs.1 out before same fails in
+    let j = does.job in
+    let k = does.next in
+    let right : IsScene (handed s (with_job s.floor t (Some k)) w None) =
+    scene-given s w h j k s.floor.units scene below mine does.is (returned (seen_of j) (seen_of k) done h task ran does.breaks.returns) (but-none s.floor.units t)
+    (λ a at. agrees-same a j k (units_of s.floor t) (was s t j a scene does.is at) does.breaks.returns.same does.breaks.units) in
+    let gives : GivesBack s w BreaksJob (handed s floor w None) =
+    record { held = h; is = mine; done = done; task_is = task; ran = ran; floor = floor; does_so = does; new_is = refl } in
+    subst (λ o. IsScene (handed s floor w o) × GivesBack now w BreaksJob (handed s floor w o)) (sym gone)
+    (subst (λ f. IsScene (handed s f w None)) (sym does.new_is) right, subst (λ o. GivesBack o w BreaksJob (handed s floor w None)) is gives)
+
+-- ---- a tenant is told what its job came to
+
+pub ended : (s now : Scene) (t : ℕ) (a b : Account) (spec : Spec) (lost : Bool) (floor : Floor) → s ≡ now → IsScene s → slice_get s.accounts t ≡ Some a → (has : HasJob s.floor t spec)
+    → ((lost ≡ false) × (state_of (seen_of has.job) ≡ state.Ended)) ⊎ ((lost ≡ true) × (state_of (seen_of has.job) ≡ state.Failed))
+    → NoneOut (seen_of has.job) → b ≡ with_reply a lost → IsSound b → floor ≡ with_job s.floor t None
+    → IsScene (moved s t b floor) × EndsJob now t (moved s t b floor)
+ended s now t a b spec lost floor is scene at has over calm replied sound left =
+    let right : IsScene (moved s t b (with_job s.floor t None)) =
+    subst (λ o. IsScene (moved s t o (with_job s.floor t None))) (sym replied) (scene-replied s t a has.job lost scene at (subst IsSound replied sound) has.is calm) in
+    let ends : EndsJob s t (moved s t b (with_job s.floor t None)) = record {
+      account = a;
+      is = at;
+      job = has.job;
+      job_is = has.is;
+      lost = lost;
+      over = over;
+      new_is = ap (λ o. moved s t o (with_job s.floor t None)) replied;
+    } in
+    subst (λ f. IsScene (moved s t b f) × EndsJob now t (moved s t b f)) (sym left) (right, subst (λ o. EndsJob o t (moved s t b (with_job s.floor t None))) is ends)
+
+-- the job of an open request is its tenant's
+pub never-strange : (s : Scene) (t : ℕ) (a : Account) (spec : Spec) → IsScene s → slice_get s.accounts t ≡ Some a → a.spec ≡ Some spec → IsStrange s.floor t spec → ⊥
+never-strange s t a spec scene at open_for strange = none (job_of s.floor.jobs t) refl (subst (λ o. Pairs o (job_of s.floor.jobs t)) open_for (scene.each t a at).pairs)
+  where
+    none : (o : Option Live) → job_of s.floor.jobs t ≡ o → Pairs (Some spec) o → ⊥
+    none None is pairs = pairs
+    none (Some j) is pairs = strange j is pairs
+
+pub cannot-reply : (s now : Scene) (t : ℕ) (o : Option Live) → s ≡ now → job_of s.floor.jobs t ≡ o → CannotReply o → CannotReply (job_of now.floor.jobs t)
+cannot-reply s now t o is job not = subst (λ (r : Scene). CannotReply (job_of r.floor.jobs t)) is (subst CannotReply (sym job) not)
+
+-- what was read is written again
+pub read-again : (s now : Scene) (t : ℕ) (a : Account) → s ≡ now → a ≡ get_or s.accounts t a → moved s t a s.floor ≡ now
+read-again s now t a is read =
+    ap (λ l. let r : Scene = record { accounts = l; floor = s.floor; hands = s.hands } in r) (ap (set s.accounts t) read ∙ set-get_or s.accounts t a) ∙ is
+
+-- a job whose state was read works
+pub working-of : (f : Floor) (t : ℕ) (s : State) → Some s ≡ option_map (λ j. state_of (seen_of j)) (job_of f.jobs t) → s ≡ state.Working → IsWorking f t
+working-of f t s read is = works (job_of f.jobs t) refl (ap Some (sym is) ∙ read)
+  where
+    works : (o : Option Live) → job_of f.jobs t ≡ o → Some state.Working ≡ option_map (λ j. state_of (seen_of j)) o → IsWorking f t
+    works None job said = absurd (true≢false (ap is_some said))
+    works (Some j) job said = record { job = j; is = job; working = sym (same_Some state.Working (state_of (seen_of j)) said) }
+
+pub cannot-start : (s now : Scene) (w t : ℕ) → s ≡ now → NothingAt s.floor.jobs t → CannotStart now w t
+cannot-start s now w t is none = subst (λ o. CannotStart o w t) is (inr none)
+
+pub on_err_always : {T E P : Type 0} (r : Result T E) → P → OnErr r P
+on_err_always (Ok x) p = tt
+on_err_always (Err e) p = p

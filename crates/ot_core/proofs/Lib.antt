@@ -1,0 +1,12 @@
+mod IndexLemmas
+mod AccountLemmas
+mod ToldLemmas
+mod FloorLemmas
+mod SceneLemmas
+mod HandLemmas
+mod HandedLemmas
+mod OthersLemmas
+mod RunsLemmas
+mod ReplyLemmas
+mod DrainLemmas
+mod OpeningLemmas

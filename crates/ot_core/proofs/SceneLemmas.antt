@@ -1,0 +1,240 @@
+-- A world stays right when one tenant's account, job and units change.
+use Rattle.std.proofs.Common.{◌≡◌, ◌≢◌, ◌<◌, ◌≤◌, ◌+◌, inl, inr, ℕ, zero, suc, List, [], ◌∷◌, length, get_or, set, refl, sym, ap, ◌∙◌, subst, arith, true≢false}
+use Rattle.std.specs.Prelude.{Option, Some, None, is_some, slice_get, unwrap_or, Bool, true}
+use Rattle.std.proofs.lemmas.Bool.{cases_eq}
+use Rattle.std.proofs.lemmas.Option.{same_Some, slice_get_within, unwrap_or-slice_get, slice_get_read}
+use Rattle.std.proofs.lemmas.List.{get_or-set_same, length-set, length-append}
+use Rattle.ot_check.specs.Jobs.{Spec}
+use Rattle.ot_book.specs.Answers.{answer_or_lost}
+use Rattle.ot_book.specs.Books.{state_in}
+use Rattle.ot_job.specs.Live.{Live, seen_of}
+use Rattle.ot_job.specs.Dealings.{IsBegun, SameSpec, NoneOut, settled_units}
+use Rattle.ot_core.specs.Accounts.{Account, IsSound, answered}
+use Rattle.ot_core.specs.Asking.{IsAnswered, IsUnopened, Waits, with_reply, next_line}
+use Rattle.ot_core.specs.Index.{job_of}
+use Rattle.ot_core.specs.Floors.{Floor, with_job, units_of, Submits}
+use Rattle.ot_core.specs.Scenes.{Scene, Pairs, Agrees, AreHeld, IsScene, out_at}
+use Rattle.ot_core.specs.Steps.{moved, Moves, CanOpen, StartsJob}
+use Rattle.ot_core.specs.declared.held.Held.{Held}
+
+pub slice_get-set_same : {X : Type 0} (xs : List X) (t : ℕ) (x : X) → t < length xs → slice_get (set xs t x) t ≡ Some x
+slice_get-set_same [] t x below = absurd (omega (arith, below))
+slice_get-set_same (y ∷ xs) zero x below = refl
+slice_get-set_same (y ∷ xs) (suc t) x below = slice_get-set_same xs t x (omega (arith, below))
+
+pub slice_get-set_other : {X : Type 0} (xs : List X) (t u : ℕ) (x : X) → u ≢ t → slice_get (set xs t x) u ≡ slice_get xs u
+slice_get-set_other [] t u x other = refl
+slice_get-set_other (y ∷ xs) zero zero x other = absurd (other refl)
+slice_get-set_other (y ∷ xs) zero (suc u) x other = refl
+slice_get-set_other (y ∷ xs) (suc t) zero x other = refl
+slice_get-set_other (y ∷ xs) (suc t) (suc u) x other = slice_get-set_other xs t u x (λ e. other (omega (arith, e)))
+
+-- ---- two lists that differ at one place at most
+
+pub record SameBut {X : Type 0} (xs : List X) (t : ℕ) (ys : List X) : Type 0 where
+  pub many : length ys ≡ length xs
+  pub others : (u : ℕ) → u ≢ t → slice_get ys u ≡ slice_get xs u
+
+pub but-none : {X : Type 0} (xs : List X) (t : ℕ) → SameBut xs t xs
+but-none xs t = record { many = refl; others = λ u other. refl }
+
+pub but-set : {X : Type 0} (xs : List X) (t : ℕ) (x : X) → SameBut xs t (set xs t x)
+but-set xs t x = record { many = length-set xs t x; others = λ u other. slice_get-set_other xs t u x other }
+
+pub but-read : {X : Type 0} (xs ys : List X) (t : ℕ) (d : X) (u : ℕ) → SameBut xs t ys → u ≢ t → get_or ys u d ≡ get_or xs u d
+but-read xs ys t d u but other = sym (unwrap_or-slice_get ys u d) ∙ ap (λ o. unwrap_or o d) (but.others u other) ∙ unwrap_or-slice_get xs u d
+
+-- ---- what goes together of one tenant
+
+-- the next line has its reply, and no job is left
+pub agrees-replied : (a : Account) (job : Option Live) (units : ℕ) (lost : Bool) → Agrees a job units → IsSound (with_reply a lost) → Agrees (with_reply a lost) None units
+agrees-replied a job units lost agrees sound =
+    let count = length-append a.book.log ((next_line a, (answer_or_lost a.book.limits (state_in a.book) (next_line a) lost).0) ∷ []) in record {
+      sound = sound;
+      pairs = tt;
+      paid = omega (arith, agrees.paid, agrees.bounded, count);
+      bounded = omega arith;
+    }
+
+-- another account of the same log, for the same request
+pub agrees-account : (a b : Account) (job : Option Live) (units : ℕ) → Agrees a job units → IsSound b → b.spec ≡ a.spec → answered b ≡ answered a → Agrees b job units
+agrees-account a b job units agrees sound spec same = record {
+  sound = sound;
+  pairs = subst (λ o. Pairs o job) (sym spec) agrees.pairs;
+  paid = omega (arith, agrees.paid, same);
+  bounded = agrees.bounded;
+}
+
+-- a request is open and its job begins
+pub agrees-opened : (a b : Account) (spec : Spec) (j : Live) (units : ℕ) → Agrees a None units → IsSound b → Waits a spec b → IsBegun spec (seen_of j) → Agrees b (Some j) units
+agrees-opened a b spec j units agrees sound waits begun = record {
+  sound = sound;
+  pairs = subst (λ o. Pairs o (Some j)) (sym (ap (λ (o : Account). o.spec) waits.new_is)) (record {
+    program = sym waits.same.program ∙ begun.of.program;
+    before = sym waits.same.before ∙ begun.of.before;
+  });
+  paid = omega (arith, agrees.paid, ap answered waits.new_is);
+  bounded = omega (arith, begun.units);
+}
+
+pairs-same : (o : Option Spec) (j k : Live) → SameSpec (seen_of j) (seen_of k) → Pairs o (Some j) → Pairs o (Some k)
+pairs-same None j k same pairs = pairs
+pairs-same (Some x) j k same pairs = record { program = pairs.program ∙ sym same.program; before = pairs.before ∙ sym same.before }
+
+-- the same job later, with more units
+pub agrees-job : (a : Account) (j k : Live) (units more : ℕ) → Agrees a (Some j) units → SameSpec (seen_of j) (seen_of k)
+    → settled_units (seen_of k) ≡ settled_units (seen_of j) + more → settled_units (seen_of k) ≤ 20000 → Agrees a (Some k) (units + more)
+agrees-job a j k units more agrees same settled few = record {
+  sound = agrees.sound;
+  pairs = pairs-same a.spec j k same agrees.pairs;
+  paid = omega (arith, agrees.paid, settled);
+  bounded = few;
+}
+
+-- and with as many
+pub agrees-same : (a : Account) (j k : Live) (units : ℕ) → Agrees a (Some j) units → SameSpec (seen_of j) (seen_of k)
+    → settled_units (seen_of k) ≡ settled_units (seen_of j) → Agrees a (Some k) units
+agrees-same a j k units agrees same settled = record {
+  sound = agrees.sound;
+  pairs = pairs-same a.spec j k same agrees.pairs;
+  paid = omega (arith, agrees.paid, settled);
+  bounded = omega (arith, agrees.bounded, settled);
+}
+
+-- ---- worlds
+
+-- the same pieces are out
+abbrev pub SameOut : List (Option Live) → List (Option Live) → Type 0
+SameOut old new = (t k : ℕ) → out_at (job_of new t) k ≡ out_at (job_of old t) k
+
+pub held-same : (old new : List (Option Live)) (hands : List (Option Held)) → SameOut old new → AreHeld old hands → AreHeld new hands
+held-same old new hands same held = record {
+  out = λ w h is. same h.tenant h.piece.task ∙ held.out w h is;
+  one = held.one;
+  all = λ t k work out. held.all t k work (sym (same t k) ∙ out);
+}
+
+-- of one tenant the same pieces are out, and the others' jobs are the same
+pub out-but : (old new : List (Option Live)) (t : ℕ) → SameBut old t new → ((k : ℕ) → out_at (job_of new t) k ≡ out_at (job_of old t) k) → SameOut old new
+out-but old new t but same u k = elim (cases_eq u t) [
+  | inl is ↦ ap (λ v. out_at (job_of new v) k) is ∙ same k ∙ ap (λ v. out_at (job_of old v) k) (sym is)
+  | inr other ↦ ap (λ o. out_at o k) (but-read old new t None u but other)
+]
+
+-- one tenant's account, job and units change
+scene-changed : (s new : Scene) (t : ℕ) → IsScene s → SameBut s.accounts t new.accounts → SameBut s.floor.jobs t new.floor.jobs → SameBut s.floor.units t new.floor.units
+    → ((a : Account) → slice_get new.accounts t ≡ Some a → Agrees a (job_of new.floor.jobs t) (units_of new.floor t))
+    → length new.hands ≡ 16 → AreHeld new.floor.jobs new.hands → IsScene new
+scene-changed s new t scene accounts jobs units mine hands held = record {
+  each = λ u a at. elim (cases_eq u t) [
+    | inl here ↦ subst (λ v. Agrees a (job_of new.floor.jobs v) (units_of new.floor v)) (sym here) (mine a (ap (slice_get new.accounts) (sym here) ∙ at))
+    | inr other ↦
+        subst (λ j. Agrees a j (units_of new.floor u)) (sym (but-read s.floor.jobs new.floor.jobs t None u jobs other))
+        (subst (Agrees a (job_of s.floor.jobs u)) (sym (but-read s.floor.units new.floor.units t 0 u units other)) (scene.each u a (sym (accounts.others u other) ∙ at)))
+  ];
+  jobs_many = jobs.many ∙ scene.jobs_many ∙ sym accounts.many;
+  units_many = units.many ∙ scene.units_many ∙ sym accounts.many;
+  few = omega (arith, scene.few, accounts.many);
+  hands_many = hands;
+  held = held;
+}
+
+-- a tenant moves
+pub scene-moved : (s : Scene) (t : ℕ) (a b : Account) (floor : Floor) → IsScene s → slice_get s.accounts t ≡ Some a → SameBut s.floor.jobs t floor.jobs → SameBut s.floor.units t floor.units
+    → Agrees b (job_of floor.jobs t) (units_of floor t) → ((k : ℕ) → out_at (job_of floor.jobs t) k ≡ out_at (job_of s.floor.jobs t) k) → IsScene (moved s t b floor)
+scene-moved s t a b floor scene is jobs units agrees same =
+    let here = slice_get-set_same s.accounts t b (slice_get_within s.accounts t a is) in
+    scene-changed s (moved s t b floor) t scene (but-set s.accounts t b) jobs units
+    (λ c at. subst (λ (o : Account). Agrees o (job_of floor.jobs t) (units_of floor t)) (same_Some b c (sym here ∙ at)) agrees)
+    scene.hands_many (held-same s.floor.jobs floor.jobs s.hands (out-but s.floor.jobs floor.jobs t jobs same) scene.held)
+
+-- a tenant's job goes on, and hands change
+pub scene-handed : (s : Scene) (t : ℕ) (floor : Floor) (hands : List (Option Held)) → IsScene s → SameBut s.floor.jobs t floor.jobs → SameBut s.floor.units t floor.units
+    → ((a : Account) → slice_get s.accounts t ≡ Some a → Agrees a (job_of floor.jobs t) (units_of floor t))
+    → length hands ≡ 16 → AreHeld floor.jobs hands → IsScene (record { accounts = s.accounts; floor = floor; hands = hands })
+scene-handed s t floor hands scene jobs units mine many held =
+    scene-changed s (record { accounts = s.accounts; floor = floor; hands = hands }) t scene (but-none s.accounts t) jobs units mine many held
+
+-- a tenant's account alone changes, and stays of one spec
+pub scene-account : (s : Scene) (t : ℕ) (a b : Account) → IsScene s → slice_get s.accounts t ≡ Some a → IsSound b → b.spec ≡ a.spec → answered b ≡ answered a
+    → IsScene (moved s t b s.floor)
+scene-account s t a b scene at sound spec same =
+    scene-moved s t a b s.floor scene at (but-none s.floor.jobs t) (but-none s.floor.units t)
+    (agrees-account a b (job_of s.floor.jobs t) (units_of s.floor t) (scene.each t a at) sound spec same) (λ k. refl)
+
+-- a tenant with no open request has no job
+pub jobless : (s : Scene) (t : ℕ) (a : Account) → IsScene s → slice_get s.accounts t ≡ Some a → a.spec ≡ None → job_of s.floor.jobs t ≡ None
+jobless s t a scene at free = no-job a.spec (job_of s.floor.jobs t) (scene.each t a at).pairs free
+  where
+    no-job : (spec : Option Spec) (job : Option Live) → Pairs spec job → spec ≡ None → job ≡ None
+    no-job None None pairs is = refl
+    no-job None (Some j) pairs is = absurd pairs
+    no-job (Some s) None pairs is = refl
+    no-job (Some s) (Some j) pairs is = absurd (true≢false (ap is_some is))
+
+pub there : (s : Scene) (t : ℕ) (a : Account) → IsScene s → slice_get s.accounts t ≡ Some a → t < length s.floor.jobs
+there s t a scene at = omega (arith, slice_get_within s.accounts t a at, scene.jobs_many)
+
+pub vacant : (s : Scene) (t : ℕ) (a : Account) → IsScene s → slice_get s.accounts t ≡ Some a → a.spec ≡ None → slice_get s.floor.jobs t ≡ Some None
+vacant s t a scene at free =
+    slice_get_read s.floor.jobs (length s.floor.jobs) t None refl (there s t a scene at) (sym (jobless s t a scene at free))
+
+-- a line is answered at once
+pub scene-answered : (s : Scene) (t : ℕ) (a b : Account) → IsScene s → slice_get s.accounts t ≡ Some a → a.spec ≡ None → IsSound b → IsAnswered a b
+    → IsScene (moved s t b s.floor)
+scene-answered s t a b scene at free sound answers =
+    let none = jobless s t a scene at free in
+    let was : Agrees a None (units_of s.floor t) = subst (λ o. Agrees a o (units_of s.floor t)) none (scene.each t a at) in
+    let now : Agrees b None (units_of s.floor t) = subst (λ (o : Account). Agrees o None (units_of s.floor t)) (sym answers.new_is)
+    (agrees-replied a None (units_of s.floor t) answers.lost was (subst IsSound answers.new_is sound)) in
+    scene-moved s t a b s.floor scene at (but-none s.floor.jobs t) (but-none s.floor.units t)
+    (subst (λ o. Agrees b o (units_of s.floor t)) (sym none) now) (λ k. refl)
+
+pub job-set : (jobs : List (Option Live)) (t : ℕ) (job : Option Live) → t < length jobs → job_of (set jobs t job) t ≡ job
+job-set jobs t job below = get_or-set_same jobs t job None below
+
+-- a tenant's request is open and its job begins
+pub scene-opened : (s : Scene) (t : ℕ) (a b : Account) (spec : Spec) (floor : Floor) → IsScene s → slice_get s.accounts t ≡ Some a → a.spec ≡ None → IsSound b
+    → Waits a spec b → Submits s.floor t spec floor → IsScene (moved s t b floor)
+scene-opened s t a b spec floor scene at free sound waits submits =
+    let j = submits.job in
+    let none = jobless s t a scene at free in
+    let mine = job-set s.floor.jobs t (Some j) (there s t a scene at) in
+    let was : Agrees a None (units_of s.floor t) = subst (λ o. Agrees a o (units_of s.floor t)) none (scene.each t a at) in
+    subst (λ f. IsScene (moved s t b f)) (sym submits.new_is)
+    (scene-moved s t a b (with_job s.floor t (Some j)) scene at (but-set s.floor.jobs t (Some j)) (but-none s.floor.units t)
+    (subst (λ o. Agrees b o (units_of s.floor t)) (sym mine) (agrees-opened a b spec j (units_of s.floor t) was sound waits submits.begun))
+    (λ k. ap (λ o. out_at o k) mine ∙ submits.begun.none k ∙ sym (ap (λ o. out_at o k) none)))
+
+-- opened, and answered for want of memory
+pub reply-opened : (a b : Account) (spec : Spec) → Waits a spec b → with_reply b true ≡ with_reply a true
+reply-opened a b spec waits = ap (λ o. with_reply o true) waits.new_is
+
+-- a tenant is told what its job came to
+pub scene-replied : (s : Scene) (t : ℕ) (a : Account) (j : Live) (lost : Bool) → IsScene s → slice_get s.accounts t ≡ Some a → IsSound (with_reply a lost)
+    → job_of s.floor.jobs t ≡ Some j → NoneOut (seen_of j) → IsScene (moved s t (with_reply a lost) (with_job s.floor t None))
+scene-replied s t a j lost scene at sound job calm =
+    let mine = job-set s.floor.jobs t None (there s t a scene at) in
+    scene-moved s t a (with_reply a lost) (with_job s.floor t None) scene at (but-set s.floor.jobs t None) (but-none s.floor.units t)
+    (subst (λ o. Agrees (with_reply a lost) o (units_of s.floor t)) (sym mine) (agrees-replied a (job_of s.floor.jobs t) (units_of s.floor t) lost (scene.each t a at) sound))
+    (λ k. ap (λ o. out_at o k) mine ∙ sym (ap (λ o. out_at o k) job ∙ calm k))
+
+-- ---- what is read of a world
+
+-- one tenant's account alone changes
+pub moves-at : (P : Account → Account → Type 0) (s now : Scene) (t : ℕ) (a b : Account) → s ≡ now → slice_get s.accounts t ≡ Some a → P a b → Moves P now t (moved s t b s.floor)
+moves-at P s now t a b is at does = subst (λ o. Moves P o t (moved s t b s.floor)) is (record { account = a; is = at; next = b; does = does; new_is = refl })
+
+-- a request can be opened
+pub can-open : (s now : Scene) (t : ℕ) (a : Account) → s ≡ now → slice_get s.accounts t ≡ Some a → IsUnopened a → CanOpen now t
+can-open s now t a is at free = subst (λ o. CanOpen o t) is (a, at, free)
+
+pub cannot-open : (s now : Scene) (t : ℕ) (a : Account) → s ≡ now → slice_get s.accounts t ≡ Some a → (IsUnopened a → ⊥) → CanOpen now t → ⊥
+cannot-open s now t a is at not can =
+    let back = subst (λ o. CanOpen o t) (sym is) can in
+    not (subst IsUnopened (same_Some back.0 a (sym back.1 ∙ at)) back.2)
+
+pub starts-job : (s now : Scene) (t : ℕ) (a b : Account) (spec : Spec) (floor : Floor) → s ≡ now → slice_get s.accounts t ≡ Some a
+    → Waits a spec b → Submits s.floor t spec floor → StartsJob now t (moved s t b floor)
+starts-job s now t a b spec floor is at waits submits =
+    subst (λ o. StartsJob o t (moved s t b floor)) is (record { account = a; is = at; spec = spec; next = b; waits = waits; floor = floor; submits = submits; new_is = refl })

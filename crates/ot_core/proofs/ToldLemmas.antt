@@ -1,0 +1,89 @@
+-- The replies given are the first of those that the lines give.
+use Rattle.std.proofs.Common.{◌≡◌, ℕ, zero, suc, List, [], ◌∷◌, ◌++◌, length, map, take, drop, get_or, refl, sym, ap, ◌∙◌, subst, arith, Bool, false, true≢false}
+use Rattle.std.specs.Prelude.{Some, None, slice_get, is_some}
+use Rattle.std.proofs.lemmas.Option.{same_Some}
+use Rattle.std.proofs.lemmas.List.{take-append-drop}
+use Rattle.std.proofs.Math.Seq.{take-append_seam}
+use Rattle.ot_book.specs.Replies.{Told, is_lost}
+use Rattle.ot_book.specs.Answers.{State, opening, answer_or_lost, answers}
+use Rattle.ot_book.specs.Books.{lines_in, state_in}
+use Rattle.ot_store.specs.declared.limits.Limits.{Limits}
+use Rattle.ot_core.specs.Accounts.{Account, told, IsSound}
+use Rattle.ot_core.specs.Headline.{marked, due, AreFirst, IsTold, IsToldWhole, NoneLost, SameLosses, AgreeAt, AsksSame}
+
+-- the replies to some lines, then to others
+pub answers-append : (limits : Limits) (s : State) (ls ms : List (List ℕ × Bool)) →
+    answers limits s (ls ++ ms) ≡ ((answers limits s ls).0 ++ (answers limits (answers limits s ls).1 ms).0, (answers limits (answers limits s ls).1 ms).1)
+answers-append limits s [] ms = refl
+answers-append limits s (l ∷ ls) ms =
+    let one = answer_or_lost limits s l.0 l.1 in
+    ap (λ (r : List Told × State). (one.0 ∷ r.0, r.1)) (answers-append limits one.1 ls ms)
+
+marked-more : (log : List (List ℕ × Told)) (rest : List (List ℕ)) →
+    marked (map (λ e. e.0) log ++ rest) (map (λ e. e.1) log) ≡ lines_in log ++ marked rest []
+marked-more [] rest = refl
+marked-more (e ∷ log) rest = ap (λ (ls : List (List ℕ × Bool)). (e.0, is_lost e.1) ∷ ls) (marked-more log rest)
+
+-- the headline of one tenant
+pub told-first : (a : Account) → IsSound a → IsTold a
+told-first a sound =
+    let log = a.book.log in
+    let rest = drop (length log) a.asked in
+    let asked : a.asked ≡ map (λ e. e.0) log ++ rest = sym (take-append-drop (length log) a.asked) ∙ ap (λ ls. ls ++ rest) (sym sound.lines) in
+    let more = answers a.book.limits (state_in a.book) (marked rest []) in
+    let all : due a.book.limits a.book.base a.asked (told a) ≡ told a ++ more.0 =
+    ap (λ ls. due a.book.limits a.book.base ls (told a)) asked
+    ∙ ap (λ ls. (answers a.book.limits (opening a.book.base) ls).0) (marked-more log rest)
+    ∙ ap (λ (r : List Told × State). r.0) (answers-append a.book.limits (opening a.book.base) (lines_in log) (marked rest []))
+    ∙ ap (λ (r : List Told × State). r.0 ++ (answers a.book.limits r.1 (marked rest [])).0) sound.right in
+    sym (ap (take (length (told a))) all ∙ take-append_seam (told a) more.0)
+
+marked-whole : (lines : List (List ℕ)) (says : List Told) → NoneLost says → marked lines says ≡ map (λ line. (line, false)) lines
+marked-whole [] says none = refl
+marked-whole (line ∷ lines) [] none = ap (λ (ls : List (List ℕ × Bool)). (line, false) ∷ ls) (marked-whole lines [] none)
+marked-whole (line ∷ lines) (said ∷ says) none =
+    ap (λ lost. (line, lost) ∷ marked lines says) (none zero said refl)
+    ∙ ap (λ (ls : List (List ℕ × Bool)). (line, false) ∷ ls) (marked-whole lines says (λ i. none (suc i)))
+
+-- where none is told for want of memory
+pub told-whole : (a : Account) → IsSound a → NoneLost (told a) → IsToldWhole a
+told-whole a sound none =
+    told-first a sound ∙ ap (λ ls. take (length (told a)) (answers a.book.limits (opening a.book.base) ls).0) (marked-whole a.asked (told a) none)
+
+no_reply : {X : Type 0} (x : Told) → None ≡ Some x → X
+no_reply x e = absurd (true≢false (sym (ap is_some e)))
+
+nothing_first : (xs : List Told) → AreFirst xs [] → xs ≡ []
+nothing_first [] first = refl
+nothing_first (x ∷ xs) first = first
+
+-- one reply is the first, and the others those that follow
+first-head : (x a : Told) (xs all : List Told) → AreFirst (x ∷ xs) (a ∷ all) → x ≡ a
+first-head x a xs all first = ap (λ l. get_or l 0 x) first
+
+first-tail : (x a : Told) (xs all : List Told) → AreFirst (x ∷ xs) (a ∷ all) → AreFirst xs all
+first-tail x a xs all first = ap (drop 1) first
+
+agree : (limits : Limits) (s : State) (lines : List (List ℕ)) (xs ys : List Told) (i : ℕ)
+    → AreFirst xs (answers limits s (marked lines xs)).0 → AreFirst ys (answers limits s (marked lines ys)).0 → SameLosses xs ys i → AgreeAt xs ys i
+agree limits s [] xs ys i fx fy same = λ x y at _. no_reply x (ap (λ l. slice_get l i) (sym (nothing_first xs fx)) ∙ at)
+agree limits s (l ∷ lines) [] ys i fx fy same = λ x y at _. no_reply x at
+agree limits s (l ∷ lines) (x ∷ xs) [] i fx fy same = λ p q _ at. no_reply q at
+agree limits s (l ∷ lines) (x ∷ xs) (y ∷ ys) zero fx fy same = λ p q p_is q_is.
+    sym (same_Some x p p_is) ∙ first-head x _ xs _ fx ∙ ap (λ lost. (answer_or_lost limits s l lost).0) (same zero x y (omega arith) refl refl)
+    ∙ sym (first-head y _ ys _ fy) ∙ same_Some y q q_is
+agree limits s (l ∷ lines) (x ∷ xs) (y ∷ ys) (suc i) fx fy same =
+    let lost : is_lost y ≡ is_lost x = sym (same zero x y (omega arith) refl refl) in
+    agree limits (answer_or_lost limits s l (is_lost x)).1 lines xs ys i (first-tail x _ xs _ fx)
+    (subst (λ b. AreFirst ys (answers limits (answer_or_lost limits s l b).1 (marked lines ys)).0) lost (first-tail y _ ys _ fy))
+    (λ j p q below. same (suc j) p q (omega (arith, below)))
+
+-- two tenants that asked the same are told the same, as far as memory ran out at the same places
+pub same-told : (a b : Account) → IsTold a → IsTold b → AsksSame a b → (i : ℕ) → SameLosses (told a) (told b) i → AgreeAt (told a) (told b) i
+same-told a b ta tb asks i same =
+    agree a.book.limits (opening a.book.base) a.asked (told a) (told b) i ta
+    (rw (← asks.asked, ← asks.base, ← asks.limits) tb) same
+
+-- and at each place that both have, where it never ran out
+pub same-whole : (a b : Account) → NoneLost (told a) → NoneLost (told b) → (i : ℕ) → SameLosses (told a) (told b) i
+same-whole a b na nb i = λ j x y _ p q. na j x p ∙ sym (nb j y q)

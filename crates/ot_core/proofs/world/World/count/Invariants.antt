@@ -1,0 +1,8 @@
+use Rattle.std.proofs.Common.{◌≡◌, ◌≤◌, ◌<◌, ◌*◌, ℕ}
+use Rattle.ot_core.specs.Index.{job_of}
+use Rattle.ot_core.specs.Draining.{sum_below, moves_at, LivelyAt}
+use Rattle.ot_core.proofs.world.World.count.Given as goal
+
+abbrev pub invariant-loop-tenant : goal.invariant-loop-tenant
+invariant-loop-tenant l =
+    (l.count ≡ sum_below (moves_at l.self) l.tenant) × (l.count ≤ l.tenant * 400000) × ((t : ℕ) → t < l.tenant → LivelyAt (job_of l.self.floor.jobs t))

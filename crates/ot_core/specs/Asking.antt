@@ -1,0 +1,49 @@
+-- What a tenant's events do to it.
+use Rattle.std.specs.Prelude.{◌≡◌, ◌≤◌, ◌<◌, ◌⊎◌, ℕ, List, [], ◌∷◌, ◌++◌, length, Bool, true, false, Option, Some, None, slice_get, unwrap_or}
+use Rattle.ot_check.specs.Jobs.{Spec, AreSame}
+use Rattle.ot_store.specs.Arrays.{Named}
+use Rattle.ot_book.specs.Replies.{Told}
+use Rattle.ot_book.specs.Answers.{Now}
+use Rattle.ot_book.specs.Books.{Register, logged, opened, next_step, IsOpenFor}
+use Rattle.ot_core.specs.Accounts.{Account, answered}
+
+abbrev pub new_account : Register → Account
+new_account book = record { book = book; asked = []; spec = None }
+
+-- a line is asked and unopened, and no request is open
+abbrev pub IsUnopened : Account → Type 0
+IsUnopened a = (answered a < length a.asked) × (a.spec ≡ None)
+
+-- the line that comes next
+abbrev pub next_line : Account → List ℕ
+next_line a = unwrap_or (slice_get a.asked (answered a)) []
+
+-- the line is asked, or the log has no room for it
+abbrev pub Admits : Account → List ℕ → Bool → Account → Type 0
+Admits old line false new = (old.book.limits.log ≤ length old.asked) × (new ≡ old)
+Admits old line true new = (length old.asked < old.book.limits.log) × (new ≡ record old { asked = old.asked ++ line ∷ [] })
+
+-- the next line has its reply, as its request or for want of memory
+abbrev pub with_reply : Account → Bool → Account
+with_reply a lost = record a { book = logged a.book (next_line a) lost; spec = None }
+
+-- the next line's request is open
+abbrev pub with_open : Account → Spec → Account
+with_open a spec = record a { book = opened a.book (next_line a); spec = Some spec }
+
+-- the next line's request waits for the job of this spec
+pub record Waits (old : Account) (job : Spec) (new : Account) : Type 0 where
+  pub spec : Spec
+  pub same : AreSame job spec
+  pub runs : IsOpenFor (opened old.book (next_line old)) spec
+  pub new_is : new ≡ with_open old spec
+
+-- the next line is answered at once, for it runs no program or memory ran out
+pub record IsAnswered (old : Account) (new : Account) : Type 0 where
+  pub lost : Bool
+  pub new_is : new ≡ with_reply old lost
+  pub at_once : (lost ≡ true) ⊎ ((told : Told) × (arrays : List Named) × (next_step old.book (next_line old) ≡ Now told arrays))
+
+abbrev pub Opens : Account → Option Spec → Account → Type 0
+Opens old None new = IsAnswered old new
+Opens old (Some job) new = Waits old job new

@@ -1,0 +1,12 @@
+-- What the fields of a hall stand for: the total is the sum of the tenants' units.
+use Rattle.std.specs.Prelude.{◌≡◌, ◌<◌, ◌^◌, length}
+use Rattle.ot_core.specs.Floors.{Floor, total_of}
+use Rattle.ot_core.specs.declared.hall.Hall.TheInside.{Inside}
+
+abbrev pub floor_of : Inside → Floor
+floor_of h = record { jobs = h.jobs; units = h.units.items }
+
+pub record IsHall (h : Inside) : Type 0 where
+  pub total : h.total ≡ total_of (floor_of h)
+  pub as_many : length h.units.items ≡ length h.jobs
+  pub few : length h.jobs < 2 ^ 32

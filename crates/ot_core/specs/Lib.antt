@@ -1,0 +1,17 @@
+pub mod Index
+pub mod Lending
+pub mod Floors
+pub mod FloorView
+pub mod Turns
+pub mod Accounts
+pub mod Given
+pub mod AccountView
+pub mod Asking
+pub mod Scenes
+pub mod SceneView
+pub mod Steps
+pub mod Openings
+pub mod Runs
+pub mod Headline
+pub mod Toil
+pub mod Draining

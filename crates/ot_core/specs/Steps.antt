@@ -1,0 +1,199 @@
+-- What each event does.
+use Rattle.std.specs.Prelude.{◌≡◌, ◌≢◌, ◌==◌, if◌then◌else◌, ◌⊎◌, ℕ, List, option_map, IsSome, Bool, true, false, Option, Some, None, slice_get, slice_set}
+use Rattle.ot_check.specs.Jobs.{Spec}
+use Rattle.ot_job.specs.Live.{Live, seen_of}
+use Rattle.ot_job.specs.DoneView.{done_of}
+use Rattle.ot_job.specs.States.{FailsBy}
+use Rattle.ot_job.specs.Dealings.{Breaks, brought, state_of}
+use Rattle.ot_job.specs.Taken.{Parts as Piece}
+use Rattle.ot_job.specs.declared.piece.Done.{Done}
+use Rattle.ot_job.specs.declared.state.State.TheVariants as state
+use Rattle.ot_core.specs.Accounts.{Account}
+use Rattle.ot_core.specs.Asking as asking
+use Rattle.ot_core.specs.Asking.{IsUnopened, IsAnswered, Waits, with_reply}
+use Rattle.ot_core.specs.Index.{job_of}
+use Rattle.ot_core.specs.Floors.{Floor, units_of, with_job, SameTold, Submits, NothingAt, Claims, IsWorking, Settles, AbortsJob}
+use Rattle.ot_core.specs.Scenes.{Scene, hand_of, held_work, seat_of}
+use Rattle.ot_core.specs.declared.held.Held.{Held}
+use Rattle.ot_core.specs.declared.event.Stepped.{Stepped}
+use Rattle.ot_core.specs.declared.event.Event.{Event}
+use Rattle.ot_core.specs.declared.event.Event.TheVariants as event
+use Rattle.ot_core.specs.declared.event.Stepped.TheVariants.{Asked, Full, Answered, Job, Replied, Started, Finished, FinishedFailed, Aborted, NotNow}
+
+-- the world with another account of one tenant, and this floor
+abbrev pub moved : Scene → ℕ → Account → Floor → Scene
+moved s t a floor = record { accounts = slice_set s.accounts t a; floor = floor; hands = s.hands }
+
+-- the world with another thing in one hand, and this floor
+abbrev pub handed : Scene → Floor → ℕ → Option Held → Scene
+handed s floor w hand = record { accounts = s.accounts; floor = floor; hands = slice_set s.hands w hand }
+
+-- the same, as it is told
+pub record SameScene (old new : Scene) : Type 0 where
+  pub accounts : new.accounts ≡ old.accounts
+  pub floor : SameTold old.floor new.floor
+  pub hands : new.hands ≡ old.hands
+
+-- ---- a tenant asks a line
+
+-- the tenant's account alone becomes another
+pub record Moves (P : Account → Account → Type 0) (old : Scene) (t : ℕ) (new : Scene) : Type 0 where
+  pub account : Account
+  pub is : slice_get old.accounts t ≡ Some account
+  pub next : Account
+  pub does : P account next
+  pub new_is : new ≡ moved old t next old.floor
+
+abbrev pub Admits : Scene → ℕ → List ℕ → Stepped → Scene → Type 0
+Admits old t line NotNow new = (slice_get old.accounts t ≡ None) × (new ≡ old)
+Admits old t line Full new = Moves (λ a b. asking.Admits a line false b) old t new
+Admits old t line Asked new = Moves (λ a b. asking.Admits a line true b) old t new
+Admits old t line other new = ⊥
+
+-- ---- a tenant's next line is opened
+
+abbrev pub CanOpen : Scene → ℕ → Type 0
+CanOpen s t = (a : Account) × (slice_get s.accounts t ≡ Some a) × IsUnopened a
+
+-- the tenant's next line runs a job
+pub record StartsJob (old : Scene) (t : ℕ) (new : Scene) : Type 0 where
+  pub account : Account
+  pub is : slice_get old.accounts t ≡ Some account
+  pub spec : Spec
+  pub next : Account
+  pub waits : Waits account spec next
+  pub floor : Floor
+  pub submits : Submits old.floor t spec floor
+  pub new_is : new ≡ moved old t next floor
+
+abbrev pub Opens : Scene → ℕ → Stepped → Scene → Type 0
+Opens old t NotNow new = (¬ (CanOpen old t)) × (new ≡ old)
+Opens old t Answered new = CanOpen old t × Moves IsAnswered old t new
+Opens old t Job new = CanOpen old t × StartsJob old t new
+Opens old t other new = ⊥
+
+-- ---- a worker takes a piece
+
+-- the hand takes the piece that the job's claim gives
+pub record Takes (old : Scene) (w t pick task : ℕ) (new : Scene) : Type 0 where
+  pub free : hand_of old.hands w ≡ None
+  pub piece : Piece
+  pub floor : Floor
+  pub claims : Claims old.floor t pick piece floor
+  pub task_is : task ≡ piece.task
+  pub new_is : new ≡ handed old floor w (Some (record { tenant = t; piece = piece }))
+
+-- the hand is full, or the tenant has no claimable task
+abbrev pub CannotStart : Scene → ℕ → ℕ → Type 0
+CannotStart s w t = IsSome (hand_of s.hands w) ⊎ NothingAt s.floor.jobs t
+
+abbrev pub Starts : Scene → Option ℕ → ℕ → ℕ → Stepped → Scene → Type 0
+Starts old None t pick stepped new = (stepped ≡ NotNow) × (new ≡ old)
+Starts old (Some w) t pick (Started k) new = Takes old w t pick k new
+Starts old (Some w) t pick NotNow new = CannotStart old w t × SameScene old new
+Starts old (Some w) t pick other new = ⊥
+
+-- ---- a worker has run its piece
+
+-- the hand's piece fails its job
+pub record BreaksJob (old : Floor) (t : ℕ) (done : Done) (new : Floor) : Type 0 where
+  pub job : Live
+  pub is : job_of old.jobs t ≡ Some job
+  pub next : Live
+  pub breaks : Breaks (seen_of job) (done_of done) (seen_of next)
+  pub failed : FailsBy (seen_of job) (done_of done) (seen_of next)
+  pub new_is : new ≡ with_job old t (Some next)
+
+-- the hand gives its piece back, which was run: it is settled, or the job fails
+pub record GivesBack (old : Scene) (w : ℕ) (does : Floor → ℕ → Done → Floor → Type 0) (new : Scene) : Type 0 where
+  pub held : Held
+  pub is : hand_of old.hands w ≡ Some held
+  pub done : Done
+  pub task_is : done.task ≡ held.piece.task
+  pub ran : brought (done_of done) ≡ held_work held
+  pub floor : Floor
+  pub does_so : does old.floor held.tenant done floor
+  pub new_is : new ≡ handed old floor w None
+
+abbrev pub Finishes : Scene → Option ℕ → Stepped → Scene → Type 0
+Finishes old None stepped new = (stepped ≡ NotNow) × (new ≡ old)
+Finishes old (Some w) (Finished n) new = GivesBack old w (λ f t d g. Settles f t d n g) new
+Finishes old (Some w) FinishedFailed new = GivesBack old w BreaksJob new
+Finishes old (Some w) NotNow new = (hand_of old.hands w ≡ None) × (new ≡ old)
+Finishes old (Some w) other new = ⊥
+
+-- ---- a tenant is told what its job came to
+
+-- the job is over: it is done, or failed for want of memory
+pub record EndsJob (old : Scene) (t : ℕ) (new : Scene) : Type 0 where
+  pub account : Account
+  pub is : slice_get old.accounts t ≡ Some account
+  pub job : Live
+  pub job_is : job_of old.floor.jobs t ≡ Some job
+  pub lost : Bool
+  pub over : ((lost ≡ false) × (state_of (seen_of job) ≡ state.Ended)) ⊎ ((lost ≡ true) × (state_of (seen_of job) ≡ state.Failed))
+  pub new_is : new ≡ moved old t (with_reply account lost) (with_job old.floor t None)
+
+-- no job of the tenant is over
+abbrev pub CannotReply : Option Live → Type 0
+CannotReply None = Unit {0}
+CannotReply (Some j) = (state_of (seen_of j) ≡ state.Working) ⊎ (state_of (seen_of j) ≡ state.Failing)
+
+abbrev pub RepliesTo : Scene → ℕ → Stepped → Scene → Type 0
+RepliesTo old t NotNow new = CannotReply (job_of old.floor.jobs t) × (new ≡ old)
+RepliesTo old t Replied new = EndsJob old t new
+RepliesTo old t other new = ⊥
+
+-- ---- a tenant's job fails, for want of memory at a claim
+
+pub record Stops (old : Scene) (t : ℕ) (new : Scene) : Type 0 where
+  pub working : IsWorking old.floor t
+  pub floor : Floor
+  pub aborts : AbortsJob old.floor t floor
+  pub new_is : new ≡ record old { floor = floor }
+
+abbrev pub Aborts : Scene → ℕ → Stepped → Scene → Type 0
+Aborts old t NotNow new = (¬ (IsWorking old.floor t)) × (new ≡ old)
+Aborts old t Aborted new = Stops old t new
+Aborts old t other new = ⊥
+
+-- ---- events
+
+abbrev pub Steps : Scene → Event → Stepped → Scene → Type 0
+Steps old (event.Admit t line) stepped new = Admits old t line.now stepped new
+Steps old (event.Open t) stepped new = Opens old t stepped new
+Steps old (event.Start w t pick) stepped new = Starts old (seat_of w) t pick stepped new
+Steps old (event.Finish w) stepped new = Finishes old (seat_of w) stepped new
+Steps old (event.Reply t) stepped new = RepliesTo old t stepped new
+Steps old (event.Abort t) stepped new = Aborts old t stepped new
+
+-- ---- the other tenants
+
+-- whose piece is in the hand
+abbrev pub holder : Option ℕ → List (Option Held) → Option ℕ
+holder None hands = None
+holder (Some w) hands = option_map (λ h. h.tenant) (hand_of hands w)
+
+-- whose event it is
+abbrev pub tenant_of : Event → List (Option Held) → Option ℕ
+tenant_of (event.Admit t line) hands = Some t
+tenant_of (event.Open t) hands = Some t
+tenant_of (event.Start w t pick) hands = Some t
+tenant_of (event.Finish w) hands = holder (seat_of w) hands
+tenant_of (event.Reply t) hands = Some t
+tenant_of (event.Abort t) hands = Some t
+
+-- a piece of this tenant
+abbrev pub of_tenant : ℕ → Option Held → Option Held
+of_tenant t None = None
+of_tenant t (Some h) = if h.tenant == t then Some h else None
+
+-- the tenant's book, lines, replies, job, units and pieces in hands are as they were
+pub record IsAsItWas (t : ℕ) (old new : Scene) : Type 0 where
+  pub account : slice_get new.accounts t ≡ slice_get old.accounts t
+  pub job : option_map seen_of (job_of new.floor.jobs t) ≡ option_map seen_of (job_of old.floor.jobs t)
+  pub units : units_of new.floor t ≡ units_of old.floor t
+  pub hands : (w : ℕ) → of_tenant t (hand_of new.hands w) ≡ of_tenant t (hand_of old.hands w)
+
+abbrev pub LeavesOthers : Event → Scene → Scene → Type 0
+LeavesOthers e old new = (u : ℕ) → Some u ≢ tenant_of e old.hands → IsAsItWas u old new

@@ -1,0 +1,23 @@
+-- Claims by turn.
+use Rattle.std.specs.Prelude.{◌≡◌, ◌≤◌, ◌<◌, ℕ, List, Option, Some, None}
+use Rattle.ot_job.specs.Live.{Live}
+use Rattle.ot_job.specs.Taken.{Parts as Piece}
+use Rattle.ot_core.specs.Floors.{Floor, Claims, NothingAt, IsAsBefore, IsWorking}
+
+-- no tenant from one number up to another has a claimable task
+abbrev pub NothingIn : List (Option Live) → ℕ → ℕ → Type 0
+NothingIn jobs from to = (t : ℕ) → from ≤ t → t < to → NothingAt jobs t
+
+abbrev pub ClaimsIn : Floor → ℕ → ℕ → ℕ → Option (ℕ × Piece) → Floor → Type 0
+ClaimsIn old from to pick None new = NothingIn old.jobs from to × (new ≡ old)
+ClaimsIn old from to pick (Some p) new = Claims old p.0 pick p.1 new
+
+-- a piece of some tenant, where a tenant has a claimable task
+abbrev pub ClaimsSome : Floor → ℕ → Option (ℕ × Piece) → Floor → Type 0
+ClaimsSome old turn None new = ((t : ℕ) → NothingAt old.jobs t) × (new ≡ old)
+ClaimsSome old turn (Some p) new = Claims old p.0 turn p.1 new
+
+-- memory ran out at a claim of this tenant
+pub record RunsShort (old : Floor) (t : ℕ) (new : Floor) : Type 0 where
+  pub working : IsWorking old t
+  pub same : IsAsBefore old t new

@@ -1,0 +1,287 @@
+ghost use Rattle.std.specs.Prelude.{◌≡◌, ◌<◌, length};
+
+use crate::live::Jobs;
+use ot_check::{JobSpec, Outcome};
+use ot_job::{Done, Job, Piece, Refused, State};
+use std::alloc::{AllocError, Global};
+use std::marker::Model;
+
+/// The live jobs, at most one a tenant, and the units that were settled for each.
+#[derive(Drop)]
+pub struct Hall {
+    jobs: Jobs,
+    units: Vec<u64>,
+    total: u64,
+}
+
+/// Why a spec isn't taken.
+#[derive(Clone, Copy, Debug, PartialEq, Eq)]
+pub enum SubmitFault {
+    /// The tenant has a job, or there is no such tenant.
+    Busy,
+    /// Memory was refused.
+    Memory,
+}
+
+/// Memory was refused at a claim of this tenant's job.
+#[derive(Clone, Copy, Debug, PartialEq, Eq)]
+pub struct NoMemory {
+    pub tenant: u32,
+}
+
+/// What became of a job.
+#[derive(Debug, Drop)]
+pub enum Collected {
+    /// It isn't over.
+    Pending,
+    /// It has ended.
+    Ended(Outcome),
+    /// It has failed.
+    Failed,
+    /// The tenant has no job, or one of another spec.
+    Stranger,
+}
+
+impl Model for Hall {
+    ghost use Rattle.std.specs.Coded.{codes};
+    ghost use Rattle.ot_check.specs.contracts.checked.Checked as c;
+    ghost use Rattle.ot_job.specs.contracts.task.Task as t;
+    ghost use Rattle.ot_core.specs.Floors.{Floor};
+
+    ghost Value = { Floor };
+
+    ghost coded = { Prim.hlevel (codes, c.the_row.coded, t.the_row.coded) };
+
+    ghost use Rattle.ot_core.specs.FloorView.{floor_of, IsHall};
+
+    ghost view = { floor_of };
+
+    ghost invariant = { IsHall };
+}
+
+impl Hall {
+    ghost use Rattle.std.specs.Prelude.{◌≡◌, ◌≢◌, ◌↔◌, ◌<◌, ◌≤◌, ◌+◌, ◌^◌, [], None, Some, IfOk, IfErr, OnErr, IsTrue, IsSome, false, length, option_map};
+    ghost use Rattle.ot_job.specs.Live.{seen_of};
+    ghost use Rattle.ot_job.specs.States.{claimable_in};
+    ghost use Rattle.ot_job.specs.DoneView.{done_of};
+    ghost use Rattle.ot_job.specs.Dealings.{state_of};
+    ghost use Rattle.ot_core.specs.Index.{job_of};
+    ghost use Rattle.ot_core.specs.Floors.{new_floor, units_of, total_of, IsFree, Submits, ClaimsOf, IsWorking, NothingAt, IsAsBefore, Settles, RefusesIn, FailsIn, AbortsJob, Collects};
+    ghost use Rattle.ot_core.specs.Draining.{claimable_of, over_of, LivelyAt};
+    ghost use Rattle.ot_core.specs.Turns.{ClaimsIn, ClaimsSome, RunsShort};
+    ghost use Rattle.ot_core.specs.declared.hall.SubmitFault.TheVariants.{Busy};
+
+    /// Nobody has a job, and nothing was settled.
+    pub fn new(alloc: Global, tenants: u32) -> Result<Hall, AllocError>
+        ensures { IfOk result (λ hall. hall ≡ new_floor tenants) }
+    {
+        let jobs = Jobs::new(alloc, tenants)?;
+        let units = vec![in alloc; 0u64; tenants as usize]?;
+        Ok(Hall {
+            jobs,
+            units,
+            total: 0,
+        })
+    }
+
+    /// Starts a job for a tenant that has none.
+    pub fn submit(
+        &mut self,
+        alloc: Global,
+        tenant: u32,
+        spec: JobSpec,
+    ) -> Result<(), (JobSpec, SubmitFault)>
+        ensures begun { IfOk result (λ _. Submits self.old tenant spec self.new) }
+        ensures busy { IfErr result (λ e. e.1 ≡ Busy ↔ ¬ (IsFree self.old tenant)) }
+        ensures back { IfErr result (λ e. (e.0 ≡ spec) × (self.new ≡ self.old)) }
+    {
+        if tenant as usize >= self.jobs.tenants() {
+            return Err((spec, SubmitFault::Busy));
+        }
+        if let Some(_) = self.jobs.get(tenant) {
+            return Err((spec, SubmitFault::Busy));
+        }
+        if let Err((spec, _)) = self.jobs.begin(alloc, tenant, spec) {
+            return Err((spec, SubmitFault::Memory));
+        }
+        Ok(())
+    }
+
+    /// A claimable piece of the tenant's job.
+    pub fn claim_of(
+        &mut self,
+        alloc: Global,
+        tenant: u32,
+        pick: usize,
+    ) -> Result<Option<Piece>, AllocError>
+        ensures claimed { IfOk result (λ piece. ClaimsOf self.old tenant pick piece self.new) }
+        ensures refused { OnErr result (RunsShort self.old tenant self.new) }
+    {
+        if self.jobs.get(tenant).is_none() {
+            return Ok(None);
+        }
+        self.jobs.get_mut(tenant).claim(alloc, pick)
+    }
+
+    /// A claimable piece of some tenant, by the turn, where a tenant has one.
+    pub fn claim(&mut self, alloc: Global, turn: u64) -> Result<Option<(u32, Piece)>, NoMemory>
+        ensures claimed { IfOk result (λ claimed. ClaimsSome self.old turn claimed self.new) }
+        ensures refused { IfErr result (λ e. RunsShort self.old e.tenant self.new) }
+    {
+        let tenants = self.jobs.tenants() as u32;
+        if tenants == 0 {
+            return Ok(None);
+        }
+        let first = (turn % u64::from(tenants)) as u32;
+        let pick = turn as usize;
+        if let Some(claimed) = self.claim_among(alloc, first, tenants, pick)? {
+            return Ok(Some(claimed));
+        }
+        if let Some(claimed) = self.claim_among(alloc, 0, first, pick)? {
+            return Ok(Some(claimed));
+        }
+        Ok(None)
+    }
+
+    // A claimable piece of a tenant from one number up to another.
+    fn claim_among(
+        &mut self,
+        alloc: Global,
+        from: u32,
+        to: u32,
+        pick: usize,
+    ) -> Result<Option<(u32, Piece)>, NoMemory>
+        ensures claimed { IfOk result (λ claimed. ClaimsIn self.old from to pick claimed self.new) }
+        ensures refused { IfErr result (λ e. RunsShort self.old e.tenant self.new) }
+    {
+        for tenant in from..to {
+            if self.has_claimable(tenant) {
+                match self.claim_of(alloc, tenant, pick) {
+                    Ok(Some(piece)) => return Ok(Some((tenant, piece))),
+                    Ok(None) => unreachable!(),
+                    Err(_) => return Err(NoMemory { tenant }),
+                }
+            }
+        }
+        Ok(None)
+    }
+
+    // Whether the tenant has a claimable task.
+    fn has_claimable(&self, tenant: u32) -> bool
+        ensures some { IsTrue result → ¬ (NothingAt self.now.jobs tenant) }
+        ensures none { result ≡ false → NothingAt self.now.jobs tenant }
+    {
+        match self.jobs.get(tenant) {
+            Some(job) => job.claimable() > 0,
+            None => false,
+        }
+    }
+
+    /// Takes a piece of the tenant back. Its units are counted for the tenant and in the total.
+    pub fn settle(&mut self, alloc: Global, tenant: u32, done: Done) -> Result<u32, (Done, Refused)>
+        requires { total_of self.old + 20000 < 2 ^ 63 }
+        ensures settled { IfOk result (λ units. Settles self.old tenant done units self.new) }
+        ensures few { IfOk result (λ units. units ≤ 20000) }
+        ensures same { IfErr result (λ r. done_of r.0 ≡ done_of done) }
+        ensures refuses { IfErr result (λ r. RefusesIn (job_of self.old.jobs tenant) done r.1) }
+        ensures refused { OnErr result (IsAsBefore self.old tenant self.new) }
+    {
+        if self.jobs.get(tenant).is_none() {
+            return Err((done, Refused::Stranger));
+        }
+        let units = match self.jobs.get_mut(tenant).settle(alloc, done) {
+            Ok(units) => units,
+            Err(refused) => return Err(refused),
+        };
+        self.units[tenant as usize] += u64::from(units);
+        self.total += u64::from(units);
+        Ok(units)
+    }
+
+    /// A piece of the tenant comes back and fails its job.
+    pub fn fail(&mut self, tenant: u32, done: Done)
+        ensures { FailsIn self.old tenant done (job_of self.old.jobs tenant) self.new }
+    {
+        if self.jobs.get(tenant).is_none() {
+            done.discard();
+            return;
+        }
+        self.jobs.get_mut(tenant).fail(done);
+    }
+
+    /// The tenant's job fails.
+    pub fn abort(&mut self, tenant: u32)
+        requires { IsWorking self.old tenant }
+        ensures { AbortsJob self.old tenant self.new }
+    {
+        self.jobs.get_mut(tenant).abort();
+    }
+
+    /// What became of the tenant's job of this spec. One that is over is taken out.
+    pub fn collect(&mut self, tenant: u32, spec: &JobSpec) -> Collected
+        ensures { Collects self.old tenant spec.now result self.new }
+    {
+        let Some(job) = self.jobs.get(tenant) else {
+            return Collected::Stranger;
+        };
+        if !job.is_of(spec) {
+            return Collected::Stranger;
+        }
+        match job.state() {
+            State::Working | State::Failing => return Collected::Pending,
+            State::Ended => return Collected::Ended(self.jobs.take(tenant).into_outcome()),
+            State::Failed => {
+                let _ = self.jobs.take(tenant).into_spec();
+                return Collected::Failed;
+            }
+        }
+    }
+
+    /// How the tenant's job stands.
+    pub fn state(&self, tenant: u32) -> Option<State>
+        ensures { result ≡ option_map (λ j. state_of (seen_of j)) (job_of self.now.jobs tenant) }
+    {
+        let job = self.jobs.get(tenant)?;
+        Some(job.state())
+    }
+
+    /// How many tasks of the tenant are claimable.
+    pub fn claimable(&self, tenant: u32) -> usize
+        ensures some { (j : _) → job_of self.now.jobs tenant ≡ Some j → result ≡ length (claimable_in (seen_of j)) }
+        ensures none { job_of self.now.jobs tenant ≡ None → result ≡ 0 }
+    {
+        match self.jobs.get(tenant) {
+            Some(job) => job.claimable(),
+            None => 0,
+        }
+    }
+
+    // How many tasks of the tenant are claimable, and one where its job is over. A job that works with no
+    // piece out has a claimable task, and one that fails has a piece out.
+    pub(crate) fn outlook(&self, tenant: u32) -> (u64, u64)
+        ensures claimable { result.0 ≡ claimable_of (job_of self.now.jobs tenant) }
+        ensures few { result.0 ≤ 20001 }
+        ensures over { result.1 ≡ over_of (job_of self.now.jobs tenant) }
+        ensures one { result.1 ≤ 1 }
+        ensures lively { LivelyAt (job_of self.now.jobs tenant) }
+    {
+        let Some(job) = self.jobs.get(tenant) else {
+            return (0, 0);
+        };
+        let claimable = job.claimable() as u64;
+        match job.state() {
+            State::Working | State::Failing => (claimable, 0),
+            State::Ended | State::Failed => (claimable, 1),
+        }
+    }
+
+    /// The units that were settled for the tenant, and for all.
+    pub fn units(&self, tenant: u32) -> (u64, u64)
+        ensures { result ≡ (units_of self.now tenant, total_of self.now) }
+    {
+        match self.units.get(tenant as usize) {
+            Some(units) => (*units, self.total),
+            None => (0, self.total),
+        }
+    }
+}

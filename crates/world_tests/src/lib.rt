@@ -1,0 +1,5 @@
+//! Tests of worlds: two tenants whose lines are answered in several orders.
+#![tactic(auto)]
+
+#[cfg(test)]
+mod drains;
