@@ -1,18 +1,9 @@
-//! Lines of two tenants, and what each is told, whatever the order in which events are taken.
-use ot_book::reply_text;
+//! Lines of two tenants, and what each is told, alone or beside the other, whatever the order in which events
+//! are taken.
+use super::tenants::{told, world_of};
 use ot_core::{Event, World};
 use ot_store::{Limits, Store};
 use std::alloc::{AllocError, Global};
-
-/// Two tenants without arrays.
-fn two_tenants(alloc: Global) -> Result<World, AllocError> {
-    let one = String::from_str(alloc, "t1")?;
-    let two = String::from_str(alloc, "t2")?;
-    let mut openings = Vec::with_capacity(alloc, 2)?;
-    openings.push((one, Limits::usual(), Store::empty(alloc)))?;
-    openings.push((two, Limits::usual(), Store::empty(alloc)))?;
-    World::new(alloc, openings)
-}
 
 /// Asks each line, which has the number of its tenant before it.
 fn ask(alloc: Global, world: &mut World, lines: &'static str) -> Result<(), AllocError> {
@@ -33,20 +24,6 @@ fn answer(alloc: Global, world: &mut World, order: &str) -> Result<(), AllocErro
     }
 }
 
-/// What a tenant was told, a line each.
-fn told(alloc: Global, world: &World, tenant: u32) -> Result<String, AllocError> {
-    let mut text = String::new(alloc);
-    let Some(replies) = world.replies(tenant) else {
-        return String::from_str(alloc, "no tenant");
-    };
-    for reply in replies {
-        let reply = reply_text(alloc, &reply)?;
-        text.push_str(reply.as_str())?;
-        text.push('\n')?;
-    }
-    Ok(text)
-}
-
 /// What one tenant is told once all lines are answered in an order.
 fn answered(
     alloc: Global,
@@ -54,14 +31,48 @@ fn answered(
     order: &str,
     tenant: u32,
 ) -> Result<String, AllocError> {
-    let mut world = two_tenants(alloc)?;
+    let mut world = world_of(alloc, 2, Limits::usual(), &Store::empty(alloc))?;
     ask(alloc, &mut world, lines)?;
     answer(alloc, &mut world, order)?;
     told(alloc, &world, tenant)
 }
 
-/// A sum past 2^64 and a nested task of the first tenant, beside requests of the second that are
-/// refused and one that runs tasks.
+/// A sum past 2^64 of the first tenant alone.
+const ALONE: &str = r#"0 ["new","a",3]
+0 ["put","a",0,[1,2,3]]
+0 ["run",["program",[["a",0,3]],[["group",[["a",0,1]],[["task",[["red",["a",0,1]]],[["add",["c","a",0],18446744073709551615]]],["task",[["red",["a",0,1]]],[["add",["c","a",0],1]]],["task",[["red",["a",0,1]]],[["add",["c","a",0],5]]]]]]]]"#;
+
+const ALONE_TOLD: [&str; 2] = [
+    r#"["ok",1]
+["ok",2]
+["done",3,3,7,[[6,2,3]]]
+"#,
+    "",
+];
+
+/// The same beside a second tenant, of whose requests two are refused and one runs 1,024 tasks.
+const BESIDE: &str = r#"1 {}
+0 ["new","a",3]
+1 ["get","zz",0,1]
+0 ["put","a",0,[1,2,3]]
+1 ["new","a",3]
+1 ["run",["program",[["a",0,3]],[["for","i",0,1024,[["task",[["inout",["a",0,1]]],[["add",["c","a",0],1]]]]]]]]
+0 ["run",["program",[["a",0,3]],[["group",[["a",0,1]],[["task",[["red",["a",0,1]]],[["add",["c","a",0],18446744073709551615]]],["task",[["red",["a",0,1]]],[["add",["c","a",0],1]]],["task",[["red",["a",0,1]]],[["add",["c","a",0],5]]]]]]]]"#;
+
+const BESIDE_TOLD: [&str; 2] = [
+    r#"["ok",1]
+["ok",2]
+["done",3,3,7,[[6,2,3]]]
+"#,
+    r#"["err",1,411]
+["err",2,412]
+["ok",3]
+["done",4,1024,2048,[[1024,0,0]]]
+"#,
+];
+
+/// The same sum and a nested task of the first tenant, beside a chain of the second and a program that is
+/// refused.
 const LINES: &str = r#"0 ["new","a",3]
 1 {}
 0 ["put","a",0,[1,2,3]]
@@ -73,8 +84,7 @@ const LINES: &str = r#"0 ["new","a",3]
 0 ["run",["program",[["a",0,3]],[["task",[["inout",["a",0,3]]],[["task",[["out",["a",0,1]]],[["set",["c","a",0],4]]],["task",[["out",["a",1,1]]],[["set",["c","a",1],5]]],["wait"],["set",["c","a",2],["+",["c","a",0],["c","a",1]]]]]]]]
 1 ["run",["program",[],[["task",[["in",["a",0,1]]],[["set",["c","a",0],1]]]]]]"#;
 
-/// What the two are told.
-const TOLD: [&str; 2] = [
+const LINES_TOLD: [&str; 2] = [
     r#"["ok",1]
 ["ok",2]
 ["done",3,3,7,[[6,2,3]]]
@@ -89,21 +99,40 @@ const TOLD: [&str; 2] = [
 "#,
 ];
 
+/// Lines of two tenants, what they are told, and the order of events.
+const ROWS: [(&str, [&str; 2], &str); 7] = [
+    (ALONE, ALONE_TOLD, "first"),
+    (ALONE, ALONE_TOLD, "last"),
+    (BESIDE, BESIDE_TOLD, "first"),
+    (BESIDE, BESIDE_TOLD, "last"),
+    (LINES, LINES_TOLD, "first"),
+    (LINES, LINES_TOLD, "last"),
+    (LINES, LINES_TOLD, "middle"),
+];
+
 /// Whether both are told their lines in this order of events.
-fn are_told(alloc: Global, order: &str) -> bool {
-    let [one, two] = TOLD;
+fn are_told(alloc: Global, lines: &'static str, said: [&str; 2], order: &str) -> bool {
+    let [one, two] = said;
     match (
-        answered(alloc, LINES, order, 0),
-        answered(alloc, LINES, order, 1),
+        answered(alloc, lines, order, 0),
+        answered(alloc, lines, order, 1),
     ) {
         (Ok(first), Ok(second)) => first.as_str() == one && second.as_str() == two,
         _ => false,
     }
 }
 
+/// The number of the first row that is told otherwise.
+fn first_other(alloc: Global) -> Option<usize> {
+    for (number, (lines, said, order)) in ROWS.iter().enumerate() {
+        if !are_told(alloc, lines, *said, order) {
+            return Some(number);
+        }
+    }
+    None
+}
+
 #[test]
 fn each_order_of_events_gives_the_same_replies(rt: HostRuntime) {
-    assert!(rt; are_told(rt.alloc(), "first"));
-    assert!(rt; are_told(rt.alloc(), "last"));
-    assert!(rt; are_told(rt.alloc(), "middle"));
+    assert_eq!(rt; first_other(rt.alloc()), None);
 }

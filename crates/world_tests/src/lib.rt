@@ -1,5 +1,16 @@
-//! Tests of worlds: two tenants whose lines are answered in several orders.
+//! Tests of worlds: lines of tenants that are answered in several orders, alone and side by side; events that
+//! aren't enabled; what a chooser is told; random events.
 #![tactic(auto)]
 
 #[cfg(test)]
+mod cost;
+#[cfg(test)]
+mod counts;
+#[cfg(test)]
 mod drains;
+#[cfg(test)]
+mod random;
+#[cfg(test)]
+mod refused;
+#[cfg(test)]
+mod tenants;
