@@ -21,7 +21,7 @@ use Rattle.ot_core.specs.Asking.{with_reply}
 use Rattle.ot_core.specs.Index.{job_of}
 use Rattle.ot_core.specs.Floors.{Floor, IsAsBefore, Claims, Settles, FailsIn, AbortsJob, IsWorking, IsStrange, NothingAt, HasJob, with_job, with_settled, units_of, total_of}
 use Rattle.ot_core.specs.Scenes.{Scene, IsScene, Pairs, Agrees, hand_of, held_work, out_at}
-use Rattle.ot_core.specs.Steps.{handed, moved, Takes, GivesBack, BreaksJob, SameScene, EndsJob, Stops, CannotReply, CannotStart}
+use Rattle.ot_core.specs.Steps.{handed, moved, Takes, GivesBack, BreaksJob, SameScene, EndsJob, Stops, CannotReply, CannotStart, MayTake}
 use Rattle.ot_core.specs.declared.held.Held.{Held}
 use Rattle.ot_core.proofs.AccountLemmas.{answered-≤}
 use Rattle.ot_core.proofs.FloorLemmas.{job-within, all-told}
@@ -50,6 +50,14 @@ total-small s scene =
 -- what was read of a hand
 pub hand-read : (hands : List (Option Held)) (w : ℕ) (x r o : Option Held) → w < 16 → length hands ≡ 16 → x ≡ get_or hands w x → r ≡ x → r ≡ o → hand_of hands w ≡ o
 hand-read hands w x r o below many read was is = get_or_default hands w None x (omega (arith, below, many)) ∙ sym read ∙ sym was ∙ is
+
+is-none : {X : Type 0} (o : Option X) → is_some o ≡ false → o ≡ None
+is-none None empty = refl
+is-none (Some x) empty = absurd (true≢false empty)
+
+-- a hand that was read is free
+pub hand-free : (hands : List (Option Held)) (w : ℕ) (x : Option Held) → w < 16 → length hands ≡ 16 → x ≡ get_or hands w x → is_some x ≡ false → hand_of hands w ≡ None
+hand-free hands w x below many read empty = hand-read hands w x x None below many read refl (is-none x empty)
 
 others-out : (jobs : List (Option Live)) (t task : ℕ) (j k : Live) → job_of jobs t ≡ Some j → ((i : ℕ) → i ≢ task → work_at (seen_of k) i ≡ work_at (seen_of j) i)
     → OthersOut jobs (set jobs t (Some k)) t task
@@ -270,6 +278,10 @@ pub read-again : (s now : Scene) (t : ℕ) (a : Account) → s ≡ now → a ≡
 read-again s now t a is read =
     ap (λ l. let r : Scene = record { accounts = l; floor = s.floor; hands = s.hands } in r) (ap (set s.accounts t) read ∙ set-get_or s.accounts t a) ∙ is
 
+-- an account that is as it was is written again
+pub written-again : (s now : Scene) (t : ℕ) (a b : Account) → s ≡ now → a ≡ get_or s.accounts t a → b ≡ a → moved s t b s.floor ≡ now
+written-again s now t a b is read same = ap (λ o. moved s t o s.floor) same ∙ read-again s now t a is read
+
 -- a job whose state was read works
 pub working-of : (f : Floor) (t : ℕ) (s : State) → Some s ≡ option_map (λ j. state_of (seen_of j)) (job_of f.jobs t) → s ≡ state.Working → IsWorking f t
 working-of f t s read is = works (job_of f.jobs t) refl (ap Some (sym is) ∙ read)
@@ -280,6 +292,10 @@ working-of f t s read is = works (job_of f.jobs t) refl (ap Some (sym is) ∙ re
 
 pub cannot-start : (s now : Scene) (w t : ℕ) → s ≡ now → NothingAt s.floor.jobs t → CannotStart now w t
 cannot-start s now w t is none = subst (λ o. CannotStart o w t) is (inr none)
+
+-- a piece may be taken
+pub may-take : (s now : Scene) (w t : ℕ) → s ≡ now → hand_of s.hands w ≡ None → IsWorking s.floor t → MayTake now (Some w) t
+may-take s now w t is free working = subst (λ o. MayTake o (Some w) t) is (free, working)
 
 pub on_err_always : {T E P : Type 0} (r : Result T E) → P → OnErr r P
 on_err_always (Ok x) p = tt

@@ -6,6 +6,7 @@ mod SceneLemmas
 mod HandLemmas
 mod HandedLemmas
 mod OthersLemmas
+mod MemoryLemmas
 mod RunsLemmas
 mod ReplyLemmas
 mod DrainLemmas

@@ -107,7 +107,7 @@ by-back u w old new does back but not =
 
 others-admit : (t : ℕ) (line : List ℕ) (old new : Scene) (stepped : Stepped) → Admits old t line stepped new → (u : ℕ) → u ≢ t → IsAsItWas u old new
 others-admit t line old new NotNow did = λ u not. same u old new did.1
-others-admit t line old new Full did = λ u not. by-moved u t old new did.next old.floor not (same-floor old.floor t) did.new_is
+others-admit t line old new Full did = λ u not. same u old new did.1
 others-admit t line old new Asked did = λ u not. by-moved u t old new did.next old.floor not (same-floor old.floor t) did.new_is
 others-admit t line old new other did = absurd did
 

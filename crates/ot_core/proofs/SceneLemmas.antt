@@ -14,7 +14,7 @@ use Rattle.ot_core.specs.Asking.{IsAnswered, IsUnopened, Waits, with_reply, next
 use Rattle.ot_core.specs.Index.{job_of}
 use Rattle.ot_core.specs.Floors.{Floor, with_job, units_of, Submits}
 use Rattle.ot_core.specs.Scenes.{Scene, Pairs, Agrees, AreHeld, IsScene, out_at}
-use Rattle.ot_core.specs.Steps.{moved, Moves, CanOpen, StartsJob}
+use Rattle.ot_core.specs.Steps.{moved, HasTenant, Moves, CanOpen, StartsJob}
 use Rattle.ot_core.specs.declared.held.Held.{Held}
 
 pub slice_get-set_same : {X : Type 0} (xs : List X) (t : ℕ) (x : X) → t < length xs → slice_get (set xs t x) t ≡ Some x
@@ -225,9 +225,13 @@ scene-replied s t a j lost scene at sound job calm =
 pub moves-at : (P : Account → Account → Type 0) (s now : Scene) (t : ℕ) (a b : Account) → s ≡ now → slice_get s.accounts t ≡ Some a → P a b → Moves P now t (moved s t b s.floor)
 moves-at P s now t a b is at does = subst (λ o. Moves P o t (moved s t b s.floor)) is (record { account = a; is = at; next = b; does = does; new_is = refl })
 
+-- there is such a tenant
+pub has-tenant : (P : Account → Type 0) (s now : Scene) (t : ℕ) (a : Account) → s ≡ now → slice_get s.accounts t ≡ Some a → P a → HasTenant P now t
+has-tenant P s now t a is at has = subst (λ o. HasTenant P o t) is (a, at, has)
+
 -- a request can be opened
 pub can-open : (s now : Scene) (t : ℕ) (a : Account) → s ≡ now → slice_get s.accounts t ≡ Some a → IsUnopened a → CanOpen now t
-can-open s now t a is at free = subst (λ o. CanOpen o t) is (a, at, free)
+can-open = has-tenant IsUnopened
 
 pub cannot-open : (s now : Scene) (t : ℕ) (a : Account) → s ≡ now → slice_get s.accounts t ≡ Some a → (IsUnopened a → ⊥) → CanOpen now t → ⊥
 cannot-open s now t a is at not can =

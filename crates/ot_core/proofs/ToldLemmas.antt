@@ -2,14 +2,16 @@
 use Rattle.std.proofs.Common.{◌≡◌, ℕ, zero, suc, List, [], ◌∷◌, ◌++◌, length, map, take, drop, get_or, refl, sym, ap, ◌∙◌, subst, arith, Bool, false, true≢false}
 use Rattle.std.specs.Prelude.{Some, None, slice_get, is_some}
 use Rattle.std.proofs.lemmas.Option.{same_Some}
-use Rattle.std.proofs.lemmas.List.{take-append-drop}
+use Rattle.std.proofs.lemmas.List.{take-append-drop, take_all, length-map}
 use Rattle.std.proofs.Math.Seq.{take-append_seam}
 use Rattle.ot_book.specs.Replies.{Told, is_lost}
 use Rattle.ot_book.specs.Answers.{State, opening, answer_or_lost, answers}
 use Rattle.ot_book.specs.Books.{lines_in, state_in}
 use Rattle.ot_store.specs.declared.limits.Limits.{Limits}
-use Rattle.ot_core.specs.Accounts.{Account, told, IsSound}
-use Rattle.ot_core.specs.Headline.{marked, due, AreFirst, IsTold, IsToldWhole, NoneLost, SameLosses, AgreeAt, AsksSame}
+use Rattle.ot_core.specs.Accounts.{Account, told, answered, IsSound}
+use Rattle.ot_core.specs.Scenes.{Scene}
+use Rattle.ot_core.specs.Draining.{AllAnswered}
+use Rattle.ot_core.specs.Headline.{marked, due, due_whole, AreFirst, IsTold, IsToldWhole, IsToldAll, Tells, TellsAll, NoneLost, SameLosses, AgreeAt, AsksSame}
 
 -- the replies to some lines, then to others
 pub answers-append : (limits : Limits) (s : State) (ls ms : List (List ℕ × Bool)) →
@@ -87,3 +89,32 @@ same-told a b ta tb asks i same =
 -- and at each place that both have, where it never ran out
 pub same-whole : (a b : Account) → NoneLost (told a) → NoneLost (told b) → (i : ℕ) → SameLosses (told a) (told b) i
 same-whole a b na nb i = λ j x y _ p q. na j x p ∙ sym (nb j y q)
+
+-- ---- once all lines are answered
+
+answers-length : (limits : Limits) (s : State) (ls : List (List ℕ × Bool)) → length (answers limits s ls).0 ≡ length ls
+answers-length limits s [] = refl
+answers-length limits s (l ∷ ls) = ap suc (answers-length limits (answer_or_lost limits s l.0 l.1).1 ls)
+
+marked-length : (lines : List (List ℕ)) (says : List Told) → length (marked lines says) ≡ length lines
+marked-length [] says = refl
+marked-length (line ∷ lines) [] = ap suc (marked-length lines [])
+marked-length (line ∷ lines) (said ∷ says) = ap suc (marked-length lines says)
+
+-- the first of so many are all
+first-all : (says all : List Told) → AreFirst says all → length all ≡ length says → says ≡ all
+first-all says all first many = first ∙ take_all (length says) all (omega (arith, many))
+
+told-all : (a : Account) → IsTold a × (NoneLost (told a) → IsToldWhole a) → answered a ≡ length a.asked → IsToldAll a
+told-all a tells answered_is =
+    let many : length (told a) ≡ length a.asked = length-map a.book.log (λ (e : List ℕ × Told). e.1) ∙ answered_is in
+    let lines = marked a.asked (told a) in record {
+      many = many;
+      all = first-all (told a) (due a.book.limits a.book.base a.asked (told a)) tells.0
+          (answers-length a.book.limits (opening a.book.base) lines ∙ marked-length a.asked (told a) ∙ sym many);
+      whole = λ none. first-all (told a) (due_whole a.book.limits a.book.base a.asked) (tells.1 none)
+          (answers-length a.book.limits (opening a.book.base) (map (λ line. (line, false)) a.asked) ∙ length-map a.asked (λ (line : List ℕ). (line, false)) ∙ sym many);
+    }
+
+pub tells-all : (s : Scene) → Tells s → AllAnswered s → TellsAll s
+tells-all s tells answered_all = λ t a at. told-all a (tells t a at) (answered_all t a at)

@@ -18,10 +18,17 @@ IsUnopened a = (answered a < length a.asked) × (a.spec ≡ None)
 abbrev pub next_line : Account → List ℕ
 next_line a = unwrap_or (slice_get a.asked (answered a)) []
 
+-- as many lines are asked as the log may have, or fewer
+abbrev pub IsFull : Account → Type 0
+IsFull a = a.book.limits.log ≤ length a.asked
+
+abbrev pub HasRoom : Account → Type 0
+HasRoom a = length a.asked < a.book.limits.log
+
 -- the line is asked, or the log has no room for it
 abbrev pub Admits : Account → List ℕ → Bool → Account → Type 0
-Admits old line false new = (old.book.limits.log ≤ length old.asked) × (new ≡ old)
-Admits old line true new = (length old.asked < old.book.limits.log) × (new ≡ record old { asked = old.asked ++ line ∷ [] })
+Admits old line false new = IsFull old × (new ≡ old)
+Admits old line true new = HasRoom old × (new ≡ record old { asked = old.asked ++ line ∷ [] })
 
 -- the next line has its reply, as its request or for want of memory
 abbrev pub with_reply : Account → Bool → Account

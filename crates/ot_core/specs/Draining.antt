@@ -10,7 +10,7 @@ use Rattle.ot_job.specs.declared.state.State.TheVariants.{Working, Failing, Ende
 use Rattle.ot_core.specs.Accounts.{Account, answered}
 use Rattle.ot_core.specs.Index.{job_of}
 use Rattle.ot_core.specs.Scenes.{Scene, hand_of, seat_of}
-use Rattle.ot_core.specs.Steps.{CanOpen, SameScene}
+use Rattle.ot_core.specs.Steps.{CanOpen, RunsOut}
 use Rattle.ot_core.specs.Runs.{RunsTo}
 use Rattle.ot_core.specs.Toil.{free_hand}
 use Rattle.ot_core.specs.declared.held.Held.{Held}
@@ -106,11 +106,13 @@ pub record Drains (old new : Scene) : Type 0 where
   pub drainable : All IsDrainable events
   pub runs : RunsTo old events new
 
--- and then memory ran out
+-- and at the next of them memory ran out
 pub record DrainsPart (old new : Scene) : Type 0 where
   pub last : Scene
   pub drains : Drains old last
-  pub same : SameScene last new
+  pub next : Event
+  pub move : IsMove last next
+  pub out : RunsOut last next new
 
 -- every line asked is answered
 abbrev pub AllAnswered : Scene → Type 0

@@ -49,6 +49,17 @@ IsToldWhole a = AreFirst (told a) (due_whole a.book.limits a.book.base a.asked)
 abbrev pub Tells : Scene → Type 0
 Tells s = (t : ℕ) (a : Account) → slice_get s.accounts t ≡ Some a → IsTold a × (NoneLost (told a) → IsToldWhole a)
 
+-- ---- once all lines are answered
+
+-- each line that the tenant asked has its reply, and they are all that its own requests are told
+pub record IsToldAll (a : Account) : Type 0 where
+  pub many : length (told a) ≡ length a.asked
+  pub all : told a ≡ due a.book.limits a.book.base a.asked (told a)
+  pub whole : NoneLost (told a) → told a ≡ due_whole a.book.limits a.book.base a.asked
+
+abbrev pub TellsAll : Scene → Type 0
+TellsAll s = (t : ℕ) (a : Account) → slice_get s.accounts t ≡ Some a → IsToldAll a
+
 -- ---- two worlds, and what they tell one tenant
 
 -- both asked the same, from the same arrays, within the same limits

@@ -10,7 +10,7 @@ use Rattle.ot_job.specs.declared.piece.Done.{Done}
 use Rattle.ot_job.specs.declared.state.State.TheVariants as state
 use Rattle.ot_core.specs.Accounts.{Account}
 use Rattle.ot_core.specs.Asking as asking
-use Rattle.ot_core.specs.Asking.{IsUnopened, IsAnswered, Waits, with_reply}
+use Rattle.ot_core.specs.Asking.{IsFull, HasRoom, IsUnopened, IsAnswered, Waits, with_reply}
 use Rattle.ot_core.specs.Index.{job_of}
 use Rattle.ot_core.specs.Floors.{Floor, units_of, with_job, SameTold, Submits, NothingAt, Claims, IsWorking, Settles, AbortsJob}
 use Rattle.ot_core.specs.Scenes.{Scene, hand_of, held_work, seat_of}
@@ -44,16 +44,20 @@ pub record Moves (P : Account → Account → Type 0) (old : Scene) (t : ℕ) (n
   pub does : P account next
   pub new_is : new ≡ moved old t next old.floor
 
+-- there is such a tenant, and this holds of it
+abbrev pub HasTenant : (Account → Type 0) → Scene → ℕ → Type 0
+HasTenant P s t = (a : Account) × (slice_get s.accounts t ≡ Some a) × P a
+
 abbrev pub Admits : Scene → ℕ → List ℕ → Stepped → Scene → Type 0
 Admits old t line NotNow new = (slice_get old.accounts t ≡ None) × (new ≡ old)
-Admits old t line Full new = Moves (λ a b. asking.Admits a line false b) old t new
+Admits old t line Full new = HasTenant IsFull old t × (new ≡ old)
 Admits old t line Asked new = Moves (λ a b. asking.Admits a line true b) old t new
 Admits old t line other new = ⊥
 
 -- ---- a tenant's next line is opened
 
 abbrev pub CanOpen : Scene → ℕ → Type 0
-CanOpen s t = (a : Account) × (slice_get s.accounts t ≡ Some a) × IsUnopened a
+CanOpen s t = HasTenant IsUnopened s t
 
 -- the tenant's next line runs a job
 pub record StartsJob (old : Scene) (t : ℕ) (new : Scene) : Type 0 where
@@ -166,6 +170,26 @@ Steps old (event.Start w t pick) stepped new = Starts old (seat_of w) t pick ste
 Steps old (event.Finish w) stepped new = Finishes old (seat_of w) stepped new
 Steps old (event.Reply t) stepped new = RepliesTo old t stepped new
 Steps old (event.Abort t) stepped new = Aborts old t stepped new
+
+-- ---- want of memory
+
+-- the worker's hand is free, and the tenant's job works
+abbrev pub MayTake : Scene → Option ℕ → ℕ → Type 0
+MayTake s None t = ⊥
+MayTake s (Some w) t = (hand_of s.hands w ≡ None) × IsWorking s.floor t
+
+-- Memory may run out where a line is asked, opened, or a piece taken: where the log has room for the line, the line may
+-- be opened, and the hand is free and the job works. No other event takes memory that it could be refused.
+abbrev pub MayRunOut : Scene → Event → Type 0
+MayRunOut s (event.Admit t line) = HasTenant HasRoom s t
+MayRunOut s (event.Open t) = CanOpen s t
+MayRunOut s (event.Start w t pick) = MayTake s (seat_of w) t
+MayRunOut s other = ⊥
+
+-- memory ran out at this event, and nothing has changed
+pub record RunsOut (old : Scene) (e : Event) (new : Scene) : Type 0 where
+  pub may : MayRunOut old e
+  pub same : SameScene old new
 
 -- ---- the other tenants
 

@@ -35,7 +35,7 @@ impl Tenant {
     ghost use Rattle.ot_book.specs.BookView.{entries_of};
     ghost use Rattle.ot_core.specs.Accounts.{Account, IsSound, answered};
     ghost use Rattle.ot_core.specs.Headline.{IsTold};
-    ghost use Rattle.ot_core.specs.Asking.{Admits, Opens, with_reply, new_account, IsUnopened};
+    ghost use Rattle.ot_core.specs.Asking.{Admits, Opens, with_reply, new_account, HasRoom, IsUnopened};
 
     /// A tenant that asked nothing yet.
     pub(crate) fn new(alloc: Global, book: Book) -> Tenant
@@ -55,7 +55,7 @@ impl Tenant {
     /// Asks a line, where the log has room for it.
     pub(crate) fn admit(&mut self, alloc: Global, line: &[u8]) -> Result<bool, AllocError>
         ensures admitted { IfOk result (λ took. Admits self.old line.now took self.new) }
-        ensures memory { OnErr result (self.new ≡ self.old) }
+        ensures memory { OnErr result (HasRoom self.old × (self.new ≡ self.old)) }
         ensures sound { IsSound self.new }
     {
         if self.asked.len() >= self.book.limits().log as usize {

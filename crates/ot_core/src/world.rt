@@ -53,8 +53,9 @@ impl World {
     ghost use Rattle.ot_core.specs.Scenes.{IsScene};
     ghost use Rattle.ot_core.specs.Toil.{free_hand};
     ghost use Rattle.ot_core.specs.Draining.{Drains, DrainsPart, AllAnswered, count_of, moves_at, opens_of, full_hand, IsMove, IsFreeWorker, MayFinish, LivelyAt};
-    ghost use Rattle.ot_core.specs.Headline.{Tells};
-    ghost use Rattle.ot_core.specs.Steps.{Admits, Opens, Starts, Finishes, RepliesTo, Aborts, Steps, SameScene, LeavesOthers};
+    ghost use Rattle.ot_core.specs.Headline.{Tells, TellsAll};
+    ghost use Rattle.ot_core.specs.Asking.{HasRoom};
+    ghost use Rattle.ot_core.specs.Steps.{Admits, Opens, Starts, Finishes, RepliesTo, Aborts, Steps, HasTenant, CanOpen, MayTake, RunsOut, SameScene, LeavesOthers};
 
     /// Tenants with these names, limits and arrays, who asked nothing yet.
     pub fn new(alloc: Global, openings: Vec<(String, Limits, Store)>) -> Result<World, AllocError>
@@ -100,7 +101,9 @@ impl World {
     }
 
     /// Takes enabled events, other than `Admit` and `Abort`, until none is left or memory runs out. The
-    /// chooser is told how many there are, and says which is next.
+    /// chooser is told how many there are, and says which is next: its answer is taken modulo their count.
+    /// A start counts once for each free worker and each claimable task. Then every line that was asked has its
+    /// reply, and they are all that each tenant's own requests give.
     pub fn drain<F: FnMut(u64) -> u64>(
         &mut self,
         alloc: Global,
@@ -111,6 +114,7 @@ impl World {
         ensures part { OnErr result (DrainsPart self.old self.new) }
         ensures answered { OnOk result (AllAnswered self.new) }
         ensures headline { Tells self.new }
+        ensures all { OnOk result (TellsAll self.new) }
     {
         let drained = self.take_moves(alloc, chooser);
         self.tells();
@@ -299,11 +303,13 @@ impl World {
     }
 
     /// Takes an event. One that isn't enabled answers `NotNow` and changes nothing. An event of one
-    /// tenant leaves all others as they were.
+    /// tenant leaves all others as they were. Where memory is refused nothing changes; that is told
+    /// only of an `Admit` that has room, an `Open` that may be opened, and a `Start` of a free worker on
+    /// a job that works.
     pub fn step(&mut self, alloc: Global, event: Event<'_>) -> Result<Stepped, AllocError>
         ensures stepped { IfOk result (λ stepped. Steps self.old event.entry stepped self.new) }
         ensures others { OnOk result (LeavesOthers event.entry self.old self.new) }
-        ensures memory { OnErr result (SameScene self.old self.new) }
+        ensures memory { OnErr result (RunsOut self.old event.entry self.new) }
         ensures headline { Tells self.new }
     {
         let stepped = self.take(alloc, event);
@@ -314,7 +320,7 @@ impl World {
     fn take(&mut self, alloc: Global, event: Event<'_>) -> Result<Stepped, AllocError>
         ensures stepped { IfOk result (λ stepped. Steps self.old event.entry stepped self.new) }
         ensures others { OnOk result (LeavesOthers event.entry self.old self.new) }
-        ensures memory { OnErr result (SameScene self.old self.new) }
+        ensures memory { OnErr result (RunsOut self.old event.entry self.new) }
     {
         match event {
             Event::Admit(tenant, line) => self.admit(alloc, tenant, line),
@@ -335,7 +341,7 @@ impl World {
     // A tenant asks a line.
     fn admit(&mut self, alloc: Global, tenant: u32, line: &[u8]) -> Result<Stepped, AllocError>
         ensures stepped { IfOk result (λ stepped. Admits self.old tenant line.now stepped self.new) }
-        ensures memory { OnErr result (self.new ≡ self.old) }
+        ensures memory { OnErr result (HasTenant HasRoom self.old tenant × (self.new ≡ self.old)) }
     {
         let Some(account) = self.tenants.get_mut(tenant as usize) else {
             return Ok(Stepped::NotNow);
@@ -349,7 +355,7 @@ impl World {
     // A tenant's next line is opened.
     fn open(&mut self, alloc: Global, tenant: u32) -> Result<Stepped, AllocError>
         ensures stepped { IfOk result (λ stepped. Opens self.old tenant stepped self.new) }
-        ensures memory { OnErr result (self.new ≡ self.old) }
+        ensures memory { OnErr result (CanOpen self.old tenant × (self.new ≡ self.old)) }
     {
         let Some(account) = self.tenants.get_mut(tenant as usize) else {
             return Ok(Stepped::NotNow);
@@ -377,7 +383,7 @@ impl World {
     ) -> Result<Stepped, AllocError>
         requires { hand < 16 }
         ensures stepped { IfOk result (λ stepped. Starts self.old (Some hand) tenant pick stepped self.new) }
-        ensures memory { OnErr result (SameScene self.old self.new) }
+        ensures memory { OnErr result (MayTake self.old (Some hand) tenant × SameScene self.old self.new) }
     {
         if self.hands[hand].is_some() {
             return Ok(Stepped::NotNow);

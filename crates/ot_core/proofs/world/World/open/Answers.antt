@@ -6,7 +6,7 @@ use Rattle.ot_core.specs.Scenes.{IsScene}
 use Rattle.ot_core.specs.Steps.{Moves, moved}
 use Rattle.ot_core.specs.SceneView.{scene_of}
 use Rattle.ot_core.proofs.SceneLemmas.{scene-answered, scene-opened, reply-opened, moves-at, can-open, cannot-open, starts-job}
-use Rattle.ot_core.proofs.HandedLemmas.{read-again}
+use Rattle.ot_core.proofs.HandedLemmas.{read-again, written-again, on_err_always}
 use Rattle.ot_core.proofs.world.World.open.Goals as goal
 
 pub returns-then-not-is_unopened-clause-stepped : goal.returns-then-not-is_unopened-clause-stepped
@@ -74,4 +74,14 @@ returns-clause-stepped c =
     let waits : Waits a c.in-Some-2.spec c.open.new.self = subst (λ o. asking.Opens a o c.open.new.self) c.in-Some-2.is c.in_ok-spec.ensures.opened in (
       can-open s _ c.args.tenant a c.self.view_is here (c.if-not-is_unopened.ensures.0 refl),
       starts-job s _ c.args.tenant a c.open.new.self c.in-Some-2.spec c.submit.new.self c.self.view_is here waits c.in-Ok.ensures.begun,
+    )
+
+pub returns-in_err-spec-clause-memory : goal.returns-in_err-spec-clause-memory
+returns-in_err-spec-clause-memory c =
+    let s = scene_of c.self.inside in
+    let a = c.in-Some.account.now in
+    let here : slice_get s.accounts c.args.tenant ≡ Some a = slice_get_read s.accounts (length s.accounts) c.args.tenant a refl c.in-Some.ensures.item.3.0 c.in-Some.ensures.item.1 in
+    on_err_always c.from_residual.result (
+      can-open s _ c.args.tenant a c.self.view_is here (c.if-not-is_unopened.ensures.0 refl),
+      written-again s _ c.args.tenant a c.open.new.self c.self.view_is c.in-Some.ensures.item.1 c.in_err-spec.ensures.memory,
     )

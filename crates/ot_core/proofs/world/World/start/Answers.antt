@@ -1,7 +1,7 @@
-use Rattle.std.proofs.Common.{subst}
+use Rattle.std.proofs.Common.{sym, ◌∙◌, subst}
 use Rattle.ot_core.specs.Floors.{ClaimsOf}
 use Rattle.ot_core.specs.SceneView.{scene_of}
-use Rattle.ot_core.proofs.HandedLemmas.{hand-read, as-before, taken, cannot-start, on_err_always}
+use Rattle.ot_core.proofs.HandedLemmas.{hand-read, hand-free, as-before, taken, cannot-start, may-take, on_err_always}
 use Rattle.ot_core.proofs.world.World.start.Goals as goal
 
 pub invariant_of-self : goal.invariant_of-self
@@ -9,7 +9,12 @@ invariant_of-self c = (as-before (scene_of c.self.inside) _ c.args.tenant c.clai
 
 pub returns-in_err-piece-clause-memory : goal.returns-in_err-piece-clause-memory
 returns-in_err-piece-clause-memory c =
-    on_err_always c.from_residual.result (as-before (scene_of c.self.inside) _ c.args.tenant c.claim_of.new.self c.self.view_is c.self.invariant c.in_err-piece.ensures.refused.same).1
+    let s = scene_of c.self.inside in
+    let free = hand-free s.hands c.args.hand c.index.result.now c.requires c.self.invariant.hands_many c.index.ensures (sym c.is_some.ensures ∙ c.if-is_some.false) in
+    on_err_always c.from_residual.result (
+      may-take s _ c.args.hand c.args.tenant c.self.view_is free c.in_err-piece.ensures.refused.working,
+      (as-before s _ c.args.tenant c.claim_of.new.self c.self.view_is c.self.invariant c.in_err-piece.ensures.refused.same).1,
+    )
 
 pub invariant_of-self-in_default : goal.invariant_of-self-in_default
 invariant_of-self-in_default c =
