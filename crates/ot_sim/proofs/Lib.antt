@@ -1,0 +1,3 @@
+pub mod WordLemmas
+pub mod PlaceLemmas
+pub mod Counting

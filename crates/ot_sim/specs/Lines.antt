@@ -1,0 +1,98 @@
+-- What a line asks.
+use Rattle.std.specs.Prelude.{ℕ, bytes_eq, codes, if◌then◌else◌, List, Option, Some, None}
+use Rattle.ot_program.specs.Names.{is_name}
+use Rattle.ot_sim.specs.Words.{word, behind, number_of, worker_of}
+use Rattle.ot_sim.specs.declared.line.Line.{Line}
+use Rattle.ot_sim.specs.declared.line.Line.TheVariants as line
+
+-- tenants by name, requests as bytes, workers and picks as numbers
+pub data Said : Type 0 where
+  Tenant : List ℕ → Said
+  NoTenant : Said
+  Admit : List ℕ → List ℕ → Said
+  Open : List ℕ → Said
+  Start : ℕ → List ℕ → ℕ → Said
+  Finish : ℕ → Said
+  Reply : List ℕ → Said
+  Abort : List ℕ → Said
+  Drain : Said
+  Usage : List ℕ → Said
+  Bad : Said
+
+abbrev pub said_of : Line → Said
+said_of (line.Tenant t) = Tenant t.now
+said_of line.NoTenant = NoTenant
+said_of (line.Admit t request) = Admit t.now request.now
+said_of (line.Open t) = Open t.now
+said_of (line.Start w t pick) = Start w t.now pick
+said_of (line.Finish w) = Finish w
+said_of (line.Reply t) = Reply t.now
+said_of (line.Abort t) = Abort t.now
+said_of line.Drain = Drain
+said_of (line.Usage t) = Usage t.now
+said_of line.Bad = Bad
+
+-- `tenant T`
+abbrev pub tenant_line : List ℕ → Said
+tenant_line rest = if is_name rest then Tenant rest else NoTenant
+
+-- a word and `T`
+abbrev pub tenant_of : (List ℕ → Said) → List ℕ → Said
+tenant_of asks rest = if is_name rest then asks rest else Bad
+
+-- `admit T REQUEST`: the request is all that stands behind the second space
+abbrev pub admit_of : List ℕ → Option (List ℕ) → Said
+admit_of t None = Bad
+admit_of t (Some request) = if is_name t then Admit t request else Bad
+
+abbrev pub admit_line : List ℕ → Said
+admit_line rest = admit_of (word rest) (behind rest)
+
+-- `start W T PICK`
+abbrev pub start_of : Option ℕ → List ℕ → Option ℕ → Said
+start_of (Some w) t (Some pick) = if is_name t then Start w t pick else Bad
+start_of w t pick = Bad
+
+abbrev pub start_behind : List ℕ → List ℕ → Option (List ℕ) → Said
+start_behind w t None = Bad
+start_behind w t (Some pick) = start_of (worker_of w) t (number_of pick)
+
+abbrev pub start_words : List ℕ → Option (List ℕ) → Said
+start_words w None = Bad
+start_words w (Some rest) = start_behind w (word rest) (behind rest)
+
+abbrev pub start_line : List ℕ → Said
+start_line rest = start_words (word rest) (behind rest)
+
+-- `finish W`
+abbrev pub finish_of : Option ℕ → Said
+finish_of None = Bad
+finish_of (Some w) = Finish w
+
+abbrev pub finish_line : List ℕ → Said
+finish_line rest = finish_of (worker_of rest)
+
+-- one word alone
+abbrev pub lone_word : List ℕ → Said
+lone_word w = if bytes_eq w (codes "drain") then Drain else (if bytes_eq w (codes "tenant") then NoTenant else Bad)
+
+-- a word, and what stands behind its space
+abbrev pub by_word : List ℕ → List ℕ → Said
+by_word w rest =
+    if bytes_eq w (codes "tenant") then tenant_line rest
+    else (if bytes_eq w (codes "admit") then admit_line rest
+    else (if bytes_eq w (codes "open") then tenant_of Open rest
+    else (if bytes_eq w (codes "start") then start_line rest
+    else (if bytes_eq w (codes "finish") then finish_line rest
+    else (if bytes_eq w (codes "reply") then tenant_of Reply rest
+    else (if bytes_eq w (codes "abort") then tenant_of Abort rest
+    else (if bytes_eq w (codes "usage") then tenant_of Usage rest
+    else Bad)))))))
+
+abbrev pub by_words : List ℕ → Option (List ℕ) → Said
+by_words w None = lone_word w
+by_words w (Some rest) = by_word w rest
+
+-- the bytes of a line, without its LF
+abbrev pub line_of : List ℕ → Said
+line_of bytes = by_words (word bytes) (behind bytes)
