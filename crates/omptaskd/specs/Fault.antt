@@ -4,6 +4,8 @@ use Rattle.omptaskd.specs.declared.fault.Fault.{Fault}
 use Rattle.omptaskd.specs.declared.fault.Fault.TheVariants as of
 use Rattle.ot_front.specs.declared.fault.FrontFault.{FrontFault}
 use Rattle.ot_front.specs.declared.fault.FrontFault.TheVariants as front
+use Rattle.ot_sim.specs.declared.fault.SimFault.{SimFault}
+use Rattle.ot_sim.specs.declared.fault.SimFault.TheVariants as sim
 
 -- the line on standard error
 abbrev pub line_of : Fault → List ℕ
@@ -38,3 +40,11 @@ fault_of front.WriteFailed = of.WriteFailed
 fault_of front.Memory = of.Memory
 fault_of front.Stranger = of.Stranger
 fault_of front.TooManyTurns = of.TooManyReads
+
+-- the program's fault where sim ended with one
+abbrev pub sim_fault_of : SimFault → Fault
+sim_fault_of sim.ReadFailed = of.ReadFailed
+sim_fault_of sim.WriteFailed = of.WriteFailed
+sim_fault_of sim.Memory = of.Memory
+sim_fault_of sim.LongLine = of.LineTooLong
+sim_fault_of sim.TooManyTurns = of.TooManyReads

@@ -5,4 +5,6 @@
 pub enum Words {
     /// One session of one tenant, over standard input and output.
     Solo,
+    /// A world of tenants, moved by the lines of standard input.
+    Sim,
 }

@@ -1,8 +1,9 @@
 //! What the program tells of a fault, and the status that it ends with.
 ghost use Rattle.std.specs.Prelude.{◌≡◌};
-ghost use Rattle.omptaskd.specs.Fault.{line_of, status_of, fault_of};
+ghost use Rattle.omptaskd.specs.Fault.{line_of, status_of, fault_of, sim_fault_of};
 
 use ot_front::FrontFault;
+use ot_sim::SimFault;
 
 /// What went wrong, one variant for each line that the program may print.
 #[derive(Clone, Copy, Debug, PartialEq, Eq)]
@@ -29,6 +30,20 @@ impl From<FrontFault> for Fault {
             FrontFault::Memory => Fault::Memory,
             FrontFault::Stranger => Fault::Stranger,
             FrontFault::TooManyTurns => Fault::TooManyReads,
+        }
+    }
+}
+
+impl From<SimFault> for Fault {
+    ghost from_gives = { λ fault f. f ≡ sim_fault_of fault };
+
+    fn from(fault: SimFault) -> Fault {
+        match fault {
+            SimFault::ReadFailed => Fault::ReadFailed,
+            SimFault::WriteFailed => Fault::WriteFailed,
+            SimFault::Memory => Fault::Memory,
+            SimFault::LongLine => Fault::LineTooLong,
+            SimFault::TooManyTurns => Fault::TooManyReads,
         }
     }
 }

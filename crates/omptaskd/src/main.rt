@@ -17,7 +17,8 @@ use clap::error::ErrorKind;
 pub use command_line::words;
 pub use fault::{Fault, fault_line};
 use ot_book::{Book, Solo};
-use ot_front::{End, Reading, Writing, serve};
+use ot_front::{Reading, Writing, serve};
+pub use ot_sim::{SimFault, sim_lines};
 use ot_store::{Limits, Store};
 use std::alloc::Global;
 use std::env::Env;
@@ -59,9 +60,10 @@ fn run(rt: &(impl Input + Print + Eprint), alloc: Global, given: &[&str]) -> Exi
     };
     let ended = match asked {
         Words::Solo => solo(rt, alloc),
+        Words::Sim => sim(rt, alloc),
     };
     match ended {
-        Ok(_) => ExitCode::SUCCESS,
+        Ok(()) => ExitCode::SUCCESS,
         Err(fault) => tell(rt, &fault),
     }
 }
@@ -86,14 +88,22 @@ fn explain(rt: &(impl Print + Eprint), error: &clap::Error) -> ExitCode
 }
 
 /// Serves the one tenant of a `solo` run, called `t1`, over standard input and output, in one thread.
-fn solo<R: Input + Print>(rt: &R, alloc: Global) -> Result<End, Fault> {
+fn solo<R: Input + Print>(rt: &R, alloc: Global) -> Result<(), Fault> {
     let Ok(mut book) = Book::new(alloc, "t1", Limits::usual(), Store::empty(alloc)) else {
         return Err(Fault::Memory);
     };
     let mut source = Reading::new(rt.reader());
     let mut sink = Writing::new(io::writer(rt));
-    let ended = serve(alloc, &mut book, &mut Solo, &mut source, &mut sink)?;
-    Ok(ended)
+    let _ended = serve(alloc, &mut book, &mut Solo, &mut source, &mut sink)?;
+    Ok(())
+}
+
+/// Moves a world of tenants by the lines of standard input.
+fn sim<R: Input + Print>(rt: &R, alloc: Global) -> Result<(), Fault> {
+    let mut source = Reading::new(rt.reader());
+    let mut sink = Writing::new(io::writer(rt));
+    sim_lines(alloc, &mut source, &mut sink)?;
+    Ok(())
 }
 
 /// Prints what went wrong, where standard error takes it, and answers the status for it.

@@ -1,6 +1,7 @@
 //! The line of each fault, and the fault that a session's is.
 use crate::fault::{Fault, fault_line};
 use ot_front::FrontFault;
+use ot_sim::SimFault;
 
 const LINES: [(Fault, &str); 10] = [
     (Fault::ReadFailed, "omptaskd: read failed"),
@@ -23,6 +24,14 @@ const FAULTS: [(FrontFault, Fault); 5] = [
     (FrontFault::TooManyTurns, Fault::TooManyReads),
 ];
 
+const SIM_FAULTS: [(SimFault, Fault); 5] = [
+    (SimFault::ReadFailed, Fault::ReadFailed),
+    (SimFault::WriteFailed, Fault::WriteFailed),
+    (SimFault::Memory, Fault::Memory),
+    (SimFault::LongLine, Fault::LineTooLong),
+    (SimFault::TooManyTurns, Fault::TooManyReads),
+];
+
 /// The first fault that has another line or status.
 fn other_line() -> Option<Fault> {
     for (fault, line) in &LINES {
@@ -43,8 +52,19 @@ fn other_fault() -> Option<FrontFault> {
     None
 }
 
+/// The first fault of sim that is another fault of the program.
+fn other_sim_fault() -> Option<SimFault> {
+    for (sim, fault) in &SIM_FAULTS {
+        if Fault::from(*sim) != *fault {
+            return Some(*sim);
+        }
+    }
+    None
+}
+
 #[test]
 fn each_fault_has_its_line(rt: HostRuntime) {
     assert_eq!(rt; other_line(), None);
     assert_eq!(rt; other_fault(), None);
+    assert_eq!(rt; other_sim_fault(), None);
 }

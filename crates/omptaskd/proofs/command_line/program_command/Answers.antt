@@ -14,6 +14,7 @@ returns c =
     ∙ ap (on_top (λ (s : Shape). record s { has_version = true })) named in
     let required = ap app_of_fields {y = record (out-Command c.version.result) { subcommand_required = true }} c.subcommand_required.ensures in
     let top = required ∙ ap (on_top (λ (s : Shape). record s { subcommand_required = true })) versioned in
-    IfOk-weaker c.subcommand.result _ _
-    (λ command added. added.shape c.solo_command.ensures.own ∙ ap₂ with_subcommand top c.solo_command.ensures.words)
-    c.subcommand.ensures
+    let with_solo = c.in_ok-subcommand.ensures.shape c.solo_command.ensures.own ∙ ap₂ with_subcommand top c.solo_command.ensures.words in
+    IfOk-weaker c.subcommand-2.result _ _
+    (λ command added. added.shape c.sim_command.ensures.own ∙ ap₂ with_subcommand with_solo c.sim_command.ensures.words)
+    c.subcommand-2.ensures
