@@ -6,12 +6,12 @@ use Rattle.ot_model.specs.declared.expr.Cell.{Cell}
 use Rattle.ot_model.proofs.CellsLemmas.{cells_apart}
 use Rattle.ot_check.specs.walk.Grids.{found_at, widths, filled}
 
-slice_get-set_same : {A : Type 0} (xs : List A) (i : ℕ) (y : A) → IsSome (slice_get xs i) → slice_get (set xs i y) i ≡ Some y
+pub slice_get-set_same : {A : Type 0} (xs : List A) (i : ℕ) (y : A) → IsSome (slice_get xs i) → slice_get (set xs i y) i ≡ Some y
 slice_get-set_same [] i y there = cc
 slice_get-set_same (x ∷ xs) zero y there = refl
 slice_get-set_same (x ∷ xs) (suc i) y there = slice_get-set_same xs i y there
 
-slice_get-set_other : {A : Type 0} (xs : List A) (i j : ℕ) (y : A) → i ≢ j → slice_get (set xs i y) j ≡ slice_get xs j
+pub slice_get-set_other : {A : Type 0} (xs : List A) (i j : ℕ) (y : A) → i ≢ j → slice_get (set xs i y) j ≡ slice_get xs j
 slice_get-set_other [] i j y apart = refl
 slice_get-set_other (x ∷ xs) zero zero y apart = absurd (apart refl)
 slice_get-set_other (x ∷ xs) zero (suc j) y apart = refl

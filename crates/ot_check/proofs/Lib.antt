@@ -7,7 +7,11 @@ pub mod PathsMet
 pub mod SameLemmas
 pub mod EqualLemmas
 pub mod GridLemmas
-pub mod StateLemmas
+pub mod NumberLemmas
+pub mod DeclaredLemmas
+pub mod RowLemmas
+pub mod TaskLemmas
+pub mod RegionLemmas
 pub mod StandingLemmas
 pub mod OffenceLemmas
 pub mod TellingLemmas

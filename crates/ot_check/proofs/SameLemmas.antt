@@ -8,10 +8,10 @@ use Rattle.ot_model.specs.declared.expr.Cell.{Cell}
 use Rattle.ot_model.proofs.CellsLemmas as model
 use Rattle.ot_check.proofs.Bits.{and_left, and_right, and_false}
 
-eq_itself : (n : ℕ) → (n == n) ≡ true
+pub eq_itself : (n : ℕ) → (n == n) ≡ true
 eq_itself n = grind (arith, nat_tests)
 
-eq_apart : (n m : ℕ) → n ≢ m → (n == m) ≡ false
+pub eq_apart : (n m : ℕ) → n ≢ m → (n == m) ≡ false
 eq_apart n m apart = grind (arith, nat_tests)
 
 pub same_itself : (c : Cell) → same_cell c c ≡ true

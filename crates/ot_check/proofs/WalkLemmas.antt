@@ -1,26 +1,13 @@
 -- Steps of the walk.
-use Rattle.std.proofs.Common.{◌≡◌, ◌<◌, ◌≤◌, ℕ, ◌+◌, Bool, List, drop, length, get_or, sym, ap, subst, ◌∙◌, IfOk, Ok, Err, Result}
+use Rattle.std.proofs.Common.{◌≡◌, ◌<◌, ◌≤◌, ℕ, ◌+◌, List, drop, length, get_or, sym, ap, subst, ◌∙◌, IfOk, OnOk, Ok, Err, Result}
 use Rattle.ot_model.specs.Tree.{S, End, Next}
 use Rattle.ot_model.specs.View.{stmt_of, stmts_of}
-use Rattle.ot_model.specs.declared.expr.Cell.{Cell}
 use Rattle.ot_model.specs.declared.stmt.Stmt.{Stmt}
-use Rattle.ot_model.specs.declared.stmt.Use.{Use}
-use Rattle.ot_check.specs.Offences.{Declared}
-use Rattle.ot_check.specs.walk.Walk.{Children, anyone, behind_one}
-use Rattle.ot_check.specs.walk.States.{Represents, Whatever, cell_state}
+use Rattle.ot_check.specs.walk.Walk.{Children, behind_one}
+use Rattle.ot_check.specs.walk.States.{Represents, Whatever}
 use Rattle.ot_check.specs.declared.fault.CheckFault.{CheckFault}
 use Rattle.ot_check.specs.declared.standing.Standing.{Standing}
 use Rattle.std.proofs.lemmas.List.{at_drop_more, drop_all}
-use Rattle.ot_check.proofs.StandingLemmas.{tells-same, clashing-same}
-
--- ---- the same children
-
-pub represents-same : (own : Declared) (opened : Cell → Bool) (children others : Children) (standing : Standing)
-    → ((test : List Use → Bool) → children test ≡ others test) → Represents own opened children standing → Represents own opened others standing
-represents-same own opened children others standing same h = record {
-  anyone = h.anyone ∙ same anyone;
-  cells = tells-same standing.table (cell_state own opened children) (cell_state own opened others) (clashing-same own opened children others same) h.cells;
-}
 
 -- ---- the rest of a body
 
@@ -38,6 +25,10 @@ rest_none items whole i same l = ap (λ items. stmts_of (drop i items)) (sym sam
 pub if_ok : {A E : Type 0} (r : Result A E) (P Q : A → Type 0) → ((x : A) → P x → Q x) → IfOk r P → IfOk r Q
 if_ok (Ok x) P Q f h = f x h
 if_ok (Err e) P Q f h = h
+
+pub on_ok : {A E : Type 0} (r : Result A E) (P Q : Type 0) → (P → Q) → OnOk r P → OnOk r Q
+on_ok (Ok x) P Q f h = f h
+on_ok (Err e) P Q f h = h
 
 -- a statement's own change of the children
 pub behind-as : (r : Result ℕ CheckFault) (old new : Standing) (x y : S) (f : Children → Children) → x ≡ y → ((children : Children) → f children ≡ behind_one children y)

@@ -1,19 +1,22 @@
 //! Checks that a program can't race, and hands it on as checked.
 #![tactic(auto)]
 
-mod change;
 mod checked;
 mod checking;
+mod declared;
 mod fault;
 mod job;
 pub mod laws;
 mod modes;
+mod numbers;
+mod opened;
 mod standing;
-mod state;
 mod statement;
 mod table;
+mod tasks;
 mod through;
 mod touch;
+mod users;
 mod walk;
 
 pub use checked::Checked;

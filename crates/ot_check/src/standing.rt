@@ -1,153 +1,209 @@
-use crate::change::{in_group, with_child, with_declared};
+use crate::declared::mode_in;
 use crate::fault::Offence;
-use crate::modes::{all_modes, has, no_modes};
-use crate::state::CellState;
-use crate::table::Table;
+use crate::modes::{covers, is_adds};
+use crate::numbers::Numbers;
+use crate::opened::Opened;
+use crate::tasks::Tasks;
 use ot_model::{Cell, Decl, Mode, Shape, Use};
 use std::alloc::{AllocError, Global};
+use std::mem;
 
-/// What stands at a place of a walk: what the body declares, which groups are open in it, and which
-/// children may be unawaited.
+/// What stands at a place of a body.
+#[derive(Debug, Drop)]
+pub(crate) struct Region {
+    /// What the body declares. The program's own, which may use each cell, declares nothing.
+    own: Option<Decl>,
+    /// The cells of the groups that are open in it.
+    opened: Opened,
+    /// The children that may be unawaited.
+    pub(crate) unawaited: Numbers,
+}
+
+/// What stood before a group.
+#[derive(Debug, Drop)]
+pub(crate) struct Outside {
+    opened: Opened,
+    unawaited: Numbers,
+}
+
+/// What stands at a place of a walk.
 #[derive(Debug, Drop)]
 pub(crate) struct Standing {
-    /// Whether any child may be unawaited.
-    pub(crate) someone: bool,
-    pub(crate) table: Table,
+    pub(crate) region: Region,
+    pub(crate) tasks: Tasks,
+}
+
+impl Region {
+    ghost use Rattle.std.specs.Prelude.{◌≡◌};
+    ghost use Rattle.ot_check.specs.Offences.{allows, adds_to};
+
+    /// Whether the body may use a cell so.
+    fn allows(&self, used: Use) -> bool
+        ensures { result ≡ allows self.now.own used }
+    {
+        match &self.own {
+            None => true,
+            Some(decl) => match mode_in(decl.uses(), used.cell) {
+                None => false,
+                Some(mode) => covers(mode, used.mode),
+            },
+        }
+    }
+
+    /// Whether the body declares a cell as `Adds`.
+    fn adds_to(&self, cell: Cell) -> bool
+        ensures { result ≡ adds_to self.now.own cell }
+    {
+        match &self.own {
+            None => false,
+            Some(decl) => match mode_in(decl.uses(), cell) {
+                None => false,
+                Some(mode) => is_adds(mode),
+            },
+        }
+    }
 }
 
 impl Standing {
-    ghost use Rattle.std.specs.Prelude.{◌≡◌, ◌∷◌, [], IfOk, None, Some};
+    ghost use Rattle.std.specs.Prelude.{◌≡◌, ◌+◌, ◌<◌, ◌^◌, ◌&&◌, ◌∷◌, [], IfOk, OnOk, None, Some};
     ghost use Rattle.std.specs.List.{list_any};
     ghost use Rattle.ot_model.specs.Shapes.{array_lengths};
     ghost use Rattle.ot_model.specs.Names.{IsInShape, AreInShape, AreDeclaredIn};
     ghost use Rattle.ot_check.specs.Paths.{Touch, Enter};
-    ghost use Rattle.ot_check.specs.Offences.{exceeds, misfits};
+    ghost use Rattle.std.specs.Prelude.{Bool};
+    ghost use Rattle.ot_model.specs.declared.expr.Cell.{Cell};
+    ghost use Rattle.ot_check.specs.Offences.{Declared, exceeds, misfits};
     ghost use Rattle.ot_check.specs.walk.Walk.{Children, nobody, nothing_open, with_group, may_break};
-    ghost use Rattle.ot_check.specs.walk.Grids.{widths};
-    ghost use Rattle.ot_check.specs.walk.States.{Represents, Whatever, one_more, of_both};
+    ghost use Rattle.ot_check.specs.walk.States.{Represents, Stands, Whatever, AreMore, lens_of, one_more, of_both, back, with_children, with_others};
 
     /// What stands at the beginning of a program: its body may use each cell.
     pub(crate) fn of_root(alloc: Global, shape: &Shape) -> Result<Standing, AllocError>
         ensures stands { IfOk result (λ s. Represents None nothing_open nobody s) }
-        ensures widths { IfOk result (λ s. widths s.table ≡ array_lengths shape.now) }
+        ensures lens { IfOk result (λ s. lens_of s ≡ array_lengths shape.now) }
+        ensures passed { IfOk result (λ s. s.tasks.passed ≡ 0) }
     {
-        let state = CellState {
-            allowed: all_modes(),
-            reduces: false,
-            grouped: false,
-            clashing: no_modes(),
+        let tasks = Tasks::new(alloc, shape)?;
+        let region = Region {
+            own: None,
+            opened: Opened::new(alloc),
+            unawaited: Numbers::new(alloc),
         };
-        let table = Table::new(alloc, shape.arrays(), state)?;
-        Ok(Standing {
-            someone: false,
-            table,
-        })
+        Ok(Standing { region, tasks })
     }
 
-    /// What stands at the beginning of a task's body.
-    pub(crate) fn of_task(&self, alloc: Global, decl: &Decl) -> Result<Standing, AllocError>
-        requires { AreDeclaredIn (widths self.now.table) decl.now }
-        ensures stands { IfOk result (λ s. Represents (Some decl.now) nothing_open nobody s) }
-        ensures widths { IfOk result (λ s. widths s.table ≡ widths self.now.table) }
+    /// Goes into the body of a task. What stood before it is the answer.
+    pub(crate) fn begin_task(&mut self, alloc: Global, decl: &Decl) -> Result<Region, AllocError>
+        ensures stands { IfOk result (λ _. Whatever self.old (λ own opened children. Represents (Some decl.now) nothing_open nobody self.new)) }
+        ensures outer { IfOk result (λ outer. outer ≡ self.old.region) }
+        ensures tasks { self.new.tasks ≡ self.old.tasks }
     {
-        let state = CellState {
-            allowed: no_modes(),
-            reduces: false,
-            grouped: false,
-            clashing: no_modes(),
+        let region = Region {
+            own: Some(decl.copy(alloc)?),
+            opened: Opened::new(alloc),
+            unawaited: Numbers::new(alloc),
         };
-        let mut table = self.table.like(alloc, state)?;
-        for used in decl.uses() {
-            let state = table.at(used.cell);
-            table.set(used.cell, with_declared(state, used.mode));
-        }
-        Ok(Standing {
-            someone: false,
-            table,
-        })
+        Ok(mem::replace(&mut self.region, region))
     }
 
-    /// One child more, which may be unawaited.
-    pub(crate) fn add_child(&mut self, decl: &Decl)
-        requires { AreDeclaredIn (widths self.old.table) decl.now }
-        ensures stands { Whatever self.old (λ own opened children. Represents own opened (one_more children decl.now) self.new) }
-        ensures widths { widths self.new.table ≡ widths self.old.table }
+    /// Comes out of the body of a task, which is one child more that may be unawaited.
+    pub(crate) fn end_task(
+        &mut self,
+        alloc: Global,
+        outer: Region,
+        decl: &Decl,
+    ) -> Result<(), AllocError>
+        requires declared { AreDeclaredIn (lens_of self.old) decl.now }
+        requires short { self.old.tasks.passed + 1 < 2 ^ 32 }
+        ensures stands { OnOk result ((own : Declared) (opened : Cell → Bool) (children : Children)
+            → Stands own opened children outer self.old.tasks → Represents own opened (one_more children decl.now) self.new) }
+        ensures more { OnOk result (AreMore self.old.tasks self.new.tasks) }
+        ensures passed { OnOk result (self.new.tasks.passed ≡ self.old.tasks.passed + 1) }
+        ensures lens { OnOk result (lens_of self.new ≡ lens_of self.old) }
     {
-        for used in decl.uses() {
-            let state = self.table.at(used.cell);
-            self.table.set(used.cell, with_child(state, used.mode));
-        }
-        self.someone = true;
+        self.region = outer;
+        let number = self.tasks.add(alloc, decl)?;
+        self.region.unawaited.insert(number)
     }
 
-    /// A group that names these cells is open too.
-    pub(crate) fn enter(&mut self, cells: &[Cell])
-        requires { AreInShape (widths self.old.table) cells.now }
-        ensures stands { Whatever self.old (λ own opened children. Represents own (with_group opened cells.now) children self.new) }
-        ensures widths { widths self.new.table ≡ widths self.old.table }
+    /// Goes into a group that names these cells. What stood before it is the answer.
+    pub(crate) fn begin_group(
+        &mut self,
+        alloc: Global,
+        cells: &[Cell],
+    ) -> Result<Outside, AllocError>
+        ensures stands { IfOk result (λ _. Whatever self.old (λ own opened children. Represents own (with_group opened cells.now) children self.new)) }
+        ensures outside { IfOk result (λ outside. Whatever self.old (λ own opened children. Stands own opened children (back self.new.region outside) self.new.tasks)) }
+        ensures tasks { IfOk result (λ _. self.new.tasks ≡ self.old.tasks) }
     {
-        for cell in cells {
-            let state = self.table.at(*cell);
-            self.table.set(*cell, in_group(state));
-        }
+        let opened = self.region.opened.copy(alloc)?;
+        let unawaited = self.region.unawaited.copy(alloc)?;
+        self.region.opened.enter(alloc, cells)?;
+        Ok(Outside { opened, unawaited })
     }
 
-    /// The same once more.
-    pub(crate) fn copy(&self, alloc: Global) -> Result<Standing, AllocError>
-        ensures { IfOk result (λ copied. copied ≡ self.now) }
+    /// Comes out of a group, whose end awaits the children made in it. Those from before stay
+    /// unawaited where some path through it has no wait. It takes no memory.
+    pub(crate) fn end_group(&mut self, outside: Outside, through: bool)
+        ensures stands { (own : Declared) (opened : Cell → Bool) (children : Children)
+            → Stands own opened children (back self.old.region outside) self.old.tasks → Represents own opened (λ test. children test && through) self.new }
+        ensures tasks { self.new.tasks ≡ self.old.tasks }
     {
-        Ok(Standing {
-            someone: self.someone,
-            table: self.table.copy(alloc)?,
-        })
+        self.region.opened = outside.opened;
+        self.region.unawaited = outside.unawaited;
+        if !through {
+            self.await_children();
+        }
     }
 
     /// All children have been awaited. It takes no memory.
     pub(crate) fn await_children(&mut self)
         ensures stands { Whatever self.old (λ own opened children. Represents own opened nobody self.new) }
-        ensures widths { widths self.new.table ≡ widths self.old.table }
+        ensures tasks { self.new.tasks ≡ self.old.tasks }
     {
-        self.table.clear();
-        self.someone = false;
+        self.region.unawaited.clear();
     }
 
-    /// The children of another way through an `if` may be unawaited too.
-    pub(crate) fn merge(&mut self, other: &Standing)
-        requires { widths self.old.table ≡ widths other.now.table }
-        ensures stands { Whatever self.old (λ own opened children. (others : Children)
-            → Represents own opened others other.now → Represents own opened (of_both children others) self.new) }
-        ensures widths { widths self.new.table ≡ widths self.old.table }
+    /// Goes back to the children from before one way through an `if`. Those behind it are the answer.
+    /// It takes no memory.
+    pub(crate) fn begin_other(&mut self, before: Numbers) -> Numbers
+        ensures before { self.new ≡ with_others self.old before }
+        ensures behind { result ≡ self.old.region.unawaited }
     {
-        self.table.merge(&other.table);
-        self.someone = self.someone || other.someone;
+        mem::replace(&mut self.region.unawaited, before)
+    }
+
+    /// The children behind one way through an `if` may be unawaited too.
+    pub(crate) fn end_other(&mut self, one: &Numbers) -> Result<(), AllocError>
+        ensures stands { OnOk result ((own : Declared) (opened : Cell → Bool) (children others : Children)
+            → Represents own opened others self.old → Stands own opened children (with_children self.old.region one.now) self.old.tasks
+            → Represents own opened (of_both children others) self.new) }
+        ensures tasks { OnOk result (self.new.tasks ≡ self.old.tasks) }
+    {
+        self.region.unawaited.join(one)
     }
 
     /// Whether a use of a cell is this offence here.
     pub(crate) fn touch_breaks(&self, used: Use, offence: Offence) -> bool
-        requires { IsInShape (widths self.now.table) used.cell }
+        requires { IsInShape (lens_of self.now) used.cell }
         ensures { Whatever self.now (λ own opened children. result ≡ may_break own opened children (Touch used) offence) }
     {
-        let state = self.table.at(used.cell);
         match offence {
-            Offence::NotDeclared => !has(state.allowed, used.mode),
-            Offence::ReductionMisuse => state.grouped,
-            Offence::ConflictsWithChild => has(state.clashing, used.mode),
+            Offence::NotDeclared => !self.region.allows(used),
+            Offence::ReductionMisuse => self.region.opened.has(used.cell),
+            Offence::ConflictsWithChild => self.tasks.clash(&self.region.unawaited, used),
             Offence::ChildBeyond | Offence::EndsWithChildren => false,
         }
     }
 
     /// Whether a child's use goes beyond what the body declares.
     fn use_exceeds(&self, used: Use) -> bool
-        requires { IsInShape (widths self.now.table) used.cell }
         ensures { Whatever self.now (λ own opened children. result ≡ exceeds own used) }
     {
-        let state = self.table.at(used.cell);
-        !matches!(used.mode, Mode::Adds) && !has(state.allowed, used.mode)
+        !matches!(used.mode, Mode::Adds) && !self.region.allows(used)
     }
 
     /// Whether a child's declaration goes beyond the body's.
     pub(crate) fn exceeds(&self, decl: &Decl) -> bool
-        requires { AreDeclaredIn (widths self.now.table) decl.now }
         ensures { Whatever self.now (λ own opened children. result ≡ list_any (exceeds own) decl.now) }
     {
         for used in decl.uses() {
@@ -160,19 +216,17 @@ impl Standing {
 
     /// Whether a child's use doesn't fit the reductions that are open in the body.
     fn use_misfits(&self, used: Use) -> bool
-        requires { IsInShape (widths self.now.table) used.cell }
         ensures { Whatever self.now (λ own opened children. result ≡ misfits own opened used) }
     {
-        let state = self.table.at(used.cell);
+        let grouped = self.region.opened.has(used.cell);
         match used.mode {
-            Mode::Adds => !state.reduces && !state.grouped,
-            Mode::Reads | Mode::Writes => state.grouped,
+            Mode::Adds => !self.region.adds_to(used.cell) && !grouped,
+            Mode::Reads | Mode::Writes => grouped,
         }
     }
 
     /// Whether a child's declaration doesn't fit the reductions that are open in the body.
     pub(crate) fn misfits(&self, decl: &Decl) -> bool
-        requires { AreDeclaredIn (widths self.now.table) decl.now }
         ensures { Whatever self.now (λ own opened children. result ≡ list_any (misfits own opened) decl.now) }
     {
         for used in decl.uses() {
@@ -185,20 +239,25 @@ impl Standing {
 
     /// Whether a group that names the cell is this offence here.
     fn cell_breaks(&self, cell: Cell, offence: Offence) -> bool
-        requires { IsInShape (widths self.now.table) cell }
+        requires { IsInShape (lens_of self.now) cell }
         ensures { Whatever self.now (λ own opened children. result ≡ may_break own opened children (Enter (cell ∷ [])) offence) }
     {
-        let state = self.table.at(cell);
+        let used = Use {
+            cell,
+            mode: Mode::Writes,
+        };
         match offence {
-            Offence::ReductionMisuse => !state.allowed.writes || state.grouped,
-            Offence::ConflictsWithChild => state.clashing.writes,
+            Offence::ReductionMisuse => {
+                !self.region.allows(used) || self.region.opened.has(cell)
+            }
+            Offence::ConflictsWithChild => self.tasks.clash(&self.region.unawaited, used),
             Offence::NotDeclared | Offence::ChildBeyond | Offence::EndsWithChildren => false,
         }
     }
 
     /// Whether a group of these cells is this offence here.
     pub(crate) fn group_breaks(&self, cells: &[Cell], offence: Offence) -> bool
-        requires { AreInShape (widths self.now.table) cells.now }
+        requires { AreInShape (lens_of self.now) cells.now }
         ensures { Whatever self.now (λ own opened children. result ≡ may_break own opened children (Enter cells.now) offence) }
     {
         for cell in cells {

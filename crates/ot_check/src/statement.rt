@@ -2,8 +2,7 @@ ghost use Rattle.std.specs.Prelude.{◌≡◌};
 ghost use Rattle.ot_model.specs.View.{stmt_of};
 ghost use Rattle.ot_model.specs.Names.{OneNamedIn};
 ghost use Rattle.ot_check.specs.walk.Walk.{is_offence, leading};
-ghost use Rattle.ot_check.specs.walk.Grids.{widths};
-ghost use Rattle.ot_check.specs.walk.States.{Whatever};
+ghost use Rattle.ot_check.specs.walk.States.{Whatever, lens_of};
 
 use crate::fault::Offence;
 use crate::standing::Standing;
@@ -13,7 +12,7 @@ use ot_model::{Mode, Stmt, Use};
 
 /// The first offence of a statement itself.
 pub(crate) fn own_offence(stmt: &Stmt, standing: &Standing) -> Option<Offence>
-    requires { OneNamedIn (widths standing.now.table) (stmt_of stmt.now) }
+    requires { OneNamedIn (lens_of standing.now) (stmt_of stmt.now) }
     ensures { Whatever standing.now (λ own opened children. result ≡ leading (is_offence own opened children (stmt_of stmt.now))) }
 {
     if is_offence(stmt, standing, Offence::NotDeclared) {
@@ -36,7 +35,7 @@ pub(crate) fn own_offence(stmt: &Stmt, standing: &Standing) -> Option<Offence>
 
 /// Whether a statement itself is this offence.
 fn is_offence(stmt: &Stmt, standing: &Standing, offence: Offence) -> bool
-    requires { OneNamedIn (widths standing.now.table) (stmt_of stmt.now) }
+    requires { OneNamedIn (lens_of standing.now) (stmt_of stmt.now) }
     ensures { Whatever standing.now (λ own opened children. result ≡ is_offence own opened children (stmt_of stmt.now) offence) }
 {
     match stmt {

@@ -6,8 +6,7 @@ ghost use Rattle.ot_model.specs.Names.{FitsShape, IsInShape, ValueNamedIn};
 ghost use Rattle.ot_model.specs.declared.stmt.Mode.TheVariants.{Reads};
 ghost use Rattle.ot_check.specs.Paths.{Touch, use_as};
 ghost use Rattle.ot_check.specs.walk.Walk.{may_break};
-ghost use Rattle.ot_check.specs.walk.Grids.{widths};
-ghost use Rattle.ot_check.specs.walk.States.{Whatever};
+ghost use Rattle.ot_check.specs.walk.States.{Whatever, lens_of};
 
 use crate::fault::Offence;
 use crate::standing::Standing;
@@ -15,7 +14,7 @@ use ot_model::{Cell, Expr, Mode, Section, Use};
 
 /// Whether the reading of a value is this offence.
 pub(crate) fn value_breaks(expr: &Expr, standing: &Standing, offence: Offence) -> bool
-    requires { ValueNamedIn (widths standing.now.table) (expr_of expr.now) }
+    requires { ValueNamedIn (lens_of standing.now) (expr_of expr.now) }
     ensures { Whatever standing.now (λ own opened children. result ≡ list_any (λ c. may_break own opened children (Touch (use_as Reads c)) offence) (cells_named (expr_of expr.now))) }
 {
     match expr {
@@ -32,7 +31,7 @@ pub(crate) fn value_breaks(expr: &Expr, standing: &Standing, offence: Offence) -
 
 /// Whether the reading of any cell of a section is this offence.
 fn section_breaks(section: Section, standing: &Standing, offence: Offence) -> bool
-    requires { FitsShape (widths standing.now.table) section }
+    requires { FitsShape (lens_of standing.now) section }
     ensures { Whatever standing.now (λ own opened children. result ≡ list_any (λ c. may_break own opened children (Touch (use_as Reads c)) offence) (cells_of section)) }
 {
     for place in 0..section.len {
@@ -49,7 +48,7 @@ fn section_breaks(section: Section, standing: &Standing, offence: Offence) -> bo
 
 /// Whether the reading of a cell is this offence.
 fn read_breaks(cell: Cell, standing: &Standing, offence: Offence) -> bool
-    requires { IsInShape (widths standing.now.table) cell }
+    requires { IsInShape (lens_of standing.now) cell }
     ensures { Whatever standing.now (λ own opened children. result ≡ may_break own opened children (Touch (use_as Reads cell)) offence) }
 {
     let used = Use {

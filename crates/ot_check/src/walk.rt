@@ -1,13 +1,15 @@
-ghost use Rattle.std.specs.Prelude.{◌≡◌, ◌+◌, ◌<◌, ◌^◌, ◌&&◌, IfOk, Some};
+ghost use Rattle.std.specs.Prelude.{◌≡◌, ◌+◌, ◌≤◌, ◌<◌, ◌^◌, ◌&&◌, Bool, IfOk, Some};
 ghost use Rattle.ot_model.specs.View.{stmt_of, stmts_of};
 ghost use Rattle.ot_model.specs.Counts.{size, size_one};
 ghost use Rattle.ot_model.specs.Names.{NamedIn, OneNamedIn, AreInShape, AreDeclaredIn};
 ghost use Rattle.ot_check.specs.walk.Walk.{Children, behind, behind_one, first, first_one, nobody, nothing_open, through, with_group};
 ghost use Rattle.ot_check.specs.walk.Told.{IsTold};
-ghost use Rattle.ot_check.specs.walk.Grids.{widths};
-ghost use Rattle.ot_check.specs.walk.States.{Represents, Whatever, of_both, one_more};
+ghost use Rattle.ot_check.specs.Offences.{Declared};
+ghost use Rattle.ot_model.specs.declared.expr.Cell.{Cell};
+ghost use Rattle.ot_check.specs.walk.States.{Represents, Stands, Whatever, AreMore, lens_of, of_both, one_more, with_children};
 
 use crate::fault::CheckFault;
+use crate::numbers::Numbers;
 use crate::standing::Standing;
 use crate::statement::own_offence;
 use crate::through::through;
@@ -22,11 +24,14 @@ pub(crate) fn walk(
     standing: &mut Standing,
     place: u32,
 ) -> Result<u32, CheckFault>
-    requires named { NamedIn (widths standing.old.table) (stmts_of body.now.items) }
+    requires named { NamedIn (lens_of standing.old) (stmts_of body.now.items) }
+    requires counted { standing.old.tasks.passed ≤ place }
     requires short { place + size (stmts_of body.now.items) < 2 ^ 32 }
     ensures told { Whatever standing.old (λ own opened children. IsTold (first own opened children place (stmts_of body.now.items)) result) }
     ensures behind { IfOk result (λ _. Whatever standing.old (λ own opened children. Represents own opened (behind children (stmts_of body.now.items)) standing.new)) }
-    ensures widths { IfOk result (λ _. widths standing.new.table ≡ widths standing.old.table) }
+    ensures lens { IfOk result (λ _. lens_of standing.new ≡ lens_of standing.old) }
+    ensures more { IfOk result (λ _. AreMore standing.old.tasks standing.new.tasks) }
+    ensures counted { IfOk result (λ next. standing.new.tasks.passed + place ≤ standing.old.tasks.passed + next) }
     ensures place { IfOk result (λ next. next ≡ place + size (stmts_of body.now.items)) }
 {
     let mut next = place;
@@ -43,11 +48,14 @@ fn walk_one(
     standing: &mut Standing,
     place: u32,
 ) -> Result<u32, CheckFault>
-    requires named { OneNamedIn (widths standing.old.table) (stmt_of stmt.now) }
+    requires named { OneNamedIn (lens_of standing.old) (stmt_of stmt.now) }
+    requires counted { standing.old.tasks.passed ≤ place }
     requires short { place + size_one (stmt_of stmt.now) < 2 ^ 32 }
     ensures told { Whatever standing.old (λ own opened children. IsTold (first_one own opened children place (stmt_of stmt.now)) result) }
     ensures behind { IfOk result (λ _. Whatever standing.old (λ own opened children. Represents own opened (behind_one children (stmt_of stmt.now)) standing.new)) }
-    ensures widths { IfOk result (λ _. widths standing.new.table ≡ widths standing.old.table) }
+    ensures lens { IfOk result (λ _. lens_of standing.new ≡ lens_of standing.old) }
+    ensures more { IfOk result (λ _. AreMore standing.old.tasks standing.new.tasks) }
+    ensures counted { IfOk result (λ next. standing.new.tasks.passed + place ≤ standing.old.tasks.passed + next) }
     ensures place { IfOk result (λ next. next ≡ place + size_one (stmt_of stmt.now)) }
 {
     if let Some(offence) = own_offence(stmt, &*standing) {
@@ -56,9 +64,9 @@ fn walk_one(
     match stmt {
         Stmt::Set(_, _) | Stmt::Add(_, _) => Ok(place + 1),
         Stmt::If(_, one, two) => {
-            let other = standing.copy(alloc)?;
+            let before = standing.region.unawaited.copy(alloc)?;
             let second = walk(alloc, one, standing, place + 1)?;
-            walk_other(alloc, two, standing, other, second)
+            walk_other(alloc, two, standing, before, second)
         }
         Stmt::Task(decl, body) => walk_task(alloc, decl, body, standing, place + 1),
         Stmt::Wait => {
@@ -69,27 +77,31 @@ fn walk_one(
     }
 }
 
-/// The second body of an `if`, from what stood before the first. Its children come to those of the first.
+/// The second body of an `if`, from the children before the first. Those behind the first come to its own.
 #[cycle(walk)]
 fn walk_other(
     alloc: Global,
     body: &Vec<Stmt>,
     standing: &mut Standing,
-    other: Standing,
+    before: Numbers,
     place: u32,
 ) -> Result<u32, CheckFault>
-    requires same { widths standing.old.table ≡ widths other.table }
-    requires named { NamedIn (widths other.table) (stmts_of body.now.items) }
+    requires named { NamedIn (lens_of standing.old) (stmts_of body.now.items) }
+    requires counted { standing.old.tasks.passed ≤ place }
     requires short { place + size (stmts_of body.now.items) < 2 ^ 32 }
-    ensures told { Whatever other (λ own opened children. IsTold (first own opened children place (stmts_of body.now.items)) result) }
+    ensures told { (own : Declared) (opened : Cell → Bool) (others : Children) → Stands own opened others (with_children standing.old.region before) standing.old.tasks
+        → IsTold (first own opened others place (stmts_of body.now.items)) result }
     ensures behind { IfOk result (λ _. Whatever standing.old (λ own opened children. (others : Children)
-        → Represents own opened others other → Represents own opened (of_both children (behind others (stmts_of body.now.items))) standing.new)) }
-    ensures widths { IfOk result (λ _. widths standing.new.table ≡ widths standing.old.table) }
+        → Stands own opened others (with_children standing.old.region before) standing.old.tasks
+        → Represents own opened (of_both children (behind others (stmts_of body.now.items))) standing.new)) }
+    ensures lens { IfOk result (λ _. lens_of standing.new ≡ lens_of standing.old) }
+    ensures more { IfOk result (λ _. AreMore standing.old.tasks standing.new.tasks) }
+    ensures counted { IfOk result (λ next. standing.new.tasks.passed + place ≤ standing.old.tasks.passed + next) }
     ensures place { IfOk result (λ next. next ≡ place + size (stmts_of body.now.items)) }
 {
-    let mut other = other;
-    let next = walk(alloc, body, &mut other, place)?;
-    standing.merge(&other);
+    let one = standing.begin_other(before);
+    let next = walk(alloc, body, standing, place)?;
+    standing.end_other(&one)?;
     Ok(next)
 }
 
@@ -102,17 +114,20 @@ fn walk_task(
     standing: &mut Standing,
     place: u32,
 ) -> Result<u32, CheckFault>
-    requires declared { AreDeclaredIn (widths standing.old.table) decl.now }
-    requires named { NamedIn (widths standing.old.table) (stmts_of body.now.items) }
+    requires declared { AreDeclaredIn (lens_of standing.old) decl.now }
+    requires named { NamedIn (lens_of standing.old) (stmts_of body.now.items) }
+    requires counted { standing.old.tasks.passed < place }
     requires short { place + size (stmts_of body.now.items) < 2 ^ 32 }
-    ensures told { IsTold (first (Some decl.now) nothing_open nobody place (stmts_of body.now.items)) result }
+    ensures told { Whatever standing.old (λ own opened children. IsTold (first (Some decl.now) nothing_open nobody place (stmts_of body.now.items)) result) }
     ensures behind { IfOk result (λ _. Whatever standing.old (λ own opened children. Represents own opened (one_more children decl.now) standing.new)) }
-    ensures widths { IfOk result (λ _. widths standing.new.table ≡ widths standing.old.table) }
+    ensures lens { IfOk result (λ _. lens_of standing.new ≡ lens_of standing.old) }
+    ensures more { IfOk result (λ _. AreMore standing.old.tasks standing.new.tasks) }
+    ensures counted { IfOk result (λ next. standing.new.tasks.passed + place ≤ standing.old.tasks.passed + next + 1) }
     ensures place { IfOk result (λ next. next ≡ place + size (stmts_of body.now.items)) }
 {
-    let mut inside = standing.of_task(alloc, decl)?;
-    let next = walk(alloc, body, &mut inside, place)?;
-    standing.add_child(decl);
+    let outer = standing.begin_task(alloc, decl)?;
+    let next = walk(alloc, body, standing, place)?;
+    standing.end_task(alloc, outer, decl)?;
     Ok(next)
 }
 
@@ -126,19 +141,19 @@ fn walk_group(
     standing: &mut Standing,
     place: u32,
 ) -> Result<u32, CheckFault>
-    requires grouped { AreInShape (widths standing.old.table) cells.now }
-    requires named { NamedIn (widths standing.old.table) (stmts_of body.now.items) }
+    requires grouped { AreInShape (lens_of standing.old) cells.now }
+    requires named { NamedIn (lens_of standing.old) (stmts_of body.now.items) }
+    requires counted { standing.old.tasks.passed ≤ place }
     requires short { place + size (stmts_of body.now.items) < 2 ^ 32 }
     ensures told { Whatever standing.old (λ own opened children. IsTold (first own (with_group opened cells.now) children place (stmts_of body.now.items)) result) }
     ensures behind { IfOk result (λ _. Whatever standing.old (λ own opened children. Represents own opened (λ test. children test && through (stmts_of body.now.items)) standing.new)) }
-    ensures widths { IfOk result (λ _. widths standing.new.table ≡ widths standing.old.table) }
+    ensures lens { IfOk result (λ _. lens_of standing.new ≡ lens_of standing.old) }
+    ensures more { IfOk result (λ _. AreMore standing.old.tasks standing.new.tasks) }
+    ensures counted { IfOk result (λ next. standing.new.tasks.passed + place ≤ standing.old.tasks.passed + next) }
     ensures place { IfOk result (λ next. next ≡ place + size (stmts_of body.now.items)) }
 {
-    let mut inside = standing.copy(alloc)?;
-    inside.enter(cells);
-    let next = walk(alloc, body, &mut inside, place)?;
-    if !through(body) {
-        standing.await_children();
-    }
+    let outside = standing.begin_group(alloc, cells)?;
+    let next = walk(alloc, body, standing, place)?;
+    standing.end_group(outside, through(body));
     Ok(next)
 }

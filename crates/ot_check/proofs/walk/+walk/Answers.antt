@@ -1,37 +1,36 @@
-use Rattle.std.proofs.Common.{rules, ℕ, List, Bool, true, false, inl, inr, ◌≡◌, ◌+◌, ◌&&◌, Some, Err, drop, refl, ap, sym, subst, ◌∙◌, arith}
+use Rattle.std.proofs.Common.{rules, ℕ, inl, inr, ◌≡◌, ◌+◌, ◌&&◌, Some, Err, drop, refl, ap, sym, subst, ◌∙◌, arith}
 use Rattle.std.specs.Option.{option_or}
 use Rattle.ot_model.specs.View.{expr_of, stmt_of, stmts_of}
 use Rattle.ot_model.specs.Tree.{Set, Add, If, Task, Wait, Group}
 use Rattle.ot_model.specs.Counts.{size, size_one}
 use Rattle.ot_model.specs.Names.{NamedIn}
 use Rattle.ot_model.specs.declared.stmt.Stmt.{the_lemmas}
-use Rattle.ot_model.specs.declared.stmt.Use.{Use}
 use Rattle.ot_check.specs.walk.Walk.{behind, behind_one, after, first, first_one, nobody, nothing_open, through, with_group}
-use Rattle.ot_check.specs.walk.Grids.{widths}
-use Rattle.ot_check.specs.walk.States.{Represents, one_more}
+use Rattle.ot_check.specs.walk.Bits.{bit_in, has}
+use Rattle.ot_check.specs.walk.States.{Represents, Stands, AreMore, lens_of, one_more, back, with_children}
 use Rattle.ot_check.specs.walk.Told.{IsTold}
 use Rattle.ot_check.proofs.TellingLemmas.{told-left, told-right, told-inside, told-passed}
-use Rattle.ot_check.proofs.WalkLemmas.{if_ok, behind-as, rest_is, rest_none, represents-same}
-use Rattle.ot_check.proofs.Bits.{and_yes, and_no}
+use Rattle.ot_check.proofs.WalkLemmas.{if_ok, behind-as, rest_is, rest_none}
+use Rattle.ot_check.proofs.RegionLemmas.{stands-kept, stands-same}
+use Rattle.ot_check.proofs.TaskLemmas.{more-same, more-later}
 use Rattle.ot_check.proofs.walk.+walk.Goals as goal
-use Rattle.ot_check.proofs.walk.+walk.Goals.{walk_group-then-not-through, walk_group-else-not-through}
 
 pub walk-loop-stmt-init : goal.walk-loop-stmt-init
-walk-loop-stmt-init t c = (refl, refl, c.requires.named, λ own opened children h. (children, h, refl, λ test. refl))
+walk-loop-stmt-init t c = (refl, refl, c.requires.named, more-same c.args.standing.now.tasks c.args.standing.now.tasks refl, omega arith, λ own opened children h. (children, h, refl, λ test. refl))
 
 pub walk-walk_one-requires : goal.walk-walk_one-requires
 walk-walk_one-requires t c =
     let b = c.args.body.now.items in
     let rest = rest_is c.deref-stmt-items.result.now b c.loop-stmt.stmt-index c.stmt-item.result c.deref-stmt-items.ensures.value c.loop-stmt-test.true c.stmt-item.is in
-    let both = subst (NamedIn (widths c.loop-stmt.standing.table)) rest c.loop-stmt.invariant.2 in
+    let both = subst (NamedIn (lens_of c.loop-stmt.standing)) rest c.loop-stmt.invariant.2 in
     let sizes : size (stmts_of (drop c.loop-stmt.stmt-index b)) ≡ size_one (stmt_of c.stmt-item.result) + size (stmts_of (drop (c.loop-stmt.stmt-index + 1) b)) = ap size rest in
-    (search (rules, the_lemmas), (both.0, omega (arith, sizes, c.loop-stmt.invariant.1, c.requires.short)))
+    (search (rules, the_lemmas), (both.0, (omega (arith, c.loop-stmt.invariant.4, c.requires.counted), omega (arith, sizes, c.loop-stmt.invariant.1, c.requires.short))))
 
 pub walk-returns-in_err-next-clause-told : goal.walk-returns-in_err-next-clause-told
 walk-returns-in_err-next-clause-told t c = λ own opened children h.
     let b = c.args.body.now.items in
     let rest = rest_is c.deref-stmt-items.result.now b c.loop-stmt.stmt-index c.stmt-item.result c.deref-stmt-items.ensures.value c.loop-stmt-test.true c.stmt-item.is in
-    let q = c.loop-stmt.invariant.3 own opened children h in
+    let q = c.loop-stmt.invariant.5 own opened children h in
     let x = stmt_of c.stmt-item.result in
     let fault = c.in_err-next.field-0.0 in
     told-passed (first own opened children c.args.place (stmts_of b)) c.from_residual.result fault c.from_residual.ensures
@@ -46,13 +45,15 @@ walk-loop-stmt-preserved t c =
     let rest = rest_is c.deref-stmt-items.result.now b c.loop-stmt.stmt-index c.stmt-item.result c.deref-stmt-items.ensures.value c.loop-stmt-test.true c.stmt-item.is in
     let x = stmt_of c.stmt-item.result in
     let more = stmts_of (drop (c.loop-stmt.stmt-index + 1) b) in
-    let both = subst (NamedIn (widths c.loop-stmt.standing.table)) rest c.loop-stmt.invariant.2 in
+    let both = subst (NamedIn (lens_of c.loop-stmt.standing)) rest c.loop-stmt.invariant.2 in
     let sizes : size (stmts_of (drop c.loop-stmt.stmt-index b)) ≡ size_one x + size more = ap size rest in (
-      c.in_ok-next.ensures.widths ∙ c.loop-stmt.invariant.0,
+      c.in_ok-next.ensures.lens ∙ c.loop-stmt.invariant.0,
       omega (arith, sizes, c.loop-stmt.invariant.1, c.in_ok-next.ensures.place),
-      subst (λ lens. NamedIn lens more) (sym c.in_ok-next.ensures.widths) both.1,
+      subst (λ lens. NamedIn lens more) (sym c.in_ok-next.ensures.lens) both.1,
+      more-later c.args.standing.now.tasks c.loop-stmt.standing.tasks c.walk_one.new.standing.tasks c.loop-stmt.invariant.3 c.in_ok-next.ensures.more,
+      omega (arith, c.loop-stmt.invariant.4, c.in_ok-next.ensures.counted),
       λ own opened children h.
-          let q = c.loop-stmt.invariant.3 own opened children h in (
+          let q = c.loop-stmt.invariant.5 own opened children h in (
             behind_one q.0 x,
             c.in_ok-next.ensures.behind own opened q.0 q.1,
             q.2 ∙ ap (first own opened q.0 c.loop-stmt.next) rest
@@ -65,18 +66,24 @@ walk-loop-stmt-preserved t c =
 pub walk-returns-clause-told : goal.walk-returns-clause-told
 walk-returns-clause-told t c = λ own opened children h.
     let none = rest_none c.deref-stmt-items.result.now c.args.body.now.items c.loop-stmt.stmt-index c.deref-stmt-items.ensures.value c.loop-stmt-test.false in
-    let q = c.loop-stmt.invariant.3 own opened children h in
+    let q = c.loop-stmt.invariant.5 own opened children h in
     q.2 ∙ ap (first own opened q.0 c.loop-stmt.next) none
 
 pub walk-returns-clause-behind : goal.walk-returns-clause-behind
 walk-returns-clause-behind t c = λ own opened children h.
     let none = rest_none c.deref-stmt-items.result.now c.args.body.now.items c.loop-stmt.stmt-index c.deref-stmt-items.ensures.value c.loop-stmt-test.false in
-    let q = c.loop-stmt.invariant.3 own opened children h in
-    represents-same own opened q.0 (behind children (stmts_of c.args.body.now.items)) c.loop-stmt.standing
+    let q = c.loop-stmt.invariant.5 own opened children h in
+    stands-same own opened q.0 (behind children (stmts_of c.args.body.now.items)) c.loop-stmt.standing.region c.loop-stmt.standing.tasks
     (λ test. sym (q.3 test ∙ ap (after test (q.0 test)) none)) q.1
 
-pub walk-returns-clause-widths : goal.walk-returns-clause-widths
-walk-returns-clause-widths t c = c.loop-stmt.invariant.0
+pub walk-returns-clause-lens : goal.walk-returns-clause-lens
+walk-returns-clause-lens t c = c.loop-stmt.invariant.0
+
+pub walk-returns-clause-more : goal.walk-returns-clause-more
+walk-returns-clause-more t c = c.loop-stmt.invariant.3
+
+pub walk-returns-clause-counted : goal.walk-returns-clause-counted
+walk-returns-clause-counted t c = c.loop-stmt.invariant.4
 
 pub walk-returns-clause-place : goal.walk-returns-clause-place
 walk-returns-clause-place t c =
@@ -88,28 +95,21 @@ pub walk_group-returns-in_err-next-clause-told : goal.walk_group-returns-in_err-
 walk_group-returns-in_err-next-clause-told t c = λ own opened children h.
     told-passed (first own (with_group opened c.args.cells.now) children c.args.place (stmts_of c.args.body.now.items))
     c.from_residual-in_err-next.result c.in_err-next.field-0.0 c.from_residual-in_err-next.ensures
-    (c.in_err-next.ensures.told own (with_group opened c.args.cells.now) children
-    (c.enter.ensures.stands own opened children (subst (Represents own opened children) (sym c.in_ok-inside.ensures) h)))
+    (c.in_err-next.ensures.told own (with_group opened c.args.cells.now) children (c.in_ok-outside.ensures.stands own opened children h))
 
 pub walk_group-returns-clause-told : goal.walk_group-returns-clause-told
 walk_group-returns-clause-told t c = λ own opened children h.
-    c.in_ok-next.ensures.told own (with_group opened c.args.cells.now) children
-    (c.enter.ensures.stands own opened children (subst (Represents own opened children) (sym c.in_ok-inside.ensures) h))
+    c.in_ok-next.ensures.told own (with_group opened c.args.cells.now) children (c.in_ok-outside.ensures.stands own opened children h)
 
 pub walk_group-returns-clause-behind : goal.walk_group-returns-clause-behind
 walk_group-returns-clause-behind t c = λ own opened children h.
-    let after_body = λ (test : List Use → Bool). children test && through (stmts_of c.args.body.now.items) in
-    elim c.if-not-through.branch [
-      | walk_group-then-not-through w ↦
-          let is : through (stmts_of c.args.body.now.items) ≡ false = sym c.through.ensures ∙ search rules in
-          subst (Represents own opened after_body) (sym w.standing-is)
-          (represents-same own opened nobody after_body w.await_children.new.self
-          (λ test. and_no (children test) (through (stmts_of c.args.body.now.items)) is) (w.await_children.ensures.stands own opened children h))
-      | walk_group-else-not-through w ↦
-          let is : through (stmts_of c.args.body.now.items) ≡ true = sym c.through.ensures ∙ search rules in
-          subst (Represents own opened after_body) (sym w.standing-is)
-          (represents-same own opened children after_body c.args.standing.now (λ test. and_yes (children test) (through (stmts_of c.args.body.now.items)) is) h)
-    ]
+    let inside = c.in_ok-next.ensures.behind own (with_group opened c.args.cells.now) children (c.in_ok-outside.ensures.stands own opened children h) in
+    let outside : Stands own opened children (back c.walk.new.standing.region c.in_ok-outside.outside) c.walk.new.standing.tasks =
+    stands-kept own opened children (back c.begin_group.new.self.region c.in_ok-outside.outside) (back c.walk.new.standing.region c.in_ok-outside.outside)
+    c.begin_group.new.self.tasks c.walk.new.standing.tasks (c.in_ok-outside.ensures.outside own opened children h)
+    inside.declares (c.in_ok-outside.ensures.outside own opened children h).grouped (λ k. refl) c.in_ok-next.ensures.more inside.sound in
+    subst (λ b. Represents own opened (λ test. children test && b) c.end_group.new.self) c.through.ensures
+    (c.end_group.ensures.stands own opened children outside)
 
 pub walk_one-returns-in_err-second-in-If-clause-told : goal.walk_one-returns-in_err-second-in-If-clause-told
 walk_one-returns-in_err-second-in-If-clause-told t c = λ own opened children h.
@@ -134,7 +134,11 @@ walk_one-returns-in_ok-second-in-If-clause-told t c = λ own opened children h.
     (told-right {A = ℕ} (first own opened children (c.args.place + 1) a) (first own opened children (c.args.place + 1 + size a) b) c.walk_other.result
     (c.in_ok-second-in-If.ensures.told own opened children h)
     (subst (λ k. IsTold (first own opened children k b) c.walk_other.result) c.in_ok-second-in-If.ensures.place
-    (c.walk_other.ensures.told own opened children (subst (Represents own opened children) (sym c.in_ok-other-in-If.ensures) h))))
+    (c.walk_other.ensures.told own opened children
+    (let first_way = c.in_ok-second-in-If.ensures.behind own opened children h in
+    stands-kept own opened children c.args.standing.now.region (with_children c.walk.new.standing.region c.in_ok-before-in-If.before)
+    c.args.standing.now.tasks c.walk.new.standing.tasks h first_way.declares first_way.grouped
+    (λ k. ap (λ words. bit_in words k) c.in_ok-before-in-If.ensures) c.in_ok-second-in-If.ensures.more first_way.sound))))
 
 pub walk_one-returns-in_ok-second-in-If-clause-behind : goal.walk_one-returns-in_ok-second-in-If-clause-behind
 walk_one-returns-in_ok-second-in-If-clause-behind t c =
@@ -143,8 +147,11 @@ walk_one-returns-in_ok-second-in-If-clause-behind t c =
     let is : stmt_of c.args.stmt.now ≡ If (expr_of c.in-If.field-0) a b = search (rules, the_lemmas) in
     if_ok c.walk_other.result _ _ (λ x behind_other own opened children h.
     subst (λ x. Represents own opened (behind_one children x) c.walk_other.new.standing) (sym is)
-    (behind_other own opened (behind children a) (c.in_ok-second-in-If.ensures.behind own opened children h) children
-    (subst (Represents own opened children) (sym c.in_ok-other-in-If.ensures) h)))
+    (let first_way = c.in_ok-second-in-If.ensures.behind own opened children h in
+    behind_other own opened (behind children a) first_way children
+    (stands-kept own opened children c.args.standing.now.region (with_children c.walk.new.standing.region c.in_ok-before-in-If.before)
+    c.args.standing.now.tasks c.walk.new.standing.tasks h first_way.declares first_way.grouped
+    (λ k. ap (λ words. bit_in words k) c.in_ok-before-in-If.ensures) c.in_ok-second-in-If.ensures.more first_way.sound)))
     c.walk_other.ensures.behind
 
 pub walk_one-returns-in-Task-clause-behind : goal.walk_one-returns-in-Task-clause-behind
@@ -183,17 +190,55 @@ walk_one-returns-in-Set-clause-behind t c = λ own opened children h.
           subst (λ x. Represents own opened (behind_one children x) c.args.standing.now) (sym is) h
     ]
 
+pub walk_one-returns-in-Task-clause-told : goal.walk_one-returns-in-Task-clause-told
+walk_one-returns-in-Task-clause-told t c = λ own opened children h.
+    let is : stmt_of c.args.stmt.now ≡ Task c.in-Task.decl (stmts_of c.in-Task.body.items) = search (rules, the_lemmas) in
+    told-inside own opened children c.args.place (stmt_of c.args.stmt.now) (Task c.in-Task.decl (stmts_of c.in-Task.body.items))
+    c.own_offence.result c.walk_task.result is (c.own_offence.ensures own opened children h) c.in_default.is (c.walk_task.ensures.told own opened children h)
+
 pub walk_other-returns-in_err-next-clause-told : goal.walk_other-returns-in_err-next-clause-told
-walk_other-returns-in_err-next-clause-told t c = λ own opened children h.
-    told-passed (first own opened children c.args.place (stmts_of c.args.body.now.items)) c.from_residual.result c.in_err-next.field-0.0
-    c.from_residual.ensures (c.in_err-next.ensures.told own opened children h)
+walk_other-returns-in_err-next-clause-told t c = λ own opened others g.
+    told-passed (first own opened others c.args.place (stmts_of c.args.body.now.items)) c.from_residual.result c.in_err-next.field-0.0
+    c.from_residual.ensures (c.in_err-next.ensures.told own opened others (subst (Represents own opened others) (sym c.begin_other-one.ensures.before) g))
+
+pub walk_other-returns-clause-told : goal.walk_other-returns-clause-told
+walk_other-returns-clause-told t c = λ own opened others g.
+    c.in_ok-next.ensures.told own opened others (subst (Represents own opened others) (sym c.begin_other-one.ensures.before) g)
 
 pub walk_other-returns-clause-behind : goal.walk_other-returns-clause-behind
 walk_other-returns-clause-behind t c = λ own opened children h others g.
-    c.merge.ensures.stands own opened children h (behind others (stmts_of c.args.body.now.items)) (c.in_ok-next.ensures.behind own opened others g)
+    let begun = subst (Represents own opened others) (sym c.begin_other-one.ensures.before) g in
+    let second = c.in_ok-next.ensures.behind own opened others begun in
+    let more : AreMore c.args.standing.now.tasks c.walk.new.standing.tasks =
+    subst (λ s. AreMore s.tasks c.walk.new.standing.tasks) c.begin_other-one.ensures.before c.in_ok-next.ensures.more in
+    let one : Stands own opened children (with_children c.walk.new.standing.region c.begin_other-one.result) c.walk.new.standing.tasks =
+    stands-kept own opened children c.args.standing.now.region (with_children c.walk.new.standing.region c.begin_other-one.result)
+    c.args.standing.now.tasks c.walk.new.standing.tasks h second.declares second.grouped
+    (λ k. ap (λ n. has n k) c.begin_other-one.ensures.behind) more second.sound in
+    c.in_ok-end_other.ensures.stands own opened children (behind others (stmts_of c.args.body.now.items)) second one
 
 pub walk_task-returns-in_err-next-clause-told : goal.walk_task-returns-in_err-next-clause-told
-walk_task-returns-in_err-next-clause-told t c =
+walk_task-returns-in_err-next-clause-told t c = λ own opened children h.
     told-passed (first (Some c.args.decl.now) nothing_open nobody c.args.place (stmts_of c.args.body.now.items))
     c.from_residual-in_err-next.result c.in_err-next.field-0.0 c.from_residual-in_err-next.ensures
-    (c.in_err-next.ensures.told (Some c.args.decl.now) nothing_open nobody c.in_ok-inside.ensures.stands)
+    (c.in_err-next.ensures.told (Some c.args.decl.now) nothing_open nobody (c.in_ok-outer.ensures.stands own opened children h))
+
+pub walk_task-returns-clause-told : goal.walk_task-returns-clause-told
+walk_task-returns-clause-told t c = λ own opened children h.
+    c.in_ok-next.ensures.told (Some c.args.decl.now) nothing_open nobody (c.in_ok-outer.ensures.stands own opened children h)
+
+pub walk_task-returns-clause-behind : goal.walk_task-returns-clause-behind
+walk_task-returns-clause-behind t c = λ own opened children h.
+    let inside = c.in_ok-next.ensures.behind (Some c.args.decl.now) nothing_open nobody (c.in_ok-outer.ensures.stands own opened children h) in
+    let region = c.in_ok-outer.outer in
+    let before : Stands own opened children region c.begin_task.new.self.tasks =
+    subst (λ t. Stands own opened children region t) (sym c.in_ok-outer.ensures.tasks)
+    (subst (λ r. Stands own opened children r c.args.standing.now.tasks) (sym c.in_ok-outer.ensures.outer) h) in
+    c.in_ok-end_task.ensures.stands own opened children
+    (stands-kept own opened children region region c.begin_task.new.self.tasks c.walk.new.standing.tasks before before.declares before.grouped
+    (λ k. refl) c.in_ok-next.ensures.more inside.sound)
+
+pub walk_task-returns-clause-counted : goal.walk_task-returns-clause-counted
+walk_task-returns-clause-counted t c =
+    let same : c.begin_task.new.self.tasks.passed ≡ c.args.standing.now.tasks.passed = ap (λ t. t.passed) c.in_ok-outer.ensures.tasks in
+    omega (arith, same, c.in_ok-end_task.ensures.passed, c.in_ok-next.ensures.counted, c.in_ok-next.ensures.place)

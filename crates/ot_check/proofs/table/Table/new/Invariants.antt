@@ -4,4 +4,4 @@ use Rattle.ot_check.specs.walk.Grids.{filled}
 use Rattle.ot_check.proofs.table.Table.new.Given as goal
 
 abbrev pub invariant-loop-array : goal.invariant-loop-array
-invariant-loop-array l = map (λ row. row.items) l.rows.items ≡ filled l.state (map (λ a. a.1) (arrays_of (take l.array-index l.arrays)))
+invariant-loop-array l = map (λ row. row.items) l.rows.items ≡ filled 0 (map (λ a. a.1) (arrays_of (take l.array-index l.arrays)))

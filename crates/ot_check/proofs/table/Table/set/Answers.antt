@@ -10,7 +10,7 @@ returns-clause-widths c =
     let row = c.index_mut-row.result.now in
     let read = ap (λ a. a.items) c.index_mut-row.ensures.value ∙ sym (get_or-map (λ a. a.items) c.self.inside.rows.items c.args.cell.array row) in
     ap widths (map-set (λ a. a.items) c.self.inside.rows.items _ _)
-    ∙ widths-set (map (λ a. a.items) c.self.inside.rows.items) c.args.cell.array c.args.cell.index row.items c.args.state read
+    ∙ widths-set (map (λ a. a.items) c.self.inside.rows.items) c.args.cell.array c.args.cell.index row.items c.args.number read
     (row_of_cell _ c.args.cell (subst (λ rows. IsSome (found_at rows c.args.cell)) (sym c.self.view_is) c.requires))
     ∙ ap widths c.self.view_is
 
@@ -19,7 +19,7 @@ returns-clause-there c =
     let row = c.index_mut-row.result.now in
     let read = ap (λ a. a.items) c.index_mut-row.ensures.value ∙ sym (get_or-map (λ a. a.items) c.self.inside.rows.items c.args.cell.array row) in
     ap (λ rows. found_at rows c.args.cell) (map-set (λ a. a.items) c.self.inside.rows.items _ _)
-    ∙ found_at-written (map (λ a. a.items) c.self.inside.rows.items) c.args.cell row.items c.args.state read
+    ∙ found_at-written (map (λ a. a.items) c.self.inside.rows.items) c.args.cell row.items c.args.number read
     (subst (λ rows. IsSome (found_at rows c.args.cell)) (sym c.self.view_is) c.requires)
 
 pub returns-clause-others : goal.returns-clause-others
@@ -27,6 +27,6 @@ returns-clause-others c = λ other apart.
     let row = c.index_mut-row.result.now in
     let read = ap (λ a. a.items) c.index_mut-row.ensures.value ∙ sym (get_or-map (λ a. a.items) c.self.inside.rows.items c.args.cell.array row) in
     ap (λ rows. found_at rows other) (map-set (λ a. a.items) c.self.inside.rows.items _ _)
-    ∙ found_at-others (map (λ a. a.items) c.self.inside.rows.items) c.args.cell other row.items c.args.state read
+    ∙ found_at-others (map (λ a. a.items) c.self.inside.rows.items) c.args.cell other row.items c.args.number read
     (subst (λ rows. IsSome (found_at rows c.args.cell)) (sym c.self.view_is) c.requires) apart
     ∙ ap (λ rows. found_at rows other) c.self.view_is

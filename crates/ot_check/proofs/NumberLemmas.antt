@@ -1,0 +1,128 @@
+-- Bits of words.
+use Rattle.std.proofs.Common.{◌≡◌, ◌≢◌, ◌==◌, ℕ, zero, suc, ◌+◌, ◌*◌, ◌/◌, ◌%◌, ◌^◌, ◌<◌, ◌≤◌, ◌++◌, ◌||◌, max, false, List, [], ◌∷◌, length, get_or, set, refl, sym, ap, subst, ◌∙◌, inl, inr, arith, w64}
+use Rattle.std.specs.Prelude.{bit_and, bit_or, replicate}
+use Rattle.std.specs.Int.{bit_at}
+use Rattle.std.specs.Int.Bits.{or_zero_r}
+use Rattle.std.proofs.lemmas.Bool.{cases_eq, cases_lt}
+use Rattle.std.proofs.lemmas.List.{get_or_past, get_or_default, length-set}
+use Rattle.std.proofs.lemmas.Nat.Bits.{bit_at_or, bit_at-zero, shr_and_one, bit_at_set_same, bit_at_set_other}
+use Rattle.ot_check.specs.walk.Bits.{bit_in}
+use Rattle.ot_check.proofs.Bits.{or_none, or_yes}
+use Rattle.ot_check.proofs.SameLemmas.{eq_itself, eq_apart}
+
+-- past the last word there is no bit
+pub bit_in-past : (words : List ℕ) (k : ℕ) → length words ≤ k / 64 → bit_in words k ≡ false
+bit_in-past words k past = ap (λ w. bit_at w (k % 64) == 1) (get_or_past words (k / 64) 0 past) ∙ ap (λ b. b == 1) (bit_at-zero (k % 64))
+
+pub bit_in-read : (words : List ℕ) (k : ℕ) → (bit_and (get_or words (k / 64) 0 / 2 ^ (k % 64)) 1 == 1) ≡ bit_in words k
+bit_in-read words k = ap (λ b. b == 1) (shr_and_one (get_or words (k / 64) 0) (k % 64))
+
+pub bit_in-same : (words new : List ℕ) → ((i : ℕ) → get_or new i 0 ≡ get_or words i 0) → (k : ℕ) → bit_in new k ≡ bit_in words k
+bit_in-same words new same k = ap (λ w. bit_at w (k % 64) == 1) (same (k / 64))
+
+-- one bit more
+pub bit_in-insert : (words new : List ℕ) (n k : ℕ) → get_or new (n / 64) 0 ≡ bit_or (get_or words (n / 64) 0) (1 * 2 ^ (n % 64) % 2 ^ 64)
+    → ((i : ℕ) → i ≢ n / 64 → get_or new i 0 ≡ get_or words i 0) → bit_in new k ≡ (bit_in words k || (k == n))
+bit_in-insert words new n k here others =
+    elim (cases_eq (k / 64) (n / 64)) [
+      | inl word ↦
+          let low : n % 64 < 64 = omega arith in
+          let at : get_or new (k / 64) 0 ≡ bit_or (get_or words (k / 64) 0) (1 * 2 ^ (n % 64) % 2 ^ 64) =
+          ap (λ i. get_or new i 0) word ∙ here ∙ ap (λ i. bit_or (get_or words i 0) (1 * 2 ^ (n % 64) % 2 ^ 64)) (sym word) in
+          elim (cases_eq (k % 64) (n % 64)) [
+            | inl bit ↦
+                let is : k ≡ n = omega (arith, word, bit) in
+                ap (λ w. bit_at w (k % 64) == 1) at
+                ∙ ap (λ j. bit_at (bit_or (get_or words (k / 64) 0) (1 * 2 ^ (n % 64) % 2 ^ 64)) j == 1) bit
+                ∙ ap (λ b. b == 1) (bit_at_set_same w64 (get_or words (k / 64) 0) (n % 64) low)
+                ∙ sym (ap (λ b. bit_in words k || b) (ap (λ j. k == j) (sym is) ∙ eq_itself k) ∙ or_yes (bit_in words k))
+            | inr bit ↦
+                ap (λ w. bit_at w (k % 64) == 1) at
+                ∙ ap (λ b. b == 1) (bit_at_set_other w64 (get_or words (k / 64) 0) (n % 64) low (k % 64) bit)
+                ∙ sym (ap (λ b. bit_in words k || b) (eq_apart k n (λ e. bit (ap (λ j. j % 64) e))) ∙ or_none (bit_in words k))
+          ]
+      | inr word ↦
+          ap (λ w. bit_at w (k % 64) == 1) (others (k / 64) word)
+          ∙ sym (ap (λ b. bit_in words k || b) (eq_apart k n (λ e. word (ap (λ j. j / 64) e))) ∙ or_none (bit_in words k))
+    ]
+
+max_one : (x y : ℕ) → x < 2 → y < 2 → (max x y == 1) ≡ ((x == 1) || (y == 1))
+max_one zero zero l m = refl
+max_one zero (suc zero) l m = refl
+max_one (suc zero) zero l m = refl
+max_one (suc zero) (suc zero) l m = refl
+max_one zero (suc (suc y)) l m = absurd (omega (arith, m))
+max_one (suc zero) (suc (suc y)) l m = absurd (omega (arith, m))
+max_one (suc (suc x)) y l m = absurd (omega (arith, l))
+
+-- the bits of both
+pub bit_in-join : (words others new : List ℕ) → ((i : ℕ) → get_or new i 0 ≡ bit_or (get_or words i 0) (get_or others i 0)) → (k : ℕ)
+    → bit_in new k ≡ (bit_in words k || bit_in others k)
+bit_in-join words others new joined k =
+    let a : ℕ = bit_at (get_or words (k / 64) 0) (k % 64) in
+    let b : ℕ = bit_at (get_or others (k / 64) 0) (k % 64) in
+    ap (λ w. bit_at w (k % 64) == 1) (joined (k / 64)) ∙ ap (λ b. b == 1) (bit_at_or (get_or words (k / 64) 0) (get_or others (k / 64) 0) (k % 64))
+    ∙ max_one a b (omega arith) (omega arith)
+
+-- more words of no bit
+pub get_or-zeros : (xs : List ℕ) (n i : ℕ) → get_or (xs ++ replicate n 0) i 0 ≡ get_or xs i 0
+get_or-zeros [] zero i = refl
+get_or-zeros [] (suc n) zero = refl
+get_or-zeros [] (suc n) (suc i) = get_or-zeros [] n i
+get_or-zeros (x ∷ xs) n zero = refl
+get_or-zeros (x ∷ xs) n (suc i) = get_or-zeros xs n i
+
+get_or-set_same : (xs : List ℕ) (i x : ℕ) → i < length xs → get_or (set xs i x) i 0 ≡ x
+get_or-set_same [] i x l = absurd (omega (arith, l))
+get_or-set_same (y ∷ xs) zero x l = refl
+get_or-set_same (y ∷ xs) (suc i) x l = get_or-set_same xs i x (omega (arith, l))
+
+get_or-set_other : (xs : List ℕ) (i j x : ℕ) → j ≢ i → get_or (set xs i x) j 0 ≡ get_or xs j 0
+get_or-set_other [] i j x apart = refl
+get_or-set_other (y ∷ xs) zero zero x apart = absurd (apart refl)
+get_or-set_other (y ∷ xs) zero (suc j) x apart = refl
+get_or-set_other (y ∷ xs) (suc i) zero x apart = refl
+get_or-set_other (y ∷ xs) (suc i) (suc j) x apart = get_or-set_other xs i j x (λ e. apart (ap suc e))
+
+-- a word that is read where there is one
+word_read : (xs : List ℕ) (i w : ℕ) → i < length xs → w ≡ get_or xs i w → w ≡ get_or xs i 0
+word_read xs i w l is = is ∙ get_or_default xs i w 0 l
+
+pub bit_in-inserted : (words reached : List ℕ) (n k w : ℕ) → ((i : ℕ) → get_or reached i 0 ≡ get_or words i 0) → n / 64 + 1 ≤ length reached
+    → w ≡ get_or reached (n / 64) w → bit_in (set reached (n / 64) (bit_or w (1 * 2 ^ (n % 64) % 2 ^ 64))) k ≡ (bit_in words k || (k == n))
+bit_in-inserted words reached n k w same there read =
+    let within : n / 64 < length reached = omega (arith, there) in
+    bit_in-insert words (set reached (n / 64) (bit_or w (1 * 2 ^ (n % 64) % 2 ^ 64))) n k
+    (get_or-set_same reached (n / 64) (bit_or w (1 * 2 ^ (n % 64) % 2 ^ 64)) within
+    ∙ ap (λ w. bit_or w (1 * 2 ^ (n % 64) % 2 ^ 64)) (word_read reached (n / 64) w within read ∙ same (n / 64)))
+    (λ i apart. get_or-set_other reached (n / 64) i (bit_or w (1 * 2 ^ (n % 64) % 2 ^ 64)) apart ∙ same i)
+
+-- words that are joined below a place
+abbrev pub AreJoined : List ℕ → List ℕ → List ℕ → ℕ → Type 0
+AreJoined words others now place =
+    (length others ≤ length now) × ((i : ℕ) → i < place → get_or now i 0 ≡ bit_or (get_or words i 0) (get_or others i 0))
+    × ((i : ℕ) → place ≤ i → get_or now i 0 ≡ get_or words i 0)
+
+pub joined-more : (words others now : List ℕ) (place w v : ℕ) → AreJoined words others now place → place < length others
+    → w ≡ get_or now place w → v ≡ get_or others place v → AreJoined words others (set now place (bit_or w v)) (place + 1)
+joined-more words others now place w v h l rw rv =
+    let within : place < length now = omega (arith, l, h.0) in
+    let here : get_or (set now place (bit_or w v)) place 0 ≡ bit_or (get_or words place 0) (get_or others place 0) =
+    get_or-set_same now place (bit_or w v) within ∙ ap (λ w. bit_or w v) (word_read now place w within rw ∙ h.2 place (omega arith))
+    ∙ ap (bit_or (get_or words place 0)) (word_read others place v l rv) in (
+      omega (arith, h.0, length-set now place (bit_or w v)),
+      λ i below. elim (cases_eq i place) [
+        | inl e ↦ subst (λ i. get_or (set now place (bit_or w v)) i 0 ≡ bit_or (get_or words i 0) (get_or others i 0)) (sym e) here
+        | inr apart ↦ get_or-set_other now place i (bit_or w v) apart ∙ h.1 i (omega (arith, below, apart))
+      ],
+      λ i above. get_or-set_other now place i (bit_or w v) (λ e. absurd (omega (arith, e, above))) ∙ h.2 i (omega (arith, above)),
+    )
+
+pub bit_in-joined : (words others now : List ℕ) (place : ℕ) → AreJoined words others now place → length others ≤ place → (k : ℕ)
+    → bit_in now k ≡ (bit_in words k || bit_in others k)
+bit_in-joined words others now place h all =
+    bit_in-join words others now (λ i. elim (cases_lt i place) [
+      | inl below ↦ h.1 i below
+      | inr above ↦
+          h.2 i above ∙ sym (ap (bit_or (get_or words i 0)) (get_or_past others i 0 (omega (arith, all, above))) ∙ or_zero_r (get_or words i 0))
+    ])

@@ -1,0 +1,195 @@
+-- Rows of users and of words.
+use Rattle.std.proofs.Common.{◌≡◌, ◌≢◌, ◌==◌, ℕ, zero, suc, ◌<◌, ◌++◌, ◌&&◌, ◌||◌, Bool, true, false, List, [], ◌∷◌, length, map, set, get_or, refl, sym, ap, subst, ◌∙◌, inl, inr, arith}
+use Rattle.std.specs.Prelude.{Option, Some, None, IsSome, slice_get, option_map, option_and_then, replicate}
+use Rattle.std.proofs.lemmas.Bool.{cases_eq}
+use Rattle.std.proofs.lemmas.Option.{slice_get-map, slice_get_within}
+use Rattle.ot_model.specs.Cells.{same_cell}
+use Rattle.ot_model.specs.declared.expr.Cell.{Cell}
+use Rattle.ot_check.specs.walk.Grids.{found_at, filled, widths}
+use Rattle.ot_check.specs.walk.Rows.{users_of, users_in, HaveRows}
+use Rattle.ot_check.specs.walk.Bits.{bit_in, has}
+use Rattle.ot_check.specs.walk.States.{row_has}
+use Rattle.ot_check.specs.declared.numbers.Numbers.{Numbers}
+use Rattle.ot_check.specs.declared.users.User.{User}
+use Rattle.ot_check.specs.declared.users.Row.{Row}
+use Rattle.ot_check.proofs.SameLemmas.{eq_itself, eq_apart, cells_equal}
+use Rattle.ot_check.proofs.GridLemmas.{found_at-filled, slice_get-set_same, slice_get-set_other}
+
+-- ---- grids
+
+in_row : {A B : Type 0} (f : A → B) (i : ℕ) (o : Option (List A))
+    → option_and_then (λ row. slice_get row i) (option_map (map f) o) ≡ option_map f (option_and_then (λ row. slice_get row i) o)
+in_row f i None = refl
+in_row f i (Some row) = slice_get-map f row i
+
+pub found_at-map : {A B : Type 0} (f : A → B) (grid : List (List A)) (c : Cell) → found_at (map (map f) grid) c ≡ option_map f (found_at grid c)
+found_at-map f grid c =
+    ap (option_and_then (λ row. slice_get row c.index)) (slice_get-map (map f) grid c.array) ∙ in_row f c.index (slice_get grid c.array)
+
+length-map' : {A B : Type 0} (f : A → B) (xs : List A) → length (map f xs) ≡ length xs
+length-map' f [] = refl
+length-map' f (x ∷ xs) = ap suc (length-map' f xs)
+
+pub widths-map : {A B : Type 0} (f : A → B) (grid : List (List A)) → widths (map (map f) grid) ≡ widths grid
+widths-map f [] = refl
+widths-map f (row ∷ grid) = ap (λ n. n ∷ widths (map (map f) grid)) (length-map' f row) ∙ ap (λ ns. length row ∷ ns) (widths-map f grid)
+
+pub widths-rows : {A B : Type 0} (f g : A → B) (grid : List (List A)) → widths (map (map f) grid) ≡ widths (map (map g) grid)
+widths-rows f g grid = widths-map f grid ∙ sym (widths-map g grid)
+
+map-filled-row : {A B : Type 0} (f : A → B) (n : ℕ) (x : A) → map f (replicate n x) ≡ replicate n (f x)
+map-filled-row f zero x = refl
+map-filled-row f (suc n) x = ap (λ xs. f x ∷ xs) (map-filled-row f n x)
+
+pub map-filled : {A B : Type 0} (f : A → B) (x : A) (lens : List ℕ) → map (map f) (filled x lens) ≡ filled (f x) lens
+map-filled f x [] = refl
+map-filled f x (n ∷ lens) = ap (λ row. row ∷ map (map f) (filled x lens)) (map-filled-row f n x) ∙ ap (λ rows. replicate n (f x) ∷ rows) (map-filled f x lens)
+
+some_map : {A B : Type 0} (f : A → B) (o : Option A) → IsSome (option_map f o) → IsSome o
+some_map f None there = cc
+some_map f (Some x) there = refl
+
+pub there-map : {A B : Type 0} (f : A → B) (grid : List (List A)) (c : Cell) → IsSome (found_at (map (map f) grid) c) → IsSome (found_at grid c)
+there-map f grid c there = some_map f (found_at grid c) (subst IsSome (found_at-map f grid c) there)
+
+-- ---- rows of users
+
+pub have-none : (lens : List ℕ) → HaveRows [] (filled 0 lens)
+have-none lens c place found = absurd (omega (arith, found_at-filled 0 (suc place) lens c.array c.index found))
+
+pub slice_get-last : {A : Type 0} (xs : List A) (x : A) → slice_get (xs ++ x ∷ []) (length xs) ≡ Some x
+slice_get-last [] x = refl
+slice_get-last (y ∷ xs) x = slice_get-last xs x
+
+pub slice_get-front : {A : Type 0} (xs : List A) (x : A) (i : ℕ) → i < length xs → slice_get (xs ++ x ∷ []) i ≡ slice_get xs i
+slice_get-front [] x i l = absurd (omega (arith, l))
+slice_get-front (y ∷ xs) x zero l = refl
+slice_get-front (y ∷ xs) x (suc i) l = slice_get-front xs x i (omega (arith, l))
+
+some-injective : {A : Type 0} (x y : A) → Some x ≡ Some y → x ≡ y
+some-injective x y h = cc
+
+-- a row that is read where it is known
+pub row-read : (rows : List Row) (i : ℕ) (row : Row) → i < length rows → row ≡ get_or rows i row → slice_get rows i ≡ Some row
+row-read [] i row l is = absurd (omega (arith, l))
+row-read (r ∷ rows) zero row l is = ap Some (sym is)
+row-read (r ∷ rows) (suc i) row l is = row-read rows i row (omega (arith, l)) is
+
+module _ (rows : List Row) (places : List (List ℕ)) (have : HaveRows rows places) where
+  pub place-within : (c : Cell) (place : ℕ) → found_at places c ≡ Some (suc place) → place < length rows
+  place-within c place found = let r = have c place found in slice_get_within rows place r.0 r.1
+
+  -- a row of its own for a cell without one
+  module _ (new : List (List ℕ)) (cell : Cell) (users : List User) (row : Row) (is_cell : row.cell ≡ cell) (are : row.users.items ≡ users)
+      (here : found_at new cell ≡ Some (suc (length rows))) (others : (other : Cell) → cell ≢ other → found_at new other ≡ found_at places other) where
+    pub have-pushed : HaveRows (rows ++ row ∷ []) new
+    have-pushed c place found =
+        elim (cells_equal cell c) [
+          | inl is ↦
+              let at : suc (length rows) ≡ suc place = some-injective (suc (length rows)) (suc place) (sym here ∙ ap (found_at new) is ∙ found) in
+              let e : length rows ≡ place = omega (arith, at) in
+              (row, ap (slice_get (rows ++ row ∷ [])) (sym e) ∙ slice_get-last rows row, is_cell ∙ is)
+          | inr apart ↦
+              let old = sym (others c apart) ∙ found in
+              let r = have c place old in
+              (r.0, slice_get-front rows row place (place-within c place old) ∙ r.1, r.2)
+        ]
+
+    users-kept : (c : Cell) (o : Option ℕ) → found_at places c ≡ o → option_map (users_in (rows ++ row ∷ [])) o ≡ option_map (users_in rows) o
+    users-kept c None is = refl
+    users-kept c (Some zero) is = refl
+    users-kept c (Some (suc place)) is = ap (λ r. Some (users_of r)) (slice_get-front rows row place (place-within c place is))
+
+    pub pushed-here : found_at (map (map (users_in (rows ++ row ∷ []))) new) cell ≡ Some users
+    pushed-here =
+        found_at-map (users_in (rows ++ row ∷ [])) new cell ∙ ap (option_map (users_in (rows ++ row ∷ []))) here
+        ∙ ap (λ r. Some (users_of r)) (slice_get-last rows row) ∙ ap Some are
+
+    pub pushed-others : (c : Cell) → cell ≢ c → found_at (map (map (users_in (rows ++ row ∷ []))) new) c ≡ found_at (map (map (users_in rows)) places) c
+    pushed-others c apart =
+        found_at-map (users_in (rows ++ row ∷ [])) new c ∙ ap (option_map (users_in (rows ++ row ∷ []))) (others c apart)
+        ∙ users-kept c (found_at places c) refl ∙ sym (found_at-map (users_in rows) places c)
+
+  -- another list in the row of a cell
+  module _ (cell : Cell) (at : ℕ) (row new : Row) (here : found_at places cell ≡ Some (suc at)) (read : slice_get rows at ≡ Some row) (same : new.cell ≡ row.cell) where
+    set-there : slice_get (set rows at new) at ≡ Some new
+    set-there = slice_get-set_same rows at new (subst IsSome (sym read) refl)
+
+    pub have-set : HaveRows (set rows at new) places
+    have-set c place found =
+        let r = have c place found in
+        elim (cases_eq at place) [
+          | inl e ↦
+              let one : r.0 ≡ row = some-injective r.0 row (sym r.1 ∙ ap (slice_get rows) (sym e) ∙ read) in
+              (new, ap (slice_get (set rows at new)) (sym e) ∙ set-there, same ∙ ap (λ r. r.cell) (sym one) ∙ r.2)
+          | inr apart ↦ (r.0, slice_get-set_other rows at place new apart ∙ r.1, r.2)
+        ]
+
+    users-other : (c : Cell) (o : Option ℕ) → cell ≢ c → found_at places c ≡ o → option_map (users_in (set rows at new)) o ≡ option_map (users_in rows) o
+    users-other c None apart is = refl
+    users-other c (Some zero) apart is = refl
+    users-other c (Some (suc place)) apart is =
+        elim (cases_eq at place) [
+          | inl e ↦
+              let r = have c place is in
+              let q = have cell at here in
+              let one : r.0 ≡ q.0 = some-injective r.0 q.0 (sym r.1 ∙ ap (slice_get rows) (sym e) ∙ q.1) in
+              absurd (apart (sym q.2 ∙ ap (λ r. r.cell) (sym one) ∙ r.2))
+          | inr other ↦ ap (λ r. Some (users_of r)) (slice_get-set_other rows at place new other)
+        ]
+
+    pub set-here : found_at (map (map (users_in (set rows at new))) places) cell ≡ Some new.users.items
+    set-here =
+        found_at-map (users_in (set rows at new)) places cell ∙ ap (option_map (users_in (set rows at new))) here ∙ ap (λ r. Some (users_of r)) set-there
+
+    pub set-old : found_at (map (map (users_in rows)) places) cell ≡ Some row.users.items
+    set-old = found_at-map (users_in rows) places cell ∙ ap (option_map (users_in rows)) here ∙ ap (λ r. Some (users_of r)) read
+
+    pub set-others : (c : Cell) → cell ≢ c → found_at (map (map (users_in (set rows at new))) places) c ≡ found_at (map (map (users_in rows)) places) c
+    set-others c apart =
+        found_at-map (users_in (set rows at new)) places c ∙ users-other c (found_at places c) apart refl ∙ sym (found_at-map (users_in rows) places c)
+
+-- ---- rows of words
+
+-- an empty row more
+pub opened-pushed : (rows : List Numbers) (row : Numbers) (a i : ℕ) → ((k : ℕ) → has row k ≡ false)
+    → row_has (slice_get (map (λ row. row.words.items) (rows ++ row ∷ [])) a) i ≡ row_has (slice_get (map (λ row. row.words.items) rows) a) i
+opened-pushed [] row zero i none = none i
+opened-pushed [] row (suc a) i none = refl
+opened-pushed (r ∷ rows) row zero i none = refl
+opened-pushed (r ∷ rows) row (suc a) i none = opened-pushed rows row a i none
+
+no_bit : (b : Bool) → b ≡ (b || false)
+no_bit true = refl
+no_bit false = refl
+
+-- a row with one bit more
+pub row_has-insert : (rows : List (List ℕ)) (cell c : Cell) (row new : List ℕ) → slice_get rows cell.array ≡ Some row
+    → ((k : ℕ) → bit_in new k ≡ (bit_in row k || (k == cell.index)))
+    → row_has (slice_get (set rows cell.array new) c.array) c.index ≡ (row_has (slice_get rows c.array) c.index || same_cell cell c)
+row_has-insert rows cell c row new there inserted =
+    elim (cases_eq cell.array c.array) [
+      | inl e ↦
+          ap (λ a. row_has (slice_get (set rows cell.array new) a) c.index) (sym e)
+          ∙ ap (λ o. row_has o c.index) (slice_get-set_same rows cell.array new (subst IsSome (sym there) refl))
+          ∙ inserted c.index ∙ ap (λ o. row_has o c.index || (c.index == cell.index)) (sym there)
+          ∙ ap (λ a. row_has (slice_get rows a) c.index || (c.index == cell.index)) e
+          ∙ ap (λ b. row_has (slice_get rows c.array) c.index || b) (eq_swap c.index cell.index ∙ ap (λ b. b && (cell.index == c.index)) (sym (ap (λ a. cell.array == a) (sym e) ∙ eq_itself cell.array)))
+      | inr apart ↦
+          ap (λ o. row_has o c.index) (slice_get-set_other rows cell.array c.array new apart)
+          ∙ no_bit (row_has (slice_get rows c.array) c.index)
+          ∙ ap (λ b. row_has (slice_get rows c.array) c.index || (b && (cell.index == c.index))) (sym (eq_apart cell.array c.array apart))
+    ]
+  where
+    eq_swap : (n m : ℕ) → (n == m) ≡ (m == n)
+    eq_swap n m = elim (cases_eq n m) [
+      | inl e ↦ ap (λ k. n == k) (sym e) ∙ eq_itself n ∙ sym (ap (λ k. k == n) (sym e) ∙ eq_itself n)
+      | inr apart ↦ eq_apart n m apart ∙ sym (eq_apart m n (λ e. apart (sym e)))
+    ]
+
+-- a row that is there
+pub words-read : (rows : List Numbers) (i : ℕ) (row : Numbers) → i < length rows → row ≡ get_or rows i row
+    → slice_get (map (λ row. row.words.items) rows) i ≡ Some row.words.items
+words-read [] i row l is = absurd (omega (arith, l))
+words-read (r ∷ rows) zero row l is = ap (λ r. Some r.words.items) (sym is)
+words-read (r ∷ rows) (suc i) row l is = words-read rows i row (omega (arith, l)) is

@@ -1,0 +1,12 @@
+use Rattle.std.proofs.Common.{[], ◌∷◌, ap, sym, ◌∙◌}
+use Rattle.ot_model.specs.declared.stmt.Mode.TheVariants.{Writes}
+use Rattle.ot_check.specs.Paths.{Enter, use_as}
+use Rattle.ot_check.specs.Offences.{clashes}
+use Rattle.ot_check.specs.walk.Walk.{may_break}
+use Rattle.ot_check.proofs.Bits.{or_none}
+use Rattle.ot_check.proofs.standing.Standing.cell_breaks.Goals as goal
+
+pub returns-in-ConflictsWithChild : goal.returns-in-ConflictsWithChild
+returns-in-ConflictsWithChild c = λ own opened children h.
+    c.clash.ensures ∙ h.clash (use_as Writes c.args.cell) ∙ sym (or_none (children (clashes (use_as Writes c.args.cell))))
+    ∙ sym (ap (may_break own opened children (Enter (c.args.cell ∷ []))) c.in-ConflictsWithChild.is)
