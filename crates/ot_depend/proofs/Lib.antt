@@ -14,3 +14,4 @@ pub mod TruthLemmas
 pub mod EnterLemmas
 pub mod KeptLemmas
 pub mod WaitLemmas
+pub mod ReleaseLemmas

@@ -69,7 +69,7 @@ module _ (kids : List Kid) (i : ℕ) (me : Kid) (linked : IsLinked kids) (known 
   decls-end = ap decls siblings-end ∙ decls-finished (siblings kids) i
 
   -- a child that has not finished then, as it was
-  end_back : (j : ℕ) (k : Kid) → slice_get (updated (woken kids me.waiters) i ended) j ≡ Some k →
+  pub end_back : (j : ℕ) (k : Kid) → slice_get (updated (woken kids me.waiters) i ended) j ≡ Some k →
       (t : Kid) × (slice_get kids j ≡ Some t) × (k.waiters ≡ t.waiters) × (k.waiting ≡ t.waiting - times j me.waiters) × (k.it.finished ≡ false → t.it.finished ≡ false)
   end_back j k there =
       let now = updated_back ended (woken kids me.waiters) i j k there in

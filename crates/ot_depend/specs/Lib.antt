@@ -3,6 +3,7 @@ pub mod View
 pub mod Laws
 pub mod Direct
 pub mod Kept
+pub mod Waiting
 pub mod Numbers
 pub mod Children
 pub mod Groups

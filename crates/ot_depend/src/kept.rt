@@ -8,6 +8,7 @@ use crate::child::{Child, enlist, make_rooms, wake};
 use crate::groups::Groups;
 use ot_model::{Decl, Use};
 use std::alloc::{AllocError, Global};
+use std::mem;
 
 /// The children, and what is kept so that none has to be passed over.
 #[derive(Debug, Drop)]
@@ -29,7 +30,11 @@ pub(crate) struct Plan {
 }
 
 impl Kept {
-    ghost use Rattle.ot_depend.specs.View.{siblings_in, IsKept, IsPlanned};
+    ghost use Rattle.ot_depend.specs.View.{kids_in, siblings_in, IsKept, IsPlanned};
+    ghost use Rattle.std.specs.Prelude.{All};
+    ghost use Rattle.ot_model.specs.Cells.{updated};
+    ghost use Rattle.ot_depend.specs.Kept.{woken, waiters_of, ended};
+    ghost use Rattle.ot_depend.specs.Waiting.{LetsTheSame};
 
     /// No children. It takes no memory.
     pub(crate) fn new(alloc: Global) -> Kept
@@ -93,12 +98,28 @@ impl Kept {
         requires ready { IsReady (siblings_in self.old) child }
         requires unfinished { IsUnfinished (siblings_in self.old) child }
         ensures marked { siblings_in self.new ≡ with_finished (siblings_in self.old) child }
+        ensures kids { kids_in self.new ≡ updated (woken (kids_in self.old) (waiters_of (kids_in self.old) child)) child ended }
         ensures kept { IsKept self.new }
     {
         wake(&mut self.children, child);
         self.groups.lower(&self.children[child].groups);
         self.unfinished -= 1;
         self.children[child].finished = true;
+    }
+
+    /// Marks a child as finished, and hands out those that waited for it by themselves. It takes no
+    /// memory.
+    pub(crate) fn release(&mut self, alloc: Global, child: usize) -> Vec<usize>
+        requires kept { IsKept self.old }
+        requires ready { IsReady (siblings_in self.old) child }
+        requires unfinished { IsUnfinished (siblings_in self.old) child }
+        ensures marked { siblings_in self.new ≡ with_finished (siblings_in self.old) child }
+        ensures kept { IsKept self.new }
+        ensures known { All (λ w. w < length (siblings_in self.old)) result.items }
+        ensures others { LetsTheSame result.items (siblings_in self.old) (siblings_in self.new) }
+    {
+        self.finish(child);
+        mem::replace(&mut self.children[child].waiters, Vec::new(alloc))
     }
 
     /// Whether the child is known and waits for none.

@@ -46,3 +46,9 @@ pub mod StartLemmas
 pub mod FreeTaskLemmas
 pub mod WeighingLemmas
 pub mod DealingsLemmas
+pub mod CountingLemmas
+pub mod ListingLemmas
+pub mod ClaimableLemmas
+pub mod NumberedLemmas
+pub mod KeepingLemmas
+pub mod StepLemmas

@@ -16,6 +16,8 @@ pub mod Claiming
 pub mod Settling
 pub mod DoneView
 pub mod States
+pub mod Counting
+pub mod Listing
 pub mod Claims
 pub mod Whole
 pub mod Running

@@ -1,10 +1,9 @@
-use crate::pick::{all_ended, any_out, count_claimable, pick_claimable};
 use crate::piece::{Done, Piece, Refused};
 use crate::prepare::{Prepared, prepare};
-use crate::settle::{is_out, settle};
+use crate::settle::is_out;
 use crate::start::beginning;
 use crate::state::State;
-use crate::task::Task;
+use crate::tasks::Tasks;
 use crate::weigh::weigh_tasks;
 use ot_check::{JobSpec, Outcome};
 use ot_model::{Cells, Counts};
@@ -20,7 +19,7 @@ pub struct Job {
     spec: JobSpec,
     cells: Cells,
     owners: Owners,
-    tasks: Vec<Task>,
+    tasks: Tasks,
     counts: Counts,
     failing: bool,
 }
@@ -39,14 +38,14 @@ impl Model for Job {
     ghost use Rattle.ot_job.specs.RegionView.{regions_of};
     ghost use Rattle.ot_job.specs.Well.{IsWell};
 
-    ghost view = { λ j. record { spec = j.spec; cells = j.cells; owned = j.owners; tasks = j.tasks.items; counts = j.counts; failing = j.failing } };
+    ghost view = { λ j. record { spec = j.spec; cells = j.cells; owned = j.owners; tasks = j.tasks; counts = j.counts; failing = j.failing } };
 
     ghost invariant = { λ j. IsWell (record {
       program = expanded_of j.spec.checked.program;
       before = j.spec.before;
       cells = j.cells;
       owned = j.owners;
-      regions = regions_of j.tasks.items;
+      regions = regions_of j.tasks;
       counts = j.counts;
       failing = j.failing;
     }) };
@@ -97,12 +96,12 @@ impl Job {
         ensures ended { result ≡ Ended → any_out (seen_of self.now).regions ≡ false }
     {
         if self.failing {
-            if any_out(&self.tasks) {
+            if self.tasks.any_out() {
                 State::Failing
             } else {
                 State::Failed
             }
-        } else if all_ended(&self.tasks) {
+        } else if self.tasks.all_ended() {
             State::Ended
         } else {
             State::Working
@@ -119,14 +118,14 @@ impl Job {
         if self.failing {
             return 0;
         }
-        count_claimable(&self.tasks)
+        self.tasks.claimable()
     }
 
     /// How many settles it may still take, at most. It takes no memory.
     pub fn weight(&self) -> u64
         ensures { result ≡ weight_of (seen_of self.now).regions }
     {
-        weigh_tasks(&self.tasks)
+        weigh_tasks(self.tasks.all())
     }
 
     /// Whether it is the job of this spec. It takes no memory.
@@ -149,7 +148,7 @@ impl Job {
         if self.failing {
             return Ok(None);
         }
-        let Some(task) = pick_claimable(&self.tasks, pick) else {
+        let Some(task) = self.tasks.pick(pick) else {
             return Ok(None);
         };
         let Prepared {
@@ -158,9 +157,9 @@ impl Job {
             condition,
             decl,
             right,
-        } = prepare(alloc, &self.tasks[task], &self.cells)?;
+        } = prepare(alloc, self.tasks.get(task), &self.cells)?;
         let lent = self.owners.lease(alloc, &self.cells, decl)?;
-        self.tasks[task].begin(room, right);
+        self.tasks.begin(task, room, right);
         Ok(Some(Piece::new(task as u32, assigns, condition, lent)))
     }
 
@@ -176,7 +175,7 @@ impl Job {
         ensures refuses { IfErr result (λ r. Refuses (seen_of self.old) (done_of done) r.1) }
         ensures refused { OnErr result (seen_of self.new ≡ seen_of self.old) }
     {
-        if !is_out(&self.tasks, &done) {
+        if !is_out(self.tasks.all(), &done) {
             return Err((done, Refused::Stranger));
         }
         if self.failing {
@@ -184,16 +183,12 @@ impl Job {
         }
         let task = done.task as usize;
         let assigns = done.assigns.len();
-        let control = self.tasks[task].units_next();
-        let created = self.tasks[task].tasks_next();
-        if settle(
-            &mut self.tasks,
-            alloc,
-            task,
-            done.is_taken(),
-            self.counts.units,
-        )
-        .is_err()
+        let control = self.tasks.get(task).units_next();
+        let created = self.tasks.get(task).tasks_next();
+        if self
+            .tasks
+            .settle(alloc, task, done.is_taken(), self.counts.units)
+            .is_err()
         {
             return Err((done, Refused::Memory));
         }
@@ -221,7 +216,7 @@ impl Job {
         ensures spec { self.new.spec ≡ self.old.spec }
         ensures weight { weight_of (seen_of self.new).regions ≤ weight_of (seen_of self.old).regions }
     {
-        let out = is_out(&self.tasks, &done);
+        let out = is_out(self.tasks.all(), &done);
         let Done {
             task,
             assigns: _,
@@ -234,7 +229,7 @@ impl Job {
             return;
         }
         self.owners.drop_right(lent);
-        self.tasks[task as usize].stop();
+        self.tasks.stop(task as usize);
         self.failing = true;
     }
 

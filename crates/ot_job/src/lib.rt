@@ -11,6 +11,7 @@ mod arena;
 mod assign;
 mod job;
 mod leading;
+mod listing;
 mod pick;
 mod piece;
 mod place;
@@ -21,6 +22,7 @@ mod settle;
 mod start;
 mod state;
 mod task;
+mod tasks;
 mod touched;
 mod weigh;
 

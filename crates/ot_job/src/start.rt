@@ -5,20 +5,19 @@ ghost use Rattle.ot_model.specs.Programs.{expanded_of};
 ghost use Rattle.ot_job.specs.RegionView.{regions_of};
 ghost use Rattle.ot_job.specs.States.{root_region};
 
-use crate::task::Task;
+use crate::tasks::Tasks;
 use ot_check::JobSpec;
 use ot_model::{Cells, copy_stmts};
 use std::alloc::{AllocError, Global};
 
 /// The cells as a job begins with them, and its root task.
-pub(crate) fn beginning(alloc: Global, spec: &JobSpec) -> Result<(Cells, Vec<Task>), AllocError>
+pub(crate) fn beginning(alloc: Global, spec: &JobSpec) -> Result<(Cells, Tasks), AllocError>
     ensures cells { IfOk result (λ parts. parts.0 ≡ spec.now.before) }
     ensures named { IfOk result (λ parts. NamedIn (lengths spec.now.before) (expanded_of spec.now.checked.program).body) }
-    ensures root { IfOk result (λ parts. regions_of parts.1.items ≡ root_region (expanded_of spec.now.checked.program).body ∷ []) }
+    ensures root { IfOk result (λ parts. regions_of parts.1 ≡ root_region (expanded_of spec.now.checked.program).body ∷ []) }
 {
     let cells = spec.before().copy(alloc)?;
     let body = copy_stmts(alloc, &spec.checked().program.body)?;
-    let mut tasks = Vec::with_capacity(alloc, 1)?;
-    tasks.push(Task::root(alloc, body))?;
+    let tasks = Tasks::root(alloc, body)?;
     Ok((cells, tasks))
 }

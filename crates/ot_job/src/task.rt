@@ -40,7 +40,9 @@ impl Task {
     ghost use Rattle.ot_job.specs.Weighing.{region_weight};
     ghost use Rattle.ot_job.specs.Pieces.{leading_len, awake, begun};
     ghost use Rattle.ot_job.specs.Settling.{Runs, is_control, tasks_next, is_at_end, without, over, stopped};
-    ghost use Rattle.ot_depend.specs.Siblings.{IsReady, IsUnfinished};
+    ghost use Rattle.ot_depend.specs.Siblings.{IsReady, IsUnfinished, with_finished};
+    ghost use Rattle.ot_depend.specs.Waiting.{LetsTheSame};
+    ghost use Rattle.std.specs.Prelude.{All};
     ghost use Rattle.ot_job.specs.Assigns.{assigns_of};
     ghost use Rattle.std.specs.Prelude.{IsTrue, ◌↔◌};
     ghost use Rattle.ot_job.specs.Claiming.{is_let_go, end_lets_go};
@@ -195,13 +197,16 @@ impl Task {
         }
     }
 
-    /// A child has finished. It takes no memory.
-    pub fn finish_child(&mut self, child: usize)
+    /// A child has finished. The answer is the children that waited for it by themselves: each other is
+    /// as ready as before. It takes no memory.
+    pub fn release_child(&mut self, alloc: Global, child: usize) -> Vec<usize>
         requires ready { IsReady self.old.children child }
         requires unfinished { IsUnfinished self.old.children child }
-        ensures { region_of self.new ≡ without child (region_of self.old) }
+        ensures released { region_of self.new ≡ without child (region_of self.old) }
+        ensures known { All (λ w. w < length self.old.children) result.items }
+        ensures others { LetsTheSame result.items self.old.children (with_finished self.old.children child) }
     {
-        self.children.finish(child);
+        self.children.release(alloc, child)
     }
 
     /// It has ended its body.

@@ -73,6 +73,7 @@ returns c =
     kids_of-set ended c.wake.new.children.items c.args.child c.index_mut.result.now now within c.index_mut.ensures.value refl ∙ ap (λ ks. updated ks c.args.child ended) c.wake.ensures in
     record {
       marked = ap siblings put ∙ siblings_finished (kids_of k.children.items) k.cells k.groups k.unfinished c.requires.kept c.args.child me.0 me.1 not_yet;
+      kids = put;
       kept = subst (λ (ks : List Kid). IsTrueOf ks k.cells c.lower.new.self (k.unfinished - 1)) (sym put)
           (kept_finished (kids_of k.children.items) k.cells k.groups k.unfinished c.requires.kept c.args.child me.0 me.1 not_yet c.lower.new.self c.requires.ready
           (λ g. ap (λ xs. count_of c.lower.new.self g + cond {A = ℕ} (list_any (λ x. x == g) xs) 1 0) (sym same ∙ sym c.deref.ensures.value) ∙ c.lower.ensures g));

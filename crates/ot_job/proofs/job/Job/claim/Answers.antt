@@ -1,4 +1,4 @@
-use Rattle.std.proofs.Common.{rules, [], map, set, ◌≡◌, ◌<◌, ◌∙◌, ap, sym, subst, arith, length, List, Bool}
+use Rattle.std.proofs.Common.{rules, [], ◌≡◌, ◌<◌, ◌∙◌, ap, sym, subst, arith, length, List, Bool}
 use Rattle.std.specs.Prelude.{Some, Option, option_map, if◌then◌else◌}
 use Rattle.std.proofs.lemmas.List.{length-map}
 use Rattle.ot_model.specs.Tree.{E, Body}
@@ -24,7 +24,6 @@ use Rattle.ot_model.proofs.CountsLemmas.{tasks_in-≤-size}
 use Rattle.ot_job.proofs.CourseLemmas.{counts-few}
 use Rattle.ot_job.proofs.TakenLemmas.{claim-can}
 use Rattle.ot_job.proofs.PickLemmas.{picked-claimable, at-here}
-use Rattle.ot_job.proofs.ViewLemmas.{map-changed}
 use Rattle.ot_job.specs.Weighing.{weight_of}
 use Rattle.ot_job.proofs.WeighingLemmas.{weight-begun}
 use Rattle.ot_job.proofs.DealingsLemmas.{claimed-gives, picked-working}
@@ -34,44 +33,49 @@ use Rattle.ot_job.specs.declared.state.State.TheVariants.{Working}
 use Rattle.ot_job.proofs.ViewLemmas.{on_err_always}
 use Rattle.ot_job.proofs.job.Job.claim.Goals as goal
 
-pub index-requires : goal.index-requires
-index-requires c =
-    let is : picked (claimable_of (regions_of c.self.inside.tasks.items)) c.args.pick ≡ Some c.in-Some.task = search rules in
-    omega (arith, (picked-claimable (regions_of c.self.inside.tasks.items) c.args.pick c.in-Some.task is).0, length-map c.self.inside.tasks.items region_of)
+pub get-requires : goal.get-requires
+get-requires c =
+    let is : picked (claimable_of (regions_of c.self.inside.tasks)) c.args.pick ≡ Some c.in-Some.task = search rules in
+    omega (arith, (picked-claimable (regions_of c.self.inside.tasks) c.args.pick c.in-Some.task is).0, length-map c.self.inside.tasks region_of)
 
 pub prepare-requires : goal.prepare-requires
 prepare-requires c =
-    let tasks = c.self.inside.tasks.items in
+    let tasks = c.self.inside.tasks in
     let is : picked (claimable_of (regions_of tasks)) c.args.pick ≡ Some c.in-Some.task = search rules in
     let within : c.in-Some.task < length tasks = omega (arith, (picked-claimable (regions_of tasks) c.args.pick c.in-Some.task is).0, length-map tasks region_of) in
-    let here = at-here tasks c.in-Some.task c.index.result.now within c.index.ensures in
+    let here = at-here tasks c.in-Some.task c.get.result.now within c.get.ensures in
     let named = named-awake _ (c.self.invariant.course c.if-self.false) c.in-Some.task in
     record { named = subst (λ r. NamedIn (lengths c.self.inside.cells) (awake r).rest) here named }
 
 pub lease-requires-clause-free : goal.lease-requires-clause-free
 lease-requires-clause-free c =
-    let tasks = c.self.inside.tasks.items in
+    let tasks = c.self.inside.tasks in
     let is : picked (claimable_of (regions_of tasks)) c.args.pick ≡ Some c.in-Some.task = search rules in
     let both = picked-claimable (regions_of tasks) c.args.pick c.in-Some.task is in
     let within : c.in-Some.task < length tasks = omega (arith, both.0, length-map tasks region_of) in
-    let here = at-here tasks c.in-Some.task c.index.result.now within c.index.ensures in
+    let here = at-here tasks c.in-Some.task c.get.result.now within c.get.ensures in
     claim-free _ c.self.invariant (c.self.invariant.course c.if-self.false) c.in-Some.task both.0 both.1 c.in_ok-room.field-0.decl
     (subst (λ r. AreHeld r c.in_ok-room.field-0.decl) (sym here) c.in_ok-room.ensures.held) c.in_ok-room.ensures.ordered
 
-pub index_mut-requires : goal.index_mut-requires
-index_mut-requires c =
-    let is : picked (claimable_of (regions_of c.self.inside.tasks.items)) c.args.pick ≡ Some c.in-Some.task = search rules in
-    omega (arith, (picked-claimable (regions_of c.self.inside.tasks.items) c.args.pick c.in-Some.task is).0, length-map c.self.inside.tasks.items region_of)
+pub begin-requires-clause-known : goal.begin-requires-clause-known
+begin-requires-clause-known c =
+    let is : picked (claimable_of (regions_of c.self.inside.tasks)) c.args.pick ≡ Some c.in-Some.task = search rules in
+    omega (arith, (picked-claimable (regions_of c.self.inside.tasks) c.args.pick c.in-Some.task is).0, length-map c.self.inside.tasks region_of)
 
 pub begin-requires-clause-room : goal.begin-requires-clause-room
 begin-requires-clause-room c =
-    let tasks = c.self.inside.tasks.items in
+    let tasks = c.self.inside.tasks in
     let is : picked (claimable_of (regions_of tasks)) c.args.pick ≡ Some c.in-Some.task = search rules in
     let within : c.in-Some.task < length tasks = omega (arith, (picked-claimable (regions_of tasks) c.args.pick c.in-Some.task is).0, length-map tasks region_of) in
-    let one = at-here tasks c.in-Some.task c.index.result.now within c.index.ensures in
-    let two = at-here tasks c.in-Some.task c.index_mut.result.now within c.index_mut.ensures.value in
-    let same = ap (λ r. leading_len (awake r).rest) (sym two ∙ one) in
+    let one = at-here tasks c.in-Some.task c.get.result.now within c.get.ensures in
+    let same = ap (λ r. leading_len (awake r).rest) one in
     omega (arith, same, c.in_ok-room.ensures.room)
+
+pub begin-requires-clause-idle : goal.begin-requires-clause-idle
+begin-requires-clause-idle c =
+    let rs = regions_of c.self.inside.tasks in
+    let is : picked (claimable_of rs) c.args.pick ≡ Some c.in-Some.task = search rules in
+    claimable-idle rs c.in-Some.task (picked-claimable rs c.args.pick c.in-Some.task is).1
 
 pub overflow_cast-task : goal.overflow_cast-task
 overflow_cast-task c =
@@ -80,7 +84,7 @@ overflow_cast-task c =
       before = c.self.inside.spec.before;
       cells = c.self.inside.cells;
       owned = c.self.inside.owners;
-      regions = regions_of c.self.inside.tasks.items;
+      regions = regions_of c.self.inside.tasks;
       counts = c.self.inside.counts;
       failing = c.self.inside.failing;
     } in
@@ -91,12 +95,12 @@ overflow_cast-task c =
 
 pub new-requires : goal.new-requires
 new-requires c =
-    let tasks = c.self.inside.tasks.items in
+    let tasks = c.self.inside.tasks in
     let rs = regions_of tasks in
     let i = c.in-Some.task in
     let is : picked (claimable_of rs) c.args.pick ≡ Some i = search rules in
     let within : i < length tasks = omega (arith, (picked-claimable rs c.args.pick i is).0, length-map tasks region_of) in
-    let here = at-here tasks i c.index.result.now within c.index.ensures in
+    let here = at-here tasks i c.get.result.now within c.get.ensures in
     let lent = c.in_ok-lent.ensures.lent in
     let uses = lent_uses c.self.inside.cells c.in_ok-room.field-0.decl c.in_ok-lent.lent lent in
     let held = subst (AreHeld (at rs i)) (sym uses) (subst (λ r. AreHeld r c.in_ok-room.field-0.decl) (sym here) c.in_ok-room.ensures.held) in
@@ -108,17 +112,17 @@ new-requires c =
 
 pub invariant_of-self-2 : goal.invariant_of-self-2
 invariant_of-self-2 c =
-    let tasks = c.self.inside.tasks.items in
+    let tasks = c.self.inside.tasks in
     let rs = regions_of tasks in
     let i = c.in-Some.task in
     let is : picked (claimable_of rs) c.args.pick ≡ Some i = search rules in
     let both = picked-claimable rs c.args.pick i is in
     let within : i < length tasks = omega (arith, both.0, length-map tasks region_of) in
-    let here = at-here tasks i c.index.result.now within c.index.ensures in
+    let here = at-here tasks i c.get.result.now within c.get.ensures in
     let lent = c.in_ok-lent.ensures.lent in
     let uses = lent_uses c.self.inside.cells c.in_ok-room.field-0.decl c.in_ok-lent.lent lent in
     let lease : c.in_ok-room.field-0.right ≡ lease_of c.in_ok-lent.lent = c.in_ok-room.ensures.right ∙ ap lease_of (sym lent) in
-    let now = map-changed region_of tasks i c.index_mut.result.now c.begin.new.self (begun c.in_ok-room.field-0.right) c.index_mut.ensures.value c.begin.ensures ∙ ap (λ l. updated rs i (begun l)) lease in
+    let now = c.begin.ensures ∙ ap (λ l. updated rs i (begun l)) lease in
     let held = subst (AreHeld (at rs i)) (sym uses) (subst (λ r. AreHeld r c.in_ok-room.field-0.decl) (sym here) c.in_ok-room.ensures.held) in
     let seen : List Region → Seen = λ regions. record {
       program = expanded_of c.self.inside.spec.checked.program;
@@ -135,16 +139,16 @@ invariant_of-self-2 c =
 
 pub returns-clause-claimed : goal.returns-clause-claimed
 returns-clause-claimed c =
-    let tasks = c.self.inside.tasks.items in
+    let tasks = c.self.inside.tasks in
     let rs = regions_of tasks in
     let i = c.in-Some.task in
     let is : picked (claimable_of rs) c.args.pick ≡ Some i = search rules in
     let within : i < length tasks = omega (arith, (picked-claimable rs c.args.pick i is).0, length-map tasks region_of) in
-    let here = at-here tasks i c.index.result.now within c.index.ensures in
+    let here = at-here tasks i c.get.result.now within c.get.ensures in
     let lent = c.in_ok-lent.ensures.lent in
     let uses = lent_uses c.self.inside.cells c.in_ok-room.field-0.decl c.in_ok-lent.lent lent in
     let lease : c.in_ok-room.field-0.right ≡ lease_of c.in_ok-lent.lent = c.in_ok-room.ensures.right ∙ ap lease_of (sym lent) in
-    let now = map-changed region_of tasks i c.index_mut.result.now c.begin.new.self (begun c.in_ok-room.field-0.right) c.index_mut.ensures.value c.begin.ensures ∙ ap (λ l. updated rs i (begun l)) lease in
+    let now = c.begin.ensures ∙ ap (λ l. updated rs i (begun l)) lease in
     let seen : List Region → Seen = λ regions. record {
       program = expanded_of c.self.inside.spec.checked.program;
       before = c.self.inside.spec.before;
@@ -155,7 +159,7 @@ returns-clause-claimed c =
       failing = c.self.inside.failing;
     } in
     let piece : Taken = record { task = i; assigns = assigns_of c.in_ok-room.field-0.assigns.items; test = option_map expr_of c.in_ok-room.field-0.condition; lent = c.in_ok-lent.lent } in
-    let new : Seen = seen (map region_of (set tasks i c.begin.new.self)) in
+    let new : Seen = seen (regions_of c.begin.new.self) in
     subst (λ (p : Parts). Claims (seen_of c.args.self.now) c.args.pick (taken_of p) new) (sym c.new.ensures) (subst (λ (l : Live). Claims (seen_of l) c.args.pick piece new) c.self.view_is (record {
       task = ap (λ (b : Bool). picked (if b then [] else claimable_of rs) c.args.pick) c.if-self.false ∙ is;
       assigns = c.in_ok-room.ensures.assigns ∙ ap (λ r. leading (awake r).rest) (sym here);
@@ -169,17 +173,17 @@ returns-clause-claimed c =
 
 pub returns-clause-weight : goal.returns-clause-weight
 returns-clause-weight c =
-    let tasks = c.self.inside.tasks.items in
+    let tasks = c.self.inside.tasks in
     let rs = regions_of tasks in
     let i = c.in-Some.task in
     let is : picked (claimable_of rs) c.args.pick ≡ Some i = search rules in
     let both = picked-claimable rs c.args.pick i is in
     let within : i < length tasks = omega (arith, both.0, length-map tasks region_of) in
-    let here = at-here tasks i c.index.result.now within c.index.ensures in
+    let here = at-here tasks i c.get.result.now within c.get.ensures in
     let lent = c.in_ok-lent.ensures.lent in
     let uses = lent_uses c.self.inside.cells c.in_ok-room.field-0.decl c.in_ok-lent.lent lent in
     let lease : c.in_ok-room.field-0.right ≡ lease_of c.in_ok-lent.lent = c.in_ok-room.ensures.right ∙ ap lease_of (sym lent) in
-    let now = map-changed region_of tasks i c.index_mut.result.now c.begin.new.self (begun c.in_ok-room.field-0.right) c.index_mut.ensures.value c.begin.ensures ∙ ap (λ l. updated rs i (begun l)) lease in
+    let now = c.begin.ensures ∙ ap (λ l. updated rs i (begun l)) lease in
     let idle = claimable-idle rs i both.1 in
     omega (arith, weight-begun (lease_of c.in_ok-lent.lent) rs i both.0 idle, ap weight_of now, ap (λ (l : Live). weight_of (regions_of l.tasks)) c.self.view_is)
 
@@ -199,11 +203,11 @@ returns-in_err-room-clause-working c =
       before = c.self.inside.spec.before;
       cells = c.self.inside.cells;
       owned = c.self.inside.owners;
-      regions = regions_of c.self.inside.tasks.items;
+      regions = regions_of c.self.inside.tasks;
       counts = c.self.inside.counts;
       failing = c.self.inside.failing;
     } in
-    let is : picked (claimable_of (regions_of c.self.inside.tasks.items)) c.args.pick ≡ Some c.in-Some.task = search rules in
+    let is : picked (claimable_of (regions_of c.self.inside.tasks)) c.args.pick ≡ Some c.in-Some.task = search rules in
     on_err_always c.from_residual.result (subst (λ (l : Live). state_of (seen_of l) ≡ Working) c.self.view_is (picked-working j c.args.pick c.in-Some.task c.if-self.false is))
 
 pub returns-in_err-lent-clause-working : goal.returns-in_err-lent-clause-working
@@ -213,9 +217,9 @@ returns-in_err-lent-clause-working c =
       before = c.self.inside.spec.before;
       cells = c.self.inside.cells;
       owned = c.self.inside.owners;
-      regions = regions_of c.self.inside.tasks.items;
+      regions = regions_of c.self.inside.tasks;
       counts = c.self.inside.counts;
       failing = c.self.inside.failing;
     } in
-    let is : picked (claimable_of (regions_of c.self.inside.tasks.items)) c.args.pick ≡ Some c.in-Some.task = search rules in
+    let is : picked (claimable_of (regions_of c.self.inside.tasks)) c.args.pick ≡ Some c.in-Some.task = search rules in
     on_err_always c.from_residual-in_err-lent.result (subst (λ (l : Live). state_of (seen_of l) ≡ Working) c.self.view_is (picked-working j c.args.pick c.in-Some.task c.if-self.false is))

@@ -17,8 +17,8 @@ returns-clause-never_stuck c = λ is none.
     let w = subst (λ (l : Live). IsWell (seen_of l)) c.self.view_is c.self.invariant in
     let working = state-working j is in
     let some = has-claimable j w working.0 working.1 (out-none j none) in
-    let tasks = c.deref.ensures.value ∙ ap (λ (l : Live). l.tasks) c.self.view_is in
-    omega (arith, some, c.count_claimable.ensures, ap (λ ts. length (claimable_of (regions_of ts))) tasks)
+    let tasks = ap (λ (l : Live). l.tasks) c.self.view_is in
+    omega (arith, some, c.claimable.ensures, ap (λ ts. length (claimable_of (regions_of ts))) tasks)
 
 pub returns-clause-few : goal.returns-clause-few
 returns-clause-few c =
@@ -27,10 +27,9 @@ returns-clause-few c =
       before = c.self.inside.spec.before;
       cells = c.self.inside.cells;
       owned = c.self.inside.owners;
-      regions = regions_of c.self.inside.tasks.items;
+      regions = regions_of c.self.inside.tasks;
       counts = c.self.inside.counts;
       failing = c.self.inside.failing;
     } in
     let few = counts-few j (c.self.invariant.course c.if-self.false) in
-    let tasks = ap (λ ts. length (claimable_of (regions_of ts))) c.deref.ensures.value in
-    omega (arith, claimable-few j.regions, c.count_claimable.ensures, tasks, c.self.invariant.created, few.0, tasks_in-≤-size j.program.body, c.self.inside.spec.checked.program.few, c.self.inside.spec.checked.program.statements_are)
+    omega (arith, claimable-few j.regions, c.claimable.ensures, c.self.invariant.created, few.0, tasks_in-≤-size j.program.body, c.self.inside.spec.checked.program.few, c.self.inside.spec.checked.program.statements_are)

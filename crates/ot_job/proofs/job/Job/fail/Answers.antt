@@ -1,4 +1,5 @@
-use Rattle.std.proofs.Common.{rules, ◌≡◌, ap, sym, subst, arith, List, true, inl, set}
+use Rattle.std.proofs.Common.{rules, ◌≡◌, ap, sym, subst, arith, List, true, inl}
+use Rattle.std.specs.Prelude.{is_some}
 use Rattle.std.proofs.lemmas.List.{length-map}
 use Rattle.ot_model.specs.Programs.{expanded_of}
 use Rattle.ot_owner.specs.Leases.{lease_of}
@@ -13,7 +14,6 @@ use Rattle.ot_job.specs.declared.task.Task.{Task}
 use Rattle.ot_job.proofs.StartLemmas.{fails-out, fails-well, runs-within}
 use Rattle.ot_job.specs.Weighing.{weight_of}
 use Rattle.ot_job.proofs.WeighingLemmas.{weight-stopped}
-use Rattle.ot_job.proofs.ViewLemmas.{map-changed}
 use Rattle.ot_job.proofs.DealingsLemmas.{fails-deals}
 use Rattle.ot_job.proofs.job.Job.fail.Goals as goal
 
@@ -24,30 +24,46 @@ drop_right-requires c =
       before = c.self.inside.spec.before;
       cells = c.self.inside.cells;
       owned = c.self.inside.owners;
-      regions = regions_of c.self.inside.tasks.items;
+      regions = regions_of c.self.inside.tasks;
       counts = c.self.inside.counts;
       failing = c.self.inside.failing;
     } in
     let d : Came = done_of c.args.done in
     let yes : c.is_out-out.result ≡ true = search rules in
-    let out : IsOut j.regions d = subst (λ (l : List Task). IsOut (regions_of l) d) c.deref.ensures.value (c.is_out-out.ensures.0 yes) in
+    let out : IsOut j.regions d = subst (λ (l : List Task). IsOut (regions_of l) d) c.all.ensures (c.is_out-out.ensures.0 yes) in
     fails-out j d c.self.invariant out
 
-pub index_mut-requires : goal.index_mut-requires
-index_mut-requires c =
+pub stop-requires-clause-known : goal.stop-requires-clause-known
+stop-requires-clause-known c =
     let j : Seen = record {
       program = expanded_of c.self.inside.spec.checked.program;
       before = c.self.inside.spec.before;
       cells = c.self.inside.cells;
       owned = c.self.inside.owners;
-      regions = regions_of c.self.inside.tasks.items;
+      regions = regions_of c.self.inside.tasks;
       counts = c.self.inside.counts;
       failing = c.self.inside.failing;
     } in
     let d : Came = done_of c.args.done in
     let yes : c.is_out-out.result ≡ true = search rules in
-    let out : IsOut j.regions d = subst (λ (l : List Task). IsOut (regions_of l) d) c.deref.ensures.value (c.is_out-out.ensures.0 yes) in
-    omega (arith, runs-within j.regions d.task (record { assigns = d.assigns; lease = lease_of d.lent }) out.0, length-map c.self.inside.tasks.items region_of)
+    let out : IsOut j.regions d = subst (λ (l : List Task). IsOut (regions_of l) d) c.all.ensures (c.is_out-out.ensures.0 yes) in
+    omega (arith, runs-within j.regions d.task (record { assigns = d.assigns; lease = lease_of d.lent }) out.0, length-map c.self.inside.tasks region_of)
+
+pub stop-requires-clause-out : goal.stop-requires-clause-out
+stop-requires-clause-out c =
+    let j : Seen = record {
+      program = expanded_of c.self.inside.spec.checked.program;
+      before = c.self.inside.spec.before;
+      cells = c.self.inside.cells;
+      owned = c.self.inside.owners;
+      regions = regions_of c.self.inside.tasks;
+      counts = c.self.inside.counts;
+      failing = c.self.inside.failing;
+    } in
+    let d : Came = done_of c.args.done in
+    let yes : c.is_out-out.result ≡ true = search rules in
+    let out : IsOut j.regions d = subst (λ (l : List Task). IsOut (regions_of l) d) c.all.ensures (c.is_out-out.ensures.0 yes) in
+    ap is_some out.0
 
 pub invariant_of-self : goal.invariant_of-self
 invariant_of-self c =
@@ -56,15 +72,15 @@ invariant_of-self c =
       before = c.self.inside.spec.before;
       cells = c.self.inside.cells;
       owned = c.self.inside.owners;
-      regions = regions_of c.self.inside.tasks.items;
+      regions = regions_of c.self.inside.tasks;
       counts = c.self.inside.counts;
       failing = c.self.inside.failing;
     } in
     let d : Came = done_of c.args.done in
     let yes : c.is_out-out.result ≡ true = search rules in
-    let out : IsOut j.regions d = subst (λ (l : List Task). IsOut (regions_of l) d) c.deref.ensures.value (c.is_out-out.ensures.0 yes) in
+    let out : IsOut j.regions d = subst (λ (l : List Task). IsOut (regions_of l) d) c.all.ensures (c.is_out-out.ensures.0 yes) in
     let seen : List Region → Seen = λ regions. record { program = j.program; before = j.before; cells = j.cells; owned = c.drop_right.new.self; regions = regions; counts = j.counts; failing = true } in
-    let now = map-changed region_of c.self.inside.tasks.items d.task c.index_mut.result.now c.stop.new.self stopped c.index_mut.ensures.value c.stop.ensures in
+    let now = c.stop.ensures in
     subst (λ (l : List Region). IsWell (seen l)) (sym now) (fails-well j d c.drop_right.new.self c.self.invariant out c.drop_right.ensures.ended)
 
 pub returns-clause-failed : goal.returns-clause-failed
@@ -74,16 +90,16 @@ returns-clause-failed c =
       before = c.self.inside.spec.before;
       cells = c.self.inside.cells;
       owned = c.self.inside.owners;
-      regions = regions_of c.self.inside.tasks.items;
+      regions = regions_of c.self.inside.tasks;
       counts = c.self.inside.counts;
       failing = c.self.inside.failing;
     } in
     let d : Came = done_of c.args.done in
     let yes : c.is_out-out.result ≡ true = search rules in
-    let out : IsOut j.regions d = subst (λ (l : List Task). IsOut (regions_of l) d) c.deref.ensures.value (c.is_out-out.ensures.0 yes) in
+    let out : IsOut j.regions d = subst (λ (l : List Task). IsOut (regions_of l) d) c.all.ensures (c.is_out-out.ensures.0 yes) in
     let seen : List Region → Seen = λ regions. record { program = j.program; before = j.before; cells = j.cells; owned = c.drop_right.new.self; regions = regions; counts = j.counts; failing = true } in
-    let now = map-changed region_of c.self.inside.tasks.items d.task c.index_mut.result.now c.stop.new.self stopped c.index_mut.ensures.value c.stop.ensures in
-    subst (λ (l : Live). Fails (seen_of l) d (seen (regions_of (set c.self.inside.tasks.items d.task c.stop.new.self)))) c.self.view_is (inl (record {
+    let now = c.stop.ensures in
+    subst (λ (l : Live). Fails (seen_of l) d (seen (regions_of c.stop.new.self))) c.self.view_is (inl (record {
       out = out;
       ended = c.drop_right.ensures.ended;
       worth = c.drop_right.ensures.worth;
@@ -97,14 +113,14 @@ returns-clause-weight c =
       before = c.self.inside.spec.before;
       cells = c.self.inside.cells;
       owned = c.self.inside.owners;
-      regions = regions_of c.self.inside.tasks.items;
+      regions = regions_of c.self.inside.tasks;
       counts = c.self.inside.counts;
       failing = c.self.inside.failing;
     } in
     let d : Came = done_of c.args.done in
     let yes : c.is_out-out.result ≡ true = search rules in
-    let out : IsOut j.regions d = subst (λ (l : List Task). IsOut (regions_of l) d) c.deref.ensures.value (c.is_out-out.ensures.0 yes) in
-    let now = map-changed region_of c.self.inside.tasks.items d.task c.index_mut.result.now c.stop.new.self stopped c.index_mut.ensures.value c.stop.ensures in
+    let out : IsOut j.regions d = subst (λ (l : List Task). IsOut (regions_of l) d) c.all.ensures (c.is_out-out.ensures.0 yes) in
+    let now = c.stop.ensures in
     let less = weight-stopped j.regions d.task (runs-within j.regions d.task (record { assigns = d.assigns; lease = lease_of d.lent }) out.0) in
     omega (arith, less, ap weight_of now, ap (λ (l : Live). weight_of (regions_of l.tasks)) c.self.view_is)
 

@@ -20,7 +20,7 @@ returns-clause-means c =
       before = c.self.inside.spec.before;
       cells = c.self.inside.cells;
       owned = c.self.inside.owners;
-      regions = regions_of c.self.inside.tasks.items;
+      regions = regions_of c.self.inside.tasks;
       counts = c.self.inside.counts;
       failing = c.self.inside.failing;
     } in

@@ -1,5 +1,6 @@
 use Rattle.std.proofs.Common.{rules, refl, ◌≡◌, ◌≤◌, ◌+◌, ◌∙◌, ℕ, ap, sym, subst, arith, List, Bool, true, false}
-use Rattle.std.specs.Prelude.{if◌then◌else◌, option_map, is_err}
+use Rattle.std.specs.Prelude.{if◌then◌else◌, option_map, is_err, is_some}
+use Rattle.ot_owner.specs.Leases.{lease_of}
 use Rattle.ot_model.specs.Value.{val}
 use Rattle.ot_model.specs.View.{expr_of}
 use Rattle.ot_owner.specs.Lending.{value_at}
@@ -26,39 +27,39 @@ use Rattle.ot_job.specs.declared.piece.Refused.TheVariants.{Failing, Memory}
 use Rattle.ot_job.proofs.DealingsLemmas.{settles-pays, refuses-deals}
 use Rattle.ot_job.proofs.job.Job.settle.Goals as goal
 
-pub index-requires : goal.index-requires
-index-requires c =
+pub get-requires : goal.get-requires
+get-requires c =
     let j : Seen = record {
       program = expanded_of c.self.inside.spec.checked.program;
       before = c.self.inside.spec.before;
       cells = c.self.inside.cells;
       owned = c.self.inside.owners;
-      regions = regions_of c.self.inside.tasks.items;
+      regions = regions_of c.self.inside.tasks;
       counts = c.self.inside.counts;
       failing = c.self.inside.failing;
     } in
     let d : Came = done_of c.args.done in
     let may = settle-may j c.self.invariant (c.self.invariant.course c.if-self.false) in
     let yes : c.is_out.result ≡ true = search rules in
-    let out : IsOut j.regions d = subst (λ (l : List Task). IsOut (regions_of l) d) c.deref.ensures.value (c.is_out.ensures.0 yes) in
-    omega (arith, is-known j d may out, length-map c.self.inside.tasks.items region_of)
+    let out : IsOut j.regions d = subst (λ (l : List Task). IsOut (regions_of l) d) c.all.ensures (c.is_out.ensures.0 yes) in
+    omega (arith, is-known j d may out, length-map c.self.inside.tasks region_of)
 
-pub index-requires-2 : goal.index-requires-2
-index-requires-2 c =
+pub get-requires-2 : goal.get-requires-2
+get-requires-2 c =
     let j : Seen = record {
       program = expanded_of c.self.inside.spec.checked.program;
       before = c.self.inside.spec.before;
       cells = c.self.inside.cells;
       owned = c.self.inside.owners;
-      regions = regions_of c.self.inside.tasks.items;
+      regions = regions_of c.self.inside.tasks;
       counts = c.self.inside.counts;
       failing = c.self.inside.failing;
     } in
     let d : Came = done_of c.args.done in
     let may = settle-may j c.self.invariant (c.self.invariant.course c.if-self.false) in
     let yes : c.is_out.result ≡ true = search rules in
-    let out : IsOut j.regions d = subst (λ (l : List Task). IsOut (regions_of l) d) c.deref.ensures.value (c.is_out.ensures.0 yes) in
-    omega (arith, is-known j d may out, length-map c.self.inside.tasks.items region_of)
+    let out : IsOut j.regions d = subst (λ (l : List Task). IsOut (regions_of l) d) c.all.ensures (c.is_out.ensures.0 yes) in
+    omega (arith, is-known j d may out, length-map c.self.inside.tasks region_of)
 
 pub settle-requires-clause-known : goal.settle-requires-clause-known
 settle-requires-clause-known c =
@@ -67,15 +68,49 @@ settle-requires-clause-known c =
       before = c.self.inside.spec.before;
       cells = c.self.inside.cells;
       owned = c.self.inside.owners;
-      regions = regions_of c.self.inside.tasks.items;
+      regions = regions_of c.self.inside.tasks;
       counts = c.self.inside.counts;
       failing = c.self.inside.failing;
     } in
     let d : Came = done_of c.args.done in
     let may = settle-may j c.self.invariant (c.self.invariant.course c.if-self.false) in
     let yes : c.is_out.result ≡ true = search rules in
-    let out : IsOut j.regions d = subst (λ (l : List Task). IsOut (regions_of l) d) c.deref.ensures.value (c.is_out.ensures.0 yes) in
-    omega (arith, is-known j d may out, length-map c.self.inside.tasks.items region_of)
+    let out : IsOut j.regions d = subst (λ (l : List Task). IsOut (regions_of l) d) c.all.ensures (c.is_out.ensures.0 yes) in
+    omega (arith, is-known j d may out, length-map c.self.inside.tasks region_of)
+
+pub settle-requires-clause-out : goal.settle-requires-clause-out
+settle-requires-clause-out c =
+    let j : Seen = record {
+      program = expanded_of c.self.inside.spec.checked.program;
+      before = c.self.inside.spec.before;
+      cells = c.self.inside.cells;
+      owned = c.self.inside.owners;
+      regions = regions_of c.self.inside.tasks;
+      counts = c.self.inside.counts;
+      failing = c.self.inside.failing;
+    } in
+    let d : Came = done_of c.args.done in
+    let may = settle-may j c.self.invariant (c.self.invariant.course c.if-self.false) in
+    let yes : c.is_out.result ≡ true = search rules in
+    let out : IsOut j.regions d = subst (λ (l : List Task). IsOut (regions_of l) d) c.all.ensures (c.is_out.ensures.0 yes) in
+    ap is_some out.0
+
+pub settle-requires-clause-alive : goal.settle-requires-clause-alive
+settle-requires-clause-alive c =
+    let j : Seen = record {
+      program = expanded_of c.self.inside.spec.checked.program;
+      before = c.self.inside.spec.before;
+      cells = c.self.inside.cells;
+      owned = c.self.inside.owners;
+      regions = regions_of c.self.inside.tasks;
+      counts = c.self.inside.counts;
+      failing = c.self.inside.failing;
+    } in
+    let d : Came = done_of c.args.done in
+    let may = settle-may j c.self.invariant (c.self.invariant.course c.if-self.false) in
+    let yes : c.is_out.result ≡ true = search rules in
+    let out : IsOut j.regions d = subst (λ (l : List Task). IsOut (regions_of l) d) c.all.ensures (c.is_out.ensures.0 yes) in
+    ((c.self.invariant.course c.if-self.false).runs d.task (record { assigns = d.assigns; lease = lease_of d.lent }) out.0).alive
 
 pub settle-requires-clause-parent : goal.settle-requires-clause-parent
 settle-requires-clause-parent c = λ some.
@@ -84,15 +119,15 @@ settle-requires-clause-parent c = λ some.
       before = c.self.inside.spec.before;
       cells = c.self.inside.cells;
       owned = c.self.inside.owners;
-      regions = regions_of c.self.inside.tasks.items;
+      regions = regions_of c.self.inside.tasks;
       counts = c.self.inside.counts;
       failing = c.self.inside.failing;
     } in
     let d : Came = done_of c.args.done in
     let may = settle-may j c.self.invariant (c.self.invariant.course c.if-self.false) in
     let yes : c.is_out.result ≡ true = search rules in
-    let out : IsOut j.regions d = subst (λ (l : List Task). IsOut (regions_of l) d) c.deref.ensures.value (c.is_out.ensures.0 yes) in
-    omega (arith, parent-known j d may out some, length-map c.self.inside.tasks.items region_of)
+    let out : IsOut j.regions d = subst (λ (l : List Task). IsOut (regions_of l) d) c.all.ensures (c.is_out.ensures.0 yes) in
+    omega (arith, parent-known j d may out some, length-map c.self.inside.tasks region_of)
 
 pub settle-requires-clause-ready : goal.settle-requires-clause-ready
 settle-requires-clause-ready c = λ some.
@@ -101,14 +136,14 @@ settle-requires-clause-ready c = λ some.
       before = c.self.inside.spec.before;
       cells = c.self.inside.cells;
       owned = c.self.inside.owners;
-      regions = regions_of c.self.inside.tasks.items;
+      regions = regions_of c.self.inside.tasks;
       counts = c.self.inside.counts;
       failing = c.self.inside.failing;
     } in
     let d : Came = done_of c.args.done in
     let may = settle-may j c.self.invariant (c.self.invariant.course c.if-self.false) in
     let yes : c.is_out.result ≡ true = search rules in
-    let out : IsOut j.regions d = subst (λ (l : List Task). IsOut (regions_of l) d) c.deref.ensures.value (c.is_out.ensures.0 yes) in
+    let out : IsOut j.regions d = subst (λ (l : List Task). IsOut (regions_of l) d) c.all.ensures (c.is_out.ensures.0 yes) in
     child-ready j d may out some
 
 pub settle-requires-clause-unfinished : goal.settle-requires-clause-unfinished
@@ -118,14 +153,14 @@ settle-requires-clause-unfinished c = λ some.
       before = c.self.inside.spec.before;
       cells = c.self.inside.cells;
       owned = c.self.inside.owners;
-      regions = regions_of c.self.inside.tasks.items;
+      regions = regions_of c.self.inside.tasks;
       counts = c.self.inside.counts;
       failing = c.self.inside.failing;
     } in
     let d : Came = done_of c.args.done in
     let may = settle-may j c.self.invariant (c.self.invariant.course c.if-self.false) in
     let yes : c.is_out.result ≡ true = search rules in
-    let out : IsOut j.regions d = subst (λ (l : List Task). IsOut (regions_of l) d) c.deref.ensures.value (c.is_out.ensures.0 yes) in
+    let out : IsOut j.regions d = subst (λ (l : List Task). IsOut (regions_of l) d) c.all.ensures (c.is_out.ensures.0 yes) in
     child-unfinished j d may out some
 
 pub give_back-requires-clause-out : goal.give_back-requires-clause-out
@@ -135,14 +170,14 @@ give_back-requires-clause-out c =
       before = c.self.inside.spec.before;
       cells = c.self.inside.cells;
       owned = c.self.inside.owners;
-      regions = regions_of c.self.inside.tasks.items;
+      regions = regions_of c.self.inside.tasks;
       counts = c.self.inside.counts;
       failing = c.self.inside.failing;
     } in
     let d : Came = done_of c.args.done in
     let may = settle-may j c.self.invariant (c.self.invariant.course c.if-self.false) in
     let yes : c.is_out.result ≡ true = search rules in
-    let out : IsOut j.regions d = subst (λ (l : List Task). IsOut (regions_of l) d) c.deref.ensures.value (c.is_out.ensures.0 yes) in
+    let out : IsOut j.regions d = subst (λ (l : List Task). IsOut (regions_of l) d) c.all.ensures (c.is_out.ensures.0 yes) in
     lease-out j d may out
 
 pub give_back-requires-clause-there : goal.give_back-requires-clause-there
@@ -152,14 +187,14 @@ give_back-requires-clause-there c =
       before = c.self.inside.spec.before;
       cells = c.self.inside.cells;
       owned = c.self.inside.owners;
-      regions = regions_of c.self.inside.tasks.items;
+      regions = regions_of c.self.inside.tasks;
       counts = c.self.inside.counts;
       failing = c.self.inside.failing;
     } in
     let d : Came = done_of c.args.done in
     let may = settle-may j c.self.invariant (c.self.invariant.course c.if-self.false) in
     let yes : c.is_out.result ≡ true = search rules in
-    let out : IsOut j.regions d = subst (λ (l : List Task). IsOut (regions_of l) d) c.deref.ensures.value (c.is_out.ensures.0 yes) in
+    let out : IsOut j.regions d = subst (λ (l : List Task). IsOut (regions_of l) d) c.all.ensures (c.is_out.ensures.0 yes) in
     cells-there j d may out
 
 pub overflow_cast-units : goal.overflow_cast-units
@@ -169,20 +204,20 @@ overflow_cast-units c =
       before = c.self.inside.spec.before;
       cells = c.self.inside.cells;
       owned = c.self.inside.owners;
-      regions = regions_of c.self.inside.tasks.items;
+      regions = regions_of c.self.inside.tasks;
       counts = c.self.inside.counts;
       failing = c.self.inside.failing;
     } in
     let d : Came = done_of c.args.done in
     let may = settle-may j c.self.invariant (c.self.invariant.course c.if-self.false) in
     let yes : c.is_out.result ≡ true = search rules in
-    let out : IsOut j.regions d = subst (λ (l : List Task). IsOut (regions_of l) d) c.deref.ensures.value (c.is_out.ensures.0 yes) in
+    let out : IsOut j.regions d = subst (λ (l : List Task). IsOut (regions_of l) d) c.all.ensures (c.is_out.ensures.0 yes) in
     let no_err : is_err c.settle.result ≡ false = search rules in
     let ordered : CreatesInOrder (at j.regions d.task) = ok-holds c.settle.result no_err c.settle.ensures.ordered in
     let told = c.args.done.told ∙ through expr_of (λ x. val (value_at c.args.done.lent) x) c.args.done.condition (option_map expr_of c.args.done.condition) refl in
     let few = counts-few _ (settle-course j c.self.invariant c.if-self.false d out c.args.done.made told c.give_back.new.cells c.give_back.new.self
     c.give_back.ensures.stored c.give_back.ensures.lengths c.give_back.ensures.ended ordered) in
-    let here = at-here c.self.inside.tasks.items c.args.done.task c.index.result.now (omega (arith, is-known j d may out, length-map c.self.inside.tasks.items region_of)) c.index.ensures in
+    let here = at-here c.self.inside.tasks c.args.done.task c.get.result.now (omega (arith, is-known j d may out, length-map c.self.inside.tasks region_of)) c.get.ensures in
     let small : size j.program.body ≤ 20000 = omega (arith, c.self.inside.spec.checked.program.few, c.self.inside.spec.checked.program.statements_are) in
     let fewer : tasks_in j.program.body ≤ 20000 = omega (arith, small, tasks_in-≤-size j.program.body) in
     let long : c.len-assigns.result ≡ leading_len d.assigns = grind (arith, c.len-assigns.ensures, assigns-len c.args.done.assigns.items, c.args.done.assigns.ok) in
@@ -197,20 +232,20 @@ overflow_add-units c =
       before = c.self.inside.spec.before;
       cells = c.self.inside.cells;
       owned = c.self.inside.owners;
-      regions = regions_of c.self.inside.tasks.items;
+      regions = regions_of c.self.inside.tasks;
       counts = c.self.inside.counts;
       failing = c.self.inside.failing;
     } in
     let d : Came = done_of c.args.done in
     let may = settle-may j c.self.invariant (c.self.invariant.course c.if-self.false) in
     let yes : c.is_out.result ≡ true = search rules in
-    let out : IsOut j.regions d = subst (λ (l : List Task). IsOut (regions_of l) d) c.deref.ensures.value (c.is_out.ensures.0 yes) in
+    let out : IsOut j.regions d = subst (λ (l : List Task). IsOut (regions_of l) d) c.all.ensures (c.is_out.ensures.0 yes) in
     let no_err : is_err c.settle.result ≡ false = search rules in
     let ordered : CreatesInOrder (at j.regions d.task) = ok-holds c.settle.result no_err c.settle.ensures.ordered in
     let told = c.args.done.told ∙ through expr_of (λ x. val (value_at c.args.done.lent) x) c.args.done.condition (option_map expr_of c.args.done.condition) refl in
     let few = counts-few _ (settle-course j c.self.invariant c.if-self.false d out c.args.done.made told c.give_back.new.cells c.give_back.new.self
     c.give_back.ensures.stored c.give_back.ensures.lengths c.give_back.ensures.ended ordered) in
-    let here = at-here c.self.inside.tasks.items c.args.done.task c.index.result.now (omega (arith, is-known j d may out, length-map c.self.inside.tasks.items region_of)) c.index.ensures in
+    let here = at-here c.self.inside.tasks c.args.done.task c.get.result.now (omega (arith, is-known j d may out, length-map c.self.inside.tasks region_of)) c.get.ensures in
     let small : size j.program.body ≤ 20000 = omega (arith, c.self.inside.spec.checked.program.few, c.self.inside.spec.checked.program.statements_are) in
     let fewer : tasks_in j.program.body ≤ 20000 = omega (arith, small, tasks_in-≤-size j.program.body) in
     let long : c.len-assigns.result ≡ leading_len d.assigns = grind (arith, c.len-assigns.ensures, assigns-len c.args.done.assigns.items, c.args.done.assigns.ok) in
@@ -225,26 +260,26 @@ overflow_add-self c =
       before = c.self.inside.spec.before;
       cells = c.self.inside.cells;
       owned = c.self.inside.owners;
-      regions = regions_of c.self.inside.tasks.items;
+      regions = regions_of c.self.inside.tasks;
       counts = c.self.inside.counts;
       failing = c.self.inside.failing;
     } in
     let d : Came = done_of c.args.done in
     let may = settle-may j c.self.invariant (c.self.invariant.course c.if-self.false) in
     let yes : c.is_out.result ≡ true = search rules in
-    let out : IsOut j.regions d = subst (λ (l : List Task). IsOut (regions_of l) d) c.deref.ensures.value (c.is_out.ensures.0 yes) in
+    let out : IsOut j.regions d = subst (λ (l : List Task). IsOut (regions_of l) d) c.all.ensures (c.is_out.ensures.0 yes) in
     let no_err : is_err c.settle.result ≡ false = search rules in
     let ordered : CreatesInOrder (at j.regions d.task) = ok-holds c.settle.result no_err c.settle.ensures.ordered in
     let told = c.args.done.told ∙ through expr_of (λ x. val (value_at c.args.done.lent) x) c.args.done.condition (option_map expr_of c.args.done.condition) refl in
     let few = counts-few _ (settle-course j c.self.invariant c.if-self.false d out c.args.done.made told c.give_back.new.cells c.give_back.new.self
     c.give_back.ensures.stored c.give_back.ensures.lengths c.give_back.ensures.ended ordered) in
-    let here = at-here c.self.inside.tasks.items c.args.done.task c.index.result.now (omega (arith, is-known j d may out, length-map c.self.inside.tasks.items region_of)) c.index.ensures in
+    let here = at-here c.self.inside.tasks c.args.done.task c.get.result.now (omega (arith, is-known j d may out, length-map c.self.inside.tasks region_of)) c.get.ensures in
     let small : size j.program.body ≤ 20000 = omega (arith, c.self.inside.spec.checked.program.few, c.self.inside.spec.checked.program.statements_are) in
     let fewer : tasks_in j.program.body ≤ 20000 = omega (arith, small, tasks_in-≤-size j.program.body) in
     let long : c.len-assigns.result ≡ leading_len d.assigns = grind (arith, c.len-assigns.ensures, assigns-len c.args.done.assigns.items, c.args.done.assigns.ok) in
     let control : c.units_next-control.result ≡ (if is_control (at j.regions d.task).rest then 1 else 0) = c.units_next-control.ensures.exact ∙ ap (λ (r : Region). if is_control r.rest then 1 else 0) (sym here) in
     let more : units_of d.assigns (at j.regions d.task).rest ≡ c.len-assigns.result + c.units_next-control.result = omega (arith, long, control) in
-    let here-2 = at-here c.self.inside.tasks.items c.args.done.task c.index-2.result.now (omega (arith, is-known j d may out, length-map c.self.inside.tasks.items region_of)) c.index-2.ensures in
+    let here-2 = at-here c.self.inside.tasks c.args.done.task c.get-2.result.now (omega (arith, is-known j d may out, length-map c.self.inside.tasks region_of)) c.get-2.ensures in
     let created : c.tasks_next-created.result ≡ tasks_next (at j.regions d.task).rest = c.tasks_next-created.ensures.exact ∙ ap (λ (r : Region). tasks_next r.rest) (sym here-2) in
     omega (arith, few.0, fewer, created)
 
@@ -255,20 +290,20 @@ overflow_add-self-2 c =
       before = c.self.inside.spec.before;
       cells = c.self.inside.cells;
       owned = c.self.inside.owners;
-      regions = regions_of c.self.inside.tasks.items;
+      regions = regions_of c.self.inside.tasks;
       counts = c.self.inside.counts;
       failing = c.self.inside.failing;
     } in
     let d : Came = done_of c.args.done in
     let may = settle-may j c.self.invariant (c.self.invariant.course c.if-self.false) in
     let yes : c.is_out.result ≡ true = search rules in
-    let out : IsOut j.regions d = subst (λ (l : List Task). IsOut (regions_of l) d) c.deref.ensures.value (c.is_out.ensures.0 yes) in
+    let out : IsOut j.regions d = subst (λ (l : List Task). IsOut (regions_of l) d) c.all.ensures (c.is_out.ensures.0 yes) in
     let no_err : is_err c.settle.result ≡ false = search rules in
     let ordered : CreatesInOrder (at j.regions d.task) = ok-holds c.settle.result no_err c.settle.ensures.ordered in
     let told = c.args.done.told ∙ through expr_of (λ x. val (value_at c.args.done.lent) x) c.args.done.condition (option_map expr_of c.args.done.condition) refl in
     let few = counts-few _ (settle-course j c.self.invariant c.if-self.false d out c.args.done.made told c.give_back.new.cells c.give_back.new.self
     c.give_back.ensures.stored c.give_back.ensures.lengths c.give_back.ensures.ended ordered) in
-    let here = at-here c.self.inside.tasks.items c.args.done.task c.index.result.now (omega (arith, is-known j d may out, length-map c.self.inside.tasks.items region_of)) c.index.ensures in
+    let here = at-here c.self.inside.tasks c.args.done.task c.get.result.now (omega (arith, is-known j d may out, length-map c.self.inside.tasks region_of)) c.get.ensures in
     let small : size j.program.body ≤ 20000 = omega (arith, c.self.inside.spec.checked.program.few, c.self.inside.spec.checked.program.statements_are) in
     let fewer : tasks_in j.program.body ≤ 20000 = omega (arith, small, tasks_in-≤-size j.program.body) in
     let long : c.len-assigns.result ≡ leading_len d.assigns = grind (arith, c.len-assigns.ensures, assigns-len c.args.done.assigns.items, c.args.done.assigns.ok) in
@@ -283,29 +318,29 @@ invariant_of-self-2 c =
       before = c.self.inside.spec.before;
       cells = c.self.inside.cells;
       owned = c.self.inside.owners;
-      regions = regions_of c.self.inside.tasks.items;
+      regions = regions_of c.self.inside.tasks;
       counts = c.self.inside.counts;
       failing = c.self.inside.failing;
     } in
     let d : Came = done_of c.args.done in
     let may = settle-may j c.self.invariant (c.self.invariant.course c.if-self.false) in
     let yes : c.is_out.result ≡ true = search rules in
-    let out : IsOut j.regions d = subst (λ (l : List Task). IsOut (regions_of l) d) c.deref.ensures.value (c.is_out.ensures.0 yes) in
+    let out : IsOut j.regions d = subst (λ (l : List Task). IsOut (regions_of l) d) c.all.ensures (c.is_out.ensures.0 yes) in
     let no_err : is_err c.settle.result ≡ false = search rules in
     let ordered : CreatesInOrder (at j.regions d.task) = ok-holds c.settle.result no_err c.settle.ensures.ordered in
     let told = c.args.done.told ∙ through expr_of (λ x. val (value_at c.args.done.lent) x) c.args.done.condition (option_map expr_of c.args.done.condition) refl in
     let few = counts-few _ (settle-course j c.self.invariant c.if-self.false d out c.args.done.made told c.give_back.new.cells c.give_back.new.self
     c.give_back.ensures.stored c.give_back.ensures.lengths c.give_back.ensures.ended ordered) in
-    let here = at-here c.self.inside.tasks.items c.args.done.task c.index.result.now (omega (arith, is-known j d may out, length-map c.self.inside.tasks.items region_of)) c.index.ensures in
+    let here = at-here c.self.inside.tasks c.args.done.task c.get.result.now (omega (arith, is-known j d may out, length-map c.self.inside.tasks region_of)) c.get.ensures in
     let small : size j.program.body ≤ 20000 = omega (arith, c.self.inside.spec.checked.program.few, c.self.inside.spec.checked.program.statements_are) in
     let fewer : tasks_in j.program.body ≤ 20000 = omega (arith, small, tasks_in-≤-size j.program.body) in
     let long : c.len-assigns.result ≡ leading_len d.assigns = grind (arith, c.len-assigns.ensures, assigns-len c.args.done.assigns.items, c.args.done.assigns.ok) in
     let control : c.units_next-control.result ≡ (if is_control (at j.regions d.task).rest then 1 else 0) = c.units_next-control.ensures.exact ∙ ap (λ (r : Region). if is_control r.rest then 1 else 0) (sym here) in
     let more : units_of d.assigns (at j.regions d.task).rest ≡ c.len-assigns.result + c.units_next-control.result = omega (arith, long, control) in
-    let here-2 = at-here c.self.inside.tasks.items c.args.done.task c.index-2.result.now (omega (arith, is-known j d may out, length-map c.self.inside.tasks.items region_of)) c.index-2.ensures in
+    let here-2 = at-here c.self.inside.tasks c.args.done.task c.get-2.result.now (omega (arith, is-known j d may out, length-map c.self.inside.tasks region_of)) c.get-2.ensures in
     let created : c.tasks_next-created.result ≡ tasks_next (at j.regions d.task).rest = c.tasks_next-created.ensures.exact ∙ ap (λ (r : Region). tasks_next r.rest) (sym here-2) in
-    let ok : regions_of c.settle.new.tasks.items ≡ settled c.is_taken.result j.counts.units d.task j.regions = ok-holds c.settle.result no_err c.settle.ensures.settled in
-    let regions : regions_of c.settle.new.tasks.items ≡ settled (taken_by d.answer) j.counts.units d.task j.regions = ok ∙ ap (λ (b : Bool). settled b j.counts.units d.task j.regions) c.is_taken.ensures in
+    let ok : regions_of c.settle.new.self ≡ settled c.is_taken.result j.counts.units d.task j.regions = ok-holds c.settle.result no_err c.settle.ensures.settled in
+    let regions : regions_of c.settle.new.self ≡ settled (taken_by d.answer) j.counts.units d.task j.regions = ok ∙ ap (λ (b : Bool). settled b j.counts.units d.task j.regions) c.is_taken.ensures in
     let now : List Region → ℕ → ℕ → Seen = λ regions tasks units. record {
       program = j.program;
       before = j.before;
@@ -315,7 +350,7 @@ invariant_of-self-2 c =
       counts = record { tasks = j.counts.tasks + tasks; units = j.counts.units + units };
       failing = j.failing;
     } in
-    let is : now (regions_of c.settle.new.tasks.items) c.tasks_next-created.result (c.len-assigns.result + c.units_next-control.result)
+    let is : now (regions_of c.settle.new.self) c.tasks_next-created.result (c.len-assigns.result + c.units_next-control.result)
     ≡ now (settled (taken_by d.answer) j.counts.units d.task j.regions) (tasks_next (at j.regions d.task).rest) (units_of d.assigns (at j.regions d.task).rest) =
     ap (λ (l : List Region). now l c.tasks_next-created.result (c.len-assigns.result + c.units_next-control.result)) regions
     ∙ ap (λ (n : ℕ). now (settled (taken_by d.answer) j.counts.units d.task j.regions) n (c.len-assigns.result + c.units_next-control.result)) created
@@ -331,29 +366,29 @@ returns-clause-settled c =
       before = c.self.inside.spec.before;
       cells = c.self.inside.cells;
       owned = c.self.inside.owners;
-      regions = regions_of c.self.inside.tasks.items;
+      regions = regions_of c.self.inside.tasks;
       counts = c.self.inside.counts;
       failing = c.self.inside.failing;
     } in
     let d : Came = done_of c.args.done in
     let may = settle-may j c.self.invariant (c.self.invariant.course c.if-self.false) in
     let yes : c.is_out.result ≡ true = search rules in
-    let out : IsOut j.regions d = subst (λ (l : List Task). IsOut (regions_of l) d) c.deref.ensures.value (c.is_out.ensures.0 yes) in
+    let out : IsOut j.regions d = subst (λ (l : List Task). IsOut (regions_of l) d) c.all.ensures (c.is_out.ensures.0 yes) in
     let no_err : is_err c.settle.result ≡ false = search rules in
     let ordered : CreatesInOrder (at j.regions d.task) = ok-holds c.settle.result no_err c.settle.ensures.ordered in
     let told = c.args.done.told ∙ through expr_of (λ x. val (value_at c.args.done.lent) x) c.args.done.condition (option_map expr_of c.args.done.condition) refl in
     let few = counts-few _ (settle-course j c.self.invariant c.if-self.false d out c.args.done.made told c.give_back.new.cells c.give_back.new.self
     c.give_back.ensures.stored c.give_back.ensures.lengths c.give_back.ensures.ended ordered) in
-    let here = at-here c.self.inside.tasks.items c.args.done.task c.index.result.now (omega (arith, is-known j d may out, length-map c.self.inside.tasks.items region_of)) c.index.ensures in
+    let here = at-here c.self.inside.tasks c.args.done.task c.get.result.now (omega (arith, is-known j d may out, length-map c.self.inside.tasks region_of)) c.get.ensures in
     let small : size j.program.body ≤ 20000 = omega (arith, c.self.inside.spec.checked.program.few, c.self.inside.spec.checked.program.statements_are) in
     let fewer : tasks_in j.program.body ≤ 20000 = omega (arith, small, tasks_in-≤-size j.program.body) in
     let long : c.len-assigns.result ≡ leading_len d.assigns = grind (arith, c.len-assigns.ensures, assigns-len c.args.done.assigns.items, c.args.done.assigns.ok) in
     let control : c.units_next-control.result ≡ (if is_control (at j.regions d.task).rest then 1 else 0) = c.units_next-control.ensures.exact ∙ ap (λ (r : Region). if is_control r.rest then 1 else 0) (sym here) in
     let more : units_of d.assigns (at j.regions d.task).rest ≡ c.len-assigns.result + c.units_next-control.result = omega (arith, long, control) in
-    let here-2 = at-here c.self.inside.tasks.items c.args.done.task c.index-2.result.now (omega (arith, is-known j d may out, length-map c.self.inside.tasks.items region_of)) c.index-2.ensures in
+    let here-2 = at-here c.self.inside.tasks c.args.done.task c.get-2.result.now (omega (arith, is-known j d may out, length-map c.self.inside.tasks region_of)) c.get-2.ensures in
     let created : c.tasks_next-created.result ≡ tasks_next (at j.regions d.task).rest = c.tasks_next-created.ensures.exact ∙ ap (λ (r : Region). tasks_next r.rest) (sym here-2) in
-    let ok : regions_of c.settle.new.tasks.items ≡ settled c.is_taken.result j.counts.units d.task j.regions = ok-holds c.settle.result no_err c.settle.ensures.settled in
-    let regions : regions_of c.settle.new.tasks.items ≡ settled (taken_by d.answer) j.counts.units d.task j.regions = ok ∙ ap (λ (b : Bool). settled b j.counts.units d.task j.regions) c.is_taken.ensures in
+    let ok : regions_of c.settle.new.self ≡ settled c.is_taken.result j.counts.units d.task j.regions = ok-holds c.settle.result no_err c.settle.ensures.settled in
+    let regions : regions_of c.settle.new.self ≡ settled (taken_by d.answer) j.counts.units d.task j.regions = ok ∙ ap (λ (b : Bool). settled b j.counts.units d.task j.regions) c.is_taken.ensures in
     let now : List Region → ℕ → ℕ → Seen = λ regions tasks units. record {
       program = j.program;
       before = j.before;
@@ -363,12 +398,12 @@ returns-clause-settled c =
       counts = record { tasks = j.counts.tasks + tasks; units = j.counts.units + units };
       failing = j.failing;
     } in
-    let is : now (regions_of c.settle.new.tasks.items) c.tasks_next-created.result (c.len-assigns.result + c.units_next-control.result)
+    let is : now (regions_of c.settle.new.self) c.tasks_next-created.result (c.len-assigns.result + c.units_next-control.result)
     ≡ now (settled (taken_by d.answer) j.counts.units d.task j.regions) (tasks_next (at j.regions d.task).rest) (units_of d.assigns (at j.regions d.task).rest) =
     ap (λ (l : List Region). now l c.tasks_next-created.result (c.len-assigns.result + c.units_next-control.result)) regions
     ∙ ap (λ (n : ℕ). now (settled (taken_by d.answer) j.counts.units d.task j.regions) n (c.len-assigns.result + c.units_next-control.result)) created
     ∙ ap (λ (n : ℕ). now (settled (taken_by d.answer) j.counts.units d.task j.regions) (tasks_next (at j.regions d.task).rest) n) (sym more) in
-    subst (λ (l : Live). Settles (seen_of l) d (c.len-assigns.result + c.units_next-control.result) (now (regions_of c.settle.new.tasks.items) c.tasks_next-created.result (c.len-assigns.result + c.units_next-control.result))) c.self.view_is (record {
+    subst (λ (l : Live). Settles (seen_of l) d (c.len-assigns.result + c.units_next-control.result) (now (regions_of c.settle.new.self) c.tasks_next-created.result (c.len-assigns.result + c.units_next-control.result))) c.self.view_is (record {
       out = out;
       working = c.if-self.false;
       units = sym more;
@@ -386,29 +421,29 @@ returns-clause-lighter c =
       before = c.self.inside.spec.before;
       cells = c.self.inside.cells;
       owned = c.self.inside.owners;
-      regions = regions_of c.self.inside.tasks.items;
+      regions = regions_of c.self.inside.tasks;
       counts = c.self.inside.counts;
       failing = c.self.inside.failing;
     } in
     let d : Came = done_of c.args.done in
     let may = settle-may j c.self.invariant (c.self.invariant.course c.if-self.false) in
     let yes : c.is_out.result ≡ true = search rules in
-    let out : IsOut j.regions d = subst (λ (l : List Task). IsOut (regions_of l) d) c.deref.ensures.value (c.is_out.ensures.0 yes) in
+    let out : IsOut j.regions d = subst (λ (l : List Task). IsOut (regions_of l) d) c.all.ensures (c.is_out.ensures.0 yes) in
     let no_err : is_err c.settle.result ≡ false = search rules in
     let ordered : CreatesInOrder (at j.regions d.task) = ok-holds c.settle.result no_err c.settle.ensures.ordered in
     let told = c.args.done.told ∙ through expr_of (λ x. val (value_at c.args.done.lent) x) c.args.done.condition (option_map expr_of c.args.done.condition) refl in
     let few = counts-few _ (settle-course j c.self.invariant c.if-self.false d out c.args.done.made told c.give_back.new.cells c.give_back.new.self
     c.give_back.ensures.stored c.give_back.ensures.lengths c.give_back.ensures.ended ordered) in
-    let here = at-here c.self.inside.tasks.items c.args.done.task c.index.result.now (omega (arith, is-known j d may out, length-map c.self.inside.tasks.items region_of)) c.index.ensures in
+    let here = at-here c.self.inside.tasks c.args.done.task c.get.result.now (omega (arith, is-known j d may out, length-map c.self.inside.tasks region_of)) c.get.ensures in
     let small : size j.program.body ≤ 20000 = omega (arith, c.self.inside.spec.checked.program.few, c.self.inside.spec.checked.program.statements_are) in
     let fewer : tasks_in j.program.body ≤ 20000 = omega (arith, small, tasks_in-≤-size j.program.body) in
     let long : c.len-assigns.result ≡ leading_len d.assigns = grind (arith, c.len-assigns.ensures, assigns-len c.args.done.assigns.items, c.args.done.assigns.ok) in
     let control : c.units_next-control.result ≡ (if is_control (at j.regions d.task).rest then 1 else 0) = c.units_next-control.ensures.exact ∙ ap (λ (r : Region). if is_control r.rest then 1 else 0) (sym here) in
     let more : units_of d.assigns (at j.regions d.task).rest ≡ c.len-assigns.result + c.units_next-control.result = omega (arith, long, control) in
-    let here-2 = at-here c.self.inside.tasks.items c.args.done.task c.index-2.result.now (omega (arith, is-known j d may out, length-map c.self.inside.tasks.items region_of)) c.index-2.ensures in
+    let here-2 = at-here c.self.inside.tasks c.args.done.task c.get-2.result.now (omega (arith, is-known j d may out, length-map c.self.inside.tasks region_of)) c.get-2.ensures in
     let created : c.tasks_next-created.result ≡ tasks_next (at j.regions d.task).rest = c.tasks_next-created.ensures.exact ∙ ap (λ (r : Region). tasks_next r.rest) (sym here-2) in
-    let ok : regions_of c.settle.new.tasks.items ≡ settled c.is_taken.result j.counts.units d.task j.regions = ok-holds c.settle.result no_err c.settle.ensures.settled in
-    let regions : regions_of c.settle.new.tasks.items ≡ settled (taken_by d.answer) j.counts.units d.task j.regions = ok ∙ ap (λ (b : Bool). settled b j.counts.units d.task j.regions) c.is_taken.ensures in
+    let ok : regions_of c.settle.new.self ≡ settled c.is_taken.result j.counts.units d.task j.regions = ok-holds c.settle.result no_err c.settle.ensures.settled in
+    let regions : regions_of c.settle.new.self ≡ settled (taken_by d.answer) j.counts.units d.task j.regions = ok ∙ ap (λ (b : Bool). settled b j.counts.units d.task j.regions) c.is_taken.ensures in
     let less = settle-lighter j c.self.invariant c.if-self.false d out c.args.done.made told c.give_back.new.cells c.give_back.new.self
     c.give_back.ensures.stored c.give_back.ensures.lengths c.give_back.ensures.ended ordered in
     omega (arith, less, ap weight_of regions, ap (λ (l : Live). weight_of (regions_of l.tasks)) c.self.view_is)
@@ -420,20 +455,20 @@ returns-clause-pays c =
       before = c.self.inside.spec.before;
       cells = c.self.inside.cells;
       owned = c.self.inside.owners;
-      regions = regions_of c.self.inside.tasks.items;
+      regions = regions_of c.self.inside.tasks;
       counts = c.self.inside.counts;
       failing = c.self.inside.failing;
     } in
     let d : Came = done_of c.args.done in
     let may = settle-may j c.self.invariant (c.self.invariant.course c.if-self.false) in
     let yes : c.is_out.result ≡ true = search rules in
-    let out : IsOut j.regions d = subst (λ (l : List Task). IsOut (regions_of l) d) c.deref.ensures.value (c.is_out.ensures.0 yes) in
+    let out : IsOut j.regions d = subst (λ (l : List Task). IsOut (regions_of l) d) c.all.ensures (c.is_out.ensures.0 yes) in
     let no_err : is_err c.settle.result ≡ false = search rules in
     let ordered : CreatesInOrder (at j.regions d.task) = ok-holds c.settle.result no_err c.settle.ensures.ordered in
     let told = c.args.done.told ∙ through expr_of (λ x. val (value_at c.args.done.lent) x) c.args.done.condition (option_map expr_of c.args.done.condition) refl in
     let few = counts-few _ (settle-course j c.self.invariant c.if-self.false d out c.args.done.made told c.give_back.new.cells c.give_back.new.self
     c.give_back.ensures.stored c.give_back.ensures.lengths c.give_back.ensures.ended ordered) in
-    let here = at-here c.self.inside.tasks.items c.args.done.task c.index.result.now (omega (arith, is-known j d may out, length-map c.self.inside.tasks.items region_of)) c.index.ensures in
+    let here = at-here c.self.inside.tasks c.args.done.task c.get.result.now (omega (arith, is-known j d may out, length-map c.self.inside.tasks region_of)) c.get.ensures in
     let small : size j.program.body ≤ 20000 = omega (arith, c.self.inside.spec.checked.program.few, c.self.inside.spec.checked.program.statements_are) in
     let fewer : tasks_in j.program.body ≤ 20000 = omega (arith, small, tasks_in-≤-size j.program.body) in
     let long : c.len-assigns.result ≡ leading_len d.assigns = grind (arith, c.len-assigns.ensures, assigns-len c.args.done.assigns.items, c.args.done.assigns.ok) in

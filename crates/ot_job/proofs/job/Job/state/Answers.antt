@@ -14,11 +14,11 @@ returns-then-all_ended-clause-ended c = λ is.
       before = c.self.inside.spec.before;
       cells = c.self.inside.cells;
       owned = c.self.inside.owners;
-      regions = regions_of c.self.inside.tasks.items;
+      regions = regions_of c.self.inside.tasks;
       counts = c.self.inside.counts;
       failing = c.self.inside.failing;
     } in
-    let all : all_ended (regions_of c.self.inside.tasks.items) ≡ true = search rules in
+    let all : all_ended (regions_of c.self.inside.tasks) ≡ true = search rules in
     subst (λ (l : Live). any_out (regions_of l.tasks) ≡ false) c.self.view_is (ended-none-out j c.self.invariant c.if-self.false all)
 
 pub returns-then-all_ended-clause-calm : goal.returns-then-all_ended-clause-calm
@@ -26,10 +26,10 @@ returns-then-all_ended-clause-calm c = λ over. none-out (seen_of c.args.self.no
 
 pub returns-else-any_out-clause-calm : goal.returns-else-any_out-clause-calm
 returns-else-any_out-clause-calm c = λ over.
-    let none : any_out (regions_of c.self.inside.tasks.items) ≡ false = search rules in
+    let none : any_out (regions_of c.self.inside.tasks) ≡ false = search rules in
     none-out (seen_of c.args.self.now) (sym (ap (λ (l : Live). any_out (regions_of l.tasks)) c.self.view_is) ∙ none)
 
 pub returns-then-any_out-clause-going : goal.returns-then-any_out-clause-going
 returns-then-any_out-clause-going c = λ is none.
-    let some : any_out (regions_of c.self.inside.tasks.items) ≡ true = search rules in
+    let some : any_out (regions_of c.self.inside.tasks) ≡ true = search rules in
     true≢false (sym some ∙ ap (λ (l : Live). any_out (regions_of l.tasks)) c.self.view_is ∙ out-none (seen_of c.args.self.now) none)

@@ -1,0 +1,107 @@
+-- Whose claimability a change of the regions leaves as it was.
+use Rattle.std.proofs.Common.{◌≡◌, ◌≢◌, ◌<◌, ◌≤◌, ◌+◌, ℕ, zero, suc, Bool, true, false, cond, not, ◌||◌, ◌&&◌, ◌==◌, List, [], ◌∷◌, ◌++◌, length, get_or, take, refl, sym, ap, ◌∙◌, inl, inr, arith}
+use Rattle.std.specs.Prelude.{Option, Some, None, is_some, slice_get, option_map, unwrap_or}
+use Rattle.std.specs.List.{list_all}
+use Rattle.std.proofs.lemmas.Bool.{cases_eq}
+use Rattle.std.proofs.lemmas.List.{take-append-le}
+use Rattle.ot_model.specs.Cells.{updated}
+use Rattle.ot_model.proofs.CellsLemmas.{length-updated}
+use Rattle.ot_model.specs.declared.stmt.Use.{Use}
+use Rattle.ot_depend.specs.Siblings.{Sibling, is_ready, with_finished, depends_on}
+use Rattle.ot_job.specs.Regions.{Region, with_child}
+use Rattle.ot_job.specs.Sound.{at, gone}
+use Rattle.ot_job.specs.Settling.{without}
+use Rattle.ot_job.specs.Claiming.{is_claimable, is_let_go}
+use Rattle.ot_job.proofs.KeptLemmas.{at-updated, at-updated-other, at-more}
+
+-- ---- what a claim looks at
+
+abbrev claim_at : ℕ → Region → Bool → Bool
+claim_at i r begun = (not r.ended && not (is_some r.running)) && (((i == 0) || begun) && is_let_go r)
+
+same-claim : (old new : List Region) (k : ℕ) → at new k ≡ at old k
+    → is_ready (at new (at old k).parent).children (at old k).child ≡ is_ready (at old (at old k).parent).children (at old k).child → is_claimable new k ≡ is_claimable old k
+same-claim old new k here ready =
+    ap (λ (r : Region). claim_at k r (is_ready (at new r.parent).children r.child)) here ∙ ap (claim_at k (at old k)) ready
+
+same-root : (old new : List Region) → at new 0 ≡ at old 0 → is_claimable new 0 ≡ is_claimable old 0
+same-root old new here = ap (λ (r : Region). claim_at 0 r true) here
+
+-- ---- one region changes
+
+pub field-kept : {A : Type 0} (g : Region → A) (f : Region → Region) → ((r : Region) → g (f r) ≡ g r) → (rs : List Region) (i p : ℕ) → g (at (updated rs i f) p) ≡ g (at rs p)
+field-kept g f same [] i p = refl
+field-kept g f same (r ∷ rs) zero zero = same r
+field-kept g f same (r ∷ rs) zero (suc p) = refl
+field-kept g f same (r ∷ rs) (suc i) zero = refl
+field-kept g f same (r ∷ rs) (suc i) (suc p) = field-kept g f same rs i p
+
+pub claimable-other : (f : Region → Region) → ((r : Region) → (f r).children ≡ r.children) → (rs : List Region) (i k : ℕ) → k ≢ i → is_claimable (updated rs i f) k ≡ is_claimable rs k
+claimable-other f same rs i k apart =
+    same-claim rs (updated rs i f) k (at-updated-other rs i k f apart)
+    (ap (λ (cs : List Sibling). is_ready cs (at rs k).child) (field-kept (λ r. r.children) f same rs i (at rs k).parent))
+
+-- ---- a child finishes
+
+children-without : (c : ℕ) (rs : List Region) (p : ℕ) → (at (updated rs p (without c)) p).children ≡ with_finished (at rs p).children c
+children-without c [] p = refl
+children-without c (r ∷ rs) zero = refl
+children-without c (r ∷ rs) (suc p) = children-without c rs p
+
+pub claimable-told : (rs : List Region) (p c k : ℕ) → k ≢ p
+    → ((at rs k).parent ≡ p → is_ready (with_finished (at rs p).children c) (at rs k).child ≡ is_ready (at rs p).children (at rs k).child) → is_claimable (updated rs p (without c)) k ≡ is_claimable rs k
+claimable-told rs p c k apart same = same-claim rs (updated rs p (without c)) k (at-updated-other rs p k (without c) apart) (elim (cases_eq (at rs k).parent p) [
+  | inl is ↦ ap (λ q. is_ready (at (updated rs p (without c)) q).children (at rs k).child) is ∙ ap (λ (cs : List Sibling). is_ready cs (at rs k).child) (children-without c rs p)
+      ∙ same is ∙ sym (ap (λ q. is_ready (at rs q).children (at rs k).child) is)
+  | inr other ↦ ap (λ (r : Region). is_ready r.children (at rs k).child) (at-updated-other rs p (at rs k).parent (without c) other)
+])
+
+-- ---- a child is created
+
+abbrev ready_among : List Sibling → Option Sibling → Bool
+ready_among before found = unwrap_or (option_map (λ (itself : Sibling). list_all (λ earlier. earlier.finished || not (depends_on earlier.uses itself.uses)) before) found) false
+
+slice_get-behind : {A : Type 0} (xs : List A) (y : A) (c : ℕ) → c < length xs → slice_get (xs ++ y ∷ []) c ≡ slice_get xs c
+slice_get-behind [] y c h = absurd (omega (arith, h))
+slice_get-behind (x ∷ xs) y zero h = refl
+slice_get-behind (x ∷ xs) y (suc c) h = slice_get-behind xs y c (omega (arith, h))
+
+is_ready-behind : (cs : List Sibling) (s : Sibling) (c : ℕ) → c < length cs → is_ready (cs ++ s ∷ []) c ≡ is_ready cs c
+is_ready-behind cs s c h =
+    ap (λ l. ready_among l (slice_get (cs ++ s ∷ []) c)) (take-append-le c cs (s ∷ []) (omega (arith, h))) ∙ ap (ready_among (take c cs)) (slice_get-behind cs s c h)
+
+children-more : (new : Region) → new.children ≡ [] → (rs : List Region) (q : ℕ) → (at (rs ++ new ∷ []) q).children ≡ (at rs q).children
+children-more new none [] zero = none
+children-more new none [] (suc q) = refl
+children-more new none (r ∷ rs) zero = refl
+children-more new none (r ∷ rs) (suc q) = children-more new none rs q
+
+pub claimable-created : (rs : List Region) (i : ℕ) (uses : List Use) (new : Region) → i < length rs → new.children ≡ [] → (k : ℕ) → k < length rs → k ≢ i
+    → (0 < k → (at rs k).child < length (at rs (at rs k).parent).children) → is_claimable (updated rs i (with_child uses) ++ new ∷ []) k ≡ is_claimable rs k
+claimable-created rs i uses new within none k h apart known = by k refl
+  where
+    now : List Region
+    now = updated rs i (with_child uses)
+
+    here : at (now ++ new ∷ []) k ≡ at rs k
+    here = at-more now new k (omega (arith, h, length-updated rs i (with_child uses))) ∙ at-updated-other rs i k (with_child uses) apart
+
+    ready : (at rs k).child < length (at rs (at rs k).parent).children
+        → is_ready (at (now ++ new ∷ []) (at rs k).parent).children (at rs k).child ≡ is_ready (at rs (at rs k).parent).children (at rs k).child
+    ready before = ap (λ (cs : List Sibling). is_ready cs (at rs k).child) (children-more new none now (at rs k).parent) ∙ elim (cases_eq (at rs k).parent i) [
+      | inl is ↦ ap (λ q. is_ready (at now q).children (at rs k).child) is ∙ ap (λ (r : Region). is_ready r.children (at rs k).child) (at-updated rs i (with_child uses) within)
+          ∙ is_ready-behind (at rs i).children _ (at rs k).child (omega (arith, before, ap (λ q. length (at rs q).children) is)) ∙ sym (ap (λ q. is_ready (at rs q).children (at rs k).child) is)
+      | inr other ↦ ap (λ (r : Region). is_ready r.children (at rs k).child) (at-updated-other rs i (at rs k).parent (with_child uses) other)
+    ]
+
+    by : (n : ℕ) → k ≡ n → is_claimable (now ++ new ∷ []) k ≡ is_claimable rs k
+    by zero e =
+        ap (λ n. is_claimable (now ++ new ∷ []) n) e ∙ same-root rs (now ++ new ∷ []) (ap (at (now ++ new ∷ [])) (sym e) ∙ here ∙ ap (at rs) e) ∙ sym (ap (is_claimable rs) e)
+    by (suc n) e = same-claim rs (now ++ new ∷ []) k here (ready (known (omega (arith, e))))
+
+-- the root's task asks no table
+pub claimable-root : (rs : List Region) (p c k : ℕ) → k ≢ p → k ≡ 0 → is_claimable (updated rs p (without c)) k ≡ is_claimable rs k
+claimable-root rs p c k apart is =
+    ap (is_claimable (updated rs p (without c))) is
+    ∙ same-root rs (updated rs p (without c)) (at-updated-other rs p 0 (without c) (λ e. apart (is ∙ e)))
+    ∙ sym (ap (is_claimable rs) is)

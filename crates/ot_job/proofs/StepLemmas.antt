@@ -1,0 +1,134 @@
+-- What the execution of a control statement leaves of a region, and when it creates a task.
+use Rattle.std.proofs.Common.{length, length-append, true, false, ◌≤◌, ◌≡◌, ◌<◌, ℕ, zero, suc, Bool, List, [], ◌∷◌, ◌++◌, refl, ap, sym, ◌∙◌, arith}
+use Rattle.std.specs.Prelude.{Option, Some, None, nat_lt, if◌then◌else◌}
+use Rattle.ot_model.proofs.CellsLemmas.{length-updated}
+use Rattle.ot_job.proofs.ClaimableLemmas.{field-kept}
+use Rattle.ot_job.proofs.KeptLemmas.{at-more}
+use Rattle.ot_model.specs.Tree.{Set, Add, If, Task as Fork, Wait, Group, Body, End, Next}
+use Rattle.ot_model.specs.Cells.{updated}
+use Rattle.ot_model.specs.declared.stmt.Use.{Use}
+use Rattle.ot_job.specs.Regions.{Region, with_child, new_region, children_at, stepped, stepped_from, next_task, rest_at, with_created, executed}
+use Rattle.ot_job.specs.Settling.{tasks_next, told_parent, closed, over, without}
+use Rattle.ot_job.specs.Sound.{at, parent_of}
+
+pub stepped-parent : (taken : Bool) (g : ℕ) (r : Region) → (stepped taken g r).parent ≡ r.parent
+stepped-parent taken g r = by r.rest
+  where
+    by : (b : Body) → (stepped_from taken g b r).parent ≡ r.parent
+    by End = refl
+    by (Next (Set c e) rest) = refl
+    by (Next (Add c e) rest) = refl
+    by (Next (If e a b) rest) = refl
+    by (Next (Fork d b) rest) = refl
+    by (Next Wait rest) = refl
+    by (Next (Group cs b) rest) = refl
+
+pub stepped-child : (taken : Bool) (g : ℕ) (r : Region) → (stepped taken g r).child ≡ r.child
+stepped-child taken g r = by r.rest
+  where
+    by : (b : Body) → (stepped_from taken g b r).child ≡ r.child
+    by End = refl
+    by (Next (Set c e) rest) = refl
+    by (Next (Add c e) rest) = refl
+    by (Next (If e a b) rest) = refl
+    by (Next (Fork d b) rest) = refl
+    by (Next Wait rest) = refl
+    by (Next (Group cs b) rest) = refl
+
+pub stepped-children : (taken : Bool) (g : ℕ) (r : Region) → (stepped taken g r).children ≡ r.children
+stepped-children taken g r = by r.rest
+  where
+    by : (b : Body) → (stepped_from taken g b r).children ≡ r.children
+    by End = refl
+    by (Next (Set c e) rest) = refl
+    by (Next (Add c e) rest) = refl
+    by (Next (If e a b) rest) = refl
+    by (Next (Fork d b) rest) = refl
+    by (Next Wait rest) = refl
+    by (Next (Group cs b) rest) = refl
+
+-- ---- the task that comes next
+
+rest-of : (rs : List Region) (i : ℕ) → rest_at rs i ≡ (at rs i).rest
+rest-of [] i = refl
+rest-of (r ∷ rs) zero = refl
+rest-of (r ∷ rs) (suc i) = rest-of rs i
+
+none-next : (b : Body) → tasks_next b ≡ 0 → next_task b ≡ None
+none-next End h = refl
+none-next (Next (Set c e) rest) h = refl
+none-next (Next (Add c e) rest) h = refl
+none-next (Next (If e a b) rest) h = refl
+none-next (Next (Fork d b) rest) h = absurd (omega (arith, h))
+none-next (Next Wait rest) h = refl
+none-next (Next (Group cs b) rest) h = refl
+
+some-next : (b : Body) → (tasks_next b ≡ 0 → ⊥) → (child : List Use × Body) × (next_task b ≡ Some child)
+some-next End h = absurd (h refl)
+some-next (Next (Set c e) rest) h = absurd (h refl)
+some-next (Next (Add c e) rest) h = absurd (h refl)
+some-next (Next (If e a b) rest) h = absurd (h refl)
+some-next (Next (Fork d b) rest) h = ((d, b), refl)
+some-next (Next Wait rest) h = absurd (h refl)
+some-next (Next (Group cs b) rest) h = absurd (h refl)
+
+-- where no task comes next, none is created
+pub executed-none : (taken : Bool) (g i : ℕ) (rs : List Region) → tasks_next (at rs i).rest ≡ 0 → executed taken g i rs ≡ updated rs i (stepped taken g)
+executed-none taken g i rs none =
+    ap (λ (o : Option (List Use × Body)). with_created i o (updated rs i (stepped taken g))) (ap next_task (rest-of rs i) ∙ none-next (at rs i).rest none)
+
+-- where one does, it is
+pub executed-some : (taken : Bool) (g i : ℕ) (rs : List Region) → (tasks_next (at rs i).rest ≡ 0 → ⊥)
+    → (child : List Use × Body) × (executed taken g i rs ≡ with_created i (Some child) (updated rs i (stepped taken g)))
+executed-some taken g i rs some =
+    let child = some-next (at rs i).rest some in
+    (child.0, ap (λ (o : Option (List Use × Body)). with_created i o (updated rs i (stepped taken g))) (ap next_task (rest-of rs i) ∙ child.1))
+
+-- ---- a task moves on behind its piece
+
+stepped-running : (taken : Bool) (g : ℕ) (r : Region) → (stepped taken g r).running ≡ r.running
+stepped-running taken g r = by r.rest
+  where
+    by : (b : Body) → (stepped_from taken g b r).running ≡ r.running
+    by End = refl
+    by (Next (Set c e) rest) = refl
+    by (Next (Add c e) rest) = refl
+    by (Next (If e a b) rest) = refl
+    by (Next (Fork d b) rest) = refl
+    by (Next Wait rest) = refl
+    by (Next (Group cs b) rest) = refl
+
+abbrev told_if : Bool → ℕ → List Region → List Region
+told_if b i rs = if b then updated rs (parent_of rs i) (without (at rs i).child) else rs
+
+told-running : (b : Bool) (i : ℕ) (rs : List Region) → (at (told_if b i rs) i).running ≡ (at rs i).running
+told-running true i rs = field-kept (λ r. r.running) (without (at rs i).child) (λ r. refl) rs (parent_of rs i) i
+told-running false i rs = refl
+
+told-length : (b : Bool) (i : ℕ) (rs : List Region) → length (told_if b i rs) ≡ length rs
+told-length true i rs = length-updated rs (parent_of rs i) (without (at rs i).child)
+told-length false i rs = refl
+
+created-running : (i : ℕ) (o : Option (List Use × Body)) (rs : List Region) → i < length rs → (at (with_created i o rs) i).running ≡ (at rs i).running
+created-running i None rs h = refl
+created-running i (Some child) rs h =
+    ap (λ (r : Region). r.running) (at-more (updated rs i (with_child child.0)) (new_region i (children_at rs i) child.0 child.1) i (omega (arith, h, length-updated rs i (with_child child.0))))
+    ∙ field-kept (λ r. r.running) (with_child child.0) (λ r. refl) rs i i
+
+created-length : (i : ℕ) (o : Option (List Use × Body)) (rs : List Region) → length rs ≤ length (with_created i o rs)
+created-length i None rs = omega arith
+created-length i (Some child) rs =
+    omega (arith, length-append (updated rs i (with_child child.0)) (new_region i (children_at rs i) child.0 child.1 ∷ []), length-updated rs i (with_child child.0))
+
+-- its piece is out still
+pub moved-running : (b taken : Bool) (g i : ℕ) (rs : List Region) → i < length rs → (at (if b then closed i rs else executed taken g i rs) i).running ≡ (at rs i).running
+moved-running true taken g i rs h = field-kept (λ r. r.running) over (λ r. refl) (told_parent i rs) i i ∙ told-running (nat_lt 0 i) i rs
+moved-running false taken g i rs h =
+    created-running i (next_task (rest_at rs i)) (updated rs i (stepped taken g)) (omega (arith, h, length-updated rs i (stepped taken g)))
+    ∙ field-kept (λ r. r.running) (stepped taken g) (stepped-running taken g) rs i i
+
+-- no region goes
+pub moved-length : (b taken : Bool) (g i : ℕ) (rs : List Region) → length rs ≤ length (if b then closed i rs else executed taken g i rs)
+moved-length true taken g i rs = omega (arith, length-updated (told_parent i rs) i over, told-length (nat_lt 0 i) i rs)
+moved-length false taken g i rs =
+    omega (arith, created-length i (next_task (rest_at rs i)) (updated rs i (stepped taken g)), length-updated rs i (stepped taken g))

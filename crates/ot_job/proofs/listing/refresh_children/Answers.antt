@@ -1,0 +1,32 @@
+use Rattle.std.proofs.Common.{◌≡◌, ◌∙◌, ◌||◌, ◌==◌, ap, sym, subst, Bool, true, false, get_or, take, ℕ, inl, inr, refl}
+use Rattle.std.proofs.lemmas.Bool.{cases_Bool, eqb-true}
+use Rattle.std.proofs.lemmas.List.Folds.{list_any_more}
+use Rattle.ot_depend.specs.Kept.{has}
+use Rattle.ot_job.specs.RegionView.{regions_of}
+use Rattle.ot_job.specs.Listing.{TellsOf}
+use Rattle.ot_job.proofs.listing.refresh_children.Goals as goal
+
+-- what is among the first of a list and one more
+last-or : (a b : Bool) → (a || b) ≡ true → a ≡ false → b ≡ true
+last-or true b h none = refl_of h none
+  where
+    refl_of : true ≡ true → true ≡ false → b ≡ true
+    refl_of h none = cc
+last-or false b h none = h
+
+pub loop-child-preserved : goal.loop-child-preserved
+loop-child-preserved c =
+    let xs = c.args.children.now in
+    let i = c.loop-child.child-index in
+    let old = c.loop-child.invariant in
+    let tells = TellsOf (regions_of c.args.tasks.now) c.refresh.new.list.items in (
+      c.refresh.ensures.ordered,
+      c.refresh.ensures.room ∙ old.1,
+      λ k was. c.refresh.ensures.others k (old.2 k was),
+      λ n there. elim (cases_Bool (has n (take i xs))) [
+        | inl before ↦ c.refresh.ensures.others (get_or c.args.numbers.now n 0) (old.3 n before)
+        | inr not_yet ↦ (let here : (get_or xs i 0 == n) ≡ true =
+            last-or (has n (take i xs)) (get_or xs i 0 == n) (sym (list_any_more (λ x. x == n) xs i 0 c.loop-child-test.true) ∙ there) not_yet in
+            subst (λ (m : ℕ). TellsOf (regions_of c.args.tasks.now) c.refresh.new.list.items (get_or c.args.numbers.now m 0)) (eqb-true (get_or xs i 0) n here) c.refresh.ensures.told)
+      ],
+    )

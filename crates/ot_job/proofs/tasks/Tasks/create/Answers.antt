@@ -1,0 +1,129 @@
+use Rattle.std.proofs.Common.{rules, ◌≡◌, ◌<◌, ◌≤◌, ◌+◌, ◌∙◌, ap, sym, subst, arith, refl, ℕ, List, [], ◌∷◌, ◌++◌, map, Bool, set, length, vec_capacity}
+use Rattle.std.proofs.lemmas.List.{length-map, map-append}
+use Rattle.ot_model.specs.Cells.{updated}
+use Rattle.ot_job.specs.Regions.{Region, executed}
+use Rattle.ot_job.specs.RegionView.{region_of, regions_of}
+use Rattle.ot_job.specs.Sound.{at}
+use Rattle.ot_job.specs.Settling.{tasks_next}
+use Rattle.ot_job.specs.Listing.{IsListBelow, TellsOf, numbers_of, AreKept}
+use Rattle.ot_job.specs.declared.task.Task.{Task}
+use Rattle.ot_job.proofs.ViewLemmas.{map-kept, map-changed}
+use Rattle.ot_job.proofs.KeepingLemmas.{kept-roomy, tasks-created}
+use Rattle.ot_job.proofs.tasks.Tasks.create.Goals as goal
+
+pub invariant_of-self : goal.invariant_of-self
+invariant_of-self c =
+    let lists = c.self.inside.children.items in
+    let n0 : numbers_of (set lists c.args.i c.make_room.new.items) ≡ numbers_of lists =
+    map-kept (λ v. v.items) lists c.args.i c.index_mut.result.now c.make_room.new.items c.index_mut.ensures.value c.make_room.ensures.same in
+    subst (λ (ns : List (List ℕ)). AreKept (regions_of c.self.inside.tasks.items) ns c.self.inside.claimable.items (vec_capacity c.self.inside.claimable) c.self.inside.out c.self.inside.unended) (sym n0) c.self.invariant
+
+pub invariant_of-self-in_err-make_room-2 : goal.invariant_of-self-in_err-make_room-2
+invariant_of-self-in_err-make_room-2 c =
+    let lists = c.self.inside.children.items in
+    let n0 : numbers_of (set lists c.args.i c.make_room.new.items) ≡ numbers_of lists =
+    map-kept (λ v. v.items) lists c.args.i c.index_mut.result.now c.make_room.new.items c.index_mut.ensures.value c.make_room.ensures.same in
+    let n1 : numbers_of c.make_room-2.new.items.items ≡ numbers_of lists = ap numbers_of c.make_room-2.ensures.same ∙ n0 in
+    subst (λ (ns : List (List ℕ)). AreKept (regions_of c.self.inside.tasks.items) ns c.self.inside.claimable.items (vec_capacity c.self.inside.claimable) c.self.inside.out c.self.inside.unended) (sym n1) c.self.invariant
+
+pub invariant_of-self-in_err-make_room_for : goal.invariant_of-self-in_err-make_room_for
+invariant_of-self-in_err-make_room_for c =
+    let lists = c.self.inside.children.items in
+    let n0 : numbers_of (set lists c.args.i c.make_room.new.items) ≡ numbers_of lists =
+    map-kept (λ v. v.items) lists c.args.i c.index_mut.result.now c.make_room.new.items c.index_mut.ensures.value c.make_room.ensures.same in
+    let n1 : numbers_of c.make_room-2.new.items.items ≡ numbers_of lists = ap numbers_of c.make_room-2.ensures.same ∙ n0 in
+    let rs = regions_of c.self.inside.tasks.items in
+    let roomy = kept-roomy rs (numbers_of lists) c.self.inside.claimable.items (vec_capacity c.self.inside.claimable) (vec_capacity c.make_room_for.new.items) _ _ c.self.invariant c.make_room_for.ensures.kept in
+    let kept = subst (λ (ns : List (List ℕ)). AreKept rs ns c.make_room_for.new.items.items (vec_capacity c.make_room_for.new.items) c.self.inside.out c.self.inside.unended) (sym n1)
+    (subst (λ (l : List ℕ). AreKept rs (numbers_of lists) l (vec_capacity c.make_room_for.new.items) c.self.inside.out c.self.inside.unended) (sym c.make_room_for.ensures.same) roomy) in
+    kept
+
+pub invariant_of-self-in_err-execute : goal.invariant_of-self-in_err-execute
+invariant_of-self-in_err-execute c =
+    let lists = c.self.inside.children.items in
+    let n0 : numbers_of (set lists c.args.i c.make_room.new.items) ≡ numbers_of lists =
+    map-kept (λ v. v.items) lists c.args.i c.index_mut.result.now c.make_room.new.items c.index_mut.ensures.value c.make_room.ensures.same in
+    let n1 : numbers_of c.make_room-2.new.items.items ≡ numbers_of lists = ap numbers_of c.make_room-2.ensures.same ∙ n0 in
+    let rs = regions_of c.self.inside.tasks.items in
+    let roomy = kept-roomy rs (numbers_of lists) c.self.inside.claimable.items (vec_capacity c.self.inside.claimable) (vec_capacity c.make_room_for.new.items) _ _ c.self.invariant c.make_room_for.ensures.kept in
+    let kept = subst (λ (ns : List (List ℕ)). AreKept rs ns c.make_room_for.new.items.items (vec_capacity c.make_room_for.new.items) c.self.inside.out c.self.inside.unended) (sym n1)
+    (subst (λ (l : List ℕ). AreKept rs (numbers_of lists) l (vec_capacity c.make_room_for.new.items) c.self.inside.out c.self.inside.unended) (sym c.make_room_for.ensures.same) roomy) in
+    subst (λ (l : List Region). AreKept l (numbers_of c.make_room-2.new.items.items) c.make_room_for.new.items.items (vec_capacity c.make_room_for.new.items) c.self.inside.out c.self.inside.unended) (sym c.in_err-execute.ensures.refused) kept
+
+pub refresh-requires-clause-ordered : goal.refresh-requires-clause-ordered
+refresh-requires-clause-ordered c =
+    let tasks = c.self.inside.tasks.items in
+    let rs = regions_of tasks in
+    let i = c.args.i in
+    let within : i < length rs = omega (arith, c.requires.known, ap length c.self.view_is, length-map tasks region_of) in
+    let some : tasks_next (at rs i).rest ≡ 0 → ⊥ = λ none. c.requires.some (sym (ap (λ (l : List Task). tasks_next (at (regions_of l) i).rest) c.self.view_is) ∙ none) in
+    let is : regions_of c.deref.result.now ≡ executed c.args.taken c.args.group i rs = ap regions_of c.deref.ensures.value ∙ c.in_ok-execute.ensures.executed in
+    let all = tasks-created c.args.taken c.args.group i rs within some (numbers_of c.self.inside.children.items) c.self.inside.claimable.items _ _ _ c.self.invariant c.deref.result.now is in
+    let number : c.len-number.result ≡ length rs = omega (arith, c.len-number.ensures, c.self.inside.tasks.ok.0, length-map tasks region_of) in
+    subst (IsListBelow (length c.deref.result.now)) (sym c.make_room_for.ensures.same) all.1
+
+pub refresh-requires-clause-room : goal.refresh-requires-clause-room
+refresh-requires-clause-room c =
+    let tasks = c.self.inside.tasks.items in
+    let rs = regions_of tasks in
+    let i = c.args.i in
+    let within : i < length rs = omega (arith, c.requires.known, ap length c.self.view_is, length-map tasks region_of) in
+    let some : tasks_next (at rs i).rest ≡ 0 → ⊥ = λ none. c.requires.some (sym (ap (λ (l : List Task). tasks_next (at (regions_of l) i).rest) c.self.view_is) ∙ none) in
+    let is : regions_of c.deref.result.now ≡ executed c.args.taken c.args.group i rs = ap regions_of c.deref.ensures.value ∙ c.in_ok-execute.ensures.executed in
+    let all = tasks-created c.args.taken c.args.group i rs within some (numbers_of c.self.inside.children.items) c.self.inside.claimable.items _ _ _ c.self.invariant c.deref.result.now is in
+    let number : c.len-number.result ≡ length rs = omega (arith, c.len-number.ensures, c.self.inside.tasks.ok.0, length-map tasks region_of) in
+    omega (arith, all.0, number, c.in_ok-make_room_for.ensures.room)
+
+pub refresh-requires-2-clause-known : goal.refresh-requires-2-clause-known
+refresh-requires-2-clause-known c =
+    let tasks = c.self.inside.tasks.items in
+    let rs = regions_of tasks in
+    let i = c.args.i in
+    let within : i < length rs = omega (arith, c.requires.known, ap length c.self.view_is, length-map tasks region_of) in
+    let some : tasks_next (at rs i).rest ≡ 0 → ⊥ = λ none. c.requires.some (sym (ap (λ (l : List Task). tasks_next (at (regions_of l) i).rest) c.self.view_is) ∙ none) in
+    let is : regions_of c.deref.result.now ≡ executed c.args.taken c.args.group i rs = ap regions_of c.deref.ensures.value ∙ c.in_ok-execute.ensures.executed in
+    let all = tasks-created c.args.taken c.args.group i rs within some (numbers_of c.self.inside.children.items) c.self.inside.claimable.items _ _ _ c.self.invariant c.deref.result.now is in
+    let number : c.len-number.result ≡ length rs = omega (arith, c.len-number.ensures, c.self.inside.tasks.ok.0, length-map tasks region_of) in
+    omega (arith, all.0, number, ap length (c.deref-2.ensures.value ∙ sym c.deref.ensures.value))
+
+pub refresh-requires-2-clause-room : goal.refresh-requires-2-clause-room
+refresh-requires-2-clause-room c =
+    let tasks = c.self.inside.tasks.items in
+    let rs = regions_of tasks in
+    let i = c.args.i in
+    let within : i < length rs = omega (arith, c.requires.known, ap length c.self.view_is, length-map tasks region_of) in
+    let some : tasks_next (at rs i).rest ≡ 0 → ⊥ = λ none. c.requires.some (sym (ap (λ (l : List Task). tasks_next (at (regions_of l) i).rest) c.self.view_is) ∙ none) in
+    let is : regions_of c.deref.result.now ≡ executed c.args.taken c.args.group i rs = ap regions_of c.deref.ensures.value ∙ c.in_ok-execute.ensures.executed in
+    let all = tasks-created c.args.taken c.args.group i rs within some (numbers_of c.self.inside.children.items) c.self.inside.claimable.items _ _ _ c.self.invariant c.deref.result.now is in
+    let number : c.len-number.result ≡ length rs = omega (arith, c.len-number.ensures, c.self.inside.tasks.ok.0, length-map tasks region_of) in
+    omega (arith, all.0, number, c.in_ok-make_room_for.ensures.room, c.refresh.ensures.room, ap length (c.deref-2.ensures.value ∙ sym c.deref.ensures.value))
+
+pub invariant_of-self-2 : goal.invariant_of-self-2
+invariant_of-self-2 c =
+    let lists = c.self.inside.children.items in
+    let n0 : numbers_of (set lists c.args.i c.make_room.new.items) ≡ numbers_of lists =
+    map-kept (λ v. v.items) lists c.args.i c.index_mut.result.now c.make_room.new.items c.index_mut.ensures.value c.make_room.ensures.same in
+    let n1 : numbers_of c.make_room-2.new.items.items ≡ numbers_of lists = ap numbers_of c.make_room-2.ensures.same ∙ n0 in
+    let tasks = c.self.inside.tasks.items in
+    let rs = regions_of tasks in
+    let i = c.args.i in
+    let within : i < length rs = omega (arith, c.requires.known, ap length c.self.view_is, length-map tasks region_of) in
+    let some : tasks_next (at rs i).rest ≡ 0 → ⊥ = λ none. c.requires.some (sym (ap (λ (l : List Task). tasks_next (at (regions_of l) i).rest) c.self.view_is) ∙ none) in
+    let is : regions_of c.deref.result.now ≡ executed c.args.taken c.args.group i rs = ap regions_of c.deref.ensures.value ∙ c.in_ok-execute.ensures.executed in
+    let all = tasks-created c.args.taken c.args.group i rs within some (numbers_of c.self.inside.children.items) c.self.inside.claimable.items _ _ _ c.self.invariant c.deref.result.now is in
+    let number : c.len-number.result ≡ length rs = omega (arith, c.len-number.ensures, c.self.inside.tasks.ok.0, length-map tasks region_of) in
+    let same : c.deref-2.result.now ≡ c.deref.result.now = c.deref-2.ensures.value ∙ sym c.deref.ensures.value in
+    let list1 = c.refresh.new.list.items in
+    let list2 = c.refresh-2.new.list.items in
+    let numbers2 : numbers_of c.put-2.new.items.items ≡ updated (numbers_of lists) i (λ l. l ++ length rs ∷ []) ++ [] ∷ [] =
+    ap numbers_of c.put-2.ensures.put ∙ map-append (λ v. v.items) (set c.make_room-2.new.items.items i c.put.new.items) (c.new.result ∷ [])
+    ∙ ap (λ l. map (λ v. v.items) (set c.make_room-2.new.items.items i c.put.new.items) ++ l ∷ []) c.new.ensures.items
+    ∙ ap (λ ns. ns ++ [] ∷ []) (map-changed (λ v. v.items) c.make_room-2.new.items.items i c.index_mut-2.result.now c.put.new.items (λ l. l ++ c.len-number.result ∷ []) c.index_mut-2.ensures.value c.put.ensures.put
+    ∙ ap (λ ns. updated ns i (λ l. l ++ c.len-number.result ∷ [])) n1 ∙ ap (λ n. updated (numbers_of lists) i (λ l. l ++ n ∷ [])) number) in
+    let first = subst (λ (l : List ℕ). (j : ℕ) → TellsOf (regions_of c.deref.result.now) l j → TellsOf (regions_of c.deref.result.now) list1 j) c.make_room_for.ensures.same c.refresh.ensures.others in
+    let kept = all.2 list1 list2 (numbers_of c.put-2.new.items.items) (vec_capacity c.refresh-2.new.list) numbers2
+    (subst (λ (l : List Task). IsListBelow (length l) list2) same c.refresh-2.ensures.ordered) c.refresh.ensures.told
+    (subst (λ n. TellsOf (regions_of c.deref.result.now) list2 n) number (subst (λ (l : List Task). TellsOf (regions_of l) list2 c.len-number.result) same c.refresh-2.ensures.told)) first
+    (subst (λ (l : List Task). (j : ℕ) → TellsOf (regions_of l) list1 j → TellsOf (regions_of l) list2 j) same c.refresh-2.ensures.others)
+    (omega (arith, number, c.in_ok-make_room_for.ensures.room, c.refresh.ensures.room, c.refresh-2.ensures.room)) in
+    subst (λ (l : List Task). AreKept (regions_of l) (numbers_of c.put-2.new.items.items) list2 (vec_capacity c.refresh-2.new.list) c.self.inside.out (c.self.inside.unended + 1)) c.deref.ensures.value kept

@@ -1,0 +1,60 @@
+use Rattle.std.proofs.Common.{rules, ◌≡◌, ◌<◌, ◌∙◌, ap, sym, subst, arith, refl, ℕ, ◌+◌, ◌-◌, vec_capacity, List, Bool, true, false, set, length, None}
+use Rattle.std.specs.Prelude.{is_some}
+use Rattle.std.proofs.lemmas.List.{length-map}
+use Rattle.ot_model.specs.Cells.{updated}
+use Rattle.ot_job.specs.Regions.{Region}
+use Rattle.ot_job.specs.RegionView.{region_of, regions_of}
+use Rattle.ot_job.specs.Sound.{at}
+use Rattle.ot_job.specs.declared.task.Task.{Task}
+use Rattle.ot_job.specs.Listing.{numbers_of, AreKept}
+use Rattle.ot_job.proofs.PickLemmas.{at-here}
+use Rattle.ot_job.proofs.ViewLemmas.{map-changed}
+use Rattle.ot_job.proofs.KeepingLemmas.{ordered-tasks, kept-tasks}
+use Rattle.ot_job.specs.Settling.{over}
+use Rattle.ot_job.proofs.CountingLemmas.{one-goes, counted-over}
+use Rattle.ot_job.proofs.tasks.Tasks.end.Goals as goal
+
+pub overflow_sub-self : goal.overflow_sub-self
+overflow_sub-self c =
+    let tasks = c.self.inside.tasks.items in
+    let rs = regions_of tasks in
+    let i = c.args.i in
+    let within : i < length tasks = omega (arith, c.requires.known, ap length c.self.view_is) in
+    let h : i < length rs = omega (arith, within, length-map tasks region_of) in
+    let alive : (at rs i).ended ≡ false = ap (λ (l : List Task). (at (regions_of l) i).ended) c.self.view_is ∙ c.requires.alive in
+    omega (arith, one-goes rs i h alive, c.self.invariant.counted.unended)
+
+pub refresh-requires-clause-ordered : goal.refresh-requires-clause-ordered
+refresh-requires-clause-ordered c =
+    let tasks = c.self.inside.tasks.items in
+    let rs = regions_of tasks in
+    let i = c.args.i in
+    let within : i < length tasks = omega (arith, c.requires.known, ap length c.self.view_is) in
+    let h : i < length rs = omega (arith, within, length-map tasks region_of) in
+    let now = map-changed region_of tasks i c.index_mut.result.now c.end.new.self over c.index_mut.ensures.value c.end.ensures in
+    let is : regions_of c.deref.result.now ≡ updated rs i over = ap regions_of c.deref.ensures.value ∙ now in
+    ordered-tasks over (λ r. refl) (λ r. refl) (λ r. refl) rs i (numbers_of c.self.inside.children.items) c.self.inside.claimable.items _ _ _ c.self.invariant c.deref.result.now is
+
+pub invariant_of-self : goal.invariant_of-self
+invariant_of-self c =
+    let tasks = c.self.inside.tasks.items in
+    let rs = regions_of tasks in
+    let i = c.args.i in
+    let within : i < length tasks = omega (arith, c.requires.known, ap length c.self.view_is) in
+    let h : i < length rs = omega (arith, within, length-map tasks region_of) in
+    let alive : (at rs i).ended ≡ false = ap (λ (l : List Task). (at (regions_of l) i).ended) c.self.view_is ∙ c.requires.alive in
+    let now = map-changed region_of tasks i c.index_mut.result.now c.end.new.self over c.index_mut.ensures.value c.end.ensures in
+    let is : regions_of c.deref.result.now ≡ updated rs i over = ap regions_of c.deref.ensures.value ∙ now in
+    let kept = kept-tasks over (λ r. refl) (λ r. refl) (λ r. refl) rs i (numbers_of c.self.inside.children.items) c.self.inside.claimable.items _ _ _ c.self.invariant c.deref.result.now is
+    c.refresh.new.list.items (vec_capacity c.refresh.new.list) c.self.inside.out (c.self.inside.unended - 1) (counted-over rs i c.self.inside.out c.self.inside.unended h alive c.self.invariant.counted) c.refresh.ensures.ordered c.refresh.ensures.told c.refresh.ensures.others c.refresh.ensures.room in
+    subst (λ (l : List Task). AreKept (regions_of l) (numbers_of c.self.inside.children.items) c.refresh.new.list.items (vec_capacity c.refresh.new.list) c.self.inside.out (c.self.inside.unended - 1)) c.deref.ensures.value kept
+
+pub returns : goal.returns
+returns c =
+    let tasks = c.self.inside.tasks.items in
+    let rs = regions_of tasks in
+    let i = c.args.i in
+    let within : i < length tasks = omega (arith, c.requires.known, ap length c.self.view_is) in
+    let h : i < length rs = omega (arith, within, length-map tasks region_of) in
+    let now = map-changed region_of tasks i c.index_mut.result.now c.end.new.self over c.index_mut.ensures.value c.end.ensures in
+    now ∙ ap (λ (l : List Task). updated (regions_of l) i over) c.self.view_is

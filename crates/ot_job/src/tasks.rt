@@ -1,0 +1,262 @@
+use crate::arena::execute;
+use crate::assign::Assign;
+use crate::listing::{refresh, refresh_children};
+use crate::room::{make_room, make_room_for, put};
+use crate::task::Task;
+use ot_model::Stmt;
+use ot_owner::Right;
+use std::alloc::{AllocError, Global};
+use std::marker::Model;
+
+/// The tasks of a job in order of their creation, and what is kept so that none has to be passed over.
+#[derive(Debug, Drop)]
+pub struct Tasks {
+    tasks: Vec<Task>,
+    /// Of each task, the numbers of its children's tasks, in order of their creation.
+    children: Vec<Vec<usize>>,
+    /// Those that are claimable, in order of their numbers. It has room for all.
+    claimable: Vec<usize>,
+    /// How many have a piece out.
+    out: usize,
+    /// How many have not ended their body.
+    unended: usize,
+}
+
+impl Model for Tasks {
+    ghost use Rattle.std.specs.Coded.{codes};
+    ghost use Rattle.std.specs.Prelude.{List};
+    ghost use Rattle.ot_job.specs.contracts.task.Task as t;
+    ghost use Rattle.ot_job.specs.declared.task.Task.{Task};
+
+    ghost Value = { List Task };
+
+    ghost coded = { Prim.hlevel (codes, t.the_row.coded) };
+
+    ghost use Rattle.ot_job.specs.RegionView.{regions_of};
+    ghost use Rattle.std.specs.Prelude.{vec_capacity};
+    ghost use Rattle.ot_job.specs.Listing.{AreKept, numbers_of};
+
+    ghost view = { λ t. t.tasks.items };
+
+    ghost invariant = { λ t. AreKept (regions_of t.tasks.items) (numbers_of t.children.items) t.claimable.items (vec_capacity t.claimable) t.out t.unended };
+}
+
+impl Tasks {
+    ghost use Rattle.std.specs.Prelude.{◌≡◌, ◌<◌, ◌≤◌, [], ◌∷◌, None, true, false, length, is_some, slice_index_or, vec_capacity, OnOk, OnErr, IfOk};
+    ghost use Rattle.ot_model.specs.Cells.{updated};
+    ghost use Rattle.ot_model.specs.View.{stmts_of};
+    ghost use Rattle.ot_depend.specs.Siblings.{IsReady, IsUnfinished};
+    ghost use Rattle.ot_job.specs.Sound.{at, parent_of};
+    ghost use Rattle.ot_job.specs.Pieces.{leading_len, awake, begun};
+    ghost use Rattle.ot_job.specs.Regions.{executed};
+    ghost use Rattle.ot_job.specs.RegionView.{regions_of};
+    ghost use Rattle.ot_job.specs.Settling.{CreatesInOrder, closed, over, settled, stopped, tasks_next, without};
+    ghost use Rattle.ot_job.specs.Claiming.{claimable_of, picked};
+    ghost use Rattle.ot_job.specs.States.{root_region, any_out, all_ended};
+
+    /// The root task alone, at the beginning of the program's body.
+    pub fn root(alloc: Global, body: Vec<Stmt>) -> Result<Tasks, AllocError>
+        ensures { IfOk result (λ tasks. regions_of tasks ≡ root_region (stmts_of body.items) ∷ []) }
+    {
+        let mut tasks = Vec::with_capacity(alloc, 1)?;
+        let mut children = Vec::with_capacity(alloc, 1)?;
+        let mut claimable = Vec::with_capacity(alloc, 1)?;
+        put(&mut tasks, Task::root(alloc, body));
+        put(&mut children, Vec::new(alloc));
+        put(&mut claimable, 0);
+        Ok(Tasks {
+            tasks,
+            children,
+            claimable,
+            out: 0,
+            unended: 1,
+        })
+    }
+
+    /// All of them.
+    pub fn all(&self) -> &[Task]
+        ensures { result.now ≡ self.now }
+    {
+        &self.tasks
+    }
+
+    /// The task of this number.
+    pub fn get(&self, i: usize) -> &Task
+        requires { i < length self.now }
+        ensures { result.now ≡ slice_index_or self.now i result.now }
+    {
+        &self.tasks[i]
+    }
+
+    /// Whether a piece of some task is out.
+    pub fn any_out(&self) -> bool
+        ensures { result ≡ any_out (regions_of self.now) }
+    {
+        self.out != 0
+    }
+
+    /// Whether each task has ended its body.
+    pub fn all_ended(&self) -> bool
+        ensures { result ≡ all_ended (regions_of self.now) }
+    {
+        self.unended == 0
+    }
+
+    /// How many are claimable.
+    pub fn claimable(&self) -> usize
+        ensures { result ≡ length (claimable_of (regions_of self.now)) }
+    {
+        self.claimable.len()
+    }
+
+    /// The claimable task at `pick` modulo their count.
+    pub fn pick(&self, pick: usize) -> Option<usize>
+        ensures { result ≡ picked (claimable_of (regions_of self.now)) pick }
+    {
+        if self.claimable.is_empty() {
+            return None;
+        }
+        Some(self.claimable[pick % self.claimable.len()])
+    }
+
+    /// A task goes on with a piece that is out from now on and holds this. It takes no memory.
+    pub fn begin(&mut self, i: usize, room: Vec<Assign>, right: Right)
+        requires known { i < length self.old }
+        requires idle { (at (regions_of self.old) i).running ≡ None }
+        requires empty { room.items ≡ [] }
+        requires room { leading_len (awake (at (regions_of self.old) i)).rest ≤ vec_capacity room }
+        ensures { regions_of self.new ≡ updated (regions_of self.old) i (begun right) }
+    {
+        self.tasks[i].begin(room, right);
+        self.out += 1;
+        refresh(&mut self.claimable, &self.tasks, i);
+    }
+
+    /// The piece of a task is not out any more. It takes no memory.
+    pub fn stop(&mut self, i: usize)
+        requires known { i < length self.old }
+        requires out { is_some (at (regions_of self.old) i).running ≡ true }
+        ensures { regions_of self.new ≡ updated (regions_of self.old) i stopped }
+    {
+        self.tasks[i].stop();
+        self.out -= 1;
+        refresh(&mut self.claimable, &self.tasks, i);
+    }
+
+    /// Settles a task's piece: the task ends its body where it has reached its end, and else executes
+    /// the control statement that comes next. Where memory is refused, nothing changes.
+    pub fn settle(
+        &mut self,
+        alloc: Global,
+        i: usize,
+        taken: bool,
+        group: u32,
+    ) -> Result<(), AllocError>
+        requires known { i < length self.old }
+        requires out { is_some (at (regions_of self.old) i).running ≡ true }
+        requires alive { (at (regions_of self.old) i).ended ≡ false }
+        requires parent { 0 < i → parent_of (regions_of self.old) i < length self.old }
+        requires ready { 0 < i → IsReady (at (regions_of self.old) (parent_of (regions_of self.old) i)).children (at (regions_of self.old) i).child }
+        requires unfinished { 0 < i → IsUnfinished (at (regions_of self.old) (parent_of (regions_of self.old) i)).children (at (regions_of self.old) i).child }
+        ensures ordered { OnOk result (CreatesInOrder (at (regions_of self.old) i)) }
+        ensures settled { OnOk result (regions_of self.new ≡ settled taken group i (regions_of self.old)) }
+        ensures refused { OnErr result (regions_of self.new ≡ regions_of self.old) }
+    {
+        if self.tasks[i].is_at_end() {
+            self.close(alloc, i);
+        } else if self.tasks[i].tasks_next() == 0 {
+            self.advance(alloc, i, taken, group)?;
+        } else {
+            self.create(alloc, i, taken, group)?;
+        }
+        self.stop(i);
+        Ok(())
+    }
+
+    /// A task ends its body. It takes no memory.
+    fn close(&mut self, alloc: Global, i: usize)
+        requires known { i < length self.old }
+        requires alive { (at (regions_of self.old) i).ended ≡ false }
+        requires parent { 0 < i → parent_of (regions_of self.old) i < length self.old }
+        requires ready { 0 < i → IsReady (at (regions_of self.old) (parent_of (regions_of self.old) i)).children (at (regions_of self.old) i).child }
+        requires unfinished { 0 < i → IsUnfinished (at (regions_of self.old) (parent_of (regions_of self.old) i)).children (at (regions_of self.old) i).child }
+        ensures { regions_of self.new ≡ closed i (regions_of self.old) }
+    {
+        if i > 0 {
+            self.tell_parent(alloc, i);
+        }
+        self.end(i);
+    }
+
+    /// Tells the parent that a child has finished. It takes no memory.
+    fn tell_parent(&mut self, alloc: Global, i: usize)
+        requires known { i < length self.old }
+        requires parent { parent_of (regions_of self.old) i < length self.old }
+        requires ready { IsReady (at (regions_of self.old) (parent_of (regions_of self.old) i)).children (at (regions_of self.old) i).child }
+        requires unfinished { IsUnfinished (at (regions_of self.old) (parent_of (regions_of self.old) i)).children (at (regions_of self.old) i).child }
+        ensures { regions_of self.new ≡ updated (regions_of self.old) (parent_of (regions_of self.old) i) (without (at (regions_of self.old) i).child) }
+    {
+        let parent = self.tasks[i].parent;
+        let child = self.tasks[i].child;
+        let waiters = self.tasks[parent].release_child(alloc, child);
+        refresh(&mut self.claimable, &self.tasks, parent);
+        refresh_children(
+            &mut self.claimable,
+            &self.tasks,
+            &self.children[parent],
+            &waiters,
+        );
+    }
+
+    /// A task has ended its body. It takes no memory.
+    fn end(&mut self, i: usize)
+        requires known { i < length self.old }
+        requires alive { (at (regions_of self.old) i).ended ≡ false }
+        ensures { regions_of self.new ≡ updated (regions_of self.old) i over }
+    {
+        self.tasks[i].end();
+        self.unended -= 1;
+        refresh(&mut self.claimable, &self.tasks, i);
+    }
+
+    /// A task executes the control statement that comes next, if one does, which is not a task. Where
+    /// memory is refused, nothing changes.
+    fn advance(
+        &mut self,
+        alloc: Global,
+        i: usize,
+        taken: bool,
+        group: u32,
+    ) -> Result<(), AllocError>
+        requires known { i < length self.old }
+        requires none { tasks_next (at (regions_of self.old) i).rest ≡ 0 }
+        ensures ordered { OnOk result (CreatesInOrder (at (regions_of self.old) i)) }
+        ensures executed { OnOk result (regions_of self.new ≡ executed taken group i (regions_of self.old)) }
+        ensures refused { OnErr result (regions_of self.new ≡ regions_of self.old) }
+    {
+        execute(&mut self.tasks, alloc, i, taken, group)?;
+        refresh(&mut self.claimable, &self.tasks, i);
+        Ok(())
+    }
+
+    /// A task creates the task that comes next. Where memory is refused, nothing changes.
+    fn create(&mut self, alloc: Global, i: usize, taken: bool, group: u32) -> Result<(), AllocError>
+        requires known { i < length self.old }
+        requires some { tasks_next (at (regions_of self.old) i).rest ≡ 0 → ⊥ }
+        ensures ordered { OnOk result (CreatesInOrder (at (regions_of self.old) i)) }
+        ensures executed { OnOk result (regions_of self.new ≡ executed taken group i (regions_of self.old)) }
+        ensures refused { OnErr result (regions_of self.new ≡ regions_of self.old) }
+    {
+        let number = self.tasks.len();
+        make_room(&mut self.children[i], 1)?;
+        make_room(&mut self.children, 1)?;
+        make_room_for(&mut self.claimable, number + 1)?;
+        execute(&mut self.tasks, alloc, i, taken, group)?;
+        put(&mut self.children[i], number);
+        put(&mut self.children, Vec::new(alloc));
+        self.unended += 1;
+        refresh(&mut self.claimable, &self.tasks, i);
+        refresh(&mut self.claimable, &self.tasks, number);
+        Ok(())
+    }
+}
