@@ -7,7 +7,8 @@ use std::env;
 use std::time::Instant;
 
 /// A chain of 1,024 tasks.
-const RUN: &[u8] = br#"["run",["program",[],[["for","i",0,1024,[["task",[["inout",["a",0,1]]],[["add",["c","a",0],1]]]]]]]]"#;
+const RUN: &str =
+    r#"["run",["program",[],[["for","i",0,1024,[["task",[["inout",["a",0,1]]],[["add",["c","a",0],1]]]]]]]]"#;
 
 /// So many times a start of the first claimable task and its finish.
 fn take_pieces(
@@ -27,8 +28,8 @@ fn take_pieces(
 fn world_at_work(alloc: Global, tenants: u32) -> Result<World, AllocError> {
     let mut world = world_of(alloc, tenants, Limits::usual(), &Store::empty(alloc))?;
     for tenant in 0..tenants {
-        for line in [b"[\"new\",\"a\",1]", RUN] {
-            world.step(alloc, Event::Admit(tenant, line))?;
+        for line in [r#"["new","a",1]"#, RUN] {
+            world.step(alloc, Event::Admit(tenant, line.as_bytes()))?;
             world.step(alloc, Event::Open(tenant))?;
         }
         take_pieces(alloc, &mut world, tenant, 1025)?;
@@ -54,6 +55,9 @@ fn a_start_and_a_finish(rt: HostRuntime) {
         panic!(rt; "no clock");
     };
     let settled = world.units(0);
-    let _ = println!(rt; "{} nanoseconds for 1,000 pairs, {settled:?} units", took.as_nanos());
+    let _ = println!(rt;
+        "{} nanoseconds for 1,000 pairs, {settled:?} units",
+        took.as_nanos()
+    );
     assert!(rt; taken.is_ok());
 }

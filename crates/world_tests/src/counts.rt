@@ -1,47 +1,45 @@
 //! How many events the chooser of a drain is told.
+use super::events::event_of;
 use super::tenants::world_of;
-use ot_core::{Event, World};
+use ot_core::World;
 use ot_store::{Limits, Store};
 use std::alloc::{AllocError, Global};
 
-/// Two tasks that don't depend on each other.
-const RUN: &[u8] =
-    br#"["run",["program",[["a",0,2]],[["task",[["out",["a",0,1]]],[["set",["c","a",0],4]]],["task",[["out",["a",1,1]]],[["set",["c","a",1],5]]],["wait"]]]]"#;
-
-/// Two tenants that ask for the same, and whose jobs have begun.
-const BEGUN: [Event<'static>; 8] = [
-    Event::Admit(0, b"[\"new\",\"a\",2]"),
-    Event::Admit(0, RUN),
-    Event::Open(0),
-    Event::Open(0),
-    Event::Admit(1, b"[\"new\",\"a\",2]"),
-    Event::Admit(1, RUN),
-    Event::Open(1),
-    Event::Open(1),
-];
+/// Two tenants that ask for the same, two tasks that don't depend on each other, and whose jobs have begun.
+const BEGUN: &str = r#"admit 0 ["new","a",2]
+admit 0 ["run",["program",[["a",0,2]],[["task",[["out",["a",0,1]]],[["set",["c","a",0],4]]],["task",[["out",["a",1,1]]],[["set",["c","a",1],5]]],["wait"]]]]
+open 0
+open 0
+admit 1 ["new","a",2]
+admit 1 ["run",["program",[["a",0,2]],[["task",[["out",["a",0,1]]],[["set",["c","a",0],4]]],["task",[["out",["a",1,1]]],[["set",["c","a",1],5]]],["wait"]]]]
+open 1
+open 1"#;
 
 /// How many events there are after some more: a start counts once for each free worker and claimable task.
-const COUNTS: [(&[Event<'static>], u64); 6] = [
+const COUNTS: [(&str, u64); 6] = [
     // two roots, sixteen workers
-    (&[], 32),
+    ("", 32),
     // one root, fifteen workers, and a finish
-    (&[Event::Start(1, 0, 0)], 16),
+    ("start 1 0 0", 16),
     // fourteen workers have nothing to do
-    (&[Event::Start(1, 0, 0), Event::Start(2, 1, 0)], 2),
+    ("start 1 0 0\nstart 2 1 0", 2),
     // a root and its first task, and the other root, for sixteen workers
-    (&[Event::Start(1, 0, 0), Event::Finish(1)], 48),
-    // the same with a third line to be opened once the job is over
-    (
-        &[
-            Event::Start(1, 0, 0),
-            Event::Finish(1),
-            Event::Admit(0, b"{}"),
-        ],
-        48,
-    ),
+    ("start 1 0 0\nfinish 1", 48),
+    // a line that can be opened only once the job is over
+    ("start 1 0 0\nfinish 1\nadmit 0 {}", 48),
     // the first job fails at once, and one root is left
-    (&[Event::Abort(0)], 17),
+    ("abort 0", 17),
 ];
+
+/// Takes the events of these lines.
+fn take(alloc: Global, world: &mut World, lines: &str) -> Result<(), AllocError> {
+    for line in lines.lines() {
+        if let Some(event) = event_of(line) {
+            world.step(alloc, event)?;
+        }
+    }
+    Ok(())
+}
 
 /// The first number that a chooser is told which always answers the greatest.
 fn first_count(alloc: Global, world: &mut World) -> Result<u64, AllocError> {
@@ -59,17 +57,17 @@ fn first_count(alloc: Global, world: &mut World) -> Result<u64, AllocError> {
 }
 
 /// How many events there are after these.
-fn count_after(alloc: Global, events: &[Event<'static>]) -> Result<u64, AllocError> {
+fn count_after(alloc: Global, lines: &str) -> Result<u64, AllocError> {
     let mut world = world_of(alloc, 2, Limits::usual(), &Store::empty(alloc))?;
-    world.run(alloc, &BEGUN)?;
-    world.run(alloc, events)?;
+    take(alloc, &mut world, BEGUN)?;
+    take(alloc, &mut world, lines)?;
     first_count(alloc, &mut world)
 }
 
 /// The first row whose count is another, and that count.
 fn first_other(alloc: Global) -> Option<(usize, Option<u64>)> {
-    for (number, (events, count)) in COUNTS.iter().enumerate() {
-        let told = count_after(alloc, events).ok();
+    for (number, (lines, count)) in COUNTS.iter().enumerate() {
+        let told = count_after(alloc, lines).ok();
         if told != Some(*count) {
             return Some((number, told));
         }

@@ -6,11 +6,11 @@ use ot_store::{Limits, Store};
 use std::alloc::{AllocError, Global};
 
 /// Asks each line, which has the number of its tenant before it.
-fn ask(alloc: Global, world: &mut World, lines: &'static str) -> Result<(), AllocError> {
+fn ask(alloc: Global, world: &mut World, lines: &str) -> Result<(), AllocError> {
     for line in lines.lines() {
         let (tenant, text) = line.split_once(' ').unwrap_or(("0", line));
         let tenant = if tenant == "1" { 1 } else { 0 };
-        let _ = world.step(alloc, Event::Admit(tenant, text.as_bytes()))?;
+        world.step(alloc, Event::Admit(tenant, text.as_bytes()))?;
     }
     Ok(())
 }
@@ -22,19 +22,6 @@ fn answer(alloc: Global, world: &mut World, order: &str) -> Result<(), AllocErro
         "last" => world.drain(alloc, &mut |count: u64| count.saturating_sub(1)),
         _ => world.drain(alloc, &mut |count: u64| count / 2),
     }
-}
-
-/// What one tenant is told once all lines are answered in an order.
-fn answered(
-    alloc: Global,
-    lines: &'static str,
-    order: &str,
-    tenant: u32,
-) -> Result<String, AllocError> {
-    let mut world = world_of(alloc, 2, Limits::usual(), &Store::empty(alloc))?;
-    ask(alloc, &mut world, lines)?;
-    answer(alloc, &mut world, order)?;
-    told(alloc, &world, tenant)
 }
 
 /// A sum past 2^64 of the first tenant alone.
@@ -110,22 +97,24 @@ const ROWS: [(&str, [&str; 2], &str); 7] = [
     (LINES, LINES_TOLD, "middle"),
 ];
 
-/// Whether both are told their lines in this order of events.
-fn are_told(alloc: Global, lines: &'static str, said: [&str; 2], order: &str) -> bool {
+/// Whether both are told this once all lines are answered in this order of events.
+fn are_told(
+    alloc: Global,
+    lines: &'static str,
+    said: [&str; 2],
+    order: &str,
+) -> Result<bool, AllocError> {
+    let mut world = world_of(alloc, 2, Limits::usual(), &Store::empty(alloc))?;
+    ask(alloc, &mut world, lines)?;
+    answer(alloc, &mut world, order)?;
     let [one, two] = said;
-    match (
-        answered(alloc, lines, order, 0),
-        answered(alloc, lines, order, 1),
-    ) {
-        (Ok(first), Ok(second)) => first.as_str() == one && second.as_str() == two,
-        _ => false,
-    }
+    Ok(told(alloc, &world, 0)?.as_str() == one && told(alloc, &world, 1)?.as_str() == two)
 }
 
 /// The number of the first row that is told otherwise.
 fn first_other(alloc: Global) -> Option<usize> {
     for (number, (lines, said, order)) in ROWS.iter().enumerate() {
-        if !are_told(alloc, lines, *said, order) {
+        if are_told(alloc, lines, *said, order) != Ok(true) {
             return Some(number);
         }
     }

@@ -9,6 +9,8 @@ mod counts;
 #[cfg(test)]
 mod drains;
 #[cfg(test)]
+mod events;
+#[cfg(test)]
 mod random;
 #[cfg(test)]
 mod refused;
