@@ -8,6 +8,8 @@ use Rattle.ot_sim.specs.declared.line.Line.{Line}
 use Rattle.ot_sim.specs.declared.line.Line.TheVariants as line
 use Rattle.ot_sim.specs.declared.answer.Answer.{Answer}
 use Rattle.ot_sim.specs.declared.answer.Answer.TheVariants as answer
+use Rattle.ot_sim.specs.declared.play.Saying.{Saying}
+use Rattle.ot_sim.specs.declared.play.Saying.TheVariants as saying
 use Rattle.ot_sim.specs.Tables.{place_of}
 
 -- the event, where all tenants that it names are there
@@ -30,3 +32,9 @@ answer_of (line.Finish w) (stepped.Finished units) = answer.Finished w units
 answer_of (line.Finish w) stepped.FinishedFailed = answer.FinishedFailed w
 answer_of (line.Abort t) stepped.Aborted = answer.Aborted t
 answer_of line stepped = answer.NotNow
+
+-- what is told of the event
+abbrev pub saying_of : Line → Event → Stepped → Saying
+saying_of (line.Open t) (event.Open k) stepped.Answered = saying.Reply t k
+saying_of (line.Reply t) (event.Reply k) stepped.Replied = saying.Reply t k
+saying_of line event stepped = saying.Answer (answer_of line stepped)

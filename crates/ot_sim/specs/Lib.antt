@@ -2,5 +2,7 @@ pub mod Words
 pub mod Lines
 pub mod Texts
 pub mod Tables
-pub mod Running
 pub mod Asking
+pub mod Playing
+pub mod Talk
+pub mod Running

@@ -1,6 +1,6 @@
 //! How sim goes wrong.
 ghost use Rattle.std.specs.Prelude.{◌≡◌};
-ghost use Rattle.ot_sim.specs.Running.{fault_of};
+ghost use Rattle.ot_sim.specs.Running.{fault_of, stop_of};
 
 use std::alloc::{AllocError, AllocFailed};
 
@@ -36,24 +36,42 @@ impl Stop {
     }
 }
 
-impl From<AllocError> for Stop {
-    ghost use Rattle.std.specs.Prelude.{◌≡◌};
-    ghost use Rattle.ot_sim.specs.declared.fault.Stop.TheVariants.{Memory};
+/// Why a line isn't answered whole.
+#[derive(Clone, Copy, Debug)]
+pub(crate) enum Untold {
+    WriteFailed,
+    Memory,
+}
 
-    ghost from_gives = { λ _ stop. stop ≡ Memory };
-
-    fn from(_error: AllocError) -> Stop {
-        Stop::Memory
+impl Untold {
+    pub(crate) fn stop(self) -> Stop
+        ensures { result ≡ stop_of self }
+    {
+        match self {
+            Untold::WriteFailed => Stop::WriteFailed,
+            Untold::Memory => Stop::Memory,
+        }
     }
 }
 
-impl<T: Drop> From<AllocFailed<T>> for Stop {
+impl From<AllocError> for Untold {
     ghost use Rattle.std.specs.Prelude.{◌≡◌};
-    ghost use Rattle.ot_sim.specs.declared.fault.Stop.TheVariants.{Memory};
+    ghost use Rattle.ot_sim.specs.declared.fault.Untold.TheVariants.{Memory};
 
-    ghost from_gives = { λ _ stop. stop ≡ Memory };
+    ghost from_gives = { λ _ untold. untold ≡ Memory };
 
-    fn from(_error: AllocFailed<T>) -> Stop {
-        Stop::Memory
+    fn from(_error: AllocError) -> Untold {
+        Untold::Memory
+    }
+}
+
+impl<T: Drop> From<AllocFailed<T>> for Untold {
+    ghost use Rattle.std.specs.Prelude.{◌≡◌};
+    ghost use Rattle.ot_sim.specs.declared.fault.Untold.TheVariants.{Memory};
+
+    ghost from_gives = { λ _ untold. untold ≡ Memory };
+
+    fn from(_error: AllocFailed<T>) -> Untold {
+        Untold::Memory
     }
 }

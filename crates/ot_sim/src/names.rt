@@ -27,7 +27,9 @@ impl Model for Names {
 
 impl Names {
     ghost use Rattle.std.specs.Prelude.{◌≡◌, ◌≤◌, [], IfOk, OnErr, vec_len, length, map, string_bytes};
+    ghost use Rattle.ot_core.specs.Openings.{new_scene};
     ghost use Rattle.ot_sim.specs.Tables.{place_of, Adds};
+    ghost use Rattle.ot_sim.specs.Playing.{opening};
 
     pub(crate) fn new(alloc: Global) -> Names
         ensures { result ≡ [] }
@@ -75,6 +77,7 @@ impl Names {
     /// Each tenant with the usual limits and no array.
     pub(crate) fn openings(&self, alloc: Global) -> Result<Vec<(String, Limits, Store)>, AllocError>
         ensures few { IfOk result (λ openings. vec_len openings ≤ 64) }
+        ensures are { IfOk result (λ openings. new_scene openings.items ≡ opening self.now) }
     {
         let mut openings = Vec::new(alloc);
         for name in &self.names {

@@ -1,17 +1,21 @@
 //! A world of tenants, and the lines that move it.
-ghost use Rattle.std.specs.Prelude.{◌≡◌, OnOk};
+ghost use Rattle.std.specs.Prelude.{◌≡◌, ◌∷◌, ℕ, List, [], Some, OnOk, IfOk, drop, length};
 ghost use Rattle.std.specs.Io.KnownBytes.{Appends};
+ghost use Rattle.ot_core.specs.Scenes.{Scene};
 ghost use Rattle.ot_front.specs.Device.{count_after};
+ghost use Rattle.ot_sim.specs.declared.line.Line.TheVariants as line;
+ghost use Rattle.ot_sim.specs.Tables.{place_of};
 ghost use Rattle.ot_sim.specs.Texts.{text_of};
-ghost use Rattle.ot_sim.specs.Running.{failed_writes};
-ghost use Rattle.ot_sim.specs.Asking.{event_of, answer_of};
+ghost use Rattle.ot_sim.specs.Running.{untold_writes, Writes, counts_at};
+ghost use Rattle.ot_sim.specs.Asking.{event_of, answer_of, saying_of};
+ghost use Rattle.ot_sim.specs.Playing.{PlaysIn, Happens, replies_at, count_at, last_reply, reply_lines, news, usage_text};
 
 use crate::answer::{Answer, write_answer};
-use crate::fault::Stop;
+use crate::fault::Untold;
 use crate::line::{Line, read_line};
 use crate::names::Names;
 use ot_book::reply_text;
-use ot_core::{Event, Stepped, World};
+use ot_core::{Event, Replies, Stepped, World};
 use ot_front::{Sink, write_whole};
 use std::alloc::{AllocError, Global};
 
@@ -21,13 +25,25 @@ pub(crate) struct Play {
     world: Option<World>,
 }
 
+/// What is told of an event.
+#[derive(Clone, Copy)]
+pub(crate) enum Saying<'a> {
+    /// The reply that the tenant of this name and number was given last.
+    Reply(&'a str, u32),
+    Answer(Answer<'a>),
+}
+
 impl Play {
-    ghost use Rattle.std.specs.Prelude.{◌≡◌};
+    ghost use Rattle.std.specs.Prelude.{◌≡◌, OnOk, IfOk};
     ghost use Rattle.ot_front.specs.Device.{count_after};
-    ghost use Rattle.ot_sim.specs.Running.{failed_writes};
+    ghost use Rattle.ot_sim.specs.declared.line.Line.TheVariants as line;
+    ghost use Rattle.ot_sim.specs.Running.{untold_writes, Writes, begun};
+    ghost use Rattle.ot_sim.specs.Playing.{Plays, PlaysLine, PlaysOn, empty_play};
 
     /// Nobody is there.
-    pub(crate) fn new(alloc: Global) -> Play {
+    pub(crate) fn new(alloc: Global) -> Play
+        ensures { result ≡ empty_play }
+    {
         Play {
             names: Names::new(alloc),
             world: None,
@@ -48,22 +64,21 @@ impl Play {
         alloc: Global,
         line: &[u8],
         sink: &mut W,
-    ) -> Result<(), Stop>
-        ensures { W.failures sink.new ≡ count_after (failed_writes result) (W.failures sink.old) }
+    ) -> Result<(), Untold>
+        ensures plays { OnOk result (Writes (W.contents sink.old) (W.contents sink.new) (λ text. PlaysLine self.old line.now text self.new)) }
+        ensures failures { W.failures sink.new ≡ count_after (untold_writes result) (W.failures sink.old) }
     {
         match read_line(line) {
             Line::Tenant(name) => self.make(alloc, name, sink),
             Line::NoTenant => tell(alloc, Answer::BadLine, sink),
-            line => {
-                self.begin(alloc)?;
-                self.play(alloc, line, sink)
-            }
+            line => self.play_on(alloc, line, sink),
         }
     }
 
     /// A tenant is made, before all other lines.
-    fn make<W: Sink>(&mut self, alloc: Global, name: &str, sink: &mut W) -> Result<(), Stop>
-        ensures { W.failures sink.new ≡ count_after (failed_writes result) (W.failures sink.old) }
+    fn make<W: Sink>(&mut self, alloc: Global, name: &str, sink: &mut W) -> Result<(), Untold>
+        ensures plays { OnOk result (Writes (W.contents sink.old) (W.contents sink.new) (λ text. Plays self.old (line.Tenant name.entry) text self.new)) }
+        ensures failures { W.failures sink.new ≡ count_after (untold_writes result) (W.failures sink.old) }
     {
         if self.world.is_none() && self.names.add(alloc, name)? {
             return tell(alloc, Answer::Tenant(name), sink);
@@ -71,8 +86,26 @@ impl Play {
         tell(alloc, Answer::BadLine, sink)
     }
 
-    /// Ends the time of `tenant` lines.
-    fn begin(&mut self, alloc: Global) -> Result<(), AllocError> {
+    /// A line that ends the time of `tenant` lines.
+    fn play_on<W: Sink>(
+        &mut self,
+        alloc: Global,
+        line: Line<'_>,
+        sink: &mut W,
+    ) -> Result<(), Untold>
+        ensures plays { OnOk result (Writes (W.contents sink.old) (W.contents sink.new) (λ text. PlaysOn self.old line.entry text self.new)) }
+        ensures failures { W.failures sink.new ≡ count_after (untold_writes result) (W.failures sink.old) }
+    {
+        self.begin(alloc)?;
+        let Play { names, world } = self;
+        let Some(world) = world else { unreachable!() };
+        play_line(alloc, names, world, line, sink)
+    }
+
+    /// Begins the world, where it hasn't begun.
+    fn begin(&mut self, alloc: Global) -> Result<(), AllocError>
+        ensures { OnOk result (self.new ≡ begun self.old) }
+    {
         if self.world.is_none() {
             let world = World::new(alloc, self.names.openings(alloc)?)?;
             if let Some(other) = self.world.replace(world) {
@@ -82,23 +115,26 @@ impl Play {
         }
         Ok(())
     }
+}
 
-    /// A line of a world that has begun.
-    fn play<W: Sink>(&mut self, alloc: Global, line: Line<'_>, sink: &mut W) -> Result<(), Stop>
-        ensures { W.failures sink.new ≡ count_after (failed_writes result) (W.failures sink.old) }
-    {
-        let Play { names, world } = self;
-        let Some(world) = world else {
-            return tell(alloc, Answer::BadLine, sink);
-        };
-        match line {
-            Line::Drain => drain(alloc, names, world, sink),
-            Line::Usage(name) => usage(alloc, names, world, name, sink),
-            line => match event(names, line) {
-                Some(event) => step(alloc, world, line, event, sink),
-                None => tell(alloc, Answer::BadLine, sink),
-            },
-        }
+/// A line over a world.
+fn play_line<W: Sink>(
+    alloc: Global,
+    names: &Names,
+    world: &mut World,
+    line: Line<'_>,
+    sink: &mut W,
+) -> Result<(), Untold>
+    ensures plays { OnOk result (Writes (W.contents sink.old) (W.contents sink.new) (λ text. PlaysIn names.now line.entry world.old text world.new)) }
+    ensures failures { W.failures sink.new ≡ count_after (untold_writes result) (W.failures sink.old) }
+{
+    match line {
+        Line::Drain => drain(alloc, names, world, sink),
+        Line::Usage(name) => usage(alloc, names, world, name, sink),
+        line => match event(names, line) {
+            Some(event) => step(alloc, world, line, event, sink),
+            None => tell(alloc, Answer::BadLine, sink),
+        },
     }
 }
 
@@ -124,17 +160,25 @@ fn step<W: Sink>(
     line: Line<'_>,
     event: Event<'_>,
     sink: &mut W,
-) -> Result<(), Stop>
-    ensures { W.failures sink.new ≡ count_after (failed_writes result) (W.failures sink.old) }
+) -> Result<(), Untold>
+    ensures happens { OnOk result (Writes (W.contents sink.old) (W.contents sink.new) (λ text. Happens line.entry (Some event.entry) world.old text world.new)) }
+    ensures failures { W.failures sink.new ≡ count_after (untold_writes result) (W.failures sink.old) }
 {
     let stepped = world.step(alloc, event)?;
+    match told(line, event, stepped) {
+        Saying::Reply(name, tenant) => tell_last(alloc, world, tenant, name, sink),
+        Saying::Answer(answer) => tell(alloc, answer, sink),
+    }
+}
+
+/// What is told of a line whose event did this.
+fn told<'a>(line: Line<'a>, event: Event<'_>, stepped: Stepped) -> Saying<'a>
+    ensures { result ≡ saying_of line.entry event.entry stepped }
+{
     match (line, event, stepped) {
-        (
-            Line::Open(name) | Line::Reply(name),
-            Event::Open(tenant) | Event::Reply(tenant),
-            Stepped::Answered | Stepped::Replied,
-        ) => { tell_last(alloc, world, tenant, name, sink) }
-        _ => tell(alloc, answer(line, stepped), sink),
+        (Line::Open(name), Event::Open(tenant), Stepped::Answered) => Saying::Reply(name, tenant),
+        (Line::Reply(name), Event::Reply(tenant), Stepped::Replied) => Saying::Reply(name, tenant),
+        _ => Saying::Answer(answer(line, stepped)),
     }
 }
 
@@ -163,68 +207,121 @@ fn tell_last<W: Sink>(
     tenant: u32,
     name: &str,
     sink: &mut W,
-) -> Result<(), Stop>
-    ensures { W.failures sink.new ≡ count_after (failed_writes result) (W.failures sink.old) }
+) -> Result<(), Untold>
+    ensures told { OnOk result (Appends (W.contents sink.old) (W.contents sink.new) (last_reply name.now tenant world.now)) }
+    ensures failures { W.failures sink.new ≡ count_after (untold_writes result) (W.failures sink.old) }
 {
-    let given = replies_given(world, tenant);
-    tell_replies(alloc, world, tenant, name, given.saturating_sub(1), sink)
+    let given = count_given(world, tenant);
+    tell_behind(alloc, world, tenant, name, given.saturating_sub(1), sink)
 }
 
 /// All that can happen happens, and each tenant is told the replies that it was given by it.
-fn drain<W: Sink>(alloc: Global, names: &Names, world: &mut World, sink: &mut W) -> Result<(), Stop>
-    ensures { W.failures sink.new ≡ count_after (failed_writes result) (W.failures sink.old) }
+fn drain<W: Sink>(
+    alloc: Global,
+    names: &Names,
+    world: &mut World,
+    sink: &mut W,
+) -> Result<(), Untold>
+    ensures plays { OnOk result (Writes (W.contents sink.old) (W.contents sink.new) (λ text. PlaysIn names.now line.Drain world.old text world.new)) }
+    ensures failures { W.failures sink.new ≡ count_after (untold_writes result) (W.failures sink.old) }
 {
-    let mut given = Vec::new(alloc);
-    for tenant in 0..names.count() {
-        given.push(replies_given(world, tenant))?;
-    }
+    let given = counts_given(alloc, world, names.count())?;
     tell(alloc, Answer::Drain, sink)?;
     world.drain(alloc, &mut |_| 0)?;
-    tell_given(alloc, names, world, given.as_slice(), sink)?;
+    tell_news(alloc, names, world, given.as_slice(), sink)?;
     tell(alloc, Answer::Drained, sink)
 }
 
+/// How many replies each of the first tenants was given.
+fn counts_given(alloc: Global, world: &World, tenants: u32) -> Result<Vec<usize>, AllocError>
+    ensures { IfOk result (λ given. given.items ≡ counts_at world.now tenants) }
+{
+    let mut given = Vec::new(alloc);
+    for tenant in 0..tenants {
+        given.push(count_given(world, tenant))?;
+    }
+    Ok(given)
+}
+
 /// Tells each tenant the replies behind so many.
-fn tell_given<W: Sink>(
+fn tell_news<W: Sink>(
     alloc: Global,
     names: &Names,
     world: &World,
     given: &[usize],
     sink: &mut W,
-) -> Result<(), Stop>
-    ensures { W.failures sink.new ≡ count_after (failed_writes result) (W.failures sink.old) }
+) -> Result<(), Untold>
+    requires { length given.now ≡ length names.now }
+    ensures told { (old : Scene) → given.now ≡ counts_at old (length names.now) →
+        OnOk result (Appends (W.contents sink.old) (W.contents sink.new) (news names.now 0 old world.now)) }
+    ensures failures { W.failures sink.new ≡ count_after (untold_writes result) (W.failures sink.old) }
 {
     for (tenant, name) in names.as_slice().iter().enumerate() {
-        if let Some(given) = given.get(tenant) {
-            tell_replies(alloc, world, tenant as u32, name.as_str(), *given, sink)?;
-        }
+        tell_behind(
+            alloc,
+            world,
+            tenant as u32,
+            name.as_str(),
+            given[tenant],
+            sink,
+        )?;
     }
     Ok(())
 }
 
 /// How many replies a tenant was given.
-fn replies_given(world: &World, tenant: u32) -> usize {
-    match world.replies(tenant) {
-        Some(replies) => replies.size_hint().0,
-        None => 0,
+fn count_given(world: &World, tenant: u32) -> usize
+    ensures { result ≡ count_at world.now tenant }
+{
+    let Some(replies) = world.replies(tenant) else {
+        return 0;
+    };
+    let mut count = 0usize;
+    for _ in replies {
+        count = count.saturating_add(1);
     }
+    count
 }
 
 /// Tells a tenant the replies behind so many.
-fn tell_replies<W: Sink>(
+fn tell_behind<W: Sink>(
     alloc: Global,
     world: &World,
     tenant: u32,
     name: &str,
     given: usize,
     sink: &mut W,
-) -> Result<(), Stop>
-    ensures { W.failures sink.new ≡ count_after (failed_writes result) (W.failures sink.old) }
+) -> Result<(), Untold>
+    ensures told { OnOk result (Appends (W.contents sink.old) (W.contents sink.new) (reply_lines name.now (drop given (replies_at world.now tenant)))) }
+    ensures failures { W.failures sink.new ≡ count_after (untold_writes result) (W.failures sink.old) }
 {
-    let Some(replies) = world.replies(tenant) else {
+    let Some(mut replies) = world.replies(tenant) else {
         return Ok(());
     };
-    for reply in replies.skip(given) {
+    pass_over(&mut replies, given);
+    tell_replies(alloc, name, replies, sink)
+}
+
+/// Passes over so many replies.
+fn pass_over(replies: &mut Replies<'_>, count: usize)
+    ensures { replies.new ≡ drop count replies.old }
+{
+    for _ in 0..count {
+        let _ = replies.next();
+    }
+}
+
+/// Tells a tenant these replies.
+fn tell_replies<W: Sink>(
+    alloc: Global,
+    name: &str,
+    replies: Replies<'_>,
+    sink: &mut W,
+) -> Result<(), Untold>
+    ensures told { OnOk result (Appends (W.contents sink.old) (W.contents sink.new) (reply_lines name.now replies.entry)) }
+    ensures failures { W.failures sink.new ≡ count_after (untold_writes result) (W.failures sink.old) }
+{
+    for reply in replies {
         let text = reply_text(alloc, &reply)?;
         tell(alloc, Answer::Reply(name, text.as_str()), sink)?;
     }
@@ -238,8 +335,9 @@ fn usage<W: Sink>(
     world: &World,
     name: &str,
     sink: &mut W,
-) -> Result<(), Stop>
-    ensures { W.failures sink.new ≡ count_after (failed_writes result) (W.failures sink.old) }
+) -> Result<(), Untold>
+    ensures told { OnOk result (Appends (W.contents sink.old) (W.contents sink.new) (usage_text (line.Usage name.entry) (place_of names.now name.now) world.now)) }
+    ensures failures { W.failures sink.new ≡ count_after (untold_writes result) (W.failures sink.old) }
 {
     let Some(tenant) = names.place(name) else {
         return tell(alloc, Answer::BadLine, sink);
@@ -249,14 +347,14 @@ fn usage<W: Sink>(
 }
 
 /// Writes one answer.
-fn tell<W: Sink>(alloc: Global, answer: Answer<'_>, sink: &mut W) -> Result<(), Stop>
+fn tell<W: Sink>(alloc: Global, answer: Answer<'_>, sink: &mut W) -> Result<(), Untold>
     ensures told { OnOk result (Appends (W.contents sink.old) (W.contents sink.new) (text_of answer.entry)) }
-    ensures failures { W.failures sink.new ≡ count_after (failed_writes result) (W.failures sink.old) }
+    ensures failures { W.failures sink.new ≡ count_after (untold_writes result) (W.failures sink.old) }
 {
     let mut text = String::new(alloc);
     write_answer(answer, &mut text)?;
     match write_whole(sink, text.as_bytes()) {
         Ok(()) => Ok(()),
-        Err(_) => Err(Stop::WriteFailed),
+        Err(_) => Err(Untold::WriteFailed),
     }
 }

@@ -1,9 +1,12 @@
 //! Sim from bytes to bytes: lines come in, and each is answered before the next is taken.
-ghost use Rattle.std.specs.Prelude.{◌≡◌, ◌≢◌, ◌<◌, ◌≤◌, ◌++◌, ℕ, Ok, Err, length, OnOk};
-ghost use Rattle.ot_sim.specs.declared.fault.Stop.TheVariants as stop;
+ghost use Rattle.std.specs.Prelude.{◌≡◌, ◌≢◌, ◌<◌, ◌≤◌, ◌++◌, ◌∷◌, [], ℕ, List, Option, Ok, Err, length, OnOk};
 ghost use Rattle.std.specs.Io.KnownBytes.{IsAtEnd};
 ghost use Rattle.ot_front.specs.Device.{next_count, count_after};
-ghost use Rattle.ot_sim.specs.Running.{failed_writes};
+ghost use Rattle.ot_front.specs.Heard.{HasNoEnd};
+ghost use Rattle.ot_sim.specs.declared.play.Play.{Play};
+ghost use Rattle.ot_sim.specs.Playing.{empty_play};
+ghost use Rattle.ot_sim.specs.Talk.{TalksOver};
+ghost use Rattle.ot_sim.specs.Running.{failed_writes, Going, Goes};
 ghost use Rattle.ot_sim.specs.declared.fault.SimFault.TheVariants.{ReadFailed, WriteFailed, TooManyTurns};
 
 use crate::fault::{SimFault, Stop};
@@ -28,6 +31,7 @@ pub fn sim_lines<R: Source, W: Sink>(
     source: &mut R,
     sink: &mut W,
 ) -> Result<(), SimFault>
+    ensures talks { TalksOver (R.ahead source.old) (R.ahead source.new) (W.contents sink.old) (W.contents sink.new) result }
     ensures reads { (k : ℕ) × (k ≤ 1000000) × (R.reads source.new ≡ count_after k (R.reads source.old)) }
     ensures turns { result ≡ Err TooManyTurns → R.reads source.new ≡ count_after 1000000 (R.reads source.old) }
     ensures at_end { OnOk result (IsAtEnd (R.ahead source.new)) }
@@ -55,7 +59,9 @@ fn converse<R: Source, W: Sink>(
     sink: &mut W,
     room: &mut [u8],
 ) -> Result<(), SimFault>
-    requires { 0 < length room.old }
+    requires room { 0 < length room.old }
+    requires nobody { play.old ≡ empty_play }
+    ensures talks { TalksOver (R.ahead source.old) (R.ahead source.new) (W.contents sink.old) (W.contents sink.new) result }
     ensures reads { (k : ℕ) × (k ≤ 1000000) × (R.reads source.new ≡ count_after k (R.reads source.old)) }
     ensures turns { result ≡ Err TooManyTurns → R.reads source.new ≡ count_after 1000000 (R.reads source.old) }
     ensures at_end { OnOk result (IsAtEnd (R.ahead source.new)) }
@@ -88,27 +94,50 @@ fn take_chunk<W: Sink>(
     partial: &mut Vec<u8>,
     chunk: &[u8],
 ) -> Result<(), Stop>
-    requires { length partial.old.items ≤ 65600 }
-    ensures short { OnOk result (length partial.new.items ≤ 65600) }
+    ensures goes { (start : Option (List ℕ)) (bytes : List ℕ) →
+        Going start bytes partial.old.items play.old (W.contents sink.old) →
+        Goes start (bytes ++ chunk.now) partial.new.items play.new (W.contents sink.new) result }
     ensures failures { W.failures sink.new ≡ count_after (failed_writes result) (W.failures sink.old) }
 {
     let mut rest = chunk;
     while let Some(at) = memchr(b'\n', rest) {
         let (piece, behind) = rest.split_at(at);
         let (_, after) = behind.split_at(1);
-        take_piece(partial, piece)?;
-        play.take(alloc, partial.as_slice(), sink)?;
-        partial.clear();
+        if let Err(stop) = take_last_piece(alloc, play, sink, partial, piece) {
+            return Err(stop);
+        }
         rest = after;
     }
     take_piece(partial, rest)
 }
 
+/// The last piece of a line, behind which its LF stands.
+fn take_last_piece<W: Sink>(
+    alloc: Global,
+    play: &mut Play,
+    sink: &mut W,
+    partial: &mut Vec<u8>,
+    piece: &[u8],
+) -> Result<(), Stop>
+    requires { HasNoEnd piece.now }
+    ensures goes { (start : Option (List ℕ)) (bytes : List ℕ) →
+        Going start bytes partial.old.items play.old (W.contents sink.old) →
+        Goes start ((bytes ++ piece.now) ++ 10 ∷ []) partial.new.items play.new (W.contents sink.new) result }
+    ensures failures { W.failures sink.new ≡ count_after (failed_writes result) (W.failures sink.old) }
+{
+    if let Err(stop) = take_piece(partial, piece) {
+        return Err(stop);
+    }
+    let taken = take_line(alloc, play, sink, partial);
+    partial.clear();
+    taken
+}
+
 /// A piece of a line, without its LF.
 fn take_piece(partial: &mut Vec<u8>, piece: &[u8]) -> Result<(), Stop>
-    requires { length partial.old.items ≤ 65600 }
-    ensures taken { OnOk result ((partial.new.items ≡ partial.old.items ++ piece.now) × (length partial.new.items ≤ 65600)) }
-    ensures long { result ≡ Err stop.LongLine → 65600 < length (partial.old.items ++ piece.now) }
+    requires { HasNoEnd piece.now }
+    ensures goes { (start held : Option (List ℕ)) (bytes : List ℕ) (play : Play) →
+        Going start bytes partial.old.items play held → Goes start (bytes ++ piece.now) partial.new.items play held result }
     ensures calm { failed_writes result ≡ 0 }
 {
     if partial.len() + piece.len() > MAX_LINE {
@@ -117,5 +146,18 @@ fn take_piece(partial: &mut Vec<u8>, piece: &[u8]) -> Result<(), Stop>
     match partial.extend_from_slice(piece) {
         Ok(()) => Ok(()),
         Err(_) => Err(Stop::Memory),
+    }
+}
+
+/// A whole line of the input.
+fn take_line<W: Sink>(alloc: Global, play: &mut Play, sink: &mut W, line: &[u8]) -> Result<(), Stop>
+    ensures goes { (start : Option (List ℕ)) (bytes : List ℕ) →
+        Going start bytes line.now play.old (W.contents sink.old) →
+        Goes start (bytes ++ 10 ∷ []) [] play.new (W.contents sink.new) result }
+    ensures failures { W.failures sink.new ≡ count_after (failed_writes result) (W.failures sink.old) }
+{
+    match play.take(alloc, line, sink) {
+        Ok(()) => Ok(()),
+        Err(untold) => Err(untold.stop()),
     }
 }

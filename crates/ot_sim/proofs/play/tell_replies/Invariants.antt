@@ -1,8 +1,12 @@
-use Rattle.std.proofs.Common.{◌≡◌}
+use Rattle.std.proofs.Common.{◌≡◌, ℕ, List, ◌++◌}
+use Rattle.std.specs.Io.KnownBytes.{Appends}
+use Rattle.ot_sim.specs.Playing.{reply_lines}
 use Rattle.ot_sim.proofs.play.tell_replies.Given as goal
 
+-- what is written, and the lines of the rest behind it
 abbrev pub invariant-loop-reply : goal.invariant-loop-reply
 invariant-loop-reply g l =
-    (goal.iterator-loop-reply g).can_next l.reply-iterator
-    × (goal.iterator-loop-reply g).is_finite l.reply-iterator
+    (text : List ℕ)
+    × Appends (g.W.Sink.contents l.initial.sink) (g.W.Sink.contents l.sink) text
+    × (text ++ reply_lines l.name l.reply-iterator ≡ reply_lines l.name l.initial.reply-iterator)
     × (g.W.Sink.failures l.sink ≡ g.W.Sink.failures l.initial.sink)

@@ -1,11 +1,12 @@
-use Rattle.std.proofs.Common.{◌≡◌, ◌≤◌, length}
+use Rattle.std.proofs.Common.{◌≡◌}
 use Rattle.ot_front.specs.Device.{count_after}
+use Rattle.ot_sim.specs.Running.{Reads}
 use Rattle.ot_sim.proofs.session.converse.Given as goal
 
 abbrev pub invariant-loop : goal.invariant-loop
 invariant-loop g l =
-    (g.R.Source.reads l.source ≡ count_after l.counter (g.R.Source.reads l.initial.source))
+    Reads (g.R.Source.ahead l.initial.source) (g.R.Source.ahead l.source) (g.W.Sink.contents l.initial.sink) l.partial.items l.play (g.W.Sink.contents l.sink)
+    × (g.R.Source.reads l.source ≡ count_after l.counter (g.R.Source.reads l.initial.source))
     × (g.R.Source.failures l.source ≡ g.R.Source.failures l.initial.source)
     × (g.R.Source.ends l.source ≡ g.R.Source.ends l.initial.source)
     × (g.W.Sink.failures l.sink ≡ g.W.Sink.failures l.initial.sink)
-    × (length l.partial.items ≤ 65600)

@@ -1,0 +1,117 @@
+-- What a line does to the tenants and their world, and the text that it is answered.
+use Rattle.std.specs.Prelude.{◌≡◌, ℕ, ◌+◌, ◌-◌, ◌^◌, min, List, [], ◌∷◌, ◌++◌, map, length, drop, replicate, codes, is_some, ◌||◌, if◌then◌else◌, Bool, Option, Some, None, option_map, unwrap_or, slice_get}
+use Rattle.ot_store.specs.Usual.{usual_limits}
+use Rattle.ot_book.specs.Books.{new_register}
+use Rattle.ot_book.specs.Replies.{Told, text_of as reply_text}
+use Rattle.ot_core.specs.Accounts.{Account}
+use Rattle.ot_core.specs.Asking.{new_account}
+use Rattle.ot_core.specs.Floors.{new_floor, units_of, total_of}
+use Rattle.ot_core.specs.Given.{replies_of}
+use Rattle.ot_core.specs.Scenes.{Scene}
+use Rattle.ot_core.specs.Steps.{Steps}
+use Rattle.ot_core.specs.Draining.{Drains, AllAnswered}
+use Rattle.ot_core.specs.declared.event.Event.{Event}
+use Rattle.ot_core.specs.declared.event.Stepped.{Stepped}
+use Rattle.ot_sim.specs.declared.line.Line.{Line}
+use Rattle.ot_sim.specs.declared.line.Line.TheVariants as line
+use Rattle.ot_sim.specs.declared.answer.Answer.TheVariants as answer
+use Rattle.ot_sim.specs.declared.play.Play.{Play}
+use Rattle.ot_sim.specs.declared.play.Saying.{Saying}
+use Rattle.ot_sim.specs.declared.play.Saying.TheVariants as saying
+use Rattle.ot_sim.specs.Asking.{event_of, saying_of}
+use Rattle.ot_sim.specs.Lines.{said_of, line_of}
+use Rattle.ot_sim.specs.Tables.{is_barred, place_of}
+use Rattle.ot_sim.specs.Texts.{text_of}
+
+-- ---- the tenants, and their world
+
+-- nobody is there
+abbrev pub empty_play : Play
+empty_play = record { names = []; world = None }
+
+-- a tenant with the usual limits and no array, who asked nothing
+abbrev pub newcomer : List ℕ → Account
+newcomer name = new_account (new_register name usual_limits [])
+
+-- the world of these tenants where nothing has happened
+abbrev pub opening : List (List ℕ) → Scene
+opening names = record { accounts = map newcomer names; floor = new_floor (length names); hands = replicate 16 None }
+
+-- the world, which begins now where it hasn't before
+abbrev pub world_of : Play → Scene
+world_of p = unwrap_or p.world (opening p.names)
+
+-- ---- `tenant T`
+
+-- no tenant can be made of this name: the world has begun, or the name is barred
+abbrev pub is_late : Play → List ℕ → Bool
+is_late p name = is_some p.world || is_barred p.names name
+
+abbrev pub made : Play → List ℕ → Play
+made p name = record { names = p.names ++ name ∷ []; world = None }
+
+-- ---- replies
+
+-- the replies that a tenant was given
+abbrev pub replies_at : Scene → ℕ → List (ℕ × Told)
+replies_at s t = unwrap_or (option_map (λ a. replies_of a.book) (slice_get s.accounts t)) []
+
+-- how many, as far as a `usize` can tell
+abbrev pub count_at : Scene → ℕ → ℕ
+count_at s t = min (length (replies_at s t)) (2 ^ 64 - 1)
+
+-- a line for each reply, behind the tenant's name
+abbrev pub reply_lines : List ℕ → List (ℕ × Told) → List ℕ
+reply_lines name [] = []
+reply_lines name (r ∷ rs) = (name ++ codes " " ++ reply_text r.0 r.1 ++ codes "\n") ++ reply_lines name rs
+
+-- the reply that the tenant was given last
+abbrev pub last_reply : List ℕ → ℕ → Scene → List ℕ
+last_reply name t s = reply_lines name (drop (count_at s t - 1) (replies_at s t))
+
+-- the replies that the tenants were given since, one tenant after another; the first tenant has this number
+abbrev pub news : List (List ℕ) → ℕ → Scene → Scene → List ℕ
+news [] t old new = []
+news (name ∷ names) t old new = reply_lines name (drop (count_at old t) (replies_at new t)) ++ news names (t + 1) old new
+
+-- ---- lines
+
+-- what is told, as text
+abbrev pub said_text : Saying → Scene → List ℕ
+said_text (saying.Reply name t) s = last_reply name.now t s
+said_text (saying.Answer a) s = text_of a
+
+-- an event, where the line asks for one
+abbrev pub Happens : Line → Option Event → Scene → List ℕ → Scene → Type 0
+Happens line None old text new = (text ≡ text_of answer.BadLine) × (new ≡ old)
+Happens line (Some e) old text new = (stepped : Stepped) × Steps old e stepped new × (text ≡ said_text (saying_of line e stepped) new)
+
+abbrev pub usage_text : Line → Option ℕ → Scene → List ℕ
+usage_text (line.Usage name) (Some t) s = text_of (answer.Usage name (units_of s.floor t) (total_of s.floor))
+usage_text line t s = text_of answer.BadLine
+
+-- a line over a world
+abbrev pub PlaysIn : List (List ℕ) → Line → Scene → List ℕ → Scene → Type 0
+PlaysIn names line.Drain old text new =
+    Drains old new × AllAnswered new × (text ≡ text_of answer.Drain ++ news names 0 old new ++ text_of answer.Drained)
+PlaysIn names (line.Usage name) old text new = (text ≡ usage_text (line.Usage name) (place_of names name.now) old) × (new ≡ old)
+PlaysIn names line old text new = Happens line (event_of names line) old text new
+
+-- the world has begun, and the line went over it
+pub record PlaysOn (old : Play) (line : Line) (text : List ℕ) (new : Play) : Type 0 where
+  pub world : Scene
+  pub plays : PlaysIn old.names line (world_of old) text world
+  pub new_is : new ≡ record { names = old.names; world = Some world }
+
+abbrev pub Plays : Play → Line → List ℕ → Play → Type 0
+Plays old (line.Tenant name) text new =
+    (text ≡ (if is_late old name.now then text_of answer.BadLine else text_of (answer.Tenant name)))
+    × (new ≡ (if is_late old name.now then old else made old name.now))
+Plays old line.NoTenant text new = (text ≡ text_of answer.BadLine) × (new ≡ old)
+Plays old line text new = PlaysOn old line text new
+
+-- the bytes of a line, without its LF
+pub record PlaysLine (old : Play) (bytes text : List ℕ) (new : Play) : Type 0 where
+  pub line : Line
+  pub read : said_of line ≡ line_of bytes
+  pub plays : Plays old line text new
