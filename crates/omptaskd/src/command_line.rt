@@ -52,7 +52,11 @@ fn asked_for(matches: &ArgMatches<'_>) -> Words
     ensures { AsksFor (subcommand_rows_of matches.now) result }
 {
     let name = matches.subcommand_name().unwrap_or("solo");
-    if name == "sim" { Words::Sim } else { Words::Solo }
+    if name == "sim" {
+        Words::Sim
+    } else {
+        Words::Solo
+    }
 }
 
 fn program_command<'a>(alloc: Global) -> Result<Command<'a>, AllocError>
