@@ -1,0 +1,4 @@
+mod KeptLemmas
+mod TurnLemmas
+mod ShareLemmas
+mod SendLemmas

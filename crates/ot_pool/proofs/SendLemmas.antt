@@ -1,0 +1,48 @@
+-- The live jobs may go from thread to thread.
+use denote.RattleType.{RattleType}
+use denote.Param.Send.{IsSend, IsSync, sendable}
+use denote.Param.SendFields.{declared_send}
+use Rattle.std.specs.declared.sync.ledger.Ledger.{Ghosts}
+use Rattle.std.proofs.sync.ledger.Book.TheSendSync as ledger
+use Rattle.std.proofs.Crossing.{crosses}
+use Rattle.ot_depend.proofs.siblings.Siblings.TheSendSync as siblings
+use Rattle.ot_model.proofs.expr.Expr.TheLaws.TheKnot.{send-Expr}
+use Rattle.ot_model.proofs.stmt.Stmt.TheLaws.TheKnot.{send-Stmt}
+use Rattle.ot_check.specs.contracts.job.JobSpec as spec
+use Rattle.ot_job.specs.contracts.place.Place as place
+use Rattle.ot_job.specs.contracts.task.Running as running
+use Rattle.ot_job.specs.contracts.task.Task as task
+use Rattle.ot_job.specs.contracts.job.Job as job
+use Rattle.ot_core.specs.contracts.hall.Hall as hall
+use Rattle.ot_pool.specs.contracts.hub.Hub as hub
+use Rattle.ot_pool.specs.contracts.pool.Pool as pool
+use Rattle.ot_pool.specs.contracts.hub.Hub.TheInside as inside
+
+spec-send : IsSend spec.the_row
+spec-send = search (sendable, crosses, send-Expr, send-Stmt) depth 80 fits 20000
+
+place-send : IsSend place.the_row
+place-send = search (sendable, crosses, send-Expr, send-Stmt) depth 80 fits 20000
+
+running-send : IsSend running.the_row
+running-send = search (sendable, crosses, send-Expr, send-Stmt) depth 80 fits 20000
+
+task-send : IsSend task.the_row
+task-send = declared_send task.the_type (search (sendable, crosses) depth 80 fits 20000, (search (sendable, crosses) depth 80 fits 20000, (search (sendable, crosses) depth 80 fits 20000, (search (sendable, crosses, place-send) depth 80 fits 20000, (search (siblings.the_send, sendable, crosses) depth 80, (search (sendable, crosses) depth 80 fits 20000, (search (sendable, crosses) depth 80 fits 20000, (search (sendable, crosses, running-send) depth 80 fits 20000, tt))))))))
+
+job-send : IsSend job.the_row
+job-send = search (sendable, crosses, spec-send, task-send) depth 80 fits 20000
+
+hall-send : IsSend hall.the_row
+hall-send = search (sendable, crosses, job-send) depth 80 fits 20000
+
+-- and so may the value under their lock
+inside-send : (L : RattleType) (g : Ghosts L.Denot) → IsSend (inside.the_row L g)
+inside-send L g = declared_send (inside.the_type L g) (hall-send, (search (sendable, crosses) depth 80, (ledger.the_send L g, (search (sendable, crosses) depth 80, tt))))
+
+pub hub-send : (L : RattleType) (g : Ghosts L.Denot) → IsSend (hub.the_row L g)
+hub-send L g = record { owned = λ d vs x. ((inside-send L g).owned x.0 vs, tt); leaving = λ k d w. tt }
+
+-- the pool may be shared
+pub pool-sync : (L : RattleType) (g : Ghosts L.Denot) → IsSync (pool.the_row L g)
+pool-sync L g = search (sendable, crosses, hub-send) depth 80 fits 20000

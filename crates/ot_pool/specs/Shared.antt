@@ -1,0 +1,111 @@
+-- What all threads share, and what each turn under the lock does to it.
+use Rattle.std.specs.Prelude.{◌≡◌, ◌+◌, ◌<◌, ◌≤◌, ◌^◌, ◌↔◌, ◌⊎◌, ℕ, length, Bool, true, false, Option, Some, None, Result, Ok, Err}
+use Rattle.ot_check.specs.Jobs.{Spec}
+use Rattle.ot_check.specs.declared.job.Outcome.{Outcome}
+use Rattle.ot_job.specs.declared.piece.Done.{Done}
+use Rattle.ot_job.specs.declared.piece.Refused.{Refused}
+use Rattle.ot_book.specs.declared.executor.NotDone.{NotDone}
+use Rattle.ot_book.specs.declared.executor.NotDone.TheVariants.{Memory, Closed, Stranger}
+use Rattle.ot_core.specs.Index.{job_of}
+use Rattle.ot_core.specs.Floors as floors
+use Rattle.ot_core.specs.Floors.{Floor, new_floor, total_of, IsFree, IsAsBefore, RefusesIn, FailsIn, AbortsJob}
+use Rattle.ot_core.specs.Turns.{ClaimsSome, RunsShort}
+use Rattle.ot_core.specs.declared.hall.Collected.TheVariants as collected
+use Rattle.ot_pool.specs.declared.hub.Claimed.{Claimed}
+use Rattle.ot_pool.specs.declared.hub.Claimed.TheVariants as claimed
+
+-- the jobs and units of all tenants, and the mark of closing
+pub record Shared : Type 0 where
+  pub floor : Floor
+  pub closed : Bool
+
+-- nobody has a job, nothing was settled, and the mark isn't set
+abbrev pub new_shared : ℕ → Shared
+new_shared tenants = record { floor = new_floor tenants; closed = false }
+
+-- whether the total has room for the units of one more piece
+abbrev pub HasRoom : Floor → Type 0
+HasRoom f = total_of f + 20000 < 2 ^ 63
+
+-- What the type carries, of so many units in the ledger's book and so many tenants: the book has the total; where the mark isn't
+-- set there is room for one more piece; each tenant has its places.
+pub record IsKept (s : Shared) (units tenants : ℕ) : Type 0 where
+  pub counted : units ≡ total_of s.floor
+  pub room : s.closed ≡ false → HasRoom s.floor
+  pub jobs_many : length s.floor.jobs ≡ tenants
+  pub units_many : length s.floor.units ≡ tenants
+
+-- nothing has changed, for the mark is set
+pub record FindsClosed (old new : Shared) : Type 0 where
+  pub closed : old.closed ≡ true
+  pub same : new ≡ old
+
+-- the mark isn't set, and the floor alone changes
+pub record Turns (P : Floor → Floor → Type 0) (old new : Shared) : Type 0 where
+  pub is_open : old.closed ≡ false
+  pub does : P old.floor new.floor
+  pub still : new.closed ≡ false
+
+-- ---- submit
+
+-- the tenant has a job of this spec that begins
+abbrev pub Submits : Shared → ℕ → Spec → Shared → Type 0
+Submits old t spec new = Turns (λ f g. floors.Submits f t spec g) old new
+
+-- why a spec isn't taken
+abbrev pub Refuses : Shared → ℕ → NotDone → Type 0
+Refuses old t Closed = old.closed ≡ true
+Refuses old t Stranger = (old.closed ≡ false) × ¬ (IsFree old.floor t)
+Refuses old t Memory = (old.closed ≡ false) × IsFree old.floor t
+
+-- ---- claim
+
+-- memory ran out at a claim of the tenant's job, which works, and so it fails
+pub record Aborts (t : ℕ) (old new : Floor) : Type 0 where
+  pub mid : Floor
+  pub short : RunsShort old t mid
+  pub aborts : AbortsJob mid t new
+
+-- a piece of some tenant, where a tenant has a claimable task
+abbrev pub Claims : Shared → ℕ → Claimed → Shared → Type 0
+Claims old turn (claimed.Got t piece) new = Turns (λ f g. ClaimsSome f turn (Some (t, piece)) g) old new
+Claims old turn claimed.Idle new = Turns (λ f g. ClaimsSome f turn None g) old new
+Claims old turn (claimed.Aborted t) new = Turns (Aborts t) old new
+Claims old turn claimed.Closed new = FindsClosed old new
+
+-- ---- settle
+
+-- A piece is settled, and its units are counted. The mark is set where there is no room for one more.
+pub record Settles (old : Shared) (t : ℕ) (done : Done) (n : ℕ) (new : Shared) : Type 0 where
+  pub is_open : old.closed ≡ false
+  pub settles : floors.Settles old.floor t done n new.floor
+  pub bound : new.closed ≡ false ↔ HasRoom new.floor
+
+-- a piece isn't settled, and fails the job that it is of
+pub record Breaks (t : ℕ) (done : Done) (old new : Floor) : Type 0 where
+  pub why : Refused
+  pub refused : RefusesIn (job_of old.jobs t) done why
+  pub mid : Floor
+  pub before : IsAsBefore old t mid
+  pub fails : FailsIn mid t done (job_of mid.jobs t) new
+
+-- in a closed pool a piece fails the job that it is of, whatever it is
+pub record FailsClosed (old : Shared) (t : ℕ) (done : Done) (new : Shared) : Type 0 where
+  pub closed : old.closed ≡ true
+  pub fails : FailsIn old.floor t done (job_of old.floor.jobs t) new.floor
+  pub still : new.closed ≡ true
+
+-- a piece comes back with so many units counted, or with none
+abbrev pub Takes : Shared → ℕ → Done → Option ℕ → Shared → Type 0
+Takes old t done (Some n) new = Settles old t done n new
+Takes old t done None new = Turns (Breaks t done) old new ⊎ FailsClosed old t done new
+
+-- ---- collect
+
+-- whoever submitted this spec asks for its job
+abbrev pub Collects : Shared → ℕ → Spec → Option (Result Outcome NotDone) → Shared → Type 0
+Collects old t spec None new = Turns (λ f g. floors.Collects f t spec collected.Pending g) old new
+Collects old t spec (Some (Ok outcome)) new = Turns (λ f g. floors.Collects f t spec (collected.Ended outcome) g) old new
+Collects old t spec (Some (Err Memory)) new = Turns (λ f g. floors.Collects f t spec collected.Failed g) old new
+Collects old t spec (Some (Err Stranger)) new = Turns (λ f g. floors.Collects f t spec collected.Stranger g) old new
+Collects old t spec (Some (Err Closed)) new = FindsClosed old new

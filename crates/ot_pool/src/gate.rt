@@ -1,0 +1,13 @@
+/// What a worker passes with each piece, after it was claimed and before it is run. No lock is held there.
+pub trait Gate {
+    /// Called once for each piece: the worker's number, the tenant's, and the task's in its job.
+    fn pass(&mut self, worker: u32, tenant: u32, task: u32);
+}
+
+/// Lets every piece through at once.
+#[derive(Clone, Copy, Debug, PartialEq, Eq)]
+pub struct OpenGate;
+
+impl Gate for OpenGate {
+    fn pass(&mut self, _worker: u32, _tenant: u32, _task: u32) {}
+}
