@@ -9,6 +9,8 @@ pub mod EqualLemmas
 pub mod GridLemmas
 pub mod NumberLemmas
 pub mod DeclaredLemmas
+pub mod BlockLemmas
+pub mod ClashLemmas
 pub mod RowLemmas
 pub mod TaskLemmas
 pub mod RegionLemmas

@@ -56,13 +56,16 @@ max_one (suc zero) (suc (suc y)) l m = absurd (omega (arith, m))
 max_one (suc (suc x)) y l m = absurd (omega (arith, l))
 
 -- the bits of both
+pub or-one : (a b j : ℕ) → (bit_at (bit_or a b) j == 1) ≡ ((bit_at a j == 1) || (bit_at b j == 1))
+or-one a b j =
+    let one : ℕ = bit_at a j in
+    let other : ℕ = bit_at b j in
+    ap (λ n. n == 1) (bit_at_or a b j) ∙ max_one one other (omega arith) (omega arith)
+
 pub bit_in-join : (words others new : List ℕ) → ((i : ℕ) → get_or new i 0 ≡ bit_or (get_or words i 0) (get_or others i 0)) → (k : ℕ)
     → bit_in new k ≡ (bit_in words k || bit_in others k)
 bit_in-join words others new joined k =
-    let a : ℕ = bit_at (get_or words (k / 64) 0) (k % 64) in
-    let b : ℕ = bit_at (get_or others (k / 64) 0) (k % 64) in
-    ap (λ w. bit_at w (k % 64) == 1) (joined (k / 64)) ∙ ap (λ b. b == 1) (bit_at_or (get_or words (k / 64) 0) (get_or others (k / 64) 0) (k % 64))
-    ∙ max_one a b (omega arith) (omega arith)
+    ap (λ w. bit_at w (k % 64) == 1) (joined (k / 64)) ∙ or-one (get_or words (k / 64) 0) (get_or others (k / 64) 0) (k % 64)
 
 -- more words of no bit
 pub get_or-zeros : (xs : List ℕ) (n i : ℕ) → get_or (xs ++ replicate n 0) i 0 ≡ get_or xs i 0

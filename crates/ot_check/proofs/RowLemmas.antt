@@ -1,16 +1,15 @@
 -- Rows of users and of words.
-use Rattle.std.proofs.Common.{◌≡◌, ◌≢◌, ◌==◌, ℕ, zero, suc, ◌<◌, ◌++◌, ◌&&◌, ◌||◌, Bool, true, false, List, [], ◌∷◌, length, map, set, get_or, refl, sym, ap, subst, ◌∙◌, inl, inr, arith}
-use Rattle.std.specs.Prelude.{Option, Some, None, IsSome, slice_get, option_map, option_and_then, replicate}
+use Rattle.std.proofs.Common.{◌≡◌, ◌≢◌, ◌==◌, ℕ, zero, suc, ◌-◌, ◌<◌, ◌++◌, ◌&&◌, ◌||◌, Bool, true, false, List, [], ◌∷◌, length, map, set, get_or, refl, sym, ap, subst, ◌∙◌, inl, inr, arith}
+use Rattle.std.specs.Prelude.{Option, Some, None, IsSome, slice_get, option_map, option_and_then, replicate, unwrap_or}
 use Rattle.std.proofs.lemmas.Bool.{cases_eq}
 use Rattle.std.proofs.lemmas.Option.{slice_get-map, slice_get_within}
 use Rattle.ot_model.specs.Cells.{same_cell}
 use Rattle.ot_model.specs.declared.expr.Cell.{Cell}
 use Rattle.ot_check.specs.walk.Grids.{found_at, filled, widths}
-use Rattle.ot_check.specs.walk.Rows.{users_of, users_in, HaveRows}
+use Rattle.ot_check.specs.walk.Rows.{users_of, users_of_row, users_in, HaveRows}
 use Rattle.ot_check.specs.walk.Bits.{bit_in, has}
-use Rattle.ot_check.specs.walk.States.{row_has}
+use Rattle.ot_check.specs.walk.States.{row_has, users_at}
 use Rattle.ot_check.specs.declared.numbers.Numbers.{Numbers}
-use Rattle.ot_check.specs.declared.users.User.{User}
 use Rattle.ot_check.specs.declared.users.Row.{Row}
 use Rattle.ot_check.proofs.SameLemmas.{eq_itself, eq_apart, cells_equal}
 use Rattle.ot_check.proofs.GridLemmas.{found_at-filled, slice_get-set_same, slice_get-set_other}
@@ -69,6 +68,12 @@ slice_get-front (y ∷ xs) x (suc i) l = slice_get-front xs x i (omega (arith, l
 some-injective : {A : Type 0} (x y : A) → Some x ≡ Some y → x ≡ y
 some-injective x y h = cc
 
+-- what the row of a cell tells
+pub users-read : (rows : List Row) (places : List (List ℕ)) (cell : Cell) (place : ℕ) → found_at places cell ≡ Some place
+    → users_at (map (map (users_in rows)) places) cell ≡ users_in rows place
+users-read rows places cell place found =
+    ap (λ o. unwrap_or o []) (found_at-map (users_in rows) places cell ∙ ap (option_map (users_in rows)) found)
+
 -- a row that is read where it is known
 pub row-read : (rows : List Row) (i : ℕ) (row : Row) → i < length rows → row ≡ get_or rows i row → slice_get rows i ≡ Some row
 row-read [] i row l is = absurd (omega (arith, l))
@@ -80,7 +85,7 @@ module _ (rows : List Row) (places : List (List ℕ)) (have : HaveRows rows plac
   place-within c place found = let r = have c place found in slice_get_within rows place r.0 r.1
 
   -- a row of its own for a cell without one
-  module _ (new : List (List ℕ)) (cell : Cell) (users : List User) (row : Row) (is_cell : row.cell ≡ cell) (are : row.users.items ≡ users)
+  module _ (new : List (List ℕ)) (cell : Cell) (row : Row) (is_cell : row.cell ≡ cell)
       (here : found_at new cell ≡ Some (suc (length rows))) (others : (other : Cell) → cell ≢ other → found_at new other ≡ found_at places other) where
     pub have-pushed : HaveRows (rows ++ row ∷ []) new
     have-pushed c place found =
@@ -100,18 +105,26 @@ module _ (rows : List Row) (places : List (List ℕ)) (have : HaveRows rows plac
     users-kept c (Some zero) is = refl
     users-kept c (Some (suc place)) is = ap (λ r. Some (users_of r)) (slice_get-front rows row place (place-within c place is))
 
-    pub pushed-here : found_at (map (map (users_in (rows ++ row ∷ []))) new) cell ≡ Some users
-    pushed-here =
-        found_at-map (users_in (rows ++ row ∷ [])) new cell ∙ ap (option_map (users_in (rows ++ row ∷ []))) here
-        ∙ ap (λ r. Some (users_of r)) (slice_get-last rows row) ∙ ap Some are
+    pub pushed-here : users_at (map (map (users_in (rows ++ row ∷ []))) new) cell ≡ users_of_row row
+    pushed-here = users-read (rows ++ row ∷ []) new cell (suc (length rows)) here ∙ ap users_of (slice_get-last rows row)
 
     pub pushed-others : (c : Cell) → cell ≢ c → found_at (map (map (users_in (rows ++ row ∷ []))) new) c ≡ found_at (map (map (users_in rows)) places) c
     pushed-others c apart =
         found_at-map (users_in (rows ++ row ∷ [])) new c ∙ ap (option_map (users_in (rows ++ row ∷ []))) (others c apart)
         ∙ users-kept c (found_at places c) refl ∙ sym (found_at-map (users_in rows) places c)
 
-  -- another list in the row of a cell
-  module _ (cell : Cell) (at : ℕ) (row new : Row) (here : found_at places cell ≡ Some (suc at)) (read : slice_get rows at ≡ Some row) (same : new.cell ≡ row.cell) where
+  -- another row in place of that of a cell
+  module _ (cell : Cell) (number : ℕ) (row new : Row) (positive : 0 < number) (here : found_at places cell ≡ Some number)
+      (value : row ≡ get_or rows (number - 1) row) (same : new.cell ≡ row.cell) where
+    abbrev at : ℕ
+    at = number - 1
+
+    numbered : found_at places cell ≡ Some (suc at)
+    numbered = let e : suc at ≡ number = omega (arith, positive) in here ∙ ap Some (sym e)
+
+    read : slice_get rows at ≡ Some row
+    read = row-read rows at row (place-within cell at numbered) value
+
     set-there : slice_get (set rows at new) at ≡ Some new
     set-there = slice_get-set_same rows at new (subst IsSome (sym read) refl)
 
@@ -132,18 +145,17 @@ module _ (rows : List Row) (places : List (List ℕ)) (have : HaveRows rows plac
         elim (cases_eq at place) [
           | inl e ↦
               let r = have c place is in
-              let q = have cell at here in
+              let q = have cell at numbered in
               let one : r.0 ≡ q.0 = some-injective r.0 q.0 (sym r.1 ∙ ap (slice_get rows) (sym e) ∙ q.1) in
               absurd (apart (sym q.2 ∙ ap (λ r. r.cell) (sym one) ∙ r.2))
           | inr other ↦ ap (λ r. Some (users_of r)) (slice_get-set_other rows at place new other)
         ]
 
-    pub set-here : found_at (map (map (users_in (set rows at new))) places) cell ≡ Some new.users.items
-    set-here =
-        found_at-map (users_in (set rows at new)) places cell ∙ ap (option_map (users_in (set rows at new))) here ∙ ap (λ r. Some (users_of r)) set-there
+    pub set-here : users_at (map (map (users_in (set rows at new))) places) cell ≡ users_of_row new
+    set-here = users-read (set rows at new) places cell (suc at) numbered ∙ ap users_of set-there
 
-    pub set-old : found_at (map (map (users_in rows)) places) cell ≡ Some row.users.items
-    set-old = found_at-map (users_in rows) places cell ∙ ap (option_map (users_in rows)) here ∙ ap (λ r. Some (users_of r)) read
+    pub set-old : users_at (map (map (users_in rows)) places) cell ≡ users_of_row row
+    set-old = users-read rows places cell (suc at) numbered ∙ ap users_of read
 
     pub set-others : (c : Cell) → cell ≢ c → found_at (map (map (users_in (set rows at new))) places) c ≡ found_at (map (map (users_in rows)) places) c
     set-others c apart =

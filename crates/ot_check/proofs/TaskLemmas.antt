@@ -1,6 +1,6 @@
 -- Whom a use meets: as tasks are passed, and as children are awaited and created.
 use Rattle.std.proofs.Common.{◌≡◌, ◌≢◌, ℕ, ◌+◌, ◌<◌, ◌++◌, ◌&&◌, ◌||◌, Bool, true, false, List, [], ◌∷◌, length, take, get_or, refl, sym, ap, subst, ◌∙◌, inl, inr, arith}
-use Rattle.std.specs.Prelude.{Option, Some, None, IsSome, option_map, unwrap_or}
+use Rattle.std.specs.Prelude.{Option, Some, None, unwrap_or}
 use Rattle.std.specs.List.{list_any}
 use Rattle.std.proofs.lemmas.List.{take_more}
 use Rattle.std.proofs.lemmas.List.Folds.{list_any-append}
@@ -54,20 +54,15 @@ met-join one other both users u joined =
 
 -- ---- one more user of a cell
 
-behind_users : (o : Option (List User)) (v : User) → IsSome o → unwrap_or (option_map (λ users. users ++ v ∷ []) o) [] ≡ unwrap_or o [] ++ v ∷ []
-behind_users None v there = cc
-behind_users (Some users) v there = refl
-
-pub met-entered : (old new : List (List (List User))) (cell : Cell) (v : User) → IsSome (found_at old cell)
-    → found_at new cell ≡ option_map (λ users. users ++ v ∷ []) (found_at old cell) → ((other : Cell) → cell ≢ other → found_at new other ≡ found_at old other)
+pub met-entered : (old new : List (List (List User))) (cell : Cell) (v : User)
+    → ((test : User → Bool) → list_any test (users_at new cell) ≡ (list_any test (users_at old cell) || test v))
+    → ((other : Cell) → cell ≢ other → found_at new other ≡ found_at old other)
     → (numbers : Numbers) (u : Use) → met numbers new u ≡ (met numbers old u || (same_cell cell u.cell && (has numbers v.task && conflicts v.mode u.mode)))
-met-entered old new cell v there entered others numbers u =
+met-entered old new cell v entered others numbers u =
     let test : User → Bool = λ v. has numbers v.task && conflicts v.mode u.mode in
     elim (cells_equal cell u.cell) [
       | inl is ↦
-          let row : users_at new u.cell ≡ users_at old u.cell ++ v ∷ [] =
-          subst (λ c. users_at new c ≡ users_at old c ++ v ∷ []) is (ap (λ o. unwrap_or o []) entered ∙ behind_users (found_at old cell) v there) in
-          ap (list_any test) row ∙ list_any-append test (users_at old u.cell) (v ∷ []) ∙ ap (λ b. met numbers old u || b) (or_none (test v))
+          subst (λ c. list_any test (users_at new c) ≡ (list_any test (users_at old c) || test v)) is (entered test)
           ∙ ap (λ b. met numbers old u || (b && test v)) (sym (ap (same_cell cell) (sym is) ∙ same_itself cell))
       | inr apart ↦
           ap (λ o. list_any test (unwrap_or o [])) (others u.cell apart) ∙ sym (or_none (met numbers old u))
@@ -152,6 +147,3 @@ met-first lens users are numbers u =
     ap (λ users. met numbers users u) are
     ∙ ap (list_any (λ v. has numbers v.task && conflicts v.mode u.mode))
     (no-users (found_at (filled [] lens) u.cell) (λ row found. found_at-filled [] row lens u.cell.array u.cell.index found))
-
-pub users_found : (users : List (List (List User))) (c : Cell) (row : List User) → found_at users c ≡ Some row → row ≡ users_at users c
-users_found users c row found = sym (ap (λ o. unwrap_or o []) found)

@@ -1,6 +1,7 @@
 //! Checks that a program can't race, and hands it on as checked.
 #![tactic(auto)]
 
+mod block;
 mod checked;
 mod checking;
 mod declared;

@@ -30,6 +30,16 @@ impl Numbers {
         }
     }
 
+    /// The numbers from 64 times this place on, as the bits of a word.
+    pub(crate) fn word(&self, place: u32) -> u64
+        ensures { result ≡ get_or self.now.words.items place 0 }
+    {
+        match self.words.get(place as usize) {
+            Some(word) => *word,
+            None => 0,
+        }
+    }
+
     /// Puts a number among them.
     pub(crate) fn insert(&mut self, number: u32) -> Result<(), AllocError>
         ensures { OnOk result ((k : ℕ) → has self.new k ≡ (has self.old k || (k == number))) }

@@ -40,12 +40,7 @@ impl Tasks {
         requires { IsInShape (widths self.now.users) used.cell }
         ensures { result ≡ met numbers.now self.now.users used }
     {
-        for user in self.users.at(used.cell) {
-            if user.clashes(numbers, used) {
-                return true;
-            }
-        }
-        false
+        self.users.clash(numbers, used)
     }
 
     /// One task more, and its number.

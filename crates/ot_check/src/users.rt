@@ -1,6 +1,9 @@
-ghost use Rattle.std.specs.Prelude.{◌≡◌, IfOk, map};
+ghost use Rattle.std.specs.Prelude.{◌≡◌, ◌||◌, Bool, IfOk, OnOk};
+ghost use Rattle.std.specs.List.{list_any};
+ghost use Rattle.ot_check.specs.declared.users.User.{User};
 ghost use Rattle.ot_check.specs.walk.Grids.{found_at, filled, widths};
 
+use crate::block::Block;
 use crate::numbers::Numbers;
 use crate::table::Table;
 use ot_model::{ArrayShape, Cell, Mode, Use};
@@ -14,24 +17,60 @@ pub(crate) struct User {
     pub(crate) mode: Mode,
 }
 
-impl User {
-    ghost use Rattle.std.specs.Prelude.{◌&&◌};
-    ghost use Rattle.ot_model.specs.Uses.{conflicts};
-    ghost use Rattle.ot_check.specs.walk.Bits.{has};
-
-    /// Whether it is among these tasks and declares the cell in conflict with a use of it.
-    pub(crate) fn clashes(self, tasks: &Numbers, used: Use) -> bool
-        ensures { result ≡ (has tasks.now self.task && conflicts self.mode used.mode) }
-    {
-        tasks.has(self.task) && self.mode.conflicts(used.mode)
-    }
-}
-
 /// The tasks that declare a cell.
 #[derive(Debug, Drop)]
 pub(crate) struct Row {
     cell: Cell,
-    users: Vec<User>,
+    /// Those of earlier places.
+    earlier: Vec<Block>,
+    /// Those of the latest place.
+    latest: Block,
+}
+
+impl Row {
+    ghost use Rattle.std.specs.Prelude.{◌&&◌};
+    ghost use Rattle.ot_model.specs.Uses.{conflicts};
+    ghost use Rattle.ot_check.specs.walk.Bits.{has};
+    ghost use Rattle.ot_check.specs.walk.Rows.{users_of_row};
+
+    /// One task alone. It takes no memory.
+    fn of(alloc: Global, cell: Cell, user: User) -> Row
+        ensures cell { result.cell ≡ cell }
+        ensures users { (test : User → Bool) → list_any test (users_of_row result) ≡ test user }
+    {
+        Row {
+            cell,
+            earlier: Vec::new(alloc),
+            latest: Block::of(user),
+        }
+    }
+
+    /// Puts a task among them.
+    fn enter(&mut self, user: User) -> Result<(), AllocError>
+        ensures cell { self.new.cell ≡ self.old.cell }
+        ensures users { OnOk result ((test : User → Bool) → list_any test (users_of_row self.new) ≡ (list_any test (users_of_row self.old) || test user)) }
+    {
+        if self.latest.place == user.task / 64 {
+            self.latest.insert(user);
+            return Ok(());
+        }
+        self.earlier.push(self.latest)?;
+        self.latest = Block::of(user);
+        Ok(())
+    }
+
+    /// Whether one of them is among these tasks and declares the cell in conflict with this mode.
+    /// It looks at 64 tasks at once.
+    fn clashes(&self, tasks: &Numbers, mode: Mode) -> bool
+        ensures { result ≡ list_any (λ v. has tasks.now v.task && conflicts v.mode mode) (users_of_row self.now) }
+    {
+        for block in &self.earlier {
+            if block.clashes(tasks, mode) {
+                return true;
+            }
+        }
+        self.latest.clashes(tasks, mode)
+    }
 }
 
 /// For each cell of a shape the tasks that declare it.
@@ -55,9 +94,10 @@ impl Model for Users {
 }
 
 impl Users {
-    ghost use Rattle.std.specs.Prelude.{◌≢◌, ◌∷◌, ◌++◌, [], IsSome, Some, OnOk, option_map};
+    ghost use Rattle.std.specs.Prelude.{◌≢◌, [], IsSome, map};
     ghost use Rattle.ot_model.specs.ShapeView.{arrays_of};
     ghost use Rattle.ot_model.specs.declared.expr.Cell.{Cell};
+    ghost use Rattle.ot_check.specs.walk.States.{met, users_at};
 
     /// No task declares a cell of these arrays.
     pub(crate) fn new(alloc: Global, arrays: &[ArrayShape]) -> Result<Users, AllocError>
@@ -70,33 +110,27 @@ impl Users {
         })
     }
 
-    /// The tasks that declare a cell that is there.
-    pub(crate) fn at(&self, cell: Cell) -> &[User]
-        requires { IsSome (found_at self.now cell) }
-        ensures { found_at self.now cell ≡ Some result.now }
+    /// Whether one of these tasks declares a cell that is there in conflict with a use of it.
+    pub(crate) fn clash(&self, tasks: &Numbers, used: Use) -> bool
+        requires { IsSome (found_at self.now used.cell) }
+        ensures { result ≡ met tasks.now self.now used }
     {
-        let place = self.places.at(cell);
-        if place == 0 {
-            return &[];
-        }
-        self.rows[place - 1].users.as_slice()
+        let place = self.places.at(used.cell);
+        place > 0 && self.rows[place - 1].clashes(tasks, used.mode)
     }
 
-    /// Puts a task behind those that declare a cell that is there.
+    /// Puts a task among those that declare a cell that is there.
     pub(crate) fn enter(&mut self, alloc: Global, cell: Cell, user: User) -> Result<(), AllocError>
         requires { IsSome (found_at self.old cell) }
         ensures widths { OnOk result (widths self.new ≡ widths self.old) }
-        ensures there { OnOk result (found_at self.new cell ≡ option_map (λ users. users ++ user ∷ []) (found_at self.old cell)) }
+        ensures there { OnOk result ((test : User → Bool) → list_any test (users_at self.new cell) ≡ (list_any test (users_at self.old cell) || test user)) }
         ensures others { OnOk result ((other : Cell) → cell ≢ other → found_at self.new other ≡ found_at self.old other) }
     {
         let place = self.places.at(cell);
         if place > 0 {
-            self.rows[place - 1].users.push(user)?;
-            return Ok(());
+            return self.rows[place - 1].enter(user);
         }
-        let mut users = Vec::new(alloc);
-        users.push(user)?;
-        self.rows.push(Row { cell, users })?;
+        self.rows.push(Row::of(alloc, cell, user))?;
         let last = self.rows.len();
         self.places.set(cell, last);
         Ok(())

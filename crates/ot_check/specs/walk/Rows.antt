@@ -1,14 +1,41 @@
 -- Rows of users, and where the row of a cell is.
-use Rattle.std.specs.Prelude.{◌≡◌, ℕ, zero, suc, List, [], Option, Some, None, slice_get}
+use Rattle.std.specs.Prelude.{◌≡◌, ◌==◌, ℕ, zero, suc, ◌+◌, ◌*◌, Bool, ◌&&◌, ◌||◌, if◌then◌else◌, List, [], ◌∷◌, ◌++◌, Option, Some, None, slice_get, flat_map}
+use Rattle.std.specs.Int.{bit_at}
 use Rattle.ot_model.specs.declared.expr.Cell.{Cell}
+use Rattle.ot_model.specs.declared.stmt.Mode.{Mode}
+use Rattle.ot_model.specs.declared.stmt.Mode.TheVariants.{Reads, Writes, Adds}
+use Rattle.ot_model.specs.Uses.{conflicts}
 use Rattle.ot_check.specs.walk.Grids.{found_at}
+use Rattle.ot_check.specs.declared.block.Block.{Block}
 use Rattle.ot_check.specs.declared.users.User.{User}
 use Rattle.ot_check.specs.declared.users.Row.{Row}
+
+-- the task that a bit of a word stands for, 64 in a word
+abbrev pub user_at : ℕ → Mode → ℕ → User
+user_at place mode j = record { task = place * 64 + j; mode = mode }
+
+-- the tasks of the bits below n
+unfoldable pub users_below : ℕ → Mode → ℕ → ℕ → List User
+users_below place mode word zero = []
+users_below place mode word (suc j) =
+    if bit_at word j == 1 then user_at place mode j ∷ users_below place mode word j else users_below place mode word j
+
+abbrev pub users_of_block : Block → List User
+users_of_block block =
+    users_below block.place Reads block.reads 64 ++ users_below block.place Writes block.writes 64 ++ users_below block.place Adds block.adds 64
+
+-- whether the task of a bit declares the cell in conflict with this mode
+abbrev pub is_against : Block → Mode → ℕ → Bool
+is_against block mode j =
+    ((bit_at block.reads j == 1) && conflicts Reads mode) || (((bit_at block.writes j == 1) && conflicts Writes mode) || ((bit_at block.adds j == 1) && conflicts Adds mode))
+
+abbrev pub users_of_row : Row → List User
+users_of_row row = flat_map users_of_block row.earlier.items ++ users_of_block row.latest
 
 -- the users that a row tells, if there is one
 abbrev pub users_of : Option Row → List User
 users_of None = []
-users_of (Some row) = row.users.items
+users_of (Some row) = users_of_row row
 
 -- those of the row with this number, from 1 on
 abbrev pub users_in : List Row → ℕ → List User

@@ -18,8 +18,6 @@ loop-used-preserved c = (
   one-entered c.args.self.now.users c.loop-used.self.users c.enter.new.self c.args.self.now.passed c.uses-used-items.result.now c.loop-used.used-index _ _
       c.loop-used-test.true c.loop-used.invariant.2 refl refl
       (met-entered c.loop-used.self.users c.enter.new.self _ _
-      (use_there c.loop-used.self.users c.args.self.now.users c.args.decl.now c.uses-used-items.result.now c.loop-used.used-index _
-      c.requires.declared c.uses-used-items.ensures.uses c.loop-used.invariant.0 c.loop-used-test.true)
       c.in_ok-enter.ensures.there c.in_ok-enter.ensures.others),
 )
 

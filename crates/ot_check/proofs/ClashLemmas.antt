@@ -1,0 +1,167 @@
+-- Blocks of users: whose bits an `and` finds.
+use Rattle.std.proofs.Common.{◌≡◌, ◌≢◌, ◌==◌, ℕ, zero, ◌+◌, ◌*◌, ◌/◌, ◌%◌, ◌^◌, ◌<◌, min, Bool, true, false, not, ◌&&◌, ◌||◌, List, [], ◌∷◌, get_or, refl, sym, ap, ◌∙◌, inl, inr, arith, w64}
+use Rattle.std.specs.Prelude.{bit_and, bit_or, flat_map}
+use Rattle.std.specs.Int.{bit_at, trailing_zeros}
+use Rattle.std.specs.List.{list_any}
+use Rattle.std.proofs.lemmas.List.Concat.{flat_map-cons}
+use Rattle.std.proofs.lemmas.List.Folds.{list_any-append}
+use Rattle.std.proofs.lemmas.Nat.{and_le_r}
+use Rattle.std.proofs.lemmas.Nat.Bits.{bit_at_and, bit_at-zero, bit_at-lt, bit_at-trailing_zeros}
+use Rattle.ot_model.specs.Uses.{conflicts}
+use Rattle.ot_model.specs.declared.stmt.Mode.{Mode}
+use Rattle.ot_model.specs.declared.stmt.Mode.TheVariants.{Reads, Writes, Adds}
+use Rattle.ot_check.specs.walk.Bits.{bit_in}
+use Rattle.ot_check.specs.walk.Rows.{users_below, users_of_block, users_of_row, is_against}
+use Rattle.ot_check.specs.declared.block.Block.{Block}
+use Rattle.ot_check.specs.declared.users.User.{User}
+use Rattle.ot_check.specs.declared.users.Row.{Row}
+use Rattle.ot_check.proofs.Bits.{or_more, or_true, true_or, or_right, and_left, and_right, and_true}
+use Rattle.ot_check.proofs.SameLemmas.{eq_apart}
+use Rattle.ot_check.proofs.NumberLemmas.{or-one}
+use Rattle.ot_check.proofs.BlockLemmas.{both_same, is_one, one_is, below-has, below-found, any-three}
+
+-- ---- whose declarations conflict with a mode
+
+reads_against : (r w a : Bool) → (w || a) ≡ ((r && false) || ((w && true) || (a && true)))
+reads_against true true a = refl
+reads_against true false true = refl
+reads_against true false false = refl
+reads_against false true a = refl
+reads_against false false true = refl
+reads_against false false false = refl
+
+writes_against : (r w a : Bool) → ((r || w) || a) ≡ ((r && true) || ((w && true) || (a && true)))
+writes_against true w a = refl
+writes_against false true a = refl
+writes_against false false true = refl
+writes_against false false false = refl
+
+adds_against : (r w a : Bool) → (r || w) ≡ ((r && true) || ((w && true) || (a && false)))
+adds_against true w a = refl
+adds_against false true a = refl
+adds_against false false true = refl
+adds_against false false false = refl
+
+module _ (block : Block) (j : ℕ) where
+  pub against-reads : (bit_at (bit_or block.writes block.adds) j == 1) ≡ is_against block Reads j
+  against-reads = or-one block.writes block.adds j ∙ reads_against (bit_at block.reads j == 1) (bit_at block.writes j == 1) (bit_at block.adds j == 1)
+
+  pub against-writes : (bit_at (bit_or (bit_or block.reads block.writes) block.adds) j == 1) ≡ is_against block Writes j
+  against-writes =
+      or-one (bit_or block.reads block.writes) block.adds j ∙ ap (λ b. b || (bit_at block.adds j == 1)) (or-one block.reads block.writes j)
+      ∙ writes_against (bit_at block.reads j == 1) (bit_at block.writes j == 1) (bit_at block.adds j == 1)
+
+  pub against-adds : (bit_at (bit_or block.reads block.writes) j == 1) ≡ is_against block Adds j
+  against-adds = or-one block.reads block.writes j ∙ adds_against (bit_at block.reads j == 1) (bit_at block.writes j == 1) (bit_at block.adds j == 1)
+
+-- ---- bits in common
+
+bit_here : (words : List ℕ) (place j : ℕ) → j < 64 → bit_in words (place * 64 + j) ≡ (bit_at (get_or words place 0) j == 1)
+bit_here words place j l =
+    let d : (place * 64 + j) / 64 ≡ place = omega arith in
+    let r : (place * 64 + j) % 64 ≡ j = omega arith in
+    ap (λ i. bit_at (get_or words i 0) ((place * 64 + j) % 64) == 1) d ∙ ap (λ i. bit_at (get_or words place 0) i == 1) r
+
+-- a bit of both words is one that both have in common
+common-at : (a b j : ℕ) → bit_at a j ≡ 1 → bit_at b j ≡ 1 → not (bit_and a b == 0) ≡ true
+common-at a b j here there =
+    let one : bit_at (bit_and a b) j ≡ 1 = bit_at_and a b j ∙ ap (λ x. min x (bit_at b j)) here ∙ ap (min 1) there in
+    let apart : bit_and a b ≢ 0 = λ e. let o : zero ≡ 1 = sym (bit_at-zero j) ∙ ap (λ n. bit_at n j) (sym e) ∙ one in absurd (omega (arith, o)) in
+    ap not (eq_apart (bit_and a b) 0 apart)
+
+min_one : (x y : ℕ) → min x y ≡ 1 → x < 2 → y < 2 → (x ≡ 1) × (y ≡ 1)
+min_one x y h l m = (omega (arith, h, l, m), omega (arith, h, l, m))
+
+common-found : (a b : ℕ) → b < 2 ^ 64 → not (bit_and a b == 0) ≡ true → (j : ℕ) × (j < 64) × (bit_at a j ≡ 1) × (bit_at b j ≡ 1)
+common-found a b l h =
+    let n : ℕ = bit_and a b in
+    let apart : n ≢ 0 = λ e. let f : false ≡ true = sym (ap not (ap (λ n. n == 0) e)) ∙ h in cc in
+    let t = bit_at-trailing_zeros w64 n (omega (arith, apart)) (omega (arith, l, and_le_r a b)) in
+    let j : ℕ = trailing_zeros w64 n in
+    let both = min_one (bit_at a j) (bit_at b j) (sym (bit_at_and a b j) ∙ t.1) (bit_at-lt a j) (bit_at-lt b j) in
+    (j, t.0, both.0, both.1)
+
+-- among the tasks of these words, in conflict with this mode
+abbrev pub clashing : List ℕ → Mode → User → Bool
+clashing words wanted v = bit_in words v.task && conflicts v.mode wanted
+
+below-clash : (words : List ℕ) (wanted : Mode) (place : ℕ) (mode : Mode) (word j : ℕ) → j < 64 → bit_at (get_or words place 0) j ≡ 1
+    → ((bit_at word j == 1) && conflicts mode wanted) ≡ true → list_any (clashing words wanted) (users_below place mode word 64) ≡ true
+below-clash words wanted place mode word j l among h =
+    let bit : (bit_at word j == 1) ≡ true = and_left (bit_at word j == 1) (conflicts mode wanted) h in
+    below-has (clashing words wanted) place mode word 64 j l (is_one (bit_at word j) bit)
+    (and_true (bit_in words (place * 64 + j)) (conflicts mode wanted) (bit_here words place j l ∙ one_is (bit_at (get_or words place 0) j) among)
+    (and_right (bit_at word j == 1) (conflicts mode wanted) h))
+
+clash-below : (words : List ℕ) (wanted : Mode) (place : ℕ) (mode : Mode) (word : ℕ) → list_any (clashing words wanted) (users_below place mode word 64) ≡ true
+    → (j : ℕ) × (bit_at (get_or words place 0) j ≡ 1) × (((bit_at word j == 1) && conflicts mode wanted) ≡ true)
+clash-below words wanted place mode word h =
+    let f = below-found (clashing words wanted) place mode word 64 h in
+    let among : bit_in words (place * 64 + f.0) ≡ true = and_left (bit_in words (place * 64 + f.0)) (conflicts mode wanted) f.3 in (
+      f.0,
+      is_one (bit_at (get_or words place 0) f.0) (sym (bit_here words place f.0 f.1) ∙ among),
+      and_true (bit_at word f.0 == 1) (conflicts mode wanted) (one_is (bit_at word f.0) f.2) (and_right (bit_in words (place * 64 + f.0)) (conflicts mode wanted) f.3),
+    )
+
+-- whose bit an `and` finds
+module _ (words : List ℕ) (block : Block) (wanted : Mode) (against : ℕ) (l : against < 2 ^ 64)
+    (is : (j : ℕ) → (bit_at against j == 1) ≡ is_against block wanted j) where
+  abbrev found : Bool
+  found = not (bit_and (get_or words block.place 0) against == 0)
+
+  abbrev among : Mode → ℕ → Bool
+  among mode word = list_any (clashing words wanted) (users_below block.place mode word 64)
+
+  abbrev against_at : Mode → ℕ → ℕ → Bool
+  against_at mode word j = (bit_at word j == 1) && conflicts mode wanted
+
+  told : list_any (clashing words wanted) (users_of_block block) ≡ (among Reads block.reads || (among Writes block.writes || among Adds block.adds))
+  told = any-three (clashing words wanted) (users_below block.place Reads block.reads 64) (users_below block.place Writes block.writes 64) (users_below block.place Adds block.adds 64)
+
+  to : found ≡ true → (among Reads block.reads || (among Writes block.writes || among Adds block.adds)) ≡ true
+  to h =
+      let c = common-found (get_or words block.place 0) against l h in
+      let clash : (mode : Mode) (word : ℕ) → against_at mode word c.0 ≡ true → among mode word ≡ true =
+      λ mode word b. below-clash words wanted block.place mode word c.0 c.1 c.2 b in
+      or_more (against_at Reads block.reads c.0) (against_at Writes block.writes c.0 || against_at Adds block.adds c.0) _ _ (clash Reads block.reads)
+      (or_more (against_at Writes block.writes c.0) (against_at Adds block.adds c.0) _ _ (clash Writes block.writes) (clash Adds block.adds))
+      (sym (is c.0) ∙ one_is (bit_at against c.0) c.3)
+
+  meets : (j : ℕ) → bit_at (get_or words block.place 0) j ≡ 1 → is_against block wanted j ≡ true → found ≡ true
+  meets j here there = common-at (get_or words block.place 0) against j here (is_one (bit_at against j) (is j ∙ there))
+
+  from : (among Reads block.reads || (among Writes block.writes || among Adds block.adds)) ≡ true → found ≡ true
+  from h =
+      elim (or_true (among Reads block.reads) (among Writes block.writes || among Adds block.adds) h) [
+        | inl reads ↦
+            let c = clash-below words wanted block.place Reads block.reads reads in
+            meets c.0 c.1 (true_or (against_at Reads block.reads c.0) (against_at Writes block.writes c.0 || against_at Adds block.adds c.0) c.2)
+        | inr other ↦ elim (or_true (among Writes block.writes) (among Adds block.adds) other) [
+          | inl writes ↦
+              let c = clash-below words wanted block.place Writes block.writes writes in
+              meets c.0 c.1 (or_right (against_at Reads block.reads c.0) (against_at Writes block.writes c.0 || against_at Adds block.adds c.0)
+              (true_or (against_at Writes block.writes c.0) (against_at Adds block.adds c.0) c.2))
+          | inr adds ↦
+              let c = clash-below words wanted block.place Adds block.adds adds in
+              meets c.0 c.1 (or_right (against_at Reads block.reads c.0) (against_at Writes block.writes c.0 || against_at Adds block.adds c.0)
+              (or_right (against_at Writes block.writes c.0) (against_at Adds block.adds c.0) c.2))
+        ]
+      ]
+
+  pub block-clash : found ≡ list_any (clashing words wanted) (users_of_block block)
+  block-clash = both_same found _ to from ∙ sym told
+
+-- ---- rows
+
+any-flat : (test : User → Bool) (blocks : List Block) → list_any test (flat_map users_of_block blocks) ≡ list_any (λ b. list_any test (users_of_block b)) blocks
+any-flat test [] = refl
+any-flat test (b ∷ blocks) =
+    ap (list_any test) (flat_map-cons users_of_block b blocks) ∙ list_any-append test (users_of_block b) (flat_map users_of_block blocks)
+    ∙ ap (λ rest. list_any test (users_of_block b) || rest) (any-flat test blocks)
+
+-- what the earlier blocks of a row tell, and what its latest one tells
+pub row-any : (test : User → Bool) (row : Row)
+    → list_any test (users_of_row row) ≡ (list_any (λ b. list_any test (users_of_block b)) row.earlier.items || list_any test (users_of_block row.latest))
+row-any test row =
+    list_any-append test (flat_map users_of_block row.earlier.items) (users_of_block row.latest)
+    ∙ ap (λ b. b || list_any test (users_of_block row.latest)) (any-flat test row.earlier.items)
