@@ -1,5 +1,5 @@
 -- What a call on one tenant's job is to the floor.
-use Rattle.std.proofs.Common.{◌≡◌, ◌<◌, ◌+◌, ◌⊎◌, get_or, inl, inr, ℕ, List, [], length, set, refl, sym, ap, ◌∙◌, subst, Bool, true, false, true≢false}
+use Rattle.std.proofs.Common.{◌≡◌, ◌<◌, ◌+◌, ◌⊎◌, get_or, inl, inr, ℕ, List, [], length, set, refl, sym, ap, ◌∙◌, subst, arith, Bool, true, false, true≢false}
 use Rattle.std.specs.Prelude.{is_some, Option, Some, None, Result, Ok, Err, IfOk, OnErr, option_map, slice_get, ◌↔◌}
 use Rattle.std.proofs.lemmas.Bool.{cases_lt}
 use Rattle.std.proofs.lemmas.List.{get_or_past, get_or_default}
@@ -64,10 +64,12 @@ claims-of f now t pick job next (Ok (Some p)) is at gives claimed = subst (λ o.
 claims-of f now t pick job next (Err e) is at gives claimed = tt
 
 pub runs-short : {T E : Type 0} (f now : Floor) (t : ℕ) (job next : Live) (r : Result T E) → f ≡ now → job_of f.jobs t ≡ Some job
-    → OnErr r (state_of (seen_of job) ≡ Working) → OnErr r (seen_of next ≡ seen_of job) → OnErr r (RunsShort now t (with_job f t (Some next)))
-runs-short f now t job next (Ok x) is at working same = tt
-runs-short f now t job next (Err e) is at working same = record {
+    → OnErr r (state_of (seen_of job) ≡ Working) → OnErr r (0 < length (claimable_in (seen_of job))) → OnErr r (seen_of next ≡ seen_of job)
+    → OnErr r (RunsShort now t (with_job f t (Some next)))
+runs-short f now t job next (Ok x) is at working some same = tt
+runs-short f now t job next (Err e) is at working some same = record {
   working = subst (λ o. IsWorking o t) is (record { job = job; is = at; working = working });
+  some = subst (λ (o : Floor). ¬ (NothingAt o.jobs t)) is (λ none. absurd (omega (arith, some, ap length (none job at))));
   same = told-again f now t job next is at same;
 }
 

@@ -294,8 +294,8 @@ pub cannot-start : (s now : Scene) (w t : ℕ) → s ≡ now → NothingAt s.flo
 cannot-start s now w t is none = subst (λ o. CannotStart o w t) is (inr none)
 
 -- a piece may be taken
-pub may-take : (s now : Scene) (w t : ℕ) → s ≡ now → hand_of s.hands w ≡ None → IsWorking s.floor t → MayTake now (Some w) t
-may-take s now w t is free working = subst (λ o. MayTake o (Some w) t) is (free, working)
+pub may-take : (s now : Scene) (w t : ℕ) → s ≡ now → hand_of s.hands w ≡ None → IsWorking s.floor t → ¬ (NothingAt s.floor.jobs t) → MayTake now (Some w) t
+may-take s now w t is free working some = subst (λ o. MayTake o (Some w) t) is (free, working, some)
 
 pub on_err_always : {T E P : Type 0} (r : Result T E) → P → OnErr r P
 on_err_always (Ok x) p = tt

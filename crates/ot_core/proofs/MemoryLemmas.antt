@@ -1,10 +1,9 @@
 -- Where memory ran out at an event.
-use Rattle.std.proofs.Common.{◌≡◌, ℕ, List, refl, sym, subst}
-use Rattle.std.specs.Prelude.{Result, Option, Some, OnErr}
+use Rattle.std.proofs.Common.{◌≡◌, ℕ, refl, sym, subst}
+use Rattle.std.specs.Prelude.{Result, Some, OnErr}
 use Rattle.std.proofs.lemmas.Result.{on_err_weaker}
-use Rattle.ot_core.specs.Asking.{HasRoom}
 use Rattle.ot_core.specs.Scenes.{Scene, seat_of}
-use Rattle.ot_core.specs.Steps.{SameScene, HasTenant, CanOpen, MayTake, MayRunOut, RunsOut}
+use Rattle.ot_core.specs.Steps.{SameScene, MayTake, MayRunOut, RunsOut}
 use Rattle.ot_core.specs.declared.event.Event.{Event}
 use Rattle.ot_core.specs.declared.event.Event.TheVariants as event
 

@@ -173,13 +173,14 @@ Steps old (event.Abort t) stepped new = Aborts old t stepped new
 
 -- ---- want of memory
 
--- the worker's hand is free, and the tenant's job works
+-- the worker's hand is free, and the tenant's job works and has a claimable task
 abbrev pub MayTake : Scene → Option ℕ → ℕ → Type 0
 MayTake s None t = ⊥
-MayTake s (Some w) t = (hand_of s.hands w ≡ None) × IsWorking s.floor t
+MayTake s (Some w) t = (hand_of s.hands w ≡ None) × IsWorking s.floor t × ¬ (NothingAt s.floor.jobs t)
 
 -- Memory may run out where a line is asked, opened, or a piece taken: where the log has room for the line, the line may
--- be opened, and the hand is free and the job works. No other event takes memory that it could be refused.
+-- be opened, and the hand is free and the job works and has a claimable task. No other event takes memory that it could
+-- be refused.
 abbrev pub MayRunOut : Scene → Event → Type 0
 MayRunOut s (event.Admit t line) = HasTenant HasRoom s t
 MayRunOut s (event.Open t) = CanOpen s t

@@ -17,7 +17,8 @@ abbrev pub ClaimsSome : Floor → ℕ → Option (ℕ × Piece) → Floor → Ty
 ClaimsSome old turn None new = ((t : ℕ) → NothingAt old.jobs t) × (new ≡ old)
 ClaimsSome old turn (Some p) new = Claims old p.0 turn p.1 new
 
--- memory ran out at a claim of this tenant
+-- memory ran out at a claim of this tenant, whose job works and has a claimable task
 pub record RunsShort (old : Floor) (t : ℕ) (new : Floor) : Type 0 where
   pub working : IsWorking old t
+  pub some : ¬ (NothingAt old.jobs t)
   pub same : IsAsBefore old t new

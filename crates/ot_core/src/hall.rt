@@ -23,7 +23,7 @@ pub enum SubmitFault {
     Memory,
 }
 
-/// Memory was refused at a claim of this tenant's job.
+/// Memory was refused at a claim of this tenant's job, which has a claimable task.
 #[derive(Clone, Copy, Debug, PartialEq, Eq)]
 pub struct NoMemory {
     pub tenant: u32,

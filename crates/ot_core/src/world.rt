@@ -305,7 +305,7 @@ impl World {
     /// Takes an event. One that isn't enabled answers `NotNow` and changes nothing. An event of one
     /// tenant leaves all others as they were. Where memory is refused nothing changes; that is told
     /// only of an `Admit` that has room, an `Open` that may be opened, and a `Start` of a free worker on
-    /// a job that works.
+    /// a job that works and has a claimable task.
     pub fn step(&mut self, alloc: Global, event: Event<'_>) -> Result<Stepped, AllocError>
         ensures stepped { IfOk result (λ stepped. Steps self.old event.entry stepped self.new) }
         ensures others { OnOk result (LeavesOthers event.entry self.old self.new) }

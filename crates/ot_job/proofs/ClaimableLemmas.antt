@@ -1,6 +1,6 @@
 -- Whose claimability a change of the regions leaves as it was.
-use Rattle.std.proofs.Common.{◌≡◌, ◌≢◌, ◌<◌, ◌≤◌, ◌+◌, ℕ, zero, suc, Bool, true, false, cond, not, ◌||◌, ◌&&◌, ◌==◌, List, [], ◌∷◌, ◌++◌, length, get_or, take, refl, sym, ap, ◌∙◌, inl, inr, arith}
-use Rattle.std.specs.Prelude.{Option, Some, None, is_some, slice_get, option_map, unwrap_or}
+use Rattle.std.proofs.Common.{◌≡◌, ◌≢◌, ◌<◌, ℕ, zero, suc, Bool, true, false, not, ◌||◌, ◌&&◌, ◌==◌, List, [], ◌∷◌, ◌++◌, length, take, refl, sym, ap, ◌∙◌, inl, inr, arith}
+use Rattle.std.specs.Prelude.{Option, is_some, slice_get, option_map, unwrap_or}
 use Rattle.std.specs.List.{list_all}
 use Rattle.std.proofs.lemmas.Bool.{cases_eq}
 use Rattle.std.proofs.lemmas.List.{take-append-le}
@@ -9,7 +9,7 @@ use Rattle.ot_model.proofs.CellsLemmas.{length-updated}
 use Rattle.ot_model.specs.declared.stmt.Use.{Use}
 use Rattle.ot_depend.specs.Siblings.{Sibling, is_ready, with_finished, depends_on}
 use Rattle.ot_job.specs.Regions.{Region, with_child}
-use Rattle.ot_job.specs.Sound.{at, gone}
+use Rattle.ot_job.specs.Sound.{at}
 use Rattle.ot_job.specs.Settling.{without}
 use Rattle.ot_job.specs.Claiming.{is_claimable, is_let_go}
 use Rattle.ot_job.proofs.KeptLemmas.{at-updated, at-updated-other, at-more}

@@ -1,7 +1,7 @@
 -- The counters beside the tasks, through each change of the regions.
 use Rattle.std.proofs.Common.{◌≡◌, ◌<◌, ◌≤◌, ◌+◌, ◌-◌, ℕ, zero, suc, Bool, true, false, cond, not, ◌||◌, ◌&&◌, List, [], ◌∷◌, ◌++◌, length, refl, sym, ap, ◌∙◌, arith}
-use Rattle.std.specs.Prelude.{◌==◌, Option, Some, None, is_some, nat_lt, if◌then◌else◌}
-use Rattle.std.specs.List.{list_any, list_all, count_by, sum_by}
+use Rattle.std.specs.Prelude.{◌==◌, None, is_some}
+use Rattle.std.specs.List.{list_any, count_by}
 use Rattle.std.proofs.lemmas.Bool.Decides.{nat_tests}
 use Rattle.std.proofs.lemmas.List.Sums.{sum_by-cons, sum_by_push, count_by-le-length}
 use Rattle.ot_model.specs.Tree.{Set, Add, If, Task as Fork, Wait, Group, Body, End, Next}

@@ -1,7 +1,6 @@
 -- What is kept beside the tasks, through each change of the regions.
-use Rattle.std.proofs.Common.{map, ◌≡◌, ◌≢◌, ◌<◌, ◌≤◌, ◌+◌, ℕ, zero, suc, Bool, true, false, List, [], ◌∷◌, ◌++◌, length, get_or, refl, sym, ap, subst, ◌∙◌, inl, inr, arith, true≢false}
-use Rattle.std.specs.Prelude.{Some, None, Option, slice_get, filter}
-use Rattle.std.specs.List.{range_with_len}
+use Rattle.std.proofs.Common.{◌≡◌, ◌≢◌, ◌<◌, ◌≤◌, ◌+◌, ℕ, zero, suc, Bool, true, false, List, [], ◌∷◌, ◌++◌, length, get_or, refl, sym, ap, subst, ◌∙◌, inl, inr, arith}
+use Rattle.std.specs.Prelude.{Some, slice_get}
 use Rattle.std.proofs.lemmas.Bool.{cases_eq, cases_lt, cases_Bool}
 use Rattle.std.proofs.lemmas.List.{length-append}
 use Rattle.std.proofs.lemmas.Option.{get_or_from_slice_get, slice_get_read}
@@ -25,7 +24,7 @@ use Rattle.ot_job.specs.Settling.{without, tasks_next}
 use Rattle.ot_job.specs.Claiming.{is_claimable, claimable_of}
 use Rattle.ot_job.specs.Counting.{AreCounted}
 use Rattle.ot_job.specs.Listing.{IsListBelow, TellsOf, IsNumbered, AreKept}
-use Rattle.ot_job.proofs.ListingLemmas.{those, listed, list-is, has-those, below-more, below-only}
+use Rattle.ot_job.proofs.ListingLemmas.{listed, list-is, has-those, below-more}
 use Rattle.ot_job.proofs.ClaimableLemmas.{claimable-other, claimable-told, claimable-created, claimable-root}
 use Rattle.ot_job.proofs.NumberedLemmas.{numbered-same, numbered-created, child-known}
 

@@ -1,5 +1,5 @@
 -- What the execution of a control statement leaves of a region, and when it creates a task.
-use Rattle.std.proofs.Common.{length, length-append, true, false, ◌≤◌, ◌≡◌, ◌<◌, ℕ, zero, suc, Bool, List, [], ◌∷◌, ◌++◌, refl, ap, sym, ◌∙◌, arith}
+use Rattle.std.proofs.Common.{length, length-append, true, false, ◌≤◌, ◌≡◌, ◌<◌, ℕ, zero, suc, Bool, List, [], ◌∷◌, refl, ap, ◌∙◌, arith}
 use Rattle.std.specs.Prelude.{Option, Some, None, nat_lt, if◌then◌else◌}
 use Rattle.ot_model.proofs.CellsLemmas.{length-updated}
 use Rattle.ot_job.proofs.ClaimableLemmas.{field-kept}

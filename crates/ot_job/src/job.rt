@@ -135,14 +135,15 @@ impl Job {
         spec.same_as(&self.spec)
     }
 
-    /// Hands out the next piece of the claimable task at `pick` modulo their count. Where memory is
-    /// refused, nothing changes.
+    /// Hands out the next piece of the claimable task at `pick` modulo their count. Memory is refused
+    /// only where a task is claimable, and then nothing changes.
     pub fn claim(&mut self, alloc: Global, pick: usize) -> Result<Option<Piece>, AllocError>
         ensures weight { weight_of (seen_of self.new).regions ≡ weight_of (seen_of self.old).regions }
         ensures spec { self.new.spec ≡ self.old.spec }
         ensures claimed { IfOk result (λ p. Claimed (seen_of self.old) pick (option_map taken_of p) (seen_of self.new)) }
         ensures gives { IfOk result (λ p. Gives (seen_of self.old) (option_map taken_of p) (seen_of self.new)) }
         ensures working { OnErr result (state_of (seen_of self.old) ≡ Working) }
+        ensures some { OnErr result (0 < length (claimable_in (seen_of self.old))) }
         ensures refused { OnErr result (seen_of self.new ≡ seen_of self.old) }
     {
         if self.failing {

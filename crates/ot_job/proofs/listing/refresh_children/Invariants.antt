@@ -1,4 +1,4 @@
-use Rattle.std.proofs.Common.{◌≡◌, ◌≤◌, ℕ, true, length, slice_index_or, vec_capacity, take}
+use Rattle.std.proofs.Common.{◌≡◌, ℕ, true, length, slice_index_or, vec_capacity, take}
 use Rattle.ot_depend.specs.Kept.{has}
 use Rattle.ot_job.specs.RegionView.{regions_of}
 use Rattle.ot_job.specs.Listing.{IsListBelow, TellsOf}

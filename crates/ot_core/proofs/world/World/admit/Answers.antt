@@ -1,6 +1,6 @@
 use Rattle.std.proofs.Common.{◌≡◌, ap, subst, refl, length, Some}
 use Rattle.std.proofs.lemmas.Option.{slice_get_read}
-use Rattle.std.specs.Prelude.{true, false, slice_get}
+use Rattle.std.specs.Prelude.{true, slice_get}
 use Rattle.ot_core.specs.Accounts.{Account, answered}
 use Rattle.ot_core.specs.Asking as asking
 use Rattle.ot_core.specs.Asking.{IsFull, HasRoom}

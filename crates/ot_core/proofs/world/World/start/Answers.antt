@@ -12,7 +12,7 @@ returns-in_err-piece-clause-memory c =
     let s = scene_of c.self.inside in
     let free = hand-free s.hands c.args.hand c.index.result.now c.requires c.self.invariant.hands_many c.index.ensures (sym c.is_some.ensures ∙ c.if-is_some.false) in
     on_err_always c.from_residual.result (
-      may-take s _ c.args.hand c.args.tenant c.self.view_is free c.in_err-piece.ensures.refused.working,
+      may-take s _ c.args.hand c.args.tenant c.self.view_is free c.in_err-piece.ensures.refused.working c.in_err-piece.ensures.refused.some,
       (as-before s _ c.args.tenant c.claim_of.new.self c.self.view_is c.self.invariant c.in_err-piece.ensures.refused.same).1,
     )
 

@@ -24,9 +24,10 @@ use Rattle.ot_model.proofs.CountsLemmas.{tasks_in-≤-size}
 use Rattle.ot_job.proofs.CourseLemmas.{counts-few}
 use Rattle.ot_job.proofs.TakenLemmas.{claim-can}
 use Rattle.ot_job.proofs.PickLemmas.{picked-claimable, at-here}
+use Rattle.ot_job.specs.States.{claimable_in}
 use Rattle.ot_job.specs.Weighing.{weight_of}
 use Rattle.ot_job.proofs.WeighingLemmas.{weight-begun}
-use Rattle.ot_job.proofs.DealingsLemmas.{claimed-gives, picked-working}
+use Rattle.ot_job.proofs.DealingsLemmas.{claimed-gives, picked-some, picked-working}
 use Rattle.std.specs.Prelude.{None}
 use Rattle.ot_job.specs.Dealings.{state_of}
 use Rattle.ot_job.specs.declared.state.State.TheVariants.{Working}
@@ -223,3 +224,31 @@ returns-in_err-lent-clause-working c =
     } in
     let is : picked (claimable_of (regions_of c.self.inside.tasks)) c.args.pick ≡ Some c.in-Some.task = search rules in
     on_err_always c.from_residual-in_err-lent.result (subst (λ (l : Live). state_of (seen_of l) ≡ Working) c.self.view_is (picked-working j c.args.pick c.in-Some.task c.if-self.false is))
+
+pub returns-in_err-room-clause-some : goal.returns-in_err-room-clause-some
+returns-in_err-room-clause-some c =
+    let j : Seen = record {
+      program = expanded_of c.self.inside.spec.checked.program;
+      before = c.self.inside.spec.before;
+      cells = c.self.inside.cells;
+      owned = c.self.inside.owners;
+      regions = regions_of c.self.inside.tasks;
+      counts = c.self.inside.counts;
+      failing = c.self.inside.failing;
+    } in
+    let is : picked (claimable_of (regions_of c.self.inside.tasks)) c.args.pick ≡ Some c.in-Some.task = search rules in
+    on_err_always c.from_residual.result (subst (λ (l : Live). 0 < length (claimable_in (seen_of l))) c.self.view_is (picked-some j c.args.pick c.in-Some.task c.if-self.false is))
+
+pub returns-in_err-lent-clause-some : goal.returns-in_err-lent-clause-some
+returns-in_err-lent-clause-some c =
+    let j : Seen = record {
+      program = expanded_of c.self.inside.spec.checked.program;
+      before = c.self.inside.spec.before;
+      cells = c.self.inside.cells;
+      owned = c.self.inside.owners;
+      regions = regions_of c.self.inside.tasks;
+      counts = c.self.inside.counts;
+      failing = c.self.inside.failing;
+    } in
+    let is : picked (claimable_of (regions_of c.self.inside.tasks)) c.args.pick ≡ Some c.in-Some.task = search rules in
+    on_err_always c.from_residual-in_err-lent.result (subst (λ (l : Live). 0 < length (claimable_in (seen_of l))) c.self.view_is (picked-some j c.args.pick c.in-Some.task c.if-self.false is))

@@ -1,4 +1,4 @@
-use Rattle.std.proofs.Common.{◌∙◌, ap, subst, arith, length}
+use Rattle.std.proofs.Common.{ap, subst, arith, length}
 use Rattle.ot_job.specs.Live.{Live, seen_of}
 use Rattle.ot_job.specs.RegionView.{regions_of}
 use Rattle.ot_job.specs.Claiming.{claimable_of}

@@ -6,7 +6,7 @@ use Rattle.ot_owner.specs.Leases.{lease_of}
 use Rattle.ot_job.specs.Live.{Live, Seen, seen_of}
 use Rattle.ot_job.specs.Regions.{Region}
 use Rattle.ot_job.specs.RegionView.{region_of, regions_of}
-use Rattle.ot_job.specs.Settling.{Came, IsOut, stopped}
+use Rattle.ot_job.specs.Settling.{Came, IsOut}
 use Rattle.ot_job.specs.DoneView.{done_of}
 use Rattle.ot_job.specs.States.{Fails}
 use Rattle.ot_job.specs.Well.{IsWell}

@@ -1,8 +1,7 @@
-use Rattle.std.proofs.Common.{rules, ◌≡◌, ◌<◌, ◌∙◌, ap, sym, subst, arith, refl, ℕ, ◌+◌, ◌-◌, vec_capacity, List, Bool, length, None}
-use Rattle.std.proofs.lemmas.List.{length-map}
+use Rattle.std.proofs.Common.{◌≡◌, ◌∙◌, ap, subst, arith, vec_capacity, List}
 use Rattle.ot_model.specs.Cells.{updated}
-use Rattle.ot_job.specs.Regions.{Region, stepped, executed}
-use Rattle.ot_job.specs.RegionView.{region_of, regions_of}
+use Rattle.ot_job.specs.Regions.{Region, stepped}
+use Rattle.ot_job.specs.RegionView.{regions_of}
 use Rattle.ot_job.specs.Sound.{at}
 use Rattle.ot_job.specs.Settling.{tasks_next}
 use Rattle.ot_job.specs.Listing.{numbers_of, AreKept}

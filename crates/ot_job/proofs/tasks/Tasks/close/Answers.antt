@@ -1,4 +1,4 @@
-use Rattle.std.proofs.Common.{◌≡◌, ◌∙◌, ap, arith, refl, List, length}
+use Rattle.std.proofs.Common.{◌∙◌, ap, arith, refl, List, length}
 use Rattle.std.proofs.lemmas.List.{length-map}
 use Rattle.ot_model.proofs.CellsLemmas.{length-updated}
 use Rattle.ot_job.specs.Regions.{Region}

@@ -1,13 +1,10 @@
-use Rattle.std.proofs.Common.{rules, ◌≡◌, ◌<◌, ◌∙◌, ap, sym, subst, arith, refl, ℕ, ◌+◌, ◌-◌, vec_capacity, List, Bool, true, false, set, length, None}
-use Rattle.std.specs.Prelude.{is_some}
+use Rattle.std.proofs.Common.{◌≡◌, ◌<◌, ◌∙◌, ap, subst, arith, refl, ◌-◌, vec_capacity, List, false, length}
 use Rattle.std.proofs.lemmas.List.{length-map}
 use Rattle.ot_model.specs.Cells.{updated}
-use Rattle.ot_job.specs.Regions.{Region}
 use Rattle.ot_job.specs.RegionView.{region_of, regions_of}
 use Rattle.ot_job.specs.Sound.{at}
 use Rattle.ot_job.specs.declared.task.Task.{Task}
 use Rattle.ot_job.specs.Listing.{numbers_of, AreKept}
-use Rattle.ot_job.proofs.PickLemmas.{at-here}
 use Rattle.ot_job.proofs.ViewLemmas.{map-changed}
 use Rattle.ot_job.proofs.KeepingLemmas.{ordered-tasks, kept-tasks}
 use Rattle.ot_job.specs.Settling.{over}

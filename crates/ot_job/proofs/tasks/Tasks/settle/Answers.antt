@@ -5,7 +5,7 @@ use Rattle.ot_model.specs.Cells.{updated}
 use Rattle.ot_job.specs.Regions.{Region, executed}
 use Rattle.ot_job.specs.RegionView.{region_of, regions_of}
 use Rattle.ot_job.specs.Sound.{at}
-use Rattle.ot_job.specs.Settling.{CreatesInOrder, tasks_next, is_at_end, closed, moved_on, stopped}
+use Rattle.ot_job.specs.Settling.{tasks_next, is_at_end, closed, moved_on, stopped}
 use Rattle.ot_job.specs.declared.task.Task.{Task}
 use Rattle.ot_job.proofs.PickLemmas.{at-here}
 use Rattle.ot_job.proofs.SettleLemmas.{none-next}
