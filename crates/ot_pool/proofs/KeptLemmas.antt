@@ -1,5 +1,5 @@
 -- What the type of the shared value carries through each turn.
-use Rattle.std.proofs.Common.{◌≡◌, ◌<◌, ◌+◌, ◌⊎◌, inl, inr, ℕ, List, length, set, get_or, refl, sym, ap, ◌∙◌, subst, arith, Bool, false, true≢false}
+use Rattle.std.proofs.Common.{◌≡◌, ◌<◌, ◌+◌, inl, inr, ℕ, List, length, set, get_or, refl, sym, ap, ◌∙◌, subst, arith, Bool, false, true≢false}
 use Rattle.std.specs.Prelude.{is_some, Option, Some, None}
 use Rattle.std.proofs.lemmas.Bool.{cases_lt}
 use Rattle.std.proofs.lemmas.List.{get_or_past, length-set}
@@ -8,7 +8,7 @@ use Rattle.ot_job.specs.Live.{Live}
 use Rattle.ot_job.specs.declared.piece.Done.{Done}
 use Rattle.ot_core.specs.Index.{job_of}
 use Rattle.ot_core.specs.Floors.{Floor, with_job, total_of, IsAsBefore, FailsIn, Settles}
-use Rattle.ot_pool.specs.Shared.{Shared, IsKept, HasRoom}
+use Rattle.ot_pool.specs.Shared.{IsKept, HasRoom}
 
 -- as many tenants, and the same units
 pub record SameUnits (old new : Floor) : Type 0 where

@@ -1,4 +1,4 @@
 mod KeptLemmas
 mod TurnLemmas
 mod ShareLemmas
-mod SendLemmas
+pub mod SendLemmas

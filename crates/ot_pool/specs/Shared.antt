@@ -1,5 +1,5 @@
 -- What all threads share, and what each turn under the lock does to it.
-use Rattle.std.specs.Prelude.{◌≡◌, ◌+◌, ◌<◌, ◌≤◌, ◌^◌, ◌↔◌, ◌⊎◌, ℕ, length, Bool, true, false, Option, Some, None, Result, Ok, Err}
+use Rattle.std.specs.Prelude.{◌≡◌, ◌+◌, ◌<◌, ◌^◌, ◌↔◌, ◌⊎◌, ℕ, length, Bool, true, false, Option, Some, None, Result, Ok, Err}
 use Rattle.ot_check.specs.Jobs.{Spec}
 use Rattle.ot_check.specs.declared.job.Outcome.{Outcome}
 use Rattle.ot_job.specs.declared.piece.Done.{Done}

@@ -16,6 +16,37 @@ pub struct Spent<L: Ledger> {
     pub ghost one_part: { share.parts ≡ 1 },
 }
 
+// Where workers work, each with something of type S that it takes along and brings home. A thread borrows a pool
+// as such a place: so whether it may is asked of the pool alone, and not of all that it is made of.
+trait Workplace<S> {
+    fn employ<G: Gate + Drop, R: Wait>(
+        &self,
+        rt: &R,
+        alloc: Global,
+        worker: u32,
+        gate: G,
+        share: S,
+    ) -> S
+        requires worker { (1 ≤ worker) × (worker ≤ 16) };
+}
+
+impl<L: Ledger> Workplace<Spent<L>> for Pool<L> {
+    fn employ<G: Gate + Drop, R: Wait>(
+        &self,
+        rt: &R,
+        alloc: Global,
+        worker: u32,
+        gate: G,
+        share: Spent<L>,
+    ) -> Spent<L>
+        requires worker { (1 ≤ worker) × (worker ≤ 16) }
+    {
+        let Spent { share } = share;
+        let share = work(rt, self, alloc, worker, gate, share);
+        Spent { share }
+    }
+}
+
 /// Starts a worker in a thread of its own for each share, of which there are at most 16. The answer says whether
 /// each could be started; the share of one that couldn't be is lost.
 pub fn start<'s, E, G: Gate + Copy + Send + 's, L: Ledger + Send + Sync, R: Wait + Sync>(
@@ -38,6 +69,7 @@ pub fn start<'s, E, G: Gate + Copy + Send + 's, L: Ledger + Send + Sync, R: Wait
     }
     while let Some(share) = shares.pop() {
         let worker = shares.len() as u32 + 1;
+        let share = whole_part(share);
         if let Some(thread) = start_one(scope, rt, alloc, pool, worker, gate, share) {
             threads.push_reserved(thread);
         }
@@ -46,42 +78,36 @@ pub fn start<'s, E, G: Gate + Copy + Send + 's, L: Ledger + Send + Sync, R: Wait
     (threads, all)
 }
 
+fn whole_part<L: Ledger>(share: Share<L>) -> Spent<L>
+    requires { share.parts ≡ 1 }
+{
+    Spent { share }
+}
+
 // Starts a worker, if a thread can be made for it.
-fn start_one<'s, E, G: Gate + Copy + Send + 's, L: Ledger + Send + Sync, R: Wait + Sync>(
+fn start_one<'s, E, P, S, G, R>(
     scope: &Scope<'s, E>,
     rt: &'s R,
     alloc: Global,
-    pool: &'s Pool<L>,
+    place: &'s P,
     worker: u32,
     gate: G,
-    share: Share<L>,
-) -> Option<JoinHandle<Spent<L>>>
-    requires worker { (1 ≤ worker) × (worker ≤ 16) }
-    requires part { share.parts ≡ 1 }
+    share: S,
+) -> Option<JoinHandle<S>>
+where
+    P: Workplace<S> + Sync + 's,
+    S: Send + Drop + 's,
+    G: Gate + Copy + Send + 's,
+    R: Wait + Sync,
+    requires { (1 ≤ worker) × (worker ≤ 16) }
 {
-    let run = move || -> Spent<L>
-        requires { (1 ≤ worker) × (worker ≤ 16) × (share.parts ≡ 1) }
-    { spend(rt, pool, alloc, worker, gate, share) };
+    let run = move || -> S
+        requires { (1 ≤ worker) × (worker ≤ 16) }
+    { place.employ(rt, alloc, worker, gate, share) };
     match scope.spawn(run) {
         Ok(thread) => Some(thread),
         Err(_) => None,
     }
-}
-
-// What a worker's thread does.
-fn spend<G: Gate + Drop, L: Ledger, R: Wait>(
-    rt: &R,
-    pool: &Pool<L>,
-    alloc: Global,
-    worker: u32,
-    gate: G,
-    share: Share<L>,
-) -> Spent<L>
-    requires worker { (1 ≤ worker) × (worker ≤ 16) }
-    requires part { share.parts ≡ 1 }
-{
-    let share = work(rt, pool, alloc, worker, gate, share);
-    Spent { share }
 }
 
 /// Waits until each worker has come home, and gives their shares. Where memory is refused the shares are lost,
