@@ -10,7 +10,7 @@ use std::alloc::{AllocError, Global};
 use std::sync::ledger::{Blank, Ledger, Share};
 use std::sync::{Condvar, Mutex, Wait};
 
-/// What workers and clients share. Each thread that changes it tells all that wait.
+/// What workers and clients share. Each thread that changes it tells all that wait, once it has let the lock go.
 #[derive(Drop)]
 pub struct Pool<L: Ledger> {
     hub: Mutex<Hub<L>>,
@@ -56,6 +56,7 @@ impl<L: Ledger> Pool<L> {
         for _ in rt.forever() {
             match hub.claim(alloc, turn) {
                 Claimed::Got(tenant, piece) => {
+                    drop(hub);
                     self.told.notify_all();
                     return Some((tenant, piece));
                 }
@@ -111,6 +112,7 @@ impl<L: Ledger> Pool<L> {
         for _ in rt.forever() {
             match hub.collect(tenant, spec) {
                 Some(answer) => {
+                    drop(hub);
                     self.told.notify_all();
                     return answer;
                 }
