@@ -7,3 +7,7 @@ pub mod RunLemmas
 pub mod SessionLemmas
 pub mod ChunkLemmas
 pub mod ServingLemmas
+pub mod DeskLemmas
+pub mod FirstLineLemmas
+pub mod GreetingLemmas
+pub mod ConnectionLemmas

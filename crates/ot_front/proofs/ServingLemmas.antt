@@ -12,7 +12,7 @@ use Rattle.ot_front.specs.Serving.{result_of, Going, Serving}
 use Rattle.ot_front.specs.declared.fault.End.{End}
 use Rattle.ot_front.specs.declared.fault.End.TheVariants.{Bye, EndOfInput, Full, LongLine, Closed}
 use Rattle.ot_front.specs.declared.fault.FrontFault.{FrontFault}
-use Rattle.ot_front.specs.declared.fault.FrontFault.TheVariants.{ReadFailed, WriteFailed, Memory, Stranger, TooManyTurns}
+use Rattle.ot_front.specs.declared.fault.FrontFault.TheVariants.{ReadFailed, WriteFailed, Memory, Stranger, TooManyTurns, SocketFailed}
 use Rattle.ot_front.specs.declared.stop.Stop.{Stop}
 use Rattle.ot_front.proofs.ToldLemmas.{pending-after, length-texts, length-marked, length-log-after}
 use Rattle.ot_front.proofs.SessionLemmas.{session_of, tells_all, breaks_between, breaks_closing}
@@ -121,6 +121,7 @@ tells_idle first bytes lines partial (Err TooManyTurns) idle hears = tells_all f
 tells_idle first bytes lines partial (Err Memory) idle hears = breaks_closing first bytes lines partial None 0 hears
 tells_idle first bytes lines partial (Err WriteFailed) idle hears = absurd idle
 tells_idle first bytes lines partial (Err Stranger) idle hears = absurd idle
+tells_idle first bytes lines partial (Err SocketFailed) idle hears = absurd idle
 
 pub serves_idle : {first : Register} {ahead left start : Option (List ℕ)} {partial : List ℕ} {book : Register} {held : Option (List ℕ)} →
     (next : Option (List ℕ)) (latest : ℕ) (result : Result End FrontFault) → (s : Serving first ahead left start partial book held) → Consumes ahead next s.bytes → IsIdle result →

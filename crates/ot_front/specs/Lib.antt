@@ -5,3 +5,7 @@ pub mod Heard
 pub mod Told
 pub mod Session
 pub mod Serving
+pub mod Desks
+pub mod FirstLines
+pub mod Greetings
+pub mod Connections

@@ -7,7 +7,7 @@ use Rattle.ot_front.specs.Told.{Lines, marked, after, told, RunsProgram}
 use Rattle.ot_front.specs.declared.fault.End.{End}
 use Rattle.ot_front.specs.declared.fault.End.TheVariants.{EndOfInput, Full, LongLine, Closed}
 use Rattle.ot_front.specs.declared.fault.FrontFault.{FrontFault}
-use Rattle.ot_front.specs.declared.fault.FrontFault.TheVariants.{WriteFailed, Memory, Stranger}
+use Rattle.ot_front.specs.declared.fault.FrontFault.TheVariants.{WriteFailed, Memory, Stranger, SocketFailed}
 
 -- how a session closes
 abbrev pub closing : Option End → List ℕ
@@ -64,6 +64,7 @@ Tells book bytes lost written (Ok end) = TellsAll book bytes lost written (Some 
 Tells book bytes lost written (Err Stranger) = LeavesRun book bytes lost written
 Tells book bytes lost written (Err WriteFailed) = BreaksOff book bytes lost written
 Tells book bytes lost written (Err Memory) = BreaksOff book bytes lost written
+Tells book bytes lost written (Err SocketFailed) = ⊥
 Tells book bytes lost written (Err fault) = TellsAll book bytes lost written None
 
 -- A session over bytes: the first of the lines that it hears are logged, and so much of its text is

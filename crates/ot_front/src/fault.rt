@@ -16,7 +16,7 @@ pub enum End {
     Closed,
 }
 
-/// What went wrong in a session.
+/// What went wrong in a session, or where connections are taken.
 #[derive(Clone, Copy, Debug, PartialEq, Eq, Error)]
 pub enum FrontFault {
     #[error("a read failed")]
@@ -29,4 +29,7 @@ pub enum FrontFault {
     Stranger,
     #[error("a session read 1000000 times, and its input had not ended")]
     TooManyTurns,
+    /// Of `listen` alone.
+    #[error("a connection could not be accepted")]
+    SocketFailed,
 }

@@ -1,0 +1,78 @@
+-- A greeting, and what stands behind it.
+use Rattle.std.proofs.Common.{◌≡◌, ℕ, List, Option, refl, subst, inl, inr}
+use Rattle.std.specs.Prelude.{⊤, Some, None, Result, Ok, Err}
+use Rattle.ot_book.specs.Books.{Register}
+use Rattle.ot_front.specs.Greetings.{NeverAsks, Tells, Greets}
+use Rattle.ot_front.specs.Desks.{IsKnown}
+use Rattle.ot_front.specs.Connections.{HasSession, Connects}
+use Rattle.ot_front.specs.declared.fault.FrontFault.{FrontFault}
+use Rattle.ot_front.specs.declared.fault.FrontFault.TheVariants.{ReadFailed, WriteFailed, Memory, Stranger, TooManyTurns, SocketFailed}
+
+never_asks : (bytes : List ℕ) (left : Option (List ℕ)) (ended : Type 0) (result : Result (Option Register) FrontFault) → NeverAsks bytes left ended result → NeverAsks bytes left ⊤ result
+never_asks bytes left ended (Ok None) never = (never.0, tt)
+never_asks bytes left ended (Ok (Some book)) never = never
+never_asks bytes left ended (Err ReadFailed) never = never
+never_asks bytes left ended (Err WriteFailed) never = never
+never_asks bytes left ended (Err Memory) never = never
+never_asks bytes left ended (Err Stranger) never = never
+never_asks bytes left ended (Err TooManyTurns) never = never
+never_asks bytes left ended (Err SocketFailed) never = never
+
+tells : (names : List (List ℕ)) (bytes : List ℕ) (left : Option (List ℕ)) (ended : Type 0) (start held : Option (List ℕ)) (result : Result (Option Register) FrontFault) →
+    Tells names bytes left ended start held result → Tells names bytes left ⊤ start held result
+tells names bytes left ended start held result (inl asked) = inl asked
+tells names bytes left ended start held result (inr cut) = inr (cut.0, cut.1, never_asks bytes left ended result cut.2)
+
+-- whether the end was told counts no more
+greets_so : (names : List (List ℕ)) (ahead left : Option (List ℕ)) (ended : Type 0) (start held : Option (List ℕ)) (result : Result (Option Register) FrontFault) →
+    Greets names ahead left ended start held result → Greets names ahead left ⊤ start held result
+greets_so names ahead left ended start held result greets = record {
+  bytes = greets.bytes;
+  reads = greets.reads;
+  tells = tells names greets.bytes left ended start held result greets.tells;
+}
+
+tells_known : (names : List (List ℕ)) (bytes : List ℕ) (left : Option (List ℕ)) (ended : Type 0) (start held : Option (List ℕ)) (book : Register) →
+    Tells names bytes left ended start held (Ok (Some book)) → IsKnown names book.name
+tells_known names bytes left ended start held book (inl asked) = asked.2.0.known
+tells_known names bytes left ended start held book (inr cut) = absurd cut.2
+
+-- the desk knows the book that is given
+pub knows : (names : List (List ℕ)) (ahead left : Option (List ℕ)) (ended : Type 0) (start held : Option (List ℕ)) (given : Option Register) (book : Register) → given ≡ Some book →
+    Greets names ahead left ended start held (Ok given) → IsKnown names book.name
+knows names ahead left ended start held given book is greets =
+    let told : Greets names ahead left ended start held (Ok (Some book)) = subst (λ o. Greets names ahead left ended start held (Ok o)) is greets in
+    tells_known names told.bytes left ended start held book told.tells
+
+-- a session behind the greeting
+pub connects_on : (names : List (List ℕ)) (ahead next left : Option (List ℕ)) (ended : Type 0) (start told held : Option (List ℕ)) (given : Option Register) (book : Register) → given ≡ Some book →
+    Greets names ahead next ended start told (Ok given) → HasSession book next left told held → Connects names ahead left start held
+connects_on names ahead next left ended start told held given book is greets session = record {
+  given = Ok (Some book);
+  next = next;
+  told = told;
+  greets = greets_so names ahead next ended start told (Ok (Some book)) (subst (λ o. Greets names ahead next ended start told (Ok o)) is greets);
+  goes_on = session;
+}
+
+-- nothing behind the greeting
+pub connects_none : (names : List (List ℕ)) (ahead next : Option (List ℕ)) (ended : Type 0) (start told : Option (List ℕ)) (given : Option Register) → given ≡ None →
+    Greets names ahead next ended start told (Ok given) → Connects names ahead next start told
+connects_none names ahead next ended start told given is greets = record {
+  given = Ok None;
+  next = next;
+  told = told;
+  greets = greets_so names ahead next ended start told (Ok None) (subst (λ o. Greets names ahead next ended start told (Ok o)) is greets);
+  goes_on = (refl, refl);
+}
+
+-- nothing behind a fault
+pub connects_fault : (names : List (List ℕ)) (ahead next : Option (List ℕ)) (ended : Type 0) (start told : Option (List ℕ)) (fault : FrontFault) →
+    Greets names ahead next ended start told (Err fault) → Connects names ahead next start told
+connects_fault names ahead next ended start told fault greets = record {
+  given = Err fault;
+  next = next;
+  told = told;
+  greets = greets_so names ahead next ended start told (Err fault) greets;
+  goes_on = (refl, refl);
+}

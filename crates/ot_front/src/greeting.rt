@@ -1,0 +1,218 @@
+//! The greeting of a connection: its first line names the tenant, whose book is taken from the desk.
+ghost use Rattle.std.specs.Prelude.{◌≡◌, ◌≢◌, ◌≤◌, ℕ, None, Some, Err, option_map, option_and_then, IfOk, IfErr, IfSome};
+ghost use Rattle.serde_json.specs.Find.{as_array};
+ghost use Rattle.serde_json.specs.View.{view, items_view};
+ghost use Rattle.ot_book.specs.Answers.{value_of};
+ghost use Rattle.ot_book.specs.Requests.{name_in};
+ghost use Rattle.ot_front.specs.Device.{next_count, count_after};
+ghost use Rattle.ot_front.specs.Greetings.{hello_of, greeting_of, hello_text, refusal_text, Writes, Answers, Greets, IsGiven, IsRefused};
+ghost use Rattle.ot_front.specs.declared.fault.FrontFault.TheVariants.{ReadFailed, WriteFailed, Memory};
+ghost use Rattle.ot_front.specs.declared.refusal.Refusal.TheVariants.{NotJson, NotGreeting};
+
+use crate::desk::{Desk, DeskFault};
+use crate::device::{Sink, Source};
+use crate::fault::FrontFault;
+use crate::first_line::{FirstLine, MAX_READ, read_first_line};
+use crate::refusal::Refusal;
+use crate::whole::write_whole;
+use json::Writer;
+use ot_book::Book;
+use ot_program::{is_name, is_word};
+use serde_json::Value;
+use std::alloc::{AllocError, Global};
+use std::sync::Wait;
+
+/// Takes the first line of a connection, byte by byte and nothing behind its LF, and the book of the
+/// tenant that it names. The reply tells the name and the number of the next request, or the code of a
+/// refusal; where the input ends before the LF there is none. A book that was taken lies on the desk
+/// again before a fault is answered.
+pub fn greet<R: Source, W: Sink, T: Wait>(
+    rt: &T,
+    alloc: Global,
+    desk: &Desk,
+    source: &mut R,
+    sink: &mut W,
+) -> Result<Option<Book>, FrontFault>
+    ensures greets { Greets desk.now (R.ahead source.old) (R.ahead source.new) (R.ends source.new ≡ next_count (R.ends source.old))
+        (W.contents sink.old) (W.contents sink.new) result }
+    ensures closed { IfOk result (λ given. IfSome given (λ book. book.pending ≡ None)) }
+    ensures reads { (k : ℕ) × (k ≤ 65) × (R.reads source.new ≡ count_after k (R.reads source.old)) }
+    ensures read_failed { result ≡ Err ReadFailed → R.failures source.new ≡ next_count (R.failures source.old) }
+    ensures read_worked { result ≢ Err ReadFailed → R.failures source.new ≡ R.failures source.old }
+    ensures write_failed { result ≡ Err WriteFailed → W.failures sink.new ≡ next_count (W.failures sink.old) }
+    ensures write_worked { result ≢ Err WriteFailed → W.failures sink.new ≡ W.failures sink.old }
+{
+    let Ok(mut line) = Vec::with_capacity(alloc, MAX_READ) else {
+        return Err(FrontFault::Memory);
+    };
+    match read_first_line(source, &mut line) {
+        Ok(FirstLine::Whole) => answer_line(rt, alloc, desk, &line, sink),
+        Ok(FirstLine::TooLong) => refuse(Refusal::NotGreeting, sink),
+        Ok(FirstLine::Cut) => Ok(None),
+        Err(_) => Err(FrontFault::ReadFailed),
+    }
+}
+
+/// Answers a whole first line.
+fn answer_line<W: Sink, T: Wait>(
+    rt: &T,
+    alloc: Global,
+    desk: &Desk,
+    line: &[u8],
+    sink: &mut W,
+) -> Result<Option<Book>, FrontFault>
+    ensures answers { Answers desk.now (greeting_of line.now) (W.contents sink.old) (W.contents sink.new) result }
+    ensures closed { IfOk result (λ given. IfSome given (λ book. book.pending ≡ None)) }
+    ensures write_failed { result ≡ Err WriteFailed → W.failures sink.new ≡ next_count (W.failures sink.old) }
+    ensures write_worked { result ≢ Err WriteFailed → W.failures sink.new ≡ W.failures sink.old }
+{
+    match find_book(rt, alloc, desk, line) {
+        Ok(book) => welcome(rt, alloc, desk, book, sink),
+        Err(NoBook::Refused(why)) => refuse(why, sink),
+        Err(NoBook::Memory) => Err(FrontFault::Memory),
+    }
+}
+
+/// Why a line gets no book.
+#[derive(Clone, Copy, Debug)]
+enum NoBook {
+    Refused(Refusal),
+    Memory,
+}
+
+/// The book of the tenant that a line names.
+fn find_book<T: Wait>(rt: &T, alloc: Global, desk: &Desk, line: &[u8]) -> Result<Book, NoBook>
+    ensures given { IfOk result (λ book. IsGiven desk.now (greeting_of line.now) book) }
+    ensures closed { IfOk result (λ book. book.pending ≡ None) }
+    ensures refused { IfErr result (λ none. (why : Refusal) → none ≡ NoBook.Refused why → IsRefused desk.now (greeting_of line.now) why) }
+{
+    let value = read_line(alloc, line)?;
+    let Some(name) = read_greeting(&value) else {
+        return Err(NoBook::Refused(Refusal::NotGreeting));
+    };
+    match desk.take(rt, name) {
+        Ok(book) => Ok(book),
+        Err(DeskFault::Unknown) => Err(NoBook::Refused(Refusal::Unknown)),
+        Err(DeskFault::Busy) => Err(NoBook::Refused(Refusal::Busy)),
+    }
+}
+
+/// The value of a line.
+fn read_line(alloc: Global, line: &[u8]) -> Result<Value, NoBook>
+    ensures ok { IfOk result (λ value. value_of line.now ≡ Some (view value)) }
+    ensures refused { IfErr result (λ none. (why : Refusal) → none ≡ NoBook.Refused why → (why ≡ NotJson) × (value_of line.now ≡ None)) }
+{
+    match Value::from_slice(alloc, line) {
+        Ok(value) => Ok(value),
+        Err(error) => {
+            if error.is_memory() {
+                return Err(NoBook::Memory);
+            }
+            Err(NoBook::Refused(Refusal::NotJson))
+        }
+    }
+}
+
+/// The name in a greeting.
+fn read_greeting(value: &Value) -> Option<&str>
+    ensures { option_map (λ name. name.now) result ≡ option_and_then hello_of (as_array (view value.now)) }
+{
+    match value {
+        Value::Array(items) => read_hello(items),
+        _ => None,
+    }
+}
+
+#[tactic(auto, using(crate::proofs::GreetingLemmas::no_hello))]
+fn read_hello(items: &[Value]) -> Option<&str>
+    ensures { option_map (λ name. name.now) result ≡ hello_of (items_view items.now) }
+{
+    if items.len() != 2 {
+        return None;
+    }
+    match items {
+        [tag, name] => {
+            if is_word(tag, "hello") {
+                read_name(name)
+            } else {
+                None
+            }
+        }
+        _ => unreachable!(),
+    }
+}
+
+fn read_name(value: &Value) -> Option<&str>
+    ensures { option_map (λ name. name.now) result ≡ name_in (view value.now) }
+{
+    match value {
+        Value::String(text) if is_name(text.as_str()) => Some(text.as_str()),
+        _ => None,
+    }
+}
+
+/// Tells why there is no book.
+fn refuse<W: Sink>(why: Refusal, sink: &mut W) -> Result<Option<Book>, FrontFault>
+    ensures writes { Writes (W.contents sink.old) (W.contents sink.new) (refusal_text why) result }
+    ensures none { IfOk result (λ given. given ≡ None) }
+    ensures write_failed { result ≡ Err WriteFailed → W.failures sink.new ≡ next_count (W.failures sink.old) }
+    ensures write_worked { result ≢ Err WriteFailed → W.failures sink.new ≡ W.failures sink.old }
+{
+    match write_whole(sink, why.text()) {
+        Ok(()) => Ok(None),
+        Err(_) => Err(FrontFault::WriteFailed),
+    }
+}
+
+/// Tells the tenant that it may begin, and gives its book. Where that fails the book is laid back.
+fn welcome<W: Sink, T: Wait>(
+    rt: &T,
+    alloc: Global,
+    desk: &Desk,
+    book: Book,
+    sink: &mut W,
+) -> Result<Option<Book>, FrontFault>
+    requires { book.pending ≡ None }
+    ensures writes { Writes (W.contents sink.old) (W.contents sink.new) (hello_text book) result }
+    ensures given { IfOk result (λ given. given ≡ Some book) }
+    ensures write_failed { result ≡ Err WriteFailed → W.failures sink.new ≡ next_count (W.failures sink.old) }
+    ensures write_worked { result ≢ Err WriteFailed → W.failures sink.new ≡ W.failures sink.old }
+{
+    match say_hello(alloc, &book, sink) {
+        Ok(()) => Ok(Some(book)),
+        Err(fault) => {
+            let _ = desk.give_back(rt, book);
+            Err(fault)
+        }
+    }
+}
+
+/// Writes the reply to a greeting that gets this book.
+fn say_hello<W: Sink>(alloc: Global, book: &Book, sink: &mut W) -> Result<(), FrontFault>
+    ensures writes { Writes (W.contents sink.old) (W.contents sink.new) (hello_text book.now) result }
+    ensures write_failed { result ≡ Err WriteFailed → W.failures sink.new ≡ next_count (W.failures sink.old) }
+    ensures write_worked { result ≢ Err WriteFailed → W.failures sink.new ≡ W.failures sink.old }
+{
+    let Ok(text) = hello_text(alloc, book) else {
+        return Err(FrontFault::Memory);
+    };
+    match write_whole(sink, &text) {
+        Ok(()) => Ok(()),
+        Err(_) => Err(FrontFault::WriteFailed),
+    }
+}
+
+/// `["hello", name, n]` and an LF.
+fn hello_text(alloc: Global, book: &Book) -> Result<Vec<u8>, AllocError>
+    ensures { IfOk result (λ text. text.items ≡ hello_text book.now) }
+{
+    let mut out = Writer::new(Vec::new(alloc));
+    out.begin_array()?;
+    out.string("hello")?;
+    out.string(book.name())?;
+    out.u64(book.next_number())?;
+    out.end_array()?;
+    let mut text = out.into_inner();
+    text.push(b'\n')?;
+    Ok(text)
+}
