@@ -25,7 +25,7 @@ place-send : IsSend place.the_row
 place-send = search (sendable, crosses, send-Expr, send-Stmt) depth 80 fits 20000
 
 running-send : IsSend running.the_row
-running-send = search (sendable, crosses, send-Expr, send-Stmt) depth 80 fits 20000
+running-send = search (sendable, crosses, send-Expr) depth 80 fits 20000
 
 task-send : IsSend task.the_row
 task-send = declared_send task.the_type (search (sendable, crosses) depth 80 fits 20000, (search (sendable, crosses) depth 80 fits 20000, (search (sendable, crosses) depth 80 fits 20000, (search (sendable, crosses, place-send) depth 80 fits 20000, (search (siblings.the_send, sendable, crosses) depth 80, (search (sendable, crosses) depth 80 fits 20000, (search (sendable, crosses) depth 80 fits 20000, (search (sendable, crosses, running-send) depth 80 fits 20000, tt))))))))
