@@ -46,9 +46,6 @@ module _ (f : Region → Region) (up : (r : Region) → (f r).parent ≡ r.paren
   abbrev now : List Region
   now = updated rs i f
 
-  pub ordered-now : IsListBelow (length now) list
-  ordered-now = subst (λ n. IsListBelow n list) (sym (length-updated rs i f)) (list-ordered rs list old.claimable)
-
   pub kept-changed : (list2 : List ℕ) (room2 out2 unended2 : ℕ) → AreCounted now out2 unended2 → IsListBelow (length now) list2 → TellsOf now list2 i
       → ((k : ℕ) → TellsOf now list k → TellsOf now list2 k) → room2 ≡ room → AreKept now numbers list2 room2 out2 unended2
   kept-changed list2 room2 out2 unended2 counted ordered told others same = record {
@@ -88,9 +85,6 @@ module _ (rs : List Region) (p c : ℕ) (numbers : List (List ℕ)) (list : List
 
   long : length told ≡ length rs
   long = length-updated rs p (without c)
-
-  pub ordered-told : IsListBelow (length told) list
-  ordered-told = subst (λ n. IsListBelow n list) (sym long) (list-ordered rs list old.claimable)
 
   with-length : (r : Region) → length (without c r).children ≡ length r.children
   with-length r = length-updated r.children c (λ s. record s { finished = true })

@@ -174,11 +174,6 @@ module _ (rs : List Region) (s : IsSound rs) (i : ℕ) (h : i < length rs) where
       (λ u. serial-append b (todo rest (at rs i).groups) (bump 0 1 u)
       ∙ sym (ap (λ c. serial c u) (ap (λ c. todo c (at rs i).groups) was ∙ todo-next (Group cs b) rest (at rs i).groups)))
 
-  -- the end of a group
-  pub kept-leave : (o : Open) (os : List Open) (t : State) → (at rs i).rest ≡ End → (at rs i).groups ≡ o ∷ os
-      → todo o.behind os ≡ todo_at rs i
-  kept-leave o os t was open_ = sym (ap (λ b. todo b (at rs i).groups) was ∙ ap (todo End) open_)
-
   -- an `if`, taken by the value that its condition has in the cells now
   pub kept-if : (e : E) (a b rest : Body) (t : State) → (at rs i).rest ≡ Next (If e a b) rest → MayRun (parent_of rs) (may_at rs) (ended_at rs) (IsBegun rs) i (Next (If e End End) End)
       → left_of (updated rs i (with_rest (append (either (val (cell_of t.cells) e) a b) rest))) (bump 0 1 t) ≡ left_of rs t

@@ -1,5 +1,5 @@
 -- Who is claimable, as the code finds it.
-use Rattle.std.proofs.Common.{◌≡◌, ◌<◌, ◌≤◌, ℕ, zero, suc, ◌+◌, ◌-◌, Bool, true, false, cond, not, ◌&&◌, ◌||◌, List, [], ◌∷◌, length, get_or, refl, sym, ap, subst, ◌∙◌, arith, true≢false}
+use Rattle.std.proofs.Common.{◌≡◌, ◌<◌, ◌≤◌, ℕ, zero, suc, ◌+◌, Bool, true, false, cond, not, ◌&&◌, ◌||◌, List, [], ◌∷◌, length, get_or, refl, sym, ap, subst, ◌∙◌, arith, true≢false}
 use Rattle.std.specs.Prelude.{◌==◌, ◌%◌, Option, Some, None, slice_get, filter}
 use Rattle.std.specs.List.{range_with_len}
 use Rattle.std.proofs.lemmas.Option.{same_Some}
@@ -53,12 +53,6 @@ ready-from siblings child passed = by (slice_get siblings child) refl
         IsReady-from_All siblings child itself known (λ k d within depends.
         let earlier = get_or (take child siblings) k d in
         told earlier.finished (depends_on earlier.uses itself.uses) (all k d within) (depends_on-from_DependsOn earlier.uses itself.uses depends))
-
--- ---- those from a number on
-
-pub claimable-more : (test : ℕ → Bool) (i n : ℕ) → i < n
-    → filter test (range_with_len i (n - i)) ≡ cond (test i) (i ∷ filter test (range_with_len (i + 1) (n - (i + 1)))) (filter test (range_with_len (i + 1) (n - (i + 1))))
-claimable-more test i n below = let left : n - i ≡ suc (n - (i + 1)) = omega (arith, below) in rw left refl
 
 -- three tests in a row
 pub all-three : (idle begun free : Bool) → idle ≡ true → begun ≡ true → free ≡ (idle && (begun && free))

@@ -3,6 +3,7 @@ pub mod OrderLemmas
 pub mod PlaceLemmas
 pub mod JoinedLemmas
 pub mod RightsLemmas
+pub mod SlotLemmas
 pub mod OutLemmas
 pub mod ApartLemmas
 pub mod WorthLemmas

@@ -6,6 +6,7 @@ pub mod laws;
 pub mod lent;
 pub mod owners;
 pub mod right;
+mod rights;
 
 pub use lent::{Lent, LentCell};
 pub use owners::Owners;

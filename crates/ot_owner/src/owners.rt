@@ -4,6 +4,7 @@ ghost use Rattle.ot_owner.specs.Leases.{lent_from};
 
 use crate::lent::{Lent, LentCell};
 use crate::right::Right;
+use crate::rights::Rights;
 use ot_model::{Cells, Decl, Look, Use};
 use std::alloc::{AllocError, Global};
 use std::marker::Model;
@@ -12,7 +13,7 @@ use std::marker::Model;
 /// conflict at a cell, as uses of one cell do unless both read or both add.
 #[derive(Debug, Drop)]
 pub struct Owners {
-    rights: Vec<Right>,
+    rights: Rights,
 }
 
 impl Model for Owners {
@@ -20,9 +21,9 @@ impl Model for Owners {
 
     ghost Value = { Owned };
 
-    ghost view = { λ o. record { out = o.rights.items } };
+    ghost view = { λ o. record { out = o.rights } };
 
-    ghost invariant = { λ o. NoTwoConflict o.rights.items };
+    ghost invariant = { λ o. NoTwoConflict o.rights };
 }
 
 impl Owners {
@@ -38,7 +39,7 @@ impl Owners {
         ensures worth { IsCombined result }
     {
         Owners {
-            rights: Vec::new(alloc),
+            rights: Rights::new(alloc),
         }
     }
 
@@ -47,7 +48,7 @@ impl Owners {
         ensures exact { IsTrue result ↔ IsFreeFor self.now.out decl.now }
         ensures apart { NoTwoConflict self.now.out }
     {
-        !self.rights.iter().any(|right| right.conflicts(decl))
+        self.rights.is_free_for(decl)
     }
 
     /// Lends the cells of a declaration for which it is free. Each is to be there. A cell under
@@ -63,8 +64,8 @@ impl Owners {
     {
         let lent = lend(alloc, cells, decl.uses())?;
         let right = Right::of(alloc, cells, decl)?;
-        self.rights.push(right)?;
-        Ok(Lent::new(lent))
+        let key = self.rights.put(right)?;
+        Ok(Lent::new(lent, key))
     }
 
     /// Takes back what is out, and whose cells are there: a written cell has its present value from
@@ -88,19 +89,8 @@ impl Owners {
         ensures ended { IsPermutation self.old.out (lease_of lent ∷ self.new.out) }
         ensures worth { KeepsWorth self.old self.new }
     {
-        self.end(lent.cells());
+        self.rights.end(&lent);
         lent.discard();
-    }
-
-    /// Ends one right to these cells.
-    fn end(&mut self, lent: &[LentCell])
-        requires { Contains self.old.out (lease_of lent.now) }
-        ensures { IsPermutation self.old.out (lease_of lent.now ∷ self.new.out) }
-    {
-        let Some(place) = self.rights.iter().position(|right| right.is_behind(lent)) else {
-            unreachable!()
-        };
-        let _ = self.rights.remove(place);
     }
 }
 
