@@ -3,8 +3,14 @@
 #![tactic(auto)]
 
 #[cfg(test)]
+mod connections;
+#[cfg(test)]
 mod devices;
 #[cfg(test)]
+mod door;
+#[cfg(test)]
 mod fakes;
+#[cfg(test)]
+mod greetings;
 #[cfg(test)]
 mod sessions;

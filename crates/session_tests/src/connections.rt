@@ -1,0 +1,290 @@
+//! Connections over memory, each with its greeting and its session over a client of a pool, and where the
+//! books are behind them.
+ghost use Rattle.std.specs.Prelude.{◌≡◌, ◌≤◌, vec_len, IfOk};
+ghost use Rattle.std.specs.List.{All, sum_by};
+
+use crate::door::Door;
+use crate::greetings::desk_of;
+use ot_front::{Desk, Reading, Writing, serve_connection};
+use ot_pool::{Pool, Usage, close, join_all, start, totals};
+use std::alloc::{AllocError, Global};
+use std::marker::Brand;
+use std::sync::Wait;
+use std::sync::ledger::{Blank, Ledger, Share};
+use std::test::Fail;
+use std::thread;
+use std::thread::Threads;
+
+/// What is written on a connection on which this comes in.
+fn connect<L: Ledger, R: Wait>(
+    rt: &R,
+    alloc: Global,
+    pool: &Pool<L>,
+    desk: &Desk,
+    input: &str,
+) -> Vec<u8> {
+    let mut source = Reading::new(input.as_bytes());
+    let mut sink = Writing::new(Vec::new(alloc));
+    serve_connection(rt, alloc, pool, desk, &mut source, &mut sink);
+    sink.into_inner()
+}
+
+/// Connections, one after another: what comes in, and what is written. The pool has `t1` alone, and nobody
+/// runs jobs on it. A log takes four requests.
+const IN_TURN: [(&str, &str); 9] = [
+    (
+        "[\"hello\",\"t2\"]\n[\"new\",\"a\",1]\n[\"bye\"]\n",
+        "[\"hello\",\"t2\",1]\n[\"ok\",1]\n",
+    ),
+    ("[\"hello\",\"t2\"]\n[\"get\",", "[\"hello\",\"t2\",2]\n"),
+    (
+        "[\"hello\",\"t2\"]\n[\"run\",[\"program\",[],[[\"nonsense\"]]]]\n[\"run\",[\"program\",[],[]]]\n[\"list\"]\n",
+        "[\"hello\",\"t2\",2]\n[\"err\",2,420]\n",
+    ),
+    (
+        "[\"hello\",\"t2\"]\n[\"used\"]\n",
+        "[\"hello\",\"t2\",3]\n[\"used\",3,0]\n",
+    ),
+    ("[\"hello\",\"zz\"]\n[\"list\"]\n", "[\"err\",0,404]\n"),
+    ("[\"hello\",\"t1\"", ""),
+    (
+        "[\"hello\",\"t1\"]\n{}\n{}\n{}\n{}\n{}\n",
+        "[\"hello\",\"t1\",1]\n[\"err\",1,411]\n[\"err\",2,411]\n[\"err\",3,411]\n[\"err\",4,411]\n[\"full\"]\n",
+    ),
+    ("[\"hello\",\"t1\"]\n[\"bye\"]\n", "[\"hello\",\"t1\",5]\n"),
+    (
+        "[\"hello\",\"t1\"]\n[\"list\"]\n",
+        "[\"hello\",\"t1\",5]\n[\"full\"]\n",
+    ),
+];
+
+/// The place of the first connection on which something else is written.
+fn first_other<R: Wait>(rt: &R, alloc: Global) -> Result<Option<usize>, Fail> {
+    first_other_on::<Brand, R>(rt, alloc, Blank::new(1))
+}
+
+fn first_other_on<L: Ledger, R: Wait>(
+    rt: &R,
+    alloc: Global,
+    blank: Blank,
+) -> Result<Option<usize>, Fail>
+    requires name { blank.name ≡ L.name }
+    requires parts { (blank.parts ≡ L.parts) × (blank.parts ≡ 1) }
+{
+    let desk = desk_of(alloc, 4)?;
+    let (pool, _) = Pool::<L>::new(alloc, 1, 1, blank)?;
+    for (at, (input, told)) in IN_TURN.iter().enumerate() {
+        if connect(rt, alloc, &pool, &desk, input).as_slice() != told.as_bytes() {
+            return Ok(Some(at));
+        }
+    }
+    Ok(None)
+}
+
+#[test]
+fn a_book_comes_back_whatever_ends_its_session(rt: HostRuntime) -> Result<(), Fail> {
+    assert_eq!(rt; first_other(&rt, rt.alloc())?, None);
+    Ok(())
+}
+
+/// Its second task reads what the first writes.
+const FIRST: [&str; 1] = [
+    "[\"hello\",\"t1\"]\n[\"new\",\"a\",3]\n[\"put\",\"a\",0,[1,2,3]]\n[\"run\",[\"program\",[[\"a\",0,3]],\
+[[\"task\",[[\"out\",[\"a\",0,1]]],[[\"set\",[\"c\",\"a\",0],7]]],\
+[\"task\",[[\"in\",[\"a\",0,1]],[\"out\",[\"a\",1,1]]],[[\"set\",[\"c\",\"a\",1],[\"+\",[\"c\",\"a\",0],1]]]],[\"wait\"]]]]\n",
+];
+
+const FIRST_TOLD: &str =
+    "[\"hello\",\"t1\",1]\n[\"ok\",1]\n[\"ok\",2]\n[\"done\",3,2,5,[[7,8,3]]]\n";
+
+/// While a piece of `t1` is held. The last has two tasks in a task.
+const MEANWHILE: [&str; 3] = [
+    "[\"hello\",\"t1\"]\n[\"list\"]\n",
+    "[\"hello\",\"zz\"]\n",
+    "[\"hello\",\"t2\"]\n[\"new\",\"a\",3]\n[\"put\",\"a\",0,[1,2,3]]\n[\"run\",[\"program\",[[\"a\",0,3]],\
+[[\"task\",[[\"inout\",[\"a\",0,3]]],[[\"task\",[[\"out\",[\"a\",0,1]]],[[\"set\",[\"c\",\"a\",0],4]]],\
+[\"task\",[[\"out\",[\"a\",1,1]]],[[\"set\",[\"c\",\"a\",1],5]]],[\"wait\"],\
+[\"set\",[\"c\",\"a\",2],[\"+\",[\"c\",\"a\",0],[\"c\",\"a\",1]]]]]]]]\n[\"bye\"]\n",
+];
+
+const MEANWHILE_TOLD: &str =
+    "[\"err\",0,409]\n[\"err\",0,404]\n[\"hello\",\"t2\",1]\n[\"ok\",1]\n[\"ok\",2]\n[\"done\",3,3,7,[[4,5,9]]]\n";
+
+/// Behind the closing of the pool.
+const BEHIND: [&str; 2] = [
+    "[\"hello\",\"t1\"]\n[\"get\",\"a\",0,3]\n[\"run\",[\"program\",[],[[\"set\",[\"c\",\"a\",0],9]]]]\n[\"list\"]\n",
+    "[\"hello\",\"t1\"]\n[\"get\",\"a\",0,1]\n",
+];
+
+const BEHIND_TOLD: &str =
+    "[\"hello\",\"t1\",4]\n[\"cells\",4,[7,8,3]]\n[\"hello\",\"t1\",5]\n[\"cells\",5,[7]]\n";
+
+/// What serves connections. A thread borrows a pool as such a service.
+trait Service {
+    /// What is written on connections, one after another, up to the first for which there is no memory.
+    fn written<R: Wait>(&self, rt: &R, alloc: Global, desk: &Desk, inputs: &[&str]) -> Vec<u8>;
+}
+
+impl<L: Ledger> Service for Pool<L> {
+    fn written<R: Wait>(&self, rt: &R, alloc: Global, desk: &Desk, inputs: &[&str]) -> Vec<u8> {
+        let mut written = Vec::new(alloc);
+        for input in inputs {
+            if written
+                .extend_from_slice(&connect(rt, alloc, self, desk, input))
+                .is_err()
+            {
+                break;
+            }
+        }
+        written
+    }
+}
+
+/// The connection of `t1`, and once its first piece stands at the door those beside it. When these are
+/// over the door is opened.
+fn side_by_side<P: Service + Sync, R: Threads + Wait + Sync>(
+    rt: &R,
+    alloc: Global,
+    service: &P,
+    desk: &Desk,
+    door: &Door,
+) -> (Vec<u8>, Vec<u8>) {
+    thread::join(
+        rt,
+        || service.written(rt, alloc, desk, &FIRST),
+        || connect_behind(rt, alloc, service, desk, door),
+    )
+}
+
+/// What is written on the connections beside the first. Where none of its pieces has come there are none.
+fn connect_behind<P: Service, R: Wait>(
+    rt: &R,
+    alloc: Global,
+    service: &P,
+    desk: &Desk,
+    door: &Door,
+) -> Vec<u8> {
+    if !door.wait() {
+        return Vec::new(alloc);
+    }
+    let written = service.written(rt, alloc, desk, &MEANWHILE);
+    door.set_open();
+    written
+}
+
+/// The same over a pool.
+fn over_pool<L: Ledger + Send + Sync, R: Threads + Wait + Sync>(
+    rt: &R,
+    alloc: Global,
+    pool: &Pool<L>,
+    desk: &Desk,
+    door: &Door,
+) -> (Vec<u8>, Vec<u8>) {
+    side_by_side(rt, alloc, pool, desk, door)
+}
+
+/// What is written on all connections, and the units that were settled.
+#[derive(Debug, Drop)]
+struct Played {
+    first: Vec<u8>,
+    meanwhile: Vec<u8>,
+    behind: Vec<u8>,
+    usage: Usage,
+}
+
+impl Played {
+    fn is_told(&self) -> bool {
+        self.first.as_slice() == FIRST_TOLD.as_bytes()
+            && self.meanwhile.as_slice() == MEANWHILE_TOLD.as_bytes()
+            && self.behind.as_slice() == BEHIND_TOLD.as_bytes()
+            && self.usage.by_tenant.as_slice() == [5, 7].as_slice()
+            && self.usage.total == 12
+    }
+}
+
+fn play<R: Threads + Wait + Sync>(
+    rt: &R,
+    alloc: Global,
+    desk: &Desk,
+    door: &Door,
+) -> Result<Played, AllocError> {
+    play_on::<Brand, R>(rt, alloc, Blank::new(2), desk, door)
+}
+
+fn play_on<L: Ledger + Send + Sync, R: Threads + Wait + Sync>(
+    rt: &R,
+    alloc: Global,
+    blank: Blank,
+    desk: &Desk,
+    door: &Door,
+) -> Result<Played, AllocError>
+    requires name { blank.name ≡ L.name }
+    requires parts { (blank.parts ≡ L.parts) × (blank.parts ≡ 2) }
+{
+    let (pool, shares) = Pool::<L>::new(alloc, 2, 2, blank)?;
+    let (written, shares) = play_staffed(rt, alloc, &pool, desk, door, shares);
+    let Some((first, meanwhile)) = written else {
+        return Err(AllocError);
+    };
+    let behind = pool.written(rt, alloc, desk, &BEHIND);
+    let shares = shares?;
+    if shares.len() != 2 {
+        return Err(AllocError);
+    }
+    let usage = totals(rt, &pool, alloc, shares)?;
+    Ok(Played {
+        first,
+        meanwhile,
+        behind,
+        usage,
+    })
+}
+
+/// What was written, and the shares that the workers brought home.
+type Staffed<L> = (
+    Option<(Vec<u8>, Vec<u8>)>,
+    Result<Vec<Share<L>>, AllocError>,
+);
+
+/// Starts the workers, takes the connections, closes the pool and waits until the workers have come home. Where
+/// a worker couldn't be started nothing is written.
+fn play_staffed<L: Ledger + Send + Sync, R: Threads + Wait + Sync>(
+    rt: &R,
+    alloc: Global,
+    pool: &Pool<L>,
+    desk: &Desk,
+    door: &Door,
+    shares: Vec<Share<L>>,
+) -> Staffed<L>
+    requires few { vec_len shares ≤ 16 }
+    requires one { All (λ s. s.parts ≡ 1) shares.items }
+    ensures { IfOk result.1 (λ shares. sum_by (λ s. s.parts) shares.items ≡ vec_len shares) }
+{
+    thread::scope(
+        thread::scope_env(),
+        rt,
+        move |scope| -> Staffed<L>
+            requires { (vec_len shares ≤ 16) × All (λ s. s.parts ≡ 1) shares.items }
+            ensures { IfOk result.1 (λ shares. sum_by (λ s. s.parts) shares.items ≡ vec_len shares) }
+        {
+            let (threads, complete) = start(scope, rt, alloc, pool, door, shares);
+            let written = if complete {
+                Some(over_pool(rt, alloc, pool, desk, door))
+            } else {
+                None
+            };
+            close(rt, pool);
+            (written, join_all(rt, alloc, threads))
+        },
+    )
+}
+
+#[test]
+fn a_tenant_is_answered_while_a_piece_of_another_is_held(rt: HostRuntime) -> Result<(), Fail> {
+    let desk = desk_of(rt.alloc(), 100)?;
+    let door = Door::new();
+    let played = play(&rt, rt.alloc(), &desk, &door)?;
+    assert!(rt; !door.gave_up(), "{played:?}");
+    assert!(rt; played.is_told(), "{played:?}");
+    Ok(())
+}

@@ -1,0 +1,225 @@
+//! Greetings over memory: the first line of a connection, what is told, and where the book is then.
+ghost use Rattle.std.specs.Prelude.{◌≡◌, IfOk, None};
+
+use crate::fakes::Narrow;
+use ot_book::{Book, Solo};
+use ot_front::{Desk, FrontFault, Reading, Writing, greet, serve};
+use ot_store::{Limits, Store};
+use std::alloc::Global;
+use std::sync::Wait;
+use std::test::Fail;
+
+/// How many requests a log takes.
+const USUAL: u32 = 4_096;
+
+/// A new tenant's book, whose log takes so many requests.
+fn book_of(alloc: Global, name: &str, log: u32) -> Result<Book, Fail>
+    ensures name { IfOk result (λ book. book.name ≡ name.now) }
+    ensures closed { IfOk result (λ book. book.pending ≡ None) }
+{
+    let limits = Limits {
+        log,
+        ..Limits::usual()
+    };
+    Ok(Book::new(alloc, name, limits, Store::empty(alloc))?)
+}
+
+/// A desk with the books of `t1` and `t2`, whose logs take so many requests each.
+pub(crate) fn desk_of(alloc: Global, log: u32) -> Result<Desk, Fail> {
+    let mut books = Vec::new(alloc);
+    books.push(book_of(alloc, "t1", log)?)?;
+    books.push(book_of(alloc, "t2", log)?)?;
+    Ok(Desk::new(alloc, books)?)
+}
+
+/// A greeting that is over: what was answered and written, and how many bytes nobody has read.
+#[derive(Drop)]
+struct Greeted {
+    given: Result<Option<Book>, FrontFault>,
+    written: Vec<u8>,
+    left: usize,
+}
+
+impl Greeted {
+    /// Whether this and nothing else was told, and a book given where it is a welcome.
+    fn is(&self, told: &str, left: usize) -> bool {
+        let welcome = told.starts_with("[\"hello\"");
+        let given = match &self.given {
+            Ok(given) => given.is_some() == welcome,
+            Err(_) => false,
+        };
+        given && self.written.as_slice() == told.as_bytes() && self.left == left
+    }
+}
+
+fn greet_with<R: Wait>(rt: &R, alloc: Global, desk: &Desk, input: &[u8]) -> Greeted {
+    let mut source = Reading::new(input);
+    let mut sink = Writing::new(Vec::new(alloc));
+    let given = greet(rt, alloc, desk, &mut source, &mut sink);
+    Greeted {
+        given,
+        written: sink.into_inner(),
+        left: source.into_inner().len(),
+    }
+}
+
+/// What comes in, what is told, and how many bytes are left.
+const FIRST_LINES: [(&str, &str, usize); 20] = [
+    ("[\"hello\",\"t1\"]\n", "[\"hello\",\"t1\",1]\n", 0),
+    (
+        "[\"hello\",\"t2\"]\n[\"bye\"]\n",
+        "[\"hello\",\"t2\",1]\n",
+        8,
+    ),
+    (" [ \"hello\" ,\t\"t1\" ]\r\n", "[\"hello\",\"t1\",1]\n", 0),
+    ("[\"hello\",\"t\\u0031\"]\n", "[\"hello\",\"t1\",1]\n", 0),
+    ("[\"hello\",\"zz\"]\n", "[\"err\",0,404]\n", 0),
+    ("[\"hello\",\"abcdefghijklmnop\"]\n", "[\"err\",0,404]\n", 0),
+    (
+        "[\"hello\",\"abcdefghijklmnopq\"]\n",
+        "[\"err\",0,411]\n",
+        0,
+    ),
+    ("[\"hello\",\"\"]\n", "[\"err\",0,411]\n", 0),
+    ("[\"hello\",\"T1\"]\n", "[\"err\",0,411]\n", 0),
+    ("[\"hello\",\"t1\\n\"]\n", "[\"err\",0,411]\n", 0),
+    ("[\"hello\",1]\n", "[\"err\",0,411]\n", 0),
+    ("[\"hello\"]\n[\"hello\",\"t1\"]\n", "[\"err\",0,411]\n", 15),
+    ("[\"hello\",\"t1\",1]\n", "[\"err\",0,411]\n", 0),
+    ("[\"new\",\"t1\"]\n", "[\"err\",0,411]\n", 0),
+    ("{}\n", "[\"err\",0,411]\n", 0),
+    ("\n[\"hello\",\"t1\"]\n", "[\"err\",0,410]\n", 15),
+    ("[\n", "[\"err\",0,410]\n", 0),
+    ("hello t1\n", "[\"err\",0,410]\n", 0),
+    ("", "", 0),
+    ("[\"hello\",\"t1\"]", "", 0),
+];
+
+/// The first that is answered otherwise.
+fn first_other_line<R: Wait>(rt: &R, alloc: Global) -> Result<Option<&'static str>, Fail> {
+    for (input, told, left) in &FIRST_LINES {
+        let desk = desk_of(alloc, USUAL)?;
+        if !greet_with(rt, alloc, &desk, input.as_bytes()).is(told, *left) {
+            return Ok(Some(*input));
+        }
+    }
+    Ok(None)
+}
+
+#[test]
+fn first_lines_and_what_is_told(rt: HostRuntime) -> Result<(), Fail> {
+    assert_eq!(rt; first_other_line(&rt, rt.alloc())?, None);
+    Ok(())
+}
+
+/// What comes first, how many spaces come behind it, what comes last, what is told, and how many bytes
+/// are left. The greeting has 14 bytes.
+const LONG_LINES: [(&str, usize, &str, &str, usize); 4] = [
+    (
+        "[\"hello\",\"t1\"]",
+        50,
+        "\n{}",
+        "[\"hello\",\"t1\",1]\n",
+        2,
+    ),
+    ("[\"hello\",\"t1\"]", 51, "\n{}", "[\"err\",0,411]\n", 3),
+    ("", 66, "\n", "[\"err\",0,411]\n", 2),
+    ("[\"hello\",\"t1\"]", 50, "", "", 0),
+];
+
+fn first_other_long_line<R: Wait>(rt: &R, alloc: Global) -> Result<Option<usize>, Fail> {
+    for (number, (front, spaces, back, told, left)) in LONG_LINES.iter().enumerate() {
+        let desk = desk_of(alloc, USUAL)?;
+        let mut input = String::from_str(alloc, front)?;
+        for _ in 0..*spaces {
+            input.push(' ')?;
+        }
+        input.push_str(back)?;
+        if !greet_with(rt, alloc, &desk, input.as_bytes()).is(told, *left) {
+            return Ok(Some(number));
+        }
+    }
+    Ok(None)
+}
+
+#[test]
+fn the_longest_first_line(rt: HostRuntime) -> Result<(), Fail> {
+    assert_eq!(rt; first_other_long_line(&rt, rt.alloc())?, None);
+    Ok(())
+}
+
+const GREETING: &[u8] = b"[\"hello\",\"t1\"]\n";
+
+const TWO_REQUESTS: &str = "[\"new\",\"a\",3]\n[\"put\",\"a\",0,[1,2,3]]\n[\"bye\"]\n";
+
+/// A greeting of `t1` whose reply can be written up to so many bytes: its fault, and what was written.
+fn cut_off<R: Wait>(
+    rt: &R,
+    alloc: Global,
+    desk: &Desk,
+    may_take: usize,
+) -> (Option<FrontFault>, Vec<u8>) {
+    let mut source = Reading::new(GREETING);
+    let mut sink = Narrow {
+        taken: Vec::new(alloc),
+        may_take,
+        failures: 0,
+    };
+    let given = greet(rt, alloc, desk, &mut source, &mut sink);
+    (given.err(), sink.taken)
+}
+
+/// Where a book goes: the number of the first step that goes otherwise. It is taken, and `t1` is busy and
+/// `t2` isn't. After two requests it is laid back, and can't be a second time. Then a greeting that can't be
+/// told leaves it there, and the next one gets it.
+fn first_other_step<R: Wait>(rt: &R, alloc: Global) -> Result<Option<u32>, Fail> {
+    let desk = desk_of(alloc, USUAL)?;
+    let Greeted { given, .. } = greet_with(rt, alloc, &desk, GREETING);
+    let Ok(Some(mut book)) = given else {
+        return Ok(Some(1));
+    };
+    if !greet_with(rt, alloc, &desk, GREETING).is("[\"err\",0,409]\n", 0) {
+        return Ok(Some(2));
+    }
+    if !greet_with(rt, alloc, &desk, b"[\"hello\",\"t2\"]\n").is("[\"hello\",\"t2\",1]\n", 0) {
+        return Ok(Some(3));
+    }
+    let mut source = Reading::new(TWO_REQUESTS.as_bytes());
+    let mut sink = Writing::new(Vec::new(alloc));
+    let _ = serve(alloc, &mut book, &mut Solo, &mut source, &mut sink);
+    if desk.give_back(rt, book).is_err() {
+        return Ok(Some(4));
+    }
+    if desk.give_back(rt, book_of(alloc, "t1", USUAL)?).is_ok() {
+        return Ok(Some(5));
+    }
+    if desk.give_back(rt, book_of(alloc, "t3", USUAL)?).is_ok() {
+        return Ok(Some(6));
+    }
+    for may_take in 0..17 {
+        let (fault, written) = cut_off(rt, alloc, &desk, may_take);
+        let front = &b"[\"hello\",\"t1\",3]\n".as_slice()[..may_take];
+        if fault != Some(FrontFault::WriteFailed) || written.as_slice() != front {
+            return Ok(Some(7));
+        }
+    }
+    if !greet_with(rt, alloc, &desk, GREETING).is("[\"hello\",\"t1\",3]\n", 0) {
+        return Ok(Some(8));
+    }
+    Ok(None)
+}
+
+#[test]
+fn a_book_goes_and_comes_back(rt: HostRuntime) -> Result<(), Fail> {
+    assert_eq!(rt; first_other_step(&rt, rt.alloc())?, None);
+    Ok(())
+}
+
+/// The numbers of names.
+#[test]
+fn tenants_have_numbers(rt: HostRuntime) -> Result<(), Fail> {
+    let desk = desk_of(rt.alloc(), USUAL)?;
+    let numbers = (desk.position("t1"), desk.position("t2"), desk.position("t"));
+    assert_eq!(rt; numbers, (Some(0), Some(1), None));
+    Ok(())
+}
