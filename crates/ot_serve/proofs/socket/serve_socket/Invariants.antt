@@ -1,0 +1,5 @@
+use Rattle.ot_serve.proofs.socket.serve_socket.Given as goal
+
+-- the ledger is the one that is opened
+abbrev pub ghosts-run : goal.ghosts-run
+ghosts-run g a = record { name = a.blank.name; parts = a.blank.parts }

@@ -1,0 +1,4 @@
+pub mod Faults
+pub mod Serving
+pub mod Tenants
+pub mod Usages

@@ -1,0 +1,28 @@
+-- What a server is asked for, what it prints, and why it may fail.
+use Rattle.std.specs.Prelude.{◌≡◌, ◌≤◌, ℕ, List, Option, Some, ⊤, length}
+use Rattle.std.specs.Io.KnownBytes.{Appends}
+use Rattle.ot_serve.specs.declared.fault.Fault.{Fault}
+use Rattle.ot_serve.specs.declared.fault.Fault.TheVariants.{Memory, Stranger, SocketFailed, NoThread}
+use Rattle.ot_serve.specs.declared.serve.Serve.{Serve}
+use Rattle.ot_serve.specs.Usages.{usage_text}
+
+abbrev pub IsFrom1To : ℕ → ℕ → Type 0
+IsFrom1To most n = (1 ≤ n) × (n ≤ most)
+
+-- the numbers are in their ranges
+pub record IsInRange (s : Serve) : Type 0 where
+  pub workers : IsFrom1To 16 s.workers
+  pub sessions : IsFrom1To 16 s.sessions
+  pub count : (n : ℕ) → s.count ≡ Some n → IsFrom1To 1000000 n
+
+-- the faults of a server whose tenants have names, before it prints
+abbrev pub IsLate : Fault → Type 0
+IsLate Memory = ⊤
+IsLate Stranger = ⊤
+IsLate SocketFailed = ⊤
+IsLate NoThread = ⊤
+IsLate _ = ⊥
+
+-- what is printed in the end: the units of each tenant, and their sum
+abbrev pub Prints : List (List ℕ) → Option (List ℕ) → Option (List ℕ) → Type 0
+Prints names old new = (units : List ℕ) × (length units ≡ length names) × Appends old new (usage_text names units)

@@ -1,0 +1,90 @@
+//! The server, from its names to the lines that it prints when it ends.
+ghost use Rattle.std.specs.Prelude.{◌≡◌, ◌≢◌, ◌↔◌, ◌<◌, ◌≤◌, Err, None, IfOk, IfErr, OnOk, true, false, length, map, string_bytes};
+ghost use Rattle.std.specs.List.{All};
+ghost use Rattle.ot_front.specs.Device.{next_count};
+ghost use Rattle.ot_serve.specs.Serving.{IsInRange, Prints};
+ghost use Rattle.ot_serve.specs.Tenants.{are_tenants};
+
+use crate::crew::run;
+use crate::door::Door;
+use crate::fault::Fault;
+use crate::names::look_at_names;
+use crate::serve::Serve;
+use crate::usages::write_usage;
+use ot_book::Book;
+use ot_front::{Desk, Sink, write_whole};
+use ot_store::{Limits, Store};
+use std::alloc::{AllocError, Global};
+use std::fs::Files;
+use std::marker::Brand;
+use std::net::Net;
+use std::sync::Wait;
+use std::sync::ledger::Blank;
+use std::thread::Threads;
+
+/// Serves tenants with the usual limits and no arrays, each by its name, at a Unix socket. After as
+/// many connections as are asked for it closes the pool, joins the workers, and writes the units of
+/// each tenant, in their order, and of all. Without a count it goes on.
+pub fn serve_socket<R: Threads + Wait + Sync + Files + Net, W: Sink>(
+    rt: &R,
+    alloc: Global,
+    asked: &Serve,
+    sink: &mut W,
+) -> Result<(), Fault>
+    requires { IsInRange asked.now }
+
+    // The names are looked at first, and nothing else is done where they can't be those of tenants.
+    ensures bad_name { result ≡ Err Fault.BadTenantName ↔ are_tenants (map string_bytes asked.now.names.items) ≡ false }
+    ensures too_many { result ≡ Err Fault.TooManyTenants
+        ↔ (are_tenants (map string_bytes asked.now.names.items) ≡ true) × (64 < length (map string_bytes asked.now.names.items)) }
+
+    // What is printed, and that nothing is where the server fails otherwise.
+    ensures prints { OnOk result (Prints (map string_bytes asked.now.names.items) (W.contents sink.old) (W.contents sink.new)) }
+    ensures silent { IfErr result (λ fault. fault ≢ Fault.WriteFailed → W.contents sink.new ≡ W.contents sink.old) }
+    ensures write_failed { result ≡ Err Fault.WriteFailed → W.failures sink.new ≡ next_count (W.failures sink.old) }
+    ensures write_worked { result ≢ Err Fault.WriteFailed → W.failures sink.new ≡ W.failures sink.old }
+{
+    look_at_names(asked.names.as_slice())?;
+    let Ok(desk) = lay_desk(alloc, asked.names.as_slice()) else {
+        return Err(Fault::Memory);
+    };
+    let door = Door::build(rt, alloc, asked.socket.as_str())?;
+    let blank = Blank::new(u64::from(asked.workers));
+    let ended = run::<Brand, R>(rt, alloc, blank, asked, &desk, &door);
+    door.remove(rt);
+    let usage = ended?;
+    let Ok(text) = write_usage(alloc, asked.names.as_slice(), &usage) else {
+        return Err(Fault::Memory);
+    };
+    match write_whole(sink, text.as_bytes()) {
+        Ok(()) => Ok(()),
+        Err(_) => Err(Fault::WriteFailed),
+    }
+}
+
+/// A desk with an empty book for each tenant.
+fn lay_desk(alloc: Global, names: &[String]) -> Result<Desk, AllocError>
+    requires names { are_tenants (map string_bytes names.now) ≡ true }
+    requires few { length names.now ≤ 64 }
+{
+    Desk::new(alloc, empty_books(alloc, names)?)
+}
+
+/// An empty book for each tenant, in order.
+fn empty_books(alloc: Global, names: &[String]) -> Result<Vec<Book>, AllocError>
+    ensures names { IfOk result (λ books. map (λ book. book.name) books.items ≡ map string_bytes names.now) }
+    ensures closed { IfOk result (λ books. All (λ book. book.pending ≡ None) books.items) }
+{
+    let mut books = Vec::with_capacity(alloc, names.len())?;
+    for name in names {
+        books.push(empty_book(alloc, name.as_str())?)?;
+    }
+    Ok(books)
+}
+
+fn empty_book(alloc: Global, name: &str) -> Result<Book, AllocError>
+    ensures name { IfOk result (λ book. book.name ≡ name.now) }
+    ensures closed { IfOk result (λ book. book.pending ≡ None) }
+{
+    Book::new(alloc, name, Limits::usual(), Store::empty(alloc))
+}
