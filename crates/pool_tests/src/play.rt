@@ -1,0 +1,106 @@
+//! A pool with its workers, and a scene that is played on it.
+ghost use Rattle.std.specs.Prelude.{◌≡◌, ◌≤◌, vec_len, IfOk};
+ghost use Rattle.std.specs.List.{All, sum_by};
+
+use super::door::Door;
+use super::scene::Scene;
+use ot_pool::{Pool, Usage, close, join_all, start, totals};
+use std::alloc::{AllocError, Global};
+use std::marker::Brand;
+use std::sync::Wait;
+use std::sync::ledger::{Blank, Ledger, Share};
+use std::thread;
+use std::thread::Threads;
+
+/// What was told in a scene, and the units that were settled in it.
+#[derive(Debug, Drop)]
+pub(crate) struct Told {
+    pub said: String,
+    pub usage: Usage,
+}
+
+impl Told {
+    pub(crate) fn is(&self, said: &str, by_tenant: &[u64], total: u64) -> bool {
+        self.said.as_str() == said
+            && self.usage.by_tenant.as_slice() == by_tenant
+            && self.usage.total == total
+    }
+}
+
+/// Plays a scene on a pool of so many tenants and workers.
+pub(crate) fn play<R: Threads + Wait + Sync>(
+    rt: &R,
+    alloc: Global,
+    tenants: u32,
+    workers: u32,
+    door: &Door,
+    scene: &Scene,
+) -> Result<Told, AllocError>
+    requires { (1 ≤ workers) × (workers ≤ 16) × (tenants ≤ 64) }
+{
+    let blank = Blank::new(u64::from(workers));
+    on_pool::<Brand, R>(rt, alloc, blank, tenants, workers, door, scene)
+}
+
+fn on_pool<L: Ledger + Send + Sync, R: Threads + Wait + Sync>(
+    rt: &R,
+    alloc: Global,
+    blank: Blank,
+    tenants: u32,
+    workers: u32,
+    door: &Door,
+    scene: &Scene,
+) -> Result<Told, AllocError>
+    requires name { blank.name ≡ L.name }
+    requires parts { (blank.parts ≡ L.parts) × (blank.parts ≡ workers) }
+    requires few { (1 ≤ workers) × (workers ≤ 16) × (tenants ≤ 64) }
+{
+    let (pool, shares) = Pool::<L>::new(alloc, tenants, workers, blank)?;
+    let (said, shares) = staffed(rt, alloc, &pool, door, scene, shares);
+    let said = said?;
+    let shares = shares?;
+    if shares.len() != workers as usize {
+        return Err(AllocError);
+    }
+    let usage = totals(rt, &pool, alloc, shares)?;
+    Ok(Told { said, usage })
+}
+
+/// What was told in a scene, and the shares that the workers brought home.
+type Played<L> = (
+    Result<String, AllocError>,
+    Result<Vec<Share<L>>, AllocError>,
+);
+
+/// Starts the workers, plays the scene, closes the pool and waits until the workers have come home. Where a
+/// worker couldn't be started nothing is played.
+fn staffed<L: Ledger + Send + Sync, R: Threads + Wait + Sync>(
+    rt: &R,
+    alloc: Global,
+    pool: &Pool<L>,
+    door: &Door,
+    scene: &Scene,
+    shares: Vec<Share<L>>,
+) -> Played<L>
+    requires few { vec_len shares ≤ 16 }
+    requires one { All (λ s. s.parts ≡ 1) shares.items }
+    ensures { IfOk result.1 (λ shares. sum_by (λ s. s.parts) shares.items ≡ vec_len shares) }
+{
+    thread::scope(
+        thread::scope_env(),
+        rt,
+        move |scope| -> Played<L>
+            requires { (vec_len shares ≤ 16) × All (λ s. s.parts ≡ 1) shares.items }
+            ensures { IfOk result.1 (λ shares. sum_by (λ s. s.parts) shares.items ≡ vec_len shares) }
+        {
+            let (threads, complete) = start(scope, rt, alloc, pool, door, shares);
+            let said = if complete {
+                scene.played(rt, alloc, pool, door)
+            } else {
+                Err(AllocError)
+            };
+            close(rt, pool);
+            (said, join_all(rt, alloc, threads))
+        },
+    )
+}

@@ -1,0 +1,139 @@
+//! Scenes of a few clients: what each of them is told, and how much is counted.
+use super::door::Door;
+use super::play::{Told, play};
+use super::players::By;
+use super::scene::Scene;
+use std::test::Fail;
+
+const BESIDE_BY_CLIENTS: &str = "2 5 [7, 8, 3]\n3 7 [4, 5, 9]\n";
+
+const BESIDE_BY_SESSIONS: &str = r#"["ok",1]
+["ok",2]
+["done",3,2,5,[[7,8,3]]]
+Ok(EndOfInput), 3 logged
+["ok",1]
+["ok",2]
+["done",3,3,7,[[4,5,9]]]
+Ok(EndOfInput), 3 logged
+"#;
+
+#[test]
+fn each_piece_passes_the_gate_and_its_units_are_counted(rt: HostRuntime) -> Result<(), Fail> {
+    for (by, said) in [
+        (By::Client, BESIDE_BY_CLIENTS),
+        (By::Session, BESIDE_BY_SESSIONS),
+    ] {
+        let door = Door::counting();
+        let told = play(&rt, rt.alloc(), 2, 2, &door, &Scene::Beside(by))?;
+        assert!(rt; told.is(said, [5, 7].as_slice(), 12), "{told:?}");
+        assert_eq!(rt; door.came(), (6, 8), "{said}");
+    }
+    Ok(())
+}
+
+#[test]
+fn a_tenant_is_answered_while_a_piece_of_another_is_held(rt: HostRuntime) -> Result<(), Fail> {
+    for (by, said) in [
+        (By::Client, BESIDE_BY_CLIENTS),
+        (By::Session, BESIDE_BY_SESSIONS),
+    ] {
+        let door = Door::behind(0);
+        let told = play(&rt, rt.alloc(), 2, 2, &door, &Scene::Held(by))?;
+        assert!(rt; !door.gave_up(), "{told:?}");
+        assert!(rt; told.is(said, [5, 7].as_slice(), 12), "{told:?}");
+        assert_eq!(rt; door.came(), (6, 8), "{said}");
+    }
+    Ok(())
+}
+
+/// The first piece of the job is one unit. The second and the third are out, side by side, when the pool is
+/// closed.
+const CLOSED_FOR_A_CLIENT: &str = "Closed\ntrue Closed Closed\n";
+
+const CLOSED_FOR_A_SESSION: &str = r#"["ok",1]
+["ok",2]
+Ok(Closed), 2 logged
+true Closed Closed
+"#;
+
+#[test]
+fn pieces_that_come_back_to_a_closed_pool_are_not_counted(rt: HostRuntime) -> Result<(), Fail> {
+    for (by, said) in [
+        (By::Client, CLOSED_FOR_A_CLIENT),
+        (By::Session, CLOSED_FOR_A_SESSION),
+    ] {
+        let door = Door::behind(1);
+        let told = play(&rt, rt.alloc(), 2, 2, &door, &Scene::Closing(by, 3))?;
+        assert!(rt; !door.gave_up(), "{told:?}");
+        assert!(rt; told.is(said, [1, 0].as_slice(), 1), "{told:?}");
+        assert_eq!(rt; door.came(), (3, 0), "{said}");
+    }
+    Ok(())
+}
+
+const UNKNOWN_TO_A_SESSION: &str = r#"["ok",1]
+["ok",2]
+["err",3,412]
+Err(Stranger), 3 logged
+"#;
+
+#[test]
+fn a_pool_takes_no_job_of_a_tenant_that_it_does_not_have(rt: HostRuntime) -> Result<(), Fail> {
+    for (scene, said) in [
+        (Scene::Unknown, "Stranger\n"),
+        (Scene::UnknownSession, UNKNOWN_TO_A_SESSION),
+    ] {
+        let told = play(&rt, rt.alloc(), 1, 1, &Door::counting(), &scene)?;
+        assert!(rt; told.is(said, [0].as_slice(), 0), "{told:?}");
+    }
+    Ok(())
+}
+
+#[test]
+fn a_pool_takes_one_job_of_a_tenant_at_a_time(rt: HostRuntime) -> Result<(), Fail> {
+    let door = Door::behind(0);
+    let told = play(&rt, rt.alloc(), 1, 2, &door, &Scene::Twice)?;
+    assert!(rt;
+        told.is("2 5 [7, 8, 3]\nStranger\n", [5].as_slice(), 5),
+        "{told:?}"
+    );
+    assert_eq!(rt; door.came(), (6, 0));
+    Ok(())
+}
+
+/// Whether this was told, though a tenant may have been refused memory: the other is told what its job
+/// means then, and all units that were settled are counted.
+fn is_told_without_memory(told: &Told) -> bool {
+    let usage = &told.usage;
+    let (of_first, of_second) = match usage.by_tenant.as_slice() {
+        [first, second] => (*first, *second),
+        _ => return false,
+    };
+    let said = match told.said.as_str() {
+        BESIDE_BY_CLIENTS => (of_first, of_second) == (5, 7),
+        "Memory\n3 7 [4, 5, 9]\n" => of_first <= 5 && of_second == 7,
+        "2 5 [7, 8, 3]\nMemory\n" => of_first == 5 && of_second <= 7,
+        _ => false,
+    };
+    said && of_first.checked_add(of_second) == Some(usage.total)
+}
+
+/// It passes whichever allocation fails, and prints a line where one did.
+#[test]
+fn a_job_without_memory_leaves_the_other_as_it_is(rt: HostRuntime) {
+    let door = Door::counting();
+    match play(&rt, rt.alloc(), 2, 2, &door, &Scene::Beside(By::Client)) {
+        Ok(told) => {
+            assert!(rt; is_told_without_memory(&told), "{told:?}");
+            if told.said.as_str() != BESIDE_BY_CLIENTS {
+                let _ = println!(rt;
+                    "memory was refused behind {:?} pieces: {told:?}",
+                    door.came()
+                );
+            }
+        }
+        Err(_) => {
+            let _ = println!(rt; "memory was refused");
+        }
+    }
+}
