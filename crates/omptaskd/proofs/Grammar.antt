@@ -1,6 +1,6 @@
 -- What the words of the program are to `clap`.
 use Rattle.std.proofs.Common.{◌≡◌, Option, option_map, Some, None, List, [], ◌∷◌, Result, Ok, Err, IfOk, IsErrAnd, true, codes, refl, sym, ap, subst, ◌∙◌, inl, inr, length, arith}
-use Rattle.std.specs.Prelude.{Box}
+use Rattle.std.specs.Prelude.{Box, unwrap_or}
 use Rattle.std.specs.Box.{box_value}
 use Rattle.clap.specs.Words.{App, FailsBy, HasKind, HasMatchesOf, Kinds, Row, Text, fault_of, is_simple, is_simple_and_free, kind_of, subcommand_name_of, subcommand_of, subcommand_rows, subcommand_rows_of}
 use Rattle.clap.specs.declared.parser.matches.ArgMatches.{ArgMatches}
@@ -11,17 +11,18 @@ use Rattle.clap.specs.declared.error.kind.ErrorKind.TheVariants.{OutOfMemory}
 use Rattle.clap.proofs.OnLiterals.{clap_on_literals}
 use Rattle.omptaskd.specs.declared.asked.Words.{Words}
 use Rattle.omptaskd.specs.declared.asked.Words.TheVariants as asked
-use Rattle.omptaskd.specs.Asked.{AsksFor, Means, entered_name, program_words, sim_words, solo_words}
+use Rattle.omptaskd.specs.Asked.{AsksFor, Means, entered_name}
+use Rattle.omptaskd.specs.Grammar.{program_words, sim_words, solo_words, serve_words, socket_rule, workers_rule, sessions_rule, count_rule, names_rule}
 
 -- ---- the program's command
 
 -- `clap` tells exactly when these words fail, and what it finds in them
 pub program_words-is_simple_and_free : is_simple_and_free program_words ≡ true
-unfolding program_words solo_words sim_words clap_on_literals
+unfolding program_words solo_words sim_words serve_words socket_rule workers_rule sessions_rule count_rule names_rule clap_on_literals
 program_words-is_simple_and_free = refl
 
 pub program_words-is_simple : is_simple program_words ≡ true
-unfolding program_words solo_words sim_words clap_on_literals
+unfolding program_words solo_words sim_words serve_words socket_rule workers_rule sessions_rule count_rule names_rule clap_on_literals
 program_words-is_simple = refl
 
 -- what is told of the kinds of the program's command is told of the program's words
@@ -59,32 +60,42 @@ subcommand_name_of-rows m = name-rows (out-ArgMatches m).subcommand
 -- ---- `solo` and `sim`, each alone behind the program's name
 
 pub fault_of-solo : (name : Text) → fault_of program_words (name ∷ codes "solo" ∷ []) ≡ []
-unfolding program_words solo_words sim_words clap_on_literals
+unfolding program_words solo_words sim_words serve_words socket_rule workers_rule sessions_rule count_rule names_rule clap_on_literals
 fault_of-solo name = refl
 
 pub fault_of-sim : (name : Text) → fault_of program_words (name ∷ codes "sim" ∷ []) ≡ []
-unfolding program_words solo_words sim_words clap_on_literals
+unfolding program_words solo_words sim_words serve_words socket_rule workers_rule sessions_rule count_rule names_rule clap_on_literals
 fault_of-sim name = refl
 
-pub entered_name-solo : (name : Text) → entered_name (subcommand_of program_words (name ∷ codes "solo" ∷ [])) ≡ codes "solo"
-unfolding program_words solo_words sim_words clap_on_literals
+pub entered_name-solo : (name : Text) → entered_name (subcommand_of program_words (name ∷ codes "solo" ∷ [])) ≡ Some (codes "solo")
+unfolding program_words solo_words sim_words serve_words socket_rule workers_rule sessions_rule count_rule names_rule clap_on_literals
 entered_name-solo name = refl
 
-pub entered_name-sim : (name : Text) → entered_name (subcommand_of program_words (name ∷ codes "sim" ∷ [])) ≡ codes "sim"
-unfolding program_words solo_words sim_words clap_on_literals
+pub entered_name-sim : (name : Text) → entered_name (subcommand_of program_words (name ∷ codes "sim" ∷ [])) ≡ Some (codes "sim")
+unfolding program_words solo_words sim_words serve_words socket_rule workers_rule sessions_rule count_rule names_rule clap_on_literals
 entered_name-sim name = refl
 
-AsksFor-solo : (entered : Option (Text × List Row)) (words : Words) → AsksFor entered words → entered_name entered ≡ codes "solo"
+-- words of different lengths differ
+other : (x y : Text) → Some x ≡ Some y → length x ≡ length y
+other x y same = ap (λ o. length (unwrap_or o x)) same
+
+AsksFor-solo : (entered : Option (Text × List Row)) (words : Words) → AsksFor entered words → entered_name entered ≡ Some (codes "solo")
     → words ≡ asked.Solo
 AsksFor-solo entered asked.Solo asks named = refl
 AsksFor-solo entered asked.Sim asks named =
-    let lengths : length (codes "solo") ≡ length (codes "sim") = ap length (sym named ∙ asks) in
+    let lengths = other (codes "solo") (codes "sim") (sym named ∙ asks) in
+    absurd (omega (arith, lengths))
+AsksFor-solo entered (asked.Serve server) asks named =
+    let lengths = other (codes "solo") (codes "serve") (sym named ∙ asks.0) in
     absurd (omega (arith, lengths))
 
-AsksFor-sim : (entered : Option (Text × List Row)) (words : Words) → AsksFor entered words → entered_name entered ≡ codes "sim"
+AsksFor-sim : (entered : Option (Text × List Row)) (words : Words) → AsksFor entered words → entered_name entered ≡ Some (codes "sim")
     → words ≡ asked.Sim
-AsksFor-sim entered asked.Solo asks named = absurd (asks named)
+AsksFor-sim entered asked.Solo asks named = absurd (asks.1 named)
 AsksFor-sim entered asked.Sim asks named = refl
+AsksFor-sim entered (asked.Serve server) asks named =
+    let lengths = other (codes "sim") (codes "serve") (sym named ∙ asks.0) in
+    absurd (omega (arith, lengths))
 
 -- an error where no kind may come is want of memory
 kind_of-none : (kinds : Kinds) (e : Error) → HasKind kinds e → kinds ≡ [] → kind_of e ≡ OutOfMemory

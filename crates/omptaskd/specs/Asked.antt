@@ -1,34 +1,55 @@
--- The words that the program takes, as `clap` sees them, and what they ask for.
-use Rattle.std.specs.Prelude.{◌≡◌, ◌≢◌, List, Option, Result, Ok, Err, true, codes, option_map, unwrap_or}
-use Rattle.clap.specs.Words.{App, Row, Shape, Text, kind_of, new_app, with_subcommand}
-use Rattle.clap.specs.Simple.{new_shape, on_top}
+-- What the words ask for.
+use Rattle.std.specs.Prelude.{◌≡◌, ◌≢◌, ◌&&◌, ℕ, nat_le, if◌then◌else◌, List, [], Option, Some, None, Result, Ok, Err, ⊤, IfSome, codes, map, option_map, string_bytes, unwrap_or}
+use Rattle.std.specs.Str.Parse.{digits_value, without_leading_plus}
+use Rattle.clap.specs.Values.{IsUnsignedIn}
+use Rattle.clap.specs.Words.{Row, Text, all_of, first_of, kind_of, one_of}
 use Rattle.clap.specs.declared.error.Error.{Error}
 use Rattle.clap.specs.declared.error.kind.ErrorKind.TheVariants.{OutOfMemory}
+use Rattle.ot_serve.specs.declared.serve.Serve.{Serve}
+use Rattle.ot_serve.specs.Serving as serving
 use Rattle.omptaskd.specs.declared.asked.Words.{Words}
 use Rattle.omptaskd.specs.declared.asked.Words.TheVariants as asked
 
--- `solo` takes no further word
-unfoldable pub solo_words : Shape
-solo_words = new_shape (codes "solo")
+-- a number, where it is from 1 to `most`
+abbrev pub within : ℕ → Option ℕ → Option ℕ
+within most None = None
+within most (Some n) = if nat_le 1 n && nat_le n most then Some n else None
 
--- and neither does `sim`
-unfoldable pub sim_words : Shape
-sim_words = new_shape (codes "sim")
+-- a number that is given and lies from 1 to `most` is read, and without one there is none
+abbrev pub IsRead : ℕ → Option Text → Option ℕ → Type 0
+IsRead most None number = number ≡ None
+IsRead most (Some text) number = IsUnsignedIn 1 most text → number ≡ Some (digits_value 10 (without_leading_plus text))
 
--- one of the subcommands has to be given, but where the version is asked for
-unfoldable pub program_words : App
-program_words =
-    let program = on_top (λ s. record s { has_version = true; subcommand_required = true }) (new_app (codes "omptaskd")) in
-    with_subcommand (with_subcommand program solo_words) sim_words
+-- the same, with 4 where none is given
+abbrev pub IsReadOr4 : Option Text → ℕ → Type 0
+IsReadOr4 text number = (read : Option ℕ) × IsRead 16 text read × (number ≡ unwrap_or read 4)
 
--- the name of the subcommand that `clap` enters
-abbrev pub entered_name : Option (Text × List Row) → Text
-entered_name entered = unwrap_or (option_map (λ s. s.0) entered) (codes "solo")
+-- the server that the words behind `serve` ask for
+pub record Serves (rows : List Row) (asked : Serve) : Type 0 where
+  pub socket : string_bytes asked.socket ≡ unwrap_or (first_of (codes "socket") rows) []
+  pub workers : IsReadOr4 (one_of (codes "workers") rows) asked.workers
+  pub sessions : IsReadOr4 (one_of (codes "sessions") rows) asked.sessions
+  pub count : IsRead 1000000 (one_of (codes "count") rows) asked.count
+  pub names : map string_bytes asked.names.items ≡ unwrap_or (all_of (codes "name") rows) []
+
+-- the name of the subcommand that `clap` enters, and what it finds behind it
+abbrev pub entered_name : Option (Text × List Row) → Option Text
+entered_name entered = option_map (λ s. s.0) entered
+
+abbrev pub entered_rows : Option (Text × List Row) → Option (List Row)
+entered_rows entered = option_map (λ s. s.1) entered
 
 -- what a subcommand asks for
 abbrev pub AsksFor : Option (Text × List Row) → Words → Type 0
-AsksFor entered asked.Solo = entered_name entered ≢ codes "sim"
-AsksFor entered asked.Sim = entered_name entered ≡ codes "sim"
+AsksFor entered asked.Solo = (entered_name entered ≢ Some (codes "serve")) × (entered_name entered ≢ Some (codes "sim"))
+AsksFor entered asked.Sim = entered_name entered ≡ Some (codes "sim")
+AsksFor entered (asked.Serve server) =
+    (entered_name entered ≡ Some (codes "serve")) × IfSome (entered_rows entered) (λ rows. Serves rows server)
+
+-- the numbers are in their ranges
+abbrev pub IsInRange : Words → Type 0
+IsInRange (asked.Serve server) = serving.IsInRange server
+IsInRange _ = ⊤
 
 -- the words mean this, and can't be read for want of memory alone
 abbrev pub Means : Words → Result Words Error → Type 0

@@ -1,30 +1,19 @@
 //! The command line.
-ghost use Rattle.std.specs.Prelude.{◌≡◌, ℕ, List, [], ◌∷◌, map, codes, false, IfOk};
-ghost use Rattle.clap.specs.Words.{FailsBy, app_of, fault_of, shape_of, subcommand_of, subcommand_rows_of};
-ghost use Rattle.clap.specs.declared.builder.command.Command.TheViews.{out-Command as fields_of};
-ghost use Rattle.omptaskd.specs.Asked.{AsksFor, Means, program_words, sim_words, solo_words};
+ghost use Rattle.std.specs.Prelude.{◌≡◌, ℕ, List, [], ◌∷◌, map, codes, IfOk};
+ghost use Rattle.clap.specs.Words.{FailsBy, app_of, fault_of, found_of, rows_of, subcommand_of, subcommand_rows_of};
+ghost use Rattle.ot_serve.specs.Serving as serving;
+ghost use Rattle.omptaskd.specs.Asked.{AsksFor, IsInRange, Means, Serves};
+ghost use Rattle.omptaskd.specs.Grammar.{program_words};
 
 use crate::asked::Words;
-use clap::{ArgMatches, Command, Error};
+use crate::commands::{MAX_CONNECTIONS, MAX_THREADS, program_command};
+use crate::matched::{number, text, texts};
+use clap::{ArgMatches, Error};
+use ot_serve::Serve;
 use std::alloc::{AllocError, Global};
 
-/// What `--version` prints behind the program's name.
-const VERSION: &str = "0.1.0";
-
-/// What the lines of `sim` are.
-const SIM_HELP: &str = "\
-Lines, and what each is answered:
-  tenant T            `tenant T`; tenants come before all other lines, at most 64
-  admit T REQUEST     `asked T`, or `full T`; the request is all behind the second space
-  open T              `T REPLY` where it is answered at once, else `T job`
-  start W T PICK      `start W T task K`; of the claimable tasks the one at PICK modulo their count
-  finish W            `finish W units U`, or `finish W failed`
-  reply T             `T REPLY`
-  abort T             `abort T`
-  drain               `drain`, then `T REPLY` for each reply that it gave, then `drained`
-  usage T             `usage T UNITS of TOTAL`
-An event that isn't enabled is answered `notnow`, any other line `badline`.
-T is 1 to 16 of a-z, 0-9 and _, a letter first; W is 1 to 16; PICK is below 4294967296.";
+/// How many workers and sessions there are where none are asked for.
+const USUAL_THREADS: u32 = 4;
 
 /// Reads the words of a command line, of which the first is the program's name.
 pub fn words(alloc: Global, given: &[&str]) -> Result<Words, Error>
@@ -32,8 +21,11 @@ pub fn words(alloc: Global, given: &[&str]) -> Result<Words, Error>
     // or for want of memory.
     ensures kinds { FailsBy (fault_of program_words (map (λ word. word.now) given.now)) result }
 
-    // What is asked for is told by the subcommand that `clap` enters.
+    // What is asked for is told by the subcommand that `clap` enters, and what it finds behind it.
     ensures asked { IfOk result (AsksFor (subcommand_of program_words (map (λ word. word.now) given.now))) }
+
+    // The numbers of a server are in their ranges.
+    ensures range { IfOk result IsInRange }
 
     ensures solo { (name : List ℕ)
         → map (λ word. word.now) given.now ≡ name ∷ codes "solo" ∷ []
@@ -44,44 +36,34 @@ pub fn words(alloc: Global, given: &[&str]) -> Result<Words, Error>
         → Means Words.Sim result }
 {
     let matches = program_command(alloc)?.try_get_matches_from(given)?;
-    Ok(asked_for(&matches))
+    Ok(asked_for(alloc, &matches)?)
 }
 
 /// What the matches ask for.
-fn asked_for(matches: &ArgMatches<'_>) -> Words
-    ensures { AsksFor (subcommand_rows_of matches.now) result }
+fn asked_for(alloc: Global, matches: &ArgMatches<'_>) -> Result<Words, AllocError>
+    ensures asked { IfOk result (AsksFor (subcommand_rows_of matches.now)) }
+    ensures range { IfOk result IsInRange }
 {
-    let name = matches.subcommand_name().unwrap_or("solo");
-    if name == "sim" {
-        Words::Sim
-    } else {
-        Words::Solo
+    if let Some(found) = matches.subcommand_matches("serve") {
+        let server = serve_of(alloc, found)?;
+        return Ok(Words::Serve(server));
     }
+    if matches.subcommand_matches("sim").is_some() {
+        return Ok(Words::Sim);
+    }
+    Ok(Words::Solo)
 }
 
-fn program_command<'a>(alloc: Global) -> Result<Command<'a>, AllocError>
-    ensures { IfOk result (λ command. app_of command ≡ program_words) }
+/// The server that is asked for.
+fn serve_of(alloc: Global, found: &ArgMatches<'_>) -> Result<Serve, AllocError>
+    ensures serves { IfOk result (Serves (rows_of (found_of found.now))) }
+    ensures range { IfOk result serving.IsInRange }
 {
-    Command::new(alloc, "omptaskd")
-        .about("A task server for many tenants")
-        .version(VERSION)
-        .subcommand_required(true)
-        .subcommand(solo_command(alloc))?
-        .subcommand(sim_command(alloc))
-}
-
-fn solo_command<'a>(alloc: Global) -> Command<'a>
-    ensures words { shape_of result ≡ solo_words }
-    ensures own { (fields_of result).has_globals ≡ false }
-{
-    Command::new(alloc, "solo").about("Serve one tenant over standard input and output")
-}
-
-fn sim_command<'a>(alloc: Global) -> Command<'a>
-    ensures words { shape_of result ≡ sim_words }
-    ensures own { (fields_of result).has_globals ≡ false }
-{
-    Command::new(alloc, "sim")
-        .about("Move a world of tenants by the lines of standard input")
-        .after_help(SIM_HELP)
+    Ok(Serve {
+        socket: text(alloc, found, "socket")?,
+        workers: number(found, "workers", MAX_THREADS).unwrap_or(USUAL_THREADS),
+        sessions: number(found, "sessions", MAX_THREADS).unwrap_or(USUAL_THREADS),
+        count: number(found, "count", MAX_CONNECTIONS),
+        names: texts(alloc, found, "name")?,
+    })
 }

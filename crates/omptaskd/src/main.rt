@@ -4,25 +4,30 @@
 ghost use Rattle.std.specs.Prelude.{◌≡◌, ◌≢◌};
 ghost use Rattle.std.specs.Process.{exit_status};
 ghost use Rattle.clap.specs.Words.{kind_of};
-ghost use Rattle.omptaskd.specs.Fault.{status_of};
+ghost use Rattle.ot_serve.specs.Faults.{status_of};
+ghost use Rattle.ot_serve.specs.Serving.{IsInRange};
+ghost use Rattle.omptaskd.specs.Faults.{fault_of};
 
 pub mod asked;
 pub mod command_line;
-pub mod fault;
-#[cfg(test)]
-mod tests;
+mod commands;
+mod matched;
 
 pub use asked::Words;
 use clap::error::ErrorKind;
 pub use command_line::words;
-pub use fault::{Fault, fault_line};
 use ot_book::{Book, Solo};
 use ot_front::{Reading, Writing, serve};
+pub use ot_serve::{Fault, Serve, fault_line, serve_socket};
 pub use ot_sim::{SimFault, sim_lines};
 use ot_store::{Limits, Store};
 use std::alloc::Global;
 use std::env::Env;
+use std::fs::Files;
+use std::net::Net;
 use std::process::ExitCode;
+use std::sync::Wait;
+use std::thread::Threads;
 use std::{env, io};
 
 fn main(rt: HostRuntime) -> ExitCode {
@@ -53,7 +58,11 @@ fn refuse(rt: &impl Eprint, error: &io::Error) -> ExitCode {
 }
 
 /// Does what the words ask for, and answers the status.
-fn run(rt: &(impl Input + Print + Eprint), alloc: Global, given: &[&str]) -> ExitCode {
+fn run<R: Input + Print + Eprint + Threads + Wait + Sync + Files + Net>(
+    rt: &R,
+    alloc: Global,
+    given: &[&str],
+) -> ExitCode {
     let asked = match words(alloc, given) {
         Ok(asked) => asked,
         Err(error) => return explain(rt, &error),
@@ -61,6 +70,7 @@ fn run(rt: &(impl Input + Print + Eprint), alloc: Global, given: &[&str]) -> Exi
     let ended = match asked {
         Words::Solo => solo(rt, alloc),
         Words::Sim => sim(rt, alloc),
+        Words::Serve(server) => serve_tenants(rt, alloc, &server),
     };
     match ended {
         Ok(()) => ExitCode::SUCCESS,
@@ -102,8 +112,35 @@ fn solo<R: Input + Print>(rt: &R, alloc: Global) -> Result<(), Fault> {
 fn sim<R: Input + Print>(rt: &R, alloc: Global) -> Result<(), Fault> {
     let mut source = Reading::new(rt.reader());
     let mut sink = Writing::new(io::writer(rt));
-    sim_lines(alloc, &mut source, &mut sink)?;
-    Ok(())
+    match sim_lines(alloc, &mut source, &mut sink) {
+        Ok(()) => Ok(()),
+        Err(fault) => Err(fault_of(fault)),
+    }
+}
+
+/// The program's fault where sim ended with one.
+fn fault_of(fault: SimFault) -> Fault
+    ensures { result ≡ fault_of fault }
+{
+    match fault {
+        SimFault::ReadFailed => Fault::ReadFailed,
+        SimFault::WriteFailed => Fault::WriteFailed,
+        SimFault::Memory => Fault::Memory,
+        SimFault::LongLine => Fault::LineTooLong,
+        SimFault::TooManyTurns => Fault::TooManyReads,
+    }
+}
+
+/// Serves tenants at a socket, and prints the usage where the server ends.
+fn serve_tenants<R: Print + Threads + Wait + Sync + Files + Net>(
+    rt: &R,
+    alloc: Global,
+    server: &Serve,
+) -> Result<(), Fault>
+    requires { IsInRange server.now }
+{
+    let mut sink = Writing::new(io::writer(rt));
+    serve_socket(rt, alloc, server, &mut sink)
 }
 
 /// Prints what went wrong, where standard error takes it, and answers the status for it.

@@ -4,7 +4,6 @@ use Rattle.std.specs.Prelude.{slice_get, unwrap_or}
 use Rattle.std.specs.List.{list_any}
 use Rattle.std.specs.Str.{bytes_eq}
 use Rattle.std.proofs.lemmas.Slice.Eq.{bytes_eq-Decides}
-use Rattle.ot_program.specs.Names.{is_name}
 use Rattle.ot_serve.specs.Tenants.{are_tenants}
 
 -- both tests pass

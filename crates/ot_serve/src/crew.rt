@@ -63,11 +63,15 @@ fn serve_all<L: Ledger + Send + Sync, R: Threads + Wait + Sync + Files>(
     ensures parts { IfOk result (λ back. sum_by (λ s. s.parts) back.items ≡ vec_len back) }
     ensures late { IfErr result IsLate }
 {
-    thread::scope(thread::scope_env(), rt, |scope| -> Result<Vec<Share<L>>, Fault>
-        requires { (IsInRange asked.now) × (vec_len shares ≤ 16) × All (λ s. s.parts ≡ 1) shares.items }
-        ensures { IfOk result (λ back. (vec_len back ≡ vec_len shares) × (sum_by (λ s. s.parts) back.items ≡ vec_len back))
-            × IfErr result IsLate }
-    { serve_within(scope, rt, alloc, pool, shares, asked, desk, door) })
+    thread::scope(
+        thread::scope_env(),
+        rt,
+        |scope| -> Result<Vec<Share<L>>, Fault>
+            requires { (IsInRange asked.now) × (vec_len shares ≤ 16) × All (λ s. s.parts ≡ 1) shares.items }
+            ensures { IfOk result (λ back. (vec_len back ≡ vec_len shares) × (sum_by (λ s. s.parts) back.items ≡ vec_len back))
+                × IfErr result IsLate }
+        { serve_within(scope, rt, alloc, pool, shares, asked, desk, door) },
+    )
 }
 
 /// The same, with the workers in threads of this scope.
@@ -116,7 +120,15 @@ fn serve_connections<L: Ledger + Send + Sync, R: Threads + Wait + Sync + Files>(
     ensures { IfErr result IsLate }
 {
     door.open(rt)?;
-    match listen(rt, alloc, pool, desk, door.listener(), asked.sessions, asked.count) {
+    match listen(
+        rt,
+        alloc,
+        pool,
+        desk,
+        door.listener(),
+        asked.sessions,
+        asked.count,
+    ) {
         Ok(()) => Ok(()),
         Err(_) => Err(Fault::SocketFailed),
     }

@@ -34,7 +34,11 @@ impl Door {
             return Err(Fault::SocketFailed);
         }
         match UnixListener::bind(rt, beside.as_str()) {
-            Ok(listener) => Ok(Door { listener, place, beside }),
+            Ok(listener) => Ok(Door {
+                listener,
+                place,
+                beside,
+            }),
             Err(_) => Err(Fault::SocketFailed),
         }
     }
@@ -65,7 +69,9 @@ impl Door {
 /// which is removed.
 fn make_way<R: Files + Net>(rt: &R, place: &str) -> bool {
     match fs::symlink_metadata(rt, place) {
-        Ok(found) => found.file_type().is_socket() && is_left(rt, place) && fs::remove_file(rt, place).is_ok(),
+        Ok(found) => found.file_type().is_socket()
+            && is_left(rt, place)
+            && fs::remove_file(rt, place).is_ok(),
         Err(error) => error.kind() == io::ErrorKind::NotFound,
     }
 }

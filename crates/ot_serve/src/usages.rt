@@ -7,7 +7,11 @@ use std::alloc::{AllocError, Global};
 use std::fmt::Write;
 
 /// The units of each tenant, in the order of the names, and of all.
-pub(crate) fn write_usage(alloc: Global, names: &[String], usage: &Usage) -> Result<String, AllocError>
+pub(crate) fn write_usage(
+    alloc: Global,
+    names: &[String],
+    usage: &Usage,
+) -> Result<String, AllocError>
     requires each { vec_len usage.now.by_tenant ≡ length names.now }
     requires adds_up { sum usage.now.by_tenant.items ≡ usage.now.total }
     ensures { IfOk result (λ text. string_bytes text ≡ usage_text (map string_bytes names.now) usage.now.by_tenant.items) }

@@ -1,6 +1,7 @@
 use Rattle.std.proofs.Common.{◌≡◌, [], Ok, map, subst}
 use Rattle.clap.specs.Words.{HasKind, app_of, fault_of}
-use Rattle.omptaskd.specs.Asked.{AsksFor, program_words}
+use Rattle.omptaskd.specs.Asked.{AsksFor}
+use Rattle.omptaskd.specs.Grammar.{program_words}
 use Rattle.omptaskd.proofs.Grammar.{FailsBy-passed, IfOk-passed, Means-sim, Means-solo, fault_of-program_words, subcommand_rows_of-program_words}
 use Rattle.omptaskd.proofs.command_line.words.Goals as goal
 
@@ -33,10 +34,10 @@ returns-clause-asked c =
     let given = map (λ word. word.now) c.args.given.now in
     let entered = subcommand_rows_of-program_words (app_of c.in_ok-program_command.field-0) given c.in_ok-matches.matches
     c.in_ok-program_command.ensures c.in_ok-matches.ensures.matches in
-    subst (λ rows. AsksFor rows c.asked_for.result) entered c.asked_for.ensures
+    subst (λ rows. AsksFor rows c.in_ok-asked_for.field-0) entered c.in_ok-asked_for.ensures.asked
 
 pub returns-clause-solo : goal.returns-clause-solo
-returns-clause-solo c = Means-solo _ (Ok c.asked_for.result) (returns-clause-kinds c) (returns-clause-asked c)
+returns-clause-solo c = Means-solo _ (Ok c.in_ok-asked_for.field-0) (returns-clause-kinds c) (returns-clause-asked c)
 
 pub returns-clause-sim : goal.returns-clause-sim
-returns-clause-sim c = Means-sim _ (Ok c.asked_for.result) (returns-clause-kinds c) (returns-clause-asked c)
+returns-clause-sim c = Means-sim _ (Ok c.in_ok-asked_for.field-0) (returns-clause-kinds c) (returns-clause-asked c)

@@ -8,5 +8,5 @@ pub loop-name-preserved : goal.loop-name-preserved
 loop-name-preserved c = (
   grind (arith, common_steps),
   subst (All (λ book. book.pending ≡ None)) (sym c.in_ok-push.ensures.items)
-    (All-push (λ book. book.pending ≡ None) c.loop-name.books.items c.in_ok-empty_book.field-0 c.loop-name.invariant.1 c.in_ok-empty_book.ensures.closed),
+      (All-push (λ book. book.pending ≡ None) c.loop-name.books.items c.in_ok-empty_book.field-0 c.loop-name.invariant.1 c.in_ok-empty_book.ensures.closed),
 )

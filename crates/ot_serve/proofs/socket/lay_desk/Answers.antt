@@ -17,4 +17,4 @@ new-requires-clause-few c =
 pub new-requires-clause-distinct : goal.new-requires-clause-distinct
 new-requires-clause-distinct c =
     subst AreDistinct (sym c.in_ok-empty_books.ensures.names)
-      (AreDistinct_of_tenants (map string_bytes c.args.names.now) c.requires.names)
+    (AreDistinct_of_tenants (map string_bytes c.args.names.now) c.requires.names)

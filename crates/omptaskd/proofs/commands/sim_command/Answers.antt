@@ -1,7 +1,7 @@
 use Rattle.std.proofs.Common.{ap, ◌∙◌}
 use Rattle.clap.specs.Simple.{shape_of_fields}
-use Rattle.omptaskd.specs.Asked.{sim_words}
-use Rattle.omptaskd.proofs.command_line.sim_command.Goals as goal
+use Rattle.omptaskd.specs.Grammar.{sim_words}
+use Rattle.omptaskd.proofs.commands.sim_command.Goals as goal
 
 -- what the command is about, and its further help, are no part of its words
 pub returns-clause-words : goal.returns-clause-words

@@ -3,8 +3,8 @@ use Rattle.std.proofs.lemmas.Result.{IfOk-weaker}
 use Rattle.clap.specs.Words.{Shape, with_subcommand}
 use Rattle.clap.specs.Simple.{app_of_fields, on_top}
 use Rattle.clap.specs.declared.builder.command.Command.TheViews.{out-Command}
-use Rattle.omptaskd.specs.Asked.{program_words}
-use Rattle.omptaskd.proofs.command_line.program_command.Goals as goal
+use Rattle.omptaskd.specs.Grammar.{program_words}
+use Rattle.omptaskd.proofs.commands.program_command.Goals as goal
 
 pub returns : goal.returns
 unfolding program_words
@@ -15,6 +15,7 @@ returns c =
     let required = ap app_of_fields {y = record (out-Command c.version.result) { subcommand_required = true }} c.subcommand_required.ensures in
     let top = required ∙ ap (on_top (λ (s : Shape). record s { subcommand_required = true })) versioned in
     let with_solo = c.in_ok-subcommand.ensures.shape c.solo_command.ensures.own ∙ ap₂ with_subcommand top c.solo_command.ensures.words in
-    IfOk-weaker c.subcommand-2.result _ _
-    (λ command added. added.shape c.sim_command.ensures.own ∙ ap₂ with_subcommand with_solo c.sim_command.ensures.words)
-    c.subcommand-2.ensures
+    let with_sim = c.in_ok-subcommand-2.ensures.shape c.sim_command.ensures.own ∙ ap₂ with_subcommand with_solo c.sim_command.ensures.words in
+    IfOk-weaker c.subcommand-3.result _ _
+    (λ command added. added.shape c.in_ok-serve.ensures.own ∙ ap₂ with_subcommand with_sim c.in_ok-serve.ensures.words)
+    c.subcommand-3.ensures

@@ -1,7 +1,7 @@
 use Rattle.std.proofs.Common.{ap, ◌∙◌}
 use Rattle.clap.specs.Simple.{shape_of_fields}
-use Rattle.omptaskd.specs.Asked.{solo_words}
-use Rattle.omptaskd.proofs.command_line.solo_command.Goals as goal
+use Rattle.omptaskd.specs.Grammar.{solo_words}
+use Rattle.omptaskd.proofs.commands.solo_command.Goals as goal
 
 -- what the command is about is no part of its words
 pub returns-clause-words : goal.returns-clause-words
