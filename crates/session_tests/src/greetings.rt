@@ -1,5 +1,5 @@
 //! Greetings over memory: the first line of a connection, what is told, and where the book is then.
-ghost use Rattle.std.specs.Prelude.{◌≡◌, IfOk, None};
+ghost use Rattle.std.specs.Prelude.{◌≡◌, IfOk, IfSome, None};
 
 use crate::fakes::Narrow;
 use ot_book::{Book, Solo};
@@ -52,7 +52,9 @@ impl Greeted {
     }
 }
 
-fn greet_with<R: Wait>(rt: &R, alloc: Global, desk: &Desk, input: &[u8]) -> Greeted {
+fn greet_with<R: Wait>(rt: &R, alloc: Global, desk: &Desk, input: &[u8]) -> Greeted
+    ensures { IfOk result.given (λ given. IfSome given (λ book. book.pending ≡ None)) }
+{
     let mut source = Reading::new(input);
     let mut sink = Writing::new(Vec::new(alloc));
     let given = greet(rt, alloc, desk, &mut source, &mut sink);
