@@ -15,7 +15,12 @@ pub struct Talk {
 }
 
 /// The number of the first talk that is answered otherwise. The talks are held one after another.
-pub fn first_other_talk<R: Net>(rt: &R, alloc: Global, path: &str, talks: &[Talk]) -> Option<usize> {
+pub fn first_other_talk<R: Net>(
+    rt: &R,
+    alloc: Global,
+    path: &str,
+    talks: &[Talk],
+) -> Option<usize> {
     for (number, talk) in talks.iter().enumerate() {
         match answers(rt, alloc, path, talk.sent) {
             Ok(text) if text.as_str() == talk.answered => {}

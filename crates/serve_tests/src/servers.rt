@@ -45,7 +45,11 @@ fn two_connections(alloc: Global, path: &str, tenants: &[&str]) -> Result<Serve,
 }
 
 /// What the server prints until it ends.
-fn printed<R: Threads + Wait + Sync + Files + Net>(rt: &R, alloc: Global, asked: &Serve) -> Result<Vec<u8>, Fault>
+fn printed<R: Threads + Wait + Sync + Files + Net>(
+    rt: &R,
+    alloc: Global,
+    asked: &Serve,
+) -> Result<Vec<u8>, Fault>
     requires { IsInRange asked.now }
 {
     let mut sink = Writing::new(Vec::new(alloc));
