@@ -57,28 +57,16 @@ fn printed<R: Threads + Wait + Sync + Files + Net>(
     Ok(sink.into_inner())
 }
 
-/// Serves and asks side by side: what is printed, and the first talk that is answered otherwise.
-fn served_and_asked<R: Threads + Wait + Sync + Files + Net>(
-    rt: &R,
-    alloc: Global,
-    asked: &Serve,
-    talks: &[Talk],
-) -> (Result<Vec<u8>, Fault>, Option<usize>)
-    requires { IsInRange asked.now }
-{
-    thread::join(
-        rt,
-        || -> Result<Vec<u8>, Fault>
-            requires { IsInRange asked.now }
-        { printed(rt, alloc, asked) },
-        || first_other_talk(rt, alloc, asked.socket.as_str(), talks),
-    )
-}
-
 #[test]
 fn two_tenants_are_served_and_their_units_printed(rt: HostRuntime) -> Result<(), AllocError> {
     let asked = two_connections(rt.alloc(), "two_tenants.sock", &["t1", "t2"])?;
-    let (printed, other) = served_and_asked(&rt, rt.alloc(), &asked, &TALKS);
+    let (printed, other) = thread::join(
+        &rt,
+        || -> Result<Vec<u8>, Fault>
+            requires { IsInRange asked }
+        { printed(&rt, rt.alloc(), &asked) },
+        || first_other_talk(&rt, rt.alloc(), asked.socket.as_str(), &TALKS),
+    );
     assert_eq!(rt; other, None);
     match printed {
         Ok(text) => assert_eq!(rt; text.as_slice(), PRINTED.as_bytes()),
