@@ -1,130 +1,25 @@
--- The mode in which a declaration has a cell.
-use Rattle.std.proofs.Common.{◌≡◌, ◌≢◌, ℕ, zero, suc, ◌+◌, ◌<◌, ◌≤◌, ◌&&◌, ◌||◌, Bool, true, false, if◌then◌else◌, List, [], ◌∷◌, length, get_or, refl, sym, ap, subst, ◌∙◌, inl, inr, arith}
-use Rattle.std.specs.Prelude.{Option, Some, None}
+-- What a body declares, by the mode in which its declaration has a cell.
+use Rattle.std.proofs.Common.{◌≡◌, ◌&&◌, List, sym, ap, ◌∙◌}
+use Rattle.std.specs.Prelude.{Bool, Option, Some}
 use Rattle.std.specs.List.{list_any}
-use Rattle.std.proofs.lemmas.Bool.{cases_eq, cases_lt}
-use Rattle.std.proofs.lemmas.Bool.Decides.{nat_tests}
-use Rattle.std.proofs.lemmas.List.{get_or_default}
-use Rattle.ot_model.specs.Cells.{same_cell, is_before}
-use Rattle.ot_model.specs.Uses.{AreInOrder, Precedes, is_adds}
+use Rattle.ot_model.specs.Cells.{same_cell}
+use Rattle.ot_model.specs.Uses.{AreInOrder, is_adds, mode_in}
 use Rattle.ot_model.specs.declared.expr.Cell.{Cell}
 use Rattle.ot_model.specs.declared.stmt.Mode.{Mode}
 use Rattle.ot_model.specs.declared.stmt.Use.{Use}
-use Rattle.ot_model.proofs.CellsLemmas as model
-use Rattle.ot_model.proofs.OrderLemmas.{precedes_trans, precedes_apart, rest_in_order, each_precedes}
+use Rattle.ot_model.proofs.DeclaredLemmas.{by_mode, any-by_mode}
 use Rattle.ot_check.specs.Offences.{Declared, covers, allows, adds_to}
-use Rattle.ot_check.specs.walk.States.{mode_in}
-use Rattle.ot_check.proofs.Bits.{or_none, false_or}
-use Rattle.ot_check.proofs.SameLemmas.{same_itself, same_apart, cells_equal}
 
-if_met : {A : Type 0} (b : Bool) (x y : A) → b ≡ true → (if b then x else y) ≡ x
-if_met true x y h = refl
-if_met false x y h = cc
-
-if_unmet : {A : Type 0} (b : Bool) (x y : A) → b ≡ false → (if b then x else y) ≡ y
-if_unmet true x y h = cc
-if_unmet false x y h = refl
-
-same_met : (c d : Cell) → c ≡ d → same_cell c d ≡ true
-same_met c d is = ap (same_cell c) (sym is) ∙ same_itself c
-
-any-nowhere : {A : Type 0} (test : A → Bool) (xs : List A) → ((k : ℕ) (d : A) → k < length xs → test (get_or xs k d) ≡ false) → list_any test xs ≡ false
-any-nowhere test [] h = refl
-any-nowhere test (x ∷ xs) h = false_or (test x) (list_any test xs) (h 0 x (omega arith)) (any-nowhere test xs (λ k d l. h (suc k) d (omega (arith, l))))
-
-later_apart : (u : Use) (us : List Use) → AreInOrder (u ∷ us) → (k : ℕ) (d : Use) → k < length us → u.cell ≢ (get_or us k d).cell
-later_apart u us order k d l = precedes_apart u.cell (get_or us k d).cell (each_precedes (u ∷ us) order 0 (suc k) d (omega arith) (omega (arith, l)))
-
--- ---- found
-
-pub mode_in-at : (us : List Use) (i : ℕ) (d : Use) (c : Cell) → AreInOrder us → i < length us → (get_or us i d).cell ≡ c → mode_in us c ≡ Some (get_or us i d).mode
-mode_in-at [] i d c order l is = absurd (omega (arith, l))
-mode_in-at (u ∷ us) zero d c order l is = if_met (same_cell u.cell c) (Some u.mode) (mode_in us c) (same_met u.cell c is)
-mode_in-at (u ∷ us) (suc i) d c order l is =
-    if_unmet (same_cell u.cell c) (Some u.mode) (mode_in us c) (same_apart u.cell c (λ e. later_apart u us order i d (omega (arith, l)) (e ∙ sym is)))
-    ∙ mode_in-at us i d c (rest_in_order u us order) (omega (arith, l)) is
-
-pub mode_in-none : (us : List Use) (c : Cell) → ((k : ℕ) (d : Use) → k < length us → (get_or us k d).cell ≢ c) → mode_in us c ≡ None
-mode_in-none [] c apart = refl
-mode_in-none (u ∷ us) c apart =
-    if_unmet (same_cell u.cell c) (Some u.mode) (mode_in us c) (same_apart u.cell c (apart 0 u (omega arith)))
-    ∙ mode_in-none us c (λ k d l. apart (suc k) d (omega (arith, l)))
-
--- neither comes before the other
-pub neither_before : (a b : Cell) → is_before a b ≡ false → is_before b a ≡ false → a ≡ b
-neither_before a b h g = model.same_cell a b (grind (arith, nat_tests)) (grind (arith, nat_tests))
-
--- ---- what is said of the mode
-
-abbrev pub by_mode : (Mode → Bool) → Option Mode → Bool
-by_mode test None = false
-by_mode test (Some m) = test m
-
-met_here : (test : Mode → Bool) (b r : Bool) (m : Mode) (o : Option Mode) → b ≡ true → r ≡ false → ((b && test m) || r) ≡ by_mode test (if b then Some m else o)
-met_here test true r m o h none = ap (λ r. test m || r) none ∙ or_none (test m)
-met_here test false r m o h none = cc
-
-met_later : (test : Mode → Bool) (b r : Bool) (m : Mode) (o : Option Mode) → b ≡ false → r ≡ by_mode test o → ((b && test m) || r) ≡ by_mode test (if b then Some m else o)
-met_later test true r m o h later = cc
-met_later test false r m o h later = later
-
-pub any-by_mode : (test : Mode → Bool) (us : List Use) (c : Cell) → AreInOrder us → list_any (λ d. same_cell d.cell c && test d.mode) us ≡ by_mode test (mode_in us c)
-any-by_mode test [] c order = refl
-any-by_mode test (u ∷ us) c order =
-    elim (cells_equal u.cell c) [
-      | inl is ↦
-          met_here test (same_cell u.cell c) (list_any (λ d. same_cell d.cell c && test d.mode) us) u.mode (mode_in us c) (same_met u.cell c is)
-          (any-nowhere (λ d. same_cell d.cell c && test d.mode) us
-          (λ k d l. ap (λ b. b && test (get_or us k d).mode) (same_apart (get_or us k d).cell c (λ e. later_apart u us order k d l (is ∙ sym e)))))
-      | inr apart ↦
-          met_later test (same_cell u.cell c) (list_any (λ d. same_cell d.cell c && test d.mode) us) u.mode (mode_in us c) (same_apart u.cell c apart)
-          (any-by_mode test us c (rest_in_order u us order))
-    ]
-
--- ---- looking for a cell by halves
-
-pub before_more : (us : List Use) (m : ℕ) (c : Cell) (e : Use) → AreInOrder us → m < length us → Precedes (get_or us m e).cell c
-    → (k : ℕ) (d : Use) → k < m + 1 → Precedes (get_or us k d).cell c
-before_more us m c e order l before k d below =
-    let same : get_or us m e ≡ get_or us m d = get_or_default us m e d l in
-    let here : Precedes (get_or us m d).cell c = subst (λ u. Precedes u.cell c) same before in
-    elim (cases_eq k m) [
-      | inl is ↦ subst (λ k. Precedes (get_or us k d).cell c) (sym is) here
-      | inr apart ↦ precedes_trans (get_or us k d).cell (get_or us m d).cell c (each_precedes us order k m d (omega (arith, below, apart)) l) here
-    ]
-
-pub after_more : (us : List Use) (m : ℕ) (c : Cell) (e : Use) → AreInOrder us → m < length us → Precedes c (get_or us m e).cell
-    → (k : ℕ) (d : Use) → m ≤ k → k < length us → Precedes c (get_or us k d).cell
-after_more us m c e order l after k d above within =
-    let same : get_or us m e ≡ get_or us m d = get_or_default us m e d l in
-    let here : Precedes c (get_or us m d).cell = subst (λ u. Precedes c u.cell) same after in
-    elim (cases_eq k m) [
-      | inl is ↦ subst (λ k. Precedes c (get_or us k d).cell) (sym is) here
-      | inr apart ↦ precedes_trans c (get_or us m d).cell (get_or us k d).cell here (each_precedes us order m k d (omega (arith, above, apart)) within)
-    ]
-
--- what stands below and above leaves no place for it
-pub nowhere : (us : List Use) (c : Cell) (low high : ℕ) → high ≤ low → ((k : ℕ) (d : Use) → k < low → Precedes (get_or us k d).cell c)
-    → ((k : ℕ) (d : Use) → high ≤ k → k < length us → Precedes c (get_or us k d).cell) → mode_in us c ≡ None
-nowhere us c low high met below above =
-    mode_in-none us c (λ k d l. elim (cases_lt k low) [
-      | inl less ↦ precedes_apart (get_or us k d).cell c (below k d less)
-      | inr more ↦ λ e. precedes_apart c (get_or us k d).cell (above k d (omega (arith, met, more)) l) (sym e)
-    ])
-
--- ---- what a body declares
-
-told-of : (test : Mode → Bool) (decl uses : List Use) (c : Cell) (o r : Option Mode) → uses ≡ decl → AreInOrder decl → r ≡ mode_in uses c → r ≡ o
+told-of : (test : Mode → Bool) (decl : List Use) (c : Cell) (o r : Option Mode) → AreInOrder decl → r ≡ mode_in decl c → r ≡ o
     → list_any (λ d. same_cell d.cell c && test d.mode) decl ≡ by_mode test o
-told-of test decl uses c o r same order found told =
-    any-by_mode test decl c order ∙ ap (by_mode test) (ap (λ us. mode_in us c) (sym same) ∙ sym found ∙ told)
+told-of test decl c o r order found told = any-by_mode test decl c order ∙ ap (by_mode test) (sym found ∙ told)
 
-pub allows-told : (own : Declared) (decl uses : List Use) (used : Use) (o r : Option Mode) → own ≡ Some decl → uses ≡ decl → AreInOrder decl
-    → r ≡ mode_in uses used.cell → r ≡ o → by_mode (λ m. covers m used.mode) o ≡ allows own used
-allows-told own decl uses used o r is same order found told =
-    sym (ap (λ own. allows own used) is ∙ told-of (λ m. covers m used.mode) decl uses used.cell o r same order found told)
+pub allows-told : (own : Declared) (decl : List Use) (used : Use) (o r : Option Mode) → own ≡ Some decl → AreInOrder decl
+    → r ≡ mode_in decl used.cell → r ≡ o → by_mode (λ m. covers m used.mode) o ≡ allows own used
+allows-told own decl used o r is order found told =
+    sym (ap (λ own. allows own used) is ∙ told-of (λ m. covers m used.mode) decl used.cell o r order found told)
 
-pub adds-told : (own : Declared) (decl uses : List Use) (c : Cell) (o r : Option Mode) → own ≡ Some decl → uses ≡ decl → AreInOrder decl
-    → r ≡ mode_in uses c → r ≡ o → by_mode is_adds o ≡ adds_to own c
-adds-told own decl uses c o r is same order found told =
-    sym (ap (λ own. adds_to own c) is ∙ told-of is_adds decl uses c o r same order found told)
+pub adds-told : (own : Declared) (decl : List Use) (c : Cell) (o r : Option Mode) → own ≡ Some decl → AreInOrder decl
+    → r ≡ mode_in decl c → r ≡ o → by_mode is_adds o ≡ adds_to own c
+adds-told own decl c o r is order found told =
+    sym (ap (λ own. adds_to own c) is ∙ told-of is_adds decl c o r order found told)

@@ -4,7 +4,6 @@
 mod block;
 mod checked;
 mod checking;
-mod declared;
 mod fault;
 mod job;
 pub mod laws;

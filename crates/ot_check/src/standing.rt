@@ -1,4 +1,3 @@
-use crate::declared::mode_in;
 use crate::fault::Offence;
 use crate::modes::{covers, is_adds};
 use crate::numbers::Numbers;
@@ -43,7 +42,7 @@ impl Region {
     {
         match &self.own {
             None => true,
-            Some(decl) => match mode_in(decl.uses(), used.cell) {
+            Some(decl) => match decl.mode(used.cell) {
                 None => false,
                 Some(mode) => covers(mode, used.mode),
             },
@@ -56,7 +55,7 @@ impl Region {
     {
         match &self.own {
             None => false,
-            Some(decl) => match mode_in(decl.uses(), cell) {
+            Some(decl) => match decl.mode(cell) {
                 None => false,
                 Some(mode) => is_adds(mode),
             },

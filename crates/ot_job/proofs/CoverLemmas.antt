@@ -20,7 +20,8 @@ use Rattle.ot_check.proofs.SameLemmas.{same_is}
 use Rattle.ot_job.proofs.CellLemmas.{same_self}
 use Rattle.ot_check.specs.walk.Fine.{AreAssigns}
 use Rattle.ot_job.specs.Assigns.{CanAssign}
-use Rattle.ot_job.specs.Touched.{assign_touches, held, noted, with_mode, mode_held, mode_in}
+use Rattle.ot_model.specs.Uses.{mode_in}
+use Rattle.ot_job.specs.Touched.{assign_touches, held, noted, with_mode, mode_held}
 use Rattle.ot_job.proofs.HeldLemmas.{reads-append}
 use Rattle.ot_job.proofs.HoldsLemmas.{Among}
 

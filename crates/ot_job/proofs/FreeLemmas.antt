@@ -6,7 +6,7 @@ use Rattle.std.proofs.lemmas.Bool.{cases_lt}
 use Rattle.ot_check.specs.declared.fault.Offence.TheVariants.{NotDeclared}
 use Rattle.ot_model.specs.Tree.{Set, Add, If, Task, Wait, Group, Body, End, Next, append}
 use Rattle.ot_model.specs.Names.{NamedIn}
-use Rattle.ot_model.specs.Uses.{Precedes, AreInOrder, Conflict, conflicts, is_adds}
+use Rattle.ot_model.specs.Uses.{Precedes, AreInOrder, Conflict, conflicts, is_adds, mode_in}
 use Rattle.ot_model.specs.declared.expr.Cell.{Cell}
 use Rattle.ot_model.specs.declared.stmt.Mode.{Mode}
 use Rattle.ot_model.specs.declared.stmt.Mode.TheVariants.{Reads, Writes, Adds}
@@ -31,7 +31,7 @@ use Rattle.ot_job.proofs.RightsLemmas.{right_apart, right_may, rights_apart}
 use Rattle.ot_job.specs.Regions.{Region, Run}
 use Rattle.ot_job.specs.Sound.{at, parent_of, todo_at, may_at, ended_at, parents, sums_in, IsBegun, IsPlaced, IsSound}
 use Rattle.ot_job.specs.Pieces.{test_of}
-use Rattle.ot_job.specs.Touched.{mode_in, piece_touches, assign_touches, test_touches}
+use Rattle.ot_job.specs.Touched.{piece_touches, assign_touches, test_touches}
 use Rattle.ot_job.specs.Running.{RunsWell}
 use Rattle.ot_job.specs.Whole.{assigns_out, whole, wholes}
 use Rattle.ot_job.proofs.SoundLemmas.{sound, at-past}

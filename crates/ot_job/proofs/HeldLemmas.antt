@@ -20,7 +20,8 @@ use Rattle.ot_model.specs.Cells.{same_cell}
 use Rattle.ot_check.proofs.SameLemmas.{same_is}
 use Rattle.ot_job.proofs.CellLemmas.{same_self}
 use Rattle.ot_job.specs.Pieces.{leading, behind, test_of}
-use Rattle.ot_job.specs.Touched.{assign_touches, test_touches, piece_touches, held, noted, mode_in, with_mode, mode_held, PicksFit, AssignsFit}
+use Rattle.ot_model.specs.Uses.{mode_in}
+use Rattle.ot_job.specs.Touched.{assign_touches, test_touches, piece_touches, held, noted, with_mode, mode_held, PicksFit, AssignsFit}
 
 -- ---- each touch is of a cell in the shape
 

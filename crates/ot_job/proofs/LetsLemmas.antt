@@ -8,7 +8,7 @@ use Rattle.ot_model.specs.Tree.{E, Literal, CellAt, Apply, PickFrom, Set, Add, I
 use Rattle.ot_model.specs.Names.{NamedIn, ValueNamedIn}
 use Rattle.ot_model.specs.Value.{cell_at, cells_named}
 use Rattle.ot_model.specs.Cells.{same_cell}
-use Rattle.ot_model.specs.Uses.{is_adds}
+use Rattle.ot_model.specs.Uses.{is_adds, mode_in}
 use Rattle.ot_model.specs.declared.expr.Cell.{Cell}
 use Rattle.ot_model.specs.declared.stmt.Mode.{Mode}
 use Rattle.ot_model.specs.declared.stmt.Mode.TheVariants.{Reads, Writes, Adds}
@@ -25,7 +25,7 @@ use Rattle.ot_owner.specs.declared.lent.LentCell.{LentCell}
 use Rattle.ot_job.specs.Copies.{Lets, LetsMode}
 use Rattle.ot_job.specs.Rights.{IsRight}
 use Rattle.ot_job.specs.Pieces.{test_of}
-use Rattle.ot_job.specs.Touched.{assign_touches, test_touches, piece_touches, held, mode_held, mode_in}
+use Rattle.ot_job.specs.Touched.{assign_touches, test_touches, piece_touches, held, mode_held}
 use Rattle.ot_job.proofs.BackLemmas.{mode_at}
 use Rattle.ot_job.proofs.CoverLemmas.{Covers, covered, flip, in-section, among-left, among-right}
 use Rattle.ot_job.proofs.FreeLemmas.{piece-safe}

@@ -13,7 +13,8 @@ use Rattle.ot_job.specs.Assigns.{CanAssign, CanRun}
 use Rattle.ot_job.specs.Regions.{Region}
 use Rattle.ot_job.specs.Sound.{at}
 use Rattle.ot_job.specs.Pieces.{leading, behind, test_of, awake}
-use Rattle.ot_job.specs.Touched.{mode_in, held, piece_touches, test_touches}
+use Rattle.ot_model.specs.Uses.{mode_in}
+use Rattle.ot_job.specs.Touched.{held, piece_touches, test_touches}
 use Rattle.ot_job.specs.Claims.{AreHeld}
 use Rattle.ot_job.specs.Live.{Seen}
 use Rattle.ot_job.specs.Well.{IsOnCourse}

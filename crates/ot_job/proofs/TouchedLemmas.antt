@@ -11,7 +11,7 @@ use Rattle.std.specs.declared.cmp.Ordering.{Ordering}
 use Rattle.std.specs.declared.cmp.Ordering.TheVariants.{Less, Equal, Greater}
 use Rattle.std.proofs.lemmas.Bool.{cases_lt}
 use Rattle.std.proofs.lemmas.Bool.Decides.{eqb_tells}
-use Rattle.ot_model.specs.Uses.{AreInOrder}
+use Rattle.ot_model.specs.Uses.{AreInOrder, mode_in}
 use Rattle.ot_model.specs.declared.expr.Cell.{Cell}
 use Rattle.ot_model.specs.declared.stmt.Mode.{Mode}
 use Rattle.ot_model.specs.declared.stmt.Use.{Use}
@@ -22,7 +22,7 @@ use Rattle.ot_model.specs.declared.stmt.Mode.TheVariants.{Reads}
 use Rattle.ot_model.specs.Value.{cell_at}
 use Rattle.ot_check.specs.Paths.{use_as}
 use Rattle.ot_check.specs.Offences.{Declared}
-use Rattle.ot_job.specs.Touched.{Held, cell_order, held_at, use_at, mode_in, mode_held, with_mode, noted}
+use Rattle.ot_job.specs.Touched.{Held, cell_order, held_at, use_at, mode_held, with_mode, noted}
 
 -- ---- keys
 

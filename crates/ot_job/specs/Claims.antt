@@ -12,7 +12,8 @@ use Rattle.ot_job.specs.Sound.{at}
 use Rattle.ot_job.specs.Live.{Seen}
 use Rattle.ot_job.specs.Taken.{Taken}
 use Rattle.ot_job.specs.Pieces.{leading, behind, test_of, awake, begun}
-use Rattle.ot_job.specs.Touched.{mode_in, held, piece_touches}
+use Rattle.ot_model.specs.Uses.{mode_in}
+use Rattle.ot_job.specs.Touched.{held, piece_touches}
 use Rattle.ot_job.specs.Claiming.{picked}
 use Rattle.ot_job.specs.States.{claimable_in}
 

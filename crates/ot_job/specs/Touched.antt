@@ -1,5 +1,5 @@
 -- What a piece holds of the cells that it touches.
-use Rattle.std.specs.Prelude.{ℕ, ◌+◌, ◌≤◌, ◌^◌, not, ◌&&◌, if◌then◌else◌, List, [], ◌∷◌, ◌++◌, map, Option, Some, None}
+use Rattle.std.specs.Prelude.{ℕ, ◌+◌, ◌≤◌, ◌^◌, not, ◌&&◌, if◌then◌else◌, List, [], ◌++◌, map, Option, Some, None}
 use Rattle.std.specs.List.{fold}
 use Rattle.std.specs.Map.{lookup}
 use Rattle.std.specs.BTreeMap.{is_at}
@@ -52,11 +52,6 @@ noted own c earlier u = if same_cell u.cell c then Some (with_mode earlier (mode
 -- the mode in which these touches hold the cell, if one of them is of it
 abbrev pub held : Declared → List Use → Cell → Option Mode
 held own us c = fold (noted own c) None us
-
--- the mode of a cell in a declaration
-abbrev pub mode_in : List Use → Cell → Option Mode
-mode_in [] c = None
-mode_in (u ∷ us) c = if same_cell c u.cell then Some u.mode else mode_in us c
 
 -- ---- as the code keeps them
 

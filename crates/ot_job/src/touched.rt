@@ -1,6 +1,6 @@
-ghost use Rattle.std.specs.Prelude.{◌≡◌, ◌+◌, ◌∷◌, [], ◌≤◌, ◌^◌, OnOk, IfOk, IfSome, map, option_map, ◌&&◌, Some};
+ghost use Rattle.std.specs.Prelude.{◌≡◌, ◌+◌, ◌∷◌, [], ◌≤◌, ◌^◌, OnOk, IfOk, IfSome, map, option_map, Some};
 ghost use Rattle.std.specs.List.{fold, range_with_len};
-ghost use Rattle.ot_model.specs.Uses.{AreInOrder, is_adds};
+ghost use Rattle.ot_model.specs.Uses.{AreInOrder, mode_in};
 ghost use Rattle.ot_model.specs.Value.{cell_at};
 ghost use Rattle.ot_model.specs.View.{expr_of};
 ghost use Rattle.ot_model.specs.declared.expr.Cell.{Cell};
@@ -8,9 +8,8 @@ ghost use Rattle.ot_model.specs.declared.stmt.Mode.TheVariants.{Reads};
 ghost use Rattle.ot_check.specs.Paths.{use_as, touches};
 ghost use Rattle.ot_model.specs.Value.{cells_named};
 ghost use Rattle.ot_check.specs.Offences.{adds_to};
-ghost use Rattle.ot_model.specs.Cells.{same_cell};
 ghost use Rattle.ot_job.specs.Assigns.{assign_of, assigns_of};
-ghost use Rattle.ot_job.specs.Touched.{stronger, with_mode, mode_held, noted, held, held_at, use_at, mode_in, assign_touches, test_touches, piece_touches, PicksFit, AssignsFit};
+ghost use Rattle.ot_job.specs.Touched.{stronger, with_mode, mode_held, noted, held, held_at, use_at, assign_touches, test_touches, piece_touches, PicksFit, AssignsFit};
 
 use crate::assign::Assign;
 use ot_model::{Cell, Decl, Expr, Mode, Section, Use};
@@ -170,13 +169,10 @@ fn adds_to(own: Option<&Decl>, cell: Cell) -> bool
 fn declares_sum(own: &Decl, cell: Cell) -> bool
     ensures { result ≡ adds_to (Some own.now) cell }
 {
-    own.uses().iter().any(|used| is_sum(*used, cell))
-}
-
-fn is_sum(used: Use, cell: Cell) -> bool
-    ensures { result ≡ (same_cell used.cell cell && is_adds used.mode) }
-{
-    used.cell == cell && used.mode == Mode::Adds
+    match own.mode(cell) {
+        None => false,
+        Some(mode) => mode == Mode::Adds,
+    }
 }
 
 fn stronger(one: Mode, two: Mode) -> Mode

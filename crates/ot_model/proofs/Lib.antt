@@ -2,6 +2,7 @@ pub mod TreeLemmas
 pub mod CellsLemmas
 pub mod EqualLemmas
 pub mod OrderLemmas
+pub mod DeclaredLemmas
 pub mod MeetingLemmas
 pub mod NamesLemmas
 pub mod CountsLemmas

@@ -1,5 +1,6 @@
 -- Declarations: cells in order, each once, with one mode. What conflicts, who depends on whom, and what a lent copy does.
-use Rattle.std.specs.Prelude.{◌≡◌, ◌<◌, ◌+◌, ◌%◌, ◌^◌, ◌⊎◌, ℕ, Bool, true, false, IsTrue, List, [], ◌∷◌, Any}
+use Rattle.std.specs.Prelude.{◌≡◌, ◌<◌, ◌+◌, ◌%◌, ◌^◌, ◌⊎◌, ℕ, Bool, true, false, IsTrue, if◌then◌else◌, List, [], ◌∷◌, Option, Some, None, Any}
+use Rattle.ot_model.specs.Cells.{same_cell}
 use Rattle.ot_model.specs.declared.expr.Cell.{Cell}
 use Rattle.ot_model.specs.declared.stmt.Mode.{Mode}
 use Rattle.ot_model.specs.declared.stmt.Mode.TheVariants.{Reads, Writes, Adds}
@@ -15,9 +16,21 @@ AreInOrder [] = Unit {0}
 AreInOrder (u ∷ []) = Unit {0}
 AreInOrder (u ∷ v ∷ us) = Precedes u.cell v.cell × AreInOrder (v ∷ us)
 
+-- the mode in which a declaration has a cell
+abbrev pub mode_in : List Use → Cell → Option Mode
+mode_in [] c = None
+mode_in (u ∷ us) c = if same_cell c u.cell then Some u.mode else mode_in us c
+
 abbrev pub is_adds : Mode → Bool
 is_adds Adds = true
 is_adds _ = false
+
+-- whether two modes are one
+abbrev pub same_mode : Mode → Mode → Bool
+same_mode Reads Reads = true
+same_mode Writes Writes = true
+same_mode Adds Adds = true
+same_mode one two = false
 
 -- whether two uses of one cell conflict: they do unless both read or both add
 abbrev pub conflicts : Mode → Mode → Bool

@@ -3,6 +3,7 @@
 #![tactic(auto)]
 
 pub mod cells;
+mod declared;
 pub mod expr;
 mod meeting;
 pub mod plain;

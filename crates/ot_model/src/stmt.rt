@@ -1,6 +1,7 @@
 ghost use Rattle.std.specs.Prelude.{◌≡◌, ◌↔◌, IsTrue, IfOk, map};
 ghost use Rattle.ot_model.specs.View.{stmt_of, stmts_of};
 
+use crate::declared::mode_in;
 use crate::expr::{Cell, Expr};
 use crate::meeting::{Question, meet};
 use std::alloc::{AllocError, Global};
@@ -90,7 +91,7 @@ impl Model for Decl {
 
 impl Decl {
     ghost use Rattle.std.specs.Prelude.{IsTrue, ◌↔◌};
-    ghost use Rattle.ot_model.specs.Uses.{AreInOrder, DependsOn, Conflict};
+    ghost use Rattle.ot_model.specs.Uses.{AreInOrder, mode_in, DependsOn, Conflict};
 
     /// The declaration of these uses, which are to be in order, each cell once. It takes no memory.
     pub fn new(uses: Vec<Use>) -> Decl
@@ -106,6 +107,15 @@ impl Decl {
         ensures ordered { AreInOrder self.now }
     {
         self.uses.as_slice()
+    }
+
+    /// The mode in which it has a cell. It is None exactly where the cell isn't declared. It halves
+    /// the list until it knows.
+    pub fn mode(&self, cell: Cell) -> Option<Mode>
+        ensures mode { result ≡ mode_in self.now cell }
+        ensures ordered { AreInOrder self.now }
+    {
+        mode_in(&self.uses, cell)
     }
 
     /// Whether a task with this declaration depends on an earlier sibling with that one: they share

@@ -13,8 +13,9 @@ use Rattle.ot_model.specs.declared.expr.Cell.{Cell}
 use Rattle.ot_model.specs.declared.stmt.Mode.{Mode}
 use Rattle.ot_model.specs.declared.stmt.Mode.TheVariants.{Reads, Writes, Adds}
 use Rattle.ot_model.specs.Cells.{same_cell}
+use Rattle.ot_model.specs.Uses.{same_mode}
 use Rattle.ot_model.specs.Value.{cells_of}
-use Rattle.ot_program.specs.Declarations.{same_mode, named_as}
+use Rattle.ot_program.specs.Declarations.{named_as}
 use Rattle.ot_program.specs.Meanings.{Clause}
 use Rattle.ot_program.specs.walk.Namings.{cell_order, Named, with_mode, name_cell, name_clause}
 use Rattle.ot_program.proofs.Coded.{code_clause}

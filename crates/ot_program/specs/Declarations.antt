@@ -1,8 +1,9 @@
 -- What the clauses of a task declare: cells in order, each once, with one mode (docs/LANGUAGE.md, "Forms", on
 -- declarations).
-use Rattle.std.specs.Prelude.{Bool, true, false, ◌&&◌, ◌||◌, if◌then◌else◌, List, [], ◌∷◌, map, flat_map, fold}
+use Rattle.std.specs.Prelude.{Bool, ◌&&◌, ◌||◌, if◌then◌else◌, List, [], ◌∷◌, map, flat_map, fold}
 use Rattle.std.specs.List.{list_any}
 use Rattle.ot_model.specs.Cells.{same_cell, is_before}
+use Rattle.ot_model.specs.Uses.{same_mode}
 use Rattle.ot_model.specs.Value.{cells_of}
 use Rattle.ot_model.specs.declared.expr.Cell.{Cell}
 use Rattle.ot_model.specs.declared.stmt.Mode.{Mode}
@@ -22,12 +23,6 @@ abbrev pub named_cells : List Clause → List Cell
 named_cells clauses = fold placed [] (flat_map (λ clause. cells_of clause.section) clauses)
 
 -- ---- the modes
-
-abbrev pub same_mode : Mode → Mode → Bool
-same_mode Reads Reads = true
-same_mode Writes Writes = true
-same_mode Adds Adds = true
-same_mode one two = false
 
 -- whether a clause of this mode names the cell
 abbrev pub named_as : Mode → List Clause → Cell → Bool

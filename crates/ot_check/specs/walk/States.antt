@@ -1,10 +1,8 @@
 -- What the walk knows at a place, and what it stands for.
-use Rattle.std.specs.Prelude.{◌≡◌, ℕ, ◌≤◌, ◌<◌, Bool, false, ◌&&◌, ◌||◌, if◌then◌else◌, List, [], ◌∷◌, Option, Some, None, slice_get, map, unwrap_or}
+use Rattle.std.specs.Prelude.{◌≡◌, ℕ, ◌≤◌, ◌<◌, Bool, false, ◌&&◌, ◌||◌, List, [], Option, Some, None, slice_get, map, unwrap_or}
 use Rattle.std.specs.List.{list_any}
-use Rattle.ot_model.specs.Cells.{same_cell}
 use Rattle.ot_model.specs.Uses.{conflicts}
 use Rattle.ot_model.specs.declared.expr.Cell.{Cell}
-use Rattle.ot_model.specs.declared.stmt.Mode.{Mode}
 use Rattle.ot_model.specs.declared.stmt.Use.{Use}
 use Rattle.ot_check.specs.Offences.{Declared, clashes}
 use Rattle.ot_check.specs.walk.Walk.{Children}
@@ -31,13 +29,6 @@ row_has (Some words) i = bit_in words i
 
 abbrev pub is_open : Opened → Cell → Bool
 is_open opened c = row_has (slice_get (rows_of opened) c.array) c.index
-
--- ---- declarations
-
--- the mode in which a declaration has a cell
-abbrev pub mode_in : List Use → Cell → Option Mode
-mode_in [] c = None
-mode_in (u ∷ us) c = if same_cell u.cell c then Some u.mode else mode_in us c
 
 -- ---- tasks
 

@@ -6,7 +6,8 @@ use Rattle.std.proofs.lemmas.List.Sums.{fold-append}
 use Rattle.ot_model.specs.View.{expr_of}
 use Rattle.ot_job.specs.Assigns.{assigns_of}
 use Rattle.ot_job.specs.declared.assign.Assign.{Assign}
-use Rattle.ot_job.specs.Touched.{held_at, noted, assign_touches, test_touches, mode_in}
+use Rattle.ot_model.specs.Uses.{mode_in}
+use Rattle.ot_job.specs.Touched.{held_at, noted, assign_touches, test_touches}
 use Rattle.ot_job.proofs.TouchedLemmas.{mode-in}
 use Rattle.ot_job.proofs.touched.touched.Goals as goal
 

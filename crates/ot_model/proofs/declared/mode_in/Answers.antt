@@ -2,8 +2,8 @@ use Rattle.std.proofs.Common.{◌+◌, ◌-◌, ◌/◌, ◌<◌, ℕ, length, g
 use Rattle.ot_model.specs.declared.stmt.Mode.TheVariants.{Reads}
 use Rattle.ot_model.specs.declared.stmt.Use.{Use}
 use Rattle.ot_model.proofs.OrderLemmas.{precedes_from_before}
-use Rattle.ot_check.proofs.DeclaredLemmas.{before_more, after_more, nowhere, neither_before, mode_in-at}
-use Rattle.ot_check.proofs.declared.mode_in.Goals as goal
+use Rattle.ot_model.proofs.DeclaredLemmas.{before_more, after_more, nowhere, neither_before, mode_in-at}
+use Rattle.ot_model.proofs.declared.mode_in.Goals as goal
 
 -- what stands past the end of a list
 none : Use

@@ -1,8 +1,8 @@
 ghost use Rattle.std.specs.Prelude.{◌≡◌};
-ghost use Rattle.ot_model.specs.Uses.{AreInOrder};
-ghost use Rattle.ot_check.specs.walk.States.{mode_in};
+ghost use Rattle.ot_model.specs.Uses.{AreInOrder, mode_in};
 
-use ot_model::{Cell, Mode, Use};
+use crate::expr::Cell;
+use crate::stmt::{Mode, Use};
 
 /// The mode in which a declaration has a cell. It halves the list until it knows.
 pub(crate) fn mode_in(uses: &[Use], cell: Cell) -> Option<Mode>
