@@ -4,6 +4,9 @@ pub mod PlaceLemmas
 pub mod JoinedLemmas
 pub mod RightsLemmas
 pub mod SlotLemmas
+pub mod PageLemmas
+pub mod HeldLemmas
+pub mod FreeLemmas
 pub mod OutLemmas
 pub mod ApartLemmas
 pub mod WorthLemmas

@@ -2,6 +2,8 @@
 //! lent with them.
 #![tactic(auto)]
 
+mod held;
+mod holders;
 pub mod laws;
 pub mod lent;
 pub mod owners;

@@ -64,7 +64,7 @@ impl Owners {
     {
         let lent = lend(alloc, cells, decl.uses())?;
         let right = Right::of(alloc, cells, decl)?;
-        let key = self.rights.put(right)?;
+        let key = self.rights.put(alloc, right)?;
         Ok(Lent::new(lent, key))
     }
 

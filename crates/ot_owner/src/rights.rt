@@ -1,9 +1,9 @@
 //! The rights that are out.
-ghost use Rattle.std.specs.Prelude.{◌≡◌, ◌↔◌, Contains, IsTrue, Some};
+ghost use Rattle.std.specs.Prelude.{◌≡◌, Contains, IsTrue, Some};
 ghost use Rattle.slab.specs.Slab.{get, values};
 ghost use Rattle.ot_owner.specs.Leases.{lease_of};
-ghost use Rattle.ot_owner.specs.Owning.{IsFreeFor};
 
+use crate::held::Held;
 use crate::lent::{Lent, LentCell};
 use crate::right::Right;
 use ot_model::Decl;
@@ -11,11 +11,12 @@ use slab::Slab;
 use std::alloc::{AllocError, Global};
 use std::marker::Model;
 
-/// The rights that are out, each under a key. What is lent with a right knows its key, so that no other
-/// right is looked at where it ends.
+/// The rights that are out, each under a key, and for each cell how many use it. What is lent with a
+/// right knows its key: so no right passes over the others, neither where it ends nor where it may come.
 #[derive(Debug, Drop)]
 pub(crate) struct Rights {
     rights: Slab<Right>,
+    held: Held,
 }
 
 impl Model for Rights {
@@ -25,7 +26,11 @@ impl Model for Rights {
 
     ghost Value = { List Lease };
 
+    ghost use Rattle.ot_owner.specs.Held.{Tells};
+
     ghost view = { λ o. values o.rights };
+
+    ghost invariant = { λ o. Tells o.held (values o.rights) };
 }
 
 impl Rights {
@@ -39,22 +44,26 @@ impl Rights {
     {
         Rights {
             rights: Slab::new(alloc),
+            held: Held::new(alloc),
         }
     }
 
-    /// Whether no right conflicts with the declaration.
+    /// Whether no right conflicts with the declaration. It looks at the counts of its cells alone.
     pub(crate) fn is_free_for(&self, decl: &Decl) -> bool
         ensures { IsTrue result ↔ IsFreeFor self.now decl.now }
     {
-        none_conflicts(&self.rights, decl)
+        self.held.lets(decl.uses())
     }
 
     /// One right more, and its key.
-    pub(crate) fn put(&mut self, right: Right) -> Result<usize, AllocError>
+    pub(crate) fn put(&mut self, alloc: Global, right: Right) -> Result<usize, AllocError>
         ensures put { OnOk result (IsPermutation (right ∷ self.old) self.new) }
         ensures memory { OnErr result (self.new ≡ self.old) }
     {
+        self.held.make(alloc, right.uses())?;
         self.rights.reserve(1)?;
+        prove!(self.rights.len() < self.rights.capacity());
+        self.held.raise(right.uses());
         Ok(self.rights.insert_reserved(right))
     }
 
@@ -64,20 +73,9 @@ impl Rights {
         ensures { IsPermutation self.old (lease_of lent.now ∷ self.new) }
     {
         let key = key_of(&self.rights, lent);
-        let _ = self.rights.remove(key);
+        let right = self.rights.remove(key);
+        self.held.lower(right.uses());
     }
-}
-
-/// Whether none of the rights conflicts with the declaration.
-fn none_conflicts(rights: &Slab<Right>, decl: &Decl) -> bool
-    ensures { IsTrue result ↔ IsFreeFor (values rights.now) decl.now }
-{
-    for (_, right) in rights.iter() {
-        if right.conflicts(decl) {
-            return false;
-        }
-    }
-    true
 }
 
 /// The key of a right to these cells: their own one, and where another right lies there, as it may where
