@@ -4,6 +4,7 @@ ghost use Rattle.std.specs.Prelude.{◌≡◌, ◌≤◌, vec_len, IfOk};
 ghost use Rattle.std.specs.List.{All, sum_by};
 
 use crate::door::Door;
+use crate::fakes::{Dripping, Narrow};
 use crate::greetings::desk_of;
 use ot_front::{Desk, Reading, Writing, serve_connection};
 use ot_pool::{Pool, Usage, close, join_all, start, totals};
@@ -84,6 +85,89 @@ fn first_other_on<L: Ledger, R: Wait>(
 #[test]
 fn a_book_comes_back_whatever_ends_its_session(rt: HostRuntime) -> Result<(), Fail> {
     assert_eq!(rt; first_other(&rt, rt.alloc())?, None);
+    Ok(())
+}
+
+/// What comes in on a connection whose devices fail.
+const BROKEN_INPUT: &str = "[\"hello\",\"t1\"]\n[\"new\",\"a\",1]\n[\"list\"]\n";
+
+/// A connection of `t1`: after how many bytes a read of it fails, after how many a write does, what is written on
+/// it, and what is told to the next greeting of `t1`.
+const BROKEN: [(usize, usize, &str, &str); 8] = [
+    (14, 99, "", "[\"hello\",\"t1\",1]\n"),
+    (15, 99, "[\"hello\",\"t1\",1]\n", "[\"hello\",\"t1\",1]\n"),
+    (20, 99, "[\"hello\",\"t1\",1]\n", "[\"hello\",\"t1\",1]\n"),
+    (
+        29,
+        99,
+        "[\"hello\",\"t1\",1]\n[\"ok\",1]\n",
+        "[\"hello\",\"t1\",2]\n",
+    ),
+    (99, 16, "[\"hello\",\"t1\",1]", "[\"hello\",\"t1\",1]\n"),
+    (99, 17, "[\"hello\",\"t1\",1]\n", "[\"hello\",\"t1\",2]\n"),
+    (
+        99,
+        20,
+        "[\"hello\",\"t1\",1]\n[\"o",
+        "[\"hello\",\"t1\",2]\n",
+    ),
+    (
+        99,
+        26,
+        "[\"hello\",\"t1\",1]\n[\"ok\",1]\n",
+        "[\"hello\",\"t1\",3]\n",
+    ),
+];
+
+/// What is written on a connection whose read fails after so many bytes, and whose write after so many.
+fn connect_broken<L: Ledger, R: Wait>(
+    rt: &R,
+    alloc: Global,
+    pool: &Pool<L>,
+    desk: &Desk,
+    left: usize,
+    may_take: usize,
+) -> Vec<u8> {
+    let mut source = Reading::new(Dripping {
+        bytes: BROKEN_INPUT.as_bytes(),
+        a_read: 99,
+        left,
+        fails: true,
+    });
+    let mut sink = Narrow {
+        taken: Vec::new(alloc),
+        may_take,
+        failures: 0,
+    };
+    serve_connection(rt, alloc, pool, desk, &mut source, &mut sink);
+    sink.taken
+}
+
+/// The place of the first broken connection on which, or behind which, something else is written.
+fn first_other_broken<L: Ledger, R: Wait>(
+    rt: &R,
+    alloc: Global,
+    blank: Blank,
+) -> Result<Option<usize>, Fail>
+    requires name { blank.name ≡ L.name }
+    requires parts { (blank.parts ≡ L.parts) × (blank.parts ≡ 1) }
+{
+    let (pool, _) = Pool::<L>::new(alloc, 1, 1, blank)?;
+    for (at, (left, may_take, written, next)) in BROKEN.iter().enumerate() {
+        let desk = desk_of(alloc, 100)?;
+        let broken = connect_broken(rt, alloc, &pool, &desk, *left, *may_take);
+        let behind = connect(rt, alloc, &pool, &desk, "[\"hello\",\"t1\"]\n");
+        if broken.as_slice() != written.as_bytes() || behind.as_slice() != next.as_bytes() {
+            return Ok(Some(at));
+        }
+    }
+    Ok(None)
+}
+
+#[test]
+fn a_book_comes_back_from_a_connection_that_breaks(rt: HostRuntime) -> Result<(), Fail> {
+    let other = first_other_broken::<Brand, HostRuntime>(&rt, rt.alloc(), Blank::new(1))?;
+    assert_eq!(rt; other, None);
     Ok(())
 }
 
