@@ -144,7 +144,11 @@ fn connect_broken<L: Ledger, R: Wait>(
 }
 
 /// The place of the first broken connection on which, or behind which, something else is written.
-fn first_other_broken<L: Ledger, R: Wait>(
+fn first_other_broken<R: Wait>(rt: &R, alloc: Global) -> Result<Option<usize>, Fail> {
+    first_other_broken_on::<Brand, R>(rt, alloc, Blank::new(1))
+}
+
+fn first_other_broken_on<L: Ledger, R: Wait>(
     rt: &R,
     alloc: Global,
     blank: Blank,
@@ -166,8 +170,7 @@ fn first_other_broken<L: Ledger, R: Wait>(
 
 #[test]
 fn a_book_comes_back_from_a_connection_that_breaks(rt: HostRuntime) -> Result<(), Fail> {
-    let other = first_other_broken::<Brand, HostRuntime>(&rt, rt.alloc(), Blank::new(1))?;
-    assert_eq!(rt; other, None);
+    assert_eq!(rt; first_other_broken(&rt, rt.alloc())?, None);
     Ok(())
 }
 
