@@ -2,9 +2,9 @@
 use crate::clients::Manner::{Asks, GoesOn, Leaves, Stays};
 use crate::clients::Talk;
 
-const T1: &str = "[\"hello\",\"t1\"]\n";
+const HELLO: &str = "[\"hello\",\"t1\"]\n";
 
-const T2: &str = "[\"hello\",\"t2\"]\n";
+const OTHER_HELLO: &str = "[\"hello\",\"t2\"]\n";
 
 const ARRAY: &str = "[\"new\",\"a\",3]\n[\"put\",\"a\",0,[1,2,3]]\n";
 
@@ -28,10 +28,10 @@ const ERR_411: &str = "[\"err\",0,411]\n";
 pub const TWO_TENANTS: [Talk; 2] = [
     Talk(
         Asks,
-        &[(T1, 1), (ARRAY, 1), (TWO_TASKS, 1), ("[\"bye\"]\n", 1)],
+        &[(HELLO, 1), (ARRAY, 1), (TWO_TASKS, 1), ("[\"bye\"]\n", 1)],
         "[\"hello\",\"t1\",1]\n[\"ok\",1]\n[\"ok\",2]\n[\"done\",3,2,5,[[7,8,3]]]\n",
     ),
-    Talk(Asks, &[(T2, 1)], "[\"hello\",\"t2\",1]\n"),
+    Talk(Asks, &[(OTHER_HELLO, 1)], "[\"hello\",\"t2\",1]\n"),
 ];
 
 /// First lines. They have 64 bytes at most, and a greeting of `t1` has 14. None of them is a request, and behind each
@@ -45,12 +45,12 @@ pub const FIRST_LINES: [Talk; 14] = [
     Talk(Asks, &[("[\"hello\",\"abcdefghijklmnopq\"]\n", 1)], ERR_411),
     Talk(Asks, &[("[\"hello\",\"\\u007a\\u007a\"]\n", 1)], ERR_404),
     Talk(Asks, &[("[\"hello\",\"\\u0074\\u0031\"]\n", 1)], WELCOME),
-    Talk(Asks, &[(" ", 50), (T1, 1)], WELCOME),
-    Talk(Asks, &[(" ", 51), (T1, 1)], ERR_411),
+    Talk(Asks, &[(" ", 50), (HELLO, 1)], WELCOME),
+    Talk(Asks, &[(" ", 51), (HELLO, 1)], ERR_411),
     Talk(Asks, &[("[", 64), ("\n", 1)], "[\"err\",0,410]\n"),
     Talk(Asks, &[("[", 65)], ERR_411),
     Talk(Asks, &[(" ", 50), ("[\"hello\",\"t1\"]", 1)], ""),
-    Talk(Asks, &[(T1, 1)], WELCOME),
+    Talk(Asks, &[(HELLO, 1)], WELCOME),
 ];
 
 /// While one says nothing, one goes in the middle of a line, and one sends a line of 70,000 bytes. Neither line
@@ -59,13 +59,13 @@ pub const BROKEN_LINES: [Talk; 5] = [
     Talk(Stays, &[], ""),
     Talk(
         Leaves,
-        &[(T1, 1), (ARRAY, 1), ("[\"new\",\"b\",3", 1)],
+        &[(HELLO, 1), (ARRAY, 1), ("[\"new\",\"b\",3", 1)],
         "[\"hello\",\"t1\",1]\n[\"ok\",1]\n[\"ok\",2]\n",
     ),
     Talk(
         Asks,
         &[
-            (T1, 1),
+            (HELLO, 1),
             ("[\"list\"]\n", 1),
             ("          ", 7_000),
             ("\n[]\n", 1),
@@ -74,19 +74,19 @@ pub const BROKEN_LINES: [Talk; 5] = [
     ),
     Talk(
         Asks,
-        &[(T1, 1), (TWO_TASKS, 1)],
+        &[(HELLO, 1), (TWO_TASKS, 1)],
         "[\"hello\",\"t1\",4]\n[\"done\",4,2,5,[[7,8,3]]]\n",
     ),
-    Talk(GoesOn, &[(T2, 1)], "[\"hello\",\"t2\",1]\n"),
+    Talk(GoesOn, &[(OTHER_HELLO, 1)], "[\"hello\",\"t2\",1]\n"),
 ];
 
 /// A tenant has one session at a time, which goes on. In its next one it asks for 40 replies of 60 KB and reads
 /// none: the session doesn't come to the goodbye behind them, and others go on. At last the client goes.
 pub const BUSY: [Talk; 8] = [
-    Talk(Stays, &[(T1, 1)], WELCOME),
-    Talk(Asks, &[(T1, 1)], ERR_409),
+    Talk(Stays, &[(HELLO, 1)], WELCOME),
+    Talk(Asks, &[(HELLO, 1)], ERR_409),
     Talk(Asks, &[("[\"hello\",\"zz\"]\n", 1)], ERR_404),
-    Talk(Asks, &[(T2, 1)], "[\"hello\",\"t2\",1]\n"),
+    Talk(Asks, &[(OTHER_HELLO, 1)], "[\"hello\",\"t2\",1]\n"),
     Talk(GoesOn, &[("[\"list\"]\n", 1)], "[\"arrays\",1,[]]\n"),
     Talk(
         Stays,
@@ -97,17 +97,17 @@ pub const BUSY: [Talk; 8] = [
         ],
         "[\"hello\",\"t1\",2]\n[\"ok\",2]\n",
     ),
-    Talk(Asks, &[(T1, 1)], ERR_409),
+    Talk(Asks, &[(HELLO, 1)], ERR_409),
     Talk(
         Asks,
-        &[(T2, 1), (ARRAY, 1), (TWO_TASKS, 1)],
+        &[(OTHER_HELLO, 1), (ARRAY, 1), (TWO_TASKS, 1)],
         "[\"hello\",\"t2\",1]\n[\"ok\",1]\n[\"ok\",2]\n[\"done\",3,2,5,[[7,8,3]]]\n",
     ),
 ];
 
 /// Two clients at once. A third one is answered while each stays, and then its jobs are run.
 pub const AT_ONCE: [Talk; 3] = [
-    Talk(Stays, &[(T1, 1)], WELCOME),
+    Talk(Stays, &[(HELLO, 1)], WELCOME),
     Talk(Asks, &[("[\"hello\",\"zz\"]\n", 1)], ERR_404),
     Talk(
         GoesOn,
@@ -117,7 +117,7 @@ pub const AT_ONCE: [Talk; 3] = [
 ];
 
 pub const BESIDE: [Talk; 3] = [
-    Talk(Stays, &[(T2, 1)], "[\"hello\",\"t2\",1]\n"),
+    Talk(Stays, &[(OTHER_HELLO, 1)], "[\"hello\",\"t2\",1]\n"),
     Talk(Asks, &[("[\"hello\",\"zz\"]\n", 1)], ERR_404),
     Talk(
         GoesOn,
@@ -127,4 +127,4 @@ pub const BESIDE: [Talk; 3] = [
 ];
 
 /// One connection after another.
-pub const TWO_HUNDRED: [Talk; 200] = [Talk(Asks, &[(T1, 1)], WELCOME); 200];
+pub const TWO_HUNDRED: [Talk; 200] = [Talk(Asks, &[(HELLO, 1)], WELCOME); 200];
