@@ -47,7 +47,7 @@ module _ (f : Region → Region) (up : (r : Region) → (f r).parent ≡ r.paren
   now = updated rs i f
 
   pub kept-changed : (list2 : List ℕ) (room2 out2 unended2 : ℕ) → AreCounted now out2 unended2 → IsListBelow (length now) list2 → TellsOf now list2 i
-      → ((k : ℕ) → TellsOf now list k → TellsOf now list2 k) → room2 ≡ room → AreKept now numbers list2 room2 out2 unended2
+      → ((k : ℕ) → TellsOf now list k → TellsOf now list2 k) → room ≤ room2 → AreKept now numbers list2 room2 out2 unended2
   kept-changed list2 room2 out2 unended2 counted ordered told others same = record {
     counted = counted;
     numbered = numbered-same f up place (λ r. ap length (many r)) rs i numbers old.numbered;
@@ -69,7 +69,7 @@ module _ (f : Region → Region) (up : (r : Region) → (f r).parent ≡ r.paren
   ordered-tasks = subst (λ n. IsListBelow n list) (sym long-tasks) (list-ordered rs list old.claimable)
 
   pub kept-tasks : (list2 : List ℕ) (room2 out2 unended2 : ℕ) → AreCounted (updated rs i f) out2 unended2 → IsListBelow (length tasks) list2 → TellsOf (regions_of tasks) list2 i
-      → ((k : ℕ) → TellsOf (regions_of tasks) list k → TellsOf (regions_of tasks) list2 k) → room2 ≡ room → AreKept (regions_of tasks) numbers list2 room2 out2 unended2
+      → ((k : ℕ) → TellsOf (regions_of tasks) list k → TellsOf (regions_of tasks) list2 k) → room ≤ room2 → AreKept (regions_of tasks) numbers list2 room2 out2 unended2
   kept-tasks list2 room2 out2 unended2 counted ordered told others same =
       subst (λ (l : List Region). AreKept l numbers list2 room2 out2 unended2) (sym is) (
       kept-changed f up place many rs i numbers list room out unended old list2 room2 out2 unended2 counted
@@ -91,7 +91,7 @@ module _ (rs : List Region) (p c : ℕ) (numbers : List (List ℕ)) (list : List
 
   pub kept-told : (list1 list2 : List ℕ) (room2 : ℕ) → AreCounted told out unended → IsListBelow (length told) list2 → TellsOf told list1 p
       → ((k : ℕ) → TellsOf told list k → TellsOf told list1 k) → ((k : ℕ) → TellsOf told list1 k → TellsOf told list2 k)
-      → ((w : ℕ) → has w waiters ≡ true → TellsOf told list2 (get_or (get_or numbers p []) w 0)) → room2 ≡ room → AreKept told numbers list2 room2 out unended
+      → ((w : ℕ) → has w waiters ≡ true → TellsOf told list2 (get_or (get_or numbers p []) w 0)) → room ≤ room2 → AreKept told numbers list2 room2 out unended
   kept-told list1 list2 room2 counted ordered parent first second waited same = record {
     counted = counted;
     numbered = numbered-same (without c) (λ r. refl) (λ r. refl) with-length rs p numbers old.numbered;
@@ -178,7 +178,7 @@ module _ (rs : List Region) (p c : ℕ) (numbers : List (List ℕ)) (list : List
 
   pub kept-told-tasks : (list1 list2 : List ℕ) (room2 : ℕ) → IsListBelow (length tasks) list2 → TellsOf (regions_of tasks) list1 p
       → ((k : ℕ) → TellsOf (regions_of tasks) list k → TellsOf (regions_of tasks) list1 k) → ((k : ℕ) → TellsOf (regions_of tasks) list1 k → TellsOf (regions_of tasks) list2 k)
-      → ((w : ℕ) → has w waiters ≡ true → TellsOf (regions_of tasks) list2 (get_or (get_or numbers p []) w 0)) → room2 ≡ room → AreKept (regions_of tasks) numbers list2 room2 runs goes
+      → ((w : ℕ) → has w waiters ≡ true → TellsOf (regions_of tasks) list2 (get_or (get_or numbers p []) w 0)) → room ≤ room2 → AreKept (regions_of tasks) numbers list2 room2 runs goes
   kept-told-tasks list1 list2 room2 ordered parent first second waited same =
       subst (λ (l : List Region). AreKept l numbers list2 room2 runs goes) (sym is) (
       kept-told rs p c numbers list room runs goes old waiters others list1 list2 room2 (counted-told rs p c runs goes old.counted)

@@ -1,5 +1,6 @@
 //! The list of the claimable tasks, in order of their numbers.
-ghost use Rattle.std.specs.Prelude.{◌≡◌, ◌≢◌, ◌<◌, ◌≤◌, ℕ, true, All, length, slice_index_or, vec_capacity};
+ghost use Rattle.std.specs.Prelude.{◌≡◌, ◌≢◌, ◌<◌, ◌≤◌, ℕ, true, All, length, slice_index_or};
+ghost use Rattle.std.specs.VecDeque.{deque_capacity};
 ghost use Rattle.ot_depend.specs.Kept.{has};
 ghost use Rattle.ot_job.specs.RegionView.{regions_of};
 ghost use Rattle.ot_job.specs.Listing.{IsListBelow, TellsOf};
@@ -7,17 +8,18 @@ ghost use Rattle.ot_job.specs.Listing.{IsListBelow, TellsOf};
 use crate::pick::is_claimable;
 use crate::room::put_at;
 use crate::task::Task;
+use std::collections::VecDeque;
 
 /// Puts a number of those below `count` into the list, or takes it out. There is to be room for all of
 /// them. It takes no memory.
-fn note(list: &mut Vec<usize>, count: usize, i: usize, among: bool)
+fn note(list: &mut VecDeque<usize>, count: usize, i: usize, among: bool)
     requires within { i < count }
     requires ordered { IsListBelow count list.old.items }
-    requires room { count ≤ vec_capacity list.old }
+    requires room { count ≤ deque_capacity list.old }
     ensures ordered { IsListBelow count list.new.items }
     ensures noted { has i list.new.items ≡ among }
     ensures others { (k : ℕ) → k ≢ i → has k list.new.items ≡ has k list.old.items }
-    ensures room { vec_capacity list.new ≡ vec_capacity list.old }
+    ensures room { deque_capacity list.old ≤ deque_capacity list.new }
 {
     match list.binary_search(&i) {
         Ok(place) => {
@@ -34,14 +36,14 @@ fn note(list: &mut Vec<usize>, count: usize, i: usize, among: bool)
 }
 
 /// Looks whether a task is claimable now. It takes no memory.
-pub fn refresh(list: &mut Vec<usize>, tasks: &[Task], i: usize)
+pub fn refresh(list: &mut VecDeque<usize>, tasks: &[Task], i: usize)
     requires known { i < length tasks.now }
     requires ordered { IsListBelow (length tasks.now) list.old.items }
-    requires room { length tasks.now ≤ vec_capacity list.old }
+    requires room { length tasks.now ≤ deque_capacity list.old }
     ensures ordered { IsListBelow (length tasks.now) list.new.items }
     ensures told { TellsOf (regions_of tasks.now) list.new.items i }
     ensures others { (k : ℕ) → TellsOf (regions_of tasks.now) list.old.items k → TellsOf (regions_of tasks.now) list.new.items k }
-    ensures room { vec_capacity list.new ≡ vec_capacity list.old }
+    ensures room { deque_capacity list.old ≤ deque_capacity list.new }
 {
     let claimable = is_claimable(tasks, i);
     note(list, tasks.len(), i, claimable);
@@ -50,7 +52,7 @@ pub fn refresh(list: &mut Vec<usize>, tasks: &[Task], i: usize)
 /// Looks which of some children of one task, whose numbers these are, are claimable now. It takes no
 /// memory.
 pub fn refresh_children(
-    list: &mut Vec<usize>,
+    list: &mut VecDeque<usize>,
     tasks: &[Task],
     numbers: &[usize],
     children: &[usize],
@@ -58,11 +60,11 @@ pub fn refresh_children(
     requires children { All (λ c. c < length numbers.now) children.now }
     requires numbers { All (λ i. i < length tasks.now) numbers.now }
     requires ordered { IsListBelow (length tasks.now) list.old.items }
-    requires room { length tasks.now ≤ vec_capacity list.old }
+    requires room { length tasks.now ≤ deque_capacity list.old }
     ensures ordered { IsListBelow (length tasks.now) list.new.items }
     ensures told { (c : ℕ) → has c children.now ≡ true → TellsOf (regions_of tasks.now) list.new.items (slice_index_or numbers.now c 0) }
     ensures others { (k : ℕ) → TellsOf (regions_of tasks.now) list.old.items k → TellsOf (regions_of tasks.now) list.new.items k }
-    ensures room { vec_capacity list.new ≡ vec_capacity list.old }
+    ensures room { deque_capacity list.old ≤ deque_capacity list.new }
 {
     for child in children {
         refresh(list, tasks, numbers[*child]);

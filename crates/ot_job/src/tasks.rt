@@ -6,6 +6,7 @@ use crate::task::Task;
 use ot_model::Stmt;
 use ot_owner::Right;
 use std::alloc::{AllocError, Global};
+use std::collections::VecDeque;
 use std::marker::Model;
 
 /// The tasks of a job in order of their creation, and what is kept so that none has to be passed over.
@@ -14,8 +15,9 @@ pub struct Tasks {
     tasks: Vec<Task>,
     /// Of each task, the numbers of its children's tasks, in order of their creation.
     children: Vec<Vec<usize>>,
-    /// Those that are claimable, in order of their numbers. It has room for all.
-    claimable: Vec<usize>,
+    /// Those that are claimable, in order of their numbers. It has room for all. A queue, since those that
+    /// come and go most often are the first, which create, and the last, which are new.
+    claimable: VecDeque<usize>,
     /// How many have a piece out.
     out: usize,
     /// How many have not ended their body.
@@ -33,12 +35,12 @@ impl Model for Tasks {
     ghost coded = { Prim.hlevel (codes, t.the_row.coded) };
 
     ghost use Rattle.ot_job.specs.RegionView.{regions_of};
-    ghost use Rattle.std.specs.Prelude.{vec_capacity};
+    ghost use Rattle.std.specs.VecDeque.{deque_capacity};
     ghost use Rattle.ot_job.specs.Listing.{AreKept, numbers_of};
 
     ghost view = { λ t. t.tasks.items };
 
-    ghost invariant = { λ t. AreKept (regions_of t.tasks.items) (numbers_of t.children.items) t.claimable.items (vec_capacity t.claimable) t.out t.unended };
+    ghost invariant = { λ t. AreKept (regions_of t.tasks.items) (numbers_of t.children.items) t.claimable.items (deque_capacity t.claimable) t.out t.unended };
 }
 
 impl Tasks {
@@ -60,10 +62,10 @@ impl Tasks {
     {
         let mut tasks = Vec::with_capacity(alloc, 1)?;
         let mut children = Vec::with_capacity(alloc, 1)?;
-        let mut claimable = Vec::with_capacity(alloc, 1)?;
+        let mut claimable = VecDeque::with_capacity(alloc, 1)?;
         put(&mut tasks, Task::root(alloc, body));
         put(&mut children, Vec::new(alloc));
-        put(&mut claimable, 0);
+        claimable.push_back_reserved(0);
         Ok(Tasks {
             tasks,
             children,

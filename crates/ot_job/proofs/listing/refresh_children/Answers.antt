@@ -1,4 +1,4 @@
-use Rattle.std.proofs.Common.{◌≡◌, ◌∙◌, ◌||◌, ◌==◌, sym, subst, Bool, true, false, get_or, take, ℕ, inl, inr}
+use Rattle.std.proofs.Common.{◌≡◌, ◌∙◌, ◌||◌, ◌==◌, sym, subst, Bool, true, false, get_or, take, ℕ, inl, inr, arith}
 use Rattle.std.proofs.lemmas.Bool.{cases_Bool, eqb-true}
 use Rattle.std.proofs.lemmas.List.Folds.{list_any_more}
 use Rattle.ot_depend.specs.Kept.{has}
@@ -21,7 +21,7 @@ loop-child-preserved c =
     let old = c.loop-child.invariant in
     let tells = TellsOf (regions_of c.args.tasks.now) c.refresh.new.list.items in (
       c.refresh.ensures.ordered,
-      c.refresh.ensures.room ∙ old.1,
+      omega (arith, c.refresh.ensures.room, old.1),
       λ k was. c.refresh.ensures.others k (old.2 k was),
       λ n there. elim (cases_Bool (has n (take i xs))) [
         | inl before ↦ c.refresh.ensures.others (get_or c.args.numbers.now n 0) (old.3 n before)

@@ -1,9 +1,10 @@
-use Rattle.std.proofs.Common.{◌≡◌, ◌∙◌, ap, subst, arith, vec_capacity, List}
+use Rattle.std.proofs.Common.{◌≡◌, ◌∙◌, ap, subst, arith, List}
 use Rattle.ot_model.specs.Cells.{updated}
 use Rattle.ot_job.specs.Regions.{Region, stepped}
 use Rattle.ot_job.specs.RegionView.{regions_of}
 use Rattle.ot_job.specs.Sound.{at}
 use Rattle.ot_job.specs.Settling.{tasks_next}
+use Rattle.std.specs.VecDeque.{deque_capacity}
 use Rattle.ot_job.specs.Listing.{numbers_of, AreKept}
 use Rattle.ot_job.specs.declared.task.Task.{Task}
 use Rattle.ot_job.proofs.CountingLemmas.{counted-stepped}
@@ -47,6 +48,6 @@ invariant_of-self-2 c =
     let is : regions_of c.deref.result.now ≡ updated rs i word = ap regions_of c.deref.ensures.value ∙ c.in_ok-execute.ensures.executed ∙ executed-none c.args.taken c.args.group i rs none in
     let kept = kept-tasks word (stepped-parent c.args.taken c.args.group) (stepped-child c.args.taken c.args.group) (stepped-children c.args.taken c.args.group) rs i
     (numbers_of c.self.inside.children.items) c.self.inside.claimable.items _ _ _ c.self.invariant c.deref.result.now is
-    c.refresh.new.list.items (vec_capacity c.refresh.new.list) c.self.inside.out c.self.inside.unended (counted-stepped c.args.taken c.args.group rs i c.self.inside.out c.self.inside.unended c.self.invariant.counted)
+    c.refresh.new.list.items (deque_capacity c.refresh.new.list) c.self.inside.out c.self.inside.unended (counted-stepped c.args.taken c.args.group rs i c.self.inside.out c.self.inside.unended c.self.invariant.counted)
     c.refresh.ensures.ordered c.refresh.ensures.told c.refresh.ensures.others c.refresh.ensures.room in
-    subst (λ (l : List Task). AreKept (regions_of l) (numbers_of c.self.inside.children.items) c.refresh.new.list.items (vec_capacity c.refresh.new.list) c.self.inside.out c.self.inside.unended) c.deref.ensures.value kept
+    subst (λ (l : List Task). AreKept (regions_of l) (numbers_of c.self.inside.children.items) c.refresh.new.list.items (deque_capacity c.refresh.new.list) c.self.inside.out c.self.inside.unended) c.deref.ensures.value kept

@@ -1,9 +1,10 @@
-use Rattle.std.proofs.Common.{◌≡◌, ◌<◌, ◌∙◌, ap, subst, arith, refl, ◌-◌, vec_capacity, List, false, length}
+use Rattle.std.proofs.Common.{◌≡◌, ◌<◌, ◌∙◌, ap, subst, arith, refl, ◌-◌, List, false, length}
 use Rattle.std.proofs.lemmas.List.{length-map}
 use Rattle.ot_model.specs.Cells.{updated}
 use Rattle.ot_job.specs.RegionView.{region_of, regions_of}
 use Rattle.ot_job.specs.Sound.{at}
 use Rattle.ot_job.specs.declared.task.Task.{Task}
+use Rattle.std.specs.VecDeque.{deque_capacity}
 use Rattle.ot_job.specs.Listing.{numbers_of, AreKept}
 use Rattle.ot_job.proofs.ViewLemmas.{map-changed}
 use Rattle.ot_job.proofs.KeepingLemmas.{ordered-tasks, kept-tasks}
@@ -43,8 +44,8 @@ invariant_of-self c =
     let now = map-changed region_of tasks i c.index_mut.result.now c.end.new.self over c.index_mut.ensures.value c.end.ensures in
     let is : regions_of c.deref.result.now ≡ updated rs i over = ap regions_of c.deref.ensures.value ∙ now in
     let kept = kept-tasks over (λ r. refl) (λ r. refl) (λ r. refl) rs i (numbers_of c.self.inside.children.items) c.self.inside.claimable.items _ _ _ c.self.invariant c.deref.result.now is
-    c.refresh.new.list.items (vec_capacity c.refresh.new.list) c.self.inside.out (c.self.inside.unended - 1) (counted-over rs i c.self.inside.out c.self.inside.unended h alive c.self.invariant.counted) c.refresh.ensures.ordered c.refresh.ensures.told c.refresh.ensures.others c.refresh.ensures.room in
-    subst (λ (l : List Task). AreKept (regions_of l) (numbers_of c.self.inside.children.items) c.refresh.new.list.items (vec_capacity c.refresh.new.list) c.self.inside.out (c.self.inside.unended - 1)) c.deref.ensures.value kept
+    c.refresh.new.list.items (deque_capacity c.refresh.new.list) c.self.inside.out (c.self.inside.unended - 1) (counted-over rs i c.self.inside.out c.self.inside.unended h alive c.self.invariant.counted) c.refresh.ensures.ordered c.refresh.ensures.told c.refresh.ensures.others c.refresh.ensures.room in
+    subst (λ (l : List Task). AreKept (regions_of l) (numbers_of c.self.inside.children.items) c.refresh.new.list.items (deque_capacity c.refresh.new.list) c.self.inside.out (c.self.inside.unended - 1)) c.deref.ensures.value kept
 
 pub returns : goal.returns
 returns c =

@@ -1,10 +1,11 @@
-use Rattle.std.proofs.Common.{◌≡◌, ◌<◌, ◌∙◌, ap, subst, arith, refl, ◌-◌, vec_capacity, List, true, length}
+use Rattle.std.proofs.Common.{◌≡◌, ◌<◌, ◌∙◌, ap, subst, arith, refl, ◌-◌, List, true, length}
 use Rattle.std.specs.Prelude.{is_some}
 use Rattle.std.proofs.lemmas.List.{length-map}
 use Rattle.ot_model.specs.Cells.{updated}
 use Rattle.ot_job.specs.RegionView.{region_of, regions_of}
 use Rattle.ot_job.specs.Sound.{at}
 use Rattle.ot_job.specs.declared.task.Task.{Task}
+use Rattle.std.specs.VecDeque.{deque_capacity}
 use Rattle.ot_job.specs.Listing.{numbers_of, AreKept}
 use Rattle.ot_job.proofs.ViewLemmas.{map-changed}
 use Rattle.ot_job.proofs.KeepingLemmas.{ordered-tasks, kept-tasks}
@@ -44,8 +45,8 @@ invariant_of-self c =
     let now = map-changed region_of tasks i c.index_mut.result.now c.stop.new.self stopped c.index_mut.ensures.value c.stop.ensures in
     let is : regions_of c.deref.result.now ≡ updated rs i stopped = ap regions_of c.deref.ensures.value ∙ now in
     let kept = kept-tasks stopped (λ r. refl) (λ r. refl) (λ r. refl) rs i (numbers_of c.self.inside.children.items) c.self.inside.claimable.items _ _ _ c.self.invariant c.deref.result.now is
-    c.refresh.new.list.items (vec_capacity c.refresh.new.list) (c.self.inside.out - 1) c.self.inside.unended (counted-stopped rs i c.self.inside.out c.self.inside.unended h out c.self.invariant.counted) c.refresh.ensures.ordered c.refresh.ensures.told c.refresh.ensures.others c.refresh.ensures.room in
-    subst (λ (l : List Task). AreKept (regions_of l) (numbers_of c.self.inside.children.items) c.refresh.new.list.items (vec_capacity c.refresh.new.list) (c.self.inside.out - 1) c.self.inside.unended) c.deref.ensures.value kept
+    c.refresh.new.list.items (deque_capacity c.refresh.new.list) (c.self.inside.out - 1) c.self.inside.unended (counted-stopped rs i c.self.inside.out c.self.inside.unended h out c.self.invariant.counted) c.refresh.ensures.ordered c.refresh.ensures.told c.refresh.ensures.others c.refresh.ensures.room in
+    subst (λ (l : List Task). AreKept (regions_of l) (numbers_of c.self.inside.children.items) c.refresh.new.list.items (deque_capacity c.refresh.new.list) (c.self.inside.out - 1) c.self.inside.unended) c.deref.ensures.value kept
 
 pub returns : goal.returns
 returns c =

@@ -1,4 +1,4 @@
-use Rattle.std.proofs.Common.{◌≡◌, ◌<◌, ◌∙◌, ap, sym, subst, arith, ℕ, vec_capacity, List, [], true, All, length, get_or}
+use Rattle.std.proofs.Common.{◌≡◌, ◌<◌, ◌∙◌, ap, sym, subst, arith, ℕ, List, [], true, All, length, get_or}
 use Rattle.std.proofs.lemmas.List.{length-map, get_or_default}
 use Rattle.std.proofs.Math.ListN.{get_or-map}
 use Rattle.ot_model.specs.Cells.{updated}
@@ -10,6 +10,7 @@ use Rattle.ot_job.specs.Regions.{Region}
 use Rattle.ot_job.specs.RegionView.{region_of, regions_of}
 use Rattle.ot_job.specs.Sound.{at, parent_of}
 use Rattle.ot_job.specs.Settling.{without}
+use Rattle.std.specs.VecDeque.{deque_capacity}
 use Rattle.ot_job.specs.Listing.{IsListBelow, TellsOf, numbers_of, AreKept}
 use Rattle.ot_job.specs.declared.task.Task.{Task}
 use Rattle.ot_job.proofs.PickLemmas.{at-here}
@@ -175,11 +176,11 @@ invariant_of-self c =
     λ w among. subst (λ (l : List ℕ). TellsOf (regions_of c.deref.result.now) list2 (get_or l w 0)) (c.deref-3.ensures.value ∙ sym numbers)
     (subst (λ (l : List Task). TellsOf (regions_of l) list2 (get_or c.deref-3.result.now w 0)) same (c.refresh_children.ensures.told w (ap (has w) c.deref-4.ensures.value ∙ among))) in
     let kept = kept-told-tasks rs c.index.result.now.parent c.index-2.result.now.child (numbers_of lists) c.self.inside.claimable.items _ _ _ c.self.invariant
-    c.release_child-waiters.result.items others c.deref.result.now is c.refresh.new.list.items list2 (vec_capacity c.refresh_children.new.list)
+    c.release_child-waiters.result.items others c.deref.result.now is c.refresh.new.list.items list2 (deque_capacity c.refresh_children.new.list)
     (subst (λ (l : List Task). IsListBelow (length l) list2) same c.refresh_children.ensures.ordered) c.refresh.ensures.told c.refresh.ensures.others
     (subst (λ (l : List Task). (j : ℕ) → TellsOf (regions_of l) c.refresh.new.list.items j → TellsOf (regions_of l) list2 j) same c.refresh_children.ensures.others) waited
-    (c.refresh_children.ensures.room ∙ c.refresh.ensures.room) in
-    subst (λ (l : List Task). AreKept (regions_of l) (numbers_of lists) list2 (vec_capacity c.refresh_children.new.list) c.self.inside.out c.self.inside.unended) c.deref.ensures.value kept
+    (omega (arith, c.refresh_children.ensures.room, c.refresh.ensures.room)) in
+    subst (λ (l : List Task). AreKept (regions_of l) (numbers_of lists) list2 (deque_capacity c.refresh_children.new.list) c.self.inside.out c.self.inside.unended) c.deref.ensures.value kept
 
 pub returns : goal.returns
 returns c =
