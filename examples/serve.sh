@@ -4,10 +4,10 @@
 #
 #   examples/serve.sh crates/omptaskd/out/omptaskd
 #
-# What it prints is in serve.txt.
+# What it prints is in serve.txt: the replies, and last the units that the server counted.
 program=${1:?which program}
 socket=$(mktemp -d)/socket
-"$program" serve --socket "$socket" --count 2 first second &
+"$program" serve --socket "$socket" --count 2 first second > "$socket.usage" &
 until [ -S "$socket" ]; do sleep 0.01; done
 
 nc -U "$socket" <<'LINES'
@@ -24,3 +24,4 @@ nc -U "$socket" <<'LINES'
 ["bye"]
 LINES
 wait
+cat "$socket.usage"
