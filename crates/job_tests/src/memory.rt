@@ -26,9 +26,10 @@ impl Watched {
         }
     }
 
+    /// Whether it shows the same numbers, spec and cells. Tables behind them may have kept room.
     fn is_still(&mut self, alloc: Global, before: &str) -> bool {
         match self.shown(alloc) {
-            Ok(now) => now.as_str() == before,
+            Ok(now) => now.as_str().split(", owners:").next() == before.split(", owners:").next(),
             Err(_) => false,
         }
     }
