@@ -20,7 +20,6 @@ returns-then-not-among-clause-ordered c =
     let i = c.args.i in
     let at = c.in-Ok.ensures.position in
     let f = found c.args.count xs i (Ok c.in-Ok.place) c.requires.ordered at in
-    let no : c.args.among ≡ false = search rules in
     let e = noted-out c.args.count xs i c.requires.within c.requires.ordered c.in-Ok.place f.0 f.1 in
     let left = subst (λ (o : Option ℕ). OnSome o (c.remove.new.self.items ≡ remove xs c.in-Ok.place)) (c.remove.ensures.succeeds 0 (omega (arith, f.0, c.args.list.now.ok.0))) c.remove.ensures.items in
     subst (IsListBelow c.args.count) (sym left) e.ordered
@@ -42,7 +41,6 @@ returns-then-not-among-clause-others c =
     let i = c.args.i in
     let at = c.in-Ok.ensures.position in
     let f = found c.args.count xs i (Ok c.in-Ok.place) c.requires.ordered at in
-    let no : c.args.among ≡ false = search rules in
     let e = noted-out c.args.count xs i c.requires.within c.requires.ordered c.in-Ok.place f.0 f.1 in
     let left = subst (λ (o : Option ℕ). OnSome o (c.remove.new.self.items ≡ remove xs c.in-Ok.place)) (c.remove.ensures.succeeds 0 (omega (arith, f.0, c.args.list.now.ok.0))) c.remove.ensures.items in
     λ k apart. ap (has k) left ∙ e.others k apart
@@ -62,7 +60,6 @@ returns-then-among-clause-ordered c =
     let i = c.args.i in
     let at = c.in-Err.ensures.position in
     let f = found c.args.count xs i (Err c.in-Err.place) c.requires.ordered at in
-    let yes : c.args.among ≡ true = search rules in
     let e = noted-in c.args.count xs i c.requires.within c.requires.ordered c.in-Err.place f.0 f.1 f.2 in
     subst (IsListBelow c.args.count) (sym c.put_at.ensures.put) e.ordered
 
@@ -82,7 +79,6 @@ returns-then-among-clause-others c =
     let i = c.args.i in
     let at = c.in-Err.ensures.position in
     let f = found c.args.count xs i (Err c.in-Err.place) c.requires.ordered at in
-    let yes : c.args.among ≡ true = search rules in
     let e = noted-in c.args.count xs i c.requires.within c.requires.ordered c.in-Err.place f.0 f.1 f.2 in
     λ k apart. ap (has k) c.put_at.ensures.put ∙ e.others k apart
 

@@ -90,7 +90,6 @@ settle-requires-clause-out c =
       failing = c.self.inside.failing;
     } in
     let d : Came = done_of c.args.done in
-    let may = settle-may j c.self.invariant (c.self.invariant.course c.if-self.false) in
     let yes : c.is_out.result ≡ true = search rules in
     let out : IsOut j.regions d = subst (λ (l : List Task). IsOut (regions_of l) d) c.all.ensures (c.is_out.ensures.0 yes) in
     ap is_some out.0
@@ -107,7 +106,6 @@ settle-requires-clause-alive c =
       failing = c.self.inside.failing;
     } in
     let d : Came = done_of c.args.done in
-    let may = settle-may j c.self.invariant (c.self.invariant.course c.if-self.false) in
     let yes : c.is_out.result ≡ true = search rules in
     let out : IsOut j.regions d = subst (λ (l : List Task). IsOut (regions_of l) d) c.all.ensures (c.is_out.ensures.0 yes) in
     ((c.self.invariant.course c.if-self.false).runs d.task (record { assigns = d.assigns; lease = lease_of d.lent }) out.0).alive
@@ -219,7 +217,6 @@ overflow_cast-units c =
     c.give_back.ensures.stored c.give_back.ensures.lengths c.give_back.ensures.ended ordered) in
     let here = at-here c.self.inside.tasks c.args.done.task c.get.result.now (omega (arith, is-known j d may out, length-map c.self.inside.tasks region_of)) c.get.ensures in
     let small : size j.program.body ≤ 20000 = omega (arith, c.self.inside.spec.checked.program.few, c.self.inside.spec.checked.program.statements_are) in
-    let fewer : tasks_in j.program.body ≤ 20000 = omega (arith, small, tasks_in-≤-size j.program.body) in
     let long : c.len-assigns.result ≡ leading_len d.assigns = grind (arith, c.len-assigns.ensures, assigns-len c.args.done.assigns.items, c.args.done.assigns.ok) in
     let control : c.units_next-control.result ≡ (if is_control (at j.regions d.task).rest then 1 else 0) = c.units_next-control.ensures.exact ∙ ap (λ (r : Region). if is_control r.rest then 1 else 0) (sym here) in
     let more : units_of d.assigns (at j.regions d.task).rest ≡ c.len-assigns.result + c.units_next-control.result = omega (arith, long, control) in
@@ -247,7 +244,6 @@ overflow_add-units c =
     c.give_back.ensures.stored c.give_back.ensures.lengths c.give_back.ensures.ended ordered) in
     let here = at-here c.self.inside.tasks c.args.done.task c.get.result.now (omega (arith, is-known j d may out, length-map c.self.inside.tasks region_of)) c.get.ensures in
     let small : size j.program.body ≤ 20000 = omega (arith, c.self.inside.spec.checked.program.few, c.self.inside.spec.checked.program.statements_are) in
-    let fewer : tasks_in j.program.body ≤ 20000 = omega (arith, small, tasks_in-≤-size j.program.body) in
     let long : c.len-assigns.result ≡ leading_len d.assigns = grind (arith, c.len-assigns.ensures, assigns-len c.args.done.assigns.items, c.args.done.assigns.ok) in
     let control : c.units_next-control.result ≡ (if is_control (at j.regions d.task).rest then 1 else 0) = c.units_next-control.ensures.exact ∙ ap (λ (r : Region). if is_control r.rest then 1 else 0) (sym here) in
     let more : units_of d.assigns (at j.regions d.task).rest ≡ c.len-assigns.result + c.units_next-control.result = omega (arith, long, control) in
@@ -273,12 +269,8 @@ overflow_add-self c =
     let told = c.args.done.told ∙ through expr_of (λ x. val (value_at c.args.done.lent) x) c.args.done.condition (option_map expr_of c.args.done.condition) refl in
     let few = counts-few _ (settle-course j c.self.invariant c.if-self.false d out c.args.done.made told c.give_back.new.cells c.give_back.new.self
     c.give_back.ensures.stored c.give_back.ensures.lengths c.give_back.ensures.ended ordered) in
-    let here = at-here c.self.inside.tasks c.args.done.task c.get.result.now (omega (arith, is-known j d may out, length-map c.self.inside.tasks region_of)) c.get.ensures in
     let small : size j.program.body ≤ 20000 = omega (arith, c.self.inside.spec.checked.program.few, c.self.inside.spec.checked.program.statements_are) in
     let fewer : tasks_in j.program.body ≤ 20000 = omega (arith, small, tasks_in-≤-size j.program.body) in
-    let long : c.len-assigns.result ≡ leading_len d.assigns = grind (arith, c.len-assigns.ensures, assigns-len c.args.done.assigns.items, c.args.done.assigns.ok) in
-    let control : c.units_next-control.result ≡ (if is_control (at j.regions d.task).rest then 1 else 0) = c.units_next-control.ensures.exact ∙ ap (λ (r : Region). if is_control r.rest then 1 else 0) (sym here) in
-    let more : units_of d.assigns (at j.regions d.task).rest ≡ c.len-assigns.result + c.units_next-control.result = omega (arith, long, control) in
     let here-2 = at-here c.self.inside.tasks c.args.done.task c.get-2.result.now (omega (arith, is-known j d may out, length-map c.self.inside.tasks region_of)) c.get-2.ensures in
     let created : c.tasks_next-created.result ≡ tasks_next (at j.regions d.task).rest = c.tasks_next-created.ensures.exact ∙ ap (λ (r : Region). tasks_next r.rest) (sym here-2) in
     omega (arith, few.0, fewer, created)
@@ -305,7 +297,6 @@ overflow_add-self-2 c =
     c.give_back.ensures.stored c.give_back.ensures.lengths c.give_back.ensures.ended ordered) in
     let here = at-here c.self.inside.tasks c.args.done.task c.get.result.now (omega (arith, is-known j d may out, length-map c.self.inside.tasks region_of)) c.get.ensures in
     let small : size j.program.body ≤ 20000 = omega (arith, c.self.inside.spec.checked.program.few, c.self.inside.spec.checked.program.statements_are) in
-    let fewer : tasks_in j.program.body ≤ 20000 = omega (arith, small, tasks_in-≤-size j.program.body) in
     let long : c.len-assigns.result ≡ leading_len d.assigns = grind (arith, c.len-assigns.ensures, assigns-len c.args.done.assigns.items, c.args.done.assigns.ok) in
     let control : c.units_next-control.result ≡ (if is_control (at j.regions d.task).rest then 1 else 0) = c.units_next-control.ensures.exact ∙ ap (λ (r : Region). if is_control r.rest then 1 else 0) (sym here) in
     let more : units_of d.assigns (at j.regions d.task).rest ≡ c.len-assigns.result + c.units_next-control.result = omega (arith, long, control) in
@@ -329,11 +320,7 @@ invariant_of-self-2 c =
     let no_err : is_err c.settle.result ≡ false = search rules in
     let ordered : CreatesInOrder (at j.regions d.task) = ok-holds c.settle.result no_err c.settle.ensures.ordered in
     let told = c.args.done.told ∙ through expr_of (λ x. val (value_at c.args.done.lent) x) c.args.done.condition (option_map expr_of c.args.done.condition) refl in
-    let few = counts-few _ (settle-course j c.self.invariant c.if-self.false d out c.args.done.made told c.give_back.new.cells c.give_back.new.self
-    c.give_back.ensures.stored c.give_back.ensures.lengths c.give_back.ensures.ended ordered) in
     let here = at-here c.self.inside.tasks c.args.done.task c.get.result.now (omega (arith, is-known j d may out, length-map c.self.inside.tasks region_of)) c.get.ensures in
-    let small : size j.program.body ≤ 20000 = omega (arith, c.self.inside.spec.checked.program.few, c.self.inside.spec.checked.program.statements_are) in
-    let fewer : tasks_in j.program.body ≤ 20000 = omega (arith, small, tasks_in-≤-size j.program.body) in
     let long : c.len-assigns.result ≡ leading_len d.assigns = grind (arith, c.len-assigns.ensures, assigns-len c.args.done.assigns.items, c.args.done.assigns.ok) in
     let control : c.units_next-control.result ≡ (if is_control (at j.regions d.task).rest then 1 else 0) = c.units_next-control.ensures.exact ∙ ap (λ (r : Region). if is_control r.rest then 1 else 0) (sym here) in
     let more : units_of d.assigns (at j.regions d.task).rest ≡ c.len-assigns.result + c.units_next-control.result = omega (arith, long, control) in
@@ -375,13 +362,7 @@ returns-clause-settled c =
     let yes : c.is_out.result ≡ true = search rules in
     let out : IsOut j.regions d = subst (λ (l : List Task). IsOut (regions_of l) d) c.all.ensures (c.is_out.ensures.0 yes) in
     let no_err : is_err c.settle.result ≡ false = search rules in
-    let ordered : CreatesInOrder (at j.regions d.task) = ok-holds c.settle.result no_err c.settle.ensures.ordered in
-    let told = c.args.done.told ∙ through expr_of (λ x. val (value_at c.args.done.lent) x) c.args.done.condition (option_map expr_of c.args.done.condition) refl in
-    let few = counts-few _ (settle-course j c.self.invariant c.if-self.false d out c.args.done.made told c.give_back.new.cells c.give_back.new.self
-    c.give_back.ensures.stored c.give_back.ensures.lengths c.give_back.ensures.ended ordered) in
     let here = at-here c.self.inside.tasks c.args.done.task c.get.result.now (omega (arith, is-known j d may out, length-map c.self.inside.tasks region_of)) c.get.ensures in
-    let small : size j.program.body ≤ 20000 = omega (arith, c.self.inside.spec.checked.program.few, c.self.inside.spec.checked.program.statements_are) in
-    let fewer : tasks_in j.program.body ≤ 20000 = omega (arith, small, tasks_in-≤-size j.program.body) in
     let long : c.len-assigns.result ≡ leading_len d.assigns = grind (arith, c.len-assigns.ensures, assigns-len c.args.done.assigns.items, c.args.done.assigns.ok) in
     let control : c.units_next-control.result ≡ (if is_control (at j.regions d.task).rest then 1 else 0) = c.units_next-control.ensures.exact ∙ ap (λ (r : Region). if is_control r.rest then 1 else 0) (sym here) in
     let more : units_of d.assigns (at j.regions d.task).rest ≡ c.len-assigns.result + c.units_next-control.result = omega (arith, long, control) in
@@ -426,22 +407,11 @@ returns-clause-lighter c =
       failing = c.self.inside.failing;
     } in
     let d : Came = done_of c.args.done in
-    let may = settle-may j c.self.invariant (c.self.invariant.course c.if-self.false) in
     let yes : c.is_out.result ≡ true = search rules in
     let out : IsOut j.regions d = subst (λ (l : List Task). IsOut (regions_of l) d) c.all.ensures (c.is_out.ensures.0 yes) in
     let no_err : is_err c.settle.result ≡ false = search rules in
     let ordered : CreatesInOrder (at j.regions d.task) = ok-holds c.settle.result no_err c.settle.ensures.ordered in
     let told = c.args.done.told ∙ through expr_of (λ x. val (value_at c.args.done.lent) x) c.args.done.condition (option_map expr_of c.args.done.condition) refl in
-    let few = counts-few _ (settle-course j c.self.invariant c.if-self.false d out c.args.done.made told c.give_back.new.cells c.give_back.new.self
-    c.give_back.ensures.stored c.give_back.ensures.lengths c.give_back.ensures.ended ordered) in
-    let here = at-here c.self.inside.tasks c.args.done.task c.get.result.now (omega (arith, is-known j d may out, length-map c.self.inside.tasks region_of)) c.get.ensures in
-    let small : size j.program.body ≤ 20000 = omega (arith, c.self.inside.spec.checked.program.few, c.self.inside.spec.checked.program.statements_are) in
-    let fewer : tasks_in j.program.body ≤ 20000 = omega (arith, small, tasks_in-≤-size j.program.body) in
-    let long : c.len-assigns.result ≡ leading_len d.assigns = grind (arith, c.len-assigns.ensures, assigns-len c.args.done.assigns.items, c.args.done.assigns.ok) in
-    let control : c.units_next-control.result ≡ (if is_control (at j.regions d.task).rest then 1 else 0) = c.units_next-control.ensures.exact ∙ ap (λ (r : Region). if is_control r.rest then 1 else 0) (sym here) in
-    let more : units_of d.assigns (at j.regions d.task).rest ≡ c.len-assigns.result + c.units_next-control.result = omega (arith, long, control) in
-    let here-2 = at-here c.self.inside.tasks c.args.done.task c.get-2.result.now (omega (arith, is-known j d may out, length-map c.self.inside.tasks region_of)) c.get-2.ensures in
-    let created : c.tasks_next-created.result ≡ tasks_next (at j.regions d.task).rest = c.tasks_next-created.ensures.exact ∙ ap (λ (r : Region). tasks_next r.rest) (sym here-2) in
     let ok : regions_of c.settle.new.self ≡ settled c.is_taken.result j.counts.units d.task j.regions = ok-holds c.settle.result no_err c.settle.ensures.settled in
     let regions : regions_of c.settle.new.self ≡ settled (taken_by d.answer) j.counts.units d.task j.regions = ok ∙ ap (λ (b : Bool). settled b j.counts.units d.task j.regions) c.is_taken.ensures in
     let less = settle-lighter j c.self.invariant c.if-self.false d out c.args.done.made told c.give_back.new.cells c.give_back.new.self
@@ -470,7 +440,6 @@ returns-clause-pays c =
     c.give_back.ensures.stored c.give_back.ensures.lengths c.give_back.ensures.ended ordered) in
     let here = at-here c.self.inside.tasks c.args.done.task c.get.result.now (omega (arith, is-known j d may out, length-map c.self.inside.tasks region_of)) c.get.ensures in
     let small : size j.program.body ≤ 20000 = omega (arith, c.self.inside.spec.checked.program.few, c.self.inside.spec.checked.program.statements_are) in
-    let fewer : tasks_in j.program.body ≤ 20000 = omega (arith, small, tasks_in-≤-size j.program.body) in
     let long : c.len-assigns.result ≡ leading_len d.assigns = grind (arith, c.len-assigns.ensures, assigns-len c.args.done.assigns.items, c.args.done.assigns.ok) in
     let control : c.units_next-control.result ≡ (if is_control (at j.regions d.task).rest then 1 else 0) = c.units_next-control.ensures.exact ∙ ap (λ (r : Region). if is_control r.rest then 1 else 0) (sym here) in
     let more : units_of d.assigns (at j.regions d.task).rest ≡ c.len-assigns.result + c.units_next-control.result = omega (arith, long, control) in

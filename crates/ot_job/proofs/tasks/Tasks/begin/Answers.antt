@@ -16,10 +16,8 @@ use Rattle.ot_job.proofs.tasks.Tasks.begin.Goals as goal
 pub begin-requires-clause-room : goal.begin-requires-clause-room
 begin-requires-clause-room c =
     let tasks = c.self.inside.tasks.items in
-    let rs = regions_of tasks in
     let i = c.args.i in
     let within : i < length tasks = omega (arith, c.requires.known, ap length c.self.view_is) in
-    let h : i < length rs = omega (arith, within, length-map tasks region_of) in
     let here = at-here tasks i c.index_mut.result.now within c.index_mut.ensures.value in
     omega (arith, ap (λ r. leading_len (awake r).rest) here, ap (λ (l : List Task). leading_len (awake (at (regions_of l) i)).rest) c.self.view_is, c.requires.room)
 
@@ -28,8 +26,6 @@ refresh-requires-clause-ordered c =
     let tasks = c.self.inside.tasks.items in
     let rs = regions_of tasks in
     let i = c.args.i in
-    let within : i < length tasks = omega (arith, c.requires.known, ap length c.self.view_is) in
-    let h : i < length rs = omega (arith, within, length-map tasks region_of) in
     let now = map-changed region_of tasks i c.index_mut.result.now c.begin.new.self (begun c.args.right) c.index_mut.ensures.value c.begin.ensures in
     let is : regions_of c.deref.result.now ≡ updated rs i (begun c.args.right) = ap regions_of c.deref.ensures.value ∙ now in
     ordered-tasks (begun c.args.right) (λ r. refl) (λ r. refl) (λ r. refl) rs i (numbers_of c.self.inside.children.items) c.self.inside.claimable.items _ _ _ c.self.invariant c.deref.result.now is
@@ -51,9 +47,6 @@ invariant_of-self c =
 pub returns : goal.returns
 returns c =
     let tasks = c.self.inside.tasks.items in
-    let rs = regions_of tasks in
     let i = c.args.i in
-    let within : i < length tasks = omega (arith, c.requires.known, ap length c.self.view_is) in
-    let h : i < length rs = omega (arith, within, length-map tasks region_of) in
     let now = map-changed region_of tasks i c.index_mut.result.now c.begin.new.self (begun c.args.right) c.index_mut.ensures.value c.begin.ensures in
     now ∙ ap (λ (l : List Task). updated (regions_of l) i (begun c.args.right)) c.self.view_is

@@ -60,7 +60,6 @@ refresh-requires-clause-ordered c =
     let some : tasks_next (at rs i).rest ≡ 0 → ⊥ = λ none. c.requires.some (sym (ap (λ (l : List Task). tasks_next (at (regions_of l) i).rest) c.self.view_is) ∙ none) in
     let is : regions_of c.deref.result.now ≡ executed c.args.taken c.args.group i rs = ap regions_of c.deref.ensures.value ∙ c.in_ok-execute.ensures.executed in
     let all = tasks-created c.args.taken c.args.group i rs within some (numbers_of c.self.inside.children.items) c.self.inside.claimable.items _ _ _ c.self.invariant c.deref.result.now is in
-    let number : c.len-number.result ≡ length rs = omega (arith, c.len-number.ensures, c.self.inside.tasks.ok.0, length-map tasks region_of) in
     subst (IsListBelow (length c.deref.result.now)) (sym c.make_room_for.ensures.same) all.1
 
 pub refresh-requires-clause-room : goal.refresh-requires-clause-room

@@ -27,8 +27,6 @@ refresh-requires-clause-ordered c =
     let tasks = c.self.inside.tasks.items in
     let rs = regions_of tasks in
     let i = c.args.i in
-    let within : i < length tasks = omega (arith, c.requires.known, ap length c.self.view_is) in
-    let h : i < length rs = omega (arith, within, length-map tasks region_of) in
     let now = map-changed region_of tasks i c.index_mut.result.now c.end.new.self over c.index_mut.ensures.value c.end.ensures in
     let is : regions_of c.deref.result.now ≡ updated rs i over = ap regions_of c.deref.ensures.value ∙ now in
     ordered-tasks over (λ r. refl) (λ r. refl) (λ r. refl) rs i (numbers_of c.self.inside.children.items) c.self.inside.claimable.items _ _ _ c.self.invariant c.deref.result.now is
@@ -50,9 +48,6 @@ invariant_of-self c =
 pub returns : goal.returns
 returns c =
     let tasks = c.self.inside.tasks.items in
-    let rs = regions_of tasks in
     let i = c.args.i in
-    let within : i < length tasks = omega (arith, c.requires.known, ap length c.self.view_is) in
-    let h : i < length rs = omega (arith, within, length-map tasks region_of) in
     let now = map-changed region_of tasks i c.index_mut.result.now c.end.new.self over c.index_mut.ensures.value c.end.ensures in
     now ∙ ap (λ (l : List Task). updated (regions_of l) i over) c.self.view_is

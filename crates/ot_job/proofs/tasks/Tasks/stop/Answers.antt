@@ -28,8 +28,6 @@ refresh-requires-clause-ordered c =
     let tasks = c.self.inside.tasks.items in
     let rs = regions_of tasks in
     let i = c.args.i in
-    let within : i < length tasks = omega (arith, c.requires.known, ap length c.self.view_is) in
-    let h : i < length rs = omega (arith, within, length-map tasks region_of) in
     let now = map-changed region_of tasks i c.index_mut.result.now c.stop.new.self stopped c.index_mut.ensures.value c.stop.ensures in
     let is : regions_of c.deref.result.now ≡ updated rs i stopped = ap regions_of c.deref.ensures.value ∙ now in
     ordered-tasks stopped (λ r. refl) (λ r. refl) (λ r. refl) rs i (numbers_of c.self.inside.children.items) c.self.inside.claimable.items _ _ _ c.self.invariant c.deref.result.now is
@@ -51,9 +49,6 @@ invariant_of-self c =
 pub returns : goal.returns
 returns c =
     let tasks = c.self.inside.tasks.items in
-    let rs = regions_of tasks in
     let i = c.args.i in
-    let within : i < length tasks = omega (arith, c.requires.known, ap length c.self.view_is) in
-    let h : i < length rs = omega (arith, within, length-map tasks region_of) in
     let now = map-changed region_of tasks i c.index_mut.result.now c.stop.new.self stopped c.index_mut.ensures.value c.stop.ensures in
     now ∙ ap (λ (l : List Task). updated (regions_of l) i stopped) c.self.view_is
