@@ -45,7 +45,7 @@ pub enum Collected {
 impl Model for Hall {
     ghost use Rattle.std.specs.Coded.{codes};
     ghost use Rattle.ot_check.specs.contracts.checked.Checked as c;
-    ghost use Rattle.ot_job.specs.contracts.task.Task as t;
+    ghost use Rattle.ot_task.specs.contracts.task.Task as t;
     ghost use Rattle.ot_core.specs.Floors.{Floor};
 
     ghost Value = { Floor };

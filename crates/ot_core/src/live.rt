@@ -18,7 +18,7 @@ impl Model for Jobs {
     ghost use Rattle.std.specs.Prelude.{List, Option};
     ghost use Rattle.std.specs.Coded.{codes};
     ghost use Rattle.ot_check.specs.contracts.checked.Checked as c;
-    ghost use Rattle.ot_job.specs.contracts.task.Task as t;
+    ghost use Rattle.ot_task.specs.contracts.task.Task as t;
     ghost use Rattle.ot_job.specs.Live.{Live};
 
     ghost Value = { List (Option Live) };

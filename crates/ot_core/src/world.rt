@@ -25,9 +25,9 @@ pub struct World {
 impl Model for World {
     ghost use Rattle.std.specs.Coded.{codes};
     ghost use Rattle.ot_check.specs.contracts.checked.Checked as c;
-    ghost use Rattle.ot_job.specs.contracts.task.Task as t;
+    ghost use Rattle.ot_task.specs.contracts.task.Task as t;
     ghost use Rattle.ot_model.specs.contracts.expr.Expr as e;
-    ghost use Rattle.ot_job.specs.contracts.assign.Assign as a;
+    ghost use Rattle.ot_task.specs.contracts.assign.Assign as a;
     ghost use Rattle.ot_core.specs.Scenes.{Scene};
 
     ghost Value = { Scene };

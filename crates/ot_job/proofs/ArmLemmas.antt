@@ -10,9 +10,9 @@ use Rattle.ot_model.specs.Cells.{updated}
 use Rattle.ot_model.specs.declared.stmt.Use.{Use}
 use Rattle.ot_check.specs.Offences.{allows}
 use Rattle.ot_check.specs.Touches.{EachTouch, EachTask}
-use Rattle.ot_job.specs.Place.{todo, IsFineAt, AwaitsAll, unawaited}
+use Rattle.ot_task.specs.Place.{todo, IsFineAt, AwaitsAll, unawaited}
 use Rattle.ot_job.proofs.PlaceLemmas.{at-one, at-two, at-wait, at-enter}
-use Rattle.ot_job.specs.Regions.{Region, with_rest, inside}
+use Rattle.ot_task.specs.Regions.{Region, with_rest, inside}
 use Rattle.ot_job.specs.Sound.{at, LetsAll, IsPlaced, IsSound}
 use Rattle.ot_job.proofs.KeptLemmas.{todo-append, todo-next}
 use Rattle.ot_job.proofs.GroupLemmas.{touch-append, task-append, placed-enter}

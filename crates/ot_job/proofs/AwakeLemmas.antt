@@ -8,13 +8,13 @@ use Rattle.ot_model.specs.Tree.{Body, End, Next}
 use Rattle.ot_model.specs.Cells.{updated}
 use Rattle.ot_depend.specs.Siblings.{Sibling, is_unfinished, is_unfinished_in, is_in}
 use Rattle.ot_check.proofs.Bits.{or_true, true_or, or_right, and_left, and_right}
-use Rattle.ot_job.specs.Place.{Open, IsFineAt, AwaitsAll, unawaited}
+use Rattle.ot_task.specs.Place.{Open, IsFineAt, AwaitsAll, unawaited}
 use Rattle.ot_job.proofs.PlaceLemmas.{at-fewer, at-leave}
 use Rattle.ot_job.proofs.AwaitsLemmas.{awaits-fewer, awaits-leave}
-use Rattle.ot_job.specs.Regions.{Region}
+use Rattle.ot_task.specs.Regions.{Region}
 use Rattle.ot_job.specs.Sound.{at, IsPlaced, IsSound}
-use Rattle.ot_job.specs.Pieces.{passed, awake}
-use Rattle.ot_job.specs.Claiming.{is_let_go, end_lets_go}
+use Rattle.ot_task.specs.Pieces.{passed, awake}
+use Rattle.ot_task.specs.Waits.{is_let_go, end_lets_go}
 use Rattle.ot_job.proofs.GroupLemmas.{placed-leave}
 use Rattle.ot_job.proofs.ChangedLemmas.{sound-changed}
 

@@ -5,7 +5,7 @@ use Rattle.std.proofs.lemmas.Bool.{cases_eq}
 use Rattle.ot_model.specs.Cells.{updated}
 use Rattle.ot_model.proofs.CellsLemmas.{length-updated}
 use Rattle.ot_depend.specs.Siblings.{IsReady}
-use Rattle.ot_job.specs.Regions.{Region}
+use Rattle.ot_task.specs.Regions.{Region}
 use Rattle.ot_job.specs.Sound.{at, parent_of, IsBegun, IsPlaced, IsSound}
 use Rattle.ot_job.proofs.KeptLemmas.{at-updated, at-updated-other}
 

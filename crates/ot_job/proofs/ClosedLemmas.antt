@@ -15,9 +15,9 @@ use Rattle.ot_model.specs.declared.expr.Cell.{Cell}
 use Rattle.ot_model.specs.declared.stmt.Mode.TheVariants.{Reads}
 use Rattle.ot_check.specs.Paths.{use_as}
 use Rattle.ot_check.specs.Offences.{allows, adds_to, has_cell}
-use Rattle.ot_job.specs.Place.{Open, todo, AwaitsAll, unawaited}
-use Rattle.ot_job.specs.Regions.{Region}
-use Rattle.ot_job.specs.Settling.{over, without, told_parent, closed}
+use Rattle.ot_task.specs.Place.{Open, todo, AwaitsAll, unawaited}
+use Rattle.ot_task.specs.Regions.{Region, over, without}
+use Rattle.ot_job.specs.Settling.{told_parent, closed}
 use Rattle.ot_job.specs.Sound.{at, parent_of, todo_at, ended_at, parents, DontMix, sums_in, IsBegun, IsKin, IsPlaced, IsSound}
 use Rattle.ot_job.proofs.PlaceLemmas.{at-fewer}
 use Rattle.ot_job.proofs.AwaitsLemmas.{awaits-fewer, awaits-end}

@@ -8,9 +8,8 @@ use Rattle.ot_model.specs.Tree.{Set, Add, If, Task as Fork, Wait, Group, Body, E
 use Rattle.ot_model.specs.declared.stmt.Use.{Use}
 use Rattle.ot_model.specs.Cells.{updated}
 use Rattle.ot_owner.specs.Leases.{Lease}
-use Rattle.ot_job.specs.Regions.{Region, with_child, stepped, stepped_from}
-use Rattle.ot_job.specs.Pieces.{begun}
-use Rattle.ot_job.specs.Settling.{stopped, over, without}
+use Rattle.ot_task.specs.Regions.{Region, with_child, stepped, stepped_from, stopped, over, without}
+use Rattle.ot_task.specs.Pieces.{begun}
 use Rattle.ot_job.specs.Sound.{at}
 use Rattle.ot_job.specs.States.{any_out, all_ended}
 use Rattle.ot_job.specs.Counting.{out_in, unended_in, AreCounted}

@@ -17,12 +17,12 @@ use Rattle.ot_model.specs.Cells.{same_cell}
 use Rattle.ot_owner.specs.Leases.{lent_from, copy_of}
 use Rattle.ot_owner.specs.Lending.{first_at, value_at, is_at, MayChange}
 use Rattle.ot_check.proofs.SameLemmas.{same_is}
-use Rattle.ot_job.proofs.CellLemmas.{same_self}
+use Rattle.ot_task.proofs.CellLemmas.{same_self}
 use Rattle.ot_check.specs.walk.Fine.{AreAssigns}
-use Rattle.ot_job.specs.Assigns.{CanAssign}
+use Rattle.ot_task.specs.Assigns.{CanAssign}
 use Rattle.ot_model.specs.Uses.{mode_in}
-use Rattle.ot_job.specs.Touched.{assign_touches, held, noted, with_mode, mode_held}
-use Rattle.ot_job.proofs.HeldLemmas.{reads-append}
+use Rattle.ot_task.specs.Touched.{assign_touches, held, noted, with_mode, mode_held}
+use Rattle.ot_task.proofs.HeldLemmas.{reads-append}
 use Rattle.ot_job.proofs.HoldsLemmas.{Among}
 
 -- what is held lets a touch in this mode be made

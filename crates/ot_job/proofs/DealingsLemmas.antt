@@ -17,21 +17,20 @@ use Rattle.ot_model.proofs.CellsLemmas.{length-updated}
 use Rattle.ot_check.specs.Jobs.{Spec}
 use Rattle.ot_check.proofs.Bits.{and_left, not_true}
 use Rattle.ot_owner.specs.Leases.{Lease, lease_of}
-use Rattle.ot_job.specs.Regions.{Region, Run, with_child, new_region, with_created, stepped, executed, next_task, rest_at, children_at}
+use Rattle.ot_task.specs.Regions.{Region, Run, with_child, new_region, with_created, stepped, executed, next_task, rest_at, children_at, over, stopped, root_region}
 use Rattle.ot_job.specs.Sound.{at, parent_of}
 use Rattle.ot_job.specs.Live.{Seen}
 use Rattle.ot_job.specs.Taken.{Taken}
-use Rattle.ot_job.specs.Pieces.{behind, test_of, begun}
+use Rattle.ot_task.specs.Pieces.{behind, test_of, begun}
 use Rattle.ot_job.specs.Whole.{with_lease, leases_out}
-use Rattle.ot_job.specs.Claiming.{is_claimable, is_let_go, claimable_of, picked}
+use Rattle.ot_job.specs.Claiming.{is_claimable, claimable_of, picked}
+use Rattle.ot_task.specs.Waits.{is_let_go}
 use Rattle.ot_depend.specs.Siblings.{is_ready}
 use Rattle.ot_job.specs.Claims.{Claims, Claimed, ahead}
-use Rattle.ot_job.specs.Settling.{Came, IsOut, Settles, over, stopped, closed, is_at_end, moved_on, settled, taken_by}
-use Rattle.ot_job.specs.Settling.{Refuses as RefusesOut}
-use Rattle.ot_job.specs.States.{Starts, FailsBy, any_out, all_ended, claimable_in, aborted, root_region}
-use Rattle.ot_job.specs.States.{Fails as FailsOut}
-use Rattle.ot_job.specs.Weighing.{region_weight, weight_left}
-use Rattle.ot_job.specs.Weighing.{weight_of as weight_in}
+use Rattle.ot_job.specs.Settling.{Came, IsOut, Settles, closed, moved_on, settled, taken_by, Refuses as RefusesOut}
+use Rattle.ot_task.specs.Standing.{is_at_end}
+use Rattle.ot_job.specs.States.{Starts, FailsBy, any_out, all_ended, claimable_in, aborted, Fails as FailsOut}
+use Rattle.ot_task.specs.Weighing.{region_weight, weight_left, weight_of as weight_in}
 use Rattle.ot_job.specs.Running.{RunsWell}
 use Rattle.ot_job.specs.Well.{IsWell}
 use Rattle.ot_job.specs.declared.state.State.TheVariants.{Working, Failing, Ended, Failed}

@@ -20,18 +20,18 @@ use Rattle.ot_check.specs.Touches.{Agree}
 use Rattle.ot_check.proofs.Bits.{or_true, true_or, or_right, and_left}
 use Rattle.ot_check.specs.walk.Fine.{IsFine}
 use Rattle.ot_job.specs.Rights.{IsRight}
-use Rattle.ot_job.specs.Place.{Open, opened, children_of, IsFineAt, unawaited, Kids}
+use Rattle.ot_task.specs.Place.{Open, opened, children_of, IsFineAt, unawaited, Kids}
 use Rattle.ot_job.proofs.Order.{IsBefore, Each, Ordered, order, order-ordered}
 use Rattle.ot_job.proofs.Kept.{In}
 use Rattle.ot_check.specs.walk.Fine.{IsHarmless, AreAssigns}
 use Rattle.ot_check.proofs.TouchLemmas.{harmless, harmless_if}
 use Rattle.ot_check.proofs.SameLemmas.{same_is}
-use Rattle.ot_job.proofs.CellLemmas.{same_self}
+use Rattle.ot_task.proofs.CellLemmas.{same_self}
 use Rattle.ot_job.proofs.RightsLemmas.{right_apart, right_may, rights_apart}
-use Rattle.ot_job.specs.Regions.{Region, Run}
+use Rattle.ot_task.specs.Regions.{Region, Run}
 use Rattle.ot_job.specs.Sound.{at, parent_of, todo_at, may_at, ended_at, parents, sums_in, IsBegun, IsPlaced, IsSound}
-use Rattle.ot_job.specs.Pieces.{test_of}
-use Rattle.ot_job.specs.Touched.{piece_touches, assign_touches, test_touches}
+use Rattle.ot_task.specs.Pieces.{test_of}
+use Rattle.ot_task.specs.Touched.{piece_touches, assign_touches, test_touches}
 use Rattle.ot_job.specs.Running.{RunsWell}
 use Rattle.ot_job.specs.Whole.{assigns_out, whole, wholes}
 use Rattle.ot_job.proofs.SoundLemmas.{sound, at-past}

@@ -9,11 +9,12 @@ use Rattle.ot_depend.specs.Siblings.{Sibling, is_ready, is_unfinished, is_unfini
 use Rattle.ot_depend.proofs.CountLemmas.{none_unfinished, none_unfinished_in}
 use Rattle.ot_depend.proofs.ReadyLemmas.{is_ready-told}
 use Rattle.ot_check.proofs.Bits.{and_true, or_false_left, or_false_right}
-use Rattle.ot_job.specs.Place.{Open}
-use Rattle.ot_job.specs.Regions.{Region, Run}
+use Rattle.ot_task.specs.Place.{Open}
+use Rattle.ot_task.specs.Regions.{Region, Run}
 use Rattle.ot_job.specs.Sound.{at, parent_of}
 use Rattle.ot_job.specs.Whole.{whole, wholes}
-use Rattle.ot_job.specs.Claiming.{is_claimable, is_let_go, end_lets_go, claimable_of}
+use Rattle.ot_job.specs.Claiming.{is_claimable, claimable_of}
+use Rattle.ot_task.specs.Waits.{is_let_go, end_lets_go}
 use Rattle.ot_job.specs.Live.{Seen}
 use Rattle.ot_job.specs.Well.{IsWell}
 use Rattle.ot_job.specs.States.{any_out, all_ended, state_in}

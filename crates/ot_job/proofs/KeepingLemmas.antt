@@ -11,16 +11,15 @@ use Rattle.ot_depend.specs.Kept.{has}
 use Rattle.ot_depend.specs.Siblings.{with_finished}
 use Rattle.ot_depend.specs.Waiting.{LetsTheSame}
 use Rattle.ot_model.specs.Tree.{Body}
-use Rattle.ot_job.specs.Regions.{Region, with_child, new_region, children_at, stepped, with_created, executed}
+use Rattle.ot_task.specs.Regions.{Region, with_child, new_region, children_at, stepped, with_created, executed, without, tasks_next}
 use Rattle.ot_job.proofs.StepLemmas.{stepped-parent, stepped-child, stepped-children, executed-some}
 use Rattle.ot_job.proofs.CountingLemmas.{counted-told, counted-stepped, counted-created}
 use Rattle.std.specs.List.{All}
 use Rattle.std.proofs.lemmas.List.{get_or_default}
 use Rattle.ot_job.specs.Sound.{at}
-use Rattle.ot_job.specs.RegionView.{region_of, regions_of}
-use Rattle.ot_job.specs.declared.task.Task.{Task}
+use Rattle.ot_task.specs.RegionView.{region_of, regions_of}
+use Rattle.ot_task.specs.declared.task.Task.{Task}
 use Rattle.std.proofs.lemmas.List.{length-map}
-use Rattle.ot_job.specs.Settling.{without, tasks_next}
 use Rattle.ot_job.specs.Claiming.{is_claimable, claimable_of}
 use Rattle.ot_job.specs.Counting.{AreCounted}
 use Rattle.ot_job.specs.Listing.{IsListBelow, TellsOf, IsNumbered, AreKept}

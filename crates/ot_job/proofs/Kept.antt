@@ -2,18 +2,18 @@
 use Rattle.std.proofs.Common.{◌≡◌, ◌≢◌, ℕ, suc, ◌+◌, ◌<◌, List, [], ◌∷◌, ◌++◌, length, Bool, true, false, cond, refl, sym, ◌∙◌, ap, subst, inl, inr, ⊎_elim, ◌⊎◌, arith, true≢false, ◌==◌}
 use Rattle.std.proofs.lemmas.Bool.{cases_eq}
 use Rattle.std.proofs.lemmas.Bool.Decides.{nat_tests}
-use Rattle.ot_model.specs.Tree.{E, Literal, CellAt, Apply, PickFrom, S, Set, Add, If, Task, Wait, Group, Body, End, Next, append}
+use Rattle.ot_model.specs.Tree.{E, S, Set, Add, If, Task, Wait, Group, Body, End, Next, append}
 use Rattle.ot_model.specs.Value.{val}
 use Rattle.ot_model.specs.Cells.{cell_of}
 use Rattle.ot_model.specs.Serial.{State, bump, either, serial}
 use Rattle.ot_model.specs.declared.stmt.Mode.TheVariants.{Reads}
 use Rattle.ot_model.specs.declared.stmt.Use.{Use}
-use Rattle.ot_model.specs.declared.expr.Cell.{Cell}
 use Rattle.ot_model.proofs.SerialLemmas.{serial-bump, serial-append, either-ap}
 use Rattle.ot_check.specs.Paths.{use_as}
-use Rattle.ot_check.specs.Touches.{EachRead, EachTouch, EachTouchOne, Agree, AreApart}
-use Rattle.ot_check.proofs.ApartLemmas.{touch-weaker, read-weaker, read-behind, apart}
+use Rattle.ot_check.specs.Touches.{EachTouch, EachTouchOne, Agree, AreApart}
+use Rattle.ot_check.proofs.ApartLemmas.{touch-weaker, read-behind, apart}
 use Rattle.ot_job.specs.Left.{left}
+use Rattle.ot_task.proofs.AssignLemmas.{read-all}
 use Rattle.ot_job.proofs.Order.{order, order_from, insert_before, run_all, left-order, Anc, self, up, IsBefore, Each, Each-weaker, Ordered, Descends, AreParents, order-ordered, branch, anc-le}
 
 abbrev pub Uses : Type 1
@@ -39,15 +39,6 @@ pub record MayRun (par : ℕ → ℕ) (may : ℕ → Uses) (ended : ℕ → Bool
 bool_cases : (b : Bool) → (b ≡ true) ⊎ (b ≡ false)
 bool_cases true = inl refl
 bool_cases false = inr refl
-
-pub read-all : (P : Cell → Type 0) → ((c : Cell) → P c) → (e : E) → EachRead P e
-read-all P h e = read-weaker (λ c. Unit {0}) P e (λ c u. h c) (units e)
-  where
-    units : (e : E) → EachRead (λ c. Unit {0}) e
-    units (Literal n) = tt
-    units (CellAt c) = tt
-    units (Apply o a b) = (units a, units b)
-    units (PickFrom s e) = (λ k. tt, units e)
 
 mutual
   one-all : (P : Use → Type 0) → ((u : Use) → P u) → (x : S) → EachTouchOne P x

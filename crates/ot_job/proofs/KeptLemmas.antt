@@ -14,10 +14,10 @@ use Rattle.ot_model.specs.declared.expr.Cell.{Cell}
 use Rattle.ot_model.proofs.TreeLemmas as tree
 use Rattle.ot_model.proofs.SerialLemmas.{serial-append}
 use Rattle.ot_job.specs.Left.{left}
-use Rattle.ot_job.specs.Place.{Open, todo}
+use Rattle.ot_task.specs.Place.{Open, todo}
 use Rattle.ot_job.proofs.Order.{order, order_from, insert_before, Each, AreParents, Descends, Each-weaker, small-insert}
 use Rattle.ot_job.proofs.Kept.{In, MayRun, left-piece, left-counts, left-if, left-task}
-use Rattle.ot_job.specs.Regions.{Region, with_rest, inside, with_child, new_region}
+use Rattle.ot_task.specs.Regions.{Region, with_rest, inside, with_child, new_region}
 use Rattle.ot_job.specs.Sound.{at, parent_of, todo_at, may_at, ended_at, parents, left_of, IsBegun, IsSound}
 use Rattle.ot_job.proofs.SoundLemmas.{sound}
 

@@ -7,7 +7,7 @@ use Rattle.ot_model.specs.Cells.{updated}
 use Rattle.ot_model.proofs.CellsLemmas.{length-updated}
 use Rattle.ot_model.specs.declared.stmt.Use.{Use}
 use Rattle.ot_depend.specs.Siblings.{Sibling, created, IsReady}
-use Rattle.ot_job.specs.Regions.{Region, with_child, new_region}
+use Rattle.ot_task.specs.Regions.{Region, with_child, new_region}
 use Rattle.ot_job.specs.Sound.{at, parent_of, IsBegun, IsKin, IsSound}
 use Rattle.ot_job.proofs.KeptLemmas.{at-updated, at-updated-other, at-more, at-new}
 

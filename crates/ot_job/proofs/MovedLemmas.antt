@@ -14,10 +14,11 @@ use Rattle.ot_model.specs.declared.expr.Cell.{Cell}
 use Rattle.ot_model.proofs.CellsLemmas.{length-updated}
 use Rattle.ot_model.proofs.NamesLemmas.{NamedIn-append}
 use Rattle.ot_job.specs.Left.{left}
-use Rattle.ot_job.specs.Place.{Open, todo}
-use Rattle.ot_job.specs.Regions.{Region, with_rest, with_child, new_region, inside, stepped, stepped_from, with_created, next_task, executed, children_at}
-use Rattle.ot_job.specs.Pieces.{leading, test_of}
-use Rattle.ot_job.specs.Settling.{closed, is_at_end, moved_on, counted}
+use Rattle.ot_task.specs.Place.{Open, todo}
+use Rattle.ot_task.specs.Regions.{Region, with_rest, with_child, new_region, inside, stepped, stepped_from, with_created, next_task, executed, children_at}
+use Rattle.ot_task.specs.Pieces.{leading, test_of}
+use Rattle.ot_job.specs.Settling.{closed, moved_on, counted}
+use Rattle.ot_task.specs.Standing.{is_at_end}
 use Rattle.ot_job.specs.Sound.{at, todo_at, parents, left_of, IsBegun, IsSound}
 use Rattle.ot_job.proofs.KeptLemmas.{at-updated, at-updated-other, at-more, at-new, todo-append, todo-next, kept-wait, kept-group, kept-if, kept-task}
 use Rattle.ot_job.proofs.SoundLemmas.{at-past}

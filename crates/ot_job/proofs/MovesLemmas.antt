@@ -8,9 +8,10 @@ use Rattle.ot_model.specs.Tree.{Set, Add, If, Task, Wait, Group, Body, End, Next
 use Rattle.ot_model.specs.Cells.{updated}
 use Rattle.ot_model.specs.declared.stmt.Use.{Use}
 use Rattle.ot_model.proofs.CellsLemmas.{length-updated, updated-updated}
-use Rattle.ot_job.specs.Place.{Open}
-use Rattle.ot_job.specs.Regions.{Region, Run, with_rest, with_child, new_region, with_created, stepped, stepped_from, executed, next_task, rest_at, children_at}
-use Rattle.ot_job.specs.Settling.{over, stopped, without, told_parent, closed, is_at_end, tasks_next, moved_on, settled}
+use Rattle.ot_task.specs.Place.{Open}
+use Rattle.ot_task.specs.Regions.{Region, Run, with_rest, with_child, new_region, with_created, stepped, stepped_from, executed, next_task, rest_at, children_at, over, stopped, without, tasks_next}
+use Rattle.ot_job.specs.Settling.{told_parent, closed, moved_on, settled}
+use Rattle.ot_task.specs.Standing.{is_at_end}
 use Rattle.ot_job.specs.Sound.{at, parent_of}
 use Rattle.ot_job.specs.Whole.{whole, wholes, with_lease, leases_out}
 use Rattle.ot_job.proofs.KeptLemmas.{at-updated, at-updated-other, at-more, at-new}

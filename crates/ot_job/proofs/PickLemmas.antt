@@ -11,12 +11,12 @@ use Rattle.ot_depend.proofs.SiblingsLemmas.{IsReady-from_All}
 use Rattle.std.specs.List.{list_all}
 use Rattle.std.specs.Prelude.{take}
 use Rattle.std.proofs.lemmas.List.Sums.{AllPass-from_list_all}
-use Rattle.ot_job.specs.Regions.{Region}
-use Rattle.ot_job.specs.RegionView.{region_of, regions_of}
+use Rattle.ot_task.specs.Regions.{Region}
+use Rattle.ot_task.specs.RegionView.{region_of, regions_of}
 use Rattle.ot_job.specs.Sound.{at, gone}
 use Rattle.ot_job.specs.Claiming.{is_claimable, claimable_of, picked}
 use Rattle.ot_depend.specs.Siblings.{is_ready}
-use Rattle.ot_job.specs.declared.task.Task.{Task}
+use Rattle.ot_task.specs.declared.task.Task.{Task}
 
 -- ---- regions by their records
 

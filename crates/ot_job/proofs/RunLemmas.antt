@@ -10,8 +10,8 @@ use Rattle.ot_owner.specs.Lending.{use_of, uses_of, is_at, first_at, value_at}
 use Rattle.ot_owner.specs.declared.lent.LentCell.{LentCell}
 use Rattle.ot_model.specs.Value.{HasAll}
 use Rattle.ot_model.specs.declared.expr.Cell.{Cell}
-use Rattle.ot_job.specs.Copies.{Look, assigned}
-use Rattle.ot_job.proofs.AssignLemmas.{all-kept, assigned-same}
+use Rattle.ot_task.specs.Copies.{Look, assigned}
+use Rattle.ot_task.proofs.AssignLemmas.{all-kept, assigned-same}
 
 pub readable-still : {A B : Type 0} (now : A → B) (r : Option A) (o : Option B) (view : B → E) (look after : Look) → option_map now r ≡ o
     → ((c : Cell) → IsSome (look c) → IsSome (after c)) → IfSome (option_map view o) (λ e. HasAll look e) → IfSome r (λ e. HasAll after (view (now e)))

@@ -4,20 +4,21 @@ use Rattle.std.specs.Prelude.{All, Contains, IsSome, Some, Result, Ok, Err, OnOk
 use Rattle.std.proofs.lemmas.List.Elements.{All-nil, All-cons, All-head, All-tail}
 use Rattle.ot_model.specs.Tree.{Body, End, Next}
 use Rattle.ot_model.specs.Cells.{cell_of}
-use Rattle.ot_job.specs.Place.{Open}
+use Rattle.ot_task.specs.Place.{Open}
 use Rattle.ot_model.specs.declared.stmt.Use.{Use}
 use Rattle.ot_depend.specs.Siblings.{IsReady, IsUnfinished}
 use Rattle.ot_owner.specs.Leases.{lease_of}
 use Rattle.ot_owner.specs.Lending.{uses_of}
 use Rattle.ot_owner.specs.declared.lent.LentCell.{LentCell}
-use Rattle.ot_job.specs.Regions.{Region, Run, next_task}
+use Rattle.ot_task.specs.Regions.{Region, Run, next_task}
 use Rattle.ot_job.specs.Sound.{at, parent_of}
 use Rattle.ot_job.specs.Live.{Seen}
-use Rattle.ot_job.specs.Pieces.{leading_len}
-use Rattle.ot_job.specs.Assigns.{assigns_of}
-use Rattle.ot_job.specs.declared.assign.Assign.{Assign}
-use Rattle.ot_job.specs.declared.assign.Assign.TheVariants as v
-use Rattle.ot_job.specs.Settling.{Came, IsOut, MaySettle, is_at_end}
+use Rattle.ot_task.specs.Pieces.{leading_len}
+use Rattle.ot_task.specs.Assigns.{assigns_of}
+use Rattle.ot_task.specs.declared.assign.Assign.{Assign}
+use Rattle.ot_task.specs.declared.assign.Assign.TheVariants as v
+use Rattle.ot_job.specs.Settling.{Came, IsOut, MaySettle}
+use Rattle.ot_task.specs.Standing.{is_at_end}
 
 runs-known : (rs : List Region) (i : ℕ) (run : Run) → (at rs i).running ≡ Some run → i < length rs
 runs-known [] i run h = cc

@@ -6,7 +6,7 @@ use Rattle.std.proofs.lemmas.Option.{same_Some}
 use Rattle.std.proofs.lemmas.List.Folds.{Any-from_list_any, list_any-from_Any}
 use Rattle.ot_check.proofs.Bits.{and_left, and_right, and_true}
 use Rattle.ot_check.proofs.SameLemmas.{same_is}
-use Rattle.ot_job.proofs.CellLemmas.{same_self}
+use Rattle.ot_task.proofs.CellLemmas.{same_self}
 use Rattle.ot_model.specs.Uses.{DependsOn, one_writes, conflicts, is_adds}
 use Rattle.ot_model.specs.declared.stmt.Mode.{Mode}
 use Rattle.ot_model.specs.declared.stmt.Mode.TheVariants.{Reads, Writes, Adds}
@@ -16,7 +16,7 @@ use Rattle.ot_check.specs.Offences.{Declared, allows, covers}
 use Rattle.ot_model.specs.Cells.{same_cell}
 use Rattle.ot_check.specs.Touches.{Agree}
 use Rattle.ot_job.proofs.Kept.{Sound}
-use Rattle.ot_job.specs.Regions.{Region}
+use Rattle.ot_task.specs.Regions.{Region}
 use Rattle.ot_job.specs.Sound.{at, gone, parent_of, todo_at, may_at, ended_at, IsBegun, DontMix, IsSound}
 
 pub at-past : (rs : List Region) (i : ℕ) → length rs ≤ i → at rs i ≡ gone

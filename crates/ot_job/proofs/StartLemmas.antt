@@ -4,7 +4,7 @@ use Rattle.std.specs.Prelude.{Option, is_some, ◌||◌, Some, None, slice_get, 
 use Rattle.std.proofs.lemmas.List.Sorted.{IsPermutation-refl, IsPermutation-sym, IsPermutation-trans, Contains-permutation}
 use Rattle.ot_model.specs.Tree.{Body, End, Next}
 use Rattle.ot_model.specs.Counts.{size}
-use Rattle.ot_job.specs.Weighing.{weight_of}
+use Rattle.ot_task.specs.Weighing.{weight_of}
 use Rattle.ot_job.proofs.WeighingLemmas.{weight-few, weight-stopped}
 use Rattle.ot_model.specs.Cells.{lengths, updated}
 use Rattle.ot_model.specs.Names.{NamedIn}
@@ -23,14 +23,14 @@ use Rattle.ot_owner.specs.Leases.{lease_of}
 use Rattle.ot_owner.specs.Worth.{worths}
 use Rattle.ot_owner.proofs.OutLemmas.{permutation_rest}
 use Rattle.ot_job.specs.Left.{left, children_left}
-use Rattle.ot_job.specs.Regions.{Region, Run}
+use Rattle.ot_task.specs.Regions.{Region, Run, root_region, stopped}
 use Rattle.ot_job.specs.Sound.{at, gone, parent_of, todo_at, parents, left_of, IsPlaced, IsSound}
 use Rattle.ot_job.specs.Whole.{wholes, leases_out}
 use Rattle.ot_job.specs.Live.{Seen}
 use Rattle.ot_job.specs.Well.{IsWell}
-use Rattle.ot_job.specs.States.{root_region, all_ended, any_out, state_in}
+use Rattle.ot_job.specs.States.{all_ended, any_out, state_in}
 use Rattle.ot_job.specs.declared.state.State.TheVariants.{Working, Failing, Ended, Failed}
-use Rattle.ot_job.specs.Settling.{Came, IsOut, stopped}
+use Rattle.ot_job.specs.Settling.{Came, IsOut}
 use Rattle.ot_job.proofs.Kept.{touch-all}
 use Rattle.ot_job.proofs.FreeLemmas.{at-whole}
 use Rattle.ot_job.proofs.WellLemmas.{worths-stored, out-contained}

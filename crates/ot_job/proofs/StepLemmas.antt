@@ -7,8 +7,8 @@ use Rattle.ot_job.proofs.KeptLemmas.{at-more}
 use Rattle.ot_model.specs.Tree.{Set, Add, If, Task as Fork, Wait, Group, Body, End, Next}
 use Rattle.ot_model.specs.Cells.{updated}
 use Rattle.ot_model.specs.declared.stmt.Use.{Use}
-use Rattle.ot_job.specs.Regions.{Region, with_child, new_region, children_at, stepped, stepped_from, next_task, rest_at, with_created, executed}
-use Rattle.ot_job.specs.Settling.{tasks_next, told_parent, closed, over, without}
+use Rattle.ot_task.specs.Regions.{Region, with_child, new_region, children_at, stepped, stepped_from, next_task, rest_at, with_created, executed, tasks_next, over, without}
+use Rattle.ot_job.specs.Settling.{told_parent, closed}
 use Rattle.ot_job.specs.Sound.{at, parent_of}
 
 pub stepped-parent : (taken : Bool) (g : ℕ) (r : Region) → (stepped taken g r).parent ≡ r.parent

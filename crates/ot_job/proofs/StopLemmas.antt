@@ -12,13 +12,13 @@ use Rattle.ot_check.specs.Offences.{Declared, allows, clashes}
 use Rattle.ot_check.specs.Touches.{EachTouch, EachTask, Agree}
 use Rattle.ot_check.specs.declared.fault.Offence.TheVariants.{ConflictsWithChild}
 use Rattle.ot_check.proofs.ApartLemmas.{touch-weaker}
-use Rattle.ot_job.specs.Place.{Open, todo, opened, children_of, IsFineAt, AwaitsAll, unawaited, Kids}
+use Rattle.ot_task.specs.Place.{Open, todo, opened, children_of, IsFineAt, AwaitsAll, unawaited, Kids}
 use Rattle.ot_job.proofs.PlaceLemmas.{at-set, at-add}
 use Rattle.ot_job.proofs.AwaitsLemmas.{awaits-piece}
 use Rattle.ot_job.proofs.Kept.{MayRun}
 use Rattle.ot_check.specs.walk.Fine.{IsHarmless, AreAssigns}
 use Rattle.ot_check.proofs.TouchLemmas.{harmless, harmless_if, clash_free}
-use Rattle.ot_job.specs.Regions.{Region, with_rest}
+use Rattle.ot_task.specs.Regions.{Region, with_rest}
 use Rattle.ot_job.specs.Sound.{at, parent_of, may_at, ended_at, IsBegun, LetsAll, IsPlaced, IsSound}
 use Rattle.ot_job.proofs.KeptLemmas.{todo-append, todo-next}
 use Rattle.ot_job.proofs.SoundLemmas.{at-past}

@@ -2,7 +2,7 @@
 use Rattle.std.proofs.Common.{◌≡◌, ℕ, zero, suc, ◌+◌, ◌<◌, ◌≤◌, Bool, true, false, List, [], ◌∷◌, length, refl, sym, ap, subst, ◌∙◌, ◌⊎◌, inl, inr, arith, true≢false}
 use Rattle.std.specs.Prelude.{Some, slice_get}
 use Rattle.ot_depend.specs.Siblings.{Sibling, IsReady}
-use Rattle.ot_job.specs.Regions.{Region}
+use Rattle.ot_task.specs.Regions.{Region}
 use Rattle.ot_job.specs.Sound.{at, parent_of, ended_at, IsBegun, IsKin, IsSound}
 
 abbrev pub AllFinished : List Sibling → Type 0

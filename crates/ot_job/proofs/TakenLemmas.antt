@@ -9,13 +9,12 @@ use Rattle.ot_model.specs.declared.expr.Cell.{Cell}
 use Rattle.ot_owner.specs.Leases.{lent_from}
 use Rattle.ot_owner.specs.Lending.{first_at, value_at, uses_of}
 use Rattle.ot_owner.specs.declared.lent.LentCell.{LentCell}
-use Rattle.ot_job.specs.Assigns.{CanAssign, CanRun}
-use Rattle.ot_job.specs.Regions.{Region}
+use Rattle.ot_task.specs.Assigns.{CanAssign, CanRun}
+use Rattle.ot_task.specs.Regions.{Region}
 use Rattle.ot_job.specs.Sound.{at}
-use Rattle.ot_job.specs.Pieces.{leading, behind, test_of, awake}
+use Rattle.ot_task.specs.Pieces.{leading, behind, test_of, awake}
 use Rattle.ot_model.specs.Uses.{mode_in}
-use Rattle.ot_job.specs.Touched.{held, piece_touches, test_touches}
-use Rattle.ot_job.specs.Claims.{AreHeld}
+use Rattle.ot_task.specs.Touched.{held, piece_touches, test_touches, AreHeld}
 use Rattle.ot_job.specs.Live.{Seen}
 use Rattle.ot_job.specs.Well.{IsOnCourse}
 use Rattle.ot_job.proofs.WholeLemmas.{whole-again}

@@ -1,28 +1,22 @@
 -- What the code does to its records, told of the regions that they stand for.
-use Rattle.std.proofs.Common.{◌≡◌, ℕ, zero, suc, ◌<◌, length, arith, List, [], ◌∷◌, ◌++◌, map, reverse, get_or, set, refl, sym, ◌∙◌, ap}
-use Rattle.std.proofs.lemmas.List.{map-set, map-append}
+use Rattle.std.proofs.Common.{◌≡◌, ℕ, zero, suc, ◌<◌, length, arith, List, [], ◌∷◌, map, get_or, set, refl, sym, ◌∙◌, ap}
+use Rattle.std.proofs.lemmas.List.{map-set}
 use Rattle.std.proofs.Math.ListN.{get_or-map}
 use Rattle.std.proofs.lemmas.Option.{same_Some}
-use Rattle.std.proofs.lemmas.Grind.{reverse_onto}
 use Rattle.ot_model.proofs.CellsLemmas.{set-updated}
 use Rattle.std.specs.Prelude.{Result, Ok, Err, IfOk, OnErr, Bool, Some}
 use Rattle.ot_model.specs.Tree.{Set, Add, If, Task as Fork, Wait, Group, Body, End, Next}
 use Rattle.ot_model.specs.declared.stmt.Use.{Use}
 use Rattle.ot_model.specs.Cells.{updated}
-use Rattle.ot_job.specs.declared.task.Task.{Task}
-use Rattle.ot_job.specs.Regions.{Region, rest_at, children_at, next_task, stepped, stepped_from, with_rest}
-use Rattle.ot_job.specs.RegionView.{region_of}
+use Rattle.ot_task.specs.declared.task.Task.{Task}
+use Rattle.ot_task.specs.Regions.{Region, rest_at, children_at, next_task, stepped, stepped_from, with_rest}
+use Rattle.ot_task.specs.RegionView.{region_of}
 
 -- a record is replaced by one that stands for the changed region
 pub map-changed : {A B : Type 0} (g : A → B) (xs : List A) (i : ℕ) (x y : A) (f : B → B) → x ≡ get_or xs i x → g y ≡ f (g x)
     → map g (set xs i y) ≡ updated (map g xs) i f
 map-changed g xs i x y f is same =
     map-set g xs i y ∙ set-updated (map g xs) i (g y) (g x) f (same ∙ ap (λ z. f (g z)) is ∙ ap f (sym (get_or-map g xs i x)))
-
-pub map-reverse : {A B : Type 0} (g : A → B) (xs : List A) → map g (reverse xs) ≡ reverse (map g xs)
-map-reverse g [] = refl
-map-reverse g (x ∷ xs) =
-    ap (map g) (reverse_onto xs x []) ∙ map-append g (reverse xs) (x ∷ []) ∙ ap (λ l. l ++ g x ∷ []) (map-reverse g xs) ∙ sym (reverse_onto (map g xs) (g x) [])
 
 set-same : {A : Type 0} (xs : List A) (i : ℕ) (x : A) → x ≡ get_or xs i x → set xs i x ≡ xs
 set-same [] i x is = refl

@@ -1,24 +1,19 @@
 -- Each settle makes a job lighter, and nothing makes it heavier.
-use Rattle.std.proofs.Common.{◌≡◌, ℕ, zero, suc, ◌+◌, ◌*◌, ◌<◌, ◌≤◌, max, Bool, true, false, List, [], ◌∷◌, ◌++◌, length, map, reverse, refl, sym, ap, ◌∙◌, arith, true≢false}
+use Rattle.std.proofs.Common.{◌≡◌, ℕ, zero, suc, ◌+◌, ◌*◌, ◌<◌, ◌≤◌, max, Bool, true, false, List, [], ◌∷◌, ◌++◌, length, refl, sym, ap, ◌∙◌, arith, true≢false}
 use Rattle.std.specs.Prelude.{Option, Some, None, is_some, nat_lt, if◌then◌else◌}
-use Rattle.ot_model.specs.Tree.{S, Set, Add, If, Task, Wait, Group, Body, End, Next, append, body_of}
-use Rattle.ot_model.specs.View.{stmt_of, stmts_of}
-use Rattle.ot_model.specs.declared.stmt.Stmt.{Stmt}
-use Rattle.ot_job.specs.PlaceView.{open_of, rest_of}
-use Rattle.ot_job.specs.declared.place.OpenGroup.{OpenGroup}
-use Rattle.std.proofs.lemmas.Grind.{reverse_onto}
-use Rattle.ot_job.proofs.ViewLemmas.{map-reverse}
+use Rattle.ot_model.specs.Tree.{Set, Add, If, Task, Wait, Group, Body, End, Next, append}
 use Rattle.ot_model.specs.Counts.{size}
 use Rattle.ot_model.specs.Cells.{updated}
 use Rattle.ot_model.specs.declared.stmt.Use.{Use}
 use Rattle.ot_model.proofs.CellsLemmas.{length-updated, updated-updated}
 use Rattle.ot_owner.specs.Leases.{Lease}
-use Rattle.ot_job.specs.Place.{Open}
-use Rattle.ot_job.specs.Regions.{Region, Run, with_child, new_region, with_created, stepped, stepped_from, executed, next_task, rest_at, children_at}
+use Rattle.ot_task.specs.Place.{Open}
+use Rattle.ot_task.specs.Regions.{Region, Run, with_child, new_region, with_created, stepped, stepped_from, executed, next_task, rest_at, children_at, over, stopped, without}
 use Rattle.ot_job.specs.Sound.{at, parent_of}
-use Rattle.ot_job.specs.Pieces.{leading, behind, passed, begun}
-use Rattle.ot_job.specs.Settling.{over, stopped, without, closed, is_at_end, settled}
-use Rattle.ot_job.specs.Weighing.{weight, weight_behind, weight_left, region_weight, weight_of}
+use Rattle.ot_task.specs.Pieces.{leading, behind, passed, begun}
+use Rattle.ot_job.specs.Settling.{closed, settled}
+use Rattle.ot_task.specs.Standing.{is_at_end}
+use Rattle.ot_task.specs.Weighing.{weight, weight_behind, weight_left, region_weight, weight_of}
 use Rattle.ot_job.proofs.SettledLemmas.{front, rest-here}
 use Rattle.ot_job.proofs.MovesLemmas.{tell, tell-field, tell-long}
 
@@ -50,6 +45,12 @@ left-≤ true rest os = omega arith
 left-≤ false End [] = omega arith
 left-≤ false End (o ∷ os) = omega arith
 left-≤ false (Next x rest) os = omega arith
+
+pub left-≥ : (out : Bool) (rest : Body) (os : List Open) → weight rest + weight_behind os ≤ 1 + weight_left out rest os
+left-≥ true rest os = omega arith
+left-≥ false End [] = omega arith
+left-≥ false End (o ∷ os) = omega arith
+left-≥ false (Next x rest) os = omega arith
 
 -- ---- one region among all
 
@@ -181,34 +182,3 @@ module _ (taken : Bool) (g i : ℕ) (rs : List Region) (run : Run) (h : i < leng
       by : (b : Bool) → is_at_end (at rs i).rest (at rs i).groups ≡ b → weight_of (updated (if is_at_end (at rs i).rest (at rs i).groups then closed i rs else executed taken g i rs) i stopped) < weight_of rs
       by true e = rw e closed-lighter
       by false e = rw e (executed-lighter e)
-
--- ---- as the code's lists have it: what comes next last
-
-weight-join : (xs ys : List S) → weight (body_of (xs ++ ys)) ≡ weight (body_of xs) + weight (body_of ys)
-weight-join [] ys = omega arith
-weight-join (x ∷ xs) ys = let h = weight-join xs ys in omega (arith, h)
-
-weight-reverse : (xs : List S) → weight (body_of (reverse xs)) ≡ weight (body_of xs)
-weight-reverse [] = refl
-weight-reverse (x ∷ xs) = let h = weight-reverse xs in let s = ap (λ l. weight (body_of l)) (reverse_onto xs x []) ∙ weight-join (reverse xs) (x ∷ []) in omega (arith, h, s)
-
-pub weight-rest : (items : List Stmt) → weight (rest_of items) ≡ weight (stmts_of items)
-weight-rest items = ap (λ l. weight (body_of l)) (map-reverse stmt_of items) ∙ weight-reverse (map stmt_of items)
-
-behind-join : (xs ys : List Open) → weight_behind (xs ++ ys) ≡ weight_behind xs + weight_behind ys
-behind-join [] ys = omega arith
-behind-join (x ∷ xs) ys = let h = behind-join xs ys in omega (arith, h)
-
-pub behind-reverse : (xs : List Open) → weight_behind (reverse xs) ≡ weight_behind xs
-behind-reverse [] = refl
-behind-reverse (x ∷ xs) = let h = behind-reverse xs in let s = ap weight_behind (reverse_onto xs x []) ∙ behind-join (reverse xs) (x ∷ []) in omega (arith, h, s)
-
-pub left-≥ : (out : Bool) (rest : Body) (os : List Open) → weight rest + weight_behind os ≤ 1 + weight_left out rest os
-left-≥ true rest os = omega arith
-left-≥ false End [] = omega arith
-left-≥ false End (o ∷ os) = omega arith
-left-≥ false (Next x rest) os = omega arith
-
-pub some-behind : (items : List OpenGroup) → 0 < length items → 0 < weight_behind (reverse (map open_of items))
-some-behind [] h = absurd (omega (arith, h))
-some-behind (o ∷ items) h = omega (arith, behind-reverse (map open_of (o ∷ items)))

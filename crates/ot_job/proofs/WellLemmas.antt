@@ -18,12 +18,12 @@ use Rattle.ot_check.proofs.Bits.{and_left, and_right, or_true, not_true}
 use Rattle.ot_owner.specs.Leases.{Lease, lease_of, lent_from}
 use Rattle.ot_owner.specs.Owning.{IsFreeFor}
 use Rattle.ot_job.specs.Left.{left}
-use Rattle.ot_job.specs.Place.{Open, todo}
+use Rattle.ot_task.specs.Place.{Open, todo}
 use Rattle.ot_check.specs.walk.Fine.{AreAssigns}
-use Rattle.ot_job.specs.Regions.{Region, Run}
+use Rattle.ot_task.specs.Regions.{Region, Run}
 use Rattle.ot_job.specs.Sound.{at, parent_of, todo_at, parents, left_of, IsBegun, IsSound}
 use Rattle.ot_model.proofs.CellsLemmas.{length-updated}
-use Rattle.ot_job.specs.Pieces.{leading, behind, test_of, passed, awake, begun}
+use Rattle.ot_task.specs.Pieces.{leading, behind, test_of, passed, awake, begun}
 use Rattle.ot_job.specs.Whole.{assigns_out, whole, wholes, with_lease, leases_out}
 use Rattle.ot_job.specs.Running.{RunsWell}
 use Rattle.ot_job.proofs.WeighingLemmas.{weight-begun}
@@ -33,8 +33,9 @@ use Rattle.ot_owner.specs.Worth.{worths}
 use Rattle.ot_owner.proofs.WorthLemmas.{worths-combined}
 use Rattle.ot_model.specs.Runs.{state_of}
 use Rattle.ot_job.specs.Live.{Seen}
-use Rattle.ot_job.specs.Claims.{AreHeld}
-use Rattle.ot_job.specs.Claiming.{is_claimable, is_let_go}
+use Rattle.ot_task.specs.Touched.{AreHeld, piece_touches, assign_touches, test_touches}
+use Rattle.ot_job.specs.Claiming.{is_claimable}
+use Rattle.ot_task.specs.Waits.{is_let_go}
 use Rattle.ot_depend.specs.Siblings.{is_ready}
 use Rattle.ot_job.proofs.KeptLemmas.{parents-updated, at-updated, at-updated-other, todo-append}
 use Rattle.ot_job.proofs.ChangedLemmas.{begun-changed}
@@ -42,9 +43,8 @@ use Rattle.ot_job.proofs.WholeLemmas.{wholes-begun, one-more}
 use Rattle.ot_job.proofs.AwakeLemmas.{sound-awake}
 use Rattle.ot_job.proofs.FreeLemmas.{pieces_apart, at-whole}
 use Rattle.ot_job.proofs.PickLemmas.{ready-from}
-use Rattle.ot_job.specs.Touched.{piece_touches, assign_touches, test_touches}
 use Rattle.ot_job.specs.Settling.{MaySettle}
-use Rattle.ot_job.proofs.HeldLemmas.{AllIn, all-append, reads-in, held-there}
+use Rattle.ot_task.proofs.HeldLemmas.{AllIn, all-append, reads-in, held-there}
 
 pub leading-assigns : (b : Body) → AreAssigns (leading b)
 leading-assigns End = tt

@@ -5,9 +5,9 @@ use Rattle.std.proofs.lemmas.List.Sorted.{IsPermutation-refl, IsPermutation-tran
 use Rattle.ot_model.specs.Tree.{Set, Add, If, Task, Wait, Group, Body, End, Next, append}
 use Rattle.ot_model.specs.Cells.{updated}
 use Rattle.ot_owner.specs.Leases.{Lease}
-use Rattle.ot_job.specs.Regions.{Region, Run}
+use Rattle.ot_task.specs.Regions.{Region, Run}
 use Rattle.ot_job.specs.Sound.{at}
-use Rattle.ot_job.specs.Pieces.{leading, behind, passed, awake, begun}
+use Rattle.ot_task.specs.Pieces.{leading, behind, passed, awake, begun}
 use Rattle.ot_job.specs.Whole.{assigns_out, whole, wholes, with_lease, leases_out}
 
 pub whole-again : (b : Body) → append (leading b) (behind b) ≡ b

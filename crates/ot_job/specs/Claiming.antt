@@ -1,20 +1,10 @@
 -- Which tasks are claimable, and which of them is picked.
-use Rattle.std.specs.Prelude.{ℕ, ◌==◌, ◌%◌, ◌&&◌, ◌||◌, Bool, true, not, List, [], ◌∷◌, length, Option, None, is_some, slice_get, filter, count_by}
+use Rattle.std.specs.Prelude.{ℕ, ◌==◌, ◌%◌, ◌&&◌, ◌||◌, Bool, not, List, [], ◌∷◌, length, Option, None, is_some, slice_get, filter}
 use Rattle.std.specs.List.{range_with_len}
-use Rattle.ot_model.specs.Tree.{Body, End}
-use Rattle.ot_depend.specs.Siblings.{Sibling, is_ready, is_unfinished, is_unfinished_in}
-use Rattle.ot_job.specs.Place.{Open}
-use Rattle.ot_job.specs.Regions.{Region}
+use Rattle.ot_depend.specs.Siblings.{is_ready}
+use Rattle.ot_task.specs.Regions.{Region}
+use Rattle.ot_task.specs.Waits.{is_let_go}
 use Rattle.ot_job.specs.Sound.{at}
-
--- whether a group's end that is reached lets the task go on
-abbrev pub end_lets_go : Body → List Open → List Sibling → Bool
-end_lets_go End (o ∷ os) children = count_by (is_unfinished_in o.group) children == 0
-end_lets_go rest os children = true
-
--- whether neither a wait nor a group's end holds the task
-abbrev pub is_let_go : Region → Bool
-is_let_go r = (not r.waiting || (count_by is_unfinished r.children == 0)) && end_lets_go r.rest r.groups r.children
 
 abbrev pub is_claimable : List Region → ℕ → Bool
 is_claimable rs i = let r = at rs i in

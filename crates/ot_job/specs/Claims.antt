@@ -1,29 +1,21 @@
 -- What a claim does to a job.
-use Rattle.std.specs.Prelude.{◌≡◌, ℕ, ◌∷◌, List, Option, Some, None, IsPermutation}
+use Rattle.std.specs.Prelude.{◌≡◌, ℕ, ◌∷◌, Option, Some, None, IsPermutation}
 use Rattle.ot_model.specs.Tree.{Body}
 use Rattle.ot_model.specs.Cells.{updated}
-use Rattle.ot_model.specs.declared.expr.Cell.{Cell}
-use Rattle.ot_model.specs.declared.stmt.Use.{Use}
 use Rattle.ot_owner.specs.Leases.{lease_of, lent_from}
 use Rattle.ot_owner.specs.Lending.{uses_of}
 use Rattle.ot_owner.specs.Worth.{KeepsWorth}
-use Rattle.ot_job.specs.Regions.{Region}
 use Rattle.ot_job.specs.Sound.{at}
 use Rattle.ot_job.specs.Live.{Seen}
 use Rattle.ot_job.specs.Taken.{Taken}
-use Rattle.ot_job.specs.Pieces.{leading, behind, test_of, awake, begun}
-use Rattle.ot_model.specs.Uses.{mode_in}
-use Rattle.ot_job.specs.Touched.{held, piece_touches}
+use Rattle.ot_task.specs.Pieces.{leading, behind, test_of, awake, begun}
+use Rattle.ot_task.specs.Touched.{AreHeld}
 use Rattle.ot_job.specs.Claiming.{picked}
 use Rattle.ot_job.specs.States.{claimable_in}
 
 -- what a task goes on with
 abbrev pub ahead : Seen → ℕ → Body
 ahead j i = (awake (at j.regions i)).rest
-
--- these are the modes in which a region's next piece holds its cells
-abbrev pub AreHeld : Region → List Use → Type 0
-AreHeld r d = (c : Cell) → mode_in d c ≡ held r.own (piece_touches (leading (awake r).rest) (test_of (behind (awake r).rest))) c
 
 pub record Claims (old : Seen) (pick : ℕ) (p : Taken) (new : Seen) : Type 0 where
   pub task : picked (claimable_in old) pick ≡ Some p.task

@@ -1,6 +1,6 @@
 -- What is kept beside the tasks of a job, so that none has to be passed over.
 use Rattle.std.specs.Prelude.{◌≡◌, ℕ, not, List, is_some, count_by}
-use Rattle.ot_job.specs.Regions.{Region}
+use Rattle.ot_task.specs.Regions.{Region}
 
 -- how many have a piece out
 abbrev pub out_in : List Region → ℕ

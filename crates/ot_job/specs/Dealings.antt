@@ -4,14 +4,14 @@ use Rattle.ot_model.specs.Tree.{E, Body}
 use Rattle.ot_model.specs.Programs.{expanded_of}
 use Rattle.ot_check.specs.Jobs.{Spec}
 use Rattle.ot_owner.specs.Leases.{Lease, lease_of}
-use Rattle.ot_job.specs.Regions.{Region, Run}
+use Rattle.ot_task.specs.Regions.{Region, Run}
 use Rattle.ot_job.specs.Sound.{at}
-use Rattle.ot_job.specs.Pieces.{test_of}
+use Rattle.ot_task.specs.Pieces.{test_of}
 use Rattle.ot_job.specs.Live.{Seen}
 use Rattle.ot_job.specs.Taken.{Taken}
 use Rattle.ot_job.specs.Settling.{Came}
 use Rattle.ot_job.specs.States.{state_in, claimable_in}
-use Rattle.ot_job.specs.Weighing.{weight_of as weight_in}
+use Rattle.ot_task.specs.Weighing.{weight_of as weight_in}
 use Rattle.ot_job.specs.declared.state.State.{State}
 use Rattle.ot_job.specs.declared.state.State.TheVariants.{Working, Failing, Ended, Failed}
 use Rattle.ot_job.specs.declared.piece.Refused.{Refused}

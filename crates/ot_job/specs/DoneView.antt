@@ -1,7 +1,7 @@
 -- What the code's record of a piece that comes back stands for.
 use Rattle.std.specs.Prelude.{option_map}
 use Rattle.ot_model.specs.View.{expr_of}
-use Rattle.ot_job.specs.Assigns.{assigns_of}
+use Rattle.ot_task.specs.Assigns.{assigns_of}
 use Rattle.ot_job.specs.Settling.{Came}
 use Rattle.ot_job.specs.declared.piece.Done.{Done}
 

@@ -1,17 +1,8 @@
 pub mod Left
-pub mod Place
-pub mod Copies
 pub mod Rights
-pub mod Standing
-pub mod PlaceView
-pub mod Regions
-pub mod RegionView
 pub mod Live
 pub mod Sound
-pub mod Assigns
 pub mod Taken
-pub mod Touched
-pub mod Pieces
 pub mod Claiming
 pub mod Settling
 pub mod DoneView
@@ -21,6 +12,5 @@ pub mod Listing
 pub mod Claims
 pub mod Whole
 pub mod Running
-pub mod Weighing
 pub mod Well
 pub mod Dealings

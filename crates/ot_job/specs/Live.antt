@@ -4,9 +4,9 @@ use Rattle.ot_model.specs.Programs.{Expanded, expanded_of}
 use Rattle.ot_model.specs.declared.plain.Counts.{Counts}
 use Rattle.ot_check.specs.Jobs.{Spec}
 use Rattle.ot_owner.specs.Owning.{Owned}
-use Rattle.ot_job.specs.Regions.{Region}
-use Rattle.ot_job.specs.RegionView.{regions_of}
-use Rattle.ot_job.specs.declared.task.Task.{Task}
+use Rattle.ot_task.specs.Regions.{Region}
+use Rattle.ot_task.specs.RegionView.{regions_of}
+use Rattle.ot_task.specs.declared.task.Task.{Task}
 
 pub record Live : Type 0 where
   pub spec : Spec

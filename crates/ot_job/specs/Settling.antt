@@ -1,22 +1,22 @@
 -- What a settle does to a job.
-use Rattle.std.specs.Prelude.{◌≡◌, ◌<◌, ℕ, ◌+◌, Bool, true, false, if◌then◌else◌, List, ◌∷◌, [], Option, Some, None, All, Contains, IsSome, length, IsPermutation, unwrap_or, nat_lt}
+use Rattle.std.specs.Prelude.{◌≡◌, ◌<◌, ℕ, ◌+◌, Bool, true, false, if◌then◌else◌, List, ◌∷◌, Option, Some, All, Contains, IsSome, length, IsPermutation, unwrap_or, nat_lt}
 use Rattle.ot_model.specs.Tree.{E, Task, Body, End, Next}
 use Rattle.ot_model.specs.Serial.{State, bump}
 use Rattle.ot_model.specs.declared.plain.Counts.{Counts}
 use Rattle.ot_model.specs.Cells.{cell_of, updated, lengths}
 use Rattle.ot_model.specs.Uses.{AreInOrder}
 use Rattle.ot_model.specs.declared.stmt.Use.{Use}
-use Rattle.ot_depend.specs.Siblings.{IsReady, IsUnfinished, with_finished}
+use Rattle.ot_depend.specs.Siblings.{IsReady, IsUnfinished}
 use Rattle.ot_owner.specs.Leases.{lease_of}
 use Rattle.ot_owner.specs.Worth.{AreJoined, worth}
 use Rattle.ot_owner.specs.declared.lent.LentCell.{LentCell}
-use Rattle.ot_job.specs.Place.{Open}
-use Rattle.ot_job.specs.Regions.{Region, Run, executed, next_task}
+use Rattle.ot_task.specs.Standing.{is_at_end}
+use Rattle.ot_task.specs.Regions.{Region, Run, executed, is_control, next_task, over, stopped, tasks_next, without}
 use Rattle.ot_job.specs.Sound.{at, parent_of}
 use Rattle.ot_job.specs.Live.{Seen}
 use Rattle.ot_job.specs.declared.piece.Refused.{Refused}
 use Rattle.ot_job.specs.declared.piece.Refused.TheVariants.{Stranger, Failing, Memory}
-use Rattle.ot_job.specs.Pieces.{test_of, leading_len}
+use Rattle.ot_task.specs.Pieces.{Runs, leading_len}
 
 -- a piece that comes back: what it was claimed with, and the value of its condition
 pub record Came : Type 0 where
@@ -26,26 +26,12 @@ pub record Came : Type 0 where
   pub lent : List LentCell
   pub answer : Option ℕ
 
--- the region runs these assigns with this condition on these inputs
-abbrev pub Runs : Region → Body → Option E → List LentCell → Type 0
-Runs r assigns test lent = (r.running ≡ Some (record { assigns = assigns; lease = lease_of lent })) × (test ≡ test_of r.rest)
-
 abbrev pub IsOut : List Region → Came → Type 0
 IsOut rs d = Runs (at rs d.task) d.assigns d.test d.lent
 
 -- whether the condition's value takes the first body
 abbrev pub taken_by : Option ℕ → Bool
 taken_by answer = nat_lt 0 (unwrap_or answer 0)
-
--- no piece of it is out
-abbrev pub stopped : Region → Region
-stopped r = record r { running = None }
-
-abbrev pub over : Region → Region
-over r = record r { ended = true }
-
-abbrev pub without : ℕ → Region → Region
-without child r = record r { children = with_finished r.children child }
 
 -- task i has finished, as its parent's table tells
 abbrev pub told_parent : ℕ → List Region → List Region
@@ -54,11 +40,6 @@ told_parent i rs = if nat_lt 0 i then updated rs (parent_of rs i) (without (at r
 -- task i has ended its body
 abbrev pub closed : ℕ → List Region → List Region
 closed i rs = updated (told_parent i rs) i over
-
--- whether the place is at the body's end
-abbrev pub is_at_end : Body → List Open → Bool
-is_at_end End [] = true
-is_at_end rest os = false
 
 -- the place behind the piece, and the control statement executed that comes next
 abbrev pub moved_on : Bool → ℕ → ℕ → List Region → List Region
@@ -73,20 +54,11 @@ counted End s = s
 counted (Next (Task d b) rest) s = bump 1 1 s
 counted (Next x rest) s = bump 0 1 s
 
--- how many tasks it creates
-abbrev pub tasks_next : Body → ℕ
-tasks_next (Next (Task d b) rest) = 1
-tasks_next rest = 0
-
 -- where a task comes next, its declaration is in order
 abbrev pub CreatesInOrder : Region → Type 0
 CreatesInOrder r = (child : List Use × Body) → next_task r.rest ≡ Some child → AreInOrder child.0
 
 -- the units: the assigns, and one more where a control statement was executed
-abbrev pub is_control : Body → Bool
-is_control End = false
-is_control (Next x rest) = true
-
 abbrev pub units_of : Body → Body → ℕ
 units_of assigns rest = leading_len assigns + (if is_control rest then 1 else 0)
 

@@ -10,8 +10,8 @@ use Rattle.ot_check.specs.Paths.{use_as}
 use Rattle.ot_check.specs.Offences.{allows, adds_to, has_cell}
 use Rattle.ot_check.specs.Touches.{EachTouch, EachTask}
 use Rattle.ot_job.specs.Left.{left}
-use Rattle.ot_job.specs.Place.{Open, todo, opened, IsFineAt, AwaitsAll, unawaited}
-use Rattle.ot_job.specs.Regions.{Region}
+use Rattle.ot_task.specs.Place.{Open, todo, opened, IsFineAt, AwaitsAll, unawaited}
+use Rattle.ot_task.specs.Regions.{Region}
 
 -- no region
 abbrev pub gone : Region

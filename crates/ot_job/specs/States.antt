@@ -1,22 +1,17 @@
 -- How a job begins, where it stands, and how it fails.
-use Rattle.std.specs.Prelude.{◌≡◌, ℕ, ◌∷◌, [], Bool, true, false, if◌then◌else◌, ◌⊎◌, List, None, is_some, IsPermutation}
+use Rattle.std.specs.Prelude.{◌≡◌, ℕ, ◌∷◌, [], Bool, true, false, if◌then◌else◌, ◌⊎◌, List, is_some, IsPermutation}
 use Rattle.std.specs.List.{list_any, list_all}
-use Rattle.ot_model.specs.Tree.{Body}
 use Rattle.ot_model.specs.Cells.{updated}
 use Rattle.ot_model.specs.Programs.{expanded_of}
 use Rattle.ot_check.specs.Jobs.{Spec}
 use Rattle.ot_owner.specs.Leases.{lease_of}
 use Rattle.ot_owner.specs.Worth.{KeepsWorth}
-use Rattle.ot_job.specs.Regions.{Region}
+use Rattle.ot_task.specs.Regions.{Region, root_region, stopped}
 use Rattle.ot_job.specs.Live.{Seen}
 use Rattle.ot_job.specs.Claiming.{claimable_of}
-use Rattle.ot_job.specs.Settling.{Came, IsOut, stopped}
+use Rattle.ot_job.specs.Settling.{Came, IsOut}
 use Rattle.ot_job.specs.declared.state.State.{State}
 use Rattle.ot_job.specs.declared.state.State.TheVariants.{Working, Failing, Ended, Failed}
-
--- the root task at the beginning of the program's body
-abbrev pub root_region : Body → Region
-root_region body = record { parent = 0; child = 0; own = None; rest = body; groups = []; children = []; waiting = false; ended = false; running = None }
 
 -- a job that has the whole program left, its cells as they were handed in, and no piece out
 pub record Starts (spec : Spec) (j : Seen) : Type 0 where

@@ -4,8 +4,8 @@ use Rattle.ot_model.specs.Tree.{E, Body}
 use Rattle.ot_model.specs.View.{expr_of}
 use Rattle.ot_model.specs.declared.expr.Expr.{Expr}
 use Rattle.ot_owner.specs.declared.lent.LentCell.{LentCell}
-use Rattle.ot_job.specs.Assigns.{assigns_of}
-use Rattle.ot_job.specs.declared.assign.Assign.{Assign}
+use Rattle.ot_task.specs.Assigns.{assigns_of}
+use Rattle.ot_task.specs.declared.assign.Assign.{Assign}
 
 -- its task, its sets and adds, the condition behind them, and the copies that it was lent
 pub record Taken : Type 0 where

@@ -7,12 +7,12 @@ use Rattle.ot_model.specs.Serial.{serial_run}
 use Rattle.ot_model.specs.Runs.{state_of}
 use Rattle.ot_owner.specs.Leases.{lease_of, lent_from}
 use Rattle.ot_owner.specs.Worth.{worths}
-use Rattle.ot_job.specs.Regions.{Run}
+use Rattle.ot_task.specs.Regions.{Run}
 use Rattle.ot_job.specs.Sound.{at, todo_at, left_of, IsBegun, IsSound}
 use Rattle.ot_job.specs.Live.{Seen}
 use Rattle.ot_job.specs.Whole.{wholes, leases_out}
 use Rattle.ot_job.specs.Running.{RunsWell}
-use Rattle.ot_job.specs.Weighing.{weight_of}
+use Rattle.ot_task.specs.Weighing.{weight_of}
 
 -- what is left of the job, run serially from what its cells are worth, gives the serial meaning of its program
 abbrev pub IsKept : Seen → Type 0

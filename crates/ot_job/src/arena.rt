@@ -1,19 +1,17 @@
 ghost use Rattle.std.specs.Prelude.{◌≡◌, ◌+◌, ◌<◌, ◌≤◌, ◌^◌, ◌++◌, [], ◌∷◌, length, vec_len, vec_capacity, OnOk, OnErr, IfOk, map, slice_index_or};
-ghost use Rattle.ot_job.specs.declared.task.Task.{Task};
-ghost use Rattle.ot_job.specs.PlaceView.{standing_of};
+ghost use Rattle.ot_task.specs.declared.task.Task.{Task};
+ghost use Rattle.ot_task.specs.PlaceView.{standing_of};
 ghost use Rattle.ot_model.specs.Tree.{Next, Task as Fork};
 ghost use Rattle.ot_model.specs.View.{stmts_of};
 ghost use Rattle.ot_model.specs.Cells.{updated};
 ghost use Rattle.ot_model.specs.Uses.{AreInOrder};
 ghost use Rattle.ot_job.specs.Sound.{at};
 ghost use Rattle.ot_job.specs.Settling.{CreatesInOrder};
-ghost use Rattle.ot_job.specs.Regions.{with_child, with_rest, new_region, children_at, executed};
-ghost use Rattle.ot_job.specs.RegionView.{regions_of};
+ghost use Rattle.ot_task.specs.Regions.{with_child, with_rest, new_region, children_at, executed};
+ghost use Rattle.ot_task.specs.RegionView.{regions_of};
 
-use crate::place::Place;
-use crate::room::{make_room, put};
-use crate::task::Task;
 use ot_model::{Decl, Stmt};
+use ot_task::{Place, Task};
 use std::alloc::{AllocError, Global};
 
 /// The numbers of the groups that are open where a task stands, the innermost first.
@@ -44,7 +42,7 @@ fn note_child(
     ensures number { IfOk result (λ child. child ≡ children_at (regions_of tasks.old.items) i) }
     ensures ordered { OnOk result (AreInOrder decl.now) }
 {
-    make_room(tasks, 1)?;
+    tasks.reserve(1)?;
     let decl = Decl::new(decl.uses().to_vec(alloc)?);
     let numbers = group_numbers(alloc, &tasks[i].place)?;
     tasks[i].children.add(alloc, decl, &numbers)
@@ -91,11 +89,11 @@ fn create(
 {
     match note_child(tasks, alloc, i, &decl) {
         Ok(child) => {
-            put(tasks, Task::new(alloc, i, child, decl, body));
+            tasks.push_reserved(Task::new(alloc, i, child, decl, body));
             Ok(())
         }
         Err(error) => {
-            put(&mut tasks[i].place.rest, Stmt::Task(decl, body));
+            tasks[i].place.rest.push_reserved(Stmt::Task(decl, body));
             Err(error)
         }
     }

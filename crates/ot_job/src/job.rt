@@ -1,5 +1,4 @@
 use crate::piece::{Done, Piece, Refused};
-use crate::prepare::{Prepared, prepare};
 use crate::settle::is_out;
 use crate::start::beginning;
 use crate::state::State;
@@ -8,6 +7,7 @@ use crate::weigh::weigh_tasks;
 use ot_check::{JobSpec, Outcome};
 use ot_model::{Cells, Counts};
 use ot_owner::Owners;
+use ot_task::{Prepared, prepare};
 use std::alloc::{AllocError, Global};
 use std::marker::Model;
 
@@ -27,7 +27,7 @@ pub struct Job {
 impl Model for Job {
     ghost use Rattle.std.specs.Coded.{codes};
     ghost use Rattle.ot_check.specs.contracts.checked.Checked as c;
-    ghost use Rattle.ot_job.specs.contracts.task.Task as t;
+    ghost use Rattle.ot_task.specs.contracts.task.Task as t;
     ghost use Rattle.ot_job.specs.Live.{Live};
 
     ghost Value = { Live };
@@ -35,7 +35,7 @@ impl Model for Job {
     ghost coded = { Prim.hlevel (codes, c.the_row.coded, t.the_row.coded) };
 
     ghost use Rattle.ot_model.specs.Programs.{expanded_of};
-    ghost use Rattle.ot_job.specs.RegionView.{regions_of};
+    ghost use Rattle.ot_task.specs.RegionView.{regions_of};
     ghost use Rattle.ot_job.specs.Well.{IsWell};
 
     ghost view = { λ j. record { spec = j.spec; cells = j.cells; owned = j.owners; tasks = j.tasks; counts = j.counts; failing = j.failing } };
@@ -63,7 +63,7 @@ impl Job {
     ghost use Rattle.ot_job.specs.Dealings.{state_of, IsBegun, IsOver, NoneOut, IsOf, Gives, Pays, Refuses, Fails, Aborts};
     ghost use Rattle.ot_job.specs.declared.state.State.TheVariants.{Working, Failing, Ended, Failed};
     ghost use Rattle.ot_check.specs.Jobs.{Spec, IsMeaning};
-    ghost use Rattle.ot_job.specs.Weighing.{weight_of};
+    ghost use Rattle.ot_task.specs.Weighing.{weight_of};
     ghost use Rattle.ot_job.specs.Well.{IsWell};
 
     /// A job that begins. It has the whole program left. Where memory is refused, the spec comes back.
@@ -193,14 +193,7 @@ impl Job {
         {
             return Err((done, Refused::Memory));
         }
-        let Done {
-            task: _,
-            assigns: _,
-            condition: _,
-            lent,
-            answer: _,
-        } = done;
-        self.owners.give_back(&mut self.cells, lent);
+        done.give_back(&mut self.owners, &mut self.cells);
         let units = assigns as u32 + control;
         self.counts = Counts {
             tasks: self.counts.tasks + created,
@@ -217,20 +210,13 @@ impl Job {
         ensures spec { self.new.spec ≡ self.old.spec }
         ensures weight { weight_of (seen_of self.new).regions ≤ weight_of (seen_of self.old).regions }
     {
-        let out = is_out(self.tasks.all(), &done);
-        let Done {
-            task,
-            assigns: _,
-            condition: _,
-            lent,
-            answer: _,
-        } = done;
-        if !out {
-            lent.discard();
+        if !is_out(self.tasks.all(), &done) {
+            done.discard();
             return;
         }
-        self.owners.drop_right(lent);
-        self.tasks.stop(task as usize);
+        let task = done.task as usize;
+        done.drop_right(&mut self.owners);
+        self.tasks.stop(task);
         self.failing = true;
     }
 

@@ -8,25 +8,18 @@
 #![tactic(auto)]
 
 mod arena;
-mod assign;
 mod job;
-mod leading;
 mod listing;
 mod pick;
 mod piece;
-mod place;
-mod prepare;
 mod room;
-mod same;
 mod settle;
 mod start;
 mod state;
-mod task;
 mod tasks;
-mod touched;
 mod weigh;
 
-pub use assign::Assign;
 pub use job::Job;
+pub use ot_task::Assign;
 pub use piece::{Done, Piece, Refused};
 pub use state::State;

@@ -2,12 +2,12 @@
 ghost use Rattle.std.specs.Prelude.{◌≡◌, ◌≢◌, ◌<◌, ◌≤◌, ℕ, true, All, length, slice_index_or};
 ghost use Rattle.std.specs.VecDeque.{deque_capacity};
 ghost use Rattle.ot_depend.specs.Kept.{has};
-ghost use Rattle.ot_job.specs.RegionView.{regions_of};
+ghost use Rattle.ot_task.specs.RegionView.{regions_of};
 ghost use Rattle.ot_job.specs.Listing.{IsListBelow, TellsOf};
 
 use crate::pick::is_claimable;
 use crate::room::put_at;
-use crate::task::Task;
+use ot_task::Task;
 use std::collections::VecDeque;
 
 /// Puts a number of those below `count` into the list, or takes it out. There is to be room for all of

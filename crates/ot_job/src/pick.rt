@@ -2,9 +2,9 @@ ghost use Rattle.std.specs.Prelude.{◌≡◌, ◌<◌, ◌==◌, ◌||◌, leng
 ghost use Rattle.ot_job.specs.Claiming.{is_claimable, claimable_of, picked};
 ghost use Rattle.ot_depend.specs.Siblings.{is_ready};
 ghost use Rattle.ot_job.specs.Sound.{at};
-ghost use Rattle.ot_job.specs.RegionView.{regions_of};
+ghost use Rattle.ot_task.specs.RegionView.{regions_of};
 
-use crate::task::Task;
+use ot_task::Task;
 
 /// Whether a child may begin as far as its earlier siblings go.
 fn is_ready(tasks: &[Task], parent: usize, child: usize) -> bool

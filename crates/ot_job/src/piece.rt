@@ -3,12 +3,12 @@ ghost use Rattle.ot_model.specs.View.{expr_of};
 ghost use Rattle.ot_model.specs.Value.{val, HasAll};
 ghost use Rattle.ot_model.specs.declared.expr.Cell.{Cell};
 ghost use Rattle.ot_owner.specs.Lending.{first_at, value_at};
-ghost use Rattle.ot_job.specs.Assigns.{assigns_of};
-ghost use Rattle.ot_job.specs.Copies.{assigned};
+ghost use Rattle.ot_task.specs.Assigns.{assigns_of};
+ghost use Rattle.ot_task.specs.Copies.{assigned};
 
-use crate::assign::{Assign, assign_all};
-use ot_model::{Expr, value};
-use ot_owner::Lent;
+use ot_model::{Cells, Expr, value};
+use ot_owner::{Lent, Owners};
+use ot_task::{Assign, assign_all};
 use std::marker::Model;
 
 /// A piece of a task's body that was claimed: sets and adds, the condition of an `if` that comes
@@ -24,7 +24,7 @@ pub struct Piece {
 impl Model for Piece {
     ghost use Rattle.std.specs.Coded.{codes};
     ghost use Rattle.ot_model.specs.contracts.expr.Expr as e;
-    ghost use Rattle.ot_job.specs.contracts.assign.Assign as a;
+    ghost use Rattle.ot_task.specs.contracts.assign.Assign as a;
     ghost use Rattle.ot_job.specs.Taken.{Parts};
 
     ghost Value = { Parts };
@@ -33,7 +33,7 @@ impl Model for Piece {
 
     ghost use Rattle.std.specs.Prelude.{option_map};
     ghost use Rattle.ot_model.specs.View.{expr_of};
-    ghost use Rattle.ot_job.specs.Assigns.{assigns_of, CanRun};
+    ghost use Rattle.ot_task.specs.Assigns.{assigns_of, CanRun};
 
     ghost view = { λ p. record { task = p.task; assigns = p.assigns.items; condition = p.condition; lent = p.lent } };
 
@@ -57,7 +57,7 @@ impl Piece {
     ghost use Rattle.std.specs.Prelude.{◌≡◌, option_map};
     ghost use Rattle.ot_model.specs.View.{expr_of};
     ghost use Rattle.ot_owner.specs.Leases.{lease_of};
-    ghost use Rattle.ot_job.specs.Assigns.{assigns_of, CanRun};
+    ghost use Rattle.ot_task.specs.Assigns.{assigns_of, CanRun};
     ghost use Rattle.ot_job.specs.Taken.{taken_of};
     ghost use Rattle.ot_job.specs.DoneView.{done_of};
     ghost use Rattle.ot_job.specs.Dealings.{brought, work_of};
@@ -132,7 +132,10 @@ fn answer(condition: Option<&Expr>, lent: &Lent) -> Option<u64>
 }
 
 impl Done {
-    ghost use Rattle.std.specs.Prelude.{◌≡◌};
+    ghost use Rattle.std.specs.Prelude.{◌≡◌, ◌∷◌, All, Contains, IsSome, IsPermutation};
+    ghost use Rattle.ot_model.specs.Cells.{cell_of, lengths};
+    ghost use Rattle.ot_owner.specs.Leases.{lease_of};
+    ghost use Rattle.ot_owner.specs.Worth.{AreJoined, KeepsWorth, worth};
     ghost use Rattle.ot_job.specs.Settling.{taken_by};
 
     /// Whether the condition's value takes the first body.
@@ -143,6 +146,41 @@ impl Done {
             Some(number) => number > 0,
             None => false,
         }
+    }
+
+    /// Gives back its copies: its cells have their present values from now on, and its right ends.
+    pub(crate) fn give_back(self, owners: &mut Owners, cells: &mut Cells)
+        requires out { Contains owners.old.out (lease_of self.lent) }
+        requires there { All (λ l. IsSome (cell_of cells.old l.cell)) self.lent }
+        ensures stored { AreJoined self.lent (cell_of cells.old) (cell_of cells.new) }
+        ensures worth { AreJoined self.lent (worth owners.old cells.old) (worth owners.new cells.new) }
+        ensures lengths { lengths cells.new ≡ lengths cells.old }
+        ensures ended { IsPermutation owners.old.out (lease_of self.lent ∷ owners.new.out) }
+    {
+        let Done {
+            task: _,
+            assigns: _,
+            condition: _,
+            lent,
+            answer: _,
+        } = self;
+        owners.give_back(cells, lent);
+    }
+
+    /// Ends its right. No cell changes.
+    pub(crate) fn drop_right(self, owners: &mut Owners)
+        requires { Contains owners.old.out (lease_of self.lent) }
+        ensures ended { IsPermutation owners.old.out (lease_of self.lent ∷ owners.new.out) }
+        ensures worth { KeepsWorth owners.old owners.new }
+    {
+        let Done {
+            task: _,
+            assigns: _,
+            condition: _,
+            lent,
+            answer: _,
+        } = self;
+        owners.drop_right(lent);
     }
 
     /// Gives it up. No right ends by it.

@@ -1,12 +1,12 @@
 ghost use Rattle.std.specs.Prelude.{◌≡◌, ◌<◌, ◌↔◌, IsTrue, length};
 ghost use Rattle.ot_depend.specs.Siblings.{IsReady, IsUnfinished};
 ghost use Rattle.ot_job.specs.Sound.{at, parent_of};
-ghost use Rattle.ot_job.specs.RegionView.{regions_of};
+ghost use Rattle.ot_task.specs.RegionView.{regions_of};
 ghost use Rattle.ot_job.specs.Settling.{IsOut, told_parent};
 ghost use Rattle.ot_job.specs.DoneView.{done_of};
 
 use crate::piece::Done;
-use crate::task::Task;
+use ot_task::Task;
 
 /// Whether that task runs these assigns with this condition on these inputs.
 pub fn is_out(tasks: &[Task], done: &Done) -> bool
@@ -16,5 +16,5 @@ pub fn is_out(tasks: &[Task], done: &Done) -> bool
     if task >= tasks.len() {
         return false;
     }
-    tasks[task].runs(done)
+    tasks[task].runs(&done.assigns, done.condition.as_ref(), &done.lent)
 }

@@ -2,8 +2,8 @@ ghost use Rattle.std.specs.Prelude.{◌≡◌, [], ◌∷◌, IfOk};
 ghost use Rattle.ot_model.specs.Cells.{lengths};
 ghost use Rattle.ot_model.specs.Names.{NamedIn};
 ghost use Rattle.ot_model.specs.Programs.{expanded_of};
-ghost use Rattle.ot_job.specs.RegionView.{regions_of};
-ghost use Rattle.ot_job.specs.States.{root_region};
+ghost use Rattle.ot_task.specs.RegionView.{regions_of};
+ghost use Rattle.ot_task.specs.Regions.{root_region};
 
 use crate::tasks::Tasks;
 use ot_check::JobSpec;

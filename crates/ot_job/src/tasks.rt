@@ -1,10 +1,9 @@
 use crate::arena::execute;
-use crate::assign::Assign;
 use crate::listing::{refresh, refresh_children};
-use crate::room::{make_room, make_room_for, put};
-use crate::task::Task;
+use crate::room::make_room_for;
 use ot_model::Stmt;
 use ot_owner::Right;
+use ot_task::{Assign, Task};
 use std::alloc::{AllocError, Global};
 use std::collections::VecDeque;
 use std::marker::Model;
@@ -27,14 +26,14 @@ pub struct Tasks {
 impl Model for Tasks {
     ghost use Rattle.std.specs.Coded.{codes};
     ghost use Rattle.std.specs.Prelude.{List};
-    ghost use Rattle.ot_job.specs.contracts.task.Task as t;
-    ghost use Rattle.ot_job.specs.declared.task.Task.{Task};
+    ghost use Rattle.ot_task.specs.contracts.task.Task as t;
+    ghost use Rattle.ot_task.specs.declared.task.Task.{Task};
 
     ghost Value = { List Task };
 
     ghost coded = { Prim.hlevel (codes, t.the_row.coded) };
 
-    ghost use Rattle.ot_job.specs.RegionView.{regions_of};
+    ghost use Rattle.ot_task.specs.RegionView.{regions_of};
     ghost use Rattle.std.specs.VecDeque.{deque_capacity};
     ghost use Rattle.ot_job.specs.Listing.{AreKept, numbers_of};
 
@@ -49,12 +48,14 @@ impl Tasks {
     ghost use Rattle.ot_model.specs.View.{stmts_of};
     ghost use Rattle.ot_depend.specs.Siblings.{IsReady, IsUnfinished};
     ghost use Rattle.ot_job.specs.Sound.{at, parent_of};
-    ghost use Rattle.ot_job.specs.Pieces.{leading_len, awake, begun};
-    ghost use Rattle.ot_job.specs.Regions.{executed};
-    ghost use Rattle.ot_job.specs.RegionView.{regions_of};
-    ghost use Rattle.ot_job.specs.Settling.{CreatesInOrder, closed, over, settled, stopped, tasks_next, without};
+    ghost use Rattle.ot_task.specs.Pieces.{leading_len, awake, begun};
+    ghost use Rattle.ot_task.specs.Regions.{executed};
+    ghost use Rattle.ot_task.specs.RegionView.{regions_of};
+    ghost use Rattle.ot_job.specs.Settling.{CreatesInOrder, closed, settled};
+    ghost use Rattle.ot_task.specs.Regions.{over, stopped, tasks_next, without};
     ghost use Rattle.ot_job.specs.Claiming.{claimable_of, picked};
-    ghost use Rattle.ot_job.specs.States.{root_region, any_out, all_ended};
+    ghost use Rattle.ot_task.specs.Regions.{root_region};
+    ghost use Rattle.ot_job.specs.States.{any_out, all_ended};
 
     /// The root task alone, at the beginning of the program's body.
     pub fn root(alloc: Global, body: Vec<Stmt>) -> Result<Tasks, AllocError>
@@ -63,8 +64,8 @@ impl Tasks {
         let mut tasks = Vec::with_capacity(alloc, 1)?;
         let mut children = Vec::with_capacity(alloc, 1)?;
         let mut claimable = VecDeque::with_capacity(alloc, 1)?;
-        put(&mut tasks, Task::root(alloc, body));
-        put(&mut children, Vec::new(alloc));
+        tasks.push_reserved(Task::root(alloc, body));
+        children.push_reserved(Vec::new(alloc));
         claimable.push_back_reserved(0);
         Ok(Tasks {
             tasks,
@@ -250,12 +251,12 @@ impl Tasks {
         ensures refused { OnErr result (regions_of self.new ≡ regions_of self.old) }
     {
         let number = self.tasks.len();
-        make_room(&mut self.children[i], 1)?;
-        make_room(&mut self.children, 1)?;
+        self.children[i].reserve(1)?;
+        self.children.reserve(1)?;
         make_room_for(&mut self.claimable, number + 1)?;
         execute(&mut self.tasks, alloc, i, taken, group)?;
-        put(&mut self.children[i], number);
-        put(&mut self.children, Vec::new(alloc));
+        self.children[i].push_reserved(number);
+        self.children.push_reserved(Vec::new(alloc));
         self.unended += 1;
         refresh(&mut self.claimable, &self.tasks, i);
         refresh(&mut self.claimable, &self.tasks, number);

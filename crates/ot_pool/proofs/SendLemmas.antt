@@ -9,9 +9,9 @@ use Rattle.ot_depend.proofs.siblings.Siblings.TheSendSync as siblings
 use Rattle.ot_model.proofs.expr.Expr.TheLaws.TheKnot.{send-Expr}
 use Rattle.ot_model.proofs.stmt.Stmt.TheLaws.TheKnot.{send-Stmt}
 use Rattle.ot_check.specs.contracts.job.JobSpec as spec
-use Rattle.ot_job.specs.contracts.place.Place as place
-use Rattle.ot_job.specs.contracts.task.Running as running
-use Rattle.ot_job.specs.contracts.task.Task as task
+use Rattle.ot_task.specs.contracts.place.Place as place
+use Rattle.ot_task.specs.contracts.task.Running as running
+use Rattle.ot_task.specs.contracts.task.Task as task
 use Rattle.ot_job.specs.contracts.job.Job as job
 use Rattle.ot_core.specs.contracts.hall.Hall as hall
 use Rattle.ot_pool.specs.contracts.hub.Hub as hub

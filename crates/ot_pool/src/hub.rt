@@ -42,7 +42,7 @@ pub enum Claimed {
 impl<L: Ledger> Model for Hub<L> {
     ghost use Rattle.std.specs.Coded.{codes};
     ghost use Rattle.ot_check.specs.contracts.checked.Checked as c;
-    ghost use Rattle.ot_job.specs.contracts.task.Task as t;
+    ghost use Rattle.ot_task.specs.contracts.task.Task as t;
     ghost use Rattle.ot_pool.specs.Shared.{Shared, IsKept};
 
     ghost Value = { Shared };

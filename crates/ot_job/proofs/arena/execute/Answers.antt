@@ -8,9 +8,9 @@ use Rattle.ot_model.specs.Tree.{Body, Next, Task as Fork}
 use Rattle.ot_model.specs.View.{stmts_of}
 use Rattle.ot_model.specs.Cells.{updated}
 use Rattle.ot_model.specs.declared.stmt.Use.{Use}
-use Rattle.ot_job.specs.Regions.{Region, with_rest, stepped, next_task, with_created}
-use Rattle.ot_job.specs.RegionView.{region_of, regions_of}
-use Rattle.ot_job.specs.declared.task.Task.{Task}
+use Rattle.ot_task.specs.Regions.{Region, with_rest, stepped, next_task, with_created}
+use Rattle.ot_task.specs.RegionView.{region_of, regions_of}
+use Rattle.ot_task.specs.declared.task.Task.{Task}
 use Rattle.ot_job.proofs.ViewLemmas.{map-changed, map-kept, rest_at-record, taken_back, on_err_always, back_on}
 use Rattle.ot_job.proofs.arena.execute.Goals as goal
 

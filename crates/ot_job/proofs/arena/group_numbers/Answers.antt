@@ -1,8 +1,8 @@
 use Rattle.std.proofs.Common.{◌≡◌, ◌∙◌, ap, sym, arith, map, reverse}
 use Rattle.std.proofs.lemmas.Grind.{common_steps}
 use Rattle.std.proofs.lemmas.Simd.{map-map}
-use Rattle.ot_job.specs.PlaceView.{open_of}
-use Rattle.ot_job.proofs.ViewLemmas.{map-reverse}
+use Rattle.ot_task.specs.PlaceView.{open_of}
+use Rattle.ot_task.proofs.RestLemmas.{map-reverse}
 use Rattle.ot_job.proofs.arena.group_numbers.Goals as goal
 
 pub returns : goal.returns

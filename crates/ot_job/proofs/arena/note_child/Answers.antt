@@ -4,10 +4,10 @@ use Rattle.std.proofs.lemmas.Result.{on_ok_weaker}
 use Rattle.ot_model.specs.Cells.{updated}
 use Rattle.ot_model.specs.declared.stmt.Use.{Use}
 use Rattle.ot_depend.specs.Siblings.{Sibling, created}
-use Rattle.ot_job.specs.PlaceView.{standing_of}
-use Rattle.ot_job.specs.Regions.{with_child, children_at}
-use Rattle.ot_job.specs.RegionView.{region_of, regions_of}
-use Rattle.ot_job.specs.declared.task.Task.{Task}
+use Rattle.ot_task.specs.PlaceView.{standing_of}
+use Rattle.ot_task.specs.Regions.{with_child, children_at}
+use Rattle.ot_task.specs.RegionView.{region_of, regions_of}
+use Rattle.ot_task.specs.declared.task.Task.{Task}
 use Rattle.ot_job.proofs.ViewLemmas.{map-changed, children_at-record, if_ok_also}
 use Rattle.ot_job.proofs.arena.note_child.Goals as goal
 
@@ -18,15 +18,15 @@ returns-clause-noted c =
     let numbers : c.deref.result.now ≡ map (λ o. o.group) (standing_of task.place).groups =
     c.deref.ensures.value ∙ c.in_ok-numbers.ensures ∙ ap (λ (t : Task). map (λ o. o.group) (standing_of t.place).groups) seen in
     on_ok_weaker c.add.result (λ added.
-    map-changed region_of c.make_room.new.items.items c.args.i task _ (with_child c.args.decl.now) c.index_mut.ensures.value
+    map-changed region_of c.reserve.new.self.items c.args.i task _ (with_child c.args.decl.now) c.index_mut.ensures.value
     (ap (λ (kids : List Sibling). region_of (record task { children = kids }))
     (added ∙ ap (λ (d : List Use). task.children ++ created d c.deref.result.now ∷ []) (c.new-decl.ensures ∙ c.in_ok-to_vec.ensures.items_if_clones_equal (λ x y e. e) ∙ c.uses.ensures.uses)
     ∙ ap (λ (g : List ℕ). task.children ++ created c.args.decl.now g ∷ []) numbers))
-    ∙ ap (λ l. updated (regions_of l) c.args.i (with_child c.args.decl.now)) c.make_room.ensures.same) c.add.ensures.added
+    ∙ ap (λ l. updated (regions_of l) c.args.i (with_child c.args.decl.now)) c.reserve.ensures.items) c.add.ensures.added
 
 pub returns-clause-number : goal.returns-clause-number
 returns-clause-number c =
     let task : Task = c.index_mut.result.now in
     if_ok_also c.add.result (λ child is.
-    is ∙ sym (ap (λ (ts : List Task). children_at (regions_of ts) c.args.i) (sym c.make_room.ensures.same)
-    ∙ children_at-record c.make_room.new.items.items c.args.i task (grind (arith, common_steps, c.requires, c.make_room.ensures)) c.index_mut.ensures.value)) c.add.ensures.number
+    is ∙ sym (ap (λ (ts : List Task). children_at (regions_of ts) c.args.i) (sym c.reserve.ensures.items)
+    ∙ children_at-record c.reserve.new.self.items c.args.i task (grind (arith, common_steps, c.requires, c.reserve.ensures)) c.index_mut.ensures.value)) c.add.ensures.number

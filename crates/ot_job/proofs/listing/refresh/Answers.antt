@@ -1,6 +1,6 @@
 use Rattle.std.proofs.Common.{◌∙◌, sym, subst, inl, inr}
 use Rattle.std.proofs.lemmas.Bool.{cases_eq}
-use Rattle.ot_job.specs.RegionView.{regions_of}
+use Rattle.ot_task.specs.RegionView.{regions_of}
 use Rattle.ot_job.specs.Listing.{TellsOf}
 use Rattle.ot_job.proofs.listing.refresh.Goals as goal
 

@@ -2,7 +2,7 @@ use Rattle.std.proofs.Common.{◌≡◌, ◌∙◌, ◌||◌, ◌==◌, sym, sub
 use Rattle.std.proofs.lemmas.Bool.{cases_Bool, eqb-true}
 use Rattle.std.proofs.lemmas.List.Folds.{list_any_more}
 use Rattle.ot_depend.specs.Kept.{has}
-use Rattle.ot_job.specs.RegionView.{regions_of}
+use Rattle.ot_task.specs.RegionView.{regions_of}
 use Rattle.ot_job.specs.Listing.{TellsOf}
 use Rattle.ot_job.proofs.listing.refresh_children.Goals as goal
 

@@ -1,7 +1,7 @@
 use Rattle.std.proofs.Common.{◌≡◌, ◌≤◌, ℕ, true, length, slice_index_or, take}
 use Rattle.std.specs.VecDeque.{deque_capacity}
 use Rattle.ot_depend.specs.Kept.{has}
-use Rattle.ot_job.specs.RegionView.{regions_of}
+use Rattle.ot_task.specs.RegionView.{regions_of}
 use Rattle.ot_job.specs.Listing.{IsListBelow, TellsOf}
 use Rattle.ot_job.proofs.listing.refresh_children.Given as goal
 

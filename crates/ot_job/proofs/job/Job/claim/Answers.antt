@@ -10,13 +10,14 @@ use Rattle.ot_model.specs.View.{expr_of}
 use Rattle.ot_owner.specs.Leases.{lease_of, lent_from}
 use Rattle.ot_owner.proofs.RightsLemmas.{lent_uses}
 use Rattle.ot_job.specs.Live.{Live, Seen, seen_of}
-use Rattle.ot_job.specs.Regions.{Region}
-use Rattle.ot_job.specs.RegionView.{region_of, regions_of}
+use Rattle.ot_task.specs.Regions.{Region}
+use Rattle.ot_task.specs.RegionView.{region_of, regions_of}
 use Rattle.ot_job.specs.Sound.{at}
-use Rattle.ot_job.specs.Pieces.{leading, behind, test_of, awake, begun, leading_len}
-use Rattle.ot_job.specs.Assigns.{assigns_of, CanRun}
+use Rattle.ot_task.specs.Pieces.{leading, behind, test_of, awake, begun, leading_len}
+use Rattle.ot_task.specs.Assigns.{assigns_of, CanRun}
 use Rattle.ot_job.specs.Claiming.{claimable_of, picked}
-use Rattle.ot_job.specs.Claims.{AreHeld, Claims}
+use Rattle.ot_task.specs.Touched.{AreHeld}
+use Rattle.ot_job.specs.Claims.{Claims}
 use Rattle.ot_job.specs.Taken.{Taken, Parts, taken_of}
 use Rattle.ot_job.specs.Well.{IsWell}
 use Rattle.ot_job.proofs.WellLemmas.{claimable-idle, named-awake, claim-free, claim-well}
@@ -25,7 +26,7 @@ use Rattle.ot_job.proofs.CourseLemmas.{counts-few}
 use Rattle.ot_job.proofs.TakenLemmas.{claim-can}
 use Rattle.ot_job.proofs.PickLemmas.{picked-claimable, at-here}
 use Rattle.ot_job.specs.States.{claimable_in}
-use Rattle.ot_job.specs.Weighing.{weight_of}
+use Rattle.ot_task.specs.Weighing.{weight_of}
 use Rattle.ot_job.proofs.WeighingLemmas.{weight-begun}
 use Rattle.ot_job.proofs.DealingsLemmas.{claimed-gives, picked-some, picked-working}
 use Rattle.std.specs.Prelude.{None}
@@ -36,13 +37,13 @@ use Rattle.ot_job.proofs.job.Job.claim.Goals as goal
 
 pub get-requires : goal.get-requires
 get-requires c =
-    let is : picked (claimable_of (regions_of c.self.inside.tasks)) c.args.pick ≡ Some c.in-Some.task = search rules in
+    let is : picked (claimable_of (regions_of c.self.inside.tasks)) c.args.pick ≡ Some c.in-Some.task = sym c.pick.ensures ∙ c.in-Some.is in
     omega (arith, (picked-claimable (regions_of c.self.inside.tasks) c.args.pick c.in-Some.task is).0, length-map c.self.inside.tasks region_of)
 
 pub prepare-requires : goal.prepare-requires
 prepare-requires c =
     let tasks = c.self.inside.tasks in
-    let is : picked (claimable_of (regions_of tasks)) c.args.pick ≡ Some c.in-Some.task = search rules in
+    let is : picked (claimable_of (regions_of tasks)) c.args.pick ≡ Some c.in-Some.task = sym c.pick.ensures ∙ c.in-Some.is in
     let within : c.in-Some.task < length tasks = omega (arith, (picked-claimable (regions_of tasks) c.args.pick c.in-Some.task is).0, length-map tasks region_of) in
     let here = at-here tasks c.in-Some.task c.get.result.now within c.get.ensures in
     let named = named-awake _ (c.self.invariant.course c.if-self.false) c.in-Some.task in
@@ -51,7 +52,7 @@ prepare-requires c =
 pub lease-requires-clause-free : goal.lease-requires-clause-free
 lease-requires-clause-free c =
     let tasks = c.self.inside.tasks in
-    let is : picked (claimable_of (regions_of tasks)) c.args.pick ≡ Some c.in-Some.task = search rules in
+    let is : picked (claimable_of (regions_of tasks)) c.args.pick ≡ Some c.in-Some.task = sym c.pick.ensures ∙ c.in-Some.is in
     let both = picked-claimable (regions_of tasks) c.args.pick c.in-Some.task is in
     let within : c.in-Some.task < length tasks = omega (arith, both.0, length-map tasks region_of) in
     let here = at-here tasks c.in-Some.task c.get.result.now within c.get.ensures in
@@ -60,13 +61,13 @@ lease-requires-clause-free c =
 
 pub begin-requires-clause-known : goal.begin-requires-clause-known
 begin-requires-clause-known c =
-    let is : picked (claimable_of (regions_of c.self.inside.tasks)) c.args.pick ≡ Some c.in-Some.task = search rules in
+    let is : picked (claimable_of (regions_of c.self.inside.tasks)) c.args.pick ≡ Some c.in-Some.task = sym c.pick.ensures ∙ c.in-Some.is in
     omega (arith, (picked-claimable (regions_of c.self.inside.tasks) c.args.pick c.in-Some.task is).0, length-map c.self.inside.tasks region_of)
 
 pub begin-requires-clause-room : goal.begin-requires-clause-room
 begin-requires-clause-room c =
     let tasks = c.self.inside.tasks in
-    let is : picked (claimable_of (regions_of tasks)) c.args.pick ≡ Some c.in-Some.task = search rules in
+    let is : picked (claimable_of (regions_of tasks)) c.args.pick ≡ Some c.in-Some.task = sym c.pick.ensures ∙ c.in-Some.is in
     let within : c.in-Some.task < length tasks = omega (arith, (picked-claimable (regions_of tasks) c.args.pick c.in-Some.task is).0, length-map tasks region_of) in
     let one = at-here tasks c.in-Some.task c.get.result.now within c.get.ensures in
     let same = ap (λ r. leading_len (awake r).rest) one in
@@ -75,7 +76,7 @@ begin-requires-clause-room c =
 pub begin-requires-clause-idle : goal.begin-requires-clause-idle
 begin-requires-clause-idle c =
     let rs = regions_of c.self.inside.tasks in
-    let is : picked (claimable_of rs) c.args.pick ≡ Some c.in-Some.task = search rules in
+    let is : picked (claimable_of rs) c.args.pick ≡ Some c.in-Some.task = sym c.pick.ensures ∙ c.in-Some.is in
     claimable-idle rs c.in-Some.task (picked-claimable rs c.args.pick c.in-Some.task is).1
 
 pub overflow_cast-task : goal.overflow_cast-task
@@ -89,7 +90,7 @@ overflow_cast-task c =
       counts = c.self.inside.counts;
       failing = c.self.inside.failing;
     } in
-    let is : picked (claimable_of j.regions) c.args.pick ≡ Some c.in-Some.task = search rules in
+    let is : picked (claimable_of j.regions) c.args.pick ≡ Some c.in-Some.task = sym c.pick.ensures ∙ c.in-Some.is in
     let within = (picked-claimable j.regions c.args.pick c.in-Some.task is).0 in
     let few = counts-few j (c.self.invariant.course c.if-self.false) in
     omega (arith, within, c.self.invariant.created, few.0, tasks_in-≤-size j.program.body, c.self.inside.spec.checked.program.few, c.self.inside.spec.checked.program.statements_are)
@@ -99,7 +100,7 @@ new-requires c =
     let tasks = c.self.inside.tasks in
     let rs = regions_of tasks in
     let i = c.in-Some.task in
-    let is : picked (claimable_of rs) c.args.pick ≡ Some i = search rules in
+    let is : picked (claimable_of rs) c.args.pick ≡ Some i = sym c.pick.ensures ∙ c.in-Some.is in
     let within : i < length tasks = omega (arith, (picked-claimable rs c.args.pick i is).0, length-map tasks region_of) in
     let here = at-here tasks i c.get.result.now within c.get.ensures in
     let lent = c.in_ok-lent.ensures.lent in
@@ -116,7 +117,7 @@ invariant_of-self-2 c =
     let tasks = c.self.inside.tasks in
     let rs = regions_of tasks in
     let i = c.in-Some.task in
-    let is : picked (claimable_of rs) c.args.pick ≡ Some i = search rules in
+    let is : picked (claimable_of rs) c.args.pick ≡ Some i = sym c.pick.ensures ∙ c.in-Some.is in
     let both = picked-claimable rs c.args.pick i is in
     let within : i < length tasks = omega (arith, both.0, length-map tasks region_of) in
     let here = at-here tasks i c.get.result.now within c.get.ensures in
@@ -143,7 +144,7 @@ returns-clause-claimed c =
     let tasks = c.self.inside.tasks in
     let rs = regions_of tasks in
     let i = c.in-Some.task in
-    let is : picked (claimable_of rs) c.args.pick ≡ Some i = search rules in
+    let is : picked (claimable_of rs) c.args.pick ≡ Some i = sym c.pick.ensures ∙ c.in-Some.is in
     let within : i < length tasks = omega (arith, (picked-claimable rs c.args.pick i is).0, length-map tasks region_of) in
     let here = at-here tasks i c.get.result.now within c.get.ensures in
     let lent = c.in_ok-lent.ensures.lent in
@@ -177,7 +178,7 @@ returns-clause-weight c =
     let tasks = c.self.inside.tasks in
     let rs = regions_of tasks in
     let i = c.in-Some.task in
-    let is : picked (claimable_of rs) c.args.pick ≡ Some i = search rules in
+    let is : picked (claimable_of rs) c.args.pick ≡ Some i = sym c.pick.ensures ∙ c.in-Some.is in
     let both = picked-claimable rs c.args.pick i is in
     let lent = c.in_ok-lent.ensures.lent in
     let lease : c.in_ok-room.field-0.right ≡ lease_of c.in_ok-lent.lent = c.in_ok-room.ensures.right ∙ ap lease_of (sym lent) in
@@ -205,7 +206,7 @@ returns-in_err-room-clause-working c =
       counts = c.self.inside.counts;
       failing = c.self.inside.failing;
     } in
-    let is : picked (claimable_of (regions_of c.self.inside.tasks)) c.args.pick ≡ Some c.in-Some.task = search rules in
+    let is : picked (claimable_of (regions_of c.self.inside.tasks)) c.args.pick ≡ Some c.in-Some.task = sym c.pick.ensures ∙ c.in-Some.is in
     on_err_always c.from_residual.result (subst (λ (l : Live). state_of (seen_of l) ≡ Working) c.self.view_is (picked-working j c.args.pick c.in-Some.task c.if-self.false is))
 
 pub returns-in_err-lent-clause-working : goal.returns-in_err-lent-clause-working
@@ -219,7 +220,7 @@ returns-in_err-lent-clause-working c =
       counts = c.self.inside.counts;
       failing = c.self.inside.failing;
     } in
-    let is : picked (claimable_of (regions_of c.self.inside.tasks)) c.args.pick ≡ Some c.in-Some.task = search rules in
+    let is : picked (claimable_of (regions_of c.self.inside.tasks)) c.args.pick ≡ Some c.in-Some.task = sym c.pick.ensures ∙ c.in-Some.is in
     on_err_always c.from_residual-in_err-lent.result (subst (λ (l : Live). state_of (seen_of l) ≡ Working) c.self.view_is (picked-working j c.args.pick c.in-Some.task c.if-self.false is))
 
 pub returns-in_err-room-clause-some : goal.returns-in_err-room-clause-some
@@ -233,7 +234,7 @@ returns-in_err-room-clause-some c =
       counts = c.self.inside.counts;
       failing = c.self.inside.failing;
     } in
-    let is : picked (claimable_of (regions_of c.self.inside.tasks)) c.args.pick ≡ Some c.in-Some.task = search rules in
+    let is : picked (claimable_of (regions_of c.self.inside.tasks)) c.args.pick ≡ Some c.in-Some.task = sym c.pick.ensures ∙ c.in-Some.is in
     on_err_always c.from_residual.result (subst (λ (l : Live). 0 < length (claimable_in (seen_of l))) c.self.view_is (picked-some j c.args.pick c.in-Some.task c.if-self.false is))
 
 pub returns-in_err-lent-clause-some : goal.returns-in_err-lent-clause-some
@@ -247,5 +248,5 @@ returns-in_err-lent-clause-some c =
       counts = c.self.inside.counts;
       failing = c.self.inside.failing;
     } in
-    let is : picked (claimable_of (regions_of c.self.inside.tasks)) c.args.pick ≡ Some c.in-Some.task = search rules in
+    let is : picked (claimable_of (regions_of c.self.inside.tasks)) c.args.pick ≡ Some c.in-Some.task = sym c.pick.ensures ∙ c.in-Some.is in
     on_err_always c.from_residual-in_err-lent.result (subst (λ (l : Live). 0 < length (claimable_in (seen_of l))) c.self.view_is (picked-some j c.args.pick c.in-Some.task c.if-self.false is))

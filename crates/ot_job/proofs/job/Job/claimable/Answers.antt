@@ -1,10 +1,9 @@
 use Rattle.std.proofs.Common.{ap, subst, arith, length}
-use Rattle.ot_job.specs.Live.{Live, seen_of}
-use Rattle.ot_job.specs.RegionView.{regions_of}
+use Rattle.ot_job.specs.Live.{Live, seen_of, Seen}
+use Rattle.ot_task.specs.RegionView.{regions_of}
 use Rattle.ot_job.specs.Claiming.{claimable_of}
 use Rattle.ot_job.specs.Well.{IsWell}
 use Rattle.ot_job.proofs.FreeTaskLemmas.{state-working, has-claimable}
-use Rattle.ot_job.specs.Live.{Seen}
 use Rattle.ot_model.specs.Programs.{expanded_of}
 use Rattle.ot_model.proofs.CountsLemmas.{tasks_in-≤-size}
 use Rattle.ot_job.proofs.CourseLemmas.{counts-few}

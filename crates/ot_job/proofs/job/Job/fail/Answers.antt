@@ -1,18 +1,18 @@
-use Rattle.std.proofs.Common.{rules, ◌≡◌, ap, sym, subst, arith, List, true, inl}
+use Rattle.std.proofs.Common.{◌≡◌, ap, sym, subst, arith, List, true, inl}
 use Rattle.std.specs.Prelude.{is_some}
 use Rattle.std.proofs.lemmas.List.{length-map}
 use Rattle.ot_model.specs.Programs.{expanded_of}
 use Rattle.ot_owner.specs.Leases.{lease_of}
 use Rattle.ot_job.specs.Live.{Live, Seen, seen_of}
-use Rattle.ot_job.specs.Regions.{Region}
-use Rattle.ot_job.specs.RegionView.{region_of, regions_of}
+use Rattle.ot_task.specs.Regions.{Region}
+use Rattle.ot_task.specs.RegionView.{region_of, regions_of}
 use Rattle.ot_job.specs.Settling.{Came, IsOut}
 use Rattle.ot_job.specs.DoneView.{done_of}
 use Rattle.ot_job.specs.States.{Fails}
 use Rattle.ot_job.specs.Well.{IsWell}
-use Rattle.ot_job.specs.declared.task.Task.{Task}
+use Rattle.ot_task.specs.declared.task.Task.{Task}
 use Rattle.ot_job.proofs.StartLemmas.{fails-out, fails-well, runs-within}
-use Rattle.ot_job.specs.Weighing.{weight_of}
+use Rattle.ot_task.specs.Weighing.{weight_of}
 use Rattle.ot_job.proofs.WeighingLemmas.{weight-stopped}
 use Rattle.ot_job.proofs.DealingsLemmas.{fails-deals}
 use Rattle.ot_job.proofs.job.Job.fail.Goals as goal
@@ -29,8 +29,8 @@ drop_right-requires c =
       failing = c.self.inside.failing;
     } in
     let d : Came = done_of c.args.done in
-    let yes : c.is_out-out.result ≡ true = search rules in
-    let out : IsOut j.regions d = subst (λ (l : List Task). IsOut (regions_of l) d) c.all.ensures (c.is_out-out.ensures.0 yes) in
+    let yes : c.is_out.result ≡ true = c.if-not-is_out.false in
+    let out : IsOut j.regions d = subst (λ (l : List Task). IsOut (regions_of l) d) c.all.ensures (c.is_out.ensures.0 yes) in
     fails-out j d c.self.invariant out
 
 pub stop-requires-clause-known : goal.stop-requires-clause-known
@@ -45,8 +45,8 @@ stop-requires-clause-known c =
       failing = c.self.inside.failing;
     } in
     let d : Came = done_of c.args.done in
-    let yes : c.is_out-out.result ≡ true = search rules in
-    let out : IsOut j.regions d = subst (λ (l : List Task). IsOut (regions_of l) d) c.all.ensures (c.is_out-out.ensures.0 yes) in
+    let yes : c.is_out.result ≡ true = c.if-not-is_out.false in
+    let out : IsOut j.regions d = subst (λ (l : List Task). IsOut (regions_of l) d) c.all.ensures (c.is_out.ensures.0 yes) in
     omega (arith, runs-within j.regions d.task (record { assigns = d.assigns; lease = lease_of d.lent }) out.0, length-map c.self.inside.tasks region_of)
 
 pub stop-requires-clause-out : goal.stop-requires-clause-out
@@ -61,8 +61,8 @@ stop-requires-clause-out c =
       failing = c.self.inside.failing;
     } in
     let d : Came = done_of c.args.done in
-    let yes : c.is_out-out.result ≡ true = search rules in
-    let out : IsOut j.regions d = subst (λ (l : List Task). IsOut (regions_of l) d) c.all.ensures (c.is_out-out.ensures.0 yes) in
+    let yes : c.is_out.result ≡ true = c.if-not-is_out.false in
+    let out : IsOut j.regions d = subst (λ (l : List Task). IsOut (regions_of l) d) c.all.ensures (c.is_out.ensures.0 yes) in
     ap is_some out.0
 
 pub invariant_of-self : goal.invariant_of-self
@@ -77,11 +77,11 @@ invariant_of-self c =
       failing = c.self.inside.failing;
     } in
     let d : Came = done_of c.args.done in
-    let yes : c.is_out-out.result ≡ true = search rules in
-    let out : IsOut j.regions d = subst (λ (l : List Task). IsOut (regions_of l) d) c.all.ensures (c.is_out-out.ensures.0 yes) in
-    let seen : List Region → Seen = λ regions. record { program = j.program; before = j.before; cells = j.cells; owned = c.drop_right.new.self; regions = regions; counts = j.counts; failing = true } in
+    let yes : c.is_out.result ≡ true = c.if-not-is_out.false in
+    let out : IsOut j.regions d = subst (λ (l : List Task). IsOut (regions_of l) d) c.all.ensures (c.is_out.ensures.0 yes) in
+    let seen : List Region → Seen = λ regions. record { program = j.program; before = j.before; cells = j.cells; owned = c.drop_right.new.owners; regions = regions; counts = j.counts; failing = true } in
     let now = c.stop.ensures in
-    subst (λ (l : List Region). IsWell (seen l)) (sym now) (fails-well j d c.drop_right.new.self c.self.invariant out c.drop_right.ensures.ended)
+    subst (λ (l : List Region). IsWell (seen l)) (sym now) (fails-well j d c.drop_right.new.owners c.self.invariant out c.drop_right.ensures.ended)
 
 pub returns-clause-failed : goal.returns-clause-failed
 returns-clause-failed c =
@@ -95,9 +95,9 @@ returns-clause-failed c =
       failing = c.self.inside.failing;
     } in
     let d : Came = done_of c.args.done in
-    let yes : c.is_out-out.result ≡ true = search rules in
-    let out : IsOut j.regions d = subst (λ (l : List Task). IsOut (regions_of l) d) c.all.ensures (c.is_out-out.ensures.0 yes) in
-    let seen : List Region → Seen = λ regions. record { program = j.program; before = j.before; cells = j.cells; owned = c.drop_right.new.self; regions = regions; counts = j.counts; failing = true } in
+    let yes : c.is_out.result ≡ true = c.if-not-is_out.false in
+    let out : IsOut j.regions d = subst (λ (l : List Task). IsOut (regions_of l) d) c.all.ensures (c.is_out.ensures.0 yes) in
+    let seen : List Region → Seen = λ regions. record { program = j.program; before = j.before; cells = j.cells; owned = c.drop_right.new.owners; regions = regions; counts = j.counts; failing = true } in
     let now = c.stop.ensures in
     subst (λ (l : Live). Fails (seen_of l) d (seen (regions_of c.stop.new.self))) c.self.view_is (inl (record {
       out = out;
@@ -118,8 +118,8 @@ returns-clause-weight c =
       failing = c.self.inside.failing;
     } in
     let d : Came = done_of c.args.done in
-    let yes : c.is_out-out.result ≡ true = search rules in
-    let out : IsOut j.regions d = subst (λ (l : List Task). IsOut (regions_of l) d) c.all.ensures (c.is_out-out.ensures.0 yes) in
+    let yes : c.is_out.result ≡ true = c.if-not-is_out.false in
+    let out : IsOut j.regions d = subst (λ (l : List Task). IsOut (regions_of l) d) c.all.ensures (c.is_out.ensures.0 yes) in
     let now = c.stop.ensures in
     let less = weight-stopped j.regions d.task (runs-within j.regions d.task (record { assigns = d.assigns; lease = lease_of d.lent }) out.0) in
     omega (arith, less, ap weight_of now, ap (λ (l : Live). weight_of (regions_of l.tasks)) c.self.view_is)

@@ -3,7 +3,7 @@ use Rattle.ot_model.specs.Programs.{expanded_of}
 use Rattle.ot_model.specs.Runs.{state_of}
 use Rattle.ot_check.specs.Jobs.{meaning_of}
 use Rattle.ot_job.specs.Live.{Live, Seen, seen_of}
-use Rattle.ot_job.specs.RegionView.{regions_of}
+use Rattle.ot_task.specs.RegionView.{regions_of}
 use Rattle.ot_job.specs.States.{state_in}
 use Rattle.ot_job.specs.declared.state.State.TheVariants.{Ended}
 use Rattle.ot_job.proofs.StartLemmas.{state-ended, ended-meaning}

@@ -10,19 +10,19 @@ use Rattle.ot_model.specs.Programs.{expanded_of}
 use Rattle.ot_model.specs.Counts.{size, tasks_in}
 use Rattle.ot_model.proofs.CountsLemmas.{tasks_in-≤-size}
 use Rattle.ot_job.specs.Live.{Live, Seen, seen_of}
-use Rattle.ot_job.specs.Regions.{Region}
-use Rattle.ot_job.specs.RegionView.{region_of, regions_of}
+use Rattle.ot_task.specs.Regions.{Region, is_control, tasks_next}
+use Rattle.ot_task.specs.RegionView.{region_of, regions_of}
 use Rattle.ot_job.specs.Sound.{at}
-use Rattle.ot_job.specs.Pieces.{leading_len}
-use Rattle.ot_job.specs.Settling.{IsOut, Settles, Came, CreatesInOrder, is_control, tasks_next, taken_by, settled, units_of}
+use Rattle.ot_task.specs.Pieces.{leading_len}
+use Rattle.ot_job.specs.Settling.{IsOut, Settles, Came, CreatesInOrder, taken_by, settled, units_of}
 use Rattle.ot_job.specs.DoneView.{done_of}
 use Rattle.ot_job.specs.Well.{IsWell}
-use Rattle.ot_job.specs.declared.task.Task.{Task}
+use Rattle.ot_task.specs.declared.task.Task.{Task}
 use Rattle.ot_job.proofs.WellLemmas.{settle-may}
 use Rattle.ot_job.proofs.PickLemmas.{at-here}
 use Rattle.ot_job.proofs.SettleLemmas.{ok-holds, is-known, lease-out, cells-there, parent-known, child-ready, child-unfinished, assigns-len}
 use Rattle.ot_job.proofs.CourseLemmas.{counts-few, settle-course, settle-lighter, settle-well}
-use Rattle.ot_job.specs.Weighing.{weight_of}
+use Rattle.ot_task.specs.Weighing.{weight_of}
 use Rattle.ot_job.specs.declared.piece.Refused.TheVariants.{Failing, Memory}
 use Rattle.ot_job.proofs.DealingsLemmas.{settles-pays, refuses-deals}
 use Rattle.ot_job.proofs.job.Job.settle.Goals as goal
@@ -40,7 +40,7 @@ get-requires c =
     } in
     let d : Came = done_of c.args.done in
     let may = settle-may j c.self.invariant (c.self.invariant.course c.if-self.false) in
-    let yes : c.is_out.result ≡ true = search rules in
+    let yes : c.is_out.result ≡ true = c.if-not-is_out.false in
     let out : IsOut j.regions d = subst (λ (l : List Task). IsOut (regions_of l) d) c.all.ensures (c.is_out.ensures.0 yes) in
     omega (arith, is-known j d may out, length-map c.self.inside.tasks region_of)
 
@@ -57,7 +57,7 @@ get-requires-2 c =
     } in
     let d : Came = done_of c.args.done in
     let may = settle-may j c.self.invariant (c.self.invariant.course c.if-self.false) in
-    let yes : c.is_out.result ≡ true = search rules in
+    let yes : c.is_out.result ≡ true = c.if-not-is_out.false in
     let out : IsOut j.regions d = subst (λ (l : List Task). IsOut (regions_of l) d) c.all.ensures (c.is_out.ensures.0 yes) in
     omega (arith, is-known j d may out, length-map c.self.inside.tasks region_of)
 
@@ -74,7 +74,7 @@ settle-requires-clause-known c =
     } in
     let d : Came = done_of c.args.done in
     let may = settle-may j c.self.invariant (c.self.invariant.course c.if-self.false) in
-    let yes : c.is_out.result ≡ true = search rules in
+    let yes : c.is_out.result ≡ true = c.if-not-is_out.false in
     let out : IsOut j.regions d = subst (λ (l : List Task). IsOut (regions_of l) d) c.all.ensures (c.is_out.ensures.0 yes) in
     omega (arith, is-known j d may out, length-map c.self.inside.tasks region_of)
 
@@ -90,7 +90,7 @@ settle-requires-clause-out c =
       failing = c.self.inside.failing;
     } in
     let d : Came = done_of c.args.done in
-    let yes : c.is_out.result ≡ true = search rules in
+    let yes : c.is_out.result ≡ true = c.if-not-is_out.false in
     let out : IsOut j.regions d = subst (λ (l : List Task). IsOut (regions_of l) d) c.all.ensures (c.is_out.ensures.0 yes) in
     ap is_some out.0
 
@@ -106,7 +106,7 @@ settle-requires-clause-alive c =
       failing = c.self.inside.failing;
     } in
     let d : Came = done_of c.args.done in
-    let yes : c.is_out.result ≡ true = search rules in
+    let yes : c.is_out.result ≡ true = c.if-not-is_out.false in
     let out : IsOut j.regions d = subst (λ (l : List Task). IsOut (regions_of l) d) c.all.ensures (c.is_out.ensures.0 yes) in
     ((c.self.invariant.course c.if-self.false).runs d.task (record { assigns = d.assigns; lease = lease_of d.lent }) out.0).alive
 
@@ -123,7 +123,7 @@ settle-requires-clause-parent c = λ some.
     } in
     let d : Came = done_of c.args.done in
     let may = settle-may j c.self.invariant (c.self.invariant.course c.if-self.false) in
-    let yes : c.is_out.result ≡ true = search rules in
+    let yes : c.is_out.result ≡ true = c.if-not-is_out.false in
     let out : IsOut j.regions d = subst (λ (l : List Task). IsOut (regions_of l) d) c.all.ensures (c.is_out.ensures.0 yes) in
     omega (arith, parent-known j d may out some, length-map c.self.inside.tasks region_of)
 
@@ -140,7 +140,7 @@ settle-requires-clause-ready c = λ some.
     } in
     let d : Came = done_of c.args.done in
     let may = settle-may j c.self.invariant (c.self.invariant.course c.if-self.false) in
-    let yes : c.is_out.result ≡ true = search rules in
+    let yes : c.is_out.result ≡ true = c.if-not-is_out.false in
     let out : IsOut j.regions d = subst (λ (l : List Task). IsOut (regions_of l) d) c.all.ensures (c.is_out.ensures.0 yes) in
     child-ready j d may out some
 
@@ -157,7 +157,7 @@ settle-requires-clause-unfinished c = λ some.
     } in
     let d : Came = done_of c.args.done in
     let may = settle-may j c.self.invariant (c.self.invariant.course c.if-self.false) in
-    let yes : c.is_out.result ≡ true = search rules in
+    let yes : c.is_out.result ≡ true = c.if-not-is_out.false in
     let out : IsOut j.regions d = subst (λ (l : List Task). IsOut (regions_of l) d) c.all.ensures (c.is_out.ensures.0 yes) in
     child-unfinished j d may out some
 
@@ -174,7 +174,7 @@ give_back-requires-clause-out c =
     } in
     let d : Came = done_of c.args.done in
     let may = settle-may j c.self.invariant (c.self.invariant.course c.if-self.false) in
-    let yes : c.is_out.result ≡ true = search rules in
+    let yes : c.is_out.result ≡ true = c.if-not-is_out.false in
     let out : IsOut j.regions d = subst (λ (l : List Task). IsOut (regions_of l) d) c.all.ensures (c.is_out.ensures.0 yes) in
     lease-out j d may out
 
@@ -191,7 +191,7 @@ give_back-requires-clause-there c =
     } in
     let d : Came = done_of c.args.done in
     let may = settle-may j c.self.invariant (c.self.invariant.course c.if-self.false) in
-    let yes : c.is_out.result ≡ true = search rules in
+    let yes : c.is_out.result ≡ true = c.if-not-is_out.false in
     let out : IsOut j.regions d = subst (λ (l : List Task). IsOut (regions_of l) d) c.all.ensures (c.is_out.ensures.0 yes) in
     cells-there j d may out
 
@@ -208,12 +208,12 @@ overflow_cast-units c =
     } in
     let d : Came = done_of c.args.done in
     let may = settle-may j c.self.invariant (c.self.invariant.course c.if-self.false) in
-    let yes : c.is_out.result ≡ true = search rules in
+    let yes : c.is_out.result ≡ true = c.if-not-is_out.false in
     let out : IsOut j.regions d = subst (λ (l : List Task). IsOut (regions_of l) d) c.all.ensures (c.is_out.ensures.0 yes) in
-    let no_err : is_err c.settle.result ≡ false = search rules in
+    let no_err : is_err c.settle.result ≡ false = sym c.is_err.ensures.value ∙ c.if-is_err.false in
     let ordered : CreatesInOrder (at j.regions d.task) = ok-holds c.settle.result no_err c.settle.ensures.ordered in
     let told = c.args.done.told ∙ through expr_of (λ x. val (value_at c.args.done.lent) x) c.args.done.condition (option_map expr_of c.args.done.condition) refl in
-    let few = counts-few _ (settle-course j c.self.invariant c.if-self.false d out c.args.done.made told c.give_back.new.cells c.give_back.new.self
+    let few = counts-few _ (settle-course j c.self.invariant c.if-self.false d out c.args.done.made told c.give_back.new.cells c.give_back.new.owners
     c.give_back.ensures.stored c.give_back.ensures.lengths c.give_back.ensures.ended ordered) in
     let here = at-here c.self.inside.tasks c.args.done.task c.get.result.now (omega (arith, is-known j d may out, length-map c.self.inside.tasks region_of)) c.get.ensures in
     let small : size j.program.body ≤ 20000 = omega (arith, c.self.inside.spec.checked.program.few, c.self.inside.spec.checked.program.statements_are) in
@@ -235,12 +235,12 @@ overflow_add-units c =
     } in
     let d : Came = done_of c.args.done in
     let may = settle-may j c.self.invariant (c.self.invariant.course c.if-self.false) in
-    let yes : c.is_out.result ≡ true = search rules in
+    let yes : c.is_out.result ≡ true = c.if-not-is_out.false in
     let out : IsOut j.regions d = subst (λ (l : List Task). IsOut (regions_of l) d) c.all.ensures (c.is_out.ensures.0 yes) in
-    let no_err : is_err c.settle.result ≡ false = search rules in
+    let no_err : is_err c.settle.result ≡ false = sym c.is_err.ensures.value ∙ c.if-is_err.false in
     let ordered : CreatesInOrder (at j.regions d.task) = ok-holds c.settle.result no_err c.settle.ensures.ordered in
     let told = c.args.done.told ∙ through expr_of (λ x. val (value_at c.args.done.lent) x) c.args.done.condition (option_map expr_of c.args.done.condition) refl in
-    let few = counts-few _ (settle-course j c.self.invariant c.if-self.false d out c.args.done.made told c.give_back.new.cells c.give_back.new.self
+    let few = counts-few _ (settle-course j c.self.invariant c.if-self.false d out c.args.done.made told c.give_back.new.cells c.give_back.new.owners
     c.give_back.ensures.stored c.give_back.ensures.lengths c.give_back.ensures.ended ordered) in
     let here = at-here c.self.inside.tasks c.args.done.task c.get.result.now (omega (arith, is-known j d may out, length-map c.self.inside.tasks region_of)) c.get.ensures in
     let small : size j.program.body ≤ 20000 = omega (arith, c.self.inside.spec.checked.program.few, c.self.inside.spec.checked.program.statements_are) in
@@ -262,12 +262,12 @@ overflow_add-self c =
     } in
     let d : Came = done_of c.args.done in
     let may = settle-may j c.self.invariant (c.self.invariant.course c.if-self.false) in
-    let yes : c.is_out.result ≡ true = search rules in
+    let yes : c.is_out.result ≡ true = c.if-not-is_out.false in
     let out : IsOut j.regions d = subst (λ (l : List Task). IsOut (regions_of l) d) c.all.ensures (c.is_out.ensures.0 yes) in
-    let no_err : is_err c.settle.result ≡ false = search rules in
+    let no_err : is_err c.settle.result ≡ false = sym c.is_err.ensures.value ∙ c.if-is_err.false in
     let ordered : CreatesInOrder (at j.regions d.task) = ok-holds c.settle.result no_err c.settle.ensures.ordered in
     let told = c.args.done.told ∙ through expr_of (λ x. val (value_at c.args.done.lent) x) c.args.done.condition (option_map expr_of c.args.done.condition) refl in
-    let few = counts-few _ (settle-course j c.self.invariant c.if-self.false d out c.args.done.made told c.give_back.new.cells c.give_back.new.self
+    let few = counts-few _ (settle-course j c.self.invariant c.if-self.false d out c.args.done.made told c.give_back.new.cells c.give_back.new.owners
     c.give_back.ensures.stored c.give_back.ensures.lengths c.give_back.ensures.ended ordered) in
     let small : size j.program.body ≤ 20000 = omega (arith, c.self.inside.spec.checked.program.few, c.self.inside.spec.checked.program.statements_are) in
     let fewer : tasks_in j.program.body ≤ 20000 = omega (arith, small, tasks_in-≤-size j.program.body) in
@@ -288,12 +288,12 @@ overflow_add-self-2 c =
     } in
     let d : Came = done_of c.args.done in
     let may = settle-may j c.self.invariant (c.self.invariant.course c.if-self.false) in
-    let yes : c.is_out.result ≡ true = search rules in
+    let yes : c.is_out.result ≡ true = c.if-not-is_out.false in
     let out : IsOut j.regions d = subst (λ (l : List Task). IsOut (regions_of l) d) c.all.ensures (c.is_out.ensures.0 yes) in
-    let no_err : is_err c.settle.result ≡ false = search rules in
+    let no_err : is_err c.settle.result ≡ false = sym c.is_err.ensures.value ∙ c.if-is_err.false in
     let ordered : CreatesInOrder (at j.regions d.task) = ok-holds c.settle.result no_err c.settle.ensures.ordered in
     let told = c.args.done.told ∙ through expr_of (λ x. val (value_at c.args.done.lent) x) c.args.done.condition (option_map expr_of c.args.done.condition) refl in
-    let few = counts-few _ (settle-course j c.self.invariant c.if-self.false d out c.args.done.made told c.give_back.new.cells c.give_back.new.self
+    let few = counts-few _ (settle-course j c.self.invariant c.if-self.false d out c.args.done.made told c.give_back.new.cells c.give_back.new.owners
     c.give_back.ensures.stored c.give_back.ensures.lengths c.give_back.ensures.ended ordered) in
     let here = at-here c.self.inside.tasks c.args.done.task c.get.result.now (omega (arith, is-known j d may out, length-map c.self.inside.tasks region_of)) c.get.ensures in
     let small : size j.program.body ≤ 20000 = omega (arith, c.self.inside.spec.checked.program.few, c.self.inside.spec.checked.program.statements_are) in
@@ -315,9 +315,9 @@ invariant_of-self-2 c =
     } in
     let d : Came = done_of c.args.done in
     let may = settle-may j c.self.invariant (c.self.invariant.course c.if-self.false) in
-    let yes : c.is_out.result ≡ true = search rules in
+    let yes : c.is_out.result ≡ true = c.if-not-is_out.false in
     let out : IsOut j.regions d = subst (λ (l : List Task). IsOut (regions_of l) d) c.all.ensures (c.is_out.ensures.0 yes) in
-    let no_err : is_err c.settle.result ≡ false = search rules in
+    let no_err : is_err c.settle.result ≡ false = sym c.is_err.ensures.value ∙ c.if-is_err.false in
     let ordered : CreatesInOrder (at j.regions d.task) = ok-holds c.settle.result no_err c.settle.ensures.ordered in
     let told = c.args.done.told ∙ through expr_of (λ x. val (value_at c.args.done.lent) x) c.args.done.condition (option_map expr_of c.args.done.condition) refl in
     let here = at-here c.self.inside.tasks c.args.done.task c.get.result.now (omega (arith, is-known j d may out, length-map c.self.inside.tasks region_of)) c.get.ensures in
@@ -332,7 +332,7 @@ invariant_of-self-2 c =
       program = j.program;
       before = j.before;
       cells = c.give_back.new.cells;
-      owned = c.give_back.new.self;
+      owned = c.give_back.new.owners;
       regions = regions;
       counts = record { tasks = j.counts.tasks + tasks; units = j.counts.units + units };
       failing = j.failing;
@@ -343,7 +343,7 @@ invariant_of-self-2 c =
     ∙ ap (λ (n : ℕ). now (settled (taken_by d.answer) j.counts.units d.task j.regions) n (c.len-assigns.result + c.units_next-control.result)) created
     ∙ ap (λ (n : ℕ). now (settled (taken_by d.answer) j.counts.units d.task j.regions) (tasks_next (at j.regions d.task).rest) n) (sym more) in
     subst IsWell (sym is)
-    (settle-well j c.self.invariant c.if-self.false d out c.args.done.made told c.give_back.new.cells c.give_back.new.self
+    (settle-well j c.self.invariant c.if-self.false d out c.args.done.made told c.give_back.new.cells c.give_back.new.owners
     c.give_back.ensures.stored c.give_back.ensures.lengths c.give_back.ensures.ended ordered)
 
 pub returns-clause-settled : goal.returns-clause-settled
@@ -359,9 +359,9 @@ returns-clause-settled c =
     } in
     let d : Came = done_of c.args.done in
     let may = settle-may j c.self.invariant (c.self.invariant.course c.if-self.false) in
-    let yes : c.is_out.result ≡ true = search rules in
+    let yes : c.is_out.result ≡ true = c.if-not-is_out.false in
     let out : IsOut j.regions d = subst (λ (l : List Task). IsOut (regions_of l) d) c.all.ensures (c.is_out.ensures.0 yes) in
-    let no_err : is_err c.settle.result ≡ false = search rules in
+    let no_err : is_err c.settle.result ≡ false = sym c.is_err.ensures.value ∙ c.if-is_err.false in
     let here = at-here c.self.inside.tasks c.args.done.task c.get.result.now (omega (arith, is-known j d may out, length-map c.self.inside.tasks region_of)) c.get.ensures in
     let long : c.len-assigns.result ≡ leading_len d.assigns = grind (arith, c.len-assigns.ensures, assigns-len c.args.done.assigns.items, c.args.done.assigns.ok) in
     let control : c.units_next-control.result ≡ (if is_control (at j.regions d.task).rest then 1 else 0) = c.units_next-control.ensures.exact ∙ ap (λ (r : Region). if is_control r.rest then 1 else 0) (sym here) in
@@ -374,7 +374,7 @@ returns-clause-settled c =
       program = j.program;
       before = j.before;
       cells = c.give_back.new.cells;
-      owned = c.give_back.new.self;
+      owned = c.give_back.new.owners;
       regions = regions;
       counts = record { tasks = j.counts.tasks + tasks; units = j.counts.units + units };
       failing = j.failing;
@@ -407,14 +407,14 @@ returns-clause-lighter c =
       failing = c.self.inside.failing;
     } in
     let d : Came = done_of c.args.done in
-    let yes : c.is_out.result ≡ true = search rules in
+    let yes : c.is_out.result ≡ true = c.if-not-is_out.false in
     let out : IsOut j.regions d = subst (λ (l : List Task). IsOut (regions_of l) d) c.all.ensures (c.is_out.ensures.0 yes) in
-    let no_err : is_err c.settle.result ≡ false = search rules in
+    let no_err : is_err c.settle.result ≡ false = sym c.is_err.ensures.value ∙ c.if-is_err.false in
     let ordered : CreatesInOrder (at j.regions d.task) = ok-holds c.settle.result no_err c.settle.ensures.ordered in
     let told = c.args.done.told ∙ through expr_of (λ x. val (value_at c.args.done.lent) x) c.args.done.condition (option_map expr_of c.args.done.condition) refl in
     let ok : regions_of c.settle.new.self ≡ settled c.is_taken.result j.counts.units d.task j.regions = ok-holds c.settle.result no_err c.settle.ensures.settled in
     let regions : regions_of c.settle.new.self ≡ settled (taken_by d.answer) j.counts.units d.task j.regions = ok ∙ ap (λ (b : Bool). settled b j.counts.units d.task j.regions) c.is_taken.ensures in
-    let less = settle-lighter j c.self.invariant c.if-self.false d out c.args.done.made told c.give_back.new.cells c.give_back.new.self
+    let less = settle-lighter j c.self.invariant c.if-self.false d out c.args.done.made told c.give_back.new.cells c.give_back.new.owners
     c.give_back.ensures.stored c.give_back.ensures.lengths c.give_back.ensures.ended ordered in
     omega (arith, less, ap weight_of regions, ap (λ (l : Live). weight_of (regions_of l.tasks)) c.self.view_is)
 
@@ -431,12 +431,12 @@ returns-clause-pays c =
     } in
     let d : Came = done_of c.args.done in
     let may = settle-may j c.self.invariant (c.self.invariant.course c.if-self.false) in
-    let yes : c.is_out.result ≡ true = search rules in
+    let yes : c.is_out.result ≡ true = c.if-not-is_out.false in
     let out : IsOut j.regions d = subst (λ (l : List Task). IsOut (regions_of l) d) c.all.ensures (c.is_out.ensures.0 yes) in
-    let no_err : is_err c.settle.result ≡ false = search rules in
+    let no_err : is_err c.settle.result ≡ false = sym c.is_err.ensures.value ∙ c.if-is_err.false in
     let ordered : CreatesInOrder (at j.regions d.task) = ok-holds c.settle.result no_err c.settle.ensures.ordered in
     let told = c.args.done.told ∙ through expr_of (λ x. val (value_at c.args.done.lent) x) c.args.done.condition (option_map expr_of c.args.done.condition) refl in
-    let few = counts-few _ (settle-course j c.self.invariant c.if-self.false d out c.args.done.made told c.give_back.new.cells c.give_back.new.self
+    let few = counts-few _ (settle-course j c.self.invariant c.if-self.false d out c.args.done.made told c.give_back.new.cells c.give_back.new.owners
     c.give_back.ensures.stored c.give_back.ensures.lengths c.give_back.ensures.ended ordered) in
     let here = at-here c.self.inside.tasks c.args.done.task c.get.result.now (omega (arith, is-known j d may out, length-map c.self.inside.tasks region_of)) c.get.ensures in
     let small : size j.program.body ≤ 20000 = omega (arith, c.self.inside.spec.checked.program.few, c.self.inside.spec.checked.program.statements_are) in

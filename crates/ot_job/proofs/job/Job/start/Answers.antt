@@ -3,10 +3,10 @@ use Rattle.ot_model.specs.Cells.{lengths}
 use Rattle.ot_model.specs.Names.{NamedIn}
 use Rattle.ot_model.specs.Programs.{expanded_of}
 use Rattle.ot_job.specs.Live.{Seen}
-use Rattle.ot_job.specs.RegionView.{regions_of}
-use Rattle.ot_job.specs.States.{root_region}
+use Rattle.ot_task.specs.RegionView.{regions_of}
+use Rattle.ot_task.specs.Regions.{root_region}
 use Rattle.ot_job.proofs.StartLemmas.{starts-well, root-light}
-use Rattle.ot_job.specs.Weighing.{weight_of}
+use Rattle.ot_task.specs.Weighing.{weight_of}
 use Rattle.ot_job.proofs.DealingsLemmas.{starts-begun}
 use Rattle.ot_job.proofs.job.Job.start.Goals as goal
 

@@ -1,7 +1,7 @@
 use Rattle.std.proofs.Common.{rules, refl, sym, ap, ◌∙◌, ◌≡◌, subst, true, false, true≢false}
 use Rattle.ot_model.specs.Programs.{expanded_of}
 use Rattle.ot_job.specs.Live.{Live, Seen, seen_of}
-use Rattle.ot_job.specs.RegionView.{regions_of}
+use Rattle.ot_task.specs.RegionView.{regions_of}
 use Rattle.ot_job.specs.States.{all_ended, any_out}
 use Rattle.ot_job.proofs.StartLemmas.{ended-none-out}
 use Rattle.ot_job.proofs.DealingsLemmas.{none-out, out-none}

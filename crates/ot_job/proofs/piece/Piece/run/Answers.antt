@@ -2,8 +2,8 @@ use Rattle.std.proofs.Common.{◌∙◌, ap}
 use Rattle.ot_model.specs.View.{expr_of}
 use Rattle.ot_model.specs.Value.{val}
 use Rattle.ot_owner.specs.Lending.{value_at}
-use Rattle.ot_job.specs.Assigns.{assigns_of}
-use Rattle.ot_job.specs.Copies.{assigned}
+use Rattle.ot_task.specs.Assigns.{assigns_of}
+use Rattle.ot_task.specs.Copies.{assigned}
 use Rattle.ot_job.proofs.RunLemmas.{readable-still, through, made-of}
 use Rattle.ot_job.proofs.piece.Piece.run.Goals as goal
 

@@ -1,12 +1,11 @@
 use Rattle.std.proofs.Common.{◌≡◌, ◌∙◌, ap, subst, arith, List}
 use Rattle.ot_model.specs.Cells.{updated}
-use Rattle.ot_job.specs.Regions.{Region, stepped}
-use Rattle.ot_job.specs.RegionView.{regions_of}
+use Rattle.ot_task.specs.Regions.{Region, stepped, tasks_next}
+use Rattle.ot_task.specs.RegionView.{regions_of}
 use Rattle.ot_job.specs.Sound.{at}
-use Rattle.ot_job.specs.Settling.{tasks_next}
 use Rattle.std.specs.VecDeque.{deque_capacity}
 use Rattle.ot_job.specs.Listing.{numbers_of, AreKept}
-use Rattle.ot_job.specs.declared.task.Task.{Task}
+use Rattle.ot_task.specs.declared.task.Task.{Task}
 use Rattle.ot_job.proofs.CountingLemmas.{counted-stepped}
 use Rattle.ot_job.proofs.StepLemmas.{stepped-parent, stepped-child, stepped-children, executed-none}
 use Rattle.ot_job.proofs.KeepingLemmas.{ordered-tasks, kept-tasks, long-tasks}

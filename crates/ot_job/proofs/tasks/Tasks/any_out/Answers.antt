@@ -1,8 +1,8 @@
 use Rattle.std.proofs.Common.{◌∙◌, ap, not, List}
 use Rattle.std.specs.Prelude.{◌==◌}
-use Rattle.ot_job.specs.RegionView.{regions_of}
+use Rattle.ot_task.specs.RegionView.{regions_of}
 use Rattle.ot_job.specs.States.{any_out}
-use Rattle.ot_job.specs.declared.task.Task.{Task}
+use Rattle.ot_task.specs.declared.task.Task.{Task}
 use Rattle.ot_job.proofs.CountingLemmas.{out-any}
 use Rattle.ot_job.proofs.tasks.Tasks.any_out.Goals as goal
 

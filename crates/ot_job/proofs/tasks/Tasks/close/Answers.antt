@@ -1,11 +1,10 @@
 use Rattle.std.proofs.Common.{◌∙◌, ap, arith, refl, List, length}
 use Rattle.std.proofs.lemmas.List.{length-map}
 use Rattle.ot_model.proofs.CellsLemmas.{length-updated}
-use Rattle.ot_job.specs.Regions.{Region}
-use Rattle.ot_job.specs.RegionView.{region_of, regions_of}
+use Rattle.ot_task.specs.Regions.{Region, without}
+use Rattle.ot_task.specs.RegionView.{region_of, regions_of}
 use Rattle.ot_job.specs.Sound.{at, parent_of}
-use Rattle.ot_job.specs.Settling.{without}
-use Rattle.ot_job.specs.declared.task.Task.{Task}
+use Rattle.ot_task.specs.declared.task.Task.{Task}
 use Rattle.ot_job.proofs.ClaimableLemmas.{field-kept}
 use Rattle.ot_job.proofs.tasks.Tasks.close.Goals.{then-i-gt0, else-i-gt0}
 use Rattle.ot_job.proofs.tasks.Tasks.close.Goals as goal

@@ -1,13 +1,12 @@
 use Rattle.std.proofs.Common.{◌≡◌, ◌<◌, ◌+◌, ◌∙◌, ap, sym, subst, arith, ℕ, List, [], ◌∷◌, ◌++◌, map, set, length}
 use Rattle.std.proofs.lemmas.List.{length-map, map-append}
 use Rattle.ot_model.specs.Cells.{updated}
-use Rattle.ot_job.specs.Regions.{Region, executed}
-use Rattle.ot_job.specs.RegionView.{region_of, regions_of}
+use Rattle.ot_task.specs.Regions.{Region, executed, tasks_next}
+use Rattle.ot_task.specs.RegionView.{region_of, regions_of}
 use Rattle.ot_job.specs.Sound.{at}
-use Rattle.ot_job.specs.Settling.{tasks_next}
 use Rattle.std.specs.VecDeque.{deque_capacity}
 use Rattle.ot_job.specs.Listing.{IsListBelow, TellsOf, numbers_of, AreKept}
-use Rattle.ot_job.specs.declared.task.Task.{Task}
+use Rattle.ot_task.specs.declared.task.Task.{Task}
 use Rattle.ot_job.proofs.ViewLemmas.{map-kept, map-changed}
 use Rattle.ot_job.proofs.KeepingLemmas.{kept-roomy, tasks-created}
 use Rattle.ot_job.proofs.tasks.Tasks.create.Goals as goal
@@ -15,24 +14,24 @@ use Rattle.ot_job.proofs.tasks.Tasks.create.Goals as goal
 pub invariant_of-self : goal.invariant_of-self
 invariant_of-self c =
     let lists = c.self.inside.children.items in
-    let n0 : numbers_of (set lists c.args.i c.make_room.new.items) ≡ numbers_of lists =
-    map-kept (λ v. v.items) lists c.args.i c.index_mut.result.now c.make_room.new.items c.index_mut.ensures.value c.make_room.ensures.same in
+    let n0 : numbers_of (set lists c.args.i c.reserve.new.self) ≡ numbers_of lists =
+    map-kept (λ v. v.items) lists c.args.i c.index_mut.result.now c.reserve.new.self c.index_mut.ensures.value c.reserve.ensures.items in
     subst (λ (ns : List (List ℕ)). AreKept (regions_of c.self.inside.tasks.items) ns c.self.inside.claimable.items (deque_capacity c.self.inside.claimable) c.self.inside.out c.self.inside.unended) (sym n0) c.self.invariant
 
-pub invariant_of-self-in_err-make_room-2 : goal.invariant_of-self-in_err-make_room-2
-invariant_of-self-in_err-make_room-2 c =
+pub invariant_of-self-in_err-reserve-2 : goal.invariant_of-self-in_err-reserve-2
+invariant_of-self-in_err-reserve-2 c =
     let lists = c.self.inside.children.items in
-    let n0 : numbers_of (set lists c.args.i c.make_room.new.items) ≡ numbers_of lists =
-    map-kept (λ v. v.items) lists c.args.i c.index_mut.result.now c.make_room.new.items c.index_mut.ensures.value c.make_room.ensures.same in
-    let n1 : numbers_of c.make_room-2.new.items.items ≡ numbers_of lists = ap numbers_of c.make_room-2.ensures.same ∙ n0 in
+    let n0 : numbers_of (set lists c.args.i c.reserve.new.self) ≡ numbers_of lists =
+    map-kept (λ v. v.items) lists c.args.i c.index_mut.result.now c.reserve.new.self c.index_mut.ensures.value c.reserve.ensures.items in
+    let n1 : numbers_of c.reserve-2.new.self.items ≡ numbers_of lists = ap numbers_of c.reserve-2.ensures.items ∙ n0 in
     subst (λ (ns : List (List ℕ)). AreKept (regions_of c.self.inside.tasks.items) ns c.self.inside.claimable.items (deque_capacity c.self.inside.claimable) c.self.inside.out c.self.inside.unended) (sym n1) c.self.invariant
 
 pub invariant_of-self-in_err-make_room_for : goal.invariant_of-self-in_err-make_room_for
 invariant_of-self-in_err-make_room_for c =
     let lists = c.self.inside.children.items in
-    let n0 : numbers_of (set lists c.args.i c.make_room.new.items) ≡ numbers_of lists =
-    map-kept (λ v. v.items) lists c.args.i c.index_mut.result.now c.make_room.new.items c.index_mut.ensures.value c.make_room.ensures.same in
-    let n1 : numbers_of c.make_room-2.new.items.items ≡ numbers_of lists = ap numbers_of c.make_room-2.ensures.same ∙ n0 in
+    let n0 : numbers_of (set lists c.args.i c.reserve.new.self) ≡ numbers_of lists =
+    map-kept (λ v. v.items) lists c.args.i c.index_mut.result.now c.reserve.new.self c.index_mut.ensures.value c.reserve.ensures.items in
+    let n1 : numbers_of c.reserve-2.new.self.items ≡ numbers_of lists = ap numbers_of c.reserve-2.ensures.items ∙ n0 in
     let rs = regions_of c.self.inside.tasks.items in
     let roomy = kept-roomy rs (numbers_of lists) c.self.inside.claimable.items (deque_capacity c.self.inside.claimable) (deque_capacity c.make_room_for.new.items) _ _ c.self.invariant c.make_room_for.ensures.kept in
     let kept = subst (λ (ns : List (List ℕ)). AreKept rs ns c.make_room_for.new.items.items (deque_capacity c.make_room_for.new.items) c.self.inside.out c.self.inside.unended) (sym n1)
@@ -42,14 +41,14 @@ invariant_of-self-in_err-make_room_for c =
 pub invariant_of-self-in_err-execute : goal.invariant_of-self-in_err-execute
 invariant_of-self-in_err-execute c =
     let lists = c.self.inside.children.items in
-    let n0 : numbers_of (set lists c.args.i c.make_room.new.items) ≡ numbers_of lists =
-    map-kept (λ v. v.items) lists c.args.i c.index_mut.result.now c.make_room.new.items c.index_mut.ensures.value c.make_room.ensures.same in
-    let n1 : numbers_of c.make_room-2.new.items.items ≡ numbers_of lists = ap numbers_of c.make_room-2.ensures.same ∙ n0 in
+    let n0 : numbers_of (set lists c.args.i c.reserve.new.self) ≡ numbers_of lists =
+    map-kept (λ v. v.items) lists c.args.i c.index_mut.result.now c.reserve.new.self c.index_mut.ensures.value c.reserve.ensures.items in
+    let n1 : numbers_of c.reserve-2.new.self.items ≡ numbers_of lists = ap numbers_of c.reserve-2.ensures.items ∙ n0 in
     let rs = regions_of c.self.inside.tasks.items in
     let roomy = kept-roomy rs (numbers_of lists) c.self.inside.claimable.items (deque_capacity c.self.inside.claimable) (deque_capacity c.make_room_for.new.items) _ _ c.self.invariant c.make_room_for.ensures.kept in
     let kept = subst (λ (ns : List (List ℕ)). AreKept rs ns c.make_room_for.new.items.items (deque_capacity c.make_room_for.new.items) c.self.inside.out c.self.inside.unended) (sym n1)
     (subst (λ (l : List ℕ). AreKept rs (numbers_of lists) l (deque_capacity c.make_room_for.new.items) c.self.inside.out c.self.inside.unended) (sym c.make_room_for.ensures.same) roomy) in
-    subst (λ (l : List Region). AreKept l (numbers_of c.make_room-2.new.items.items) c.make_room_for.new.items.items (deque_capacity c.make_room_for.new.items) c.self.inside.out c.self.inside.unended) (sym c.in_err-execute.ensures.refused) kept
+    subst (λ (l : List Region). AreKept l (numbers_of c.reserve-2.new.self.items) c.make_room_for.new.items.items (deque_capacity c.make_room_for.new.items) c.self.inside.out c.self.inside.unended) (sym c.in_err-execute.ensures.refused) kept
 
 pub refresh-requires-clause-ordered : goal.refresh-requires-clause-ordered
 refresh-requires-clause-ordered c =
@@ -101,9 +100,9 @@ refresh-requires-2-clause-room c =
 pub invariant_of-self-2 : goal.invariant_of-self-2
 invariant_of-self-2 c =
     let lists = c.self.inside.children.items in
-    let n0 : numbers_of (set lists c.args.i c.make_room.new.items) ≡ numbers_of lists =
-    map-kept (λ v. v.items) lists c.args.i c.index_mut.result.now c.make_room.new.items c.index_mut.ensures.value c.make_room.ensures.same in
-    let n1 : numbers_of c.make_room-2.new.items.items ≡ numbers_of lists = ap numbers_of c.make_room-2.ensures.same ∙ n0 in
+    let n0 : numbers_of (set lists c.args.i c.reserve.new.self) ≡ numbers_of lists =
+    map-kept (λ v. v.items) lists c.args.i c.index_mut.result.now c.reserve.new.self c.index_mut.ensures.value c.reserve.ensures.items in
+    let n1 : numbers_of c.reserve-2.new.self.items ≡ numbers_of lists = ap numbers_of c.reserve-2.ensures.items ∙ n0 in
     let tasks = c.self.inside.tasks.items in
     let rs = regions_of tasks in
     let i = c.args.i in
@@ -115,15 +114,15 @@ invariant_of-self-2 c =
     let same : c.deref-2.result.now ≡ c.deref.result.now = c.deref-2.ensures.value ∙ sym c.deref.ensures.value in
     let list1 = c.refresh.new.list.items in
     let list2 = c.refresh-2.new.list.items in
-    let numbers2 : numbers_of c.put-2.new.items.items ≡ updated (numbers_of lists) i (λ l. l ++ length rs ∷ []) ++ [] ∷ [] =
-    ap numbers_of c.put-2.ensures.put ∙ map-append (λ v. v.items) (set c.make_room-2.new.items.items i c.put.new.items) (c.new.result ∷ [])
-    ∙ ap (λ l. map (λ v. v.items) (set c.make_room-2.new.items.items i c.put.new.items) ++ l ∷ []) c.new.ensures.items
-    ∙ ap (λ ns. ns ++ [] ∷ []) (map-changed (λ v. v.items) c.make_room-2.new.items.items i c.index_mut-2.result.now c.put.new.items (λ l. l ++ c.len-number.result ∷ []) c.index_mut-2.ensures.value c.put.ensures.put
+    let numbers2 : numbers_of c.push_reserved-2.new.self.items ≡ updated (numbers_of lists) i (λ l. l ++ length rs ∷ []) ++ [] ∷ [] =
+    ap numbers_of c.push_reserved-2.ensures.items ∙ map-append (λ v. v.items) (set c.reserve-2.new.self.items i c.push_reserved.new.self) (c.new.result ∷ [])
+    ∙ ap (λ l. map (λ v. v.items) (set c.reserve-2.new.self.items i c.push_reserved.new.self) ++ l ∷ []) c.new.ensures.items
+    ∙ ap (λ ns. ns ++ [] ∷ []) (map-changed (λ v. v.items) c.reserve-2.new.self.items i c.index_mut-2.result.now c.push_reserved.new.self (λ l. l ++ c.len-number.result ∷ []) c.index_mut-2.ensures.value c.push_reserved.ensures.items
     ∙ ap (λ ns. updated ns i (λ l. l ++ c.len-number.result ∷ [])) n1 ∙ ap (λ n. updated (numbers_of lists) i (λ l. l ++ n ∷ [])) number) in
     let first = subst (λ (l : List ℕ). (j : ℕ) → TellsOf (regions_of c.deref.result.now) l j → TellsOf (regions_of c.deref.result.now) list1 j) c.make_room_for.ensures.same c.refresh.ensures.others in
-    let kept = all.2 list1 list2 (numbers_of c.put-2.new.items.items) (deque_capacity c.refresh-2.new.list) numbers2
+    let kept = all.2 list1 list2 (numbers_of c.push_reserved-2.new.self.items) (deque_capacity c.refresh-2.new.list) numbers2
     (subst (λ (l : List Task). IsListBelow (length l) list2) same c.refresh-2.ensures.ordered) c.refresh.ensures.told
     (subst (λ n. TellsOf (regions_of c.deref.result.now) list2 n) number (subst (λ (l : List Task). TellsOf (regions_of l) list2 c.len-number.result) same c.refresh-2.ensures.told)) first
     (subst (λ (l : List Task). (j : ℕ) → TellsOf (regions_of l) list1 j → TellsOf (regions_of l) list2 j) same c.refresh-2.ensures.others)
     (omega (arith, number, c.in_ok-make_room_for.ensures.room, c.refresh.ensures.room, c.refresh-2.ensures.room)) in
-    subst (λ (l : List Task). AreKept (regions_of l) (numbers_of c.put-2.new.items.items) list2 (deque_capacity c.refresh-2.new.list) c.self.inside.out (c.self.inside.unended + 1)) c.deref.ensures.value kept
+    subst (λ (l : List Task). AreKept (regions_of l) (numbers_of c.push_reserved-2.new.self.items) list2 (deque_capacity c.refresh-2.new.list) c.self.inside.out (c.self.inside.unended + 1)) c.deref.ensures.value kept

@@ -2,11 +2,12 @@ use Rattle.std.proofs.Common.{rules, ◌≡◌, ◌<◌, ◌∙◌, ap, sym, ari
 use Rattle.std.specs.Prelude.{is_some, if◌then◌else◌}
 use Rattle.std.proofs.lemmas.List.{length-map}
 use Rattle.ot_model.specs.Cells.{updated}
-use Rattle.ot_job.specs.Regions.{Region, executed}
-use Rattle.ot_job.specs.RegionView.{region_of, regions_of}
+use Rattle.ot_task.specs.Regions.{Region, executed, tasks_next, stopped}
+use Rattle.ot_task.specs.RegionView.{region_of, regions_of}
 use Rattle.ot_job.specs.Sound.{at}
-use Rattle.ot_job.specs.Settling.{tasks_next, is_at_end, closed, moved_on, stopped}
-use Rattle.ot_job.specs.declared.task.Task.{Task}
+use Rattle.ot_task.specs.Standing.{is_at_end}
+use Rattle.ot_job.specs.Settling.{closed, moved_on}
+use Rattle.ot_task.specs.declared.task.Task.{Task}
 use Rattle.ot_job.proofs.PickLemmas.{at-here}
 use Rattle.ot_job.proofs.SettleLemmas.{none-next}
 use Rattle.ot_job.proofs.StepLemmas.{moved-running, moved-length}

@@ -2,14 +2,14 @@ use Rattle.std.proofs.Common.{◌≡◌, ◌<◌, ◌∙◌, ap, subst, arith, r
 use Rattle.std.specs.Prelude.{is_some}
 use Rattle.std.proofs.lemmas.List.{length-map}
 use Rattle.ot_model.specs.Cells.{updated}
-use Rattle.ot_job.specs.RegionView.{region_of, regions_of}
+use Rattle.ot_task.specs.RegionView.{region_of, regions_of}
 use Rattle.ot_job.specs.Sound.{at}
-use Rattle.ot_job.specs.declared.task.Task.{Task}
+use Rattle.ot_task.specs.declared.task.Task.{Task}
 use Rattle.std.specs.VecDeque.{deque_capacity}
 use Rattle.ot_job.specs.Listing.{numbers_of, AreKept}
 use Rattle.ot_job.proofs.ViewLemmas.{map-changed}
 use Rattle.ot_job.proofs.KeepingLemmas.{ordered-tasks, kept-tasks}
-use Rattle.ot_job.specs.Settling.{stopped}
+use Rattle.ot_task.specs.Regions.{stopped}
 use Rattle.ot_job.proofs.CountingLemmas.{one-is-out, counted-stopped}
 use Rattle.ot_job.proofs.tasks.Tasks.stop.Goals as goal
 

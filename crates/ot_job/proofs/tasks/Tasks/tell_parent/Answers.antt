@@ -6,13 +6,12 @@ use Rattle.ot_model.proofs.CellsLemmas.{length-updated}
 use Rattle.ot_depend.specs.Siblings.{IsReady, IsUnfinished, with_finished}
 use Rattle.ot_depend.specs.Kept.{has}
 use Rattle.ot_depend.specs.Waiting.{LetsTheSame}
-use Rattle.ot_job.specs.Regions.{Region}
-use Rattle.ot_job.specs.RegionView.{region_of, regions_of}
+use Rattle.ot_task.specs.Regions.{Region, without}
+use Rattle.ot_task.specs.RegionView.{region_of, regions_of}
 use Rattle.ot_job.specs.Sound.{at, parent_of}
-use Rattle.ot_job.specs.Settling.{without}
 use Rattle.std.specs.VecDeque.{deque_capacity}
 use Rattle.ot_job.specs.Listing.{IsListBelow, TellsOf, numbers_of, AreKept}
-use Rattle.ot_job.specs.declared.task.Task.{Task}
+use Rattle.ot_task.specs.declared.task.Task.{Task}
 use Rattle.ot_job.proofs.PickLemmas.{at-here}
 use Rattle.ot_job.proofs.ViewLemmas.{map-changed}
 use Rattle.ot_job.proofs.KeepingLemmas.{list-ordered, all-known, kept-told-tasks}

@@ -1,0 +1,121 @@
+-- Assignments on lent copies, step by step.
+use Rattle.std.proofs.Common.{◌≡◌, ◌≢◌, ◌<◌, ◌+◌, ◌%◌, ◌^◌, ℕ, zero, suc, Bool, true, false, List, [], ◌∷◌, ◌++◌, length, get_or, refl, sym, ap, subst, ◌∙◌, arith}
+use Rattle.std.specs.Prelude.{Some, IsSome, slice_get, option_map, if◌then◌else◌}
+use Rattle.std.proofs.lemmas.Option.{same_Some}
+use Rattle.ot_model.specs.Tree.{E, Literal, CellAt, Apply, PickFrom, S, Set, Add, If, Task, Wait, Group, Body, End, Next, append}
+use Rattle.ot_model.specs.Value.{val, HasAll}
+use Rattle.ot_model.specs.declared.expr.Cell.{Cell}
+use Rattle.ot_model.specs.declared.stmt.Use.{Use}
+use Rattle.ot_model.specs.Cells.{same_cell}
+use Rattle.ot_check.proofs.ApartLemmas.{value-same, read-weaker}
+use Rattle.ot_owner.specs.Lending.{value_at, MayChange, uses_of, use_of}
+use Rattle.ot_owner.specs.Leases.{Lease, lease_of}
+use Rattle.ot_owner.specs.declared.lent.LentCell.{LentCell}
+use Rattle.ot_task.specs.Copies.{Look, with_copy, assigned}
+use Rattle.ot_check.specs.Touches.{EachRead}
+use Rattle.ot_check.proofs.SameLemmas.{same_is}
+use Rattle.ot_task.proofs.CellLemmas.{same_self}
+use Rattle.ot_task.specs.Assigns.{CanAssign, assign_of, assigns_of}
+use Rattle.ot_task.specs.declared.assign.Assign.{Assign}
+use Rattle.ot_task.specs.declared.assign.Assign.TheVariants as v
+
+pub read-all : (P : Cell → Type 0) → ((c : Cell) → P c) → (e : E) → EachRead P e
+read-all P h e = read-weaker (λ c. Unit {0}) P e (λ c u. h c) (units e)
+  where
+    units : (e : E) → EachRead (λ c. Unit {0}) e
+    units (Literal n) = tt
+    units (CellAt c) = tt
+    units (Apply o a b) = (units a, units b)
+    units (PickFrom s e) = (λ k. tt, units e)
+
+-- looks that are the same at each cell
+pub assigned-same : (b : Body) (look other : Look) → ((c : Cell) → look c ≡ other c) → (c : Cell) → assigned b look c ≡ assigned b other c
+assigned-same End look other same c = same c
+assigned-same (Next (Set d e) rest) look other same c =
+    let v = value-same look other e (read-all (λ x. look x ≡ other x) same e) in
+    assigned-same rest (with_copy look d (λ _. val look e)) (with_copy other d (λ _. val other e))
+    (λ x. ap (λ n. with_copy look d (λ _. n) x) v ∙ ap (λ o. if same_cell d x then option_map (λ _. val other e) o else o) (same x)) c
+assigned-same (Next (Add d e) rest) look other same c =
+    let v = value-same look other e (read-all (λ x. look x ≡ other x) same e) in
+    assigned-same rest (with_copy look d (λ n. (n + val look e) % 2 ^ 64)) (with_copy other d (λ n. (n + val other e) % 2 ^ 64))
+    (λ x. ap (λ w. with_copy look d (λ n. (n + w) % 2 ^ 64) x) v ∙ ap (λ o. if same_cell d x then option_map (λ n. (n + val other e) % 2 ^ 64) o else o) (same x)) c
+assigned-same (Next (If e a b) rest) look other same c = same c
+assigned-same (Next (Task d b) rest) look other same c = same c
+assigned-same (Next Wait rest) look other same c = same c
+assigned-same (Next (Group cs b) rest) look other same c = same c
+
+-- a copy is set to f of its value, and no other copy changes
+pub copy-set : (look now : Look) (c : Cell) (m n : ℕ) (f : ℕ → ℕ) → look c ≡ Some m → n ≡ f m → now c ≡ Some n → ((d : Cell) → c ≢ d → now d ≡ look d)
+    → (d : Cell) → now d ≡ with_copy look c f d
+copy-set look now c m n f was is found others d = at (same_cell c d) refl
+  where
+    at : (b : Bool) → same_cell c d ≡ b → now d ≡ (if same_cell c d then option_map f (look d) else look d)
+    at true e = rw e (subst (λ x. now x ≡ option_map f (look x)) (same_is c d e) (found ∙ ap Some is ∙ sym (ap (option_map f) was)))
+    at false e = rw e (others d (λ same. none (sym (same_self c d same) ∙ e)))
+      where
+        none : true ≡ false → ⊥
+        none h = cc
+
+pub all-kept : (look now : Look) (e : E) → ((c : Cell) → IsSome (look c) → IsSome (now c)) → HasAll look e → HasAll now e
+all-kept look now (Literal n) kept h = tt
+all-kept look now (CellAt c) kept h = kept c h
+all-kept look now (Apply o a b) kept h = (all-kept look now a kept h.0, all-kept look now b kept h.1)
+all-kept look now (PickFrom s e) kept h = (h.0, h.1, (λ k l. kept _ (h.2 k l)), all-kept look now e kept h.3)
+
+-- what may be changed is told by the uses
+pub change-kept : (lent now : List LentCell) (c : Cell) → lease_of now ≡ lease_of lent → MayChange lent c → MayChange now c
+change-kept lent now c same (k, l, within, is, both) = found now k (ap (λ (x : Lease). x.uses) same) within is
+  where
+    uses-at : (xs : List LentCell) (k : ℕ) (l : LentCell) → k < length xs → get_or xs k l ≡ l → slice_get (uses_of xs) k ≡ Some (use_of l)
+    uses-at [] k l w e = absurd (omega (arith, w))
+    uses-at (x ∷ xs) zero l w e = ap (λ (y : LentCell). Some (use_of y)) e
+    uses-at (x ∷ xs) (suc k) l w e = uses-at xs k l (omega (arith, w)) e
+
+    any-at : (xs : List LentCell) (k : ℕ) → slice_get (uses_of xs) k ≡ Some (use_of l) → MayChange xs c
+    any-at [] k e = cc
+    any-at (x ∷ xs) zero e =
+        let one : use_of x ≡ use_of l = same_Some (use_of x) (use_of l) e in
+        (0, x, omega arith, refl, (ap (λ (u : Use). u.cell) one ∙ both.0, λ r. both.1 (sym (ap (λ (u : Use). u.mode) one) ∙ r)))
+    any-at (x ∷ xs) (suc k) e = let g = any-at xs k e in (suc g.0, g.1, omega (arith, g.2), g.3, g.4)
+
+    found : (now : List LentCell) (k : ℕ) → uses_of now ≡ uses_of lent → k < length lent → get_or lent k l ≡ l → MayChange now c
+    found now k e w i = any-at now k (ap (λ us. slice_get us k) e ∙ uses-at lent k l w i)
+
+pub can-kept : (b : Body) (lent now : List LentCell) → lease_of now ≡ lease_of lent → ((c : Cell) → IsSome (value_at lent c) → IsSome (value_at now c)) → CanAssign b lent → CanAssign b now
+can-kept (Next (Set c e) rest) lent now same kept h = (all-kept (value_at lent) (value_at now) e kept h.0, change-kept lent now c same h.1, can-kept rest lent now same kept h.2)
+can-kept (Next (Add c e) rest) lent now same kept h = (all-kept (value_at lent) (value_at now) e kept h.0, change-kept lent now c same h.1, can-kept rest lent now same kept h.2)
+can-kept End lent now same kept h = tt
+can-kept (Next (If e a b) rest) lent now same kept h = tt
+can-kept (Next (Task d b) rest) lent now same kept h = tt
+can-kept (Next Wait rest) lent now same kept h = tt
+can-kept (Next (Group cs b) rest) lent now same kept h = tt
+
+abbrev pub IsAssign : S → Type 0
+IsAssign (Set c e) = Unit {0}
+IsAssign (Add c e) = Unit {0}
+IsAssign x = ⊥
+
+-- the first statement, and then the rest
+pub assigned-first : (x : S) (rest : Body) (look now : Look) → ((c : Cell) → now c ≡ assigned (Next x End) look c) → (c : Cell) → IsAssign x → assigned rest now c ≡ assigned (Next x rest) look c
+assigned-first (Set d e) rest look now made c is = assigned-same rest now (with_copy look d (λ _. val look e)) made c
+assigned-first (Add d e) rest look now made c is = assigned-same rest now (with_copy look d (λ n. (n + val look e) % 2 ^ 64)) made c
+assigned-first (If e a b) rest look now made c is = absurd is
+assigned-first (Task d b) rest look now made c is = absurd is
+assigned-first Wait rest look now made c is = absurd is
+assigned-first (Group cs b) rest look now made c is = absurd is
+
+pub can-rest : (x : S) (rest : Body) (lent : List LentCell) → IsAssign x → CanAssign (Next x rest) lent → CanAssign rest lent
+can-rest (Set d e) rest lent is h = h.2
+can-rest (Add d e) rest lent is h = h.2
+can-rest (If e a b) rest lent is h = absurd is
+can-rest (Task d b) rest lent is h = absurd is
+can-rest Wait rest lent is h = absurd is
+can-rest (Group cs b) rest lent is h = absurd is
+
+pub is_assign : (a : Assign) → IsAssign (assign_of a)
+is_assign (v.Set c e) = tt
+is_assign (v.Add c e) = tt
+
+pub assigns-push : (ms : List Assign) (a : Assign) (b : Body) → append (assigns_of (ms ++ a ∷ [])) b ≡ append (assigns_of ms) (Next (assign_of a) b)
+assigns-push [] a b = refl
+assigns-push (m ∷ ms) a b = ap (Next (assign_of m)) (assigns-push ms a b)

@@ -1,0 +1,22 @@
+use Rattle.std.proofs.Common.{arith, ◌≡◌, ◌∙◌, [], sym, ap, drop}
+use Rattle.std.specs.Prelude.{List, option_map}
+use Rattle.std.specs.List.{fold}
+use Rattle.std.proofs.lemmas.List.{drop_all}
+use Rattle.std.proofs.lemmas.List.Sums.{fold-append}
+use Rattle.ot_model.specs.View.{expr_of}
+use Rattle.ot_task.specs.Assigns.{assigns_of}
+use Rattle.ot_task.specs.declared.assign.Assign.{Assign}
+use Rattle.ot_model.specs.Uses.{mode_in}
+use Rattle.ot_task.specs.Touched.{held_at, noted, assign_touches, test_touches}
+use Rattle.ot_task.proofs.TouchedLemmas.{mode-in}
+use Rattle.ot_task.proofs.touched.touched.Goals as goal
+
+pub returns-clause-exact : goal.returns-clause-exact
+returns-clause-exact c = λ cell.
+    let f = noted (option_map (λ o. o.now) c.args.own) cell in
+    let more = test_touches (option_map (λ e. expr_of e.now) c.args.condition) in
+    let none : drop c.loop-assign.assign-index c.args.assigns.now ≡ [] = drop_all c.loop-assign.assign-index c.args.assigns.now (omega (arith, c.loop-assign-test.false)) in
+    ap (λ us. mode_in us cell) (c.new.ensures ∙ c.in_ok-uses_of.ensures.uses)
+    ∙ mode-in c.note_test.new.held.entries cell ∙ c.in_ok-note_test.ensures cell
+    ∙ ap (λ o. fold f o more) (ap (λ (xs : List Assign). fold f (held_at c.loop-assign.held.entries cell) (assign_touches (assigns_of xs))) (sym none) ∙ c.loop-assign.invariant.0 cell)
+    ∙ sym (fold-append f _ (assign_touches (assigns_of c.args.assigns.now)) more)

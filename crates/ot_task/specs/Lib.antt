@@ -1,0 +1,11 @@
+pub mod Place
+pub mod Copies
+pub mod Standing
+pub mod PlaceView
+pub mod Regions
+pub mod RegionView
+pub mod Assigns
+pub mod Pieces
+pub mod Touched
+pub mod Waits
+pub mod Weighing

@@ -1,0 +1,51 @@
+-- What a piece is taken from, and what is left behind it.
+use Rattle.std.specs.Prelude.{◌≡◌, ℕ, ◌+◌, false, List, ◌∷◌, Option, Some, None}
+use Rattle.ot_model.specs.Tree.{E, Set, Add, If, Body, End, Next}
+use Rattle.ot_task.specs.Place.{Open}
+use Rattle.ot_owner.specs.Leases.{Lease, lease_of}
+use Rattle.ot_owner.specs.declared.lent.LentCell.{LentCell}
+use Rattle.ot_task.specs.Standing.{Standing}
+use Rattle.ot_task.specs.Regions.{Region}
+
+-- the sets and adds that come first
+abbrev pub leading : Body → Body
+leading (Next (Set c e) rest) = Next (Set c e) (leading rest)
+leading (Next (Add c e) rest) = Next (Add c e) (leading rest)
+leading b = End
+
+-- what stands behind them
+abbrev pub behind : Body → Body
+behind (Next (Set c e) rest) = behind rest
+behind (Next (Add c e) rest) = behind rest
+behind b = b
+
+-- how many they are
+abbrev pub leading_len : Body → ℕ
+leading_len (Next (Set c e) rest) = 1 + leading_len rest
+leading_len (Next (Add c e) rest) = 1 + leading_len rest
+leading_len b = 0
+
+-- the condition of an `if` that comes next
+abbrev pub test_of : Body → Option E
+test_of (Next (If e a b) rest) = Some e
+test_of b = None
+
+-- behind the end of the innermost open group, where that end is reached
+abbrev pub passed : Body → List Open → Standing
+passed End (o ∷ os) = record { rest = o.behind; groups = os }
+passed rest os = record { rest = rest; groups = os }
+
+abbrev pub passed_end : Standing → Standing
+passed_end s = passed s.rest s.groups
+
+-- the region as its task goes on
+abbrev pub awake : Region → Region
+awake r = let s = passed r.rest r.groups in record r { rest = s.rest; groups = s.groups; waiting = false }
+
+-- the region once a piece of it is out, which holds this
+abbrev pub begun : Lease → Region → Region
+begun lease r = let s = awake r in record s { rest = behind s.rest; running = Some (record { assigns = leading s.rest; lease = lease }) }
+
+-- the region runs these assigns with this condition on these inputs
+abbrev pub Runs : Region → Body → Option E → List LentCell → Type 0
+Runs r assigns test lent = (r.running ≡ Some (record { assigns = assigns; lease = lease_of lent })) × (test ≡ test_of r.rest)

@@ -1,0 +1,106 @@
+-- Task regions, and what the execution of a control statement makes of them.
+use Rattle.std.specs.Prelude.{ℕ, zero, suc, ◌++◌, Bool, true, false, if◌then◌else◌, List, [], ◌∷◌, map, length, Option, Some, None}
+use Rattle.ot_model.specs.Tree.{If, Task, Wait, Group, Body, End, Next, append}
+use Rattle.ot_model.specs.Cells.{updated}
+use Rattle.ot_model.specs.declared.stmt.Use.{Use}
+use Rattle.ot_model.specs.declared.expr.Cell.{Cell}
+use Rattle.ot_depend.specs.Siblings.{Sibling, created, with_finished}
+use Rattle.ot_check.specs.Offences.{Declared}
+use Rattle.ot_task.specs.Place.{Open}
+use Rattle.ot_owner.specs.Leases.{Lease}
+
+-- a piece that is out: its assigns, and what it holds
+pub record Run : Type 0 where
+  pub assigns : Body
+  pub lease : Lease
+
+-- a task region (OpenMP API 5.2, section 12.5): its parent, and its number among the parent's children; what it declares;
+-- what is left in the innermost open group's body, and the open groups, the innermost first; its children; whether it
+-- stands at a wait that it has executed; whether its body has ended
+pub record Region : Type 0 where
+  pub parent : ℕ
+  pub child : ℕ
+  pub own : Declared
+  pub rest : Body
+  pub groups : List Open
+  pub children : List Sibling
+  pub waiting : Bool
+  pub ended : Bool
+  pub running : Option Run
+
+-- the root task at the beginning of the program's body
+abbrev pub root_region : Body → Region
+root_region body = record { parent = 0; child = 0; own = None; rest = body; groups = []; children = []; waiting = false; ended = false; running = None }
+
+-- a child as it is created
+abbrev pub new_region : ℕ → ℕ → List Use → Body → Region
+new_region parent child uses body =
+    record { parent = parent; child = child; own = Some uses; rest = body; groups = []; children = []; waiting = false; ended = false; running = None }
+
+-- with a child more, created in the open groups
+abbrev pub with_child : List Use → Region → Region
+with_child uses r = record r { children = r.children ++ created uses (map (λ o. o.group) r.groups) ∷ [] }
+
+-- inside a group
+abbrev pub inside : ℕ → List Cell → Body → Region → Region
+inside g cells body r = record r { rest = body; groups = record { group = g; cells = cells; behind = r.rest } ∷ r.groups }
+
+-- no piece of it is out
+abbrev pub stopped : Region → Region
+stopped r = record r { running = None }
+
+abbrev pub over : Region → Region
+over r = record r { ended = true }
+
+abbrev pub without : ℕ → Region → Region
+without child r = record r { children = with_finished r.children child }
+
+-- what is left of it
+abbrev pub with_rest : Body → Region → Region
+with_rest rest r = record r { rest = rest }
+
+abbrev pub rest_at : List Region → ℕ → Body
+rest_at [] i = End
+rest_at (r ∷ rs) zero = r.rest
+rest_at (r ∷ rs) (suc i) = rest_at rs i
+
+abbrev pub children_at : List Region → ℕ → ℕ
+children_at [] i = 0
+children_at (r ∷ rs) zero = length r.children
+children_at (r ∷ rs) (suc i) = children_at rs i
+
+-- The region once it has executed the control statement that comes next: an `if` whose condition holds or not, a group under
+-- this number, a wait, a task, which is created beside it
+abbrev pub stepped_from : Bool → ℕ → Body → Region → Region
+stepped_from taken g (Next Wait rest) r = record r { rest = rest; waiting = true }
+stepped_from taken g (Next (If e a b) rest) r = with_rest (append (if taken then a else b) rest) r
+stepped_from taken g (Next (Group cs b) rest) r = inside g cs b (with_rest rest r)
+stepped_from taken g (Next (Task d b) rest) r = with_rest rest r
+stepped_from taken g rest r = r
+
+abbrev pub stepped : Bool → ℕ → Region → Region
+stepped taken g r = stepped_from taken g r.rest r
+
+-- the task that comes next
+abbrev pub next_task : Body → Option (List Use × Body)
+next_task (Next (Task d b) rest) = Some (d, b)
+next_task rest = None
+
+-- whether a control statement comes next
+abbrev pub is_control : Body → Bool
+is_control End = false
+is_control (Next x rest) = true
+
+-- how many tasks the statement that comes next creates
+abbrev pub tasks_next : Body → ℕ
+tasks_next (Next (Task d b) rest) = 1
+tasks_next rest = 0
+
+-- with a task created that is to be, as a child of task i
+abbrev pub with_created : ℕ → Option (List Use × Body) → List Region → List Region
+with_created i None rs = rs
+with_created i (Some child) rs = updated rs i (with_child child.0) ++ new_region i (children_at rs i) child.0 child.1 ∷ []
+
+-- the regions once task i has executed the control statement that comes next
+abbrev pub executed : Bool → ℕ → ℕ → List Region → List Region
+executed taken g i rs = with_created i (next_task (rest_at rs i)) (updated rs i (stepped taken g))

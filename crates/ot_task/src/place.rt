@@ -1,0 +1,175 @@
+ghost use Rattle.std.specs.Prelude.{◌≡◌, ◌<◌};
+
+use crate::same::same_test;
+use crate::weigh::weigh_rest;
+use ot_model::{Cell, Expr, Stmt};
+use std::alloc::{AllocError, Global};
+use std::mem;
+
+/// A group that is open: its number, its cells, and what stands behind its end, last statement first.
+#[derive(Debug, Drop)]
+pub struct OpenGroup {
+    pub group: u32,
+    pub cells: Vec<Cell>,
+    pub behind: Vec<Stmt>,
+}
+
+/// What a task has left, last statement first, in the innermost open group's body.
+#[derive(Debug, Drop)]
+pub struct Place {
+    pub rest: Vec<Stmt>,
+    pub groups: Vec<OpenGroup>,
+}
+
+impl Place {
+    ghost use Rattle.std.specs.Prelude.{if◌then◌else◌, ◌≡◌, ◌+◌, ◌≤◌, ◌<◌, [], ◌∷◌, vec_len, vec_capacity, OnOk, OnErr, IfOk, IsSome, MatchOption};
+    ghost use Rattle.ot_model.specs.Tree.{End, Next, Set, If, Task, Group, Wait, append};
+    ghost use Rattle.ot_model.specs.View.{stmt_of, stmts_of};
+    ghost use Rattle.ot_model.specs.Serial.{either};
+    ghost use Rattle.ot_task.specs.Place.{Open};
+    ghost use Rattle.ot_task.specs.PlaceView.{standing_of, rest_of};
+    ghost use Rattle.ot_task.specs.Pieces.{passed_end, test_of};
+    ghost use Rattle.std.specs.Prelude.{IsTrue, ◌↔◌, option_map};
+    ghost use Rattle.ot_model.specs.View.{expr_of};
+    ghost use Rattle.ot_task.specs.Standing.{Standing, left_group};
+    ghost use Rattle.std.specs.Prelude.{◌^◌};
+    ghost use Rattle.ot_task.specs.Weighing.{weight, weight_behind, weight_left};
+
+    /// At the beginning of a body. It takes no memory.
+    pub fn new(alloc: Global, body: Vec<Stmt>) -> Place
+        ensures { standing_of result ≡ record { rest = stmts_of body.items; groups = [] } }
+    {
+        let mut rest = body;
+        rest.reverse();
+        Place {
+            rest,
+            groups: Vec::new(alloc),
+        }
+    }
+
+    /// The statement that comes next in the innermost body.
+    pub fn next(&self) -> Option<&Stmt>
+        ensures { MatchOption result ((standing_of self.now).rest ≡ End) (λ x. (rest : _) × ((standing_of self.now).rest ≡ Next (stmt_of x.now) rest)) }
+    {
+        self.rest.last()
+    }
+
+    /// Takes the next statement.
+    pub fn take(&mut self) -> Option<Stmt>
+        ensures room { vec_capacity self.new.rest ≡ vec_capacity self.old.rest }
+        ensures shorter { IsSome result → vec_len self.new.rest < vec_capacity self.new.rest }
+        ensures taken { MatchOption result (((standing_of self.old).rest ≡ End) × ((standing_of self.new).rest ≡ End)) (λ x. (standing_of self.old).rest ≡ Next (stmt_of x) (standing_of self.new).rest) }
+        ensures groups { (standing_of self.new).groups ≡ (standing_of self.old).groups }
+    {
+        self.rest.pop()
+    }
+
+    /// Puts a body before what is left. It takes no memory.
+    pub fn splice(&mut self, body: Vec<Stmt>)
+        requires { vec_len self.old.rest + vec_len body ≤ vec_capacity self.old.rest }
+        ensures { standing_of self.new ≡ record { rest = append (stmts_of body.items) (standing_of self.old).rest; groups = (standing_of self.old).groups } }
+    {
+        let mut body = body;
+        while let Some(stmt) = body.pop() {
+            self.rest.push_reserved(stmt);
+        }
+    }
+
+    /// Enters a group. It takes no memory.
+    pub fn enter(&mut self, group: u32, cells: Vec<Cell>, body: Vec<Stmt>)
+        requires { vec_len self.old.groups < vec_capacity self.old.groups }
+        ensures { standing_of self.new ≡ record {
+          rest = stmts_of body.items;
+          groups = record { group = group; cells = cells.items; behind = (standing_of self.old).rest } ∷ (standing_of self.old).groups;
+        } }
+    {
+        let mut body = body;
+        body.reverse();
+        let behind = mem::replace(&mut self.rest, body);
+        self.groups.push_reserved(OpenGroup {
+            group,
+            cells,
+            behind,
+        });
+    }
+
+    /// Whether this is the condition of the `if` that comes next, or there is none.
+    pub fn has_test(&self, test: Option<&Expr>) -> bool
+        ensures { IsTrue result ↔ option_map (λ e. expr_of e.now) test.entry ≡ test_of (standing_of self.now).rest }
+    {
+        same_test(test, self.test())
+    }
+
+    /// The condition of the `if` that comes next.
+    fn test(&self) -> Option<&Expr>
+        ensures { option_map (λ e. expr_of e.now) result ≡ test_of (standing_of self.now).rest }
+    {
+        match self.next() {
+            Some(Stmt::If(test, _, _)) => Some(test),
+            _ => None,
+        }
+    }
+
+    /// What comes next once the task goes on: where the end of the innermost open group is reached, what
+    /// stands behind it.
+    pub fn ahead(&self) -> &[Stmt]
+        ensures { rest_of result.now ≡ (passed_end (standing_of self.now)).rest }
+    {
+        match self.next() {
+            Some(_) => self.rest.as_slice(),
+            None => match self.groups.last() {
+                Some(group) => group.behind.as_slice(),
+                None => self.rest.as_slice(),
+            },
+        }
+    }
+
+    /// Passes the end of the innermost open group where it is reached. It takes no memory.
+    pub fn go_on(&mut self)
+        ensures { standing_of self.new ≡ passed_end (standing_of self.old) }
+    {
+        match self.next() {
+            Some(_) => {}
+            None => self.leave(),
+        }
+    }
+
+    /// Passes the end of the innermost open group, which has nothing left. It takes no memory.
+    pub fn leave(&mut self)
+        ensures { standing_of self.new ≡ left_group (standing_of self.old) }
+    {
+        if let Some(group) = self.groups.pop() {
+            self.rest = group.behind;
+        }
+    }
+
+    /// The weight of what is left, with a piece of it out or not. It takes no memory.
+    pub fn weigh(&self, out: bool) -> u64
+        requires { weight (standing_of self.now).rest + weight_behind (standing_of self.now).groups < 2 ^ 64 }
+        ensures { result ≡ weight_left out (standing_of self.now).rest (standing_of self.now).groups }
+    {
+        let behind = self.weigh_behind();
+        match self.next() {
+            Some(_) => weigh_rest(&self.rest) + behind,
+            None => {
+                if out || self.groups.is_empty() {
+                    behind
+                } else {
+                    behind - 1
+                }
+            }
+        }
+    }
+
+    /// The weight of the open groups' ends, and of what stands behind them.
+    fn weigh_behind(&self) -> u64
+        requires { weight_behind (standing_of self.now).groups < 2 ^ 64 }
+        ensures { result ≡ weight_behind (standing_of self.now).groups }
+    {
+        let mut sum = 0;
+        for group in &self.groups {
+            sum += 1 + weigh_rest(&group.behind);
+        }
+        sum
+    }
+}

@@ -1,0 +1,201 @@
+ghost use Rattle.std.specs.Prelude.{◌≡◌, ◌+◌, ◌∷◌, [], ◌≤◌, ◌^◌, OnOk, IfOk, IfSome, map, option_map, Some};
+ghost use Rattle.std.specs.List.{fold, range_with_len};
+ghost use Rattle.ot_model.specs.Uses.{AreInOrder, mode_in};
+ghost use Rattle.ot_model.specs.Value.{cell_at};
+ghost use Rattle.ot_model.specs.View.{expr_of};
+ghost use Rattle.ot_model.specs.declared.expr.Cell.{Cell};
+ghost use Rattle.ot_model.specs.declared.stmt.Mode.TheVariants.{Reads};
+ghost use Rattle.ot_check.specs.Paths.{use_as, touches};
+ghost use Rattle.ot_model.specs.Value.{cells_named};
+ghost use Rattle.ot_check.specs.Offences.{adds_to};
+ghost use Rattle.ot_task.specs.Assigns.{assign_of, assigns_of};
+ghost use Rattle.ot_task.specs.Touched.{stronger, with_mode, mode_held, noted, held, held_at, use_at, assign_touches, test_touches, piece_touches, PicksFit, AssignsFit};
+
+use crate::assign::Assign;
+use ot_model::{Cell, Decl, Expr, Mode, Section, Use};
+use std::alloc::{AllocError, Global};
+use std::collections::BTreeMap;
+
+// Cells by array and then by index, each with the mode in which it is held.
+type Held = BTreeMap<(u32, u32), Mode>;
+
+/// What a piece with these assignments and this condition holds: the cells that it touches and no
+/// others. An add holds its cell as `Adds` where the body declares it so, else as `Writes`.
+pub fn touched(
+    alloc: Global,
+    assigns: &[Assign],
+    condition: Option<&Expr>,
+    own: Option<&Decl>,
+) -> Result<Decl, AllocError>
+    requires fits { AssignsFit (assigns_of assigns.now) }
+    requires test { IfSome condition (λ e. PicksFit (expr_of e.now)) }
+    ensures ordered { IfOk result (λ d. AreInOrder d) }
+    ensures exact { IfOk result (λ d. (c : Cell) → mode_in d c ≡ held (option_map (λ o. o.now) own.entry) (piece_touches (assigns_of assigns.now) (option_map (λ e. expr_of e.now) condition.entry)) c) }
+{
+    let mut held = BTreeMap::new(alloc);
+    for assign in assigns {
+        note_assign(&mut held, own, assign)?;
+    }
+    note_test(&mut held, own, condition)?;
+    Ok(Decl::new(uses_of(alloc, &held)?))
+}
+
+fn note_test(
+    held: &mut Held,
+    own: Option<&Decl>,
+    condition: Option<&Expr>,
+) -> Result<(), AllocError>
+    requires test { IfSome condition (λ e. PicksFit (expr_of e.now)) }
+    ensures { OnOk result ((c : Cell) → held_at held.new.entries c
+        ≡ fold (noted (option_map (λ o. o.now) own.entry) c) (held_at held.old.entries c) (test_touches (option_map (λ e. expr_of e.now) condition.entry))) }
+{
+    match condition {
+        None => Ok(()),
+        Some(condition) => note_reads(held, own, condition),
+    }
+}
+
+fn note_assign(held: &mut Held, own: Option<&Decl>, assign: &Assign) -> Result<(), AllocError>
+    requires fits { AssignsFit (assigns_of (assign.now ∷ [])) }
+    ensures { OnOk result ((c : Cell) → held_at held.new.entries c
+        ≡ fold (noted (option_map (λ o. o.now) own.entry) c) (held_at held.old.entries c) (touches (assign_of assign.now))) }
+{
+    match assign {
+        Assign::Set(cell, value) => {
+            note_reads(held, own, value)?;
+            note(
+                held,
+                own,
+                Use {
+                    cell: *cell,
+                    mode: Mode::Writes,
+                },
+            )
+        }
+        Assign::Add(cell, value) => {
+            note_reads(held, own, value)?;
+            note(
+                held,
+                own,
+                Use {
+                    cell: *cell,
+                    mode: Mode::Adds,
+                },
+            )
+        }
+    }
+}
+
+/// Notes each cell that a value names.
+fn note_reads(held: &mut Held, own: Option<&Decl>, expr: &Expr) -> Result<(), AllocError>
+    requires fits { PicksFit (expr_of expr.now) }
+    ensures { OnOk result ((c : Cell) → held_at held.new.entries c
+        ≡ fold (noted (option_map (λ o. o.now) own.entry) c) (held_at held.old.entries c) (map (use_as Reads) (cells_named (expr_of expr.now)))) }
+{
+    match expr {
+        Expr::Number(_) => Ok(()),
+        Expr::Cell(cell) => note(
+            held,
+            own,
+            Use {
+                cell: *cell,
+                mode: Mode::Reads,
+            },
+        ),
+        Expr::Op(_, one, two) => {
+            note_reads(held, own, one)?;
+            note_reads(held, own, two)
+        }
+        Expr::Pick(section, chosen) => {
+            note_section(held, own, *section)?;
+            note_reads(held, own, chosen)
+        }
+    }
+}
+
+fn note_section(held: &mut Held, own: Option<&Decl>, section: Section) -> Result<(), AllocError>
+    requires fits { section.start + section.len ≤ 2 ^ 32 }
+    ensures { OnOk result ((c : Cell) → held_at held.new.entries c
+        ≡ fold (noted (option_map (λ o. o.now) own.entry) c) (held_at held.old.entries c) (map (use_as Reads) (map (cell_at section) (range_with_len 0 section.len)))) }
+{
+    for step in 0..section.len {
+        let cell = Cell {
+            array: section.array,
+            index: section.start + step,
+        };
+        note(
+            held,
+            own,
+            Use {
+                cell,
+                mode: Mode::Reads,
+            },
+        )?;
+    }
+    Ok(())
+}
+
+fn note(held: &mut Held, own: Option<&Decl>, used: Use) -> Result<(), AllocError>
+    ensures { OnOk result ((c : Cell) → held_at held.new.entries c ≡ noted (option_map (λ o. o.now) own.entry) c (held_at held.old.entries c) used) }
+{
+    let key = (used.cell.array, used.cell.index);
+    let mode = mode_held(own, used);
+    let mode = match held.get(&key).copied() {
+        None => mode,
+        Some(earlier) => stronger(earlier, mode),
+    };
+    held.insert(key, mode)?;
+    Ok(())
+}
+
+fn mode_held(own: Option<&Decl>, used: Use) -> Mode
+    ensures { result ≡ mode_held (option_map (λ o. o.now) own.entry) used }
+{
+    if used.mode == Mode::Adds && !adds_to(own, used.cell) {
+        return Mode::Writes;
+    }
+    used.mode
+}
+
+fn adds_to(own: Option<&Decl>, cell: Cell) -> bool
+    ensures { result ≡ adds_to (option_map (λ o. o.now) own.entry) cell }
+{
+    match own {
+        None => false,
+        Some(own) => declares_sum(own, cell),
+    }
+}
+
+fn declares_sum(own: &Decl, cell: Cell) -> bool
+    ensures { result ≡ adds_to (Some own.now) cell }
+{
+    match own.mode(cell) {
+        None => false,
+        Some(mode) => mode == Mode::Adds,
+    }
+}
+
+fn stronger(one: Mode, two: Mode) -> Mode
+    ensures { result ≡ stronger one two }
+{
+    match (one, two) {
+        (Mode::Reads, _) => two,
+        (Mode::Adds, Mode::Reads | Mode::Adds) => Mode::Adds,
+        (_, _) => Mode::Writes,
+    }
+}
+
+fn uses_of(alloc: Global, held: &Held) -> Result<Vec<Use>, AllocError>
+    ensures uses { IfOk result (λ v. v.items ≡ map use_at held.now.entries) }
+    ensures ordered { IfOk result (λ v. AreInOrder v.items) }
+{
+    let mut uses = Vec::with_capacity(alloc, held.len())?;
+    for ((array, index), mode) in held {
+        let cell = Cell {
+            array: *array,
+            index: *index,
+        };
+        uses.push(Use { cell, mode: *mode })?;
+    }
+    Ok(uses)
+}
