@@ -1,4 +1,4 @@
-use Rattle.std.proofs.Common.{◌≡◌, ap, sym, subst, arith, List, true, inl}
+use Rattle.std.proofs.Common.{◌≡◌, ◌∙◌, refl, ap, sym, subst, arith, List, true, true≢false, inl, inr}
 use Rattle.std.specs.Prelude.{is_some}
 use Rattle.std.proofs.lemmas.List.{length-map}
 use Rattle.ot_model.specs.Programs.{expanded_of}
@@ -16,6 +16,17 @@ use Rattle.ot_task.specs.Weighing.{weight_of}
 use Rattle.ot_job.proofs.WeighingLemmas.{weight-stopped}
 use Rattle.ot_job.proofs.DealingsLemmas.{fails-deals}
 use Rattle.ot_job.proofs.job.Job.fail.Goals as goal
+
+pub returns-then-not-is_out-clause-failed : goal.returns-then-not-is_out-clause-failed
+returns-then-not-is_out-clause-failed c =
+    let d : Came = done_of c.args.done in
+    let not_out : IsOut (regions_of c.self.inside.tasks) d → ⊥ =
+    λ out. true≢false (sym (c.is_out.ensures.1 (subst (λ (l : List Task). IsOut (regions_of l) d) (sym c.all.ensures) out)) ∙ c.if-not-is_out.true) in
+    subst (λ (l : Live). Fails (seen_of l) d (seen_of l)) c.self.view_is (inr (not_out, refl))
+
+pub returns-then-not-is_out-clause-fails : goal.returns-then-not-is_out-clause-fails
+returns-then-not-is_out-clause-fails c =
+    fails-deals (seen_of c.args.self.now) (done_of c.args.done) _ (subst (λ (l : Live). IsWell (seen_of l)) c.self.view_is c.self.invariant) (returns-then-not-is_out-clause-failed c)
 
 pub drop_right-requires : goal.drop_right-requires
 drop_right-requires c =
