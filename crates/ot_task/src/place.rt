@@ -36,7 +36,7 @@ impl Place {
     ghost use Rattle.ot_task.specs.Weighing.{weight, weight_behind, weight_left};
 
     /// At the beginning of a body. It takes no memory.
-    pub fn new(alloc: Global, body: Vec<Stmt>) -> Place
+    pub(crate) fn new(alloc: Global, body: Vec<Stmt>) -> Place
         ensures { standing_of result ≡ record { rest = stmts_of body.items; groups = [] } }
     {
         let mut rest = body;
@@ -48,14 +48,14 @@ impl Place {
     }
 
     /// The statement that comes next in the innermost body.
-    pub fn next(&self) -> Option<&Stmt>
+    pub(crate) fn next(&self) -> Option<&Stmt>
         ensures { MatchOption result ((standing_of self.now).rest ≡ End) (λ x. (rest : _) × ((standing_of self.now).rest ≡ Next (stmt_of x.now) rest)) }
     {
         self.rest.last()
     }
 
     /// Takes the next statement.
-    pub fn take(&mut self) -> Option<Stmt>
+    pub(crate) fn take(&mut self) -> Option<Stmt>
         ensures room { vec_capacity self.new.rest ≡ vec_capacity self.old.rest }
         ensures shorter { IsSome result → vec_len self.new.rest < vec_capacity self.new.rest }
         ensures taken { MatchOption result (((standing_of self.old).rest ≡ End) × ((standing_of self.new).rest ≡ End)) (λ x. (standing_of self.old).rest ≡ Next (stmt_of x) (standing_of self.new).rest) }
@@ -65,7 +65,7 @@ impl Place {
     }
 
     /// Puts a body before what is left. It takes no memory.
-    pub fn splice(&mut self, body: Vec<Stmt>)
+    pub(crate) fn splice(&mut self, body: Vec<Stmt>)
         requires { vec_len self.old.rest + vec_len body ≤ vec_capacity self.old.rest }
         ensures { standing_of self.new ≡ record { rest = append (stmts_of body.items) (standing_of self.old).rest; groups = (standing_of self.old).groups } }
     {
@@ -76,7 +76,7 @@ impl Place {
     }
 
     /// Enters a group. It takes no memory.
-    pub fn enter(&mut self, group: u32, cells: Vec<Cell>, body: Vec<Stmt>)
+    pub(crate) fn enter(&mut self, group: u32, cells: Vec<Cell>, body: Vec<Stmt>)
         requires { vec_len self.old.groups < vec_capacity self.old.groups }
         ensures { standing_of self.new ≡ record {
           rest = stmts_of body.items;
@@ -94,7 +94,7 @@ impl Place {
     }
 
     /// Whether this is the condition of the `if` that comes next, or there is none.
-    pub fn has_test(&self, test: Option<&Expr>) -> bool
+    pub(crate) fn has_test(&self, test: Option<&Expr>) -> bool
         ensures { IsTrue result ↔ option_map (λ e. expr_of e.now) test.entry ≡ test_of (standing_of self.now).rest }
     {
         same_test(test, self.test())
@@ -112,7 +112,7 @@ impl Place {
 
     /// What comes next once the task goes on: where the end of the innermost open group is reached, what
     /// stands behind it.
-    pub fn ahead(&self) -> &[Stmt]
+    pub(crate) fn ahead(&self) -> &[Stmt]
         ensures { rest_of result.now ≡ (passed_end (standing_of self.now)).rest }
     {
         match self.next() {
@@ -125,7 +125,7 @@ impl Place {
     }
 
     /// Passes the end of the innermost open group where it is reached. It takes no memory.
-    pub fn go_on(&mut self)
+    pub(crate) fn go_on(&mut self)
         ensures { standing_of self.new ≡ passed_end (standing_of self.old) }
     {
         match self.next() {
@@ -135,7 +135,7 @@ impl Place {
     }
 
     /// Passes the end of the innermost open group, which has nothing left. It takes no memory.
-    pub fn leave(&mut self)
+    fn leave(&mut self)
         ensures { standing_of self.new ≡ left_group (standing_of self.old) }
     {
         if let Some(group) = self.groups.pop() {
@@ -144,7 +144,7 @@ impl Place {
     }
 
     /// The weight of what is left, with a piece of it out or not. It takes no memory.
-    pub fn weigh(&self, out: bool) -> u64
+    pub(crate) fn weigh(&self, out: bool) -> u64
         requires { weight (standing_of self.now).rest + weight_behind (standing_of self.now).groups < 2 ^ 64 }
         ensures { result ≡ weight_left out (standing_of self.now).rest (standing_of self.now).groups }
     {

@@ -97,7 +97,7 @@ impl Task {
     }
 
     /// Whether a piece of it is out.
-    pub fn is_out(&self) -> bool
+    fn is_out(&self) -> bool
         ensures { result ≡ is_some (region_of self.now).running }
     {
         self.running.is_some()
@@ -224,7 +224,7 @@ impl Task {
     }
 
     /// Goes into one body of an `if` that was taken off. Where memory is refused, the `if` is put back.
-    pub fn branch(
+    fn branch(
         &mut self,
         test: Expr,
         one: Vec<Stmt>,
@@ -251,7 +251,7 @@ impl Task {
     }
 
     /// Enters a group that was taken off. Where memory is refused, the group is put back.
-    pub fn enter(&mut self, group: u32, cells: Vec<Cell>, body: Vec<Stmt>) -> Result<(), AllocError>
+    fn enter(&mut self, group: u32, cells: Vec<Cell>, body: Vec<Stmt>) -> Result<(), AllocError>
         requires { vec_len self.old.place.rest < vec_capacity self.old.place.rest }
         ensures entered { OnOk result (region_of self.new ≡ inside group cells.items (stmts_of body.items) (region_of self.old)) }
         ensures refused { OnErr result (region_of self.new
