@@ -1,7 +1,9 @@
-use Rattle.std.proofs.Common.{ap, subst, arith, length}
+use Rattle.std.proofs.Common.{◌∙◌, ap, sym, subst, arith, length, Bool, []}
+use Rattle.std.specs.Prelude.{if◌then◌else◌}
 use Rattle.ot_job.specs.Live.{Live, seen_of, Seen}
 use Rattle.ot_task.specs.RegionView.{regions_of}
 use Rattle.ot_job.specs.Claiming.{claimable_of}
+use Rattle.ot_job.specs.States.{claimable_in}
 use Rattle.ot_job.specs.Well.{IsWell}
 use Rattle.ot_job.proofs.FreeTaskLemmas.{state-working, has-claimable}
 use Rattle.ot_model.specs.Programs.{expanded_of}
@@ -9,6 +11,11 @@ use Rattle.ot_model.proofs.CountsLemmas.{tasks_in-≤-size}
 use Rattle.ot_job.proofs.CourseLemmas.{counts-few}
 use Rattle.ot_job.proofs.DealingsLemmas.{out-none, claimable-few}
 use Rattle.ot_job.proofs.job.Job.claimable.Goals as goal
+
+pub returns-then-self-clause-count : goal.returns-then-self-clause-count
+returns-then-self-clause-count c =
+    sym (ap (λ (l : Live). length (claimable_in (seen_of l))) (sym c.self.view_is)
+    ∙ ap (λ (b : Bool). length (if b then [] else claimable_of (regions_of c.self.inside.tasks))) c.if-self.true)
 
 pub returns-clause-never_stuck : goal.returns-clause-never_stuck
 returns-clause-never_stuck c = λ is none.
