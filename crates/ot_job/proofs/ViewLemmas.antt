@@ -28,6 +28,12 @@ pub map-kept : {A B : Type 0} (g : A → B) (xs : List A) (i : ℕ) (x y : A) �
 map-kept g xs i x y is same =
     map-set g xs i y ∙ ap (set (map g xs) i) same ∙ set-same (map g xs) i (g x) (ap g is ∙ sym (get_or-map g xs i x))
 
+-- a record is replaced by one that has the same in one field
+pub field-kept : {A B : Type 0} (f : A → B) (xs : List A) (i : ℕ) (x y d : A) → x ≡ get_or xs i x → f y ≡ f x → f (get_or (set xs i y) i d) ≡ f (get_or xs i d)
+field-kept f [] i x y d is same = refl
+field-kept f (z ∷ xs) zero x y d is same = same ∙ ap f is
+field-kept f (z ∷ xs) (suc i) x y d is same = field-kept f xs i x y d is same
+
 -- what is left of a region, by its record
 pub rest_at-record : (tasks : List Task) (i : ℕ) (t : Task) → i < length tasks → t ≡ get_or tasks i t → rest_at (map region_of tasks) i ≡ (region_of t).rest
 rest_at-record [] i t within is = absurd (omega (arith, within))

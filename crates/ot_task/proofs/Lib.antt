@@ -6,3 +6,4 @@ pub mod PieceLemmas
 pub mod HeldLemmas
 pub mod SameLemmas
 pub mod WeightLemmas
+pub mod ExecuteLemmas
