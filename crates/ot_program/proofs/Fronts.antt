@@ -69,6 +69,12 @@ front_all old now n whole h = record {
   list = h.list;
 }
 
+-- what was put behind no statements is all of the list
+pub added_behind_none : (old : List Stmt) (new : List S) (n : Counts) (read : Read) → old ≡ []
+    → Added (map stmt_of old) new n read → read ≡ Ok (new, n)
+added_behind_none old new n read none a =
+    a.is ∙ ap (λ (xs : List S). Ok (xs, n)) (sym (a.list ∙ ap (λ (vs : List Stmt). map stmt_of vs ++ a.added) none))
+
 -- the same over a list of values from an index on
 all_in-drop : (shape : Arrays) (level : ℕ) (variables : Bindings) (vs : List Value) (i : ℕ) (v : Value) (n : Counts) → i < length vs → v ≡ get_or vs i v
     → all_in shape level (items_view (drop i vs)) variables n ≡ one_then (one_in shape level (view v) variables)

@@ -7,6 +7,7 @@ pub mod Joins
 pub mod Lists
 pub mod Readings
 pub mod CellLists
+pub mod Seen
 pub mod Fronts
 pub mod Turns
 pub mod Conditions

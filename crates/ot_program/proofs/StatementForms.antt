@@ -1,9 +1,9 @@
--- What a list is read as, where a statement is wanted.
-use Rattle.std.proofs.Common.{◌≡◌, ℕ, ◌+◌, true, false, List, [], ◌∷◌, length, get_or, Err, codes, refl, sym, arith}
+-- What a value is read as, where a statement is wanted.
+use Rattle.std.proofs.Common.{◌≡◌, ℕ, ◌+◌, true, false, List, [], ◌∷◌, Vec, Global, length, get_or, Err, codes, refl, sym, rules, arith}
 use Rattle.std.specs.Prelude.{◌≢◌}
 use Rattle.serde_json.specs.Data.{array}
 use Rattle.serde_json.specs.View.{view, items_view}
-use Rattle.serde_json.specs.declared.value.Value.{Value}
+use Rattle.serde_json.specs.declared.value.Value.{Value, Array, the_lemmas}
 use Rattle.ot_model.specs.Shapes.{Arrays}
 use Rattle.ot_model.specs.Tree.{Task, Group}
 use Rattle.ot_program.specs.declared.counts.Counts.{Counts}
@@ -11,6 +11,20 @@ use Rattle.ot_program.specs.declared.fault.Refusal.TheVariants.{Form}
 use Rattle.ot_program.specs.Names.{is_word}
 use Rattle.ot_program.specs.Meanings.{Bindings}
 use Rattle.ot_program.specs.walk.Statements.{set_in, add_in, wait_form, if_in, for_in, with_body, condition_of, declared_of, grouped_of, range_of, body_in, one_in}
+
+-- ---- what is no list
+
+pub no_list-body : (shape : Arrays) (level : ℕ) (v : Value) (variables : Bindings) (n : Counts)
+    → ((w : Vec Value Global) → v ≢ Array w) → body_in shape level (view v) variables n ≡ Err Form
+unfolding body_in
+no_list-body shape level v variables n other = search (rules, the_lemmas)
+
+pub no_list-one : (shape : Arrays) (level : ℕ) (v : Value) (variables : Bindings) (n : Counts)
+    → ((w : Vec Value Global) → v ≢ Array w) → one_in shape level (view v) variables n ≡ Err Form
+unfolding one_in
+no_list-one shape level v variables n other = search (rules, the_lemmas)
+
+-- ---- lists by their length
 
 pub no_form : (shape : Arrays) (level : ℕ) (vs : List Value) (variables : Bindings) (n : Counts) → length vs ≢ 1 → length vs ≢ 3
     → length vs ≢ 4 → length vs ≢ 5 → one_in shape level (array (items_view vs)) variables n ≡ Err Form
