@@ -228,6 +228,11 @@ claimable-alive rs i can =
     (and_left (not (at rs i).ended && not (is_some (at rs i).running)) (((i == 0) || is_ready (at rs (at rs i).parent).children (at rs i).child) && is_let_go (at rs i)) can))
 
 -- where one is picked, some task is claimable
+pub picked-in : (failing : Bool) (rs : List Region) (pick i : ℕ) → picked (if failing then [] else claimable_of rs) pick ≡ Some i
+    → (failing ≡ false) × (picked (claimable_of rs) pick ≡ Some i)
+picked-in true rs pick i is = cc
+picked-in false rs pick i is = (refl, is)
+
 pub picked-some : (j : Seen) (pick i : ℕ) → j.failing ≡ false → picked (claimable_of j.regions) pick ≡ Some i → 0 < length (claimable_in j)
 picked-some j pick i working h =
     some-picked (claimable_in j) pick i (ap (λ (b : Bool). picked (if b then [] else claimable_of j.regions) pick) working ∙ h)

@@ -57,6 +57,7 @@ impl Job {
     ghost use Rattle.ot_job.specs.Settling.{Settles, Refuses as IsRefused};
     ghost use Rattle.ot_job.specs.DoneView.{done_of};
     ghost use Rattle.ot_job.specs.Live.{seen_of};
+    ghost use Rattle.ot_job.specs.Claiming.{picked};
     ghost use Rattle.ot_job.specs.Claims.{Claimed};
     ghost use Rattle.ot_job.specs.Taken.{taken_of};
     ghost use Rattle.ot_job.specs.States.{Starts, Fails as HasFailed, state_in, any_out, claimable_in, aborted};
@@ -135,6 +136,16 @@ impl Job {
         spec.same_as(&self.spec)
     }
 
+    /// The claimable task at `pick` modulo their count. A job that fails has none.
+    fn pick(&self, pick: usize) -> Option<usize>
+        ensures { result ≡ picked (claimable_in (seen_of self.now)) pick }
+    {
+        if self.failing {
+            return None;
+        }
+        self.tasks.pick(pick)
+    }
+
     /// Hands out the next piece of the claimable task at `pick` modulo their count. Memory is refused
     /// only where a task is claimable, and then nothing changes.
     pub fn claim(&mut self, alloc: Global, pick: usize) -> Result<Option<Piece>, AllocError>
@@ -146,10 +157,7 @@ impl Job {
         ensures some { OnErr result (0 < length (claimable_in (seen_of self.old))) }
         ensures refused { OnErr result (seen_of self.new ≡ seen_of self.old) }
     {
-        if self.failing {
-            return Ok(None);
-        }
-        let Some(task) = self.tasks.pick(pick) else {
+        let Some(task) = self.pick(pick) else {
             return Ok(None);
         };
         let Prepared {

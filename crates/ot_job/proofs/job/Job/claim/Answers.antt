@@ -28,7 +28,7 @@ use Rattle.ot_job.proofs.PickLemmas.{picked-claimable, at-here}
 use Rattle.ot_job.specs.States.{claimable_in}
 use Rattle.ot_task.specs.Weighing.{weight_of}
 use Rattle.ot_job.proofs.WeighingLemmas.{weight-begun}
-use Rattle.ot_job.proofs.DealingsLemmas.{claimed-gives, picked-some, picked-working}
+use Rattle.ot_job.proofs.DealingsLemmas.{claimed-gives, picked-in, picked-some, picked-working}
 use Rattle.std.specs.Prelude.{None}
 use Rattle.ot_job.specs.Dealings.{state_of}
 use Rattle.ot_job.specs.declared.state.State.TheVariants.{Working}
@@ -37,37 +37,47 @@ use Rattle.ot_job.proofs.job.Job.claim.Goals as goal
 
 pub get-requires : goal.get-requires
 get-requires c =
-    let is : picked (claimable_of (regions_of c.self.inside.tasks)) c.args.pick ≡ Some c.in-Some.task = sym c.pick.ensures ∙ c.in-Some.is in
+    let found = picked-in c.self.inside.failing (regions_of c.self.inside.tasks) c.args.pick c.in-Some.task
+    (ap (λ (l : Live). picked (claimable_in (seen_of l)) c.args.pick) c.self.view_is ∙ sym c.pick.ensures ∙ c.in-Some.is) in
+    let is : picked (claimable_of (regions_of c.self.inside.tasks)) c.args.pick ≡ Some c.in-Some.task = found.1 in
     omega (arith, (picked-claimable (regions_of c.self.inside.tasks) c.args.pick c.in-Some.task is).0, length-map c.self.inside.tasks region_of)
 
 pub prepare-requires : goal.prepare-requires
 prepare-requires c =
     let tasks = c.self.inside.tasks in
-    let is : picked (claimable_of (regions_of tasks)) c.args.pick ≡ Some c.in-Some.task = sym c.pick.ensures ∙ c.in-Some.is in
+    let found = picked-in c.self.inside.failing (regions_of c.self.inside.tasks) c.args.pick c.in-Some.task
+    (ap (λ (l : Live). picked (claimable_in (seen_of l)) c.args.pick) c.self.view_is ∙ sym c.pick.ensures ∙ c.in-Some.is) in
+    let is : picked (claimable_of (regions_of tasks)) c.args.pick ≡ Some c.in-Some.task = found.1 in
     let within : c.in-Some.task < length tasks = omega (arith, (picked-claimable (regions_of tasks) c.args.pick c.in-Some.task is).0, length-map tasks region_of) in
     let here = at-here tasks c.in-Some.task c.get.result.now within c.get.ensures in
-    let named = named-awake _ (c.self.invariant.course c.if-self.false) c.in-Some.task in
+    let named = named-awake _ (c.self.invariant.course found.0) c.in-Some.task in
     record { named = subst (λ r. NamedIn (lengths c.self.inside.cells) (awake r).rest) here named }
 
 pub lease-requires-clause-free : goal.lease-requires-clause-free
 lease-requires-clause-free c =
     let tasks = c.self.inside.tasks in
-    let is : picked (claimable_of (regions_of tasks)) c.args.pick ≡ Some c.in-Some.task = sym c.pick.ensures ∙ c.in-Some.is in
+    let found = picked-in c.self.inside.failing (regions_of c.self.inside.tasks) c.args.pick c.in-Some.task
+    (ap (λ (l : Live). picked (claimable_in (seen_of l)) c.args.pick) c.self.view_is ∙ sym c.pick.ensures ∙ c.in-Some.is) in
+    let is : picked (claimable_of (regions_of tasks)) c.args.pick ≡ Some c.in-Some.task = found.1 in
     let both = picked-claimable (regions_of tasks) c.args.pick c.in-Some.task is in
     let within : c.in-Some.task < length tasks = omega (arith, both.0, length-map tasks region_of) in
     let here = at-here tasks c.in-Some.task c.get.result.now within c.get.ensures in
-    claim-free _ c.self.invariant (c.self.invariant.course c.if-self.false) c.in-Some.task both.0 both.1 c.in_ok-room.field-0.decl
+    claim-free _ c.self.invariant (c.self.invariant.course found.0) c.in-Some.task both.0 both.1 c.in_ok-room.field-0.decl
     (subst (λ r. AreHeld r c.in_ok-room.field-0.decl) (sym here) c.in_ok-room.ensures.held) c.in_ok-room.ensures.ordered
 
 pub begin-requires-clause-known : goal.begin-requires-clause-known
 begin-requires-clause-known c =
-    let is : picked (claimable_of (regions_of c.self.inside.tasks)) c.args.pick ≡ Some c.in-Some.task = sym c.pick.ensures ∙ c.in-Some.is in
+    let found = picked-in c.self.inside.failing (regions_of c.self.inside.tasks) c.args.pick c.in-Some.task
+    (ap (λ (l : Live). picked (claimable_in (seen_of l)) c.args.pick) c.self.view_is ∙ sym c.pick.ensures ∙ c.in-Some.is) in
+    let is : picked (claimable_of (regions_of c.self.inside.tasks)) c.args.pick ≡ Some c.in-Some.task = found.1 in
     omega (arith, (picked-claimable (regions_of c.self.inside.tasks) c.args.pick c.in-Some.task is).0, length-map c.self.inside.tasks region_of)
 
 pub begin-requires-clause-room : goal.begin-requires-clause-room
 begin-requires-clause-room c =
     let tasks = c.self.inside.tasks in
-    let is : picked (claimable_of (regions_of tasks)) c.args.pick ≡ Some c.in-Some.task = sym c.pick.ensures ∙ c.in-Some.is in
+    let found = picked-in c.self.inside.failing (regions_of c.self.inside.tasks) c.args.pick c.in-Some.task
+    (ap (λ (l : Live). picked (claimable_in (seen_of l)) c.args.pick) c.self.view_is ∙ sym c.pick.ensures ∙ c.in-Some.is) in
+    let is : picked (claimable_of (regions_of tasks)) c.args.pick ≡ Some c.in-Some.task = found.1 in
     let within : c.in-Some.task < length tasks = omega (arith, (picked-claimable (regions_of tasks) c.args.pick c.in-Some.task is).0, length-map tasks region_of) in
     let one = at-here tasks c.in-Some.task c.get.result.now within c.get.ensures in
     let same = ap (λ r. leading_len (awake r).rest) one in
@@ -76,7 +86,9 @@ begin-requires-clause-room c =
 pub begin-requires-clause-idle : goal.begin-requires-clause-idle
 begin-requires-clause-idle c =
     let rs = regions_of c.self.inside.tasks in
-    let is : picked (claimable_of rs) c.args.pick ≡ Some c.in-Some.task = sym c.pick.ensures ∙ c.in-Some.is in
+    let found = picked-in c.self.inside.failing (regions_of c.self.inside.tasks) c.args.pick c.in-Some.task
+    (ap (λ (l : Live). picked (claimable_in (seen_of l)) c.args.pick) c.self.view_is ∙ sym c.pick.ensures ∙ c.in-Some.is) in
+    let is : picked (claimable_of rs) c.args.pick ≡ Some c.in-Some.task = found.1 in
     claimable-idle rs c.in-Some.task (picked-claimable rs c.args.pick c.in-Some.task is).1
 
 pub overflow_cast-task : goal.overflow_cast-task
@@ -90,9 +102,11 @@ overflow_cast-task c =
       counts = c.self.inside.counts;
       failing = c.self.inside.failing;
     } in
-    let is : picked (claimable_of j.regions) c.args.pick ≡ Some c.in-Some.task = sym c.pick.ensures ∙ c.in-Some.is in
+    let found = picked-in c.self.inside.failing (regions_of c.self.inside.tasks) c.args.pick c.in-Some.task
+    (ap (λ (l : Live). picked (claimable_in (seen_of l)) c.args.pick) c.self.view_is ∙ sym c.pick.ensures ∙ c.in-Some.is) in
+    let is : picked (claimable_of j.regions) c.args.pick ≡ Some c.in-Some.task = found.1 in
     let within = (picked-claimable j.regions c.args.pick c.in-Some.task is).0 in
-    let few = counts-few j (c.self.invariant.course c.if-self.false) in
+    let few = counts-few j (c.self.invariant.course found.0) in
     omega (arith, within, c.self.invariant.created, few.0, tasks_in-≤-size j.program.body, c.self.inside.spec.checked.program.few, c.self.inside.spec.checked.program.statements_are)
 
 pub new-requires : goal.new-requires
@@ -100,13 +114,15 @@ new-requires c =
     let tasks = c.self.inside.tasks in
     let rs = regions_of tasks in
     let i = c.in-Some.task in
-    let is : picked (claimable_of rs) c.args.pick ≡ Some i = sym c.pick.ensures ∙ c.in-Some.is in
+    let found = picked-in c.self.inside.failing (regions_of c.self.inside.tasks) c.args.pick c.in-Some.task
+    (ap (λ (l : Live). picked (claimable_in (seen_of l)) c.args.pick) c.self.view_is ∙ sym c.pick.ensures ∙ c.in-Some.is) in
+    let is : picked (claimable_of rs) c.args.pick ≡ Some i = found.1 in
     let within : i < length tasks = omega (arith, (picked-claimable rs c.args.pick i is).0, length-map tasks region_of) in
     let here = at-here tasks i c.get.result.now within c.get.ensures in
     let lent = c.in_ok-lent.ensures.lent in
     let uses = lent_uses c.self.inside.cells c.in_ok-room.field-0.decl c.in_ok-lent.lent lent in
     let held = subst (AreHeld (at rs i)) (sym uses) (subst (λ r. AreHeld r c.in_ok-room.field-0.decl) (sym here) c.in_ok-room.ensures.held) in
-    let can = claim-can _ (c.self.invariant.course c.if-self.false) i c.in_ok-lent.lent held (lent ∙ ap (lent_from c.self.inside.cells) (sym uses)) in
+    let can = claim-can _ (c.self.invariant.course found.0) i c.in_ok-lent.lent held (lent ∙ ap (lent_from c.self.inside.cells) (sym uses)) in
     let assigns : assigns_of c.in_ok-room.field-0.assigns.items ≡ leading (awake (at rs i)).rest = c.in_ok-room.ensures.assigns ∙ ap (λ r. leading (awake r).rest) (sym here) in
     let test : option_map expr_of c.in_ok-room.field-0.condition ≡ test_of (behind (awake (at rs i)).rest) = c.in_ok-room.ensures.test ∙ ap (λ r. test_of (behind (awake r).rest)) (sym here) in
     subst (λ (b : Body). CanRun b (option_map expr_of c.in_ok-room.field-0.condition) c.in_ok-lent.lent) (sym assigns)
@@ -117,7 +133,9 @@ invariant_of-self-2 c =
     let tasks = c.self.inside.tasks in
     let rs = regions_of tasks in
     let i = c.in-Some.task in
-    let is : picked (claimable_of rs) c.args.pick ≡ Some i = sym c.pick.ensures ∙ c.in-Some.is in
+    let found = picked-in c.self.inside.failing (regions_of c.self.inside.tasks) c.args.pick c.in-Some.task
+    (ap (λ (l : Live). picked (claimable_in (seen_of l)) c.args.pick) c.self.view_is ∙ sym c.pick.ensures ∙ c.in-Some.is) in
+    let is : picked (claimable_of rs) c.args.pick ≡ Some i = found.1 in
     let both = picked-claimable rs c.args.pick i is in
     let within : i < length tasks = omega (arith, both.0, length-map tasks region_of) in
     let here = at-here tasks i c.get.result.now within c.get.ensures in
@@ -136,7 +154,7 @@ invariant_of-self-2 c =
       failing = c.self.inside.failing;
     } in
     subst (λ (l : List Region). IsWell (seen l)) (sym now)
-    (claim-well _ c.self.invariant c.if-self.false i both.0 both.1 (lease_of c.in_ok-lent.lent) held (subst AreInOrder (sym uses) c.in_ok-room.ensures.ordered)
+    (claim-well _ c.self.invariant found.0 i both.0 both.1 (lease_of c.in_ok-lent.lent) held (subst AreInOrder (sym uses) c.in_ok-room.ensures.ordered)
     (ap lease_of (lent ∙ ap (lent_from c.self.inside.cells) (sym uses))) c.lease.new.self c.in_ok-lent.ensures.out)
 
 pub returns-clause-claimed : goal.returns-clause-claimed
@@ -144,7 +162,9 @@ returns-clause-claimed c =
     let tasks = c.self.inside.tasks in
     let rs = regions_of tasks in
     let i = c.in-Some.task in
-    let is : picked (claimable_of rs) c.args.pick ≡ Some i = sym c.pick.ensures ∙ c.in-Some.is in
+    let found = picked-in c.self.inside.failing (regions_of c.self.inside.tasks) c.args.pick c.in-Some.task
+    (ap (λ (l : Live). picked (claimable_in (seen_of l)) c.args.pick) c.self.view_is ∙ sym c.pick.ensures ∙ c.in-Some.is) in
+    let is : picked (claimable_of rs) c.args.pick ≡ Some i = found.1 in
     let within : i < length tasks = omega (arith, (picked-claimable rs c.args.pick i is).0, length-map tasks region_of) in
     let here = at-here tasks i c.get.result.now within c.get.ensures in
     let lent = c.in_ok-lent.ensures.lent in
@@ -163,7 +183,7 @@ returns-clause-claimed c =
     let piece : Taken = record { task = i; assigns = assigns_of c.in_ok-room.field-0.assigns.items; test = option_map expr_of c.in_ok-room.field-0.condition; lent = c.in_ok-lent.lent } in
     let new : Seen = seen (regions_of c.begin.new.self) in
     subst (λ (p : Parts). Claims (seen_of c.args.self.now) c.args.pick (taken_of p) new) (sym c.new.ensures) (subst (λ (l : Live). Claims (seen_of l) c.args.pick piece new) c.self.view_is (record {
-      task = ap (λ (b : Bool). picked (if b then [] else claimable_of rs) c.args.pick) c.if-self.false ∙ is;
+      task = ap (λ (b : Bool). picked (if b then [] else claimable_of rs) c.args.pick) found.0 ∙ is;
       assigns = c.in_ok-room.ensures.assigns ∙ ap (λ r. leading (awake r).rest) (sym here);
       test = c.in_ok-room.ensures.test ∙ ap (λ r. test_of (behind (awake r).rest)) (sym here);
       held = subst (AreHeld (at rs i)) (sym uses) (subst (λ r. AreHeld r c.in_ok-room.field-0.decl) (sym here) c.in_ok-room.ensures.held);
@@ -178,7 +198,9 @@ returns-clause-weight c =
     let tasks = c.self.inside.tasks in
     let rs = regions_of tasks in
     let i = c.in-Some.task in
-    let is : picked (claimable_of rs) c.args.pick ≡ Some i = sym c.pick.ensures ∙ c.in-Some.is in
+    let found = picked-in c.self.inside.failing (regions_of c.self.inside.tasks) c.args.pick c.in-Some.task
+    (ap (λ (l : Live). picked (claimable_in (seen_of l)) c.args.pick) c.self.view_is ∙ sym c.pick.ensures ∙ c.in-Some.is) in
+    let is : picked (claimable_of rs) c.args.pick ≡ Some i = found.1 in
     let both = picked-claimable rs c.args.pick i is in
     let lent = c.in_ok-lent.ensures.lent in
     let lease : c.in_ok-room.field-0.right ≡ lease_of c.in_ok-lent.lent = c.in_ok-room.ensures.right ∙ ap lease_of (sym lent) in
@@ -191,6 +213,13 @@ returns-clause-gives c = claimed-gives (seen_of c.args.self.now) c.args.pick (So
 
 pub returns-in_default-clause-claimed : goal.returns-in_default-clause-claimed
 returns-in_default-clause-claimed c = search rules
+
+-- nothing is refused where none is picked
+pub returns-in_default-clause-working : goal.returns-in_default-clause-working
+returns-in_default-clause-working c = tt
+
+pub returns-in_default-clause-some : goal.returns-in_default-clause-some
+returns-in_default-clause-some c = tt
 
 pub returns-in_default-clause-gives : goal.returns-in_default-clause-gives
 returns-in_default-clause-gives c = claimed-gives (seen_of c.args.self.now) c.args.pick None (seen_of c.args.self.now) (returns-in_default-clause-claimed c)
@@ -206,8 +235,10 @@ returns-in_err-room-clause-working c =
       counts = c.self.inside.counts;
       failing = c.self.inside.failing;
     } in
-    let is : picked (claimable_of (regions_of c.self.inside.tasks)) c.args.pick ≡ Some c.in-Some.task = sym c.pick.ensures ∙ c.in-Some.is in
-    on_err_always c.from_residual.result (subst (λ (l : Live). state_of (seen_of l) ≡ Working) c.self.view_is (picked-working j c.args.pick c.in-Some.task c.if-self.false is))
+    let found = picked-in c.self.inside.failing (regions_of c.self.inside.tasks) c.args.pick c.in-Some.task
+    (ap (λ (l : Live). picked (claimable_in (seen_of l)) c.args.pick) c.self.view_is ∙ sym c.pick.ensures ∙ c.in-Some.is) in
+    let is : picked (claimable_of (regions_of c.self.inside.tasks)) c.args.pick ≡ Some c.in-Some.task = found.1 in
+    on_err_always c.from_residual.result (subst (λ (l : Live). state_of (seen_of l) ≡ Working) c.self.view_is (picked-working j c.args.pick c.in-Some.task found.0 is))
 
 pub returns-in_err-lent-clause-working : goal.returns-in_err-lent-clause-working
 returns-in_err-lent-clause-working c =
@@ -220,8 +251,10 @@ returns-in_err-lent-clause-working c =
       counts = c.self.inside.counts;
       failing = c.self.inside.failing;
     } in
-    let is : picked (claimable_of (regions_of c.self.inside.tasks)) c.args.pick ≡ Some c.in-Some.task = sym c.pick.ensures ∙ c.in-Some.is in
-    on_err_always c.from_residual-in_err-lent.result (subst (λ (l : Live). state_of (seen_of l) ≡ Working) c.self.view_is (picked-working j c.args.pick c.in-Some.task c.if-self.false is))
+    let found = picked-in c.self.inside.failing (regions_of c.self.inside.tasks) c.args.pick c.in-Some.task
+    (ap (λ (l : Live). picked (claimable_in (seen_of l)) c.args.pick) c.self.view_is ∙ sym c.pick.ensures ∙ c.in-Some.is) in
+    let is : picked (claimable_of (regions_of c.self.inside.tasks)) c.args.pick ≡ Some c.in-Some.task = found.1 in
+    on_err_always c.from_residual-in_err-lent.result (subst (λ (l : Live). state_of (seen_of l) ≡ Working) c.self.view_is (picked-working j c.args.pick c.in-Some.task found.0 is))
 
 pub returns-in_err-room-clause-some : goal.returns-in_err-room-clause-some
 returns-in_err-room-clause-some c =
@@ -234,8 +267,10 @@ returns-in_err-room-clause-some c =
       counts = c.self.inside.counts;
       failing = c.self.inside.failing;
     } in
-    let is : picked (claimable_of (regions_of c.self.inside.tasks)) c.args.pick ≡ Some c.in-Some.task = sym c.pick.ensures ∙ c.in-Some.is in
-    on_err_always c.from_residual.result (subst (λ (l : Live). 0 < length (claimable_in (seen_of l))) c.self.view_is (picked-some j c.args.pick c.in-Some.task c.if-self.false is))
+    let found = picked-in c.self.inside.failing (regions_of c.self.inside.tasks) c.args.pick c.in-Some.task
+    (ap (λ (l : Live). picked (claimable_in (seen_of l)) c.args.pick) c.self.view_is ∙ sym c.pick.ensures ∙ c.in-Some.is) in
+    let is : picked (claimable_of (regions_of c.self.inside.tasks)) c.args.pick ≡ Some c.in-Some.task = found.1 in
+    on_err_always c.from_residual.result (subst (λ (l : Live). 0 < length (claimable_in (seen_of l))) c.self.view_is (picked-some j c.args.pick c.in-Some.task found.0 is))
 
 pub returns-in_err-lent-clause-some : goal.returns-in_err-lent-clause-some
 returns-in_err-lent-clause-some c =
@@ -248,5 +283,7 @@ returns-in_err-lent-clause-some c =
       counts = c.self.inside.counts;
       failing = c.self.inside.failing;
     } in
-    let is : picked (claimable_of (regions_of c.self.inside.tasks)) c.args.pick ≡ Some c.in-Some.task = sym c.pick.ensures ∙ c.in-Some.is in
-    on_err_always c.from_residual-in_err-lent.result (subst (λ (l : Live). 0 < length (claimable_in (seen_of l))) c.self.view_is (picked-some j c.args.pick c.in-Some.task c.if-self.false is))
+    let found = picked-in c.self.inside.failing (regions_of c.self.inside.tasks) c.args.pick c.in-Some.task
+    (ap (λ (l : Live). picked (claimable_in (seen_of l)) c.args.pick) c.self.view_is ∙ sym c.pick.ensures ∙ c.in-Some.is) in
+    let is : picked (claimable_of (regions_of c.self.inside.tasks)) c.args.pick ≡ Some c.in-Some.task = found.1 in
+    on_err_always c.from_residual-in_err-lent.result (subst (λ (l : Live). 0 < length (claimable_in (seen_of l))) c.self.view_is (picked-some j c.args.pick c.in-Some.task found.0 is))
