@@ -1,4 +1,4 @@
-use Rattle.std.proofs.Common.{◌≡◌, ◌∙◌, ap, sym}
+use Rattle.std.proofs.Common.{◌∙◌, ap, sym}
 use Rattle.ot_task.specs.PlaceView.{rest_of}
 use Rattle.ot_task.specs.Regions.{with_rest}
 use Rattle.ot_task.specs.RegionView.{region_of}
