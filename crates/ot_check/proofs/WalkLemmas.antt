@@ -1,13 +1,38 @@
 -- Steps of the walk.
-use Rattle.std.proofs.Common.{◌≡◌, ◌<◌, ◌≤◌, ℕ, ◌+◌, List, drop, length, get_or, sym, ap, subst, ◌∙◌, IfOk, OnOk, Ok, Err, Result}
-use Rattle.ot_model.specs.Tree.{S, End, Next}
-use Rattle.ot_model.specs.View.{stmt_of, stmts_of}
-use Rattle.ot_model.specs.declared.stmt.Stmt.{Stmt}
+use Rattle.std.proofs.Common.{◌≡◌, ◌<◌, ◌≤◌, ℕ, ◌+◌, List, Vec, Global, drop, length, get_or, sym, ap, subst, ◌∙◌, IfOk, OnOk, Ok, Err, Result, rules, arith}
+use Rattle.ot_model.specs.Counts.{size_one}
+use Rattle.ot_model.specs.Tree.{S, Set, Add, If, Task, Wait, Group, End, Next}
+use Rattle.ot_model.specs.View.{expr_of, stmt_of, stmts_of}
+use Rattle.ot_model.specs.declared.expr.Cell.{Cell}
+use Rattle.ot_model.specs.declared.expr.Expr.{Expr}
+use Rattle.ot_model.specs.declared.stmt.Stmt as stmt
+use Rattle.ot_model.specs.declared.stmt.Stmt.{Stmt, the_lemmas}
+use Rattle.ot_model.specs.declared.stmt.Use.{Use}
 use Rattle.ot_check.specs.walk.Walk.{Children, behind_one}
 use Rattle.ot_check.specs.walk.States.{Represents, Whatever}
 use Rattle.ot_check.specs.declared.fault.CheckFault.{CheckFault}
 use Rattle.ot_check.specs.declared.standing.Standing.{Standing}
 use Rattle.std.proofs.lemmas.List.{at_drop_more, drop_all}
+
+-- ---- what a statement of the code stands for
+
+pub stmt_of-Set : (x : Stmt) (cell : Cell) (e : Expr) → x ≡ stmt.Set cell e → stmt_of x ≡ Set cell (expr_of e)
+stmt_of-Set x cell e is = ap stmt_of is ∙ search (rules, the_lemmas)
+
+pub stmt_of-Add : (x : Stmt) (cell : Cell) (e : Expr) → x ≡ stmt.Add cell e → stmt_of x ≡ Add cell (expr_of e)
+stmt_of-Add x cell e is = ap stmt_of is ∙ search (rules, the_lemmas)
+
+pub stmt_of-If : (x : Stmt) (e : Expr) (a b : Vec Stmt Global) → x ≡ stmt.If e a b → stmt_of x ≡ If (expr_of e) (stmts_of a.items) (stmts_of b.items)
+stmt_of-If x e a b is = ap stmt_of is ∙ search (rules, the_lemmas)
+
+pub stmt_of-Task : (x : Stmt) (uses : List Use) (b : Vec Stmt Global) → x ≡ stmt.Task uses b → stmt_of x ≡ Task uses (stmts_of b.items)
+stmt_of-Task x uses b is = ap stmt_of is ∙ search (rules, the_lemmas)
+
+pub stmt_of-Wait : (x : Stmt) → x ≡ stmt.Wait → stmt_of x ≡ Wait
+stmt_of-Wait x is = ap stmt_of is ∙ search (rules, the_lemmas)
+
+pub stmt_of-Group : (x : Stmt) (cells : Vec Cell Global) (b : Vec Stmt Global) → x ≡ stmt.Group cells b → stmt_of x ≡ Group cells.items (stmts_of b.items)
+stmt_of-Group x cells b is = ap stmt_of is ∙ search (rules, the_lemmas)
 
 -- ---- the rest of a body
 
@@ -37,3 +62,30 @@ pub behind-as : (r : Result ℕ CheckFault) (old new : Standing) (x y : S) (f : 
 behind-as r old new x y f same is h =
     if_ok r _ _ (λ n g own opened children stood.
     subst (λ children. Represents own opened children new) (is children ∙ ap (λ y. behind_one children y) (sym same)) (g own opened children stood)) h
+
+-- ---- places, and how many tasks were passed
+
+-- the place behind a statement is the place behind its last part
+pub place-behind : {E : Type 0} (r : Result ℕ E) (x y : S) (place last part : ℕ) → x ≡ y → last + part ≡ place + size_one y
+    → IfOk r (λ next. next ≡ last + part) → IfOk r (λ next. next ≡ place + size_one x)
+place-behind r x y place last part is same h =
+    if_ok r _ _ (λ next behind. behind ∙ same ∙ ap (λ s. place + size_one s) (sym is)) h
+
+-- the second body of an if ends where the if does
+pub place-two : (place second a b : ℕ) → second ≡ place + 1 + a → second + b ≡ place + (1 + a + b)
+place-two place second a b h = omega arith
+
+-- no more tasks than places were passed in two parts, one after the other
+pub counted-later : {E : Type 0} (r : Result ℕ E) (old now new place second : ℕ) → now + (place + 1) ≤ old + second
+    → IfOk r (λ next. new + second ≤ now + next) → IfOk r (λ next. new + place ≤ old + next)
+counted-later r old now new place second first h = if_ok r _ _ (λ next later. omega (arith, first, later)) h
+
+-- a group is a place, and no task
+pub counted-in_group : {E : Type 0} (r : Result ℕ E) (old new place : ℕ)
+    → IfOk r (λ next. new + (place + 1) ≤ old + next) → IfOk r (λ next. new + place ≤ old + next)
+counted-in_group r old new place h = if_ok r _ _ (λ next inside. omega (arith, inside)) h
+
+-- a task is both
+pub counted-in_task : {E : Type 0} (r : Result ℕ E) (old new place : ℕ)
+    → IfOk r (λ next. new + (place + 1) ≤ old + next + 1) → IfOk r (λ next. new + place ≤ old + next)
+counted-in_task r old new place h = if_ok r _ _ (λ next inside. omega (arith, inside)) h

@@ -1,16 +1,17 @@
-use Rattle.std.proofs.Common.{rules, ℕ, inl, inr, ◌≡◌, ◌+◌, ◌&&◌, Some, Err, drop, refl, ap, sym, subst, ◌∙◌, arith}
+use Rattle.std.proofs.Common.{rules, ℕ, inl, inr, ◌≡◌, ◌<◌, ◌≤◌, ◌+◌, ◌&&◌, add_assoc, Some, Ok, Err, drop, refl, ap, sym, subst, ◌∙◌, arith}
 use Rattle.std.specs.Option.{option_or}
 use Rattle.ot_model.specs.View.{expr_of, stmt_of, stmts_of}
 use Rattle.ot_model.specs.Tree.{Set, Add, If, Task, Wait, Group}
 use Rattle.ot_model.specs.Counts.{size, size_one}
-use Rattle.ot_model.specs.Names.{NamedIn}
+use Rattle.ot_model.specs.Names.{NamedIn, OneNamedIn, AreInShape, AreDeclaredIn}
 use Rattle.ot_model.specs.declared.stmt.Stmt.{the_lemmas}
 use Rattle.ot_check.specs.walk.Walk.{behind, behind_one, after, first, first_one, nobody, nothing_open, through, with_group}
 use Rattle.ot_check.specs.walk.Bits.{bit_in, has}
+use Rattle.ot_check.specs.walk.Grids.{widths}
 use Rattle.ot_check.specs.walk.States.{Represents, Stands, AreMore, lens_of, one_more, back, with_children}
 use Rattle.ot_check.specs.walk.Told.{IsTold}
 use Rattle.ot_check.proofs.TellingLemmas.{told-left, told-right, told-inside, told-passed}
-use Rattle.ot_check.proofs.WalkLemmas.{if_ok, behind-as, rest_is, rest_none}
+use Rattle.ot_check.proofs.WalkLemmas.{stmt_of-Set, stmt_of-Add, stmt_of-If, stmt_of-Task, stmt_of-Wait, stmt_of-Group, if_ok, behind-as, counted-later, counted-in_task, counted-in_group, place-behind, place-two, rest_is, rest_none}
 use Rattle.ot_check.proofs.RegionLemmas.{stands-kept, stands-same}
 use Rattle.ot_check.proofs.TaskLemmas.{more-same, more-later}
 use Rattle.ot_check.proofs.walk.+walk.Goals as goal
@@ -91,6 +92,13 @@ walk-returns-clause-place t c =
     let sizes : size (stmts_of (drop c.loop-stmt.stmt-index c.args.body.now.items)) ≡ 0 = ap size none in
     omega (arith, sizes, c.loop-stmt.invariant.1)
 
+pub walk_group-walk-requires : goal.walk_group-walk-requires
+walk_group-walk-requires t c =
+    let same = c.in_ok-outside.ensures.tasks in
+    let named = subst (λ tasks. NamedIn (widths tasks.users) (stmts_of c.args.body.now.items)) (sym same) c.requires.named in
+    let counted = subst (λ tasks. tasks.passed ≤ c.args.place) (sym same) c.requires.counted in
+    (search (rules, the_lemmas), (named, (counted, c.requires.short)))
+
 pub walk_group-returns-in_err-next-clause-told : goal.walk_group-returns-in_err-next-clause-told
 walk_group-returns-in_err-next-clause-told t c = λ own opened children h.
     told-passed (first own (with_group opened c.args.cells.now) children c.args.place (stmts_of c.args.body.now.items))
@@ -111,11 +119,26 @@ walk_group-returns-clause-behind t c = λ own opened children h.
     subst (λ b. Represents own opened (λ test. children test && b) c.end_group.new.self) c.through.ensures
     (c.end_group.ensures.stands own opened children outside)
 
+pub walk_group-returns-clause-more : goal.walk_group-returns-clause-more
+walk_group-returns-clause-more t c = rw (c.end_group.ensures.tasks, ← c.in_ok-outside.ensures.tasks) c.in_ok-next.ensures.more
+
+pub walk_group-returns-clause-counted : goal.walk_group-returns-clause-counted
+walk_group-returns-clause-counted t c = rw (c.end_group.ensures.tasks, ← c.in_ok-outside.ensures.tasks) c.in_ok-next.ensures.counted
+
+pub walk_one-walk-requires : goal.walk_one-walk-requires
+walk_one-walk-requires t c =
+    let a = stmts_of c.in-If.one.items in
+    let b = stmts_of c.in-If.two.items in
+    let is : stmt_of c.args.stmt.now ≡ If (expr_of c.in-If.field-0) a b = stmt_of-If _ _ _ _ c.in-If.is in
+    let parts = subst (OneNamedIn (lens_of c.args.standing.now)) is c.requires.named in
+    let sizes : size_one (stmt_of c.args.stmt.now) ≡ 1 + size a + size b = ap size_one is in
+    (search (rules, the_lemmas), (parts.1, (omega (arith, c.requires.counted), omega (arith, sizes, c.requires.short))))
+
 pub walk_one-returns-in_err-second-in-If-clause-told : goal.walk_one-returns-in_err-second-in-If-clause-told
 walk_one-returns-in_err-second-in-If-clause-told t c = λ own opened children h.
     let a = stmts_of c.in-If.one.items in
     let b = stmts_of c.in-If.two.items in
-    let is : stmt_of c.args.stmt.now ≡ If (expr_of c.in-If.field-0) a b = search (rules, the_lemmas) in
+    let is : stmt_of c.args.stmt.now ≡ If (expr_of c.in-If.field-0) a b = stmt_of-If _ _ _ _ c.in-If.is in
     let fault = c.in_err-second-in-If.field-0.0 in
     told-passed (first_one own opened children c.args.place (stmt_of c.args.stmt.now)) c.from_residual-in_err-second-in-If.result fault
     c.from_residual-in_err-second-in-If.ensures
@@ -124,11 +147,29 @@ walk_one-returns-in_err-second-in-If-clause-told t c = λ own opened children h.
     (told-left (first own opened children (c.args.place + 1) a) (first own opened children (c.args.place + 1 + size a) b) fault
     (c.in_err-second-in-If.ensures.told own opened children h)))
 
+pub walk_one-walk_other-requires : goal.walk_one-walk_other-requires
+walk_one-walk_other-requires t c =
+    let a = stmts_of c.in-If.one.items in
+    let b = stmts_of c.in-If.two.items in
+    let is : stmt_of c.args.stmt.now ≡ If (expr_of c.in-If.field-0) a b = stmt_of-If _ _ _ _ c.in-If.is in
+    let parts = subst (OneNamedIn (lens_of c.args.standing.now)) is c.requires.named in
+    let named = subst (λ lens. NamedIn lens b) (sym c.in_ok-second-in-If.ensures.lens) parts.2 in
+    let sizes : size_one (stmt_of c.args.stmt.now) ≡ 1 + size a + size b = ap size_one is in (
+      search (rules, the_lemmas),
+      (
+        named,
+        (
+          omega (arith, c.in_ok-second-in-If.ensures.counted, c.requires.counted),
+          omega (arith, sizes, c.in_ok-second-in-If.ensures.place, c.requires.short),
+        ),
+      ),
+    )
+
 pub walk_one-returns-in_ok-second-in-If-clause-told : goal.walk_one-returns-in_ok-second-in-If-clause-told
 walk_one-returns-in_ok-second-in-If-clause-told t c = λ own opened children h.
     let a = stmts_of c.in-If.one.items in
     let b = stmts_of c.in-If.two.items in
-    let is : stmt_of c.args.stmt.now ≡ If (expr_of c.in-If.field-0) a b = search (rules, the_lemmas) in
+    let is : stmt_of c.args.stmt.now ≡ If (expr_of c.in-If.field-0) a b = stmt_of-If _ _ _ _ c.in-If.is in
     told-inside own opened children c.args.place (stmt_of c.args.stmt.now) (If (expr_of c.in-If.field-0) a b)
     c.own_offence.result c.walk_other.result is (c.own_offence.ensures own opened children h) c.in_default.is
     (told-right {A = ℕ} (first own opened children (c.args.place + 1) a) (first own opened children (c.args.place + 1 + size a) b) c.walk_other.result
@@ -144,7 +185,7 @@ pub walk_one-returns-in_ok-second-in-If-clause-behind : goal.walk_one-returns-in
 walk_one-returns-in_ok-second-in-If-clause-behind t c =
     let a = stmts_of c.in-If.one.items in
     let b = stmts_of c.in-If.two.items in
-    let is : stmt_of c.args.stmt.now ≡ If (expr_of c.in-If.field-0) a b = search (rules, the_lemmas) in
+    let is : stmt_of c.args.stmt.now ≡ If (expr_of c.in-If.field-0) a b = stmt_of-If _ _ _ _ c.in-If.is in
     if_ok c.walk_other.result _ _ (λ x behind_other own opened children h.
     subst (λ x. Represents own opened (behind_one children x) c.walk_other.new.standing) (sym is)
     (let first_way = c.in_ok-second-in-If.ensures.behind own opened children h in
@@ -154,20 +195,79 @@ walk_one-returns-in_ok-second-in-If-clause-behind t c =
     (λ k. ap (λ words. bit_in words k) c.in_ok-before-in-If.ensures) c.in_ok-second-in-If.ensures.more first_way.sound)))
     c.walk_other.ensures.behind
 
+pub walk_one-returns-in_ok-second-in-If-clause-lens : goal.walk_one-returns-in_ok-second-in-If-clause-lens
+walk_one-returns-in_ok-second-in-If-clause-lens t c =
+    if_ok c.walk_other.result _ _ (λ next later. later ∙ c.in_ok-second-in-If.ensures.lens) c.walk_other.ensures.lens
+
+pub walk_one-returns-in_ok-second-in-If-clause-more : goal.walk_one-returns-in_ok-second-in-If-clause-more
+walk_one-returns-in_ok-second-in-If-clause-more t c =
+    if_ok c.walk_other.result _ _ (λ next later. more-later _ _ _ c.in_ok-second-in-If.ensures.more later) c.walk_other.ensures.more
+
+pub walk_one-returns-in_ok-second-in-If-clause-counted : goal.walk_one-returns-in_ok-second-in-If-clause-counted
+walk_one-returns-in_ok-second-in-If-clause-counted t c =
+    counted-later c.walk_other.result _ _ _ _ _ c.in_ok-second-in-If.ensures.counted c.walk_other.ensures.counted
+
+pub walk_one-returns-in_ok-second-in-If-clause-place : goal.walk_one-returns-in_ok-second-in-If-clause-place
+walk_one-returns-in_ok-second-in-If-clause-place t c =
+    place-behind c.walk_other.result _ _ _ _ _ (stmt_of-If _ _ _ _ c.in-If.is)
+    (place-two _ _ _ _ c.in_ok-second-in-If.ensures.place) c.walk_other.ensures.place
+
+pub walk_one-walk_task-requires : goal.walk_one-walk_task-requires
+walk_one-walk_task-requires t c =
+    let body = stmts_of c.in-Task.body.items in
+    let is : stmt_of c.args.stmt.now ≡ Task c.in-Task.decl body = stmt_of-Task _ _ _ c.in-Task.is in
+    let parts = subst (OneNamedIn (lens_of c.args.standing.now)) is c.requires.named in
+    let sizes : size_one (stmt_of c.args.stmt.now) ≡ 1 + size body = ap size_one is in
+    (search (rules, the_lemmas), (parts.0, (parts.1, (omega (arith, c.requires.counted), omega (arith, sizes, c.requires.short)))))
+
+pub walk_one-returns-in-Task-clause-told : goal.walk_one-returns-in-Task-clause-told
+walk_one-returns-in-Task-clause-told t c = λ own opened children h.
+    let is : stmt_of c.args.stmt.now ≡ Task c.in-Task.decl (stmts_of c.in-Task.body.items) = stmt_of-Task _ _ _ c.in-Task.is in
+    told-inside own opened children c.args.place (stmt_of c.args.stmt.now) (Task c.in-Task.decl (stmts_of c.in-Task.body.items))
+    c.own_offence.result c.walk_task.result is (c.own_offence.ensures own opened children h) c.in_default.is (c.walk_task.ensures.told own opened children h)
+
 pub walk_one-returns-in-Task-clause-behind : goal.walk_one-returns-in-Task-clause-behind
 walk_one-returns-in-Task-clause-behind t c =
-    let is : stmt_of c.args.stmt.now ≡ Task c.in-Task.decl (stmts_of c.in-Task.body.items) = search (rules, the_lemmas) in
+    let is : stmt_of c.args.stmt.now ≡ Task c.in-Task.decl (stmts_of c.in-Task.body.items) = stmt_of-Task _ _ _ c.in-Task.is in
     behind-as c.walk_task.result c.args.standing.now c.walk_task.new.standing (stmt_of c.args.stmt.now) (Task c.in-Task.decl (stmts_of c.in-Task.body.items))
     (λ children. one_more children c.in-Task.decl) is (λ children. refl) c.walk_task.ensures.behind
 
+pub walk_one-returns-in-Task-clause-counted : goal.walk_one-returns-in-Task-clause-counted
+walk_one-returns-in-Task-clause-counted t c = counted-in_task c.walk_task.result _ _ _ c.walk_task.ensures.counted
+
+pub walk_one-returns-in-Task-clause-place : goal.walk_one-returns-in-Task-clause-place
+walk_one-returns-in-Task-clause-place t c =
+    place-behind c.walk_task.result _ _ _ _ _ (stmt_of-Task _ _ _ c.in-Task.is)
+    (add_assoc c.args.place 1 _) c.walk_task.ensures.place
+
+pub walk_one-returns-in-Wait-clause-told : goal.walk_one-returns-in-Wait-clause-told
+walk_one-returns-in-Wait-clause-told t c = λ own opened children h.
+    told-inside {A = ℕ} own opened children c.args.place (stmt_of c.args.stmt.now) Wait c.own_offence.result (Ok (c.args.place + 1))
+    (stmt_of-Wait _ c.in-Wait.is) (c.own_offence.ensures own opened children h) c.in_default.is refl
+
 pub walk_one-returns-in-Wait-clause-behind : goal.walk_one-returns-in-Wait-clause-behind
 walk_one-returns-in-Wait-clause-behind t c = λ own opened children h.
-    let is : stmt_of c.args.stmt.now ≡ Wait = search (rules, the_lemmas) in
+    let is : stmt_of c.args.stmt.now ≡ Wait = stmt_of-Wait _ c.in-Wait.is in
     subst (λ x. Represents own opened (behind_one children x) c.await_children.new.self) (sym is) (c.await_children.ensures.stands own opened children h)
+
+pub walk_one-returns-in-Wait-clause-counted : goal.walk_one-returns-in-Wait-clause-counted
+walk_one-returns-in-Wait-clause-counted t c = omega (arith, ap (λ tasks. tasks.passed) c.await_children.ensures.tasks)
+
+pub walk_one-returns-in-Wait-clause-place : goal.walk_one-returns-in-Wait-clause-place
+walk_one-returns-in-Wait-clause-place t c = ap (λ x. c.args.place + size_one x) (sym (stmt_of-Wait _ c.in-Wait.is))
+
+pub walk_one-walk_group-requires : goal.walk_one-walk_group-requires
+walk_one-walk_group-requires t c =
+    let body = stmts_of c.in-Group.body.items in
+    let is : stmt_of c.args.stmt.now ≡ Group c.in-Group.cells.items body = stmt_of-Group _ _ _ c.in-Group.is in
+    let parts = subst (OneNamedIn (lens_of c.args.standing.now)) is c.requires.named in
+    let grouped = subst (AreInShape (lens_of c.args.standing.now)) (sym c.deref.ensures.value) parts.0 in
+    let sizes : size_one (stmt_of c.args.stmt.now) ≡ 1 + size body = ap size_one is in
+    (search (rules, the_lemmas), (grouped, (parts.1, (omega (arith, c.requires.counted), omega (arith, sizes, c.requires.short)))))
 
 pub walk_one-returns-in-Group-clause-told : goal.walk_one-returns-in-Group-clause-told
 walk_one-returns-in-Group-clause-told t c = λ own opened children h.
-    let is : stmt_of c.args.stmt.now ≡ Group c.in-Group.cells.items (stmts_of c.in-Group.body.items) = search (rules, the_lemmas) in
+    let is : stmt_of c.args.stmt.now ≡ Group c.in-Group.cells.items (stmts_of c.in-Group.body.items) = stmt_of-Group _ _ _ c.in-Group.is in
     told-inside own opened children c.args.place (stmt_of c.args.stmt.now) (Group c.in-Group.cells.items (stmts_of c.in-Group.body.items))
     c.own_offence.result c.walk_group.result is (c.own_offence.ensures own opened children h) c.in_default.is
     (subst (λ cells. IsTold (first own (with_group opened cells) children (c.args.place + 1) (stmts_of c.in-Group.body.items)) c.walk_group.result) c.deref.ensures.value
@@ -175,26 +275,28 @@ walk_one-returns-in-Group-clause-told t c = λ own opened children h.
 
 pub walk_one-returns-in-Group-clause-behind : goal.walk_one-returns-in-Group-clause-behind
 walk_one-returns-in-Group-clause-behind t c =
-    let is : stmt_of c.args.stmt.now ≡ Group c.in-Group.cells.items (stmts_of c.in-Group.body.items) = search (rules, the_lemmas) in
+    let is : stmt_of c.args.stmt.now ≡ Group c.in-Group.cells.items (stmts_of c.in-Group.body.items) = stmt_of-Group _ _ _ c.in-Group.is in
     behind-as c.walk_group.result c.args.standing.now c.walk_group.new.standing (stmt_of c.args.stmt.now) (Group c.in-Group.cells.items (stmts_of c.in-Group.body.items))
     (λ children test. children test && through (stmts_of c.in-Group.body.items)) is (λ children. refl) c.walk_group.ensures.behind
+
+pub walk_one-returns-in-Group-clause-counted : goal.walk_one-returns-in-Group-clause-counted
+walk_one-returns-in-Group-clause-counted t c = counted-in_group c.walk_group.result _ _ _ c.walk_group.ensures.counted
+
+pub walk_one-returns-in-Group-clause-place : goal.walk_one-returns-in-Group-clause-place
+walk_one-returns-in-Group-clause-place t c =
+    place-behind c.walk_group.result _ _ _ _ _ (stmt_of-Group _ _ _ c.in-Group.is)
+    (add_assoc c.args.place 1 _) c.walk_group.ensures.place
 
 pub walk_one-returns-in-Set-clause-behind : goal.walk_one-returns-in-Set-clause-behind
 walk_one-returns-in-Set-clause-behind t c = λ own opened children h.
     elim c.in-Set.is [
       | inl p ↦
-          let is : stmt_of c.args.stmt.now ≡ Set p.0 (expr_of p.1) = ap stmt_of p.2 ∙ search (rules, the_lemmas) in
+          let is : stmt_of c.args.stmt.now ≡ Set p.0 (expr_of p.1) = stmt_of-Set _ _ _ p.2 in
           subst (λ x. Represents own opened (behind_one children x) c.args.standing.now) (sym is) h
       | inr p ↦
-          let is : stmt_of c.args.stmt.now ≡ Add p.0 (expr_of p.1) = ap stmt_of p.2 ∙ search (rules, the_lemmas) in
+          let is : stmt_of c.args.stmt.now ≡ Add p.0 (expr_of p.1) = stmt_of-Add _ _ _ p.2 in
           subst (λ x. Represents own opened (behind_one children x) c.args.standing.now) (sym is) h
     ]
-
-pub walk_one-returns-in-Task-clause-told : goal.walk_one-returns-in-Task-clause-told
-walk_one-returns-in-Task-clause-told t c = λ own opened children h.
-    let is : stmt_of c.args.stmt.now ≡ Task c.in-Task.decl (stmts_of c.in-Task.body.items) = search (rules, the_lemmas) in
-    told-inside own opened children c.args.place (stmt_of c.args.stmt.now) (Task c.in-Task.decl (stmts_of c.in-Task.body.items))
-    c.own_offence.result c.walk_task.result is (c.own_offence.ensures own opened children h) c.in_default.is (c.walk_task.ensures.told own opened children h)
 
 pub walk_other-returns-in_err-next-clause-told : goal.walk_other-returns-in_err-next-clause-told
 walk_other-returns-in_err-next-clause-told t c = λ own opened others g.
@@ -217,11 +319,38 @@ walk_other-returns-clause-behind t c = λ own opened children h others g.
     (λ k. ap (λ n. has n k) c.begin_other-one.ensures.behind) more second.sound in
     c.in_ok-end_other.ensures.stands own opened children (behind others (stmts_of c.args.body.now.items)) second one
 
+pub walk_other-returns-clause-more : goal.walk_other-returns-clause-more
+walk_other-returns-clause-more t c =
+    subst (AreMore c.args.standing.now.tasks) (sym c.in_ok-end_other.ensures.tasks)
+    (subst (λ s. AreMore s.tasks c.walk.new.standing.tasks) c.begin_other-one.ensures.before c.in_ok-next.ensures.more)
+
+pub walk_other-returns-clause-counted : goal.walk_other-returns-clause-counted
+walk_other-returns-clause-counted t c =
+    subst (λ tasks. tasks.passed + c.args.place ≤ c.args.standing.now.tasks.passed + c.in_ok-next.next) (sym c.in_ok-end_other.ensures.tasks)
+    (subst (λ s. c.walk.new.standing.tasks.passed + c.args.place ≤ s.tasks.passed + c.in_ok-next.next) c.begin_other-one.ensures.before c.in_ok-next.ensures.counted)
+
+pub walk_task-walk-requires : goal.walk_task-walk-requires
+walk_task-walk-requires t c =
+    let same = c.in_ok-outer.ensures.tasks in
+    let named = subst (λ tasks. NamedIn (widths tasks.users) (stmts_of c.args.body.now.items)) (sym same) c.requires.named in
+    let counted = subst (λ tasks. tasks.passed < c.args.place) (sym same) c.requires.counted in
+    (search (rules, the_lemmas), (named, (omega (arith, counted), c.requires.short)))
+
 pub walk_task-returns-in_err-next-clause-told : goal.walk_task-returns-in_err-next-clause-told
 walk_task-returns-in_err-next-clause-told t c = λ own opened children h.
     told-passed (first (Some c.args.decl.now) nothing_open nobody c.args.place (stmts_of c.args.body.now.items))
     c.from_residual-in_err-next.result c.in_err-next.field-0.0 c.from_residual-in_err-next.ensures
     (c.in_err-next.ensures.told (Some c.args.decl.now) nothing_open nobody (c.in_ok-outer.ensures.stands own opened children h))
+
+pub walk_task-end_task-requires-clause-declared : goal.walk_task-end_task-requires-clause-declared
+walk_task-end_task-requires-clause-declared t c =
+    let lens = c.in_ok-next.ensures.lens ∙ ap (λ tasks. widths tasks.users) c.in_ok-outer.ensures.tasks in
+    subst (λ lens. AreDeclaredIn lens c.args.decl.now) (sym lens) c.requires.declared
+
+pub walk_task-end_task-requires-clause-short : goal.walk_task-end_task-requires-clause-short
+walk_task-end_task-requires-clause-short t c =
+    let same : c.begin_task.new.self.tasks.passed ≡ c.args.standing.now.tasks.passed = ap (λ t. t.passed) c.in_ok-outer.ensures.tasks in
+    omega (arith, same, c.in_ok-next.ensures.counted, c.in_ok-next.ensures.place, c.requires.counted, c.requires.short)
 
 pub walk_task-returns-clause-told : goal.walk_task-returns-clause-told
 walk_task-returns-clause-told t c = λ own opened children h.
