@@ -49,9 +49,11 @@ inside g cells body r = record r { rest = body; groups = record { group = g; cel
 abbrev pub stopped : Region → Region
 stopped r = record r { running = None }
 
+-- its body has ended
 abbrev pub over : Region → Region
 over r = record r { ended = true }
 
+-- this child of it has finished
 abbrev pub without : ℕ → Region → Region
 without child r = record r { children = with_finished r.children child }
 
@@ -86,7 +88,7 @@ abbrev pub next_task : Body → Option (List Use × Body)
 next_task (Next (Task d b) rest) = Some (d, b)
 next_task rest = None
 
--- whether a control statement comes next
+-- whether a statement comes next, which behind a piece is a control statement
 abbrev pub is_control : Body → Bool
 is_control End = false
 is_control (Next x rest) = true
