@@ -1,6 +1,5 @@
-ghost use Rattle.std.specs.Prelude.{◌≡◌, ◌+◌, ◌<◌, ◌≤◌, ◌^◌, ◌++◌, [], ◌∷◌, length, vec_len, vec_capacity, OnOk, OnErr, IfOk, map, slice_index_or};
+ghost use Rattle.std.specs.Prelude.{◌≡◌, ◌+◌, ◌<◌, ◌≤◌, ◌^◌, ◌++◌, [], ◌∷◌, length, vec_len, vec_capacity, OnOk, OnErr, IfOk, slice_index_or};
 ghost use Rattle.ot_task.specs.declared.task.Task.{Task};
-ghost use Rattle.ot_task.specs.PlaceView.{standing_of};
 ghost use Rattle.ot_model.specs.Tree.{Next, Task as Fork};
 ghost use Rattle.ot_model.specs.View.{stmts_of};
 ghost use Rattle.ot_model.specs.Cells.{updated};
@@ -11,20 +10,8 @@ ghost use Rattle.ot_task.specs.Regions.{with_child, with_rest, new_region, child
 ghost use Rattle.ot_task.specs.RegionView.{regions_of};
 
 use ot_model::{Decl, Stmt};
-use ot_task::{Place, Task};
+use ot_task::Task;
 use std::alloc::{AllocError, Global};
-
-/// The numbers of the groups that are open where a task stands, the innermost first.
-fn group_numbers(alloc: Global, place: &Place) -> Result<Vec<u32>, AllocError>
-    ensures { IfOk result (λ numbers. numbers.items ≡ map (λ o. o.group) (standing_of place.now).groups) }
-{
-    let mut numbers = Vec::with_capacity(alloc, place.groups.len())?;
-    for group in &place.groups {
-        numbers.push(group.group)?;
-    }
-    numbers.reverse();
-    Ok(numbers)
-}
 
 /// Notes a new child, and makes room for its record. Where memory is refused, no region changes.
 fn note_child(
@@ -43,9 +30,7 @@ fn note_child(
     ensures ordered { OnOk result (AreInOrder decl.now) }
 {
     tasks.reserve(1)?;
-    let decl = Decl::new(decl.uses().to_vec(alloc)?);
-    let numbers = group_numbers(alloc, &tasks[i].place)?;
-    tasks[i].children.add(alloc, decl, &numbers)
+    tasks[i].note_child(alloc, decl)
 }
 
 /// Executes the control statement that comes next for task `i`, if one does: the one body or the other

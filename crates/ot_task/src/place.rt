@@ -22,7 +22,7 @@ pub struct Place {
 }
 
 impl Place {
-    ghost use Rattle.std.specs.Prelude.{if◌then◌else◌, ◌≡◌, ◌+◌, ◌≤◌, ◌<◌, [], ◌∷◌, vec_len, vec_capacity, OnOk, OnErr, IfOk, IsSome, MatchOption};
+    ghost use Rattle.std.specs.Prelude.{if◌then◌else◌, ◌≡◌, ◌+◌, ◌≤◌, ◌<◌, [], ◌∷◌, vec_len, vec_capacity, OnOk, OnErr, IfOk, IsSome, MatchOption, map};
     ghost use Rattle.ot_model.specs.Tree.{End, Next, Set, If, Task, Group, Wait, append};
     ghost use Rattle.ot_model.specs.View.{stmt_of, stmts_of};
     ghost use Rattle.ot_model.specs.Serial.{either};
@@ -52,6 +52,18 @@ impl Place {
         ensures { MatchOption result ((standing_of self.now).rest ≡ End) (λ x. (rest : _) × ((standing_of self.now).rest ≡ Next (stmt_of x.now) rest)) }
     {
         self.rest.last()
+    }
+
+    /// The numbers of the groups that are open, the innermost first.
+    pub(crate) fn group_numbers(&self, alloc: Global) -> Result<Vec<u32>, AllocError>
+        ensures { IfOk result (λ numbers. numbers.items ≡ map (λ o. o.group) (standing_of self.now).groups) }
+    {
+        let mut numbers = Vec::with_capacity(alloc, self.groups.len())?;
+        for group in &self.groups {
+            numbers.push(group.group)?;
+        }
+        numbers.reverse();
+        Ok(numbers)
     }
 
     /// Takes the next statement.

@@ -38,7 +38,8 @@ impl Task {
     ghost use Rattle.ot_task.specs.Weighing.{region_weight};
     ghost use Rattle.ot_task.specs.Pieces.{leading_len, awake, begun};
     ghost use Rattle.ot_task.specs.Pieces.{Runs};
-    ghost use Rattle.ot_task.specs.Regions.{is_control, tasks_next, without, over, stopped};
+    ghost use Rattle.ot_task.specs.Regions.{is_control, tasks_next, with_child, without, over, stopped};
+    ghost use Rattle.ot_model.specs.Uses.{AreInOrder};
     ghost use Rattle.ot_task.specs.Standing.{is_at_end};
     ghost use Rattle.ot_depend.specs.Siblings.{IsReady, IsUnfinished, with_finished};
     ghost use Rattle.ot_depend.specs.Waiting.{LetsTheSame};
@@ -195,6 +196,20 @@ impl Task {
             Some(_) => false,
             None => self.place.groups.is_empty(),
         }
+    }
+
+    /// Notes a child that is created where it stands. The answer is its number, counted from 0. Where
+    /// memory is refused, nothing changes.
+    pub fn note_child(&mut self, alloc: Global, decl: &Decl) -> Result<usize, AllocError>
+        ensures number { IfOk result (λ child. child ≡ length (region_of self.old).children) }
+        ensures noted { OnOk result (region_of self.new ≡ with_child decl.now (region_of self.old)) }
+        ensures refused { OnErr result (region_of self.new ≡ region_of self.old) }
+        ensures place { self.new.place ≡ self.old.place }
+        ensures ordered { OnOk result (AreInOrder decl.now) }
+    {
+        let decl = Decl::new(decl.uses().to_vec(alloc)?);
+        let groups = self.place.group_numbers(alloc)?;
+        self.children.add(alloc, decl, &groups)
     }
 
     /// A child has finished. The answer is the children that waited for it by themselves: each other is
