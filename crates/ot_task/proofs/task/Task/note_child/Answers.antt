@@ -7,6 +7,10 @@ use Rattle.ot_task.specs.RegionView.{region_of}
 use Rattle.ot_task.specs.declared.task.Task.{Task}
 use Rattle.ot_task.proofs.task.Task.note_child.Goals as goal
 
+pub returns-clause-refused : goal.returns-clause-refused
+returns-clause-refused c =
+    on_err_weaker c.add.result (λ same. ap (λ (kids : List Sibling). region_of (record c.args.self.now { children = kids })) same) c.add.ensures.refused
+
 pub returns-clause-noted : goal.returns-clause-noted
 returns-clause-noted c =
     let task : Task = c.args.self.now in
@@ -15,7 +19,3 @@ returns-clause-noted c =
     ap (λ (kids : List Sibling). region_of (record task { children = kids }))
     (added ∙ ap (λ (d : List Use). task.children ++ created d c.deref.result.now ∷ []) (c.new-decl.ensures ∙ c.in_ok-to_vec.ensures.items_if_clones_equal (λ x y e. e) ∙ c.uses.ensures.uses)
     ∙ ap (λ (g : List ℕ). task.children ++ created c.args.decl.now g ∷ []) numbers)) c.add.ensures.added
-
-pub returns-clause-refused : goal.returns-clause-refused
-returns-clause-refused c =
-    on_err_weaker c.add.result (λ same. ap (λ (kids : List Sibling). region_of (record c.args.self.now { children = kids })) same) c.add.ensures.refused
