@@ -7,3 +7,4 @@ pub mod HeldLemmas
 pub mod SameLemmas
 pub mod WeightLemmas
 pub mod ExecuteLemmas
+pub mod WaitsLemmas
