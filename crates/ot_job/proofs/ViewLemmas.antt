@@ -1,10 +1,10 @@
 -- What the code does to its records, told of the regions that they stand for.
-use Rattle.std.proofs.Common.{◌≡◌, ℕ, zero, suc, ◌<◌, length, arith, List, [], ◌∷◌, map, get_or, set, refl, sym, ◌∙◌, ap}
+use Rattle.std.proofs.Common.{◌≡◌, ℕ, zero, suc, ◌<◌, length, arith, List, [], ◌∷◌, map, get_or, set, refl, sym, ◌∙◌, ap, true≢false}
 use Rattle.std.proofs.lemmas.List.{map-set}
 use Rattle.std.proofs.Math.ListN.{get_or-map}
 use Rattle.std.proofs.lemmas.Option.{same_Some}
 use Rattle.ot_model.proofs.CellsLemmas.{set-updated}
-use Rattle.std.specs.Prelude.{Result, Ok, Err, IfOk, OnErr, Bool, Some}
+use Rattle.std.specs.Prelude.{Result, Ok, Err, IfOk, IsErr, OnErr, OnOk, Bool, Some}
 use Rattle.ot_model.specs.Tree.{Set, Add, If, Task as Fork, Wait, Group, Body, End, Next}
 use Rattle.ot_model.specs.declared.stmt.Use.{Use}
 use Rattle.ot_model.specs.Cells.{updated}
@@ -54,6 +54,11 @@ taken_back g (y ∷ xs) (suc i) x f h is back = ap (λ zs. g y ∷ zs) (taken_ba
 pub if_ok_also : {T E : Type 0} {P Q : T → Type 0} (r : Result T E) → ((x : T) → P x → Q x) → IfOk r P → IfOk r Q
 if_ok_also (Ok x) f h = f x h
 if_ok_also (Err e) f h = h
+
+-- what is said of an answer alone says nothing of a refusal
+pub on_ok_of_err : {T E : Type 0} (P : Type 0) (r : Result T E) → IsErr r → OnOk r P
+on_ok_of_err P (Ok x) h = absurd (true≢false (sym h))
+on_ok_of_err P (Err e) h = tt
 
 pub on_err_always : {T E P : Type 0} (r : Result T E) → P → OnErr r P
 on_err_always (Ok x) p = tt

@@ -1,4 +1,4 @@
-use Rattle.std.proofs.Common.{◌≡◌, ◌∙◌, ap, sym, List, slice_index_or, arith}
+use Rattle.std.proofs.Common.{◌∙◌, ap, sym, List, slice_index_or, arith}
 use Rattle.std.proofs.lemmas.Grind.{common_steps}
 use Rattle.std.proofs.lemmas.Result.{on_err_weaker, on_ok_weaker}
 use Rattle.ot_model.specs.Cells.{updated}

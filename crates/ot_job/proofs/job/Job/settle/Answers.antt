@@ -1,4 +1,4 @@
-use Rattle.std.proofs.Common.{rules, refl, ◌≡◌, ◌≤◌, ◌+◌, ◌∙◌, ℕ, ap, sym, subst, arith, List, Bool, true, false}
+use Rattle.std.proofs.Common.{refl, ◌≡◌, ◌≤◌, ◌+◌, ◌∙◌, ℕ, ap, sym, subst, arith, List, Bool, true, false, true≢false}
 use Rattle.std.specs.Prelude.{if◌then◌else◌, option_map, is_err, is_some}
 use Rattle.ot_owner.specs.Leases.{lease_of}
 use Rattle.ot_model.specs.Value.{val}
@@ -23,7 +23,7 @@ use Rattle.ot_job.proofs.PickLemmas.{at-here}
 use Rattle.ot_job.proofs.SettleLemmas.{ok-holds, is-known, lease-out, cells-there, parent-known, child-ready, child-unfinished, assigns-len}
 use Rattle.ot_job.proofs.CourseLemmas.{counts-few, settle-course, settle-lighter, settle-well}
 use Rattle.ot_task.specs.Weighing.{weight_of}
-use Rattle.ot_job.specs.declared.piece.Refused.TheVariants.{Failing, Memory}
+use Rattle.ot_job.specs.declared.piece.Refused.TheVariants.{Stranger, Failing, Memory}
 use Rattle.ot_job.proofs.DealingsLemmas.{settles-pays, refuses-deals}
 use Rattle.ot_job.proofs.job.Job.settle.Goals as goal
 
@@ -446,16 +446,41 @@ returns-clause-pays c =
     let well = subst (λ (l : Live). IsWell (seen_of l)) c.self.view_is c.self.invariant in
     settles-pays (seen_of c.args.self.now) d (c.len-assigns.result + c.units_next-control.result) _ well (omega (arith, few.1, small, more)) (returns-clause-settled c)
 
+pub returns-then-not-is_out-clause-why : goal.returns-then-not-is_out-clause-why
+returns-then-not-is_out-clause-why c =
+    let d : Came = done_of c.args.done in
+    let not_out : IsOut (regions_of c.self.inside.tasks) d → ⊥ =
+    λ out. true≢false (sym (c.is_out.ensures.1 (subst (λ (l : List Task). IsOut (regions_of l) d) (sym c.all.ensures) out)) ∙ c.if-not-is_out.true) in
+    subst (λ (l : Live). IsOut (seen_of l).regions d → ⊥) c.self.view_is not_out
+
+pub returns-then-not-is_out-clause-refuses : goal.returns-then-not-is_out-clause-refuses
+returns-then-not-is_out-clause-refuses c =
+    refuses-deals (seen_of c.args.self.now) (done_of c.args.done) Stranger (subst (λ (l : Live). IsWell (seen_of l)) c.self.view_is c.self.invariant) (returns-then-not-is_out-clause-why c)
+
 pub returns-then-self-clause-why : goal.returns-then-self-clause-why
-returns-then-self-clause-why c = search rules
+returns-then-self-clause-why c =
+    let d : Came = done_of c.args.done in
+    let yes : c.is_out.result ≡ true = c.if-not-is_out.false in
+    let out : IsOut (regions_of c.self.inside.tasks) d = subst (λ (l : List Task). IsOut (regions_of l) d) c.all.ensures (c.is_out.ensures.0 yes) in
+    subst (λ (l : Live). IsOut (seen_of l).regions d × ((seen_of l).failing ≡ true)) c.self.view_is (out, c.if-self.true)
 
 pub returns-then-self-clause-refuses : goal.returns-then-self-clause-refuses
 returns-then-self-clause-refuses c =
     refuses-deals (seen_of c.args.self.now) (done_of c.args.done) Failing (subst (λ (l : Live). IsWell (seen_of l)) c.self.view_is c.self.invariant) (returns-then-self-clause-why c)
 
 pub returns-then-is_err-clause-why : goal.returns-then-is_err-clause-why
-returns-then-is_err-clause-why c = search rules
+returns-then-is_err-clause-why c =
+    let d : Came = done_of c.args.done in
+    let yes : c.is_out.result ≡ true = c.if-not-is_out.false in
+    let out : IsOut (regions_of c.self.inside.tasks) d = subst (λ (l : List Task). IsOut (regions_of l) d) c.all.ensures (c.is_out.ensures.0 yes) in
+    subst (λ (l : Live). IsOut (seen_of l).regions d × ((seen_of l).failing ≡ false)) c.self.view_is (out, c.if-self.false)
 
 pub returns-then-is_err-clause-refuses : goal.returns-then-is_err-clause-refuses
 returns-then-is_err-clause-refuses c =
     refuses-deals (seen_of c.args.self.now) (done_of c.args.done) Memory (subst (λ (l : Live). IsWell (seen_of l)) c.self.view_is c.self.invariant) (returns-then-is_err-clause-why c)
+
+pub returns-then-is_err-clause-spec : goal.returns-then-is_err-clause-spec
+returns-then-is_err-clause-spec c = ap (λ (l : Live). l.spec) c.self.view_is
+
+pub returns-clause-spec : goal.returns-clause-spec
+returns-clause-spec c = ap (λ (l : Live). l.spec) c.self.view_is

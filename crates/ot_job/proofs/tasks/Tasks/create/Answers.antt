@@ -7,7 +7,8 @@ use Rattle.ot_job.specs.Sound.{at}
 use Rattle.std.specs.VecDeque.{deque_capacity}
 use Rattle.ot_job.specs.Listing.{IsListBelow, TellsOf, numbers_of, AreKept}
 use Rattle.ot_task.specs.declared.task.Task.{Task}
-use Rattle.ot_job.proofs.ViewLemmas.{map-kept, map-changed}
+use Rattle.ot_job.specs.Settling.{CreatesInOrder}
+use Rattle.ot_job.proofs.ViewLemmas.{map-kept, map-changed, on_err_always, on_ok_of_err}
 use Rattle.ot_job.proofs.KeepingLemmas.{kept-roomy, tasks-created}
 use Rattle.ot_job.proofs.tasks.Tasks.create.Goals as goal
 
@@ -126,3 +127,45 @@ invariant_of-self-2 c =
     (subst (λ (l : List Task). (j : ℕ) → TellsOf (regions_of l) list1 j → TellsOf (regions_of l) list2 j) same c.refresh-2.ensures.others)
     (omega (arith, number, c.in_ok-make_room_for.ensures.room, c.refresh.ensures.room, c.refresh-2.ensures.room)) in
     subst (λ (l : List Task). AreKept (regions_of l) (numbers_of c.push_reserved-2.new.self.items) list2 (deque_capacity c.refresh-2.new.list) c.self.inside.out (c.self.inside.unended + 1)) c.deref.ensures.value kept
+
+pub returns-in_err-reserve-clause-executed : goal.returns-in_err-reserve-clause-executed
+returns-in_err-reserve-clause-executed c = on_ok_of_err _ c.from_residual.result c.from_residual.ensures.0
+
+pub returns-in_err-reserve-clause-ordered : goal.returns-in_err-reserve-clause-ordered
+returns-in_err-reserve-clause-ordered c = on_ok_of_err _ c.from_residual.result c.from_residual.ensures.0
+
+pub returns-in_err-reserve-clause-refused : goal.returns-in_err-reserve-clause-refused
+returns-in_err-reserve-clause-refused c = on_err_always c.from_residual.result (ap regions_of c.self.view_is)
+
+pub returns-in_err-reserve-2-clause-executed : goal.returns-in_err-reserve-2-clause-executed
+returns-in_err-reserve-2-clause-executed c = on_ok_of_err _ c.from_residual-in_err-reserve-2.result c.from_residual-in_err-reserve-2.ensures.0
+
+pub returns-in_err-reserve-2-clause-ordered : goal.returns-in_err-reserve-2-clause-ordered
+returns-in_err-reserve-2-clause-ordered c = on_ok_of_err _ c.from_residual-in_err-reserve-2.result c.from_residual-in_err-reserve-2.ensures.0
+
+pub returns-in_err-reserve-2-clause-refused : goal.returns-in_err-reserve-2-clause-refused
+returns-in_err-reserve-2-clause-refused c = on_err_always c.from_residual-in_err-reserve-2.result (ap regions_of c.self.view_is)
+
+pub returns-in_err-make_room_for-clause-executed : goal.returns-in_err-make_room_for-clause-executed
+returns-in_err-make_room_for-clause-executed c = on_ok_of_err _ c.from_residual-in_err-make_room_for.result c.from_residual-in_err-make_room_for.ensures.0
+
+pub returns-in_err-make_room_for-clause-ordered : goal.returns-in_err-make_room_for-clause-ordered
+returns-in_err-make_room_for-clause-ordered c = on_ok_of_err _ c.from_residual-in_err-make_room_for.result c.from_residual-in_err-make_room_for.ensures.0
+
+pub returns-in_err-make_room_for-clause-refused : goal.returns-in_err-make_room_for-clause-refused
+returns-in_err-make_room_for-clause-refused c = on_err_always c.from_residual-in_err-make_room_for.result (ap regions_of c.self.view_is)
+
+pub returns-in_err-execute-clause-executed : goal.returns-in_err-execute-clause-executed
+returns-in_err-execute-clause-executed c = on_ok_of_err _ c.from_residual-in_err-execute.result c.from_residual-in_err-execute.ensures.0
+
+pub returns-in_err-execute-clause-ordered : goal.returns-in_err-execute-clause-ordered
+returns-in_err-execute-clause-ordered c = on_ok_of_err _ c.from_residual-in_err-execute.result c.from_residual-in_err-execute.ensures.0
+
+pub returns-in_err-execute-clause-refused : goal.returns-in_err-execute-clause-refused
+returns-in_err-execute-clause-refused c = on_err_always c.from_residual-in_err-execute.result (c.in_err-execute.ensures.refused ∙ ap regions_of c.self.view_is)
+
+pub returns-clause-executed : goal.returns-clause-executed
+returns-clause-executed c = c.in_ok-execute.ensures.executed ∙ ap (λ (l : List Task). executed c.args.taken c.args.group c.args.i (regions_of l)) c.self.view_is
+
+pub returns-clause-ordered : goal.returns-clause-ordered
+returns-clause-ordered c = subst (λ (l : List Task). CreatesInOrder (at (regions_of l) c.args.i)) c.self.view_is c.in_ok-execute.ensures.ordered

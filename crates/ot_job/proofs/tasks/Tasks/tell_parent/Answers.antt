@@ -176,3 +176,25 @@ returns c =
     let now = map-changed region_of tasks c.index.result.now.parent c.index_mut.result.now c.release_child-waiters.new.self (without c.index-2.result.now.child) c.index_mut.ensures.value c.release_child-waiters.ensures.released in
     now ∙ ap (λ q. updated rs q (without c.index-2.result.now.child)) p ∙ ap (λ n. updated rs (parent_of rs i) (without n)) k
     ∙ ap (λ (l : List Task). updated (regions_of l) (parent_of (regions_of l) i) (without (at (regions_of l) i).child)) c.self.view_is
+
+pub refresh-requires-clause-room : goal.refresh-requires-clause-room
+refresh-requires-clause-room c =
+    let tasks = c.self.inside.tasks.items in
+    let rs = regions_of tasks in
+    let now = map-changed region_of tasks c.index.result.now.parent c.index_mut.result.now c.release_child-waiters.new.self (without c.index-2.result.now.child) c.index_mut.ensures.value c.release_child-waiters.ensures.released in
+    let is : regions_of c.deref.result.now ≡ updated rs c.index.result.now.parent (without c.index-2.result.now.child) = ap regions_of c.deref.ensures.value ∙ now in
+    let long : length c.deref.result.now ≡ length rs = sym (length-map c.deref.result.now region_of) ∙ ap length is ∙ length-updated rs c.index.result.now.parent (without c.index-2.result.now.child) in
+    omega (arith, long, c.self.invariant.room)
+
+pub refresh_children-requires-clause-ordered : goal.refresh_children-requires-clause-ordered
+refresh_children-requires-clause-ordered c =
+    subst (λ (l : List Task). IsListBelow (length l) c.refresh.new.list.items) (c.deref.ensures.value ∙ sym c.deref-2.ensures.value) c.refresh.ensures.ordered
+
+pub refresh_children-requires-clause-room : goal.refresh_children-requires-clause-room
+refresh_children-requires-clause-room c =
+    let tasks = c.self.inside.tasks.items in
+    let rs = regions_of tasks in
+    let now = map-changed region_of tasks c.index.result.now.parent c.index_mut.result.now c.release_child-waiters.new.self (without c.index-2.result.now.child) c.index_mut.ensures.value c.release_child-waiters.ensures.released in
+    let is : regions_of c.deref.result.now ≡ updated rs c.index.result.now.parent (without c.index-2.result.now.child) = ap regions_of c.deref.ensures.value ∙ now in
+    let long : length c.deref.result.now ≡ length rs = sym (length-map c.deref.result.now region_of) ∙ ap length is ∙ length-updated rs c.index.result.now.parent (without c.index-2.result.now.child) in
+    omega (arith, long, c.self.invariant.room, c.refresh.ensures.room, ap length (c.deref-2.ensures.value ∙ sym c.deref.ensures.value))
