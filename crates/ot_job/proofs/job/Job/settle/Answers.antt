@@ -457,6 +457,9 @@ pub returns-then-not-is_out-clause-refuses : goal.returns-then-not-is_out-clause
 returns-then-not-is_out-clause-refuses c =
     refuses-deals (seen_of c.args.self.now) (done_of c.args.done) Stranger (subst (λ (l : Live). IsWell (seen_of l)) c.self.view_is c.self.invariant) (returns-then-not-is_out-clause-why c)
 
+pub returns-then-self-clause-settled : goal.returns-then-self-clause-settled
+returns-then-self-clause-settled c = tt
+
 pub returns-then-self-clause-why : goal.returns-then-self-clause-why
 returns-then-self-clause-why c =
     let d : Came = done_of c.args.done in
