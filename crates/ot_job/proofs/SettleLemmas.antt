@@ -1,6 +1,6 @@
 -- A piece that is out.
 use Rattle.std.proofs.Common.{false, true, sym, true≢false, ◌≡◌, ◌<◌, ℕ, zero, suc, List, [], ◌∷◌, length, refl, arith}
-use Rattle.std.specs.Prelude.{All, Contains, IsSome, Some, Result, Ok, Err, OnOk, is_err}
+use Rattle.std.specs.Prelude.{All, Contains, IsSome, Some, Result, Ok, Err, OnOk, OnErr, is_err}
 use Rattle.std.proofs.lemmas.List.Elements.{All-nil, All-cons, All-head, All-tail}
 use Rattle.ot_model.specs.Tree.{Body, End, Next}
 use Rattle.ot_model.specs.Cells.{cell_of}
@@ -73,3 +73,8 @@ none-next (Next x rest) gs at-end child is = absurd (true≢false (sym at-end))
 pub ok-holds : {A B P : Type 0} (r : Result A B) → is_err r ≡ false → OnOk r P → P
 ok-holds (Ok x) ok holds = holds
 ok-holds (Err e) ok holds = absurd (true≢false ok)
+
+-- and what is so where it is refused, once it is
+pub err-holds : {A B P : Type 0} (r : Result A B) → is_err r ≡ true → OnErr r P → P
+err-holds (Ok x) err holds = absurd (true≢false (sym err))
+err-holds (Err e) err holds = holds

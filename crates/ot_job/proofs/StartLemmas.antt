@@ -186,6 +186,23 @@ fails-well j d owned w out ended = record {
   course = λ working. absurd (true≢false working);
 }
 
+-- where a job stands, by what is known of it
+pub state-is-failing : (j : Seen) → j.failing ≡ true → any_out j.regions ≡ true → Failing ≡ state_in j
+state-is-failing j fails out =
+    sym (ap (λ b. if b then (if any_out j.regions then Failing else Failed) else if all_ended j.regions then Ended else Working) fails ∙ ap (λ b. if b then Failing else Failed) out)
+
+pub state-is-failed : (j : Seen) → j.failing ≡ true → any_out j.regions ≡ false → Failed ≡ state_in j
+state-is-failed j fails out =
+    sym (ap (λ b. if b then (if any_out j.regions then Failing else Failed) else if all_ended j.regions then Ended else Working) fails ∙ ap (λ b. if b then Failing else Failed) out)
+
+pub state-is-ended : (j : Seen) → j.failing ≡ false → all_ended j.regions ≡ true → Ended ≡ state_in j
+state-is-ended j fails ended =
+    sym (ap (λ b. if b then (if any_out j.regions then Failing else Failed) else if all_ended j.regions then Ended else Working) fails ∙ ap (λ b. if b then Ended else Working) ended)
+
+pub state-is-working : (j : Seen) → j.failing ≡ false → all_ended j.regions ≡ false → Working ≡ state_in j
+state-is-working j fails ended =
+    sym (ap (λ b. if b then (if any_out j.regions then Failing else Failed) else if all_ended j.regions then Ended else Working) fails ∙ ap (λ b. if b then Ended else Working) ended)
+
 pub state-ended : (j : Seen) → state_in j ≡ Ended → (j.failing ≡ false) × (all_ended j.regions ≡ true)
 state-ended j h = by j.failing (any_out j.regions) (all_ended j.regions) h
   where

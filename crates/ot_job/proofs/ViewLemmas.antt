@@ -60,6 +60,10 @@ pub on_ok_of_err : {T E : Type 0} (P : Type 0) (r : Result T E) → IsErr r → 
 on_ok_of_err P (Ok x) h = absurd (true≢false (sym h))
 on_ok_of_err P (Err e) h = tt
 
+pub if_ok_of_err : {T E : Type 0} (P : T → Type 0) (r : Result T E) → IsErr r → IfOk r P
+if_ok_of_err P (Ok x) h = absurd (true≢false (sym h))
+if_ok_of_err P (Err e) h = tt
+
 pub on_err_always : {T E P : Type 0} (r : Result T E) → P → OnErr r P
 on_err_always (Ok x) p = tt
 on_err_always (Err e) p = p

@@ -23,3 +23,6 @@ returns-in-Err-clause-refused c =
     (ap (λ (b : Body). with_rest b (region_of task))
     (ap rest_of c.push_reserved-in-Err.ensures.items ∙ rest-push task.place.rest.items back ∙ ap (λ (s : S). Next s (rest_of task.place.rest.items)) is))
     ∙ ap (λ (rs : List Region). updated rs c.args.i change) same
+
+pub note_child-requires : goal.note_child-requires
+note_child-requires c = record { known = c.requires.known }

@@ -12,6 +12,9 @@ use Rattle.ot_task.specs.Regions.{Region, with_rest, stepped, next_task, with_cr
 use Rattle.ot_task.specs.RegionView.{region_of, regions_of}
 use Rattle.ot_task.specs.declared.task.Task.{Task}
 use Rattle.ot_job.proofs.ViewLemmas.{map-changed, map-kept, rest_at-record, taken_back, on_err_always, back_on}
+use Rattle.std.proofs.Common.{arith}
+use Rattle.std.proofs.lemmas.List.{length-set}
+use Rattle.ot_job.proofs.ViewLemmas.{on_ok_of_err}
 use Rattle.ot_job.proofs.arena.execute.Goals as goal
 
 pub returns-in_err-step-clause-refused : goal.returns-in_err-step-clause-refused
@@ -69,3 +72,24 @@ returns-in-Some-clause-ordered c =
     let here = at-here c.args.tasks.now.items c.args.i task (search rules) c.index_mut.ensures.value in
     on_ok_weaker c.create.result (λ ordered other is.
     subst (λ (x : List Use × Body). AreInOrder x.0) (same_Some (c.in-Some.decl, stmts_of c.in-Some.body.items) other (sym child ∙ ap (λ (r : Region). next_task r.rest) (sym here) ∙ is)) ordered) c.create.ensures.ordered
+
+pub index_mut-requires : goal.index_mut-requires
+index_mut-requires c = c.requires.known
+
+pub returns-in_err-step-clause-executed : goal.returns-in_err-step-clause-executed
+returns-in_err-step-clause-executed c = on_ok_of_err _ c.from_residual.result c.from_residual.ensures.0
+
+pub returns-in_err-step-clause-ordered : goal.returns-in_err-step-clause-ordered
+returns-in_err-step-clause-ordered c = on_ok_of_err _ c.from_residual.result c.from_residual.ensures.0
+
+pub returns-in_err-step-clause-long : goal.returns-in_err-step-clause-long
+returns-in_err-step-clause-long c = omega (arith, length-set c.args.tasks.now.items c.args.i c.step.new.self)
+
+pub create-requires-clause-known : goal.create-requires-clause-known
+create-requires-clause-known c = c.requires.known
+
+pub returns-in-None-clause-long : goal.returns-in-None-clause-long
+returns-in-None-clause-long c = omega (arith, length-set c.args.tasks.now.items c.args.i c.step.new.self)
+
+pub returns-in-Some-clause-long : goal.returns-in-Some-clause-long
+returns-in-Some-clause-long c = omega (arith, length-set c.args.tasks.now.items c.args.i c.step.new.self, c.create.ensures.long)

@@ -6,6 +6,7 @@ use Rattle.ot_task.specs.Regions.{with_child, children_at}
 use Rattle.ot_task.specs.RegionView.{region_of, regions_of}
 use Rattle.ot_task.specs.declared.task.Task.{Task}
 use Rattle.ot_job.proofs.ViewLemmas.{map-changed, map-kept, field-kept, children_at-record, if_ok_also}
+use Rattle.ot_job.proofs.ViewLemmas.{on_ok_of_err, on_err_always, if_ok_of_err}
 use Rattle.ot_job.proofs.arena.note_child.Goals as goal
 
 pub returns-clause-noted : goal.returns-clause-noted
@@ -33,3 +34,18 @@ pub returns-clause-place : goal.returns-clause-place
 returns-clause-place c d =
     field-kept (λ (t : Task). t.place) c.reserve.new.self.items c.args.i c.index_mut.result.now _ d c.index_mut.ensures.value c.note_child.ensures.place
     ∙ ap (λ (ts : List Task). (slice_index_or ts c.args.i d).place) c.reserve.ensures.items
+
+pub returns-in_err-reserve-clause-noted : goal.returns-in_err-reserve-clause-noted
+returns-in_err-reserve-clause-noted c = on_ok_of_err _ c.from_residual.result c.from_residual.ensures.0
+
+pub returns-in_err-reserve-clause-room : goal.returns-in_err-reserve-clause-room
+returns-in_err-reserve-clause-room c = on_ok_of_err _ c.from_residual.result c.from_residual.ensures.0
+
+pub returns-in_err-reserve-clause-ordered : goal.returns-in_err-reserve-clause-ordered
+returns-in_err-reserve-clause-ordered c = on_ok_of_err _ c.from_residual.result c.from_residual.ensures.0
+
+pub returns-in_err-reserve-clause-number : goal.returns-in_err-reserve-clause-number
+returns-in_err-reserve-clause-number c = if_ok_of_err _ c.from_residual.result c.from_residual.ensures.0
+
+pub returns-in_err-reserve-clause-refused : goal.returns-in_err-reserve-clause-refused
+returns-in_err-reserve-clause-refused c = on_err_always c.from_residual.result (ap regions_of c.reserve.ensures.items)

@@ -1,4 +1,4 @@
-use Rattle.std.proofs.Common.{rules, [], ◌≡◌, ◌<◌, ◌∙◌, ap, sym, subst, arith, length, List, Bool}
+use Rattle.std.proofs.Common.{rules, refl, [], ◌≡◌, ◌<◌, ◌∙◌, ap, sym, subst, arith, length, List, Bool}
 use Rattle.std.specs.Prelude.{Some, Option, option_map, if◌then◌else◌}
 use Rattle.std.proofs.lemmas.List.{length-map}
 use Rattle.ot_model.specs.Tree.{E, Body}
@@ -32,7 +32,8 @@ use Rattle.ot_job.proofs.DealingsLemmas.{claimed-gives, picked-in, picked-some, 
 use Rattle.std.specs.Prelude.{None}
 use Rattle.ot_job.specs.Dealings.{state_of}
 use Rattle.ot_job.specs.declared.state.State.TheVariants.{Working}
-use Rattle.ot_job.proofs.ViewLemmas.{on_err_always}
+use Rattle.ot_owner.specs.Owning.{Owned}
+use Rattle.ot_job.proofs.ViewLemmas.{if_ok_of_err, on_err_always}
 use Rattle.ot_job.proofs.job.Job.claim.Goals as goal
 
 pub get-requires : goal.get-requires
@@ -287,3 +288,59 @@ returns-in_err-lent-clause-some c =
     (ap (λ (l : Live). picked (claimable_in (seen_of l)) c.args.pick) c.self.view_is ∙ sym c.pick.ensures ∙ c.in-Some.is) in
     let is : picked (claimable_of (regions_of c.self.inside.tasks)) c.args.pick ≡ Some c.in-Some.task = found.1 in
     on_err_always c.from_residual-in_err-lent.result (subst (λ (l : Live). 0 < length (claimable_in (seen_of l))) c.self.view_is (picked-some j c.args.pick c.in-Some.task found.0 is))
+
+pub returns-in_err-room-clause-claimed : goal.returns-in_err-room-clause-claimed
+returns-in_err-room-clause-claimed c = if_ok_of_err _ c.from_residual.result c.from_residual.ensures.0
+
+pub returns-in_err-room-clause-gives : goal.returns-in_err-room-clause-gives
+returns-in_err-room-clause-gives c = if_ok_of_err _ c.from_residual.result c.from_residual.ensures.0
+
+pub returns-in_err-room-clause-refused : goal.returns-in_err-room-clause-refused
+returns-in_err-room-clause-refused c = on_err_always c.from_residual.result refl
+
+pub lease-requires-clause-there : goal.lease-requires-clause-there
+lease-requires-clause-there c = c.in_ok-room.ensures.there
+
+pub invariant_of-self : goal.invariant_of-self
+invariant_of-self c =
+    let seen : Owned → Seen = λ owned. record {
+      program = expanded_of c.self.inside.spec.checked.program;
+      before = c.self.inside.spec.before;
+      cells = c.self.inside.cells;
+      owned = owned;
+      regions = regions_of c.self.inside.tasks;
+      counts = c.self.inside.counts;
+      failing = c.self.inside.failing;
+    } in
+    subst (λ (o : Owned). IsWell (seen o)) (sym c.in_err-lent.ensures.memory) c.self.invariant
+
+pub returns-in_err-lent-clause-weight : goal.returns-in_err-lent-clause-weight
+returns-in_err-lent-clause-weight c = ap (λ (l : Live). weight_of (regions_of l.tasks)) c.self.view_is
+
+pub returns-in_err-lent-clause-spec : goal.returns-in_err-lent-clause-spec
+returns-in_err-lent-clause-spec c = ap (λ (l : Live). l.spec) c.self.view_is
+
+pub returns-in_err-lent-clause-claimed : goal.returns-in_err-lent-clause-claimed
+returns-in_err-lent-clause-claimed c = if_ok_of_err _ c.from_residual-in_err-lent.result c.from_residual-in_err-lent.ensures.0
+
+pub returns-in_err-lent-clause-gives : goal.returns-in_err-lent-clause-gives
+returns-in_err-lent-clause-gives c = if_ok_of_err _ c.from_residual-in_err-lent.result c.from_residual-in_err-lent.ensures.0
+
+pub returns-in_err-lent-clause-refused : goal.returns-in_err-lent-clause-refused
+returns-in_err-lent-clause-refused c =
+    let seen : Owned → Seen = λ owned. record {
+      program = expanded_of c.self.inside.spec.checked.program;
+      before = c.self.inside.spec.before;
+      cells = c.self.inside.cells;
+      owned = owned;
+      regions = regions_of c.self.inside.tasks;
+      counts = c.self.inside.counts;
+      failing = c.self.inside.failing;
+    } in
+    on_err_always c.from_residual-in_err-lent.result (ap seen c.in_err-lent.ensures.memory ∙ ap seen_of c.self.view_is)
+
+pub begin-requires-clause-empty : goal.begin-requires-clause-empty
+begin-requires-clause-empty c = c.in_ok-room.ensures.empty
+
+pub returns-clause-spec : goal.returns-clause-spec
+returns-clause-spec c = ap (λ (l : Live). l.spec) c.self.view_is

@@ -20,7 +20,7 @@ use Rattle.ot_job.specs.Well.{IsWell}
 use Rattle.ot_task.specs.declared.task.Task.{Task}
 use Rattle.ot_job.proofs.WellLemmas.{settle-may}
 use Rattle.ot_job.proofs.PickLemmas.{at-here}
-use Rattle.ot_job.proofs.SettleLemmas.{ok-holds, is-known, lease-out, cells-there, parent-known, child-ready, child-unfinished, assigns-len}
+use Rattle.ot_job.proofs.SettleLemmas.{ok-holds, err-holds, is-known, lease-out, cells-there, parent-known, child-ready, child-unfinished, assigns-len}
 use Rattle.ot_job.proofs.CourseLemmas.{counts-few, settle-course, settle-lighter, settle-well}
 use Rattle.ot_task.specs.Weighing.{weight_of}
 use Rattle.ot_job.specs.declared.piece.Refused.TheVariants.{Stranger, Failing, Memory}
@@ -487,3 +487,38 @@ returns-then-is_err-clause-spec c = ap (λ (l : Live). l.spec) c.self.view_is
 
 pub returns-clause-spec : goal.returns-clause-spec
 returns-clause-spec c = ap (λ (l : Live). l.spec) c.self.view_is
+
+pub invariant_of-self : goal.invariant_of-self
+invariant_of-self c =
+    let seen : List Region → Seen = λ regions. record {
+      program = expanded_of c.self.inside.spec.checked.program;
+      before = c.self.inside.spec.before;
+      cells = c.self.inside.cells;
+      owned = c.self.inside.owners;
+      regions = regions;
+      counts = c.self.inside.counts;
+      failing = c.self.inside.failing;
+    } in
+    let same = err-holds c.settle.result (sym c.is_err.ensures.value ∙ c.if-is_err.true) c.settle.ensures.refused in
+    subst (λ (l : List Region). IsWell (seen l)) (sym same) c.self.invariant
+
+pub returns-then-is_err-clause-refused : goal.returns-then-is_err-clause-refused
+returns-then-is_err-clause-refused c =
+    let seen : List Region → Seen = λ regions. record {
+      program = expanded_of c.self.inside.spec.checked.program;
+      before = c.self.inside.spec.before;
+      cells = c.self.inside.cells;
+      owned = c.self.inside.owners;
+      regions = regions;
+      counts = c.self.inside.counts;
+      failing = c.self.inside.failing;
+    } in
+    let same = err-holds c.settle.result (sym c.is_err.ensures.value ∙ c.if-is_err.true) c.settle.ensures.refused in
+    ap seen same ∙ ap seen_of c.self.view_is
+
+-- what a settle does is said of no refusal
+pub returns-then-self-clause-lighter : goal.returns-then-self-clause-lighter
+returns-then-self-clause-lighter c = tt
+
+pub returns-then-self-clause-pays : goal.returns-then-self-clause-pays
+returns-then-self-clause-pays c = tt

@@ -3,7 +3,8 @@ use Rattle.ot_model.specs.Programs.{expanded_of}
 use Rattle.ot_job.specs.Live.{Live, Seen, seen_of}
 use Rattle.ot_task.specs.RegionView.{regions_of}
 use Rattle.ot_job.specs.States.{all_ended, any_out}
-use Rattle.ot_job.proofs.StartLemmas.{ended-none-out}
+use Rattle.ot_job.specs.Well.{IsWell}
+use Rattle.ot_job.proofs.StartLemmas.{ended-none-out, state-is-failing, state-is-failed, state-is-ended, state-is-working}
 use Rattle.ot_job.proofs.DealingsLemmas.{none-out, out-none}
 use Rattle.ot_job.proofs.job.Job.state.Goals as goal
 
@@ -33,3 +34,41 @@ pub returns-then-any_out-clause-going : goal.returns-then-any_out-clause-going
 returns-then-any_out-clause-going c = λ is none.
     let some : any_out (regions_of c.self.inside.tasks) ≡ true = search rules in
     true≢false (sym some ∙ ap (λ (l : Live). any_out (regions_of l.tasks)) c.self.view_is ∙ out-none (seen_of c.args.self.now) none)
+
+pub returns-then-any_out-clause-is : goal.returns-then-any_out-clause-is
+returns-then-any_out-clause-is c =
+    state-is-failing (seen_of c.args.self.now) (sym (ap (λ (l : Live). l.failing) c.self.view_is) ∙ c.if-self.true)
+    (sym (ap (λ (l : Live). any_out (regions_of l.tasks)) c.self.view_is) ∙ sym c.any_out.ensures ∙ c.if-any_out.true)
+
+pub returns-then-any_out-clause-well : goal.returns-then-any_out-clause-well
+returns-then-any_out-clause-well c = subst (λ (l : Live). IsWell (seen_of l)) c.self.view_is c.self.invariant
+
+pub returns-else-any_out-clause-is : goal.returns-else-any_out-clause-is
+returns-else-any_out-clause-is c =
+    state-is-failed (seen_of c.args.self.now) (sym (ap (λ (l : Live). l.failing) c.self.view_is) ∙ c.if-self.true)
+    (sym (ap (λ (l : Live). any_out (regions_of l.tasks)) c.self.view_is) ∙ sym c.any_out.ensures ∙ c.if-any_out.false)
+
+pub returns-else-any_out-clause-well : goal.returns-else-any_out-clause-well
+returns-else-any_out-clause-well c = subst (λ (l : Live). IsWell (seen_of l)) c.self.view_is c.self.invariant
+
+pub returns-then-all_ended-clause-is : goal.returns-then-all_ended-clause-is
+returns-then-all_ended-clause-is c =
+    state-is-ended (seen_of c.args.self.now) (sym (ap (λ (l : Live). l.failing) c.self.view_is) ∙ c.if-self.false)
+    (sym (ap (λ (l : Live). all_ended (regions_of l.tasks)) c.self.view_is) ∙ sym c.all_ended.ensures ∙ c.if-all_ended.true)
+
+pub returns-then-all_ended-clause-well : goal.returns-then-all_ended-clause-well
+returns-then-all_ended-clause-well c = subst (λ (l : Live). IsWell (seen_of l)) c.self.view_is c.self.invariant
+
+pub returns-else-all_ended-clause-is : goal.returns-else-all_ended-clause-is
+returns-else-all_ended-clause-is c =
+    state-is-working (seen_of c.args.self.now) (sym (ap (λ (l : Live). l.failing) c.self.view_is) ∙ c.if-self.false)
+    (sym (ap (λ (l : Live). all_ended (regions_of l.tasks)) c.self.view_is) ∙ sym c.all_ended.ensures ∙ c.if-all_ended.false)
+
+pub returns-else-all_ended-clause-well : goal.returns-else-all_ended-clause-well
+returns-else-all_ended-clause-well c = subst (λ (l : Live). IsWell (seen_of l)) c.self.view_is c.self.invariant
+
+pub returns-else-all_ended-clause-calm : goal.returns-else-all_ended-clause-calm
+returns-else-all_ended-clause-calm c = λ over. absurd over
+
+pub returns-else-all_ended-clause-ended : goal.returns-else-all_ended-clause-ended
+returns-else-all_ended-clause-ended c = λ is. cc

@@ -1,5 +1,8 @@
 use Rattle.std.proofs.Common.{◌≡◌, ◌<◌, ◌∙◌, ap, subst, arith, refl, ◌+◌, List, length, None}
-use Rattle.std.proofs.lemmas.List.{length-map}
+use Rattle.std.specs.Prelude.{is_some}
+use Rattle.std.proofs.lemmas.List.{length-map, length-set}
+use Rattle.std.proofs.lemmas.List.Sums.{count_by-le-length}
+use Rattle.ot_task.specs.Regions.{Region}
 use Rattle.ot_model.specs.Cells.{updated}
 use Rattle.ot_task.specs.RegionView.{region_of, regions_of}
 use Rattle.ot_job.specs.Sound.{at}
@@ -50,3 +53,19 @@ returns c =
     let i = c.args.i in
     let now = map-changed region_of tasks i c.index_mut.result.now c.begin.new.self (begun c.args.right) c.index_mut.ensures.value c.begin.ensures in
     now ∙ ap (λ (l : List Task). updated (regions_of l) i (begun c.args.right)) c.self.view_is
+
+pub index_mut-requires : goal.index_mut-requires
+index_mut-requires c = omega (arith, c.requires.known, ap length c.self.view_is, c.self.inside.tasks.ok.0)
+
+pub refresh-requires-clause-known : goal.refresh-requires-clause-known
+refresh-requires-clause-known c = omega (arith, c.requires.known, ap length c.self.view_is, ap length c.deref.ensures.value, length-set c.self.inside.tasks.items c.args.i c.begin.new.self)
+
+pub refresh-requires-clause-room : goal.refresh-requires-clause-room
+refresh-requires-clause-room c = omega (arith, c.self.invariant.room, length-map c.self.inside.tasks.items region_of, ap length c.deref.ensures.value, length-set c.self.inside.tasks.items c.args.i c.begin.new.self)
+
+pub begin-requires-clause-empty : goal.begin-requires-clause-empty
+begin-requires-clause-empty c = c.requires.empty
+
+pub overflow_add-self : goal.overflow_add-self
+overflow_add-self c =
+    omega (arith, c.self.invariant.counted.out, count_by-le-length (λ (r : Region). is_some r.running) (regions_of c.self.inside.tasks.items), length-map c.self.inside.tasks.items region_of, c.self.inside.tasks.ok, c.self.inside.tasks.small)

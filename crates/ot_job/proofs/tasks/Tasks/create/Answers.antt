@@ -1,5 +1,7 @@
 use Rattle.std.proofs.Common.{◌≡◌, ◌<◌, ◌+◌, ◌∙◌, ap, sym, subst, arith, ℕ, List, [], ◌∷◌, ◌++◌, map, set, length}
-use Rattle.std.proofs.lemmas.List.{length-map, map-append}
+use Rattle.std.proofs.lemmas.List.{length-map, length-set, map-append, get_or-set_same}
+use Rattle.std.proofs.lemmas.List.Sums.{count_by-le-length}
+use Rattle.std.specs.Prelude.{not, vec_len, vec_capacity, get_or}
 use Rattle.ot_model.specs.Cells.{updated}
 use Rattle.ot_task.specs.Regions.{Region, executed, tasks_next}
 use Rattle.ot_task.specs.RegionView.{region_of, regions_of}
@@ -169,3 +171,50 @@ returns-clause-executed c = c.in_ok-execute.ensures.executed ∙ ap (λ (l : Lis
 
 pub returns-clause-ordered : goal.returns-clause-ordered
 returns-clause-ordered c = subst (λ (l : List Task). CreatesInOrder (at (regions_of l) c.args.i)) c.self.view_is c.in_ok-execute.ensures.ordered
+
+pub index_mut-requires : goal.index_mut-requires
+index_mut-requires c =
+    omega (arith, c.requires.known, ap length c.self.view_is, length-map c.self.inside.tasks.items region_of, c.self.invariant.numbered.long, length-map c.self.inside.children.items (λ v. v.items), c.self.inside.children.ok.0)
+
+pub execute-requires : goal.execute-requires
+execute-requires c = record { known = omega (arith, c.requires.known, ap length c.self.view_is, c.self.inside.tasks.ok.0) }
+
+pub index_mut-requires-2 : goal.index_mut-requires-2
+index_mut-requires-2 c =
+    omega (
+      arith,
+      c.requires.known,
+      ap length c.self.view_is,
+      length-map c.self.inside.tasks.items region_of,
+      c.self.invariant.numbered.long,
+      length-map c.self.inside.children.items (λ v. v.items),
+      ap length c.reserve-2.ensures.items,
+      length-set c.self.inside.children.items c.args.i c.reserve.new.self,
+      c.reserve-2.new.self.ok.0,
+    )
+
+pub refresh-requires-clause-known : goal.refresh-requires-clause-known
+refresh-requires-clause-known c =
+    omega (arith, c.requires.known, ap length c.self.view_is, c.in_ok-execute.ensures.long, ap length c.deref.ensures.value)
+
+pub refresh-requires-2-clause-ordered : goal.refresh-requires-2-clause-ordered
+refresh-requires-2-clause-ordered c =
+    subst (λ (n : ℕ). IsListBelow n c.refresh.new.list.items) (ap length (c.deref.ensures.value ∙ sym c.deref-2.ensures.value)) c.refresh.ensures.ordered
+
+pub push_reserved-requires : goal.push_reserved-requires
+push_reserved-requires c =
+    let lists = c.self.inside.children.items in
+    let within : c.args.i < length lists = omega (arith, c.requires.known, ap length c.self.view_is, length-map c.self.inside.tasks.items region_of, c.self.invariant.numbered.long, length-map lists (λ v. v.items)) in
+    let here : c.index_mut-2.result.now ≡ c.reserve.new.self = c.index_mut-2.ensures.value ∙ ap (λ l. get_or l c.args.i c.index_mut-2.result.now) c.reserve-2.ensures.items
+    ∙ get_or-set_same lists c.args.i c.reserve.new.self c.index_mut-2.result.now within in
+    subst (λ v. vec_len v < vec_capacity v) (sym here) (omega (arith, c.in_ok-reserve.ensures.ok, c.in_ok-reserve.ensures.len))
+
+pub push_reserved-requires-2 : goal.push_reserved-requires-2
+push_reserved-requires-2 c = omega (arith, c.in_ok-reserve-2.ensures.ok, c.in_ok-reserve-2.ensures.len)
+
+pub overflow_add-number : goal.overflow_add-number
+overflow_add-number c = omega (arith, c.len-number.ensures, c.self.inside.tasks.ok, c.self.inside.tasks.small)
+
+pub overflow_add-self : goal.overflow_add-self
+overflow_add-self c =
+    omega (arith, c.self.invariant.counted.unended, count_by-le-length (λ (r : Region). not r.ended) (regions_of c.self.inside.tasks.items), length-map c.self.inside.tasks.items region_of, c.self.inside.tasks.ok, c.self.inside.tasks.small)

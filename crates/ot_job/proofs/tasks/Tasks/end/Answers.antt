@@ -1,5 +1,5 @@
 use Rattle.std.proofs.Common.{◌≡◌, ◌<◌, ◌∙◌, ap, subst, arith, refl, ◌-◌, List, false, length}
-use Rattle.std.proofs.lemmas.List.{length-map}
+use Rattle.std.proofs.lemmas.List.{length-map, length-set}
 use Rattle.ot_model.specs.Cells.{updated}
 use Rattle.ot_task.specs.RegionView.{region_of, regions_of}
 use Rattle.ot_job.specs.Sound.{at}
@@ -51,3 +51,12 @@ returns c =
     let i = c.args.i in
     let now = map-changed region_of tasks i c.index_mut.result.now c.end.new.self over c.index_mut.ensures.value c.end.ensures in
     now ∙ ap (λ (l : List Task). updated (regions_of l) i over) c.self.view_is
+
+pub index_mut-requires : goal.index_mut-requires
+index_mut-requires c = omega (arith, c.requires.known, ap length c.self.view_is, c.self.inside.tasks.ok.0)
+
+pub refresh-requires-clause-known : goal.refresh-requires-clause-known
+refresh-requires-clause-known c = omega (arith, c.requires.known, ap length c.self.view_is, ap length c.deref.ensures.value, length-set c.self.inside.tasks.items c.args.i c.end.new.self)
+
+pub refresh-requires-clause-room : goal.refresh-requires-clause-room
+refresh-requires-clause-room c = omega (arith, c.self.invariant.room, length-map c.self.inside.tasks.items region_of, ap length c.deref.ensures.value, length-set c.self.inside.tasks.items c.args.i c.end.new.self)

@@ -12,6 +12,7 @@ use Rattle.ot_job.proofs.PickLemmas.{at-here}
 use Rattle.ot_job.proofs.SettleLemmas.{none-next}
 use Rattle.ot_job.proofs.StepLemmas.{moved-running, moved-length}
 use Rattle.ot_job.proofs.tasks.Tasks.settle.Goals.{then-is_at_end, else-is_at_end+then-tasks_next-eq0+in_ok-advance, else-is_at_end+else-tasks_next-eq0+in_ok-create}
+use Rattle.ot_job.proofs.ViewLemmas.{on_ok_of_err, on_err_always}
 use Rattle.ot_job.proofs.tasks.Tasks.settle.Goals as goal
 
 pub advance-requires-clause-none : goal.advance-requires-clause-none
@@ -96,3 +97,48 @@ returns-clause-settled c =
           ap regions_of w.self-is ∙ w.in_ok-create.ensures.executed ∙ ap (λ (b : Bool). if b then closed i rs else executed c.args.taken c.args.group i rs) (sym (at-end ∙ no_end)))
     ] in
     c.stop.ensures ∙ ap (λ (l : List Region). updated l i stopped) moved
+
+pub index-requires : goal.index-requires
+index-requires c = omega (arith, c.requires.known, ap length c.self.view_is, c.self.inside.tasks.ok.0)
+
+pub index-requires-else-is_at_end : goal.index-requires-else-is_at_end
+index-requires-else-is_at_end c = omega (arith, c.requires.known, ap length c.self.view_is, c.self.inside.tasks.ok.0)
+
+pub close-requires-clause-known : goal.close-requires-clause-known
+close-requires-clause-known c = c.requires.known
+
+pub close-requires-clause-alive : goal.close-requires-clause-alive
+close-requires-clause-alive c = c.requires.alive
+
+pub close-requires-clause-parent : goal.close-requires-clause-parent
+close-requires-clause-parent c = c.requires.parent
+
+pub close-requires-clause-ready : goal.close-requires-clause-ready
+close-requires-clause-ready c = c.requires.ready
+
+pub close-requires-clause-unfinished : goal.close-requires-clause-unfinished
+close-requires-clause-unfinished c = c.requires.unfinished
+
+pub advance-requires-clause-known : goal.advance-requires-clause-known
+advance-requires-clause-known c = c.requires.known
+
+pub create-requires-clause-known : goal.create-requires-clause-known
+create-requires-clause-known c = c.requires.known
+
+pub returns-in_err-advance-clause-ordered : goal.returns-in_err-advance-clause-ordered
+returns-in_err-advance-clause-ordered c = on_ok_of_err _ c.from_residual.result c.from_residual.ensures.0
+
+pub returns-in_err-advance-clause-settled : goal.returns-in_err-advance-clause-settled
+returns-in_err-advance-clause-settled c = on_ok_of_err _ c.from_residual.result c.from_residual.ensures.0
+
+pub returns-in_err-advance-clause-refused : goal.returns-in_err-advance-clause-refused
+returns-in_err-advance-clause-refused c = on_err_always c.from_residual.result c.in_err-advance.ensures.refused
+
+pub returns-in_err-create-clause-ordered : goal.returns-in_err-create-clause-ordered
+returns-in_err-create-clause-ordered c = on_ok_of_err _ c.from_residual-in_err-create.result c.from_residual-in_err-create.ensures.0
+
+pub returns-in_err-create-clause-settled : goal.returns-in_err-create-clause-settled
+returns-in_err-create-clause-settled c = on_ok_of_err _ c.from_residual-in_err-create.result c.from_residual-in_err-create.ensures.0
+
+pub returns-in_err-create-clause-refused : goal.returns-in_err-create-clause-refused
+returns-in_err-create-clause-refused c = on_err_always c.from_residual-in_err-create.result c.in_err-create.ensures.refused

@@ -1,6 +1,6 @@
 use Rattle.std.proofs.Common.{◌≡◌, ◌<◌, ◌∙◌, ap, subst, arith, refl, ◌-◌, List, true, length}
 use Rattle.std.specs.Prelude.{is_some}
-use Rattle.std.proofs.lemmas.List.{length-map}
+use Rattle.std.proofs.lemmas.List.{length-map, length-set}
 use Rattle.ot_model.specs.Cells.{updated}
 use Rattle.ot_task.specs.RegionView.{region_of, regions_of}
 use Rattle.ot_job.specs.Sound.{at}
@@ -52,3 +52,12 @@ returns c =
     let i = c.args.i in
     let now = map-changed region_of tasks i c.index_mut.result.now c.stop.new.self stopped c.index_mut.ensures.value c.stop.ensures in
     now ∙ ap (λ (l : List Task). updated (regions_of l) i stopped) c.self.view_is
+
+pub index_mut-requires : goal.index_mut-requires
+index_mut-requires c = omega (arith, c.requires.known, ap length c.self.view_is, c.self.inside.tasks.ok.0)
+
+pub refresh-requires-clause-known : goal.refresh-requires-clause-known
+refresh-requires-clause-known c = omega (arith, c.requires.known, ap length c.self.view_is, ap length c.deref.ensures.value, length-set c.self.inside.tasks.items c.args.i c.stop.new.self)
+
+pub refresh-requires-clause-room : goal.refresh-requires-clause-room
+refresh-requires-clause-room c = omega (arith, c.self.invariant.room, length-map c.self.inside.tasks.items region_of, ap length c.deref.ensures.value, length-set c.self.inside.tasks.items c.args.i c.stop.new.self)
