@@ -35,6 +35,7 @@ pub mod CountLemmas
 pub mod CourseLemmas
 pub mod TakenLemmas
 pub mod RunLemmas
+mod InsideLemmas
 pub mod StartLemmas
 pub mod FreeTaskLemmas
 pub mod WeighingLemmas

@@ -4,7 +4,6 @@ use Rattle.std.proofs.lemmas.List.{length-map}
 use Rattle.ot_model.specs.Tree.{E, Body}
 use Rattle.ot_model.specs.Cells.{lengths, updated}
 use Rattle.ot_model.specs.Names.{NamedIn}
-use Rattle.ot_model.specs.Programs.{expanded_of}
 use Rattle.ot_model.specs.Uses.{AreInOrder}
 use Rattle.ot_model.specs.View.{expr_of}
 use Rattle.ot_owner.specs.Leases.{lease_of, lent_from}
@@ -28,7 +27,8 @@ use Rattle.ot_job.proofs.PickLemmas.{picked-claimable, at-here}
 use Rattle.ot_job.specs.States.{claimable_in}
 use Rattle.ot_task.specs.Weighing.{weight_of}
 use Rattle.ot_job.proofs.WeighingLemmas.{weight-begun}
-use Rattle.ot_job.proofs.DealingsLemmas.{claimed-gives, picked-in, picked-some, picked-working}
+use Rattle.ot_job.proofs.DealingsLemmas.{claimed-gives, picked-some, picked-working}
+use Rattle.ot_job.proofs.InsideLemmas.{seen_in, picked-here}
 use Rattle.std.specs.Prelude.{None}
 use Rattle.ot_job.specs.Dealings.{state_of}
 use Rattle.ot_job.specs.declared.state.State.TheVariants.{Working}
@@ -38,16 +38,14 @@ use Rattle.ot_job.proofs.job.Job.claim.Goals as goal
 
 pub get-requires : goal.get-requires
 get-requires c =
-    let found = picked-in c.self.inside.failing (regions_of c.self.inside.tasks) c.args.pick c.in-Some.task
-    (ap (λ (l : Live). picked (claimable_in (seen_of l)) c.args.pick) c.self.view_is ∙ sym c.pick.ensures ∙ c.in-Some.is) in
+    let found = picked-here c.self.inside _ c.args.pick c.in-Some.task _ c.self.view_is c.pick.ensures c.in-Some.is in
     let is : picked (claimable_of (regions_of c.self.inside.tasks)) c.args.pick ≡ Some c.in-Some.task = found.1 in
     omega (arith, (picked-claimable (regions_of c.self.inside.tasks) c.args.pick c.in-Some.task is).0, length-map c.self.inside.tasks region_of)
 
 pub prepare-requires : goal.prepare-requires
 prepare-requires c =
     let tasks = c.self.inside.tasks in
-    let found = picked-in c.self.inside.failing (regions_of c.self.inside.tasks) c.args.pick c.in-Some.task
-    (ap (λ (l : Live). picked (claimable_in (seen_of l)) c.args.pick) c.self.view_is ∙ sym c.pick.ensures ∙ c.in-Some.is) in
+    let found = picked-here c.self.inside _ c.args.pick c.in-Some.task _ c.self.view_is c.pick.ensures c.in-Some.is in
     let is : picked (claimable_of (regions_of tasks)) c.args.pick ≡ Some c.in-Some.task = found.1 in
     let within : c.in-Some.task < length tasks = omega (arith, (picked-claimable (regions_of tasks) c.args.pick c.in-Some.task is).0, length-map tasks region_of) in
     let here = at-here tasks c.in-Some.task c.get.result.now within c.get.ensures in
@@ -57,8 +55,7 @@ prepare-requires c =
 pub lease-requires-clause-free : goal.lease-requires-clause-free
 lease-requires-clause-free c =
     let tasks = c.self.inside.tasks in
-    let found = picked-in c.self.inside.failing (regions_of c.self.inside.tasks) c.args.pick c.in-Some.task
-    (ap (λ (l : Live). picked (claimable_in (seen_of l)) c.args.pick) c.self.view_is ∙ sym c.pick.ensures ∙ c.in-Some.is) in
+    let found = picked-here c.self.inside _ c.args.pick c.in-Some.task _ c.self.view_is c.pick.ensures c.in-Some.is in
     let is : picked (claimable_of (regions_of tasks)) c.args.pick ≡ Some c.in-Some.task = found.1 in
     let both = picked-claimable (regions_of tasks) c.args.pick c.in-Some.task is in
     let within : c.in-Some.task < length tasks = omega (arith, both.0, length-map tasks region_of) in
@@ -68,16 +65,14 @@ lease-requires-clause-free c =
 
 pub begin-requires-clause-known : goal.begin-requires-clause-known
 begin-requires-clause-known c =
-    let found = picked-in c.self.inside.failing (regions_of c.self.inside.tasks) c.args.pick c.in-Some.task
-    (ap (λ (l : Live). picked (claimable_in (seen_of l)) c.args.pick) c.self.view_is ∙ sym c.pick.ensures ∙ c.in-Some.is) in
+    let found = picked-here c.self.inside _ c.args.pick c.in-Some.task _ c.self.view_is c.pick.ensures c.in-Some.is in
     let is : picked (claimable_of (regions_of c.self.inside.tasks)) c.args.pick ≡ Some c.in-Some.task = found.1 in
     omega (arith, (picked-claimable (regions_of c.self.inside.tasks) c.args.pick c.in-Some.task is).0, length-map c.self.inside.tasks region_of)
 
 pub begin-requires-clause-room : goal.begin-requires-clause-room
 begin-requires-clause-room c =
     let tasks = c.self.inside.tasks in
-    let found = picked-in c.self.inside.failing (regions_of c.self.inside.tasks) c.args.pick c.in-Some.task
-    (ap (λ (l : Live). picked (claimable_in (seen_of l)) c.args.pick) c.self.view_is ∙ sym c.pick.ensures ∙ c.in-Some.is) in
+    let found = picked-here c.self.inside _ c.args.pick c.in-Some.task _ c.self.view_is c.pick.ensures c.in-Some.is in
     let is : picked (claimable_of (regions_of tasks)) c.args.pick ≡ Some c.in-Some.task = found.1 in
     let within : c.in-Some.task < length tasks = omega (arith, (picked-claimable (regions_of tasks) c.args.pick c.in-Some.task is).0, length-map tasks region_of) in
     let one = at-here tasks c.in-Some.task c.get.result.now within c.get.ensures in
@@ -87,24 +82,14 @@ begin-requires-clause-room c =
 pub begin-requires-clause-idle : goal.begin-requires-clause-idle
 begin-requires-clause-idle c =
     let rs = regions_of c.self.inside.tasks in
-    let found = picked-in c.self.inside.failing (regions_of c.self.inside.tasks) c.args.pick c.in-Some.task
-    (ap (λ (l : Live). picked (claimable_in (seen_of l)) c.args.pick) c.self.view_is ∙ sym c.pick.ensures ∙ c.in-Some.is) in
+    let found = picked-here c.self.inside _ c.args.pick c.in-Some.task _ c.self.view_is c.pick.ensures c.in-Some.is in
     let is : picked (claimable_of rs) c.args.pick ≡ Some c.in-Some.task = found.1 in
     claimable-idle rs c.in-Some.task (picked-claimable rs c.args.pick c.in-Some.task is).1
 
 pub overflow_cast-task : goal.overflow_cast-task
 overflow_cast-task c =
-    let j : Seen = record {
-      program = expanded_of c.self.inside.spec.checked.program;
-      before = c.self.inside.spec.before;
-      cells = c.self.inside.cells;
-      owned = c.self.inside.owners;
-      regions = regions_of c.self.inside.tasks;
-      counts = c.self.inside.counts;
-      failing = c.self.inside.failing;
-    } in
-    let found = picked-in c.self.inside.failing (regions_of c.self.inside.tasks) c.args.pick c.in-Some.task
-    (ap (λ (l : Live). picked (claimable_in (seen_of l)) c.args.pick) c.self.view_is ∙ sym c.pick.ensures ∙ c.in-Some.is) in
+    let j : Seen = seen_in c.self.inside in
+    let found = picked-here c.self.inside _ c.args.pick c.in-Some.task _ c.self.view_is c.pick.ensures c.in-Some.is in
     let is : picked (claimable_of j.regions) c.args.pick ≡ Some c.in-Some.task = found.1 in
     let within = (picked-claimable j.regions c.args.pick c.in-Some.task is).0 in
     let few = counts-few j (c.self.invariant.course found.0) in
@@ -115,8 +100,7 @@ new-requires c =
     let tasks = c.self.inside.tasks in
     let rs = regions_of tasks in
     let i = c.in-Some.task in
-    let found = picked-in c.self.inside.failing (regions_of c.self.inside.tasks) c.args.pick c.in-Some.task
-    (ap (λ (l : Live). picked (claimable_in (seen_of l)) c.args.pick) c.self.view_is ∙ sym c.pick.ensures ∙ c.in-Some.is) in
+    let found = picked-here c.self.inside _ c.args.pick c.in-Some.task _ c.self.view_is c.pick.ensures c.in-Some.is in
     let is : picked (claimable_of rs) c.args.pick ≡ Some i = found.1 in
     let within : i < length tasks = omega (arith, (picked-claimable rs c.args.pick i is).0, length-map tasks region_of) in
     let here = at-here tasks i c.get.result.now within c.get.ensures in
@@ -134,8 +118,7 @@ invariant_of-self-2 c =
     let tasks = c.self.inside.tasks in
     let rs = regions_of tasks in
     let i = c.in-Some.task in
-    let found = picked-in c.self.inside.failing (regions_of c.self.inside.tasks) c.args.pick c.in-Some.task
-    (ap (λ (l : Live). picked (claimable_in (seen_of l)) c.args.pick) c.self.view_is ∙ sym c.pick.ensures ∙ c.in-Some.is) in
+    let found = picked-here c.self.inside _ c.args.pick c.in-Some.task _ c.self.view_is c.pick.ensures c.in-Some.is in
     let is : picked (claimable_of rs) c.args.pick ≡ Some i = found.1 in
     let both = picked-claimable rs c.args.pick i is in
     let within : i < length tasks = omega (arith, both.0, length-map tasks region_of) in
@@ -145,15 +128,7 @@ invariant_of-self-2 c =
     let lease : c.in_ok-room.field-0.right ≡ lease_of c.in_ok-lent.lent = c.in_ok-room.ensures.right ∙ ap lease_of (sym lent) in
     let now = c.begin.ensures ∙ ap (λ l. updated rs i (begun l)) lease in
     let held = subst (AreHeld (at rs i)) (sym uses) (subst (λ r. AreHeld r c.in_ok-room.field-0.decl) (sym here) c.in_ok-room.ensures.held) in
-    let seen : List Region → Seen = λ regions. record {
-      program = expanded_of c.self.inside.spec.checked.program;
-      before = c.self.inside.spec.before;
-      cells = c.self.inside.cells;
-      owned = c.lease.new.self;
-      regions = regions;
-      counts = c.self.inside.counts;
-      failing = c.self.inside.failing;
-    } in
+    let seen : List Region → Seen = λ regions. record (seen_in c.self.inside) { owned = c.lease.new.self; regions = regions } in
     subst (λ (l : List Region). IsWell (seen l)) (sym now)
     (claim-well _ c.self.invariant found.0 i both.0 both.1 (lease_of c.in_ok-lent.lent) held (subst AreInOrder (sym uses) c.in_ok-room.ensures.ordered)
     (ap lease_of (lent ∙ ap (lent_from c.self.inside.cells) (sym uses))) c.lease.new.self c.in_ok-lent.ensures.out)
@@ -163,8 +138,7 @@ returns-clause-claimed c =
     let tasks = c.self.inside.tasks in
     let rs = regions_of tasks in
     let i = c.in-Some.task in
-    let found = picked-in c.self.inside.failing (regions_of c.self.inside.tasks) c.args.pick c.in-Some.task
-    (ap (λ (l : Live). picked (claimable_in (seen_of l)) c.args.pick) c.self.view_is ∙ sym c.pick.ensures ∙ c.in-Some.is) in
+    let found = picked-here c.self.inside _ c.args.pick c.in-Some.task _ c.self.view_is c.pick.ensures c.in-Some.is in
     let is : picked (claimable_of rs) c.args.pick ≡ Some i = found.1 in
     let within : i < length tasks = omega (arith, (picked-claimable rs c.args.pick i is).0, length-map tasks region_of) in
     let here = at-here tasks i c.get.result.now within c.get.ensures in
@@ -172,15 +146,7 @@ returns-clause-claimed c =
     let uses = lent_uses c.self.inside.cells c.in_ok-room.field-0.decl c.in_ok-lent.lent lent in
     let lease : c.in_ok-room.field-0.right ≡ lease_of c.in_ok-lent.lent = c.in_ok-room.ensures.right ∙ ap lease_of (sym lent) in
     let now = c.begin.ensures ∙ ap (λ l. updated rs i (begun l)) lease in
-    let seen : List Region → Seen = λ regions. record {
-      program = expanded_of c.self.inside.spec.checked.program;
-      before = c.self.inside.spec.before;
-      cells = c.self.inside.cells;
-      owned = c.lease.new.self;
-      regions = regions;
-      counts = c.self.inside.counts;
-      failing = c.self.inside.failing;
-    } in
+    let seen : List Region → Seen = λ regions. record (seen_in c.self.inside) { owned = c.lease.new.self; regions = regions } in
     let piece : Taken = record { task = i; assigns = assigns_of c.in_ok-room.field-0.assigns.items; test = option_map expr_of c.in_ok-room.field-0.condition; lent = c.in_ok-lent.lent } in
     let new : Seen = seen (regions_of c.begin.new.self) in
     subst (λ (p : Parts). Claims (seen_of c.args.self.now) c.args.pick (taken_of p) new) (sym c.new.ensures) (subst (λ (l : Live). Claims (seen_of l) c.args.pick piece new) c.self.view_is (record {
@@ -199,8 +165,7 @@ returns-clause-weight c =
     let tasks = c.self.inside.tasks in
     let rs = regions_of tasks in
     let i = c.in-Some.task in
-    let found = picked-in c.self.inside.failing (regions_of c.self.inside.tasks) c.args.pick c.in-Some.task
-    (ap (λ (l : Live). picked (claimable_in (seen_of l)) c.args.pick) c.self.view_is ∙ sym c.pick.ensures ∙ c.in-Some.is) in
+    let found = picked-here c.self.inside _ c.args.pick c.in-Some.task _ c.self.view_is c.pick.ensures c.in-Some.is in
     let is : picked (claimable_of rs) c.args.pick ≡ Some i = found.1 in
     let both = picked-claimable rs c.args.pick i is in
     let lent = c.in_ok-lent.ensures.lent in
@@ -227,65 +192,29 @@ returns-in_default-clause-gives c = claimed-gives (seen_of c.args.self.now) c.ar
 
 pub returns-in_err-room-clause-working : goal.returns-in_err-room-clause-working
 returns-in_err-room-clause-working c =
-    let j : Seen = record {
-      program = expanded_of c.self.inside.spec.checked.program;
-      before = c.self.inside.spec.before;
-      cells = c.self.inside.cells;
-      owned = c.self.inside.owners;
-      regions = regions_of c.self.inside.tasks;
-      counts = c.self.inside.counts;
-      failing = c.self.inside.failing;
-    } in
-    let found = picked-in c.self.inside.failing (regions_of c.self.inside.tasks) c.args.pick c.in-Some.task
-    (ap (λ (l : Live). picked (claimable_in (seen_of l)) c.args.pick) c.self.view_is ∙ sym c.pick.ensures ∙ c.in-Some.is) in
+    let j : Seen = seen_in c.self.inside in
+    let found = picked-here c.self.inside _ c.args.pick c.in-Some.task _ c.self.view_is c.pick.ensures c.in-Some.is in
     let is : picked (claimable_of (regions_of c.self.inside.tasks)) c.args.pick ≡ Some c.in-Some.task = found.1 in
     on_err_always c.from_residual.result (subst (λ (l : Live). state_of (seen_of l) ≡ Working) c.self.view_is (picked-working j c.args.pick c.in-Some.task found.0 is))
 
 pub returns-in_err-lent-clause-working : goal.returns-in_err-lent-clause-working
 returns-in_err-lent-clause-working c =
-    let j : Seen = record {
-      program = expanded_of c.self.inside.spec.checked.program;
-      before = c.self.inside.spec.before;
-      cells = c.self.inside.cells;
-      owned = c.self.inside.owners;
-      regions = regions_of c.self.inside.tasks;
-      counts = c.self.inside.counts;
-      failing = c.self.inside.failing;
-    } in
-    let found = picked-in c.self.inside.failing (regions_of c.self.inside.tasks) c.args.pick c.in-Some.task
-    (ap (λ (l : Live). picked (claimable_in (seen_of l)) c.args.pick) c.self.view_is ∙ sym c.pick.ensures ∙ c.in-Some.is) in
+    let j : Seen = seen_in c.self.inside in
+    let found = picked-here c.self.inside _ c.args.pick c.in-Some.task _ c.self.view_is c.pick.ensures c.in-Some.is in
     let is : picked (claimable_of (regions_of c.self.inside.tasks)) c.args.pick ≡ Some c.in-Some.task = found.1 in
     on_err_always c.from_residual-in_err-lent.result (subst (λ (l : Live). state_of (seen_of l) ≡ Working) c.self.view_is (picked-working j c.args.pick c.in-Some.task found.0 is))
 
 pub returns-in_err-room-clause-some : goal.returns-in_err-room-clause-some
 returns-in_err-room-clause-some c =
-    let j : Seen = record {
-      program = expanded_of c.self.inside.spec.checked.program;
-      before = c.self.inside.spec.before;
-      cells = c.self.inside.cells;
-      owned = c.self.inside.owners;
-      regions = regions_of c.self.inside.tasks;
-      counts = c.self.inside.counts;
-      failing = c.self.inside.failing;
-    } in
-    let found = picked-in c.self.inside.failing (regions_of c.self.inside.tasks) c.args.pick c.in-Some.task
-    (ap (λ (l : Live). picked (claimable_in (seen_of l)) c.args.pick) c.self.view_is ∙ sym c.pick.ensures ∙ c.in-Some.is) in
+    let j : Seen = seen_in c.self.inside in
+    let found = picked-here c.self.inside _ c.args.pick c.in-Some.task _ c.self.view_is c.pick.ensures c.in-Some.is in
     let is : picked (claimable_of (regions_of c.self.inside.tasks)) c.args.pick ≡ Some c.in-Some.task = found.1 in
     on_err_always c.from_residual.result (subst (λ (l : Live). 0 < length (claimable_in (seen_of l))) c.self.view_is (picked-some j c.args.pick c.in-Some.task found.0 is))
 
 pub returns-in_err-lent-clause-some : goal.returns-in_err-lent-clause-some
 returns-in_err-lent-clause-some c =
-    let j : Seen = record {
-      program = expanded_of c.self.inside.spec.checked.program;
-      before = c.self.inside.spec.before;
-      cells = c.self.inside.cells;
-      owned = c.self.inside.owners;
-      regions = regions_of c.self.inside.tasks;
-      counts = c.self.inside.counts;
-      failing = c.self.inside.failing;
-    } in
-    let found = picked-in c.self.inside.failing (regions_of c.self.inside.tasks) c.args.pick c.in-Some.task
-    (ap (λ (l : Live). picked (claimable_in (seen_of l)) c.args.pick) c.self.view_is ∙ sym c.pick.ensures ∙ c.in-Some.is) in
+    let j : Seen = seen_in c.self.inside in
+    let found = picked-here c.self.inside _ c.args.pick c.in-Some.task _ c.self.view_is c.pick.ensures c.in-Some.is in
     let is : picked (claimable_of (regions_of c.self.inside.tasks)) c.args.pick ≡ Some c.in-Some.task = found.1 in
     on_err_always c.from_residual-in_err-lent.result (subst (λ (l : Live). 0 < length (claimable_in (seen_of l))) c.self.view_is (picked-some j c.args.pick c.in-Some.task found.0 is))
 
@@ -303,15 +232,7 @@ lease-requires-clause-there c = c.in_ok-room.ensures.there
 
 pub invariant_of-self : goal.invariant_of-self
 invariant_of-self c =
-    let seen : Owned → Seen = λ owned. record {
-      program = expanded_of c.self.inside.spec.checked.program;
-      before = c.self.inside.spec.before;
-      cells = c.self.inside.cells;
-      owned = owned;
-      regions = regions_of c.self.inside.tasks;
-      counts = c.self.inside.counts;
-      failing = c.self.inside.failing;
-    } in
+    let seen : Owned → Seen = λ owned. record (seen_in c.self.inside) { owned = owned } in
     subst (λ (o : Owned). IsWell (seen o)) (sym c.in_err-lent.ensures.memory) c.self.invariant
 
 pub returns-in_err-lent-clause-weight : goal.returns-in_err-lent-clause-weight
@@ -328,15 +249,7 @@ returns-in_err-lent-clause-gives c = if_ok_of_err _ c.from_residual-in_err-lent.
 
 pub returns-in_err-lent-clause-refused : goal.returns-in_err-lent-clause-refused
 returns-in_err-lent-clause-refused c =
-    let seen : Owned → Seen = λ owned. record {
-      program = expanded_of c.self.inside.spec.checked.program;
-      before = c.self.inside.spec.before;
-      cells = c.self.inside.cells;
-      owned = owned;
-      regions = regions_of c.self.inside.tasks;
-      counts = c.self.inside.counts;
-      failing = c.self.inside.failing;
-    } in
+    let seen : Owned → Seen = λ owned. record (seen_in c.self.inside) { owned = owned } in
     on_err_always c.from_residual-in_err-lent.result (ap seen c.in_err-lent.ensures.memory ∙ ap seen_of c.self.view_is)
 
 pub begin-requires-clause-empty : goal.begin-requires-clause-empty

@@ -6,10 +6,10 @@ use Rattle.ot_job.specs.Claiming.{claimable_of}
 use Rattle.ot_job.specs.States.{claimable_in}
 use Rattle.ot_job.specs.Well.{IsWell}
 use Rattle.ot_job.proofs.FreeTaskLemmas.{state-working, has-claimable}
-use Rattle.ot_model.specs.Programs.{expanded_of}
 use Rattle.ot_model.proofs.CountsLemmas.{tasks_in-≤-size}
 use Rattle.ot_job.proofs.CourseLemmas.{counts-few}
 use Rattle.ot_job.proofs.DealingsLemmas.{out-none, claimable-few}
+use Rattle.ot_job.proofs.InsideLemmas.{seen_in}
 use Rattle.ot_job.proofs.job.Job.claimable.Goals as goal
 
 pub returns-then-self-clause-count : goal.returns-then-self-clause-count
@@ -28,14 +28,6 @@ returns-clause-never_stuck c = λ is none.
 
 pub returns-clause-few : goal.returns-clause-few
 returns-clause-few c =
-    let j : Seen = record {
-      program = expanded_of c.self.inside.spec.checked.program;
-      before = c.self.inside.spec.before;
-      cells = c.self.inside.cells;
-      owned = c.self.inside.owners;
-      regions = regions_of c.self.inside.tasks;
-      counts = c.self.inside.counts;
-      failing = c.self.inside.failing;
-    } in
+    let j : Seen = seen_in c.self.inside in
     let few = counts-few j (c.self.invariant.course c.if-self.false) in
     omega (arith, claimable-few j.regions, c.claimable.ensures, c.self.invariant.created, few.0, tasks_in-≤-size j.program.body, c.self.inside.spec.checked.program.few, c.self.inside.spec.checked.program.statements_are)

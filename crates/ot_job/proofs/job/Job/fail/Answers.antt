@@ -1,27 +1,25 @@
-use Rattle.std.proofs.Common.{◌≡◌, ◌∙◌, refl, ap, sym, subst, arith, List, true, true≢false, inl, inr}
+use Rattle.std.proofs.Common.{refl, ap, sym, subst, arith, List, true, inl, inr}
 use Rattle.std.specs.Prelude.{is_some}
 use Rattle.std.proofs.lemmas.List.{length-map}
-use Rattle.ot_model.specs.Programs.{expanded_of}
 use Rattle.ot_owner.specs.Leases.{lease_of}
 use Rattle.ot_job.specs.Live.{Live, Seen, seen_of}
 use Rattle.ot_task.specs.Regions.{Region}
 use Rattle.ot_task.specs.RegionView.{region_of, regions_of}
-use Rattle.ot_job.specs.Settling.{Came, IsOut}
+use Rattle.ot_job.specs.Settling.{Came}
 use Rattle.ot_job.specs.DoneView.{done_of}
 use Rattle.ot_job.specs.States.{Fails}
 use Rattle.ot_job.specs.Well.{IsWell}
-use Rattle.ot_task.specs.declared.task.Task.{Task}
 use Rattle.ot_job.proofs.StartLemmas.{fails-out, fails-well, runs-within}
 use Rattle.ot_task.specs.Weighing.{weight_of}
 use Rattle.ot_job.proofs.WeighingLemmas.{weight-stopped}
 use Rattle.ot_job.proofs.DealingsLemmas.{fails-deals}
+use Rattle.ot_job.proofs.InsideLemmas.{seen_in, found-out, not-found-out}
 use Rattle.ot_job.proofs.job.Job.fail.Goals as goal
 
 pub returns-then-not-is_out-clause-failed : goal.returns-then-not-is_out-clause-failed
 returns-then-not-is_out-clause-failed c =
     let d : Came = done_of c.args.done in
-    let not_out : IsOut (regions_of c.self.inside.tasks) d → ⊥ =
-    λ out. true≢false (sym (c.is_out.ensures.1 (subst (λ (l : List Task). IsOut (regions_of l) d) (sym c.all.ensures) out)) ∙ c.if-not-is_out.true) in
+    let not_out = not-found-out c.self.inside d _ _ c.all.ensures c.is_out.ensures c.if-not-is_out.true in
     subst (λ (l : Live). Fails (seen_of l) d (seen_of l)) c.self.view_is (inr (not_out, refl))
 
 pub returns-then-not-is_out-clause-fails : goal.returns-then-not-is_out-clause-fails
@@ -30,85 +28,40 @@ returns-then-not-is_out-clause-fails c =
 
 pub drop_right-requires : goal.drop_right-requires
 drop_right-requires c =
-    let j : Seen = record {
-      program = expanded_of c.self.inside.spec.checked.program;
-      before = c.self.inside.spec.before;
-      cells = c.self.inside.cells;
-      owned = c.self.inside.owners;
-      regions = regions_of c.self.inside.tasks;
-      counts = c.self.inside.counts;
-      failing = c.self.inside.failing;
-    } in
+    let j : Seen = seen_in c.self.inside in
     let d : Came = done_of c.args.done in
-    let yes : c.is_out.result ≡ true = c.if-not-is_out.false in
-    let out : IsOut j.regions d = subst (λ (l : List Task). IsOut (regions_of l) d) c.all.ensures (c.is_out.ensures.0 yes) in
+    let out = found-out c.self.inside d _ _ c.all.ensures c.is_out.ensures c.if-not-is_out.false in
     fails-out j d c.self.invariant out
 
 pub stop-requires-clause-known : goal.stop-requires-clause-known
 stop-requires-clause-known c =
-    let j : Seen = record {
-      program = expanded_of c.self.inside.spec.checked.program;
-      before = c.self.inside.spec.before;
-      cells = c.self.inside.cells;
-      owned = c.self.inside.owners;
-      regions = regions_of c.self.inside.tasks;
-      counts = c.self.inside.counts;
-      failing = c.self.inside.failing;
-    } in
+    let j : Seen = seen_in c.self.inside in
     let d : Came = done_of c.args.done in
-    let yes : c.is_out.result ≡ true = c.if-not-is_out.false in
-    let out : IsOut j.regions d = subst (λ (l : List Task). IsOut (regions_of l) d) c.all.ensures (c.is_out.ensures.0 yes) in
+    let out = found-out c.self.inside d _ _ c.all.ensures c.is_out.ensures c.if-not-is_out.false in
     omega (arith, runs-within j.regions d.task (record { assigns = d.assigns; lease = lease_of d.lent }) out.0, length-map c.self.inside.tasks region_of)
 
 pub stop-requires-clause-out : goal.stop-requires-clause-out
 stop-requires-clause-out c =
-    let j : Seen = record {
-      program = expanded_of c.self.inside.spec.checked.program;
-      before = c.self.inside.spec.before;
-      cells = c.self.inside.cells;
-      owned = c.self.inside.owners;
-      regions = regions_of c.self.inside.tasks;
-      counts = c.self.inside.counts;
-      failing = c.self.inside.failing;
-    } in
+    let j : Seen = seen_in c.self.inside in
     let d : Came = done_of c.args.done in
-    let yes : c.is_out.result ≡ true = c.if-not-is_out.false in
-    let out : IsOut j.regions d = subst (λ (l : List Task). IsOut (regions_of l) d) c.all.ensures (c.is_out.ensures.0 yes) in
+    let out = found-out c.self.inside d _ _ c.all.ensures c.is_out.ensures c.if-not-is_out.false in
     ap is_some out.0
 
 pub invariant_of-self : goal.invariant_of-self
 invariant_of-self c =
-    let j : Seen = record {
-      program = expanded_of c.self.inside.spec.checked.program;
-      before = c.self.inside.spec.before;
-      cells = c.self.inside.cells;
-      owned = c.self.inside.owners;
-      regions = regions_of c.self.inside.tasks;
-      counts = c.self.inside.counts;
-      failing = c.self.inside.failing;
-    } in
+    let j : Seen = seen_in c.self.inside in
     let d : Came = done_of c.args.done in
-    let yes : c.is_out.result ≡ true = c.if-not-is_out.false in
-    let out : IsOut j.regions d = subst (λ (l : List Task). IsOut (regions_of l) d) c.all.ensures (c.is_out.ensures.0 yes) in
-    let seen : List Region → Seen = λ regions. record { program = j.program; before = j.before; cells = j.cells; owned = c.drop_right.new.owners; regions = regions; counts = j.counts; failing = true } in
+    let out = found-out c.self.inside d _ _ c.all.ensures c.is_out.ensures c.if-not-is_out.false in
+    let seen : List Region → Seen = λ regions. record j { owned = c.drop_right.new.owners; regions = regions; failing = true } in
     let now = c.stop.ensures in
     subst (λ (l : List Region). IsWell (seen l)) (sym now) (fails-well j d c.drop_right.new.owners c.self.invariant out c.drop_right.ensures.ended)
 
 pub returns-clause-failed : goal.returns-clause-failed
 returns-clause-failed c =
-    let j : Seen = record {
-      program = expanded_of c.self.inside.spec.checked.program;
-      before = c.self.inside.spec.before;
-      cells = c.self.inside.cells;
-      owned = c.self.inside.owners;
-      regions = regions_of c.self.inside.tasks;
-      counts = c.self.inside.counts;
-      failing = c.self.inside.failing;
-    } in
+    let j : Seen = seen_in c.self.inside in
     let d : Came = done_of c.args.done in
-    let yes : c.is_out.result ≡ true = c.if-not-is_out.false in
-    let out : IsOut j.regions d = subst (λ (l : List Task). IsOut (regions_of l) d) c.all.ensures (c.is_out.ensures.0 yes) in
-    let seen : List Region → Seen = λ regions. record { program = j.program; before = j.before; cells = j.cells; owned = c.drop_right.new.owners; regions = regions; counts = j.counts; failing = true } in
+    let out = found-out c.self.inside d _ _ c.all.ensures c.is_out.ensures c.if-not-is_out.false in
+    let seen : List Region → Seen = λ regions. record j { owned = c.drop_right.new.owners; regions = regions; failing = true } in
     let now = c.stop.ensures in
     subst (λ (l : Live). Fails (seen_of l) d (seen (regions_of c.stop.new.self))) c.self.view_is (inl (record {
       out = out;
@@ -119,18 +72,9 @@ returns-clause-failed c =
 
 pub returns-clause-weight : goal.returns-clause-weight
 returns-clause-weight c =
-    let j : Seen = record {
-      program = expanded_of c.self.inside.spec.checked.program;
-      before = c.self.inside.spec.before;
-      cells = c.self.inside.cells;
-      owned = c.self.inside.owners;
-      regions = regions_of c.self.inside.tasks;
-      counts = c.self.inside.counts;
-      failing = c.self.inside.failing;
-    } in
+    let j : Seen = seen_in c.self.inside in
     let d : Came = done_of c.args.done in
-    let yes : c.is_out.result ≡ true = c.if-not-is_out.false in
-    let out : IsOut j.regions d = subst (λ (l : List Task). IsOut (regions_of l) d) c.all.ensures (c.is_out.ensures.0 yes) in
+    let out = found-out c.self.inside d _ _ c.all.ensures c.is_out.ensures c.if-not-is_out.false in
     let now = c.stop.ensures in
     let less = weight-stopped j.regions d.task (runs-within j.regions d.task (record { assigns = d.assigns; lease = lease_of d.lent }) out.0) in
     omega (arith, less, ap weight_of now, ap (λ (l : Live). weight_of (regions_of l.tasks)) c.self.view_is)

@@ -3,7 +3,6 @@ use Rattle.ot_model.specs.Programs.{expanded_of}
 use Rattle.ot_model.specs.Runs.{state_of}
 use Rattle.ot_check.specs.Jobs.{meaning_of}
 use Rattle.ot_job.specs.Live.{Live, Seen, seen_of}
-use Rattle.ot_task.specs.RegionView.{regions_of}
 use Rattle.ot_job.specs.States.{state_in}
 use Rattle.ot_job.specs.declared.state.State.TheVariants.{Ended}
 use Rattle.ot_job.proofs.StartLemmas.{state-ended, ended-meaning}
@@ -11,19 +10,12 @@ use Rattle.std.proofs.Common.{sym as back, ap as along, ◌∙◌}
 use Rattle.std.specs.Prelude.{List, ℕ}
 use Rattle.ot_model.specs.Programs.{Expanded}
 use Rattle.ot_model.specs.Serial.{serial_run}
+use Rattle.ot_job.proofs.InsideLemmas.{seen_in}
 use Rattle.ot_job.proofs.job.Job.into_outcome.Goals as goal
 
 pub returns-clause-means : goal.returns-clause-means
 returns-clause-means c =
-    let j : Seen = record {
-      program = expanded_of c.self.inside.spec.checked.program;
-      before = c.self.inside.spec.before;
-      cells = c.self.inside.cells;
-      owned = c.self.inside.owners;
-      regions = regions_of c.self.inside.tasks;
-      counts = c.self.inside.counts;
-      failing = c.self.inside.failing;
-    } in
+    let j : Seen = seen_in c.self.inside in
     let is : state_in j ≡ Ended = subst (λ (l : Live). state_in (seen_of l) ≡ Ended) (sym c.self.view_is) c.requires in
     let ended = state-ended j is in
     subst (λ (l : Live). state_of c.self.inside.cells c.self.inside.counts ≡ meaning_of l.spec) c.self.view_is (ended-meaning j c.self.invariant ended.0 ended.1)
