@@ -2,16 +2,24 @@
 // N is the number in REFUSED_ALLOCATION. scripts/each_allocation_fails makes it and uses it.
 #define _GNU_SOURCE
 #include <dlfcn.h>
+#include <stdatomic.h>
 #include <stddef.h>
 #include <stdlib.h>
 
+// How many allocations are left up to the one that is refused; 0 where none is. Threads count together.
+static atomic_long left;
+
+__attribute__((constructor)) static void read_the_number(void) {
+    const char *number = getenv("REFUSED_ALLOCATION");
+    atomic_store(&left, number ? atol(number) : 0);
+}
+
 static int is_refused(void) {
-    static long left = -1;
-    if (left < 0) {
-        const char *number = getenv("REFUSED_ALLOCATION");
-        left = number ? atol(number) : 0;
-    }
-    return left > 0 && --left == 0;
+    long now = atomic_load(&left);
+    while (now > 0)
+        if (atomic_compare_exchange_weak(&left, &now, now - 1))
+            return now == 1;
+    return 0;
 }
 
 void *malloc(size_t size) {
