@@ -4,9 +4,6 @@ pub mod PlaceLemmas
 pub mod JoinedLemmas
 pub mod RightsLemmas
 pub mod SlotLemmas
-pub mod PageLemmas
-pub mod HeldLemmas
-pub mod FreeLemmas
 pub mod OutLemmas
 pub mod ApartLemmas
 pub mod WorthLemmas

@@ -3,4 +3,4 @@ pub mod Leases
 pub mod Owning
 pub mod Worth
 pub mod Laws
-pub mod Held
+pub mod Rights

@@ -2,8 +2,6 @@
 //! lent with them.
 #![tactic(auto)]
 
-mod held;
-mod holders;
 pub mod laws;
 pub mod lent;
 pub mod owners;

@@ -21,9 +21,11 @@ impl Model for Owners {
 
     ghost Value = { Owned };
 
-    ghost view = { λ o. record { out = o.rights } };
+    ghost use Rattle.ot_owner.specs.Rights.{leases_in};
 
-    ghost invariant = { λ o. NoTwoConflict o.rights };
+    ghost view = { λ o. record { out = leases_in o.rights } };
+
+    ghost invariant = { λ o. NoTwoConflict (leases_in o.rights) };
 }
 
 impl Owners {
@@ -43,7 +45,8 @@ impl Owners {
         }
     }
 
-    /// Whether no right that is out conflicts with the declaration. It takes no memory.
+    /// Whether no right that is out conflicts with the declaration. It looks at each right, and takes no
+    /// memory.
     pub fn free_for(&self, decl: &Decl) -> bool
         ensures exact { IsTrue result ↔ IsFreeFor self.now.out decl.now }
         ensures apart { NoTwoConflict self.now.out }
@@ -64,8 +67,8 @@ impl Owners {
     {
         let lent = lend(alloc, cells, decl.uses())?;
         let right = Right::of(alloc, cells, decl)?;
-        let key = self.rights.put(alloc, right)?;
-        Ok(Lent::new(lent, key))
+        let keyed = self.rights.put(right, lent)?;
+        Ok(Lent::new(keyed))
     }
 
     /// Takes back what is out, and whose cells are there: a written cell has its present value from
@@ -89,7 +92,7 @@ impl Owners {
         ensures ended { IsPermutation self.old.out (lease_of lent ∷ self.new.out) }
         ensures worth { KeepsWorth self.old self.new }
     {
-        self.rights.end(&lent);
+        self.rights.end(lent.keyed());
         lent.discard();
     }
 }

@@ -1,17 +1,55 @@
-use Rattle.std.proofs.Common.{sym, subst}
+use Rattle.std.proofs.Common.{◌<◌, ℕ, List, length, get_or, ap, inl, inr, ◌∙◌, sym, refl, subst, arith, true≢false}
+use Rattle.std.proofs.lemmas.List.{get_or_default}
 use Rattle.slab.specs.Slab.{values}
-use Rattle.ot_owner.specs.Owning.{IsFreeFor}
-use Rattle.ot_owner.proofs.FreeLemmas.{free_where_let, let_where_free}
+use Rattle.slab.proofs.SlabLemmas.{Contains-cons, Contains-cons_cases, Contains-entries}
+use Rattle.ot_model.specs.Uses.{Conflict}
+use Rattle.ot_owner.specs.Leases.{Lease}
+use Rattle.ot_owner.proofs.SlotLemmas.{at-held, held-at}
 use Rattle.ot_owner.proofs.rights.Rights.is_free_for.Goals as goal
 
-pub returns : goal.returns
-returns c =
-    let held = c.self.inside.held in
-    let out = values c.self.inside.rights in
-    let uses = c.uses.ensures.uses in (
-      λ yes. subst (λ us. IsFreeFor c.args.self.now us) uses
-          (subst (λ xs. IsFreeFor xs c.uses.result.now) c.self.view_is (free_where_let held out c.uses.result.now c.self.invariant (c.lets.ensures.0 yes))),
-      λ free. c.lets.ensures.1
-          (let_where_free held out c.uses.result.now c.self.invariant
-          (subst (λ xs. IsFreeFor xs c.uses.result.now) (sym c.self.view_is) (subst (λ us. IsFreeFor c.args.self.now us) (sym uses) free))),
+pub loop-key-init : goal.loop-key-init
+loop-key-init c =
+    let left = c.into_iter-key-iterator.ensures.into_iter_gives ∙ c.iter-key-items.ensures.rest in (
+      tt,
+      tt,
+      λ key right there. inr (rw left ((Contains-entries c.args.self.now.rights key right).1 there)),
+      λ key right listed. (Contains-entries c.args.self.now.rights key right).0 (rw left at listed),
     )
+
+pub loop-key-preserved : goal.loop-key-preserved
+loop-key-preserved c =
+    let at = c.in-Some.ensures.steps in (
+      tt,
+      tt,
+      λ key right there. elim (c.loop-key.invariant.2 key right there) [
+        | inl free ↦ inl free
+        | inr listed ↦ elim (Contains-cons_cases _ _ _ (rw at at listed)) [
+          | inl same ↦ inl (λ conflict. true≢false (sym (c.conflicts.ensures.1 (subst (λ (r : Lease). Conflict r.uses c.args.decl.now) (sym (ap (λ e. e.1) same)) conflict)) ∙ c.if-conflicts.false))
+          | inr rest ↦ inr rest
+        ]
+      ],
+      λ key right there. c.loop-key.invariant.3 key right (rw at (Contains-cons _ _ _ there)),
+    )
+
+pub returns-then-conflicts : goal.returns-then-conflicts
+returns-then-conflicts c =
+    let there = c.loop-key.invariant.3 c.in-Some._key c.in-Some.right.now (rw c.in-Some.ensures.steps (0, omega arith, refl)) in
+    let (k, within, at) = at-held c.args.self.now.rights.slots c.in-Some.right.now c.in-Some._key there in (
+      λ no. absurd (true≢false (sym no)),
+      λ free. absurd (free k c.in-Some.right.now within (subst (λ (r : Lease). Conflict r.uses c.args.decl.now) (sym at) (c.conflicts.ensures.0 c.if-conflicts.true))),
+    )
+
+pub returns : goal.returns
+returns c = (λ yes. free, λ all. refl)
+  where
+    out : List Lease
+    out = values c.args.self.now.rights
+
+    free : (k : ℕ) (d : Lease) → k < length out → ¬ Conflict (get_or out k d).uses c.args.decl.now
+    free k d within =
+        let it = get_or out k d in
+        let held = held-at c.args.self.now.rights.slots it (k, within, get_or_default out k it d within) in
+        elim (c.loop-key.invariant.2 held.0 it held.1) [
+          | inl none ↦ none
+          | inr listed ↦ let there = rw c.in-None.ensures.steps.0 at listed in λ _. omega (arith, there.1)
+        ]
