@@ -8,6 +8,7 @@ pub mod LinkLemmas
 pub mod AddLemmas
 pub mod ChildrenLemmas
 pub mod WakeLemmas
+pub mod PageLemmas
 pub mod LineLemmas
 pub mod TableLemmas
 pub mod TruthLemmas

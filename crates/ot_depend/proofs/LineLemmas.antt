@@ -1,28 +1,12 @@
 -- The rows of the cells, as rows are made and changed.
-use Rattle.std.proofs.Common.{◌≡◌, ◌==◌, ◌&&◌, ℕ, ◌<◌, List, Bool, true, false, cond, length, Option, Some, None, refl, sym, ap, ◌∙◌, arith}
+use Rattle.std.proofs.Common.{◌≡◌, ◌≢◌, ℕ, ◌<◌, List, Bool, true, false, true≢false, cond, length, Option, Some, None, refl, sym, ap, ◌∙◌}
 use Rattle.std.specs.List.{slice_get}
 use Rattle.std.specs.Option.{option_map, unwrap_or}
-use Rattle.std.specs.Ordering.{nat_cmp, ordering_then, is_eq}
-use Rattle.std.specs.declared.cmp.Ordering.{Ordering}
-use Rattle.std.specs.declared.cmp.Ordering.TheVariants.{Less, Equal, Greater}
-use Rattle.std.proofs.lemmas.Bool.Decides.{nat_tests}
 use Rattle.std.proofs.lemmas.Option.{same_Some, none-some, slice_get_within}
 use Rattle.ot_model.specs.Cells.{same_cell}
 use Rattle.ot_model.specs.declared.expr.Cell.{Cell}
-use Rattle.ot_depend.specs.Cells.{Line, entry_at, nobody, pair_cmp}
-use Rattle.ot_depend.proofs.ReadyLemmas.{one_cell}
-
-eq-then : (o p : Ordering) → is_eq (ordering_then o p) ≡ (is_eq o && is_eq p)
-eq-then Less p = refl
-eq-then Equal p = refl
-eq-then Greater p = refl
-
-eq-nat : (x y : ℕ) → is_eq (nat_cmp x y) ≡ (x == y)
-eq-nat x y = grind (arith, nat_tests)
-
--- two keys are equal where the cells are
-pub eq-cells : (c d : Cell) → is_eq (pair_cmp (c.array, c.index) (d.array, d.index)) ≡ same_cell c d
-eq-cells c d = eq-then (nat_cmp c.array d.array) (nat_cmp c.index d.index) ∙ ap (λ b. b && is_eq (nat_cmp c.index d.index)) (eq-nat c.array d.array) ∙ ap (λ b. c.array == d.array && b) (eq-nat c.index d.index)
+use Rattle.ot_depend.specs.Cells.{Line, entry_at, nobody}
+use Rattle.ot_depend.proofs.ReadyLemmas.{one_cell, cell_itself}
 
 -- each cell that has a place has its own line there
 abbrev pub Sound : (Cell → Option ℕ) → List Line → Type 0
@@ -42,6 +26,14 @@ module _ (at : Cell → Option ℕ) (lines more : List Line) (sound : Sound at l
       by : (o : Option ℕ) → at cell ≡ o → entry_at more o ≡ entry_at lines o
       by None is = refl
       by (Some place) is = let l = sound cell place is in ap (λ o. unwrap_or (option_map (λ l. l.entry) o) nobody) (front place (slice_get_within lines place l.0 l.1))
+
+-- one cell has this place now, and each other cell the one that it had
+pub placed-new : (at at2 : Cell → Option ℕ) (cell : Cell) (place : ℕ) → at2 cell ≡ Some place → ((q : Cell) → cell ≢ q → at2 q ≡ at q) → (q : Cell) → at2 q ≡ cond (same_cell cell q) (Some place) (at q)
+placed-new at at2 cell place there others q = by (same_cell cell q) refl
+  where
+    by : (b : Bool) → same_cell cell q ≡ b → at2 q ≡ cond b (Some place) (at q)
+    by true same = ap at2 (sym (one_cell cell q same)) ∙ there
+    by false other = others q (λ is. true≢false (sym (cell_itself cell q is) ∙ other))
 
 -- a cell that had no place has a new line
 module _ (at at2 : Cell → Option ℕ) (lines : List Line) (cell : Cell) (place : ℕ) (sound : Sound at lines) (there : slice_get lines place ≡ Some (record { cell = cell; entry = nobody }))

@@ -1,16 +1,15 @@
 -- A child that has finished hands out the list of those that waited for it, and no other child is ready by its end.
-use Rattle.std.proofs.Common.{◌≡◌, ◌≢◌, ◌==◌, ◌||◌, ◌+◌, ◌-◌, ◌<◌, ◌≤◌, ℕ, zero, suc, List, [], ◌∷◌, Bool, true, false, cond, length, get_or, Option, Some, None, inl, inr, refl, sym, ap, ◌∙◌, subst, arith, true≢false}
-use Rattle.std.specs.List.{All, slice_get, list_any}
+use Rattle.std.proofs.Common.{◌≡◌, ◌==◌, ◌||◌, ◌+◌, ◌<◌, ◌≤◌, ℕ, zero, suc, List, [], ◌∷◌, Bool, true, false, cond, length, take, get_or, Option, Some, None, inl, inr, refl, sym, ap, ◌∙◌, arith, true≢false}
+use Rattle.std.specs.List.{All, slice_get}
 use Rattle.std.specs.Option.{option_map, unwrap_or}
-use Rattle.std.specs.Prelude.{◌↔◌, IsTrue}
 use Rattle.std.proofs.lemmas.Bool.{eqb-true, eq-eqb}
 use Rattle.std.proofs.lemmas.Option.{same_Some, none-some, slice_get-map, slice_get_within}
-use Rattle.std.proofs.lemmas.List.{length-map}
 use Rattle.ot_model.proofs.CellsLemmas.{map-updated, length-updated}
 use Rattle.ot_model.specs.Cells.{updated}
-use Rattle.ot_depend.specs.Siblings.{Sibling, IsReady, FinishedAreReady, is_ready}
-use Rattle.ot_depend.specs.Kept.{decls, IsDirect, has, times, Kid, siblings, owes, due, IsLinked, woken, ended, waiters_of}
-use Rattle.ot_depend.specs.Waiting.{LetsTheSame}
+use Rattle.ot_depend.specs.Siblings.{FinishedAreReady, is_ready}
+use Rattle.ot_depend.specs.Direct.{count_direct, waiting_for}
+use Rattle.ot_depend.specs.Kept.{has, times, Kid, siblings, owes, due, IsLinked, woken, ended, waiters_of, WaitForAll}
+use Rattle.ot_depend.specs.Waiting.{LetsTheSame, WaitForLess}
 use Rattle.ot_depend.specs.View.{IsTrueOf}
 use Rattle.ot_depend.specs.declared.cells.Table.{Table}
 use Rattle.ot_depend.specs.declared.groups.Groups.{Groups}
@@ -19,6 +18,7 @@ use Rattle.ot_depend.proofs.LinkLemmas.{woken_back, end_back, IsLinked-end}
 use Rattle.ot_depend.proofs.HeartLemmas.{ready_by_count, known_from_use}
 use Rattle.ot_depend.proofs.ChildrenLemmas.{has-place, length-woken}
 use Rattle.ot_depend.proofs.ReadyLemmas.{is_ready-told}
+use Rattle.ot_depend.proofs.WaitLemmas.{waiting_counted}
 
 -- a child that nobody waits for any more
 abbrev pub quiet : Kid → Kid
@@ -125,6 +125,36 @@ module _ (kids : List Kid) (i : ℕ) (me : Kid) (linked : IsLinked kids) (all : 
           let same : k.waiting ≡ t.0.waiting = omega (arith, t.3, times-none j me.waiters none) in
           sym (ready-counted now j k (IsLinked-end kids i me linked known unfinished) all-now there) ∙ ap (λ n. n == 0) same
           ∙ ready-counted kids j t.0 linked all t.1
+
+-- of a child that isn't known nothing is told
+waiting-unknown : (kids : List Kid) (j : ℕ) → slice_get kids j ≡ None → waiting_for (siblings kids) j ≡ 0
+waiting-unknown kids j none =
+    let gone : slice_get (siblings kids) j ≡ None = slice_get-map (λ (k : Kid). k.it) kids j ∙ ap (option_map (λ (k : Kid). k.it)) none in
+    ap (λ o. unwrap_or (option_map (λ s. count_direct (take j (siblings kids)) s.uses) o) 0) gone
+
+module _ (kids : List Kid) (i : ℕ) (me : Kid) (linked : IsLinked kids) (known : slice_get kids i ≡ Some me) (unfinished : me.it.finished ≡ false) (wait : WaitForAll kids me.waiters) where
+  abbrev after : List Kid
+  after = updated (woken kids me.waiters) i ended
+
+  -- each child waits for as many less as it is told of
+  pub waits-less : WaitForLess me.waiters (siblings kids) (siblings after)
+  waits-less j = by (slice_get after j) (has j me.waiters) refl refl
+    where
+      enough : (b : Bool) (t : Kid) → slice_get kids j ≡ Some t → has j me.waiters ≡ b → times j me.waiters ≤ t.waiting
+      enough true t at told = let k = wait j told in let same : k.0.waiting ≡ t.waiting = ap (λ (x : Kid). x.waiting) (same_Some k.0 t (sym k.1 ∙ at)) in omega (arith, same, k.2)
+      enough false t at told = omega (arith, times-none j me.waiters told)
+
+      by : (o : Option Kid) (b : Bool) → slice_get after j ≡ o → has j me.waiters ≡ b → waiting_for (siblings kids) j ≡ waiting_for (siblings after) j + times j me.waiters
+      by None true gone told = let k = wait j told in absurd (none-some k.0 (sym (past-none kids j (omega (arith, none-past after j gone, length-updated (woken kids me.waiters) i ended, length-woken me.waiters kids))) ∙ k.1))
+      by None false gone told =
+          let old = waiting-unknown kids j (past-none kids j (omega (arith, none-past after j gone, length-updated (woken kids me.waiters) i ended, length-woken me.waiters kids))) in
+          let now = waiting-unknown after j gone in
+          omega (arith, old, now, times-none j me.waiters told)
+      by (Some k) b there told =
+          let t = end_back kids i me linked known unfinished j k there in
+          let old = waiting_counted kids linked j t.0 t.1 in
+          let now = waiting_counted after (IsLinked-end kids i me linked known unfinished) j k there in
+          omega (arith, old, now, t.3, enough b t.0 t.1 told)
 
 -- those that wait are known
 pub waiters-known : (kids : List Kid) (i : ℕ) (me : Kid) → IsLinked kids → slice_get kids i ≡ Some me → me.it.finished ≡ false → All (λ w. w < length (siblings kids)) me.waiters

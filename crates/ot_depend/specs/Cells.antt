@@ -1,9 +1,6 @@
 -- What the rows of the cells say.
 use Rattle.std.specs.Prelude.{◌≡◌, ℕ, List, [], Option, Some, None, map, slice_get, get_or, option_map, option_and_then, unwrap_or, fold}
 use Rattle.std.specs.List.{flat_map}
-use Rattle.std.specs.Ordering.{nat_cmp, ordering_then}
-use Rattle.std.specs.declared.cmp.Ordering.{Ordering}
-use Rattle.std.specs.BTreeMap.{get}
 use Rattle.ot_model.specs.Cells.{updated}
 use Rattle.ot_model.specs.declared.expr.Cell.{Cell}
 use Rattle.ot_model.specs.declared.stmt.Mode.{Mode}
@@ -11,17 +8,14 @@ use Rattle.ot_model.specs.declared.stmt.Use.{Use}
 use Rattle.ot_depend.specs.Direct.{uses_cell, writes_cell}
 use Rattle.ot_depend.specs.Kept.{Entry, RowIs, entered, found}
 use Rattle.ot_depend.specs.Numbers.{HasRoom, Admits}
+use Rattle.ot_depend.specs.Places.{place_in}
 use Rattle.ot_depend.specs.declared.cells.Row.{Row}
 use Rattle.ot_depend.specs.declared.cells.Spot.{Spot}
 use Rattle.ot_depend.specs.declared.cells.Table.{Table}
 
--- by array, then by index
-abbrev pub pair_cmp : (p q : ℕ × ℕ) → Ordering
-pair_cmp p q = ordering_then (nat_cmp p.0 q.0) (nat_cmp p.1 q.1)
-
 -- where the row of a cell is
 abbrev pub place_of : Table → Cell → Option ℕ
-place_of t cell = get pair_cmp t.places (cell.array, cell.index)
+place_of t cell = place_in t.places cell
 
 -- what a row stands for
 abbrev pub entry_in : Row → Entry

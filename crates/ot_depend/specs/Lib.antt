@@ -7,4 +7,5 @@ pub mod Waiting
 pub mod Numbers
 pub mod Children
 pub mod Groups
+pub mod Places
 pub mod Cells

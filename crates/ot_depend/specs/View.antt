@@ -9,7 +9,6 @@ use Rattle.ot_depend.specs.Groups.{count_of, IsCounted}
 use Rattle.ot_depend.specs.declared.cells.Table.{Table}
 use Rattle.ot_depend.specs.declared.groups.Groups.{Groups}
 use Rattle.ot_depend.specs.declared.kept.Kept.{Kept}
-use Rattle.ot_depend.specs.declared.kept.Plan.{Plan}
 
 abbrev pub kids_in : Kept → List Kid
 kids_in k = kids_of k.children.items
@@ -29,12 +28,12 @@ pub record IsTrueOf (kids : List Kid) (cells : Table) (groups : Groups) (unfinis
 abbrev pub IsKept : Kept → Type 0
 IsKept k = IsTrueOf (kids_in k) k.cells k.groups k.unfinished
 
--- a child with these uses and groups can be added without memory
-pub record IsPlanned (k : Kept) (plan : Plan) (uses : List Use) (groups : List ℕ) : Type 0 where
-  pub uses_are : map (λ s. s.one) plan.spots.items ≡ uses
-  pub placed : All (IsPlaced k.cells) plan.spots.items
-  pub rows_have_room : All (HasRoomIn k.cells) plan.spots.items
-  pub found : plan.earlier.items ≡ found_all (lines_of k.cells.rows.items) plan.spots.items
-  pub children_have_room : All (HasRoomAt k.children.items) plan.earlier.items
+-- a child with these uses and groups was planned: it can be added without memory
+pub record IsPlanned (k : Kept) (uses : List Use) (groups : List ℕ) : Type 0 where
+  pub uses_are : map (λ s. s.one) k.spots.items ≡ uses
+  pub placed : All (IsPlaced k.cells) k.spots.items
+  pub rows_have_room : All (HasRoomIn k.cells) k.spots.items
+  pub found : k.earlier.items ≡ found_all (lines_of k.cells.rows.items) k.spots.items
+  pub children_have_room : All (HasRoomAt k.children.items) k.earlier.items
   pub counters : All (IsCounted k.groups) groups
   pub room : vec_len k.children < vec_capacity k.children

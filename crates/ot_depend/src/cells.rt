@@ -3,9 +3,9 @@ ghost use Rattle.std.specs.Prelude.{◌≡◌, ◌++◌, ◌<◌, ℕ, IfOk, OnO
 ghost use Rattle.ot_model.specs.declared.expr.Cell.{Cell};
 
 use crate::numbers::{make_room, put_last};
+use crate::places::Places;
 use ot_model::{Cell, Mode, Use};
 use std::alloc::{AllocError, Global};
-use std::collections::BTreeMap;
 
 /// The children for whom a child may have to wait that uses the cell next.
 #[derive(Debug, Drop)]
@@ -27,7 +27,7 @@ pub(crate) struct Spot {
 /// The rows, and where that of a cell is.
 #[derive(Debug, Drop)]
 pub(crate) struct Table {
-    places: BTreeMap<(u32, u32), usize>,
+    places: Places,
     rows: Vec<Row>,
 }
 
@@ -75,7 +75,7 @@ impl Table {
         ensures empty { (cell : Cell) → entry_of result cell ≡ nobody }
     {
         Table {
-            places: BTreeMap::new(alloc),
+            places: Places::new(alloc),
             rows: Vec::new(alloc),
         }
     }
@@ -89,17 +89,17 @@ impl Table {
         ensures kept { (other : Cell) (place : ℕ) → place_of self.old other ≡ Some place → place_of self.new other ≡ Some place }
         ensures rows { (place : ℕ) → place < length self.old.rows.items → slice_get self.new.rows.items place ≡ slice_get self.old.rows.items place }
     {
-        let key = (cell.array, cell.index);
-        if let Some(place) = self.places.get(&key) {
-            return Ok(*place);
+        if let Some(place) = self.places.of(cell) {
+            return Ok(place);
         }
+        self.places.make(alloc, cell)?;
         let place = self.rows.len();
         self.rows.push(Row {
             cell,
             writer: None,
             users: Vec::new(alloc),
         })?;
-        self.places.insert(key, place)?;
+        self.places.set(cell, place);
         Ok(place)
     }
 
@@ -118,36 +118,41 @@ impl Table {
         Ok(Spot { one, place })
     }
 
-    /// The uses with the places of their rows, each with room for one more child.
-    pub(crate) fn spots(&mut self, alloc: Global, uses: &[Use]) -> Result<Vec<Spot>, AllocError>
+    /// Lists the uses with the places of their rows, each with room for one more child.
+    pub(crate) fn spots(
+        &mut self,
+        alloc: Global,
+        uses: &[Use],
+        spots: &mut Vec<Spot>,
+    ) -> Result<(), AllocError>
         requires { IsSound self.old }
         ensures sound { IsSound self.new }
         ensures same { (cell : Cell) → entry_of self.new cell ≡ entry_of self.old cell }
-        ensures uses { IfOk result (λ spots. map (λ s. s.one) spots.items ≡ uses.now) }
-        ensures placed { IfOk result (λ spots. All (IsPlaced self.new) spots.items) }
-        ensures made { IfOk result (λ spots. All (HasRoomIn self.new) spots.items) }
+        ensures uses { OnOk result (map (λ s. s.one) spots.new.items ≡ uses.now) }
+        ensures placed { OnOk result (All (IsPlaced self.new) spots.new.items) }
+        ensures made { OnOk result (All (HasRoomIn self.new) spots.new.items) }
     {
-        let mut spots = Vec::new(alloc);
+        spots.clear();
         for one in uses {
             let spot = self.spot(alloc, *one)?;
             spots.push(spot)?;
         }
-        Ok(spots)
+        Ok(())
     }
 
-    /// The children for whom a child that has these uses waits by itself, where they have not
+    /// Lists the children for whom a child that has these uses waits by itself, where they have not
     /// finished: of each cell the last one that writes it, and where it is written now, those that
     /// use it since.
-    pub(crate) fn earlier(&self, alloc: Global, spots: &[Spot]) -> Result<Vec<usize>, AllocError>
+    pub(crate) fn earlier(&self, spots: &[Spot], earlier: &mut Vec<usize>) -> Result<(), AllocError>
         requires sound { IsSound self.now }
         requires placed { All (IsPlaced self.now) spots.now }
-        ensures { IfOk result (λ earlier. earlier.items ≡ found_all (lines_of self.now.rows.items) spots.now) }
+        ensures { OnOk result (earlier.new.items ≡ found_all (lines_of self.now.rows.items) spots.now) }
     {
-        let mut earlier = Vec::new(alloc);
+        earlier.clear();
         for spot in spots {
-            self.rows[spot.place].list(spot.one.mode, &mut earlier)?;
+            self.rows[spot.place].list(spot.one.mode, earlier)?;
         }
-        Ok(earlier)
+        Ok(())
     }
 
     /// A child has these uses. There is to be room for it. It takes no memory.

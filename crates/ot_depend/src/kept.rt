@@ -1,5 +1,5 @@
 //! The children of a body with what is kept beside them: the rows of the cells and the counters.
-ghost use Rattle.std.specs.Prelude.{◌≡◌, ◌++◌, ◌∷◌, [], ◌↔◌, ◌<◌, IsTrue, IfOk, length};
+ghost use Rattle.std.specs.Prelude.{◌≡◌, ◌++◌, ◌∷◌, [], ◌↔◌, ◌<◌, IsTrue, OnOk, length};
 ghost use Rattle.ot_depend.specs.Direct.{waiting_for};
 ghost use Rattle.ot_depend.specs.Siblings.{created, with_finished, IsReady, IsUnfinished};
 
@@ -19,11 +19,7 @@ pub(crate) struct Kept {
     pub(crate) groups: Groups,
     /// How many have not finished.
     pub(crate) unfinished: usize,
-}
-
-/// What was looked up for a child that is to be added.
-#[derive(Debug, Drop)]
-pub(crate) struct Plan {
+    /// The uses of the child that was planned last.
     spots: Vec<Spot>,
     /// The children for whom it waits by itself, where they have not finished.
     earlier: Vec<usize>,
@@ -34,7 +30,7 @@ impl Kept {
     ghost use Rattle.std.specs.Prelude.{All};
     ghost use Rattle.ot_model.specs.Cells.{updated};
     ghost use Rattle.ot_depend.specs.Kept.{woken, waiters_of, ended};
-    ghost use Rattle.ot_depend.specs.Waiting.{LetsTheSame};
+    ghost use Rattle.ot_depend.specs.Waiting.{LetsTheSame, WaitForLess};
 
     /// No children. It takes no memory.
     pub(crate) fn new(alloc: Global) -> Kept
@@ -46,6 +42,8 @@ impl Kept {
             cells: Table::new(alloc),
             groups: Groups::new(alloc),
             unfinished: 0,
+            spots: Vec::new(alloc),
+            earlier: Vec::new(alloc),
         }
     }
 
@@ -55,31 +53,30 @@ impl Kept {
         alloc: Global,
         uses: &[Use],
         groups: &[u32],
-    ) -> Result<Plan, AllocError>
+    ) -> Result<(), AllocError>
         requires { IsKept self.old }
         ensures kept { IsKept self.new }
         ensures same { siblings_in self.new ≡ siblings_in self.old }
-        ensures planned { IfOk result (λ plan. IsPlanned self.new plan uses.now groups.now) }
+        ensures planned { OnOk result (IsPlanned self.new uses.now groups.now) }
     {
         self.groups.make_room(groups)?;
-        let spots = self.cells.spots(alloc, uses)?;
-        let earlier = self.cells.earlier(alloc, &spots)?;
-        make_rooms(&mut self.children, &earlier)?;
-        self.children.reserve(1)?;
-        Ok(Plan { spots, earlier })
+        self.cells.spots(alloc, uses, &mut self.spots)?;
+        self.cells.earlier(&self.spots, &mut self.earlier)?;
+        make_rooms(&mut self.children, &self.earlier)?;
+        self.children.reserve(1)
     }
 
-    /// Adds a child as planned, and tells its number. It takes no memory.
-    pub(crate) fn add(&mut self, alloc: Global, decl: Decl, groups: Vec<u32>, plan: &Plan) -> usize
+    /// Adds the child that was planned, and tells its number. It takes no memory.
+    pub(crate) fn add(&mut self, alloc: Global, decl: Decl, groups: Vec<u32>) -> usize
         requires kept { IsKept self.old }
-        requires planned { IsPlanned self.old plan.now decl groups.items }
+        requires planned { IsPlanned self.old decl groups.items }
         ensures number { result ≡ length (siblings_in self.old) }
         ensures added { siblings_in self.new ≡ siblings_in self.old ++ created decl groups.items ∷ [] }
         ensures kept { IsKept self.new }
     {
         let child = self.children.len();
-        let waiting = enlist(&mut self.children, &plan.earlier, child);
-        self.cells.enter(child, &plan.spots);
+        let waiting = enlist(&mut self.children, &self.earlier, child);
+        self.cells.enter(child, &self.spots);
         self.groups.raise(&groups);
         self.unfinished += 1;
         self.children.push_reserved(Child {
@@ -107,9 +104,8 @@ impl Kept {
         self.children[child].finished = true;
     }
 
-    /// Marks a child as finished, and hands out those that waited for it by themselves. It takes no
-    /// memory.
-    pub(crate) fn release(&mut self, alloc: Global, child: usize) -> Vec<usize>
+    /// Marks a child as finished, and hands out those that waited for it by themselves.
+    pub(crate) fn release(&mut self, child: usize) -> Vec<usize>
         requires kept { IsKept self.old }
         requires ready { IsReady (siblings_in self.old) child }
         requires unfinished { IsUnfinished (siblings_in self.old) child }
@@ -117,8 +113,10 @@ impl Kept {
         ensures kept { IsKept self.new }
         ensures known { All (λ w. w < length (siblings_in self.old)) result.items }
         ensures others { LetsTheSame result.items (siblings_in self.old) (siblings_in self.new) }
+        ensures exact { WaitForLess result.items (siblings_in self.old) (siblings_in self.new) }
     {
         self.finish(child);
+        let alloc = *self.children.allocator();
         mem::replace(&mut self.children[child].waiters, Vec::new(alloc))
     }
 

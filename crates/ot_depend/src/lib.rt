@@ -7,6 +7,7 @@ mod groups;
 mod kept;
 pub mod laws;
 mod numbers;
+mod places;
 pub mod siblings;
 
 pub use siblings::Siblings;

@@ -27,7 +27,7 @@ impl Siblings {
     ghost use Rattle.std.specs.Prelude.{◌≡◌, ◌<◌, ◌++◌, ◌↔◌, [], ◌∷◌, IsTrue, IfOk, OnOk, OnErr, length, count_by};
     ghost use Rattle.std.specs.Prelude.{All};
     ghost use Rattle.ot_depend.specs.Direct.{waiting_for};
-    ghost use Rattle.ot_depend.specs.Waiting.{LetsTheSame};
+    ghost use Rattle.ot_depend.specs.Waiting.{LetsTheSame, WaitForLess};
     ghost use Rattle.ot_depend.specs.Siblings.{IsReady, IsUnfinished, FinishedAreReady, created, with_finished, is_ready, is_unfinished, is_unfinished_in};
 
     /// No children. It takes no memory.
@@ -47,8 +47,8 @@ impl Siblings {
         ensures refused { OnErr result (self.new ≡ self.old) }
     {
         let groups = groups.to_vec(alloc)?;
-        let plan = self.kept.plan(alloc, decl.uses(), &groups)?;
-        Ok(self.kept.add(alloc, decl, groups, &plan))
+        self.kept.plan(alloc, decl.uses(), &groups)?;
+        Ok(self.kept.add(alloc, decl, groups))
     }
 
     /// Marks a child as finished. It is to be ready, and not to have finished before. It takes no
@@ -61,17 +61,18 @@ impl Siblings {
         self.kept.finish(child);
     }
 
-    /// Marks a child as finished, and hands out the children that waited for it by themselves: no other
-    /// child is ready by this that wasn't before. The child is to be ready, and not to have finished
-    /// before. It takes no memory.
-    pub fn release(&mut self, alloc: Global, child: usize) -> Vec<usize>
+    /// Marks a child as finished, and hands out the children that waited for it by themselves, each once:
+    /// those are the children that wait for less now, and no other one is ready by this that wasn't
+    /// before. The child is to be ready, and not to have finished before.
+    pub fn release(&mut self, child: usize) -> Vec<usize>
         requires ready { IsReady self.old child }
         requires unfinished { IsUnfinished self.old child }
         ensures finished { self.new ≡ with_finished self.old child }
         ensures known { All (λ w. w < length self.old) result.items }
         ensures others { LetsTheSame result.items self.old self.new }
+        ensures exact { WaitForLess result.items self.old self.new }
     {
-        self.kept.release(alloc, child)
+        self.kept.release(child)
     }
 
     /// Whether the child may run as far as its dependences go: each earlier sibling on which it

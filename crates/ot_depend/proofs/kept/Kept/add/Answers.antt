@@ -19,10 +19,10 @@ fresh us gs waiting waiters = record { it = created us gs; waiting = waiting; wa
 pub enlist-waiting-requires-clause-known : goal.enlist-waiting-requires-clause-known
 enlist-waiting-requires-clause-known c =
     let kids : List Kid = kids_of c.args.self.now.children.items in
-    let known : All (λ p. p < length kids) c.args.plan.now.earlier.items =
-    earlier_known kids c.args.self.now.cells c.args.plan.now.spots.items c.args.plan.now.earlier.items c.requires.kept.rows c.requires.planned.placed c.requires.planned.found in
+    let known : All (λ p. p < length kids) c.args.self.now.earlier.items =
+    earlier_known kids c.args.self.now.cells c.args.self.now.spots.items c.args.self.now.earlier.items c.requires.kept.rows c.requires.planned.placed c.requires.planned.found in
     subst (λ (es : List ℕ). All (λ p. p < length c.args.self.now.children.items) es) (sym c.deref.ensures.value)
-    (subst (λ (n : ℕ). All (λ p. p < n) c.args.plan.now.earlier.items) (length-map c.args.self.now.children.items kid_of) known)
+    (subst (λ (n : ℕ). All (λ p. p < n) c.args.self.now.earlier.items) (length-map c.args.self.now.children.items kid_of) known)
 
 pub push_reserved-requires : goal.push_reserved-requires
 push_reserved-requires c =
@@ -45,7 +45,7 @@ returns c =
     let kids2 : List Kid = kids_of c.enlist-waiting.new.children.items in
     let n_is : c.len-child.result ≡ length kids = omega (arith, c.len-child.ensures, c.args.self.now.children.ok.0, length-map c.args.self.now.children.items kid_of) in
     let after = after_add kids c.args.self.now.cells c.args.self.now.groups c.args.self.now.unfinished c.requires.kept c.enter.new.self c.raise.new.self c.args.decl c.args.groups.items
-    c.len-child.result c.enlist-waiting.result c.args.plan.now.spots.items c.args.plan.now.earlier.items kids2 n_is c.requires.planned.uses_are c.requires.planned.placed c.requires.planned.found
+    c.len-child.result c.enlist-waiting.result c.args.self.now.spots.items c.args.self.now.earlier.items kids2 n_is c.requires.planned.uses_are c.requires.planned.placed c.requires.planned.found
     (c.enlist-waiting.ensures.exact ∙ ap (enlisted c.len-child.result kids) c.deref.ensures.value) c.enlist-waiting.ensures.waiting
     (c.enter.ensures.lines ∙ ap (enter_all c.len-child.result (lines_of c.args.self.now.cells.rows.items)) c.deref-2.ensures.value) c.enter.ensures.places
     (λ g. c.raise.ensures g ∙ ap (λ xs. count_of c.args.self.now.groups g + cond {A = ℕ} (list_any (λ x. x == g) xs) 1 0) c.deref-3.ensures.value) in
