@@ -42,10 +42,11 @@ use Rattle.ot_job.specs.Settling.{Came, IsOut, taken_by, moved_on, settled, coun
 use Rattle.ot_job.proofs.BackLemmas.{mode_at, back-serial, test-serial, HasInputs}
 use Rattle.ot_job.proofs.KeptLemmas.{at-updated, at-updated-other, todo-append, kept-piece}
 use Rattle.ot_job.proofs.ChangedLemmas.{begun-changed}
-use Rattle.ot_job.proofs.FreeLemmas.{at-whole, fine-innermost, pieces_apart}
+use Rattle.ot_job.proofs.FreeLemmas.{at-whole, fine-innermost, named-front, named-back}
+use Rattle.ot_job.proofs.HoldingLemmas.{course-holds, course-apart}
 use Rattle.ot_job.proofs.StopLemmas.{sound-piece, may-run}
 use Rattle.ot_job.proofs.SettleLemmas.{is-known, cells-there}
-use Rattle.ot_job.proofs.WellLemmas.{named-front, named-back, worths-stored, settle-may}
+use Rattle.ot_job.proofs.WellLemmas.{worths-stored, settle-may}
 use Rattle.ot_job.proofs.LetsLemmas.{lets-piece, lets-test}
 use Rattle.ot_job.proofs.InputsLemmas.{has-inputs, inputs-kept}
 use Rattle.ot_job.proofs.CountLemmas.{left-grows, serial-few, piece-cells, piece-lengths, settled-state}
@@ -120,7 +121,7 @@ module _ (j : Seen) (w : IsWell j) (working : j.failing ≡ false) (d : Came) (o
   there = cells-there j d (settle-may j w o) out
 
   inputs : All (HasInputs j.cells) d.lent
-  inputs = has-inputs j.cells d.lent (ap (λ (l : Lease). l.firsts) (o.inputs i run out.0)) there
+  inputs = has-inputs j.cells d.lent (ap (λ (l : Lease). l.firsts) (w.present i run out.0)) there
 
   fine-here : IsFine r.own (opened r.groups) (children_of (unawaited r.waiting r.children)) (append d.assigns r.rest)
   fine-here =
@@ -246,10 +247,9 @@ module _ (j : Seen) (w : IsWell j) (working : j.failing ≡ false) (d : Came) (o
   inputs-now : (k : ℕ) (x : Run) → (at settles.regions k).running ≡ Some x → x.lease ≡ lease_of (lent_from cells x.lease.uses)
   inputs-now k x is =
       let was = other-out k x is in
-      o.inputs k x was
+      w.present k x was
       ∙ ap lease_of (sym (inputs-kept d.lent j.cells cells back x.lease.uses
-      (pieces_apart j.regions o.sound lens (λ n. named-front lens (at ws n).rest (at ws n).groups (o.named n)) o.runs o.begun i k run x out.0 was
-      (λ e. (still-out (taken_by d.answer) j.counts.units i j.regions k x is).0 (sym e)))))
+      (w.apart i k run x (λ e. (still-out (taken_by d.answer) j.counts.units i j.regions k x is).0 (sym e)) out.0 was)))
 
   pub settle-course : IsOnCourse settles
   settle-course = record {
@@ -258,7 +258,6 @@ module _ (j : Seen) (w : IsWell j) (working : j.failing ≡ false) (d : Came) (o
     named = λ k. subst (λ l. NamedIn l (todo_at (wholes settles.regions) k)) (sym long) (subst (λ l. NamedIn lens (todo_at l k)) (sym now-is) (goes.named k));
     runs = runs-now;
     begun = begun-now;
-    inputs = inputs-now;
     kept = kept-now;
   }
 
@@ -275,5 +274,8 @@ module _ (j : Seen) (w : IsWell j) (working : j.failing ≡ false) (d : Came) (o
     few = (counts-few settles settle-course).1;
     created = omega (arith, length-settled (taken_by d.answer) j.counts.units i j.regions known, w.created);
     light = omega (arith, w.light, weight-settled (taken_by d.answer) j.counts.units i j.regions run known out.0 well.alive well.stops);
+    holds = course-holds settles settle-course;
+    present = inputs-now;
+    apart = course-apart settles settle-course;
     course = λ z. settle-course;
   }

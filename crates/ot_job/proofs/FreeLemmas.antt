@@ -20,7 +20,7 @@ use Rattle.ot_check.specs.Touches.{Agree}
 use Rattle.ot_check.proofs.Bits.{or_true, true_or, or_right, and_left}
 use Rattle.ot_check.specs.walk.Fine.{IsFine}
 use Rattle.ot_job.specs.Rights.{IsRight}
-use Rattle.ot_task.specs.Place.{Open, opened, children_of, IsFineAt, unawaited, Kids}
+use Rattle.ot_task.specs.Place.{Open, todo, opened, children_of, IsFineAt, unawaited, Kids}
 use Rattle.ot_job.proofs.Order.{IsBefore, Each, Ordered, order, order-ordered}
 use Rattle.ot_job.proofs.Kept.{In}
 use Rattle.ot_check.specs.walk.Fine.{IsHarmless, AreAssigns}
@@ -183,6 +183,18 @@ at-whole [] i = refl
 at-whole (r ∷ rs) zero = refl
 at-whole (r ∷ rs) (suc i) = at-whole rs i
 
+pub named-front : (lens : List ℕ) (rest : Body) (gs : List Open) → NamedIn lens (todo rest gs) → NamedIn lens rest
+named-front lens rest [] n = n
+named-front lens rest (o ∷ os) n = named-append rest (todo o.behind os) n
+  where
+    named-append : (a b : Body) → NamedIn lens (append a b) → NamedIn lens a
+    named-append End b n = tt
+    named-append (Next x a) b n = (n.0, named-append a b n.1)
+
+pub named-back : (lens : List ℕ) (a b : Body) → NamedIn lens (append a b) → NamedIn lens b
+named-back lens End b n = n
+named-back lens (Next x a) b n = named-back lens a b n.1
+
 -- ---- one piece, and the children of its task
 
 module _ (lens : List ℕ) (r : Region) (p : IsPlaced (whole r)) (named : NamedIn lens (whole r).rest) (run : Run) (is : r.running ≡ Some run) (w : RunsWell r run) where
@@ -197,16 +209,19 @@ module _ (lens : List ℕ) (r : Region) (p : IsPlaced (whole r)) (named : NamedI
       (subst (NamedIn lens) rest-is named)
       (subst (IsFine r.own (opened r.groups) (children_of (unawaited r.waiting r.children))) rest-is (fine-innermost r.own (unawaited r.waiting r.children) (whole r).rest r.groups p.fine))
 
+  pub touch-may : (u : Use) → Touched u → allows r.own u ≡ true
+  touch-may u t = by (allows r.own u) (safe u t NotDeclared)
+    where
+      by : (b : Bool) → not b ≡ false → b ≡ true
+      by true h = refl
+      by false h = absurd (true≢false h)
+
   right-of : (u : Use) → mode_in run.lease.uses u.cell ≡ Some u.mode → IsRight r.own Touched u
   right-of u h = held-right r.own u.cell (piece_touches run.assigns (test_of r.rest)) u.mode (sym (w.modes u.cell) ∙ h)
 
   pub piece-may : (u : Use) → mode_in run.lease.uses u.cell ≡ Some u.mode → allows r.own u ≡ true
   piece-may u h =
-      right_may r.own Touched (λ v t. by (allows r.own v) (safe v t NotDeclared)) u.cell u.mode (allowed-writes r.own) (right-of u h)
-    where
-      by : (b : Bool) → not b ≡ false → b ≡ true
-      by true h = refl
-      by false h = absurd (true≢false h)
+      right_may r.own Touched touch-may u.cell u.mode (allowed-writes r.own) (right-of u h)
 
   pub piece-meets : (k : ℕ) (s : Sibling) → slice_get r.children k ≡ Some s → s.finished ≡ false → (u v : Use) → mode_in run.lease.uses u.cell ≡ Some u.mode → allows (Some s.uses) v ≡ true → Agree u v
   piece-meets k s there alive u v h may =

@@ -89,7 +89,7 @@ mode-lent (l ∷ lent) c = by (same_cell c l.cell) refl (mode-lent lent c)
     by false e more = rw (e, flip c l.cell false e) more
 
 -- who may write a cell may read it
-writes-reads : (own : Declared) (c : Cell) → allows own (use_as Writes c) ≡ true → allows own (use_as Reads c) ≡ true
+pub writes-reads : (own : Declared) (c : Cell) → allows own (use_as Writes c) ≡ true → allows own (use_as Reads c) ≡ true
 writes-reads None c h = refl
 writes-reads (Some []) c h = h
 writes-reads (Some (d ∷ us)) c h =

@@ -30,6 +30,7 @@ pub mod ClosedLemmas
 pub mod MovedLemmas
 pub mod MovesLemmas
 pub mod LetsLemmas
+pub mod HoldingLemmas
 pub mod InputsLemmas
 pub mod CountLemmas
 pub mod CourseLemmas

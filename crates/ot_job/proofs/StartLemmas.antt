@@ -1,6 +1,7 @@
 -- A job begins well, and where it has ended its cells and counts are the serial meaning of its program.
-use Rattle.std.proofs.Common.{◌≡◌, ℕ, zero, suc, ◌+◌, ◌*◌, ◌<◌, ◌≤◌, Bool, true, false, List, [], ◌∷◌, length, refl, sym, ap, subst, ◌∙◌, arith, true≢false, ◌==◌}
+use Rattle.std.proofs.Common.{◌≡◌, ℕ, zero, suc, ◌+◌, ◌*◌, ◌<◌, ◌≤◌, Bool, true, false, List, [], ◌∷◌, length, refl, sym, ap, subst, ◌∙◌, ◌⊎◌, inl, inr, arith, true≢false, ◌==◌}
 use Rattle.std.specs.Prelude.{Option, is_some, ◌||◌, Some, None, slice_get, if◌then◌else◌, IsPermutation, Contains}
+use Rattle.std.proofs.lemmas.Bool.{cases_eq}
 use Rattle.std.proofs.lemmas.List.Sorted.{IsPermutation-refl, IsPermutation-sym, IsPermutation-trans, Contains-permutation}
 use Rattle.ot_model.specs.Tree.{Body, End, Next}
 use Rattle.ot_model.specs.Counts.{size}
@@ -22,6 +23,7 @@ use Rattle.ot_owner.specs.Owning.{Owned}
 use Rattle.ot_owner.specs.Leases.{lease_of}
 use Rattle.ot_owner.specs.Worth.{worths}
 use Rattle.ot_owner.proofs.OutLemmas.{permutation_rest}
+use Rattle.ot_job.specs.Holding.{Holds, touches_out}
 use Rattle.ot_job.specs.Left.{left, children_left}
 use Rattle.ot_task.specs.Regions.{Region, Run, root_region, stopped}
 use Rattle.ot_job.specs.Sound.{at, gone, parent_of, todo_at, parents, left_of, IsPlaced, IsSound}
@@ -32,6 +34,7 @@ use Rattle.ot_job.specs.States.{all_ended, any_out, state_in}
 use Rattle.ot_job.specs.declared.state.State.TheVariants.{Working, Failing, Ended, Failed}
 use Rattle.ot_job.specs.Settling.{Came, IsOut}
 use Rattle.ot_job.proofs.Kept.{touch-all}
+use Rattle.ot_job.proofs.KeptLemmas.{at-updated, at-updated-other}
 use Rattle.ot_job.proofs.FreeLemmas.{at-whole}
 use Rattle.ot_job.proofs.WellLemmas.{worths-stored, out-contained}
 use Rattle.ot_job.proofs.MovesLemmas.{one-less}
@@ -117,13 +120,15 @@ starts-well j disciplined named out regions cells tasks units = record {
   few = omega (arith, units);
   created = subst (λ rs. length rs ≡ 1 + j.counts.tasks) (sym regions) (omega (arith, tasks));
   light = subst (λ rs. weight_of rs ≤ 2 * size j.program.body + 1) (sym regions) (root-light j.program.body);
+  holds = λ i run is. idle j.program disciplined (lengths j.cells) named i run (ap (λ rs. (at rs i).running) (sym regions) ∙ is);
+  present = λ i run is. idle j.program disciplined (lengths j.cells) named i run (ap (λ rs. (at rs i).running) (sym regions) ∙ is);
+  apart = λ i k one two other is also. idle j.program disciplined (lengths j.cells) named i one (ap (λ rs. (at rs i).running) (sym regions) ∙ is);
   course = λ working. record {
     some = subst (λ rs. 0 < length rs) (sym regions) (omega arith);
     sound = subst (λ rs. IsSound (wholes rs)) (sym regions) (sound-root j.program disciplined (lengths j.cells) named);
     named = subst (λ rs. (i : ℕ) → NamedIn (lengths j.cells) (todo_at (wholes rs) i)) (sym regions) (named-each j.program disciplined (lengths j.cells) named);
     runs = λ i run is. idle j.program disciplined (lengths j.cells) named i run (ap (λ rs. (at rs i).running) (sym regions) ∙ is);
     begun = λ i run is. idle j.program disciplined (lengths j.cells) named i run (ap (λ rs. (at rs i).running) (sym regions) ∙ is);
-    inputs = λ i run is. idle j.program disciplined (lengths j.cells) named i run (ap (λ rs. (at rs i).running) (sym regions) ∙ is);
     kept = ap (λ rs. left_of (wholes rs) (state_of (worths j.owned j.cells) j.counts)) regions ∙ ap (serial j.program.body) begins;
   };
 }
@@ -182,9 +187,28 @@ fails-well j d owned w out ended = record {
       (one-less j.regions d.task (record { assigns = d.assigns; lease = lease_of d.lent }) out.0)));
   few = w.few;
   created = length-updated j.regions d.task stopped ∙ w.created;
-  light = omega (arith, w.light, weight-stopped j.regions d.task (runs-within j.regions d.task (record { assigns = d.assigns; lease = lease_of d.lent }) out.0));
+  light = omega (arith, w.light, weight-stopped j.regions d.task known);
+  holds = λ k run is. let r = still k run is in subst (λ x. Holds x.own (touches_out x run) run.lease.uses) (sym r) (w.holds k run (was k run is));
+  present = λ k run is. w.present k run (was k run is);
+  apart = λ k l one two other is also. w.apart k l one two other (was k one is) (was l two also);
   course = λ working. absurd (true≢false working);
 }
+  where
+    known : d.task < length j.regions
+    known = runs-within j.regions d.task (record { assigns = d.assigns; lease = lease_of d.lent }) out.0
+
+    -- who has a piece out still has it, and nothing else of it changed
+    still : (k : ℕ) (run : Run) → (at (updated j.regions d.task stopped) k).running ≡ Some run → at (updated j.regions d.task stopped) k ≡ at j.regions k
+    still k run is = pick (cases_eq k d.task)
+      where
+        pick : (k ≡ d.task) ⊎ (k ≡ d.task → ⊥) → at (updated j.regions d.task stopped) k ≡ at j.regions k
+        pick (inl e) =
+            let none : None ≡ Some run = sym (ap (λ (r : Region). r.running) (ap (at (updated j.regions d.task stopped)) e ∙ at-updated j.regions d.task stopped known)) ∙ is in
+            cc
+        pick (inr e) = at-updated-other j.regions d.task k stopped e
+
+    was : (k : ℕ) (run : Run) → (at (updated j.regions d.task stopped) k).running ≡ Some run → (at j.regions k).running ≡ Some run
+    was k run is = sym (ap (λ (r : Region). r.running) (still k run is)) ∙ is
 
 -- where a job stands, by what is known of it
 pub state-is-failing : (j : Seen) → j.failing ≡ true → any_out j.regions ≡ true → Failing ≡ state_in j

@@ -35,13 +35,15 @@ use Rattle.ot_model.specs.Runs.{state_of}
 use Rattle.ot_job.specs.Live.{Seen}
 use Rattle.ot_task.specs.Touched.{AreHeld, piece_touches, assign_touches, test_touches}
 use Rattle.ot_job.specs.Claiming.{is_claimable}
+use Rattle.ot_job.specs.Holding.{Holds, touches_out}
 use Rattle.ot_task.specs.Waits.{is_let_go}
 use Rattle.ot_depend.specs.Siblings.{is_ready}
 use Rattle.ot_job.proofs.KeptLemmas.{parents-updated, at-updated, at-updated-other, todo-append}
 use Rattle.ot_job.proofs.ChangedLemmas.{begun-changed}
 use Rattle.ot_job.proofs.WholeLemmas.{wholes-begun, one-more}
 use Rattle.ot_job.proofs.AwakeLemmas.{sound-awake}
-use Rattle.ot_job.proofs.FreeLemmas.{pieces_apart, at-whole}
+use Rattle.ot_job.proofs.FreeLemmas.{pieces_apart, at-whole, named-front, named-back}
+use Rattle.ot_job.proofs.HoldingLemmas.{course-holds, course-apart}
 use Rattle.ot_job.proofs.PickLemmas.{ready-from}
 use Rattle.ot_job.specs.Settling.{MaySettle}
 use Rattle.ot_task.proofs.HeldLemmas.{AllIn, all-append, reads-in, held-there}
@@ -69,18 +71,6 @@ todo-passed : (rest : Body) (gs : List Open) → todo (passed rest gs).rest (pas
 todo-passed End [] = refl
 todo-passed End (o ∷ os) = refl
 todo-passed (Next x b) gs = refl
-
-pub named-front : (lens : List ℕ) (rest : Body) (gs : List Open) → NamedIn lens (todo rest gs) → NamedIn lens rest
-named-front lens rest [] n = n
-named-front lens rest (o ∷ os) n = named-append rest (todo o.behind os) n
-  where
-    named-append : (a b : Body) → NamedIn lens (append a b) → NamedIn lens a
-    named-append End b n = tt
-    named-append (Next x a) b n = (n.0, named-append a b n.1)
-
-pub named-back : (lens : List ℕ) (a b : Body) → NamedIn lens (append a b) → NamedIn lens b
-named-back lens End b n = n
-named-back lens (Next x a) b n = named-back lens a b n.1
 
 idle-whole : (r : Region) → r.running ≡ None → whole r ≡ record r { running = None }
 idle-whole r idle = ap (λ o. record r { rest = append (assigns_out o) r.rest; running = None }) idle
@@ -258,6 +248,25 @@ module _ (j : Seen) (w : IsWell j) (working : j.failing ≡ false) (i : ℕ) (h 
   o : IsOnCourse j
   o = w.course working
 
+  claim-course : IsOnCourse claimed
+  claim-course = record {
+    some = omega (arith, o.some, length-updated j.regions i (begun lease));
+    sound = sound-now (lengths j.cells) j.regions o.sound o.named o.runs o.begun i h can lease are ordered;
+    named = named-now (lengths j.cells) j.regions o.sound o.named o.runs o.begun i h can lease are ordered;
+    runs = well-now (lengths j.cells) j.regions o.sound o.named o.runs o.begun i h can lease are ordered;
+    begun = started-now (lengths j.cells) j.regions o.sound o.named o.runs o.begun i h can lease are ordered;
+    kept =
+        ap (λ c. left_of (wholes (updated j.regions i (begun lease))) (state_of c j.counts)) (worths-stored owned j.cells ∙ sym (worths-stored j.owned j.cells))
+        ∙ kept-now (lengths j.cells) j.regions o.sound o.named o.runs o.begun i h can lease are ordered (state_of (worths j.owned j.cells) j.counts) ∙ o.kept;
+  }
+
+  -- what was taken is held as its touches ask
+  pub claim-holds : Holds (at j.regions i).own (piece_touches (leading (awake (at j.regions i)).rest) (test_of (behind (awake (at j.regions i)).rest))) lease.uses
+  claim-holds =
+      let here : at claimed.regions i ≡ begun lease (at j.regions i) = at-updated j.regions i (begun lease) h in
+      let run : Run = record { assigns = leading (awake (at j.regions i)).rest; lease = lease } in
+      subst (λ (r : Region). Holds r.own (touches_out r run) lease.uses) here (course-holds claimed claim-course i run (ap (λ (r : Region). r.running) here))
+
   -- a claim leaves it well
   pub claim-well : IsWell claimed
   claim-well = record {
@@ -269,17 +278,10 @@ module _ (j : Seen) (w : IsWell j) (working : j.failing ≡ false) (i : ℕ) (h 
     few = w.few;
     created = length-updated j.regions i (begun lease) ∙ w.created;
     light = omega (arith, w.light, weight-begun lease j.regions i h (idle (lengths j.cells) j.regions o.sound o.named o.runs o.begun i h can lease are ordered));
-    course = λ z. record {
-      some = omega (arith, o.some, length-updated j.regions i (begun lease));
-      sound = sound-now (lengths j.cells) j.regions o.sound o.named o.runs o.begun i h can lease are ordered;
-      named = named-now (lengths j.cells) j.regions o.sound o.named o.runs o.begun i h can lease are ordered;
-      runs = well-now (lengths j.cells) j.regions o.sound o.named o.runs o.begun i h can lease are ordered;
-      begun = started-now (lengths j.cells) j.regions o.sound o.named o.runs o.begun i h can lease are ordered;
-      inputs = inputs-begun j.cells j.regions i lease h fresh o.inputs;
-      kept =
-          ap (λ c. left_of (wholes (updated j.regions i (begun lease))) (state_of c j.counts)) (worths-stored owned j.cells ∙ sym (worths-stored j.owned j.cells))
-          ∙ kept-now (lengths j.cells) j.regions o.sound o.named o.runs o.begun i h can lease are ordered (state_of (worths j.owned j.cells) j.counts) ∙ o.kept;
-    };
+    holds = course-holds claimed claim-course;
+    present = inputs-begun j.cells j.regions i lease h fresh w.present;
+    apart = course-apart claimed claim-course;
+    course = λ z. claim-course;
   }
 
 -- ---- a settle may be made

@@ -9,7 +9,8 @@ use Rattle.ot_job.specs.Sound.{at}
 use Rattle.ot_job.specs.Live.{Seen}
 use Rattle.ot_job.specs.Taken.{Taken}
 use Rattle.ot_task.specs.Pieces.{leading, behind, test_of, awake, begun}
-use Rattle.ot_task.specs.Touched.{AreHeld}
+use Rattle.ot_task.specs.Touched.{piece_touches}
+use Rattle.ot_job.specs.Holding.{Holds}
 use Rattle.ot_job.specs.Claiming.{picked}
 use Rattle.ot_job.specs.States.{claimable_in}
 
@@ -21,7 +22,7 @@ pub record Claims (old : Seen) (pick : ℕ) (p : Taken) (new : Seen) : Type 0 wh
   pub task : picked (claimable_in old) pick ≡ Some p.task
   pub assigns : p.assigns ≡ leading (ahead old p.task)
   pub test : p.test ≡ test_of (behind (ahead old p.task))
-  pub held : AreHeld (at old.regions p.task) (uses_of p.lent)
+  pub held : Holds (at old.regions p.task).own (piece_touches p.assigns p.test) (uses_of p.lent)
   pub inputs : p.lent ≡ lent_from old.cells (uses_of p.lent)
   pub out : IsPermutation (lease_of p.lent ∷ old.owned.out) new.owned.out
   pub worth : KeepsWorth old.owned new.owned

@@ -12,5 +12,6 @@ pub mod Listing
 pub mod Claims
 pub mod Whole
 pub mod Running
+pub mod Holding
 pub mod Well
 pub mod Dealings

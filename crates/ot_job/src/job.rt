@@ -65,7 +65,8 @@ impl Job {
     ghost use Rattle.ot_job.specs.declared.state.State.TheVariants.{Working, Failing, Ended, Failed};
     ghost use Rattle.ot_check.specs.Jobs.{Spec, IsMeaning};
     ghost use Rattle.ot_task.specs.Weighing.{weight_of};
-    ghost use Rattle.ot_job.specs.Well.{IsWell};
+    ghost use Rattle.ot_job.specs.Well.{IsKeptIn};
+    ghost use Rattle.ot_job.specs.Holding.{AllHold, HavePresent, AreApart};
 
     /// A job that begins. It has the whole program left. Where memory is refused, the spec comes back.
     pub fn start(alloc: Global, spec: JobSpec) -> Result<Job, (JobSpec, AllocError)>
@@ -93,7 +94,10 @@ impl Job {
         ensures is { result ≡ state_of (seen_of self.now) }
         ensures calm { IsOver result → NoneOut (seen_of self.now) }
         ensures going { result ≡ Failing → NoneOut (seen_of self.now) → ⊥ }
-        ensures well { IsWell (seen_of self.now) }
+        ensures kept { IsKeptIn result (seen_of self.now) }
+        ensures holds { AllHold (seen_of self.now) }
+        ensures present { HavePresent (seen_of self.now) }
+        ensures apart { AreApart (seen_of self.now) }
         ensures ended { result ≡ Ended → any_out (seen_of self.now).regions ≡ false }
     {
         if self.failing {

@@ -166,7 +166,7 @@ impl Tasks {
         ensures refused { OnErr result (regions_of self.new ≡ regions_of self.old) }
     {
         if self.tasks[i].is_at_end() {
-            self.close(alloc, i);
+            self.close(i);
         } else if self.tasks[i].tasks_next() == 0 {
             self.advance(alloc, i, taken, group)?;
         } else {
@@ -177,7 +177,7 @@ impl Tasks {
     }
 
     /// A task ends its body. It takes no memory.
-    fn close(&mut self, alloc: Global, i: usize)
+    fn close(&mut self, i: usize)
         requires known { i < length self.old }
         requires alive { (at (regions_of self.old) i).ended ≡ false }
         requires parent { 0 < i → parent_of (regions_of self.old) i < length self.old }
@@ -186,13 +186,13 @@ impl Tasks {
         ensures { regions_of self.new ≡ closed i (regions_of self.old) }
     {
         if i > 0 {
-            self.tell_parent(alloc, i);
+            self.tell_parent(i);
         }
         self.end(i);
     }
 
     /// Tells the parent that a child has finished. It takes no memory.
-    fn tell_parent(&mut self, alloc: Global, i: usize)
+    fn tell_parent(&mut self, i: usize)
         requires known { i < length self.old }
         requires parent { parent_of (regions_of self.old) i < length self.old }
         requires ready { IsReady (at (regions_of self.old) (parent_of (regions_of self.old) i)).children (at (regions_of self.old) i).child }
@@ -201,7 +201,7 @@ impl Tasks {
     {
         let parent = self.tasks[i].parent;
         let child = self.tasks[i].child;
-        let waiters = self.tasks[parent].release_child(alloc, child);
+        let waiters = self.tasks[parent].release_child(child);
         refresh(&mut self.claimable, &self.tasks, parent);
         refresh_children(
             &mut self.claimable,

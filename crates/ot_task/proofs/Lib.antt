@@ -1,6 +1,8 @@
 pub mod CellLemmas
 pub mod RestLemmas
 pub mod AssignLemmas
+pub mod UseLemmas
+pub mod StrongestLemmas
 pub mod TouchedLemmas
 pub mod PieceLemmas
 pub mod HeldLemmas

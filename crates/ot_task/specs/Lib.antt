@@ -7,5 +7,6 @@ pub mod RegionView
 pub mod Assigns
 pub mod Pieces
 pub mod Touched
+pub mod Held
 pub mod Waits
 pub mod Weighing

@@ -1,10 +1,6 @@
 -- What a piece holds of the cells that it touches.
-use Rattle.std.specs.Prelude.{◌≡◌, ℕ, ◌+◌, ◌≤◌, ◌^◌, not, ◌&&◌, if◌then◌else◌, List, [], ◌++◌, map, Option, Some, None}
+use Rattle.std.specs.Prelude.{◌≡◌, ◌+◌, ◌≤◌, ◌^◌, not, ◌&&◌, if◌then◌else◌, List, [], ◌++◌, map, Option, Some, None}
 use Rattle.std.specs.List.{fold}
-use Rattle.std.specs.Map.{lookup}
-use Rattle.std.specs.BTreeMap.{is_at}
-use Rattle.std.specs.Ordering.{nat_cmp, ordering_then}
-use Rattle.std.specs.declared.cmp.Ordering.{Ordering}
 use Rattle.ot_model.specs.Tree.{E, Literal, CellAt, Apply, PickFrom, Set, Add, Body, End, Next}
 use Rattle.ot_model.specs.Uses.{is_adds, mode_in}
 use Rattle.ot_model.specs.declared.expr.Cell.{Cell}
@@ -58,21 +54,6 @@ held own us c = fold (noted own c) None us
 -- these are the modes in which a region's next piece holds its cells
 abbrev pub AreHeld : Region → List Use → Type 0
 AreHeld r d = (c : Cell) → mode_in d c ≡ held r.own (piece_touches (leading (awake r).rest) (test_of (behind (awake r).rest))) c
-
--- ---- as the code keeps them
-
-abbrev pub cell_order : ℕ × ℕ → ℕ × ℕ → Ordering
-cell_order a b = ordering_then (nat_cmp a.0 b.0) (nat_cmp a.1 b.1)
-
--- cells by array and then by index, each with the mode so far
-abbrev pub Held : Type 0
-Held = List ((ℕ × ℕ) × Mode)
-
-abbrev pub held_at : Held → Cell → Option Mode
-held_at es c = lookup (is_at (cell_order (c.array, c.index))) es
-
-abbrev pub use_at : (ℕ × ℕ) × Mode → Use
-use_at e = record { cell = record { array = e.0.0; index = e.0.1 }; mode = e.1 }
 
 -- each section has indexes of 32 bits
 abbrev pub PicksFit : E → Type 0

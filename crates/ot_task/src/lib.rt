@@ -7,6 +7,7 @@
 #![tactic(auto)]
 
 mod assign;
+mod held;
 mod leading;
 mod place;
 mod prepared;

@@ -42,7 +42,7 @@ impl Task {
     ghost use Rattle.ot_model.specs.Uses.{AreInOrder};
     ghost use Rattle.ot_task.specs.Standing.{is_at_end};
     ghost use Rattle.ot_depend.specs.Siblings.{IsReady, IsUnfinished, with_finished};
-    ghost use Rattle.ot_depend.specs.Waiting.{LetsTheSame};
+    ghost use Rattle.ot_depend.specs.Waiting.{LetsTheSame, WaitForLess};
     ghost use Rattle.std.specs.Prelude.{All};
     ghost use Rattle.ot_task.specs.Assigns.{assigns_of};
     ghost use Rattle.std.specs.Prelude.{IsTrue, ◌↔◌};
@@ -212,16 +212,17 @@ impl Task {
         self.children.add(alloc, decl, &groups)
     }
 
-    /// A child has finished. The answer is the children that waited for it by themselves: each other is
-    /// as ready as before. It takes no memory.
-    pub fn release_child(&mut self, alloc: Global, child: usize) -> Vec<usize>
+    /// A child has finished. The answer is the children that waited for it by themselves, each once: those
+    /// wait for less now, and each other is as ready as before.
+    pub fn release_child(&mut self, child: usize) -> Vec<usize>
         requires ready { IsReady self.old.children child }
         requires unfinished { IsUnfinished self.old.children child }
         ensures released { region_of self.new ≡ without child (region_of self.old) }
         ensures known { All (λ w. w < length self.old.children) result.items }
         ensures others { LetsTheSame result.items self.old.children (with_finished self.old.children child) }
+        ensures exact { WaitForLess result.items self.old.children (with_finished self.old.children child) }
     {
-        self.children.release(alloc, child)
+        self.children.release(child)
     }
 
     /// It has ended its body.

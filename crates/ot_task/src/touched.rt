@@ -9,15 +9,13 @@ ghost use Rattle.ot_check.specs.Paths.{use_as, touches};
 ghost use Rattle.ot_model.specs.Value.{cells_named};
 ghost use Rattle.ot_check.specs.Offences.{adds_to};
 ghost use Rattle.ot_task.specs.Assigns.{assign_of, assigns_of};
-ghost use Rattle.ot_task.specs.Touched.{stronger, with_mode, mode_held, noted, held, held_at, use_at, assign_touches, test_touches, piece_touches, PicksFit, AssignsFit};
+ghost use Rattle.ot_task.specs.Held.{strongest};
+ghost use Rattle.ot_task.specs.Touched.{mode_held, noted, held, assign_touches, test_touches, piece_touches, PicksFit, AssignsFit};
 
 use crate::assign::Assign;
+use crate::held::Held;
 use ot_model::{Cell, Decl, Expr, Mode, Section, Use};
 use std::alloc::{AllocError, Global};
-use std::collections::BTreeMap;
-
-// Cells by array and then by index, each with the mode in which it is held.
-type Held = BTreeMap<(u32, u32), Mode>;
 
 /// What a piece with these assignments and this condition holds: the cells that it touches and no
 /// others. An add holds its cell as `Adds` where the body declares it so, else as `Writes`.
@@ -32,12 +30,12 @@ pub fn touched(
     ensures ordered { IfOk result (λ d. AreInOrder d) }
     ensures exact { IfOk result (λ d. (c : Cell) → mode_in d c ≡ held (option_map (λ o. o.now) own.entry) (piece_touches (assigns_of assigns.now) (option_map (λ e. expr_of e.now) condition.entry)) c) }
 {
-    let mut held = BTreeMap::new(alloc);
+    let mut held = Held::with_capacity(alloc, assigns.len())?;
     for assign in assigns {
         note_assign(&mut held, own, assign)?;
     }
     note_test(&mut held, own, condition)?;
-    Ok(Decl::new(uses_of(alloc, &held)?))
+    Ok(Decl::new(held.into_uses()?))
 }
 
 fn note_test(
@@ -46,8 +44,8 @@ fn note_test(
     condition: Option<&Expr>,
 ) -> Result<(), AllocError>
     requires test { IfSome condition (λ e. PicksFit (expr_of e.now)) }
-    ensures { OnOk result ((c : Cell) → held_at held.new.entries c
-        ≡ fold (noted (option_map (λ o. o.now) own.entry) c) (held_at held.old.entries c) (test_touches (option_map (λ e. expr_of e.now) condition.entry))) }
+    ensures { OnOk result ((c : Cell) → strongest held.new c
+        ≡ fold (noted (option_map (λ o. o.now) own.entry) c) (strongest held.old c) (test_touches (option_map (λ e. expr_of e.now) condition.entry))) }
 {
     match condition {
         None => Ok(()),
@@ -57,8 +55,8 @@ fn note_test(
 
 fn note_assign(held: &mut Held, own: Option<&Decl>, assign: &Assign) -> Result<(), AllocError>
     requires fits { AssignsFit (assigns_of (assign.now ∷ [])) }
-    ensures { OnOk result ((c : Cell) → held_at held.new.entries c
-        ≡ fold (noted (option_map (λ o. o.now) own.entry) c) (held_at held.old.entries c) (touches (assign_of assign.now))) }
+    ensures { OnOk result ((c : Cell) → strongest held.new c
+        ≡ fold (noted (option_map (λ o. o.now) own.entry) c) (strongest held.old c) (touches (assign_of assign.now))) }
 {
     match assign {
         Assign::Set(cell, value) => {
@@ -89,8 +87,8 @@ fn note_assign(held: &mut Held, own: Option<&Decl>, assign: &Assign) -> Result<(
 /// Notes each cell that a value names.
 fn note_reads(held: &mut Held, own: Option<&Decl>, expr: &Expr) -> Result<(), AllocError>
     requires fits { PicksFit (expr_of expr.now) }
-    ensures { OnOk result ((c : Cell) → held_at held.new.entries c
-        ≡ fold (noted (option_map (λ o. o.now) own.entry) c) (held_at held.old.entries c) (map (use_as Reads) (cells_named (expr_of expr.now)))) }
+    ensures { OnOk result ((c : Cell) → strongest held.new c
+        ≡ fold (noted (option_map (λ o. o.now) own.entry) c) (strongest held.old c) (map (use_as Reads) (cells_named (expr_of expr.now)))) }
 {
     match expr {
         Expr::Number(_) => Ok(()),
@@ -115,8 +113,8 @@ fn note_reads(held: &mut Held, own: Option<&Decl>, expr: &Expr) -> Result<(), Al
 
 fn note_section(held: &mut Held, own: Option<&Decl>, section: Section) -> Result<(), AllocError>
     requires fits { section.start + section.len ≤ 2 ^ 32 }
-    ensures { OnOk result ((c : Cell) → held_at held.new.entries c
-        ≡ fold (noted (option_map (λ o. o.now) own.entry) c) (held_at held.old.entries c) (map (use_as Reads) (map (cell_at section) (range_with_len 0 section.len)))) }
+    ensures { OnOk result ((c : Cell) → strongest held.new c
+        ≡ fold (noted (option_map (λ o. o.now) own.entry) c) (strongest held.old c) (map (use_as Reads) (map (cell_at section) (range_with_len 0 section.len)))) }
 {
     for step in 0..section.len {
         let cell = Cell {
@@ -135,17 +133,14 @@ fn note_section(held: &mut Held, own: Option<&Decl>, section: Section) -> Result
     Ok(())
 }
 
+/// Notes one touch, in the mode in which it is held.
 fn note(held: &mut Held, own: Option<&Decl>, used: Use) -> Result<(), AllocError>
-    ensures { OnOk result ((c : Cell) → held_at held.new.entries c ≡ noted (option_map (λ o. o.now) own.entry) c (held_at held.old.entries c) used) }
+    ensures { OnOk result ((c : Cell) → strongest held.new c ≡ noted (option_map (λ o. o.now) own.entry) c (strongest held.old c) used) }
 {
-    let key = (used.cell.array, used.cell.index);
-    let mode = mode_held(own, used);
-    let mode = match held.get(&key).copied() {
-        None => mode,
-        Some(earlier) => stronger(earlier, mode),
-    };
-    held.insert(key, mode)?;
-    Ok(())
+    held.add(Use {
+        cell: used.cell,
+        mode: mode_held(own, used),
+    })
 }
 
 fn mode_held(own: Option<&Decl>, used: Use) -> Mode
@@ -173,29 +168,4 @@ fn declares_sum(own: &Decl, cell: Cell) -> bool
         None => false,
         Some(mode) => mode == Mode::Adds,
     }
-}
-
-fn stronger(one: Mode, two: Mode) -> Mode
-    ensures { result ≡ stronger one two }
-{
-    match (one, two) {
-        (Mode::Reads, _) => two,
-        (Mode::Adds, Mode::Reads | Mode::Adds) => Mode::Adds,
-        (_, _) => Mode::Writes,
-    }
-}
-
-fn uses_of(alloc: Global, held: &Held) -> Result<Vec<Use>, AllocError>
-    ensures uses { IfOk result (λ v. v.items ≡ map use_at held.now.entries) }
-    ensures ordered { IfOk result (λ v. AreInOrder v.items) }
-{
-    let mut uses = Vec::with_capacity(alloc, held.len())?;
-    for ((array, index), mode) in held {
-        let cell = Cell {
-            array: *array,
-            index: *index,
-        };
-        uses.push(Use { cell, mode: *mode })?;
-    }
-    Ok(uses)
 }

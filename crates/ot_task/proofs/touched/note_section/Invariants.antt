@@ -5,11 +5,12 @@ use Rattle.ot_model.specs.Value.{cell_at}
 use Rattle.ot_model.specs.declared.expr.Cell.{Cell}
 use Rattle.ot_model.specs.declared.stmt.Mode.TheVariants.{Reads}
 use Rattle.ot_check.specs.Paths.{use_as}
-use Rattle.ot_task.specs.Touched.{noted, held_at}
+use Rattle.ot_task.specs.Held.{strongest}
+use Rattle.ot_task.specs.Touched.{noted}
 use Rattle.ot_task.proofs.touched.note_section.Given as goal
 
 -- what is held so far, with the cells that are left
 abbrev pub invariant-loop-step : goal.invariant-loop-step
 invariant-loop-step l =
-    (c : Cell) → fold (noted (option_map (λ o. o.now) l.own) c) (held_at l.held.entries c) (map (use_as Reads) (map (cell_at l.section) (range_with_len l.step (l.section.len - l.step))))
-    ≡ fold (noted (option_map (λ o. o.now) l.own) c) (held_at l.initial.held.entries c) (map (use_as Reads) (map (cell_at l.section) (range_with_len 0 l.section.len)))
+    (c : Cell) → fold (noted (option_map (λ o. o.now) l.own) c) (strongest l.held c) (map (use_as Reads) (map (cell_at l.section) (range_with_len l.step (l.section.len - l.step))))
+    ≡ fold (noted (option_map (λ o. o.now) l.own) c) (strongest l.initial.held c) (map (use_as Reads) (map (cell_at l.section) (range_with_len 0 l.section.len)))

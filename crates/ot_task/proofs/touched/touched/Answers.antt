@@ -7,8 +7,8 @@ use Rattle.ot_model.specs.View.{expr_of}
 use Rattle.ot_task.specs.Assigns.{assigns_of}
 use Rattle.ot_task.specs.declared.assign.Assign.{Assign}
 use Rattle.ot_model.specs.Uses.{mode_in}
-use Rattle.ot_task.specs.Touched.{held_at, noted, assign_touches, test_touches}
-use Rattle.ot_task.proofs.TouchedLemmas.{mode-in}
+use Rattle.ot_task.specs.Held.{strongest}
+use Rattle.ot_task.specs.Touched.{noted, assign_touches, test_touches}
 use Rattle.ot_task.proofs.touched.touched.Goals as goal
 
 pub returns-clause-exact : goal.returns-clause-exact
@@ -16,7 +16,6 @@ returns-clause-exact c = λ cell.
     let f = noted (option_map (λ o. o.now) c.args.own) cell in
     let more = test_touches (option_map (λ e. expr_of e.now) c.args.condition) in
     let none : drop c.loop-assign.assign-index c.args.assigns.now ≡ [] = drop_all c.loop-assign.assign-index c.args.assigns.now (omega (arith, c.loop-assign-test.false)) in
-    ap (λ us. mode_in us cell) (c.new.ensures ∙ c.in_ok-uses_of.ensures.uses)
-    ∙ mode-in c.note_test.new.held.entries cell ∙ c.in_ok-note_test.ensures cell
-    ∙ ap (λ o. fold f o more) (ap (λ (xs : List Assign). fold f (held_at c.loop-assign.held.entries cell) (assign_touches (assigns_of xs))) (sym none) ∙ c.loop-assign.invariant.0 cell)
+    ap (λ us. mode_in us cell) c.new.ensures ∙ c.in_ok-into_uses.ensures.exact cell ∙ c.in_ok-note_test.ensures cell
+    ∙ ap (λ o. fold f o more) (ap (λ (xs : List Assign). fold f (strongest c.loop-assign.held cell) (assign_touches (assigns_of xs))) (sym none) ∙ c.loop-assign.invariant.0 cell)
     ∙ sym (fold-append f _ (assign_touches (assigns_of c.args.assigns.now)) more)

@@ -10,6 +10,9 @@ invariant_of-self c = record {
   created = c.self.invariant.created;
   few = c.self.invariant.few;
   light = c.self.invariant.light;
+  holds = c.self.invariant.holds;
+  present = c.self.invariant.present;
+  apart = c.self.invariant.apart;
   course = λ is. absurd (true≢false is);
 }
 

@@ -15,11 +15,13 @@ use Rattle.ot_job.specs.Sound.{at}
 use Rattle.ot_task.specs.Pieces.{leading, behind, test_of, awake, begun, leading_len}
 use Rattle.ot_task.specs.Assigns.{assigns_of, CanRun}
 use Rattle.ot_job.specs.Claiming.{claimable_of, picked}
-use Rattle.ot_task.specs.Touched.{AreHeld}
+use Rattle.ot_task.specs.Touched.{AreHeld, piece_touches}
 use Rattle.ot_job.specs.Claims.{Claims}
+use Rattle.ot_job.specs.Holding.{Holds}
+use Rattle.ot_owner.specs.Lending.{uses_of}
 use Rattle.ot_job.specs.Taken.{Taken, Parts, taken_of}
 use Rattle.ot_job.specs.Well.{IsWell}
-use Rattle.ot_job.proofs.WellLemmas.{claimable-idle, named-awake, claim-free, claim-well}
+use Rattle.ot_job.proofs.WellLemmas.{claimable-idle, named-awake, claim-free, claim-holds, claim-well}
 use Rattle.ot_model.proofs.CountsLemmas.{tasks_in-≤-size}
 use Rattle.ot_job.proofs.CourseLemmas.{counts-few}
 use Rattle.ot_job.proofs.TakenLemmas.{claim-can}
@@ -140,7 +142,8 @@ returns-clause-claimed c =
     let i = c.in-Some.task in
     let found = picked-here c.self.inside _ c.args.pick c.in-Some.task _ c.self.view_is c.pick.ensures c.in-Some.is in
     let is : picked (claimable_of rs) c.args.pick ≡ Some i = found.1 in
-    let within : i < length tasks = omega (arith, (picked-claimable rs c.args.pick i is).0, length-map tasks region_of) in
+    let both = picked-claimable rs c.args.pick i is in
+    let within : i < length tasks = omega (arith, both.0, length-map tasks region_of) in
     let here = at-here tasks i c.get.result.now within c.get.ensures in
     let lent = c.in_ok-lent.ensures.lent in
     let uses = lent_uses c.self.inside.cells c.in_ok-room.field-0.decl c.in_ok-lent.lent lent in
@@ -149,11 +152,18 @@ returns-clause-claimed c =
     let seen : List Region → Seen = λ regions. record (seen_in c.self.inside) { owned = c.lease.new.self; regions = regions } in
     let piece : Taken = record { task = i; assigns = assigns_of c.in_ok-room.field-0.assigns.items; test = option_map expr_of c.in_ok-room.field-0.condition; lent = c.in_ok-lent.lent } in
     let new : Seen = seen (regions_of c.begin.new.self) in
+    let held = subst (AreHeld (at rs i)) (sym uses) (subst (λ r. AreHeld r c.in_ok-room.field-0.decl) (sym here) c.in_ok-room.ensures.held) in
+    let assigns : piece.assigns ≡ leading (awake (at rs i)).rest = c.in_ok-room.ensures.assigns ∙ ap (λ r. leading (awake r).rest) (sym here) in
+    let test : piece.test ≡ test_of (behind (awake (at rs i)).rest) = c.in_ok-room.ensures.test ∙ ap (λ r. test_of (behind (awake r).rest)) (sym here) in
     subst (λ (p : Parts). Claims (seen_of c.args.self.now) c.args.pick (taken_of p) new) (sym c.new.ensures) (subst (λ (l : Live). Claims (seen_of l) c.args.pick piece new) c.self.view_is (record {
       task = ap (λ (b : Bool). picked (if b then [] else claimable_of rs) c.args.pick) found.0 ∙ is;
-      assigns = c.in_ok-room.ensures.assigns ∙ ap (λ r. leading (awake r).rest) (sym here);
-      test = c.in_ok-room.ensures.test ∙ ap (λ r. test_of (behind (awake r).rest)) (sym here);
-      held = subst (AreHeld (at rs i)) (sym uses) (subst (λ r. AreHeld r c.in_ok-room.field-0.decl) (sym here) c.in_ok-room.ensures.held);
+      assigns = assigns;
+      test = test;
+      held =
+          subst (λ (b : Body). Holds (at rs i).own (piece_touches b piece.test) (uses_of piece.lent)) (sym assigns)
+          (subst (λ (t : Option E). Holds (at rs i).own (piece_touches (leading (awake (at rs i)).rest) t) (uses_of piece.lent)) (sym test)
+          (claim-holds _ c.self.invariant found.0 i both.0 both.1 (lease_of c.in_ok-lent.lent) held (subst AreInOrder (sym uses) c.in_ok-room.ensures.ordered)
+          (ap lease_of (lent ∙ ap (lent_from c.self.inside.cells) (sym uses))) c.lease.new.self c.in_ok-lent.ensures.out));
       inputs = lent ∙ ap (lent_from c.self.inside.cells) (sym uses);
       out = c.in_ok-lent.ensures.out;
       worth = c.in_ok-lent.ensures.worth;

@@ -2,7 +2,8 @@ use Rattle.std.proofs.Common.{rules, refl, sym, ap, ◌∙◌, ◌≡◌, subst,
 use Rattle.ot_job.specs.Live.{Live, Seen, seen_of}
 use Rattle.ot_task.specs.RegionView.{regions_of}
 use Rattle.ot_job.specs.States.{all_ended, any_out}
-use Rattle.ot_job.specs.Well.{IsWell}
+use Rattle.ot_job.specs.Well.{IsKept}
+use Rattle.ot_job.specs.Holding.{AllHold, HavePresent, AreApart}
 use Rattle.ot_job.proofs.StartLemmas.{ended-none-out, state-is-failing, state-is-failed, state-is-ended, state-is-working}
 use Rattle.ot_job.proofs.DealingsLemmas.{none-out, out-none}
 use Rattle.ot_job.proofs.InsideLemmas.{seen_in}
@@ -32,32 +33,62 @@ returns-then-any_out-clause-is c =
     state-is-failing (seen_of c.args.self.now) (sym (ap (λ (l : Live). l.failing) c.self.view_is) ∙ c.if-self.true)
     (sym (ap (λ (l : Live). any_out (regions_of l.tasks)) c.self.view_is) ∙ sym c.any_out.ensures ∙ c.if-any_out.true)
 
-pub returns-then-any_out-clause-well : goal.returns-then-any_out-clause-well
-returns-then-any_out-clause-well c = subst (λ (l : Live). IsWell (seen_of l)) c.self.view_is c.self.invariant
+pub returns-then-any_out-clause-holds : goal.returns-then-any_out-clause-holds
+returns-then-any_out-clause-holds c = subst (λ (l : Live). AllHold (seen_of l)) c.self.view_is c.self.invariant.holds
+
+pub returns-then-any_out-clause-present : goal.returns-then-any_out-clause-present
+returns-then-any_out-clause-present c = subst (λ (l : Live). HavePresent (seen_of l)) c.self.view_is c.self.invariant.present
+
+pub returns-then-any_out-clause-apart : goal.returns-then-any_out-clause-apart
+returns-then-any_out-clause-apart c = subst (λ (l : Live). AreApart (seen_of l)) c.self.view_is c.self.invariant.apart
 
 pub returns-else-any_out-clause-is : goal.returns-else-any_out-clause-is
 returns-else-any_out-clause-is c =
     state-is-failed (seen_of c.args.self.now) (sym (ap (λ (l : Live). l.failing) c.self.view_is) ∙ c.if-self.true)
     (sym (ap (λ (l : Live). any_out (regions_of l.tasks)) c.self.view_is) ∙ sym c.any_out.ensures ∙ c.if-any_out.false)
 
-pub returns-else-any_out-clause-well : goal.returns-else-any_out-clause-well
-returns-else-any_out-clause-well c = subst (λ (l : Live). IsWell (seen_of l)) c.self.view_is c.self.invariant
+pub returns-else-any_out-clause-holds : goal.returns-else-any_out-clause-holds
+returns-else-any_out-clause-holds c = subst (λ (l : Live). AllHold (seen_of l)) c.self.view_is c.self.invariant.holds
+
+pub returns-else-any_out-clause-present : goal.returns-else-any_out-clause-present
+returns-else-any_out-clause-present c = subst (λ (l : Live). HavePresent (seen_of l)) c.self.view_is c.self.invariant.present
+
+pub returns-else-any_out-clause-apart : goal.returns-else-any_out-clause-apart
+returns-else-any_out-clause-apart c = subst (λ (l : Live). AreApart (seen_of l)) c.self.view_is c.self.invariant.apart
 
 pub returns-then-all_ended-clause-is : goal.returns-then-all_ended-clause-is
 returns-then-all_ended-clause-is c =
     state-is-ended (seen_of c.args.self.now) (sym (ap (λ (l : Live). l.failing) c.self.view_is) ∙ c.if-self.false)
     (sym (ap (λ (l : Live). all_ended (regions_of l.tasks)) c.self.view_is) ∙ sym c.all_ended.ensures ∙ c.if-all_ended.true)
 
-pub returns-then-all_ended-clause-well : goal.returns-then-all_ended-clause-well
-returns-then-all_ended-clause-well c = subst (λ (l : Live). IsWell (seen_of l)) c.self.view_is c.self.invariant
+pub returns-then-all_ended-clause-kept : goal.returns-then-all_ended-clause-kept
+returns-then-all_ended-clause-kept c = subst (λ (l : Live). IsKept (seen_of l)) c.self.view_is (c.self.invariant.course c.if-self.false).kept
+
+pub returns-then-all_ended-clause-holds : goal.returns-then-all_ended-clause-holds
+returns-then-all_ended-clause-holds c = subst (λ (l : Live). AllHold (seen_of l)) c.self.view_is c.self.invariant.holds
+
+pub returns-then-all_ended-clause-present : goal.returns-then-all_ended-clause-present
+returns-then-all_ended-clause-present c = subst (λ (l : Live). HavePresent (seen_of l)) c.self.view_is c.self.invariant.present
+
+pub returns-then-all_ended-clause-apart : goal.returns-then-all_ended-clause-apart
+returns-then-all_ended-clause-apart c = subst (λ (l : Live). AreApart (seen_of l)) c.self.view_is c.self.invariant.apart
 
 pub returns-else-all_ended-clause-is : goal.returns-else-all_ended-clause-is
 returns-else-all_ended-clause-is c =
     state-is-working (seen_of c.args.self.now) (sym (ap (λ (l : Live). l.failing) c.self.view_is) ∙ c.if-self.false)
     (sym (ap (λ (l : Live). all_ended (regions_of l.tasks)) c.self.view_is) ∙ sym c.all_ended.ensures ∙ c.if-all_ended.false)
 
-pub returns-else-all_ended-clause-well : goal.returns-else-all_ended-clause-well
-returns-else-all_ended-clause-well c = subst (λ (l : Live). IsWell (seen_of l)) c.self.view_is c.self.invariant
+pub returns-else-all_ended-clause-kept : goal.returns-else-all_ended-clause-kept
+returns-else-all_ended-clause-kept c = subst (λ (l : Live). IsKept (seen_of l)) c.self.view_is (c.self.invariant.course c.if-self.false).kept
+
+pub returns-else-all_ended-clause-holds : goal.returns-else-all_ended-clause-holds
+returns-else-all_ended-clause-holds c = subst (λ (l : Live). AllHold (seen_of l)) c.self.view_is c.self.invariant.holds
+
+pub returns-else-all_ended-clause-present : goal.returns-else-all_ended-clause-present
+returns-else-all_ended-clause-present c = subst (λ (l : Live). HavePresent (seen_of l)) c.self.view_is c.self.invariant.present
+
+pub returns-else-all_ended-clause-apart : goal.returns-else-all_ended-clause-apart
+returns-else-all_ended-clause-apart c = subst (λ (l : Live). AreApart (seen_of l)) c.self.view_is c.self.invariant.apart
 
 pub returns-else-all_ended-clause-calm : goal.returns-else-all_ended-clause-calm
 returns-else-all_ended-clause-calm c = λ over. absurd over

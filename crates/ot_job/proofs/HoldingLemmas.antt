@@ -1,0 +1,121 @@
+-- Each piece that is out holds what it touches.
+use Rattle.std.proofs.Common.{◌≡◌, ◌≢◌, ℕ, zero, suc, ◌<◌, Bool, true, false, not, ◌&&◌, List, [], ◌∷◌, length, refl, sym, ap, subst, ◌∙◌, ◌⊎◌, inl, inr, ⊎_elim, arith, true≢false}
+use Rattle.std.specs.Prelude.{Option, Some, None, Contains, if◌then◌else◌}
+use Rattle.ot_model.specs.Tree.{Body, append}
+use Rattle.ot_model.specs.Names.{NamedIn}
+use Rattle.ot_model.specs.Cells.{lengths}
+use Rattle.ot_model.specs.Uses.{is_adds, mode_in}
+use Rattle.ot_model.specs.declared.expr.Cell.{Cell}
+use Rattle.ot_model.specs.declared.stmt.Mode.{Mode}
+use Rattle.ot_model.specs.declared.stmt.Mode.TheVariants.{Reads, Writes, Adds}
+use Rattle.ot_model.specs.declared.stmt.Use.{Use}
+use Rattle.ot_check.specs.Paths.{use_as}
+use Rattle.ot_check.specs.Offences.{Declared, allows, adds_to}
+use Rattle.ot_task.specs.Regions.{Region, Run}
+use Rattle.ot_task.specs.Touched.{held, mode_held}
+use Rattle.ot_job.specs.Holding.{Touches, OnlyReads, Holds, touches_out, AllHold, AreApart}
+use Rattle.ot_job.specs.Live.{Seen}
+use Rattle.ot_job.specs.Rights.{IsRight}
+use Rattle.ot_job.specs.Sound.{at, todo_at, IsPlaced}
+use Rattle.ot_job.specs.Well.{IsOnCourse}
+use Rattle.ot_job.specs.Whole.{whole, wholes}
+use Rattle.ot_job.proofs.CoverLemmas.{Covers, covered}
+use Rattle.ot_job.proofs.FreeLemmas.{at-whole, named-front, touch-may, pieces_apart}
+use Rattle.ot_job.proofs.HoldsLemmas.{Among, held-right}
+use Rattle.ot_job.proofs.LetsLemmas.{writes-reads}
+
+-- ---- touches in a list
+
+among : (u : Use) (us : List Use) → Contains us u → Among u us
+among u [] (k, within, is) = absurd (omega (arith, within))
+among u (v ∷ us) (zero, within, is) = inl is
+among u (v ∷ us) (suc k, within, is) = inr (among u us (k, omega (arith, within), is))
+
+contained : (u : Use) (us : List Use) → Among u us → Contains us u
+contained u [] h = absurd h
+contained u (v ∷ us) (inl e) = (0, omega arith, e)
+contained u (v ∷ us) (inr h) = let r = contained u us h in (suc r.0, omega (arith, r.1), r.2)
+
+-- ---- the modes of a piece, case by case
+
+-- of a touch that is covered by what is read, the mode is Reads
+only-reads : (own : Declared) (u : Use) → Covers (Some Reads) (mode_held own u) → u.mode ≡ Reads
+only-reads own u h = by u.mode (adds_to own u.cell) refl h
+  where
+    by : (m : Mode) (b : Bool) → u.mode ≡ m → Covers (Some Reads) (if is_adds m && not b then Writes else m) → u.mode ≡ Reads
+    by Reads b e h = e
+    by Writes b e h = absurd h
+    by Adds true e h = absurd h
+    by Adds false e h = absurd h
+
+module _ (own : Declared) (us d : List Use) (modes : (c : Cell) → mode_in d c ≡ held own us c)
+    (may : (u : Use) → Among u us → allows own u ≡ true) (exclusive : (c : Cell) → adds_to own c ≡ true → allows own (use_as Reads c) ≡ false) where
+  abbrev Right : Mode → Cell → Type 0
+  Right m c = IsRight own (λ u. Among u us) (use_as m c)
+
+  -- a cell that is touched is held in some mode, as the fold over the touches tells
+  touched : (c : Cell) → Touches us c → (m : Mode) × (held own us c ≡ Some m)
+  touched c (u, has, is) = by (held own us c) refl (subst (λ x. Covers (held own us x) (mode_held own u)) is (covered own us None u (among u us has)))
+    where
+      by : (o : Option Mode) → held own us c ≡ o → Covers o (mode_held own u) → (m : Mode) × (held own us c ≡ Some m)
+      by None e h = absurd h
+      by (Some m) e h = (m, e)
+
+  never-reads : (c : Cell) → adds_to own c ≡ true → allows own (use_as Reads c) ≡ true → ⊥
+  never-reads c adds reads = true≢false (sym reads ∙ exclusive c adds)
+
+  held-adds : (c : Cell) (m : Mode) → adds_to own c ≡ true → Right m c → m ≡ Adds
+  held-adds c Reads adds t = absurd (never-reads c adds (may (use_as Reads c) t))
+  held-adds c Writes adds (inl t) = absurd (never-reads c adds (writes-reads own c (may (use_as Writes c) t)))
+  held-adds c Writes adds (inr t) = absurd (true≢false (sym adds ∙ t.1))
+  held-adds c Adds adds t = refl
+
+  held-reads : (c : Cell) (m : Mode) → adds_to own c ≡ false → OnlyReads us c → Right m c → m ≡ Reads
+  held-reads c Reads none only t = refl
+  held-reads c Writes none only (inl t) = only (use_as Writes c) (contained (use_as Writes c) us t) refl
+  held-reads c Writes none only (inr t) = absurd (let same : Adds ≡ Reads = only (use_as Adds c) (contained (use_as Adds c) us t.0) refl in cc)
+  held-reads c Adds none only t = absurd (true≢false (sym t.1 ∙ none))
+
+  held-writes : (c : Cell) (m : Mode) → adds_to own c ≡ false → ¬ OnlyReads us c → held own us c ≡ Some m → Right m c → m ≡ Writes
+  held-writes c Reads none other e t =
+      absurd (other (λ u has is. only-reads own u (subst (λ o. Covers o (mode_held own u)) (ap (held own us) is ∙ e) (covered own us None u (among u us has)))))
+  held-writes c Writes none other e t = refl
+  held-writes c Adds none other e t = absurd (true≢false (sym t.1 ∙ none))
+
+  untouched : (c : Cell) (m : Mode) → ¬ Touches us c → Right m c → ⊥
+  untouched c Reads none t = none (use_as Reads c, contained (use_as Reads c) us t, refl)
+  untouched c Writes none (inl t) = none (use_as Writes c, contained (use_as Writes c) us t, refl)
+  untouched c Writes none (inr t) = none (use_as Adds c, contained (use_as Adds c) us t.0, refl)
+  untouched c Adds none t = none (use_as Adds c, contained (use_as Adds c) us t.0, refl)
+
+  as-mode : (c : Cell) (m n : Mode) → held own us c ≡ Some m → m ≡ n → mode_in d c ≡ Some n
+  as-mode c m n e same = modes c ∙ e ∙ ap Some same
+
+  pub fold-holds : Holds own us d
+  fold-holds = record {
+    adds = λ c t adds. let m = touched c t in as-mode c m.0 Adds m.1 (held-adds c m.0 adds (held-right own c us m.0 m.1));
+    reads = λ c t none only. let m = touched c t in as-mode c m.0 Reads m.1 (held-reads c m.0 none only (held-right own c us m.0 m.1));
+    writes = λ c t none other. let m = touched c t in as-mode c m.0 Writes m.1 (held-writes c m.0 none other m.1 (held-right own c us m.0 m.1));
+    others = λ c none. modes c ∙ by c none (held own us c) refl;
+  }
+    where
+      by : (c : Cell) → ¬ Touches us c → (o : Option Mode) → held own us c ≡ o → o ≡ None
+      by c none None e = refl
+      by c none (Some m) e = absurd (untouched c m none (held-right own c us m e))
+
+-- ---- a job on its course
+
+module _ (j : Seen) (o : IsOnCourse j) where
+  named-at : (i : ℕ) → NamedIn (lengths j.cells) (at (wholes j.regions) i).rest
+  named-at i = named-front (lengths j.cells) (at (wholes j.regions) i).rest (at (wholes j.regions) i).groups (o.named i)
+
+  pub course-holds : AllHold j
+  course-holds i run is =
+      let r = at j.regions i in
+      let w = o.runs i run is in
+      let placed : IsPlaced (whole r) = subst IsPlaced (at-whole j.regions i) (o.sound.placed i) in
+      let named : NamedIn (lengths j.cells) (whole r).rest = subst (λ (x : Region). NamedIn (lengths j.cells) x.rest) (at-whole j.regions i) (named-at i) in
+      fold-holds r.own (touches_out r run) run.lease.uses w.modes (touch-may (lengths j.cells) r placed named run is w) placed.exclusive
+
+  pub course-apart : AreApart j
+  course-apart i k one two other is also = pieces_apart j.regions o.sound (lengths j.cells) named-at o.runs o.begun i k one two is also other
