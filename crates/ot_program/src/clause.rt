@@ -9,6 +9,7 @@ ghost use Rattle.ot_program.specs.walk.Clauses.{clause_of, clauses_of};
 
 use crate::fault::{ProgramFault, Refusal};
 use crate::part::read_section;
+use crate::parts::Parts;
 use crate::scope::Scope;
 use ot_model::{Mode, Section};
 use serde_json::Value;
@@ -41,19 +42,11 @@ fn each_clause(alloc: Global, scope: &Scope, items: &[Value]) -> Result<Vec<Clau
     ensures { Gives (λ v. v.items) result (each_of
         (clause_of scope.now.shape.now (bindings_of scope.now.variables.now)) (items_view items.now)) }
 {
-    let mut clauses = Vec::new(alloc);
-    let mut fault: Option<Refusal> = None;
+    let mut clauses = Parts::new(alloc);
     for item in items {
-        match (read_clause(scope, item), fault) {
-            (Ok(clause), _) => clauses.push(clause)?,
-            (Err(refusal), None) => fault = Some(refusal),
-            (Err(refusal), Some(earlier)) => fault = Some(earlier.first(refusal)),
-        }
+        clauses.put(read_clause(scope, item))?;
     }
-    match fault {
-        None => Ok(clauses),
-        Some(refusal) => Err(ProgramFault::Refused(refusal)),
-    }
+    clauses.all()
 }
 
 fn read_clause(scope: &Scope, value: &Value) -> Result<Clause, Refusal>

@@ -11,6 +11,7 @@ pub mod laws;
 mod name;
 mod number;
 mod part;
+mod parts;
 mod program;
 mod scope;
 mod section;

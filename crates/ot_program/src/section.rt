@@ -6,6 +6,7 @@ ghost use Rattle.ot_program.specs.walk.Parts.{section_of, sections_of};
 
 use crate::fault::{ProgramFault, Refusal};
 use crate::part::read_section;
+use crate::parts::Parts;
 use crate::scope::Scope;
 use ot_model::Section;
 use serde_json::Value;
@@ -31,17 +32,9 @@ fn each_section(alloc: Global, scope: &Scope, items: &[Value]) -> Result<Vec<Sec
     ensures { Gives (λ v. v.items) result (each_of
         (section_of scope.now.shape.now (bindings_of scope.now.variables.now)) (items_view items.now)) }
 {
-    let mut sections = Vec::new(alloc);
-    let mut fault: Option<Refusal> = None;
+    let mut sections = Parts::new(alloc);
     for item in items {
-        match (read_section(scope, item), fault) {
-            (Ok(section), _) => sections.push(section)?,
-            (Err(refusal), None) => fault = Some(refusal),
-            (Err(refusal), Some(earlier)) => fault = Some(earlier.first(refusal)),
-        }
+        sections.put(read_section(scope, item))?;
     }
-    match fault {
-        None => Ok(sections),
-        Some(refusal) => Err(ProgramFault::Refused(refusal)),
-    }
+    sections.all()
 }

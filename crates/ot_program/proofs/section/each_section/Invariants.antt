@@ -3,11 +3,11 @@ use Rattle.serde_json.specs.View.{items_view}
 use Rattle.ot_program.specs.walk.Reading.{each_of}
 use Rattle.ot_program.specs.walk.Variables.{bindings_of}
 use Rattle.ot_program.specs.walk.Parts.{section_of}
-use Rattle.ot_program.proofs.Lists.{so_far, then_more}
+use Rattle.ot_program.proofs.Lists.{then_more}
 use Rattle.ot_program.proofs.section.each_section.Given as goal
 
 -- what was read, with what is left, is all
 abbrev pub invariant-loop-item : goal.invariant-loop-item
 invariant-loop-item l =
-    then_more (so_far l.fault l.sections.items) (each_of (section_of l.scope.shape.now (bindings_of l.scope.variables.now)) (items_view (drop l.item-index l.items)))
+    then_more l.sections (each_of (section_of l.scope.shape.now (bindings_of l.scope.variables.now)) (items_view (drop l.item-index l.items)))
     ≡ each_of (section_of l.scope.shape.now (bindings_of l.scope.variables.now)) (items_view l.items)
