@@ -13,7 +13,7 @@ use Rattle.ot_store.specs.Arrays.{Named, cells_in, recelled}
 use Rattle.ot_book.specs.Replies.{Told, Done}
 use Rattle.ot_book.specs.ReplyView.{told_of}
 use Rattle.ot_book.specs.Answers.{Runs, shown, finished}
-use Rattle.ot_book.specs.Books.{Register, state_in, next_step, logged}
+use Rattle.ot_book.specs.Books.{Register, state_in, next_step, appended}
 use Rattle.ot_book.specs.BookView.{entries_of}
 use Rattle.ot_book.specs.declared.book.Entry.{Entry}
 use Rattle.ot_book.specs.declared.book.Pending.{Pending}
@@ -31,7 +31,7 @@ lengths-meaning spec o meaning =
 pub logged-done : (b : Register) (line : List ℕ) (spec : Spec) (o : Outcome) (shows : List (List ℕ)) →
     next_step b line ≡ Runs (expanded_of spec.checked.program) → spec.before ≡ cells_in b.store → IsMeaning spec o →
     shows ≡ shown (expanded_of spec.checked.program).shows o.cells →
-    logged b line false ≡ record b {
+    appended b line false ≡ record b {
       store = recelled b.store o.cells;
       log = b.log ++ (line, Done o.counts.tasks o.counts.units shows) ∷ [];
       pending = None;

@@ -3,6 +3,7 @@ pub mod RequestLemmas
 pub mod LineLemmas
 pub mod JudgedLemmas
 pub mod BookLemmas
+pub mod RoomLemmas
 pub mod OpenLemmas
 pub mod SerialLengths
 pub mod ShownLemmas

@@ -1,5 +1,5 @@
 -- What requests are answered, one after another. No answer knows its number.
-use Rattle.std.specs.Prelude.{ℕ, ◌+◌, List, [], ◌∷◌, map, slice_range, slice_get, unwrap_or, Bool, true, false, if◌then◌else◌, Option, Some, None, Result, Ok, Err}
+use Rattle.std.specs.Prelude.{◌≡◌, ℕ, ◌+◌, List, ◌++◌, [], ◌∷◌, map, slice_range, slice_get, unwrap_or, Bool, true, false, if◌then◌else◌, Option, Some, None, option_and_then, Result, Ok, Err}
 use Rattle.std.specs.Str.{is_utf8}
 use Rattle.serde_json.specs.Data.{Data}
 use Rattle.serde_json.specs.Read.{read}
@@ -19,15 +19,15 @@ use Rattle.ot_store.specs.declared.limits.Limits.{Limits}
 use Rattle.ot_book.specs.Replies.{Told, Accepted, Cells, Arrays, Used, Done, Refused, Offends, Lost}
 use Rattle.ot_book.specs.Requests as r
 
--- a tenant's arrays, how many requests there were, and the units of all done replies
+-- a tenant's arrays, the number of its next request, and the units of all done replies
 pub record State : Type 0 where
   pub arrays : List Named
-  pub requests : ℕ
+  pub next : ℕ
   pub used : ℕ
 
 -- before the first request
 abbrev pub opening : List Named → State
-opening arrays = record { arrays = arrays; requests = 0; used = 0 }
+opening arrays = record { arrays = arrays; next = 1; used = 0 }
 
 -- a request is answered at once and leaves these arrays, or runs a program
 pub data Step : Type 0 where
@@ -61,6 +61,7 @@ performed limits arrays used (r.Put name start values) = changed arrays (put nam
 performed limits arrays used (r.Get name start len) = fetched arrays (got name start len arrays)
 performed limits arrays used r.Arrays = Now (Arrays (listed arrays)) arrays
 performed limits arrays used r.Used = Now (Used used) arrays
+performed limits arrays used r.Checkpoint = Now Accepted arrays
 performed limits arrays used (r.Run text) = started arrays (program_of (shape_in limits arrays) text)
 
 abbrev pub asked : Limits → List Named → ℕ → Option r.Request → Step
@@ -75,6 +76,10 @@ parsed limits arrays used (Some d) = asked limits arrays used (r.request_of d)
 abbrev pub value_of : List ℕ → Option Data
 value_of line = if is_utf8 line then read line else None
 
+-- the line asks for a checkpoint
+abbrev pub is_checkpoint : List ℕ → Bool
+is_checkpoint line = r.asks_checkpoint (option_and_then r.request_of (value_of line))
+
 -- what a line does
 abbrev pub step_of : Limits → List Named → ℕ → List ℕ → Step
 step_of limits arrays used line = parsed limits arrays used (value_of line)
@@ -86,11 +91,11 @@ shown shows cells = map (λ s. slice_range (unwrap_or (slice_get cells s.array) 
 -- A program is executed from the arrays, each task where it is created. The sections are shown as
 -- they are after it.
 abbrev pub finished : State → Step → Told × State
-finished s (Now told arrays) = (told, record { arrays = arrays; requests = s.requests + 1; used = s.used })
+finished s (Now told arrays) = (told, record { arrays = arrays; next = s.next + 1; used = s.used })
 finished s (Runs p) =
     let run = serial_run p.body (cells_in s.arrays) in (
       Done run.tasks run.units (shown p.shows run.cells),
-      record { arrays = recelled s.arrays run.cells; requests = s.requests + 1; used = s.used + run.units },
+      record { arrays = recelled s.arrays run.cells; next = s.next + 1; used = s.used + run.units },
     )
 
 -- one request: what is told, and the state after it
@@ -99,7 +104,7 @@ answer limits s line = finished s (step_of limits s.arrays s.used line)
 
 -- the answer for want of memory, and the state after it
 abbrev pub lost : State → Told × State
-lost s = (Lost, record s { requests = s.requests + 1 })
+lost s = (Lost, record s { next = s.next + 1 })
 
 abbrev pub answer_or_lost : Limits → State → List ℕ → Bool → Told × State
 answer_or_lost limits s line true = lost s
@@ -113,3 +118,26 @@ answers limits s (l ∷ ls) =
     let one = answer_or_lost limits s l.0 l.1 in
     let rest = answers limits one.1 ls in
     (one.0 ∷ rest.0, rest.1)
+
+-- The answers to lines followed by others are those to the first ones, and then those to the others from the state after
+-- the first.
+abbrev pub AnswersGoOn : Type 0
+AnswersGoOn = (limits : Limits) (s : State) (xs ys : List (List ℕ × Bool)) →
+    answers limits s (xs ++ ys) ≡ (
+      (answers limits s xs).0 ++ (answers limits (answers limits s xs).1 ys).0,
+      (answers limits (answers limits s xs).1 ys).1,
+    )
+
+-- what is told, with the numbers of the requests, of which the first has this number
+abbrev pub numbered : ℕ → List Told → List (ℕ × Told)
+numbered n [] = []
+numbered n (told ∷ more) = (n, told) ∷ numbered (n + 1) more
+
+-- the replies to lines from a state on
+abbrev pub replies : Limits → State → List (List ℕ × Bool) → List (ℕ × Told)
+replies limits s lines = numbered s.next (answers limits s lines).0
+
+-- the same of replies
+abbrev pub RepliesGoOn : Type 0
+RepliesGoOn = (limits : Limits) (s : State) (xs ys : List (List ℕ × Bool)) →
+    replies limits s (xs ++ ys) ≡ replies limits s xs ++ replies limits (answers limits s xs).1 ys

@@ -1,14 +1,15 @@
 -- A book: the requests of one tenant in order, with what was told of each.
-use Rattle.std.specs.Prelude.{◌≡◌, ℕ, ◌+◌, List, [], ◌∷◌, ◌++◌, map, length, slice_get, Bool, true, false, Option, Some, None, option_map, unwrap_or, IsSome}
+use Rattle.std.specs.Prelude.{◌≡◌, ℕ, ◌+◌, ◌-◌, ◌^◌, List, [], ◌∷◌, ◌++◌, map, length, slice_get, Bool, true, false, if◌then◌else◌, Option, Some, None, option_map, unwrap_or, IsSome}
 use Rattle.ot_model.specs.Programs.{expanded_of}
 use Rattle.ot_check.specs.Jobs.{Spec}
 use Rattle.ot_store.specs.Arrays.{Named, cells_in}
 use Rattle.ot_store.specs.declared.limits.Limits.{Limits}
 use Rattle.ot_book.specs.Replies.{Told, is_lost}
-use Rattle.ot_book.specs.Answers.{State, Step, Runs, opening, step_of, answer_or_lost, answers}
+use Rattle.ot_book.specs.Answers.{State, Step, Runs, is_checkpoint, step_of, answer_or_lost, answers}
 
--- a tenant's name and limits, its opening arrays and its present ones, its lines with what was told,
--- the line of an open request, and the units of its done replies
+-- A tenant's name and limits, the arrays that the log begins with and the present ones, its lines with what was told, the
+-- line of an open request, and the units of its done replies. The first line of the log has the number `first`, and
+-- before it the done replies had `base_used` units.
 pub record Register : Type 0 where
   pub name : List ℕ
   pub limits : Limits
@@ -17,21 +18,35 @@ pub record Register : Type 0 where
   pub log : List (List ℕ × Told)
   pub pending : Option (List ℕ)
   pub used : ℕ
+  pub first : ℕ
+  pub base_used : ℕ
+
+-- the number of the request at a place of the log, counted from 0; nothing else numbers requests
+abbrev pub number_at : Register → ℕ → ℕ
+number_at b place = b.first + place
+
+-- the number of the next request
+abbrev pub next_number : Register → ℕ
+next_number b = number_at b (length b.log)
+
+-- the greatest number of a request
+abbrev pub max_number : ℕ
+max_number = 2 ^ 32 - 1
 
 abbrev pub state_in : Register → State
-state_in b = record { arrays = b.store; requests = length b.log; used = b.used }
+state_in b = record { arrays = b.store; next = next_number b; used = b.used }
+
+-- before the first line of the log
+abbrev pub start_of : Register → State
+start_of b = record { arrays = b.base; next = b.first; used = b.base_used }
 
 -- the lines of a log, with those answered for want of memory marked
 abbrev pub lines_in : List (List ℕ × Told) → List (List ℕ × Bool)
 lines_in log = map (λ e. (e.0, is_lost e.1)) log
 
--- what was told, the arrays and the used units are those of the opening arrays and the lines
+-- what was told, the arrays, the next number and the used units are those that the lines give from the log's beginning
 abbrev pub IsRight : Register → Type 0
-IsRight b = answers b.limits (opening b.base) (lines_in b.log) ≡ (map (λ e. e.1) b.log, state_in b)
-
--- the number of the request at a place of the log, counted from 0; nothing else numbers requests
-abbrev pub number_at : Register → ℕ → ℕ
-number_at b place = place + 1
+IsRight b = answers b.limits (start_of b) (lines_in b.log) ≡ (map (λ e. e.1) b.log, state_in b)
 
 -- the reply at a place of the log: its number and what was told
 abbrev pub reply_at : Register → ℕ → Option (ℕ × Told)
@@ -40,17 +55,26 @@ reply_at b place = option_map (λ e. (number_at b place, e.1)) (slice_get b.log 
 -- a new book
 abbrev pub new_register : List ℕ → Limits → List Named → Register
 new_register name limits arrays =
-    record { name = name; limits = limits; base = arrays; store = arrays; log = []; pending = None; used = 0 }
+    record { name = name; limits = limits; base = arrays; store = arrays; log = []; pending = None; used = 0; first = 1; base_used = 0 }
 
 -- what the line does as the next request
 abbrev pub next_step : Register → List ℕ → Step
 next_step b line = step_of b.limits b.store b.used line
 
--- the book with the line answered: as the next request, or for want of memory
-abbrev pub logged : Register → List ℕ → Bool → Register
-logged b line memory =
+-- the book with the line behind its log, answered as the next request or for want of memory
+abbrev pub appended : Register → List ℕ → Bool → Register
+appended b line memory =
     let a = answer_or_lost b.limits (state_in b) line memory in
     record b { store = a.1.arrays; log = b.log ++ (line, a.0) ∷ []; pending = None; used = a.1.used }
+
+-- the book with a log that begins at its present state
+abbrev pub cleared : Register → Register
+cleared b = record b { base = b.store; base_used = b.used; first = next_number b; log = [] }
+
+-- The book with the line answered. A checkpoint is answered as other lines are, and the log begins with it. It is never
+-- answered for want of memory.
+abbrev pub logged : Register → List ℕ → Bool → Register
+logged b line memory = if is_checkpoint line then appended (cleared b) line memory else appended b line memory
 
 -- the book with the line's request open
 abbrev pub opened : Register → List ℕ → Register

@@ -11,4 +11,5 @@ asked_by (v.Put name start values) = r.Put name.now start values.items
 asked_by (v.Get name start len) = r.Get name.now start len
 asked_by v.Arrays = r.Arrays
 asked_by v.Used = r.Used
+asked_by v.Checkpoint = r.Checkpoint
 asked_by (v.Run text) = r.Run (view text.now)

@@ -1,5 +1,5 @@
 -- The requests, as JSON.
-use Rattle.std.specs.Prelude.{ℕ, ◌<◌, ◌^◌, ◌&&◌, List, [], ◌∷◌, length, ◌==◌, nat_le, nat_lt, if◌then◌else◌, Option, Some, None, option_and_then, option_map, codes}
+use Rattle.std.specs.Prelude.{ℕ, ◌<◌, ◌^◌, ◌&&◌, Bool, true, false, List, [], ◌∷◌, length, ◌==◌, nat_le, nat_lt, if◌then◌else◌, Option, Some, None, option_and_then, option_map, codes}
 use Rattle.serde_json.specs.Data.{Data, null, boolean, number, string, array, object, Items, no_items, item}
 use Rattle.serde_json.specs.Find.{as_str, as_number, as_u64, as_array}
 use Rattle.ot_program.specs.Names.{is_name, is_word}
@@ -11,6 +11,7 @@ pub data Request : Type 0 where
   Get : List ℕ → ℕ → ℕ → Request
   Arrays : Request
   Used : Request
+  Checkpoint : Request
   Run : Data → Request
 
 -- an array has at least one cell
@@ -21,6 +22,7 @@ IsProper (Put name start values) = Unit {0}
 IsProper (Get name start len) = Unit {0}
 IsProper Arrays = Unit {0}
 IsProper Used = Unit {0}
+IsProper Checkpoint = Unit {0}
 IsProper (Run text) = Unit {0}
 
 abbrev pub name_in : Data → Option (List ℕ)
@@ -58,12 +60,13 @@ put_of name start values =
 abbrev pub get_of : Data → Data → Data → Option Request
 get_of name start len = option_and_then (λ n. option_and_then (λ s. option_map (Get n s) (size_in 1 len)) (size_in 0 start)) (name_in name)
 
--- `["list"]`, `["used"]`, `["run", program]`, `["free", name]`, `["new", name, len]`,
+-- `["list"]`, `["used"]`, `["checkpoint"]`, `["run", program]`, `["free", name]`, `["new", name, len]`,
 -- `["put", name, start, [v, ..]]`, `["get", name, start, len]`
 abbrev pub form_of : Items → Option Request
 form_of no_items = None
 form_of (item t no_items) =
-    if is_word t (codes "list") then Some Arrays else (if is_word t (codes "used") then Some Used else None)
+    if is_word t (codes "checkpoint") then Some Checkpoint
+    else (if is_word t (codes "list") then Some Arrays else (if is_word t (codes "used") then Some Used else None))
 form_of (item t (item a no_items)) =
     if is_word t (codes "run") then Some (Run a) else (if is_word t (codes "free") then free_of a else None)
 form_of (item t (item a (item b no_items))) = if is_word t (codes "new") then new_of a b else None
@@ -79,3 +82,15 @@ request_of (number n) = None
 request_of (string s) = None
 request_of (array ds) = form_of ds
 request_of (object ms) = None
+
+-- it asks for a checkpoint
+abbrev pub asks_checkpoint : Option Request → Bool
+asks_checkpoint None = false
+asks_checkpoint (Some (New name len)) = false
+asks_checkpoint (Some (Free name)) = false
+asks_checkpoint (Some (Put name start values)) = false
+asks_checkpoint (Some (Get name start len)) = false
+asks_checkpoint (Some Arrays) = false
+asks_checkpoint (Some Used) = false
+asks_checkpoint (Some Checkpoint) = true
+asks_checkpoint (Some (Run text)) = false

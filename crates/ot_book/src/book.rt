@@ -4,11 +4,12 @@ ghost use Rattle.ot_model.specs.Names.{FitsShape};
 ghost use Rattle.ot_book.specs.Answers.{shown};
 
 use crate::reply::Reply;
-use crate::step::{Considered, consider};
+use crate::step::{Considered, consider, read_line, wants_checkpoint};
 use crate::told::Told;
 use ot_check::{JobSpec, Outcome};
 use ot_model::{Cells, Section};
 use ot_store::{Limits, Store};
+use serde_json::Value;
 use std::alloc::{AllocError, Global};
 use std::marker::Model;
 
@@ -36,7 +37,13 @@ pub struct Book {
     log: Vec<Entry>,
     pending: Option<Pending>,
     used: u64,
+    // The number of the log's first line, and the units of the done replies before it.
+    first: u64,
+    base_used: u64,
 }
+
+/// The greatest number of a request.
+const MAX_NUMBER: u64 = 4_294_967_295;
 
 impl Model for Book {
     ghost use Rattle.ot_book.specs.Books.{Register};
@@ -53,7 +60,8 @@ impl Model for Book {
 /// What became of a line.
 #[derive(Debug, Drop)]
 pub enum Opened {
-    /// The log is at its limit, or a request is open. Nothing has changed.
+    /// A request is open, the line's number would be too great, or the log is at its limit and the line
+    /// is no checkpoint. Nothing has changed.
     Full,
     /// The reply is logged.
     Answered,
@@ -62,11 +70,13 @@ pub enum Opened {
 }
 
 impl Book {
-    ghost use Rattle.std.specs.Prelude.{◌≡◌, ◌↔◌, ◌<◌, ◌^◌, IfOk, OnErr, IsTrue, IsSome, length, option_map};
+    ghost use Rattle.std.specs.Prelude.{◌≡◌, ◌↔◌, ◌<◌, ◌^◌, true, false, IfOk, OnOk, OnErr, IsTrue, IsSome, length, option_map};
     ghost use Rattle.ot_check.specs.Jobs.{IsMeaning};
-    ghost use Rattle.ot_book.specs.Books.{IsRight, IsOpenFor, new_register, number_at, reply_at, closed, refused, given_up};
+    ghost use Rattle.ot_book.specs.Books.{IsRight, IsOpenFor, new_register, number_at, next_number, reply_at, logged, closed, refused, given_up};
     ghost use Rattle.ot_book.specs.ReplyView.{reply_of};
     ghost use Rattle.ot_book.specs.BookView.{entries_of};
+    ghost use Rattle.serde_json.specs.View.{view};
+    ghost use Rattle.ot_book.specs.Answers.{value_of, is_checkpoint};
     ghost use Rattle.ot_book.specs.Opening.{Opens, IsFull};
 
     /// A book that begins with these arrays.
@@ -83,6 +93,8 @@ impl Book {
             log: Vec::new(alloc),
             pending: None,
             used: 0,
+            first: 1,
+            base_used: 0,
         })
     }
 
@@ -100,7 +112,7 @@ impl Book {
         self.limits
     }
 
-    /// The arrays that it began with.
+    /// The arrays before the log: those at the last checkpoint, or at the beginning.
     pub fn base(&self) -> &Store
         ensures { result.now ≡ self.now.base }
     {
@@ -114,8 +126,9 @@ impl Book {
         &self.store
     }
 
-    /// The lines with what was told, in order. They are right: what was told, the arrays and the used
-    /// units are those that the lines give, one after another, from the arrays at the beginning.
+    /// The lines since the last checkpoint, that one among them, with what was told, in order. They are
+    /// right: what was told, the arrays and the used units are those that the lines give, one after
+    /// another, from the arrays and units before the log.
     pub fn log(&self) -> &[Entry]
         ensures entries { entries_of result.now ≡ self.now.log }
         ensures right { IsRight self.now }
@@ -125,9 +138,23 @@ impl Book {
 
     /// The number of the next request.
     pub fn next_number(&self) -> u64
-        ensures { result ≡ number_at self.now (length self.now.log) }
+        ensures { result ≡ next_number self.now }
     {
         self.number_at(self.log.len())
+    }
+
+    /// The number of the log's first line.
+    pub fn first(&self) -> u64
+        ensures { result ≡ self.now.first }
+    {
+        self.first
+    }
+
+    /// The units of all done replies before the log.
+    pub fn base_used(&self) -> u64
+        ensures { result ≡ self.now.base_used }
+    {
+        self.base_used
     }
 
     /// The reply at a place of the log, counted from 0, where the log has it.
@@ -146,7 +173,7 @@ impl Book {
         requires { place < 2 ^ 63 }
         ensures { result ≡ number_at self.now place }
     {
-        place as u64 + 1
+        self.first + place as u64
     }
 
     /// The units of all done replies.
@@ -163,25 +190,48 @@ impl Book {
         self.pending.is_some()
     }
 
-    /// Whether no request may be opened: the log is at its limit, or a request is open.
-    pub fn is_full(&self) -> bool
-        ensures { IsTrue result ↔ IsFull self.now }
+    // Whether a line can't be taken that is a checkpoint, or is none.
+    fn is_full(&self, checkpoint: bool) -> bool
+        ensures { IsTrue result ↔ IsFull self.now checkpoint }
     {
-        self.log.len() >= self.limits.log as usize || self.pending.is_some()
+        self.is_open()
+            || self.next_number() > MAX_NUMBER
+            || (self.log.len() >= self.limits.log as usize && !checkpoint)
     }
 
-    /// Takes a line as the next request. Memory is told only before the reply's place is reserved,
-    /// and nothing has changed then. Afterwards want of memory is what the tenant is told.
+    /// Takes a line as the next request. Memory is told only while the line's JSON is read and before
+    /// the reply's place is reserved, and nothing has changed then. Afterwards want of memory is what
+    /// the tenant is told, but never at a checkpoint: there memory is told in any case.
     pub fn open(&mut self, alloc: Global, line: &[u8]) -> Result<Opened, AllocError>
         ensures opened { IfOk result (λ opened. Opens self.old line.now self.new opened) }
         ensures memory { OnErr result (self.new ≡ self.old) }
     {
-        if self.is_full() {
+        let value = read_line(alloc, line)?;
+        self.take(alloc, line, &value)
+    }
+
+    // Takes a line, of which this is the value.
+    fn take(
+        &mut self,
+        alloc: Global,
+        line: &[u8],
+        value: &Option<Value>,
+    ) -> Result<Opened, AllocError>
+        requires { option_map view value.now ≡ value_of line.now }
+        ensures opened { IfOk result (λ opened. Opens self.old line.now self.new opened) }
+        ensures memory { OnErr result (self.new ≡ self.old) }
+    {
+        let checkpoint = wants_checkpoint(value);
+        if self.is_full(checkpoint) {
             return Ok(Opened::Full);
+        }
+        if checkpoint {
+            self.begin_anew(alloc, line)?;
+            return Ok(Opened::Answered);
         }
         self.log.reserve(1)?;
         let kept = Vec::from_slice(alloc, line)?;
-        match consider(alloc, &self.limits, &mut self.store, self.used, line) {
+        match consider(alloc, &self.limits, &mut self.store, self.used, value) {
             Considered::Now(told) => {
                 self.log.push_reserved(Entry { line: kept, told });
                 Ok(Opened::Answered)
@@ -191,6 +241,25 @@ impl Book {
                 Ok(Opened::ToRun(spec))
             }
         }
+    }
+
+    // Takes a checkpoint: the log begins with this line, at the arrays and units as they are now.
+    fn begin_anew(&mut self, alloc: Global, line: &[u8]) -> Result<(), AllocError>
+        requires free { ¬ (IsFull self.old true) }
+        requires checkpoint { is_checkpoint line.now ≡ true }
+        ensures anew { OnOk result (self.new ≡ logged self.old line.now false) }
+        ensures memory { OnErr result (self.new ≡ self.old) }
+    {
+        let line = Vec::from_slice(alloc, line)?;
+        let base = self.store.copy(alloc)?;
+        let mut log = Vec::with_capacity(alloc, 1)?;
+        let told = Told::Accepted;
+        log.push_reserved(Entry { line, told });
+        self.first = self.next_number();
+        self.base = base;
+        self.base_used = self.used;
+        self.log = log;
+        Ok(())
     }
 
     /// Ends the open request with its outcome: the reply is logged, the arrays have the new cells,

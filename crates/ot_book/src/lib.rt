@@ -4,6 +4,7 @@
 pub mod book;
 pub mod code;
 pub mod executor;
+pub mod laws;
 pub mod reply;
 mod request;
 mod step;
@@ -13,4 +14,5 @@ pub use book::{Book, Entry, Opened};
 pub use code::Code;
 pub use executor::{Executor, NotDone, Solo};
 pub use reply::{Reply, reply_text};
+pub use step::is_checkpoint;
 pub use told::Told;

@@ -1,7 +1,7 @@
 ghost use Rattle.std.specs.Prelude.{◌≡◌, ◌≤◌, ◌^◌, Some, None, IfOk, IfSome, OnOk, option_map, length};
 ghost use Rattle.serde_json.specs.Data.{item, no_items};
 ghost use Rattle.serde_json.specs.View.{view, items_view};
-ghost use Rattle.ot_book.specs.Requests.{request_of, form_of, name_in, size_in, number_in, numbers_in, all_numbers, new_of, free_of, put_of, get_of, IsProper};
+ghost use Rattle.ot_book.specs.Requests.{request_of, form_of, name_in, size_in, number_in, numbers_in, all_numbers, new_of, free_of, put_of, get_of, IsProper, asks_checkpoint};
 ghost use Rattle.ot_book.specs.RequestView.{asked_by};
 
 use ot_program::{is_name, is_word};
@@ -23,6 +23,8 @@ pub(crate) enum Request<'a> {
     Arrays,
     /// Tell the units of all done replies.
     Used,
+    /// Begin the log anew.
+    Checkpoint,
     /// Run a program.
     Run(&'a Value),
 }
@@ -36,6 +38,25 @@ pub(crate) fn read_request(alloc: Global, value: &Value) -> Result<Option<Reques
         Value::Array(items) => read_form(alloc, items),
         _ => Ok(None),
     }
+}
+
+/// Whether a value asks for a checkpoint.
+pub(crate) fn asks_checkpoint(value: &Value) -> bool
+    ensures { result ≡ asks_checkpoint (request_of (view value.now)) }
+{
+    match value {
+        Value::Array(items) => is_checkpoint_form(items),
+        _ => false,
+    }
+}
+
+fn is_checkpoint_form(items: &[Value]) -> bool
+    ensures { result ≡ asks_checkpoint (form_of (items_view items.now)) }
+{
+    if items.len() != 1 {
+        return false;
+    }
+    is_word(&items[0], "checkpoint")
 }
 
 #[tactic(auto, using(crate::proofs::RequestLemmas::no_form))]
@@ -78,7 +99,9 @@ fn word_request<'a>(tag: &Value) -> Option<Request<'a>>
     ensures request { option_map asked_by result ≡ form_of (item (view tag.now) no_items) }
     ensures proper { IfSome result (λ r. IsProper (asked_by r)) }
 {
-    if is_word(tag, "list") {
+    if is_word(tag, "checkpoint") {
+        Some(Request::Checkpoint)
+    } else if is_word(tag, "list") {
         Some(Request::Arrays)
     } else if is_word(tag, "used") {
         Some(Request::Used)

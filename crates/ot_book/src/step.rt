@@ -1,18 +1,18 @@
-ghost use Rattle.std.specs.Prelude.{◌≡◌, ◌≢◌, Some, None, IfOk, IfErr, OnErr, map, length};
+ghost use Rattle.std.specs.Prelude.{◌≡◌, Some, None, IfOk, IfErr, OnErr, map, length, option_map, option_and_then};
 ghost use Rattle.serde_json.specs.View.{view};
 ghost use Rattle.ot_model.specs.Shapes.{array_lengths};
 ghost use Rattle.ot_model.specs.Programs.{expanded_of, IsNamedIn};
 ghost use Rattle.ot_program.specs.Programs.{program_of};
 ghost use Rattle.ot_store.specs.Arrays.{shape_in};
-ghost use Rattle.ot_book.specs.Answers.{value_of, step_of, performed, started};
+ghost use Rattle.ot_book.specs.Answers.{value_of, parsed, performed, started, is_checkpoint};
 ghost use Rattle.ot_book.specs.Considering.{Tells, ComesTo};
-ghost use Rattle.ot_book.specs.Requests.{Run, IsProper};
+ghost use Rattle.ot_book.specs.Requests.{Run, IsProper, request_of, asks_checkpoint};
 ghost use Rattle.ot_book.specs.RequestView.{asked_by};
 ghost use Rattle.ot_book.specs.declared.code.Code.TheVariants.{NotJson};
 ghost use Rattle.ot_book.specs.declared.told.Told.TheVariants.{Refused, Lost};
 
 use crate::code::Code;
-use crate::request::{Request, read_request};
+use crate::request::{Request, asks_checkpoint, read_request};
 use crate::told::Told;
 use ot_check::laws::first_offence_is_first;
 use ot_check::{JobSpec, check};
@@ -31,18 +31,18 @@ pub(crate) enum Considered {
     Runs(JobSpec, Vec<Vec<u64>>),
 }
 
-/// Takes a line as the next request, after done replies of `used` units. Where memory runs out
-/// nothing has changed.
+/// Takes the value of a line as the next request, after done replies of `used` units. Where memory
+/// runs out nothing has changed.
 pub(crate) fn consider(
     alloc: Global,
     limits: &Limits,
     store: &mut Store,
     used: u64,
-    line: &[u8],
+    value: &Option<Value>,
 ) -> Considered
-    ensures { ComesTo (step_of limits.now store.old used line.now) store.old store.new result }
+    ensures { ComesTo (parsed limits.now store.old used (option_map view value.now)) store.old store.new result }
 {
-    match attempt(alloc, limits, store, used, line) {
+    match attempt(alloc, limits, store, used, value) {
         Ok(considered) => considered,
         Err(told) => Considered::Now(told),
     }
@@ -54,31 +54,50 @@ fn attempt(
     limits: &Limits,
     store: &mut Store,
     used: u64,
-    line: &[u8],
+    value: &Option<Value>,
 ) -> Result<Considered, Told>
-    ensures ok { IfOk result (λ considered. ComesTo (step_of limits.now store.old used line.now) store.old store.new considered) }
-    ensures refused { IfErr result (λ told. Tells (step_of limits.now store.old used line.now) store.old store.new told) }
+    ensures ok { IfOk result (λ considered. ComesTo (parsed limits.now store.old used (option_map view value.now)) store.old store.new considered) }
+    ensures refused { IfErr result (λ told. Tells (parsed limits.now store.old used (option_map view value.now)) store.old store.new told) }
 {
-    let value = read_line(alloc, line)?;
-    let Some(request) = read_request(alloc, &value)? else {
+    let Some(value) = value else {
+        return Err(Told::Refused(Code::NotJson));
+    };
+    let Some(request) = read_request(alloc, value)? else {
         return Err(Told::Refused(Code::NotRequest));
     };
     perform(alloc, limits, store, used, request)
 }
 
-/// The value of a line.
-fn read_line(alloc: Global, line: &[u8]) -> Result<Value, Told>
-    ensures ok { IfOk result (λ value. value_of line.now ≡ Some (view value)) }
-    ensures refused { IfErr result (λ told. told ≢ Lost → (told ≡ Refused NotJson) × (value_of line.now ≡ None)) }
+/// The value of a line, where it is JSON in UTF-8.
+pub(crate) fn read_line(alloc: Global, line: &[u8]) -> Result<Option<Value>, AllocError>
+    ensures { IfOk result (λ value. option_map view value ≡ value_of line.now) }
 {
     match Value::from_slice(alloc, line) {
-        Ok(value) => Ok(value),
+        Ok(value) => Ok(Some(value)),
         Err(error) => {
             if error.is_memory() {
-                return Err(Told::Lost);
+                return Err(AllocError);
             }
-            Err(Told::Refused(Code::NotJson))
+            Ok(None)
         }
+    }
+}
+
+/// Whether a line asks for a checkpoint.
+pub fn is_checkpoint(alloc: Global, line: &[u8]) -> Result<bool, AllocError>
+    ensures { IfOk result (λ yes. yes ≡ is_checkpoint line.now) }
+{
+    let value = read_line(alloc, line)?;
+    Ok(wants_checkpoint(&value))
+}
+
+/// Whether the value of a line asks for a checkpoint.
+pub(crate) fn wants_checkpoint(value: &Option<Value>) -> bool
+    ensures { result ≡ asks_checkpoint (option_and_then request_of (option_map view value.now)) }
+{
+    match value {
+        Some(value) => asks_checkpoint(value),
+        None => false,
     }
 }
 
@@ -112,6 +131,7 @@ fn perform(
         }
         Request::Arrays => Ok(Considered::Now(Told::Arrays(store.list(alloc)?))),
         Request::Used => Ok(Considered::Now(Told::Used(used))),
+        Request::Checkpoint => Ok(Considered::Now(Told::Accepted)),
         Request::Run(text) => start(alloc, limits, store, text),
     }
 }

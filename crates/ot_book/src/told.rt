@@ -1,9 +1,12 @@
+ghost use Rattle.std.specs.Prelude.{◌≡◌, IfOk, map};
+ghost use Rattle.ot_model.specs.ShapeView.{arrays_of};
+
 use crate::code::Code;
 use ot_check::{CheckFault, Offence};
 use ot_model::ArrayShape;
 use ot_program::ProgramFault;
 use ot_store::{StoreFault, StoreRefusal};
-use std::alloc::{AllocError, AllocFailed};
+use std::alloc::{AllocError, AllocFailed, Global};
 
 /// What a tenant is told of one request.
 #[derive(Debug, Drop)]
@@ -22,6 +25,29 @@ pub enum Told {
     Offends(Offence, u32),
     /// 508: memory ran out.
     Lost,
+}
+
+impl Told {
+    ghost use Rattle.std.specs.Prelude.{◌≡◌, IfOk};
+    ghost use Rattle.ot_book.specs.ReplyView.{told_of};
+
+    /// An equal one.
+    pub fn copy(&self, alloc: Global) -> Result<Told, AllocError>
+        ensures { IfOk result (λ copy. told_of copy ≡ told_of self.now) }
+    {
+        Ok(match self {
+            Told::Accepted => Told::Accepted,
+            Told::Cells(values) => Told::Cells(Vec::from_slice(alloc, values.as_slice())?),
+            Told::Arrays(arrays) => Told::Arrays(copy_arrays(alloc, arrays)?),
+            Told::Used(units) => Told::Used(*units),
+            Told::Done(tasks, units, shows) => {
+                Told::Done(*tasks, *units, copy_shows(alloc, shows)?)
+            }
+            Told::Refused(code) => Told::Refused(*code),
+            Told::Offends(offence, place) => Told::Offends(*offence, *place),
+            Told::Lost => Told::Lost,
+        })
+    }
 }
 
 impl From<AllocError> for Told {
@@ -98,4 +124,29 @@ impl From<CheckFault> for Told {
             CheckFault::Offence(offence, place) => Told::Offends(offence, place),
         }
     }
+}
+
+/// Equal arrays.
+fn copy_arrays(alloc: Global, arrays: &Vec<ArrayShape>) -> Result<Vec<ArrayShape>, AllocError>
+    ensures { IfOk result (λ copy. arrays_of copy.items ≡ arrays_of arrays.now.items) }
+{
+    let mut copy = Vec::with_capacity(alloc, arrays.len())?;
+    for array in arrays {
+        copy.push(ArrayShape {
+            name: String::from_str(alloc, array.name.as_str())?,
+            len: array.len,
+        })?;
+    }
+    Ok(copy)
+}
+
+/// Equal lists.
+fn copy_shows(alloc: Global, shows: &Vec<Vec<u64>>) -> Result<Vec<Vec<u64>>, AllocError>
+    ensures { IfOk result (λ copy. map (λ s. s.items) copy.items ≡ map (λ s. s.items) shows.now.items) }
+{
+    let mut copy = Vec::with_capacity(alloc, shows.len())?;
+    for show in shows {
+        copy.push(Vec::from_slice(alloc, show.as_slice())?)?;
+    }
+    Ok(copy)
 }

@@ -8,11 +8,12 @@ use Rattle.ot_model.proofs.SerialLemmas.{serial_run-≤}
 use Rattle.ot_store.specs.Arrays.{cells_in, recelled}
 use Rattle.ot_book.specs.Replies.{Done}
 use Rattle.ot_book.specs.Answers.{Runs, shown}
-use Rattle.ot_book.specs.Books.{Register, next_step, open_step, logged, closed}
+use Rattle.ot_book.specs.Books.{Register, next_step, open_step, appended, logged, closed}
 use Rattle.ot_book.specs.BookView.{register_of, entries_of}
 use Rattle.ot_book.specs.declared.book.Book.TheInside.{Inside}
 use Rattle.ot_book.proofs.CloseLemmas.{lengths-meaning, logged-done, register-from, numbers-from, entries_of-pushed, line-pending, register-is}
-use Rattle.ot_book.proofs.OpenLemmas.{book-logged}
+use Rattle.ot_book.proofs.BookLemmas.{logged-other, runs-other}
+use Rattle.ot_book.proofs.OpenLemmas.{book-appended}
 use Rattle.ot_book.proofs.book.Book.close.Goals as goal
 
 pub show_all-requires-clause-long : goal.show_all-requires-clause-long
@@ -51,9 +52,11 @@ now_inside c = record {
   log = c.push_reserved.new.self;
   pending = c.take.new.self;
   used = c.self.inside.used + c.from.result;
+  first = c.self.inside.first;
+  base_used = c.self.inside.base_used;
 }
 
-logged_is : (c : goal.After-drop-spec-inside-3) → register_of (now_inside c) ≡ logged (register_of c.self.inside) c.in-Some.pending.line.items false
+logged_is : (c : goal.After-drop-spec-inside-3) → register_of (now_inside c) ≡ appended (register_of c.self.inside) c.in-Some.pending.line.items false
 logged_is c =
     let inside = c.self.inside in
     let b = register_of inside in
@@ -85,11 +88,17 @@ invariant_of-self c =
     let units : outcome.counts.units ≡ (serial_run (expanded_of spec.checked.program).body spec.before).units = ap (λ (r : RunState). r.units) c.requires.meaning in
     let few : inside.used + c.from.result ≤ inside.used + (2 ^ 32 - 1) =
     omega (arith, c.from.ensures, units, (serial_run-≤ (expanded_of spec.checked.program).body spec.before).1, spec.checked.program.statements_are, spec.checked.program.few) in
-    book-logged inside (now_inside c) p.line.items false c.self.invariant (logged_is c) c.push_reserved.ensures.len
-    (omega (arith, c.push_reserved.ensures.len, room.below)) few c.take.ensures.after
+    book-appended inside (now_inside c) p.line.items false c.self.invariant (logged_is c) c.push_reserved.ensures.len
+    room.below few c.take.ensures.after
 
 pub returns : goal.returns
 returns c =
     let inside = c.self.inside in
     let line = line-pending inside.pending c.in-Some.pending (sym c.take.ensures.value ∙ c.in-Some.is) in
-    logged_is c ∙ ap (λ l. logged (register_of inside) l false) (sym line) ∙ ap closed c.self.view_is
+    let b = register_of inside in
+    let p = c.in-Some.pending in
+    let other : register_of (now_inside c) ≡ logged b p.line.items false = register-from _ _ c.requires.open.asks (λ asks.
+    let runs : next_step b p.line.items ≡ Runs (expanded_of c.args.spec.checked.program) =
+    ap (next_step b) (sym line) ∙ ap open_step c.self.view_is ∙ asks in
+    logged_is c ∙ sym (logged-other b p.line.items false (runs-other b.limits b.store b.used p.line.items _ runs))) in
+    other ∙ ap (λ l. logged b l false) (sym line) ∙ ap closed c.self.view_is
