@@ -1,16 +1,29 @@
--- An account stays sound at each event of its tenant.
-use Rattle.std.proofs.Common.{◌≡◌, ◌<◌, ◌≤◌, ◌+◌, ◌⊎◌, ℕ, List, [], ◌∷◌, ◌++◌, length, map, take, refl, sym, ap, ◌∙◌, subst, arith, Bool, true, true≢false}
-use Rattle.std.specs.Prelude.{Option, Some, None, IsSome, is_some, slice_get, unwrap_or}
+-- What a tenant's events do to its account.
+use Rattle.std.proofs.Common.{◌≡◌, ◌<◌, ◌≤◌, ◌+◌, ◌^◌, ◌⊎◌, inl, inr, ℕ, List, [], ◌∷◌, ◌++◌, length, map, take, refl, sym, ap, ◌∙◌, subst, arith, append_assoc, Bool, true, false, true≢false}
+use Rattle.std.proofs.Math.Logic.{∥∥₁_elim}
+use Rattle.std.specs.Coded.{Coded, Coded-set, codes}
+use Rattle.std.specs.Prelude.{Option, Some, None, IsSome, is_some, nat_le, if◌then◌else◌, slice_get, unwrap_or}
+use Rattle.std.proofs.lemmas.Bool.{le-leb}
+use Rattle.std.proofs.lemmas.Bool.Decides.{leb_tells}
 use Rattle.std.proofs.lemmas.Option.{same_Some, slice_get_within, slice_get-get_or, get_or_from_slice_get, unwrap_or-slice_get}
 use Rattle.std.proofs.lemmas.List.{length-map, length-take, length-append, map-append, take-append-le, take_more, get_or_append_left}
+use Rattle.ot_model.specs.Programs.{expanded_of}
 use Rattle.ot_check.specs.Jobs.{Spec}
 use Rattle.ot_store.specs.Arrays.{Named}
-use Rattle.ot_book.specs.Answers.{answer_or_lost, Now}
-use Rattle.ot_book.specs.Books.{Register, IsOpenFor, logged, opened, open_line, refused, state_in, next_step}
-use Rattle.ot_book.specs.Replies.{Told}
-use Rattle.ot_book.proofs.BookLemmas.{right-logged}
-use Rattle.ot_core.specs.Accounts.{Account, answered, IsSound}
-use Rattle.ot_core.specs.Asking.{with_reply, with_open, next_line}
+use Rattle.ot_book.specs.Answers.{State, opening, answers, answer_or_lost, Now, is_checkpoint}
+use Rattle.ot_book.specs.Books.{Register, IsOpenFor, max_number, appended, cleared, logged, opened, open_line, refused, state_in, next_step}
+use Rattle.ot_book.specs.Opening.{IsFullFor, AnswersNow, Opens}
+use Rattle.ot_book.specs.declared.book.Opened.{Opened}
+use Rattle.ot_book.specs.declared.book.Opened.TheVariants.{Full, Answered, ToRun}
+use Rattle.ot_book.specs.Replies.{Told, is_lost}
+use Rattle.ot_book.specs.Room.{Room, takes, with_entry, empty_room, room_after, TakesAll}
+use Rattle.ot_book.proofs.BookLemmas.{answers-more, is_lost-answer_or_lost, state-cleared, state-logged, logged-by, runs-other}
+use Rattle.ot_book.proofs.RoomLemmas.{room-logged, takes-free, room_after-append, takes_all-more, takes_all-at}
+use Rattle.ot_core.specs.Accounts.{Account, told, answered, marked, first_room, room_asked, IsSound}
+use Rattle.ot_core.specs.Asking.{IsUnopened, Waits, with_reply, with_open, next_line}
+
+bool_code : Coded Bool
+bool_code = Prim.hlevel codes
 
 absent : {X : Type 0} {A : Type 0} (x : A) → None ≡ Some x → X
 absent x e = absurd (true≢false (sym (ap is_some e)))
@@ -26,24 +39,36 @@ pub none-from : {A : Type 0} (o : Option A) → (IsSome o → ⊥) → o ≡ Non
 none-from None not = refl
 none-from (Some x) not = absurd (not refl)
 
--- no more lines were answered than asked
 pub answered-≤ : (a : Account) → IsSound a → answered a ≤ length a.asked
-answered-≤ a sound =
-    let n = answered a in
-    let same : length (map (λ (e : List ℕ × Told). e.0) a.book.log) ≡ length (take n a.asked) = ap length sound.lines in
-    omega (arith, same, length-map a.book.log (λ (e : List ℕ × Told). e.0), length-take n a.asked)
+answered-≤ a sound = sound.within
+
+pub length-told : (a : Account) → length (told a) ≡ answered a
+length-told a = omega (arith, length-append a.kept (map (λ (e : List ℕ × Told). e.1) a.book.log), length-map a.book.log (λ (e : List ℕ × Told). e.1))
 
 line-next : (a : Account) (line : List ℕ) → slice_get a.asked (answered a) ≡ Some line → next_line a ≡ line
 line-next a line is = ap (λ o. unwrap_or o []) is
 
-pub sound-admitted : (a : Account) (line : List ℕ) → IsSound a → length a.asked < a.book.limits.log → IsSound (record a { asked = a.asked ++ line ∷ [] })
+-- the number of the next line is one more than that of those answered
+pub next_after : (r : Room) (ls : List (List ℕ)) → (room_after r ls).next ≡ r.next + length ls
+next_after r [] = omega arith
+next_after r (l ∷ ls) = omega (arith, next_after (with_entry r l) ls)
+
+takes-within : (r : Room) (line : List ℕ) → takes r line ≡ true → r.next < 2 ^ 32
+takes-within r line is = elim (leb_tells r.next max_number) [
+  | inl at ↦ omega (arith, at.1)
+  | inr at ↦ absurd (true≢false (sym is ∙ ap (λ t. if t then (if nat_le r.limit r.entries then is_checkpoint line else true) else false) at.0))
+]
+
+pub sound-admitted : (a : Account) (line : List ℕ) → IsSound a → takes (room_asked a) line ≡ true → IsSound (record a { asked = a.asked ++ line ∷ [] })
 sound-admitted a line sound room =
     let n = answered a in
-    let within = answered-≤ a sound in record {
-      right = sound.right;
-      lines = sound.lines ∙ sym (take-append-le n a.asked (line ∷ []) within);
-      few = omega (arith, room, length-append a.asked (line ∷ []));
-      small = sound.small;
+    let same : take n (a.asked ++ line ∷ []) ≡ take n a.asked = take-append-le n a.asked (line ∷ []) sound.within in
+    let few : (room_asked a).next < 2 ^ 32 = takes-within (room_asked a) line room in record {
+      whole = ap (λ ls. answers a.book.limits (opening a.base) (marked ls (told a))) same ∙ sound.whole;
+      within = omega (arith, sound.within, length-append a.asked (line ∷ []));
+      room = sound.room ∙ ap (room_after (first_room a)) (sym same);
+      taken = takes_all-more (first_room a) a.asked line sound.taken room;
+      few = omega (arith, few, next_after (first_room a) a.asked, length-append a.asked (line ∷ []));
       next = λ l is.
           let was = sound.next l is in
           let below = slice_get_within a.asked n l was in
@@ -53,38 +78,114 @@ sound-admitted a line sound room =
       waits = sound.waits;
     }
 
--- the next line has its reply
+-- ---- the next line has its reply
+
+-- what was told, and the reply behind it
+abbrev pub said_next : Account → Bool → Told
+said_next a lost = (answer_or_lost a.book.limits (state_in a.book) (next_line a) lost).0
+
+told-by : (a : Account) (lost : Bool) (test : Bool) → is_checkpoint (next_line a) ≡ test → told (with_reply a lost) ≡ told a ++ said_next a lost ∷ []
+told-by a lost true is =
+    let line = next_line a in
+    ap (λ t. (if t then told a else a.kept) ++ map (λ (e : List ℕ × Told). e.1) (if t then appended (cleared a.book) line lost else appended a.book line lost).log) is
+    ∙ ap (λ s. told a ++ (answer_or_lost a.book.limits s line lost).0 ∷ []) (state-cleared a.book)
+told-by a lost false is =
+    let line = next_line a in
+    ap (λ t. (if t then told a else a.kept) ++ map (λ (e : List ℕ × Told). e.1) (if t then appended (cleared a.book) line lost else appended a.book line lost).log) is
+    ∙ ap (λ l. a.kept ++ l) (map-append (λ (e : List ℕ × Told). e.1) a.book.log ((line, said_next a lost) ∷ []))
+    ∙ sym (append_assoc a.kept (map (λ (e : List ℕ × Told). e.1) a.book.log) (said_next a lost ∷ []))
+
+pub told-replied : (a : Account) (lost : Bool) → told (with_reply a lost) ≡ told a ++ said_next a lost ∷ []
+told-replied a lost = told-by a lost (is_checkpoint (next_line a)) refl
+
+pub answered-replied : (a : Account) (lost : Bool) → answered (with_reply a lost) ≡ answered a + 1
+answered-replied a lost =
+    omega (arith, length-told (with_reply a lost), length-told a, ap length (told-replied a lost), length-append (told a) (said_next a lost ∷ []))
+
+-- the marks of lines that were all answered, and of one more
+marked-snoc : (lines : List (List ℕ)) (says : List Told) (line : List ℕ) (said : Told) → length lines ≡ length says →
+    marked (lines ++ line ∷ []) (says ++ said ∷ []) ≡ marked lines says ++ (line, is_lost said) ∷ []
+marked-snoc [] [] line said many = refl
+marked-snoc [] (s ∷ says) line said many = absurd (omega (arith, many))
+marked-snoc (l ∷ lines) [] line said many = absurd (omega (arith, many))
+marked-snoc (l ∷ lines) (s ∷ says) line said many = ap (λ (r : List (List ℕ × Bool)). (l, is_lost s) ∷ r) (marked-snoc lines says line said (omega (arith, many)))
+
+-- the lines answered are one more
+taken-more : (a : Account) → answered a < length a.asked → take (answered a + 1) a.asked ≡ take (answered a) a.asked ++ next_line a ∷ []
+taken-more a below =
+    take_more a.asked (answered a) [] below ∙ ap (λ l. take (answered a) a.asked ++ l ∷ []) (sym (unwrap_or-slice_get a.asked (answered a) []))
+
+limits-replied : (a : Account) (lost : Bool) → (with_reply a lost).book.limits ≡ a.book.limits
+limits-replied a lost =
+    logged-by (λ r. r.limits ≡ a.book.limits) a.book (next_line a) lost (is_checkpoint (next_line a)) refl (λ _. refl) (λ _. refl)
+
+pending-replied : (a : Account) (lost : Bool) → (with_reply a lost).book.pending ≡ None
+pending-replied a lost =
+    logged-by (λ r. r.pending ≡ None) a.book (next_line a) lost (is_checkpoint (next_line a)) refl (λ _. refl) (λ _. refl)
+
+pub entries-replied : (a : Account) (lost : Bool) → (room_asked (with_reply a lost)).entries ≡ (room_asked a).entries
+entries-replied a lost = ap (λ l. (room_after (empty_room l) a.asked).entries) (limits-replied a lost)
+
+-- an open request is no checkpoint
+pub open-other : (b : Register) (s : Spec) → IsOpenFor b s → is_checkpoint (open_line b) ≡ false
+open-other b s opens =
+    ∥∥₁_elim opens.asks (Coded-set bool_code (is_checkpoint (open_line b)) false) (λ asks. runs-other b.limits b.store b.used (open_line b) (expanded_of s.checked.program) asks)
+
 pub sound-replied : (a : Account) (lost : Bool) → IsSound a → answered a < length a.asked → IsSound (with_reply a lost)
 sound-replied a lost sound below =
     let n = answered a in
     let line = next_line a in
-    let said = (answer_or_lost a.book.limits (state_in a.book) line lost).0 in
-    let count : length (a.book.log ++ (line, said) ∷ []) ≡ n + 1 = length-append a.book.log ((line, said) ∷ []) in record {
-      right = right-logged a.book line lost sound.right;
-      lines =
-          map-append (λ (e : List ℕ × Told). e.0) a.book.log ((line, said) ∷ [])
-          ∙ ap (λ ls. ls ++ line ∷ []) sound.lines
-          ∙ ap (λ l. take n a.asked ++ l ∷ []) (unwrap_or-slice_get a.asked n [])
-          ∙ sym (take_more a.asked n [] below)
-          ∙ ap (λ k. take k a.asked) (sym count);
+    let said = said_next a lost in
+    let b = with_reply a lost in
+    let limits = a.book.limits in
+    let count : answered b ≡ n + 1 = answered-replied a lost in
+    let lines : take (answered b) a.asked ≡ take n a.asked ++ line ∷ [] = ap (λ k. take k a.asked) count ∙ taken-more a below in
+    let many : length (take n a.asked) ≡ length (told a) = omega (arith, sound.within, length-take n a.asked, length-told a) in
+    let now : b.book.limits ≡ limits = limits-replied a lost in record {
+      whole =
+          ap (λ l. answers l (opening a.base) (marked (take (answered b) a.asked) (told b))) now
+          ∙ ap (λ ls. answers limits (opening a.base) (marked ls (told b))) lines
+          ∙ ap (λ says. answers limits (opening a.base) (marked (take n a.asked ++ line ∷ []) says)) (told-replied a lost)
+          ∙ ap (answers limits (opening a.base)) (marked-snoc (take n a.asked) (told a) line said many)
+          ∙ ap (λ m. answers limits (opening a.base) (marked (take n a.asked) (told a) ++ (line, m) ∷ [])) (is_lost-answer_or_lost limits (state_in a.book) line lost)
+          ∙ answers-more limits (opening a.base) (marked (take n a.asked) (told a)) (line, lost)
+          ∙ ap (λ (r : List Told × State). (r.0 ++ (answer_or_lost limits r.1 line lost).0 ∷ [], (answer_or_lost limits r.1 line lost).1)) sound.whole
+          ∙ ap (λ says. (says, (answer_or_lost limits (state_in a.book) line lost).1)) (sym (told-replied a lost))
+          ∙ ap (λ s. (told b, s)) (sym (state-logged a.book line lost));
+      within = omega (arith, count, below);
+      room =
+          room-logged a.book line lost
+          ∙ ap (λ r. with_entry r line) sound.room
+          ∙ sym (room_after-append (first_room a) (take n a.asked) (line ∷ []))
+          ∙ ap (room_after (first_room a)) (sym lines)
+          ∙ ap (λ l. room_after (empty_room l) (take (answered b) a.asked)) (sym now);
+      taken = subst (λ l. TakesAll (empty_room l) a.asked) (sym now) sound.taken;
       few = sound.few;
-      small = sound.small;
-      next = λ l is. absent l is;
-      open_both = ((λ some. absurd (true≢false (sym some))), (λ some. absurd (true≢false (sym some))));
+      next = λ l is. absent l (sym (pending-replied a lost) ∙ is);
+      open_both = ((λ some. absurd (true≢false (sym some ∙ ap is_some (pending-replied a lost)))), (λ some. absurd (true≢false (sym some))));
       waits = λ s is. absent s is;
     }
 
 -- the next line's request is open
 pub sound-opened : (a : Account) (s : Spec) → IsSound a → answered a < length a.asked → IsOpenFor (opened a.book (next_line a)) s → IsSound (with_open a s)
 sound-opened a s sound below runs = record {
-  right = sound.right;
-  lines = sound.lines;
+  whole = sound.whole;
+  within = sound.within;
+  room = sound.room;
+  taken = sound.taken;
   few = sound.few;
-  small = sound.small;
   next = λ l is. slice_get-get_or a.asked (answered a) [] below ∙ ap Some (sym (unwrap_or-slice_get a.asked (answered a) [])) ∙ is;
   open_both = ((λ _. refl), (λ _. refl));
   waits = λ t is. subst (IsOpenFor (opened a.book (next_line a))) (same_Some s t is) runs;
 }
+
+-- the book takes the next line
+pub free-next : (a : Account) → IsSound a → IsUnopened a → ¬ (IsFullFor a.book (next_line a))
+free-next a sound unopened =
+    let at : slice_get a.asked (answered a) ≡ Some (next_line a) =
+    slice_get-get_or a.asked (answered a) [] unopened.0 ∙ ap Some (sym (unwrap_or-slice_get a.asked (answered a) [])) in
+    let closed : a.book.pending ≡ None = none-from a.book.pending (λ some. absurd (true≢false (sym (sound.open_both.0 some) ∙ ap is_some unopened.1))) in
+    takes-free a.book (next_line a) closed (ap (λ r. takes r (next_line a)) sound.room ∙ takes_all-at (first_room a) a.asked (answered a) (next_line a) sound.taken at)
 
 -- an open request is that of the next line
 pub pending-next : (a : Account) → IsSound a → IsSome a.spec → a.book.pending ≡ Some (next_line a)
@@ -97,28 +198,42 @@ below-open a sound waiting =
     let is = pending-next a sound waiting in
     slice_get_within a.asked (answered a) (next_line a) (sound.next (next_line a) is)
 
+-- the next line is no checkpoint: nothing more is kept
+pub reply-kept : (a : Account) (lost : Bool) (book : Register) (spec : Option Spec) → is_checkpoint (next_line a) ≡ false → book ≡ logged a.book (next_line a) lost → spec ≡ None →
+    with_reply a lost ≡ record a { book = book; spec = spec }
+reply-kept a lost book spec other logs gone =
+    ap (λ t. record a { book = logged a.book (next_line a) lost; kept = if t then told a else a.kept; spec = None }) other
+    ∙ ap (λ b. record a { book = b; spec = None }) (sym logs)
+    ∙ ap (λ s. record a { book = book; spec = s }) (sym gone)
+
 -- the open request is answered
 pub closed-is : (a : Account) (lost : Bool) (book : Register) (spec : Option Spec) → IsSound a → IsSome a.spec
     → book ≡ logged a.book (open_line a.book) lost → spec ≡ None
-    → with_reply a lost ≡ record { book = book; asked = a.asked; spec = spec }
+    → with_reply a lost ≡ record a { book = book; spec = spec }
 closed-is a lost book spec sound waiting logs gone =
     let same : open_line a.book ≡ next_line a = ap (λ o. unwrap_or o []) (pending-next a sound waiting) in
-    ap (λ l. let r : Account = record { book = logged a.book l lost; asked = a.asked; spec = None } in r) (sym same)
-    ∙ ap (λ b. let r : Account = record { book = b; asked = a.asked; spec = None } in r) (sym logs)
-    ∙ ap (λ s. let r : Account = record { book = book; asked = a.asked; spec = s } in r) (sym gone)
+    let s = the_some a.spec waiting in
+    reply-kept a lost book spec (ap is_checkpoint (sym same) ∙ open-other a.book s.0 (sound.waits s.0 s.1)) (logs ∙ ap (λ l. logged a.book l lost) same) gone
 
--- the next line is answered at once
-pub answered-is : (a : Account) (book : Register) (line : List ℕ) (lost : Bool) → line ≡ next_line a → book ≡ logged a.book line lost → a.spec ≡ None
-    → record { book = book; asked = a.asked; spec = a.spec } ≡ with_reply a lost
-answered-is a book line lost at is closed =
-    ap (λ b. let r : Account = record { book = b; asked = a.asked; spec = a.spec } in r) (is ∙ ap (λ l. logged a.book l lost) at)
-    ∙ ap (λ s. let r : Account = record { book = logged a.book (next_line a) lost; asked = a.asked; spec = s } in r) closed
+-- the next line is answered at once, and is no checkpoint
+pub answered-is : (a : Account) (book : Register) (line : List ℕ) (lost : Bool) → is_checkpoint line ≡ false → line ≡ next_line a → book ≡ logged a.book line lost → a.spec ≡ None
+    → record a { book = book } ≡ with_reply a lost
+answered-is a book line lost other at is closed =
+    sym (reply-kept a lost book a.spec (ap is_checkpoint (sym at) ∙ other) (is ∙ ap (λ l. logged a.book l lost) at) closed)
+
+-- it is a checkpoint: all that was told is kept
+pub checkpoint-is : (a : Account) (book : Register) (kept : List Told) (line : List ℕ) → is_checkpoint line ≡ true → line ≡ next_line a → book ≡ logged a.book line false →
+    kept ≡ told a → a.spec ≡ None → record a { book = book; kept = kept } ≡ with_reply a false
+checkpoint-is a book kept line asks at is all closed =
+    ap (λ k. record a { book = book; kept = k }) all
+    ∙ ap (λ b. record a { book = b; kept = told a }) (is ∙ ap (λ l. logged a.book l false) at)
+    ∙ ap (λ s. record a { book = logged a.book (next_line a) false; kept = told a; spec = s }) closed
+    ∙ ap (λ t. record a { book = logged a.book (next_line a) false; kept = if t then told a else a.kept; spec = None }) (sym (ap is_checkpoint (sym at) ∙ asks))
 
 -- its request is open
 pub opened-is : (a : Account) (book : Register) (line : List ℕ) (s : Spec) → line ≡ next_line a → book ≡ opened a.book line
-    → record { book = book; asked = a.asked; spec = Some s } ≡ with_open a s
-opened-is a book line s at is =
-    ap (λ b. let r : Account = record { book = b; asked = a.asked; spec = Some s } in r) (is ∙ ap (opened a.book) at)
+    → record a { book = book; spec = Some s } ≡ with_open a s
+opened-is a book line s at is = ap (λ b. record a { book = b; spec = Some s }) (is ∙ ap (opened a.book) at)
 
 -- what a line is answered at once for is told of the next line
 pub at_once-next : (a : Account) (line : List ℕ) (lost : Bool) → line ≡ next_line a
@@ -126,6 +241,69 @@ pub at_once-next : (a : Account) (line : List ℕ) (lost : Bool) → line ≡ ne
     → (lost ≡ true) ⊎ ((told : Told) × (arrays : List Named) × (next_step a.book (next_line a) ≡ Now told arrays))
 at_once-next a line lost at once = subst (λ l. (lost ≡ true) ⊎ ((told : Told) × (arrays : List Named) × (next_step a.book l ≡ Now told arrays))) at once
 
+-- a line whose request waits for a job is no checkpoint
+pub never-waits : (a b : Account) (s : Spec) (lost : Bool) → Waits a s b → is_checkpoint (next_line a) ≡ true → lost ≡ false
+never-waits a b s lost waits asks = absurd (true≢false (sym asks ∙ open-other (opened a.book (next_line a)) waits.spec waits.runs))
+
 -- a request that was opened is answered for want of memory
 pub lost-again : (a : Account) (line : List ℕ) (new book : Register) → new ≡ opened a.book line → book ≡ refused new → book ≡ logged a.book line true
 lost-again a line new book is refuses = refuses ∙ ap refused is
+
+-- ---- a line is asked
+
+-- one line more, where the room is counted by what was asked since the last checkpoint
+pub entries-admitted : (a : Account) (line : List ℕ) → (room_asked (record a { asked = a.asked ++ line ∷ [] })).entries ≡ (if is_checkpoint line then 1 else (room_asked a).entries + 1)
+entries-admitted a line = ap (λ (r : Room). r.entries) (room_after-append (first_room a) a.asked (line ∷ []))
+
+limit-after : (r : Room) (ls : List (List ℕ)) → (room_after r ls).limit ≡ r.limit
+limit-after r [] = refl
+limit-after r (l ∷ ls) = limit-after (with_entry r l) ls
+
+-- where a number is left, the log decides
+takes-is : (a : Account) (line : List ℕ) → length a.asked < max_number →
+    takes (room_asked a) line ≡ (if nat_le a.book.limits.log (room_asked a).entries then is_checkpoint line else true)
+takes-is a line left =
+    let r = room_asked a in
+    let within : r.next ≤ max_number = omega (arith, next_after (first_room a) a.asked, left) in
+    ap (λ t. if t then (if nat_le r.limit r.entries then is_checkpoint line else true) else false) (le-leb r.next max_number within)
+    ∙ ap (λ l. if nat_le l r.entries then is_checkpoint line else true) (limit-after (first_room a) a.asked)
+
+-- a test by the numbers that are kept is the definition's
+pub test-takes : (a : Account) (line : List ℕ) (log since : ℕ) (checkpoint test : Bool) → length a.asked < max_number →
+    test ≡ (if nat_le log since then checkpoint else true) → log ≡ a.book.limits.log → since ≡ (room_asked a).entries → checkpoint ≡ is_checkpoint line →
+    test ≡ takes (room_asked a) line
+test-takes a line log since checkpoint test left is logs sinces asks =
+    is
+    ∙ ap (λ l. if nat_le l since then checkpoint else true) logs
+    ∙ ap (λ n. if nat_le a.book.limits.log n then checkpoint else true) sinces
+    ∙ ap (λ t. if nat_le a.book.limits.log (room_asked a).entries then t else true) asks
+    ∙ sym (takes-is a line left)
+
+-- a line more may be counted
+entry_by-≤ : (t : Bool) (n : ℕ) → (if t then 1 else n + 1) ≤ n + 1
+entry_by-≤ true n = omega arith
+entry_by-≤ false n = omega arith
+
+entries-≤ : (r : Room) (ls : List (List ℕ)) → (room_after r ls).entries ≤ r.entries + length ls
+entries-≤ r [] = omega arith
+entries-≤ r (l ∷ ls) = omega (arith, entries-≤ (with_entry r l) ls, entry_by-≤ (is_checkpoint l) r.entries)
+
+pub entries-asked : (a : Account) → (room_asked a).entries ≤ length a.asked
+entries-asked a = omega (arith, entries-≤ (first_room a) a.asked)
+
+-- no number is left, or the log is at its limit and the line is no checkpoint
+pub full-past : (a : Account) (line : List ℕ) → max_number ≤ length a.asked → takes (room_asked a) line ≡ false
+full-past a line past = elim (leb_tells (room_asked a).next max_number) [
+  | inl at ↦ absurd (omega (arith, at.1, past, next_after (first_room a) a.asked))
+  | inr at ↦ ap (λ t. if t then (if nat_le (room_asked a).limit (room_asked a).entries then is_checkpoint line else true) else false) at.0
+]
+
+-- a checkpoint for which there is room is answered
+pub checkpoint-answered : (b new : Register) (line : List ℕ) (o : Opened) → is_checkpoint line ≡ true → ¬ (IsFullFor b line) → Opens b line new o → (o ≡ Answered → ⊥) → ⊥
+checkpoint-answered b new line Full asks free opens not = free opens.0
+checkpoint-answered b new line Answered asks free opens not = not refl
+checkpoint-answered b new line (ToRun spec) asks free opens not =
+    true≢false (sym asks ∙ ap (λ r. is_checkpoint (open_line r)) (sym opens.1) ∙ open-other new spec opens.2)
+
+pub checkpoint-logged : (b new : Register) (line : List ℕ) → is_checkpoint line ≡ true → AnswersNow b line new → new ≡ logged b line false
+checkpoint-logged b new line asks now = now.new_is ∙ ap (logged b line) (now.never asks)

@@ -6,9 +6,6 @@ use Rattle.std.proofs.lemmas.Nat.{mul-le}
 use Rattle.std.proofs.lemmas.Bool.{cases_lt, cases_eq}
 use Rattle.std.proofs.lemmas.Bool.Decides.{nat_tests}
 use Rattle.std.proofs.lemmas.List.Sums.{sum_by-set, sum_by-cons}
-use Rattle.std.proofs.lemmas.List.{length-append}
-use Rattle.ot_book.specs.Answers.{answer_or_lost}
-use Rattle.ot_book.specs.Books.{state_in}
 use Rattle.std.proofs.lemmas.Option.{slice_get_within, get_or_from_slice_get, same_Some}
 use Rattle.ot_check.specs.Jobs.{Spec}
 use Rattle.ot_job.specs.Live.{Live, Seen, seen_of}
@@ -17,7 +14,7 @@ use Rattle.ot_job.specs.Dealings.{NoneOut, Work, after_failure, state_of, weight
 use Rattle.ot_job.specs.declared.state.State.{State}
 use Rattle.ot_job.specs.declared.state.State.TheVariants.{Working, Failing, Ended, Failed}
 use Rattle.ot_core.specs.Accounts.{Account, answered}
-use Rattle.ot_core.specs.Asking.{IsUnopened, with_reply, next_line}
+use Rattle.ot_core.specs.Asking.{IsUnopened, with_reply}
 use Rattle.ot_core.specs.Index.{job_of}
 use Rattle.ot_core.specs.Floors.{units_of}
 use Rattle.ot_core.specs.Scenes.{Scene, IsScene, IsHeld, Pairs, hand_of, out_at, seat_of}
@@ -29,7 +26,7 @@ use Rattle.ot_core.specs.declared.event.Event.{Event}
 use Rattle.ot_core.specs.declared.event.Event.TheVariants as event
 use Rattle.ot_core.specs.declared.event.Stepped.{Stepped}
 use Rattle.ot_core.specs.declared.event.Stepped.TheVariants.{Answered, Job, Replied, Started, Finished, FinishedFailed, NotNow}
-use Rattle.ot_core.proofs.AccountLemmas.{answered-≤}
+use Rattle.ot_core.proofs.AccountLemmas.{answered-≤, answered-replied}
 use Rattle.ot_core.proofs.FloorLemmas.{job-within}
 use Rattle.ot_core.proofs.SceneLemmas.{there}
 
@@ -126,18 +123,14 @@ pub seat-within : (x w : ℕ) → seat_of x ≡ Some w → w < 16
 seat-within x w is = seated (nat_lt 0 x && nat_lt x 17) (x - 1) w (λ t. grind (arith, nat_tests, t)) is
 
 less-replied : (a b : Account) (lost : Bool) → b ≡ with_reply a lost → a.spec ≡ None → answered a < length a.asked → unopened b < unopened a
-less-replied a b lost is free below =
-    let count = length-append a.book.log ((next_line a, (answer_or_lost a.book.limits (state_in a.book) (next_line a) lost).0) ∷ []) in
-    omega (arith, below, ap unopened is, count, ap one_if free)
+less-replied a b lost is free below = omega (arith, below, ap unopened is, answered-replied a lost, ap one_if free)
 
 few-open : (o : Option Spec) → one_if o ≤ 1
 few-open None = omega arith
 few-open (Some s) = omega arith
 
 same-replied : (a b : Account) (lost : Bool) → b ≡ with_reply a lost → unopened b ≤ unopened a
-same-replied a b lost is =
-    let count = length-append a.book.log ((next_line a, (answer_or_lost a.book.limits (state_in a.book) (next_line a) lost).0) ∷ []) in
-    omega (arith, ap unopened is, count, few-open a.spec)
+same-replied a b lost is = omega (arith, ap unopened is, answered-replied a lost, few-open a.spec)
 
 falls-open : (old new : Scene) (t : ℕ) (stepped : Stepped) → IsScene old → CanOpen old t → Opens old t stepped new → toil new < toil old
 falls-open old new t NotNow scene can did = absurd (did.0 can)

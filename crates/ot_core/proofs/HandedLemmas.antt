@@ -34,7 +34,7 @@ unit-small : (s : Scene) → IsScene s → (i : ℕ) → i < length s.floor.unit
 unit-small s scene i below = elim ((slice_get_cases s.accounts i).1) [
   | inl at ↦
       let g = scene.each i at.0 at.2 in
-      omega (arith, g.paid, g.bounded, answered-≤ at.0 g.sound, g.sound.few, g.sound.small)
+      omega (arith, g.paid, g.bounded, answered-≤ at.0 g.sound, g.sound.few)
   | inr past ↦ absurd (omega (arith, past.0, below, scene.units_many))
 ]
 

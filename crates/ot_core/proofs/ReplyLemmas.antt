@@ -1,35 +1,75 @@
 -- The replies from a place on.
-use Rattle.std.proofs.Common.{◌≡◌, ◌<◌, ◌+◌, ◌-◌, inl, inr, ℕ, List, [], ◌∷◌, length, drop, refl, sym, ap, ◌∙◌, arith, true≢false}
-use Rattle.std.specs.Prelude.{Some, None, is_some, option_map}
-use Rattle.std.proofs.lemmas.List.{at_drop_more, length-drop}
-use Rattle.std.proofs.lemmas.Option.{same_Some, slice_get_cases}
-use Rattle.ot_book.specs.Books.{Register, number_at, reply_at}
+use Rattle.std.proofs.Common.{◌≡◌, ◌<◌, ◌+◌, ◌-◌, ◌++◌, inl, inr, ℕ, zero, suc, List, [], ◌∷◌, length, map, take, drop, refl, sym, ap, ◌∙◌, arith, true≢false}
+use Rattle.std.specs.Prelude.{Option, Some, None, is_some, option_map, slice_get}
+use Rattle.std.proofs.lemmas.List.{at_drop_more, length-drop, length-take}
+use Rattle.std.proofs.lemmas.Option.{same_Some, slice_get_cases, slice_get-map}
+use Rattle.ot_book.specs.Answers.{numbered}
+use Rattle.ot_book.specs.Books.{number_at, reply_at}
 use Rattle.ot_book.specs.Replies.{Told}
-use Rattle.ot_core.specs.Given.{numbered, replies_from}
+use Rattle.ot_book.specs.Room.{Room}
+use Rattle.ot_core.specs.Accounts.{Account, IsSound, told, answered, first_room}
+use Rattle.ot_core.specs.Given.{reply_in, replies_from}
+use Rattle.ot_core.proofs.AccountLemmas.{length-told, next_after}
 
-pub length-numbered : (b : Register) (n : ℕ) (es : List (List ℕ × Told)) → length (numbered b n es) ≡ length es
-length-numbered b n [] = refl
-length-numbered b n (e ∷ es) = omega (arith, length-numbered b (n + 1) es)
+length-numbered : (n : ℕ) (says : List Told) → length (numbered n says) ≡ length says
+length-numbered n [] = refl
+length-numbered n (said ∷ says) = omega (arith, length-numbered (n + 1) says)
 
-pub length-replies_from : (b : Register) (n : ℕ) → length (replies_from b n) ≡ length b.log - n
-length-replies_from b n = length-numbered b n (drop n b.log) ∙ length-drop n b.log
+pub length-replies_from : (a : Account) (n : ℕ) → length (replies_from a n) ≡ answered a - n
+length-replies_from a n = omega (arith, length-numbered (n + 1) (drop n (told a)), length-drop n (told a), length-told a)
 
-nothing-left : (b : Register) (n : ℕ) (es : List (List ℕ × Told)) → length es ≡ 0 → numbered b n es ≡ []
-nothing-left b n [] none = refl
-nothing-left b n (e ∷ es) none = absurd (omega (arith, none))
+nothing-left : (n : ℕ) (says : List Told) → length says ≡ 0 → numbered n says ≡ []
+nothing-left n [] none = refl
+nothing-left n (said ∷ says) none = absurd (omega (arith, none))
 
-pub replies-end : (b : Register) (n : ℕ) → None ≡ reply_at b n → replies_from b n ≡ []
-replies-end b n none = elim ((slice_get_cases b.log n).1) [
-  | inl at ↦ absurd (true≢false (sym (ap is_some (none ∙ ap (λ o. option_map (λ (e : List ℕ × Told). (number_at b n, e.1)) o) at.2))))
-  | inr past ↦ nothing-left b n (drop n b.log) (omega (arith, past.0, length-drop n b.log))
+pub replies-end : (a : Account) (n : ℕ) → None ≡ reply_in a n → replies_from a n ≡ []
+replies-end a n none = elim ((slice_get_cases (told a) n).1) [
+  | inl at ↦ absurd (true≢false (sym (ap is_some (none ∙ ap (option_map (λ (said : Told). (n + 1, said))) at.2))))
+  | inr past ↦ nothing-left (n + 1) (drop n (told a)) (omega (arith, past.0, length-drop n (told a)))
 ]
 
-pub replies-step : (b : Register) (n : ℕ) (x : ℕ × Told) → Some x ≡ reply_at b n → (n < length b.log) × (replies_from b n ≡ x ∷ replies_from b (n + 1))
-replies-step b n x some = elim ((slice_get_cases b.log n).1) [
+pub replies-step : (a : Account) (n : ℕ) (x : ℕ × Told) → Some x ≡ reply_in a n → (n < answered a) × (replies_from a n ≡ x ∷ replies_from a (n + 1))
+replies-step a n x some = elim ((slice_get_cases (told a) n).1) [
   | inl at ↦
-      let e = at.0 in
-      let is : x ≡ (number_at b n, e.1) = same_Some x (number_at b n, e.1) (some ∙ ap (λ o. option_map (λ (e : List ℕ × Told). (number_at b n, e.1)) o) at.2) in
-      let rest : drop n b.log ≡ e ∷ drop (n + 1) b.log = at_drop_more (λ l. l) b.log n e at.1 ∙ ap (λ (h : List ℕ × Told). h ∷ drop (n + 1) b.log) at.3 in
-      (at.1, ap (numbered b n) rest ∙ ap (λ (h : ℕ × Told). h ∷ replies_from b (n + 1)) (sym is))
-  | inr past ↦ absurd (true≢false (ap is_some (some ∙ ap (λ o. option_map (λ (e : List ℕ × Told). (number_at b n, e.1)) o) past.1)))
+      let is : x ≡ (n + 1, at.0) = same_Some x (n + 1, at.0) (some ∙ ap (option_map (λ (said : Told). (n + 1, said))) at.2) in
+      let rest : drop n (told a) ≡ at.0 ∷ drop (n + 1) (told a) = at_drop_more (λ l. l) (told a) n at.0 at.1 ∙ ap (λ (h : Told). h ∷ drop (n + 1) (told a)) at.3 in
+      (omega (arith, at.1, length-told a), ap (numbered (n + 1)) rest ∙ ap (λ (h : ℕ × Told). h ∷ replies_from a (n + 1)) (sym is))
+  | inr past ↦ absurd (true≢false (ap is_some (some ∙ ap (option_map (λ (said : Told). (n + 1, said))) past.1)))
 ]
+
+-- ---- the reply at a place
+
+front : (xs ys : List Told) (n : ℕ) → n < length xs → slice_get (xs ++ ys) n ≡ slice_get xs n
+front [] ys n within = absurd (omega (arith, within))
+front (x ∷ xs) ys zero within = refl
+front (x ∷ xs) ys (suc n) within = front xs ys n (omega (arith, within))
+
+behind : (xs ys : List Told) (n m : ℕ) → m ≡ length xs + n → slice_get (xs ++ ys) m ≡ slice_get ys n
+behind [] ys n m is = ap (slice_get ys) (omega (arith, is))
+behind (x ∷ xs) ys n zero is = absurd (omega (arith, is))
+behind (x ∷ xs) ys n (suc m) is = behind xs ys n m (omega (arith, is))
+
+-- one that is kept
+pub reply_in-kept : (a : Account) (n : ℕ) (said : Told) → slice_get a.kept n ≡ Some said → n < length a.kept → Some (n + 1, said) ≡ reply_in a n
+reply_in-kept a n said is within =
+    sym (ap (option_map (λ (s : Told). (n + 1, s))) (front a.kept (map (λ (e : List ℕ × Told). e.1) a.book.log) n within ∙ is))
+
+-- the first line of the log has the number behind those that are kept
+first-is : (a : Account) → IsSound a → a.book.first ≡ length a.kept + 1
+first-is a sound =
+    let next = ap (λ (r : Room). r.next) sound.room in
+    omega (arith, next, next_after (first_room a) (take (answered a) a.asked), length-take (answered a) a.asked, sound.within)
+
+with_number : (n m : ℕ) (o : Option (List ℕ × Told)) → n ≡ m →
+    option_map {U = ℕ × Told} (λ (e : List ℕ × Told). (n, e.1)) o ≡ option_map {U = ℕ × Told} (λ (said : Told). (m, said)) (option_map (λ (e : List ℕ × Told). e.1) o)
+with_number n m None same = refl
+with_number n m (Some e) same = ap (λ (k : ℕ). let r : ℕ × Told = (k, e.1) in Some r) same
+
+-- one of the log
+pub reply_in-log : (a : Account) (n place : ℕ) → IsSound a → n ≡ length a.kept + place → reply_at a.book place ≡ reply_in a n
+reply_in-log a n place sound at =
+    let log = a.book.log in
+    let there : slice_get (told a) n ≡ option_map (λ (e : List ℕ × Told). e.1) (slice_get log place) =
+    behind a.kept (map (λ (e : List ℕ × Told). e.1) log) place n at ∙ slice_get-map (λ (e : List ℕ × Told). e.1) log place in
+    with_number (number_at a.book place) (n + 1) (slice_get log place) (omega (arith, first-is a sound, at))
+    ∙ ap (option_map {U = ℕ × Told} (λ (said : Told). (n + 1, said))) (sym there)

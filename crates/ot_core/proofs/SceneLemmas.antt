@@ -3,19 +3,18 @@ use Rattle.std.proofs.Common.{◌≡◌, ◌≢◌, ◌<◌, ◌≤◌, ◌+◌,
 use Rattle.std.specs.Prelude.{Option, Some, None, is_some, slice_get, unwrap_or, Bool, true}
 use Rattle.std.proofs.lemmas.Bool.{cases_eq}
 use Rattle.std.proofs.lemmas.Option.{same_Some, slice_get_within, unwrap_or-slice_get, slice_get_read}
-use Rattle.std.proofs.lemmas.List.{get_or-set_same, length-set, length-append}
+use Rattle.std.proofs.lemmas.List.{get_or-set_same, length-set}
 use Rattle.ot_check.specs.Jobs.{Spec}
-use Rattle.ot_book.specs.Answers.{answer_or_lost}
-use Rattle.ot_book.specs.Books.{state_in}
 use Rattle.ot_job.specs.Live.{Live, seen_of}
 use Rattle.ot_job.specs.Dealings.{IsBegun, SameSpec, NoneOut, settled_units}
 use Rattle.ot_core.specs.Accounts.{Account, IsSound, answered}
-use Rattle.ot_core.specs.Asking.{IsAnswered, IsUnopened, Waits, with_reply, next_line}
+use Rattle.ot_core.specs.Asking.{IsAnswered, IsUnopened, Waits, with_reply}
 use Rattle.ot_core.specs.Index.{job_of}
 use Rattle.ot_core.specs.Floors.{Floor, with_job, units_of, Submits}
 use Rattle.ot_core.specs.Scenes.{Scene, Pairs, Agrees, AreHeld, IsScene, out_at}
 use Rattle.ot_core.specs.Steps.{moved, HasTenant, Moves, CanOpen, StartsJob}
 use Rattle.ot_core.specs.declared.held.Held.{Held}
+use Rattle.ot_core.proofs.AccountLemmas.{answered-replied}
 
 pub slice_get-set_same : {X : Type 0} (xs : List X) (t : ℕ) (x : X) → t < length xs → slice_get (set xs t x) t ≡ Some x
 slice_get-set_same [] t x below = absurd (omega (arith, below))
@@ -48,13 +47,12 @@ but-read xs ys t d u but other = sym (unwrap_or-slice_get ys u d) ∙ ap (λ o. 
 
 -- the next line has its reply, and no job is left
 pub agrees-replied : (a : Account) (job : Option Live) (units : ℕ) (lost : Bool) → Agrees a job units → IsSound (with_reply a lost) → Agrees (with_reply a lost) None units
-agrees-replied a job units lost agrees sound =
-    let count = length-append a.book.log ((next_line a, (answer_or_lost a.book.limits (state_in a.book) (next_line a) lost).0) ∷ []) in record {
-      sound = sound;
-      pairs = tt;
-      paid = omega (arith, agrees.paid, agrees.bounded, count);
-      bounded = omega arith;
-    }
+agrees-replied a job units lost agrees sound = record {
+  sound = sound;
+  pairs = tt;
+  paid = omega (arith, agrees.paid, agrees.bounded, answered-replied a lost);
+  bounded = omega arith;
+}
 
 -- another account of the same log, for the same request
 pub agrees-account : (a b : Account) (job : Option Live) (units : ℕ) → Agrees a job units → IsSound b → b.spec ≡ a.spec → answered b ≡ answered a → Agrees b job units

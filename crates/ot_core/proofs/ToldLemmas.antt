@@ -2,42 +2,40 @@
 use Rattle.std.proofs.Common.{◌≡◌, ℕ, zero, suc, List, [], ◌∷◌, ◌++◌, length, map, take, drop, get_or, refl, sym, ap, ◌∙◌, subst, arith, Bool, false, true≢false}
 use Rattle.std.specs.Prelude.{Some, None, slice_get, is_some}
 use Rattle.std.proofs.lemmas.Option.{same_Some}
-use Rattle.std.proofs.lemmas.List.{take-append-drop, take_all, length-map}
+use Rattle.std.proofs.lemmas.List.{take-append-drop, take_all, length-map, length-take}
 use Rattle.std.proofs.Math.Seq.{take-append_seam}
 use Rattle.ot_book.specs.Replies.{Told, is_lost}
 use Rattle.ot_book.specs.Answers.{State, opening, answer_or_lost, answers}
-use Rattle.ot_book.specs.Books.{lines_in, state_in}
+use Rattle.ot_book.specs.Books.{state_in}
+use Rattle.ot_book.proofs.BookLemmas.{answers-append}
 use Rattle.ot_store.specs.declared.limits.Limits.{Limits}
-use Rattle.ot_core.specs.Accounts.{Account, told, answered, IsSound}
+use Rattle.ot_core.specs.Accounts.{Account, told, answered, marked, IsSound}
+use Rattle.ot_core.proofs.AccountLemmas.{length-told}
 use Rattle.ot_core.specs.Scenes.{Scene}
 use Rattle.ot_core.specs.Draining.{AllAnswered}
-use Rattle.ot_core.specs.Headline.{marked, due, due_whole, AreFirst, IsTold, IsToldWhole, IsToldAll, Tells, TellsAll, NoneLost, SameLosses, AgreeAt, AsksSame}
+use Rattle.ot_core.specs.Headline.{due, due_whole, AreFirst, IsTold, IsToldWhole, IsToldAll, Tells, TellsAll, NoneLost, SameLosses, AgreeAt, AsksSame}
 
--- the replies to some lines, then to others
-pub answers-append : (limits : Limits) (s : State) (ls ms : List (List ℕ × Bool)) →
-    answers limits s (ls ++ ms) ≡ ((answers limits s ls).0 ++ (answers limits (answers limits s ls).1 ms).0, (answers limits (answers limits s ls).1 ms).1)
-answers-append limits s [] ms = refl
-answers-append limits s (l ∷ ls) ms =
-    let one = answer_or_lost limits s l.0 l.1 in
-    ap (λ (r : List Told × State). (one.0 ∷ r.0, r.1)) (answers-append limits one.1 ls ms)
-
-marked-more : (log : List (List ℕ × Told)) (rest : List (List ℕ)) →
-    marked (map (λ e. e.0) log ++ rest) (map (λ e. e.1) log) ≡ lines_in log ++ marked rest []
-marked-more [] rest = refl
-marked-more (e ∷ log) rest = ap (λ (ls : List (List ℕ × Bool)). (e.0, is_lost e.1) ∷ ls) (marked-more log rest)
+-- the marks of lines that were answered, and of further ones
+marked-front : (lines rest : List (List ℕ)) (says : List Told) → length lines ≡ length says → marked (lines ++ rest) says ≡ marked lines says ++ marked rest []
+marked-front [] [] [] many = refl
+marked-front [] (line ∷ rest) [] many = refl
+marked-front [] rest (s ∷ says) many = absurd (omega (arith, many))
+marked-front (l ∷ lines) rest [] many = absurd (omega (arith, many))
+marked-front (l ∷ lines) rest (s ∷ says) many = ap (λ (ls : List (List ℕ × Bool)). (l, is_lost s) ∷ ls) (marked-front lines rest says (omega (arith, many)))
 
 -- the headline of one tenant
 pub told-first : (a : Account) → IsSound a → IsTold a
 told-first a sound =
-    let log = a.book.log in
-    let rest = drop (length log) a.asked in
-    let asked : a.asked ≡ map (λ e. e.0) log ++ rest = sym (take-append-drop (length log) a.asked) ∙ ap (λ ls. ls ++ rest) (sym sound.lines) in
-    let more = answers a.book.limits (state_in a.book) (marked rest []) in
-    let all : due a.book.limits a.book.base a.asked (told a) ≡ told a ++ more.0 =
-    ap (λ ls. due a.book.limits a.book.base ls (told a)) asked
-    ∙ ap (λ ls. (answers a.book.limits (opening a.book.base) ls).0) (marked-more log rest)
-    ∙ ap (λ (r : List Told × State). r.0) (answers-append a.book.limits (opening a.book.base) (lines_in log) (marked rest []))
-    ∙ ap (λ (r : List Told × State). r.0 ++ (answers a.book.limits r.1 (marked rest [])).0) sound.right in
+    let n = answered a in
+    let limits = a.book.limits in
+    let rest = drop n a.asked in
+    let many : length (take n a.asked) ≡ length (told a) = omega (arith, sound.within, length-take n a.asked, length-told a) in
+    let more = answers limits (state_in a.book) (marked rest []) in
+    let all : due limits a.base a.asked (told a) ≡ told a ++ more.0 =
+    ap (λ ls. due limits a.base ls (told a)) (sym (take-append-drop n a.asked))
+    ∙ ap (λ ls. (answers limits (opening a.base) ls).0) (marked-front (take n a.asked) rest (told a) many)
+    ∙ ap (λ (r : List Told × State). r.0) (answers-append limits (opening a.base) (marked (take n a.asked) (told a)) (marked rest []))
+    ∙ ap (λ (r : List Told × State). r.0 ++ (answers limits r.1 (marked rest [])).0) sound.whole in
     sym (ap (take (length (told a))) all ∙ take-append_seam (told a) more.0)
 
 marked-whole : (lines : List (List ℕ)) (says : List Told) → NoneLost says → marked lines says ≡ map (λ line. (line, false)) lines
@@ -50,7 +48,7 @@ marked-whole (line ∷ lines) (said ∷ says) none =
 -- where none is told for want of memory
 pub told-whole : (a : Account) → IsSound a → NoneLost (told a) → IsToldWhole a
 told-whole a sound none =
-    told-first a sound ∙ ap (λ ls. take (length (told a)) (answers a.book.limits (opening a.book.base) ls).0) (marked-whole a.asked (told a) none)
+    told-first a sound ∙ ap (λ ls. take (length (told a)) (answers a.book.limits (opening a.base) ls).0) (marked-whole a.asked (told a) none)
 
 no_reply : {X : Type 0} (x : Told) → None ≡ Some x → X
 no_reply x e = absurd (true≢false (sym (ap is_some e)))
@@ -83,7 +81,7 @@ agree limits s (l ∷ lines) (x ∷ xs) (y ∷ ys) (suc i) fx fy same =
 -- two tenants that asked the same are told the same, as far as memory ran out at the same places
 pub same-told : (a b : Account) → IsTold a → IsTold b → AsksSame a b → (i : ℕ) → SameLosses (told a) (told b) i → AgreeAt (told a) (told b) i
 same-told a b ta tb asks i same =
-    agree a.book.limits (opening a.book.base) a.asked (told a) (told b) i ta
+    agree a.book.limits (opening a.base) a.asked (told a) (told b) i ta
     (rw (← asks.asked, ← asks.base, ← asks.limits) tb) same
 
 -- and at each place that both have, where it never ran out
@@ -107,13 +105,13 @@ first-all says all first many = first ∙ take_all (length says) all (omega (ari
 
 told-all : (a : Account) → IsTold a × (NoneLost (told a) → IsToldWhole a) → answered a ≡ length a.asked → IsToldAll a
 told-all a tells answered_is =
-    let many : length (told a) ≡ length a.asked = length-map a.book.log (λ (e : List ℕ × Told). e.1) ∙ answered_is in
+    let many : length (told a) ≡ length a.asked = length-told a ∙ answered_is in
     let lines = marked a.asked (told a) in record {
       many = many;
-      all = first-all (told a) (due a.book.limits a.book.base a.asked (told a)) tells.0
-          (answers-length a.book.limits (opening a.book.base) lines ∙ marked-length a.asked (told a) ∙ sym many);
-      whole = λ none. first-all (told a) (due_whole a.book.limits a.book.base a.asked) (tells.1 none)
-          (answers-length a.book.limits (opening a.book.base) (map (λ line. (line, false)) a.asked) ∙ length-map a.asked (λ (line : List ℕ). (line, false)) ∙ sym many);
+      all = first-all (told a) (due a.book.limits a.base a.asked (told a)) tells.0
+          (answers-length a.book.limits (opening a.base) lines ∙ marked-length a.asked (told a) ∙ sym many);
+      whole = λ none. first-all (told a) (due_whole a.book.limits a.base a.asked) (tells.1 none)
+          (answers-length a.book.limits (opening a.base) (map (λ line. (line, false)) a.asked) ∙ length-map a.asked (λ (line : List ℕ). (line, false)) ∙ sym many);
     }
 
 pub tells-all : (s : Scene) → Tells s → AllAnswered s → TellsAll s

@@ -1,14 +1,15 @@
 -- What a tenant's events do to it.
-use Rattle.std.specs.Prelude.{◌≡◌, ◌≤◌, ◌<◌, ◌⊎◌, ℕ, List, [], ◌∷◌, ◌++◌, length, Bool, true, false, Option, Some, None, slice_get, unwrap_or}
+use Rattle.std.specs.Prelude.{◌≡◌, ◌<◌, ◌⊎◌, ℕ, List, [], ◌∷◌, ◌++◌, length, Bool, true, false, if◌then◌else◌, Option, Some, None, slice_get, unwrap_or}
 use Rattle.ot_check.specs.Jobs.{Spec, AreSame}
 use Rattle.ot_store.specs.Arrays.{Named}
 use Rattle.ot_book.specs.Replies.{Told}
-use Rattle.ot_book.specs.Answers.{Now}
-use Rattle.ot_book.specs.Books.{Register, logged, opened, next_step, IsOpenFor}
-use Rattle.ot_core.specs.Accounts.{Account, answered}
+use Rattle.ot_book.specs.Answers.{Now, is_checkpoint}
+use Rattle.ot_book.specs.Room.{takes}
+use Rattle.ot_book.specs.Books.{Register, max_number, logged, opened, next_step, IsOpenFor}
+use Rattle.ot_core.specs.Accounts.{Account, told, answered, room_asked}
 
 abbrev pub new_account : Register → Account
-new_account book = record { book = book; asked = []; spec = None }
+new_account book = record { book = book; base = book.base; asked = []; kept = []; spec = None }
 
 -- a line is asked and unopened, and no request is open
 abbrev pub IsUnopened : Account → Type 0
@@ -18,21 +19,30 @@ IsUnopened a = (answered a < length a.asked) × (a.spec ≡ None)
 abbrev pub next_line : Account → List ℕ
 next_line a = unwrap_or (slice_get a.asked (answered a)) []
 
--- as many lines are asked as the log may have, or fewer
-abbrev pub IsFull : Account → Type 0
-IsFull a = a.book.limits.log ≤ length a.asked
+-- There is no room for the line: as many lines as the log may have were asked since the last checkpoint asked, that line
+-- counted, and this line is no checkpoint; or as many were asked in all as may have numbers.
+abbrev pub IsFull : Account → List ℕ → Type 0
+IsFull a line = takes (room_asked a) line ≡ false
 
-abbrev pub HasRoom : Account → Type 0
-HasRoom a = length a.asked < a.book.limits.log
+abbrev pub HasRoom : Account → List ℕ → Type 0
+HasRoom a line = takes (room_asked a) line ≡ true
 
--- the line is asked, or the log has no room for it
+-- fewer lines were asked in all than may have numbers
+abbrev pub MayAsk : Account → Type 0
+MayAsk a = length a.asked < max_number
+
+-- the line is asked, or there is no room for it
 abbrev pub Admits : Account → List ℕ → Bool → Account → Type 0
-Admits old line false new = IsFull old × (new ≡ old)
-Admits old line true new = HasRoom old × (new ≡ record old { asked = old.asked ++ line ∷ [] })
+Admits old line false new = IsFull old line × (new ≡ old)
+Admits old line true new = HasRoom old line × (new ≡ record old { asked = old.asked ++ line ∷ [] })
+
+-- what is kept of the replies where this line is answered: at a checkpoint all before it
+abbrev pub kept_at : Account → List ℕ → List Told
+kept_at a line = if is_checkpoint line then told a else a.kept
 
 -- the next line has its reply, as its request or for want of memory
 abbrev pub with_reply : Account → Bool → Account
-with_reply a lost = record a { book = logged a.book (next_line a) lost; spec = None }
+with_reply a lost = record a { book = logged a.book (next_line a) lost; kept = kept_at a (next_line a); spec = None }
 
 -- the next line's request is open
 abbrev pub with_open : Account → Spec → Account
@@ -45,10 +55,11 @@ pub record Waits (old : Account) (job : Spec) (new : Account) : Type 0 where
   pub runs : IsOpenFor (opened old.book (next_line old)) spec
   pub new_is : new ≡ with_open old spec
 
--- the next line is answered at once, for it runs no program or memory ran out
+-- the next line is answered at once, for it runs no program or memory ran out, but never for a checkpoint
 pub record IsAnswered (old : Account) (new : Account) : Type 0 where
   pub lost : Bool
   pub new_is : new ≡ with_reply old lost
+  pub never : is_checkpoint (next_line old) ≡ true → lost ≡ false
   pub at_once : (lost ≡ true) ⊎ ((told : Told) × (arrays : List Named) × (next_step old.book (next_line old) ≡ Now told arrays))
 
 abbrev pub Opens : Account → Option Spec → Account → Type 0

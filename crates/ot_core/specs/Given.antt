@@ -1,17 +1,17 @@
 -- The replies given, with their numbers.
-use Rattle.std.specs.Prelude.{ℕ, ◌+◌, List, [], ◌∷◌, drop}
-use Rattle.ot_book.specs.Books.{Register, number_at}
+use Rattle.std.specs.Prelude.{ℕ, ◌+◌, List, drop, Option, option_map, slice_get}
+use Rattle.ot_book.specs.Answers.{numbered}
 use Rattle.ot_book.specs.Replies.{Told}
+use Rattle.ot_core.specs.Accounts.{Account, told}
 
--- what these entries tell, of which the first is at this place of the log
-abbrev pub numbered : Register → ℕ → List (List ℕ × Told) → List (ℕ × Told)
-numbered b n [] = []
-numbered b n (e ∷ es) = (number_at b n, e.1) ∷ numbered b (n + 1) es
+-- the reply at a place, counted from 0
+abbrev pub reply_in : Account → ℕ → Option (ℕ × Told)
+reply_in a n = option_map (λ said. (n + 1, said)) (slice_get (told a) n)
 
--- the replies from a place of the log on
-abbrev pub replies_from : Register → ℕ → List (ℕ × Told)
-replies_from b n = numbered b n (drop n b.log)
+-- the replies from a place on
+abbrev pub replies_from : Account → ℕ → List (ℕ × Told)
+replies_from a n = numbered (n + 1) (drop n (told a))
 
--- all replies given
-abbrev pub replies_of : Register → List (ℕ × Told)
-replies_of b = numbered b 0 b.log
+-- all replies given, from number 1 on
+abbrev pub replies_of : Account → List (ℕ × Told)
+replies_of a = numbered 1 (told a)

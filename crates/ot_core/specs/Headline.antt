@@ -5,21 +5,15 @@
 --
 -- What is told at a place of the log is a reply without its number: numbers count the places. `answers` of ot_book gives what
 -- requests are told, one after another.
-use Rattle.std.specs.Prelude.{◌≡◌, ◌≤◌, ℕ, List, [], ◌∷◌, map, length, take, Bool, false, slice_get, Some}
+use Rattle.std.specs.Prelude.{◌≡◌, ◌≤◌, ℕ, List, map, length, take, false, slice_get, Some}
 use Rattle.ot_store.specs.Arrays.{Named}
 use Rattle.ot_store.specs.declared.limits.Limits.{Limits}
 use Rattle.ot_book.specs.Replies.{Told, is_lost}
 use Rattle.ot_book.specs.Answers.{opening, answers}
-use Rattle.ot_core.specs.Accounts.{Account, told}
+use Rattle.ot_core.specs.Accounts.{Account, told, marked}
 use Rattle.ot_core.specs.Scenes.{Scene}
 
 -- ---- one tenant
-
--- each line, and whether what was told at its place was told for want of memory
-abbrev pub marked : List (List ℕ) → List Told → List (List ℕ × Bool)
-marked [] says = []
-marked (line ∷ lines) [] = (line, false) ∷ marked lines []
-marked (line ∷ lines) (said ∷ says) = (line, is_lost said) ∷ marked lines says
 
 -- what all lines are told, one after another from these arrays, where want of memory is told as in `says`
 abbrev pub due : Limits → List Named → List (List ℕ) → List Told → List Told
@@ -39,10 +33,10 @@ NoneLost says = (i : ℕ) (said : Told) → slice_get says i ≡ Some said → i
 
 -- what the tenant was told is the first of what its own requests are told
 abbrev pub IsTold : Account → Type 0
-IsTold a = AreFirst (told a) (due a.book.limits a.book.base a.asked (told a))
+IsTold a = AreFirst (told a) (due a.book.limits a.base a.asked (told a))
 
 abbrev pub IsToldWhole : Account → Type 0
-IsToldWhole a = AreFirst (told a) (due_whole a.book.limits a.book.base a.asked)
+IsToldWhole a = AreFirst (told a) (due_whole a.book.limits a.base a.asked)
 
 -- ---- all tenants of a world
 
@@ -54,8 +48,8 @@ Tells s = (t : ℕ) (a : Account) → slice_get s.accounts t ≡ Some a → IsTo
 -- each line that the tenant asked has its reply, and they are all that its own requests are told
 pub record IsToldAll (a : Account) : Type 0 where
   pub many : length (told a) ≡ length a.asked
-  pub all : told a ≡ due a.book.limits a.book.base a.asked (told a)
-  pub whole : NoneLost (told a) → told a ≡ due_whole a.book.limits a.book.base a.asked
+  pub all : told a ≡ due a.book.limits a.base a.asked (told a)
+  pub whole : NoneLost (told a) → told a ≡ due_whole a.book.limits a.base a.asked
 
 abbrev pub TellsAll : Scene → Type 0
 TellsAll s = (t : ℕ) (a : Account) → slice_get s.accounts t ≡ Some a → IsToldAll a
@@ -65,7 +59,7 @@ TellsAll s = (t : ℕ) (a : Account) → slice_get s.accounts t ≡ Some a → I
 -- both asked the same, from the same arrays, within the same limits
 pub record AsksSame (a b : Account) : Type 0 where
   pub asked : b.asked ≡ a.asked
-  pub base : b.book.base ≡ a.book.base
+  pub base : b.base ≡ a.base
   pub limits : b.book.limits ≡ a.book.limits
 
 -- up to this place want of memory was told at the same places

@@ -10,7 +10,7 @@ use Rattle.ot_job.specs.declared.piece.Done.{Done}
 use Rattle.ot_job.specs.declared.state.State.TheVariants as state
 use Rattle.ot_core.specs.Accounts.{Account}
 use Rattle.ot_core.specs.Asking as asking
-use Rattle.ot_core.specs.Asking.{IsFull, HasRoom, IsUnopened, IsAnswered, Waits, with_reply}
+use Rattle.ot_core.specs.Asking.{IsFull, MayAsk, IsUnopened, IsAnswered, Waits, with_reply}
 use Rattle.ot_core.specs.Index.{job_of}
 use Rattle.ot_core.specs.Floors.{Floor, units_of, with_job, SameTold, Submits, NothingAt, Claims, IsWorking, Settles, AbortsJob}
 use Rattle.ot_core.specs.Scenes.{Scene, hand_of, held_work, seat_of}
@@ -50,7 +50,7 @@ HasTenant P s t = (a : Account) × (slice_get s.accounts t ≡ Some a) × P a
 
 abbrev pub Admits : Scene → ℕ → List ℕ → Stepped → Scene → Type 0
 Admits old t line NotNow new = (slice_get old.accounts t ≡ None) × (new ≡ old)
-Admits old t line Full new = HasTenant IsFull old t × (new ≡ old)
+Admits old t line Full new = HasTenant (λ a. IsFull a line) old t × (new ≡ old)
 Admits old t line Asked new = Moves (λ a b. asking.Admits a line true b) old t new
 Admits old t line other new = ⊥
 
@@ -178,11 +178,11 @@ abbrev pub MayTake : Scene → Option ℕ → ℕ → Type 0
 MayTake s None t = ⊥
 MayTake s (Some w) t = (hand_of s.hands w ≡ None) × IsWorking s.floor t × ¬ (NothingAt s.floor.jobs t)
 
--- Memory may run out where a line is asked, opened, or a piece taken: where the log has room for the line, the line may
+-- Memory may run out where a line is asked, opened, or a piece taken: where a number is left for the line, the line may
 -- be opened, and the hand is free and the job works and has a claimable task. No other event takes memory that it could
 -- be refused.
 abbrev pub MayRunOut : Scene → Event → Type 0
-MayRunOut s (event.Admit t line) = HasTenant HasRoom s t
+MayRunOut s (event.Admit t line) = HasTenant MayAsk s t
 MayRunOut s (event.Open t) = CanOpen s t
 MayRunOut s (event.Start w t pick) = MayTake s (seat_of w) t
 MayRunOut s other = ⊥

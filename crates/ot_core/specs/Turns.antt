@@ -8,13 +8,17 @@ use Rattle.ot_core.specs.Floors.{Floor, Claims, NothingAt, IsAsBefore, IsWorking
 abbrev pub NothingIn : List (Option Live) → ℕ → ℕ → Type 0
 NothingIn jobs from to = (t : ℕ) → from ≤ t → t < to → NothingAt jobs t
 
+-- no tenant has a claimable task
+abbrev pub NothingAnywhere : List (Option Live) → Type 0
+NothingAnywhere jobs = (t : ℕ) → NothingAt jobs t
+
 abbrev pub ClaimsIn : Floor → ℕ → ℕ → ℕ → Option (ℕ × Piece) → Floor → Type 0
 ClaimsIn old from to pick None new = NothingIn old.jobs from to × (new ≡ old)
 ClaimsIn old from to pick (Some p) new = Claims old p.0 pick p.1 new
 
 -- a piece of some tenant, where a tenant has a claimable task
 abbrev pub ClaimsSome : Floor → ℕ → Option (ℕ × Piece) → Floor → Type 0
-ClaimsSome old turn None new = ((t : ℕ) → NothingAt old.jobs t) × (new ≡ old)
+ClaimsSome old turn None new = NothingAnywhere old.jobs × (new ≡ old)
 ClaimsSome old turn (Some p) new = Claims old p.0 turn p.1 new
 
 -- memory ran out at a claim of this tenant, whose job works and has a claimable task

@@ -68,7 +68,7 @@ impl Hall {
     ghost use Rattle.ot_core.specs.Index.{job_of};
     ghost use Rattle.ot_core.specs.Floors.{new_floor, units_of, total_of, IsFree, Submits, ClaimsOf, IsWorking, NothingAt, IsAsBefore, Settles, RefusesIn, FailsIn, AbortsJob, Collects};
     ghost use Rattle.ot_core.specs.Draining.{claimable_of, over_of, LivelyAt};
-    ghost use Rattle.ot_core.specs.Turns.{ClaimsIn, ClaimsSome, RunsShort};
+    ghost use Rattle.ot_core.specs.Turns.{NothingAnywhere, ClaimsIn, ClaimsSome, RunsShort};
     ghost use Rattle.ot_core.specs.declared.hall.SubmitFault.TheVariants.{Busy};
 
     /// Nobody has a job, and nothing was settled.
@@ -243,6 +243,19 @@ impl Hall {
     {
         let job = self.jobs.get(tenant)?;
         Some(job.state())
+    }
+
+    /// Whether some tenant has a claimable task.
+    pub fn any_claimable(&self) -> bool
+        ensures some { IsTrue result → ¬ (NothingAnywhere self.now.jobs) }
+        ensures none { result ≡ false → NothingAnywhere self.now.jobs }
+    {
+        for tenant in 0..self.jobs.tenants() as u32 {
+            if self.has_claimable(tenant) {
+                return true;
+            }
+        }
+        false
     }
 
     /// How many tasks of the tenant are claimable.

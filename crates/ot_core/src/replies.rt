@@ -2,13 +2,14 @@ ghost use Rattle.std.specs.Prelude.{◌≡◌};
 ghost use Rattle.std.specs.Iterator.{YieldsFirstBy, item_count};
 ghost use Rattle.ot_book.specs.ReplyView.{reply_of};
 
-use ot_book::{Book, Reply};
+use crate::tenant::Tenant;
+use ot_book::Reply;
 use std::marker::Model;
 
 /// The replies that were given to a tenant, in order, seen as the list of those that are left.
 #[derive(Drop)]
 pub struct Replies<'a> {
-    book: &'a Book,
+    tenant: &'a Tenant,
     place: usize,
 }
 
@@ -19,21 +20,22 @@ impl<'a> Model for Replies<'a> {
     ghost Value = { List (ℕ × Told) };
 
     ghost use Rattle.ot_core.specs.Given.{replies_from};
+    ghost use Rattle.ot_core.specs.Accounts.{answered};
 
-    ghost view = { λ r. replies_from r.book.now r.place };
+    ghost view = { λ r. replies_from r.tenant.now r.place };
 
-    ghost invariant = { λ r. r.place ≤ length r.book.now.log };
+    ghost invariant = { λ r. r.place ≤ answered r.tenant.now };
 }
 
 impl<'a> Replies<'a> {
     ghost use Rattle.std.specs.Prelude.{◌≡◌};
     ghost use Rattle.ot_core.specs.Given.{replies_of};
 
-    /// All that this book has.
-    pub(crate) fn new(book: &'a Book) -> Replies<'a>
-        ensures { result ≡ replies_of book.now }
+    /// All that this tenant was given.
+    pub(crate) fn new(tenant: &'a Tenant) -> Replies<'a>
+        ensures { result ≡ replies_of tenant.now }
     {
-        Replies { book, place: 0 }
+        Replies { tenant, place: 0 }
     }
 }
 
@@ -45,7 +47,7 @@ impl<'a> Iterator for Replies<'a> {
     ghost remaining = { item_count (λ rest. rest) };
 
     fn next(&mut self) -> Option<Reply<'a>> {
-        let Some(reply) = self.book.reply_at(self.place) else {
+        let Some(reply) = self.tenant.reply_at(self.place) else {
             return None;
         };
         self.place += 1;
@@ -53,7 +55,7 @@ impl<'a> Iterator for Replies<'a> {
     }
 
     fn size_hint(&self) -> (usize, Option<usize>) {
-        let left = self.book.log().len() - self.place;
+        let left = self.tenant.answered() - self.place;
         (left, Some(left))
     }
 }

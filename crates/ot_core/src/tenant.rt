@@ -1,17 +1,28 @@
 ghost use Rattle.std.specs.Prelude.{◌≡◌, ◌<◌, length};
 
-use ot_book::{Book, Entry, Opened};
+use ot_book::{Book, Entry, Opened, Reply, Told, is_checkpoint};
 use ot_check::{JobSpec, Outcome};
+use ot_store::Store;
 use std::alloc::{AllocError, Global};
 use std::marker::Model;
 
-/// One tenant: its book, the lines that it asked, and the spec of its open request.
+/// One tenant: its book, the arrays that it began with, the lines that it asked, what it was told before
+/// the book's log, and the spec of its open request.
 #[derive(Drop)]
 pub(crate) struct Tenant {
     book: Book,
+    // The arrays that it began with.
+    base: Store,
     asked: Vec<Vec<u8>>,
+    // What it was told before the book's log.
+    kept: Vec<Told>,
+    // The lines asked since the last checkpoint asked, that one counted.
+    since: u32,
     spec: Option<JobSpec>,
 }
+
+/// How many lines may be asked in all.
+const MAX_LINES: usize = 4_294_967_295;
 
 impl Model for Tenant {
     ghost use Rattle.std.specs.Coded.{codes};
@@ -30,16 +41,19 @@ impl Model for Tenant {
 }
 
 impl Tenant {
-    ghost use Rattle.std.specs.Prelude.{◌≡◌, ◌↔◌, ◌<◌, ◌^◌, None, Some, [], map, IsTrue, false, true, IfOk, OnErr, IsSome, option_copied};
+    ghost use Rattle.std.specs.Prelude.{◌≡◌, ◌↔◌, ◌<◌, ◌^◌, None, Some, [], map, IsTrue, false, true, IfOk, OnOk, OnErr, IsSome, option_copied, option_map, slice_get, ◌+◌};
     ghost use Rattle.ot_check.specs.Jobs.{IsMeaning};
-    ghost use Rattle.ot_book.specs.BookView.{entries_of};
+    ghost use Rattle.ot_book.specs.Answers.{is_checkpoint};
+    ghost use Rattle.ot_book.specs.Books.{new_register};
+    ghost use Rattle.ot_book.specs.ReplyView.{told_of, reply_of};
     ghost use Rattle.ot_core.specs.Accounts.{Account, IsSound, answered};
+    ghost use Rattle.ot_core.specs.Given.{reply_in};
     ghost use Rattle.ot_core.specs.Headline.{IsTold};
-    ghost use Rattle.ot_core.specs.Asking.{Admits, Opens, with_reply, new_account, HasRoom, IsUnopened};
+    ghost use Rattle.ot_core.specs.Asking.{Admits, Opens, with_reply, new_account, next_line, MayAsk, IsUnopened};
 
     /// A tenant that asked nothing yet.
-    pub(crate) fn new(alloc: Global, book: Book) -> Tenant
-        requires { (book.log ≡ []) × (book.pending ≡ None) }
+    pub(crate) fn new(alloc: Global, book: Book, base: Store) -> Tenant
+        requires { book ≡ new_register book.name book.limits base }
         ensures is { result ≡ new_account book }
         ensures sound { IsSound result }
     {
@@ -47,22 +61,30 @@ impl Tenant {
         let _ = book.limits();
         Tenant {
             book,
+            base,
             asked: Vec::new(alloc),
+            kept: Vec::new(alloc),
+            since: 0,
             spec: None,
         }
     }
 
-    /// Asks a line, where the log has room for it.
+    /// Asks a line, where there is room for it.
     pub(crate) fn admit(&mut self, alloc: Global, line: &[u8]) -> Result<bool, AllocError>
         ensures admitted { IfOk result (λ took. Admits self.old line.now took self.new) }
-        ensures memory { OnErr result (HasRoom self.old × (self.new ≡ self.old)) }
+        ensures memory { OnErr result (MayAsk self.old × (self.new ≡ self.old)) }
         ensures sound { IsSound self.new }
     {
-        if self.asked.len() >= self.book.limits().log as usize {
+        if self.asked.len() >= MAX_LINES {
+            return Ok(false);
+        }
+        let checkpoint = is_checkpoint(alloc, line)?;
+        if !has_room(self.book.limits().log, self.since, checkpoint) {
             return Ok(false);
         }
         let line = Vec::from_slice(alloc, line)?;
         self.asked.push(line)?;
+        self.since = next_since(self.since, checkpoint);
         Ok(true)
     }
 
@@ -74,7 +96,12 @@ impl Tenant {
         ensures sound { IsSound self.new }
     {
         let next = self.answered();
-        let spec = match self.book.open(alloc, line_at(&self.asked, next))? {
+        let line = line_at(&self.asked, next);
+        if is_checkpoint(alloc, line)? {
+            self.open_checkpoint(alloc)?;
+            return Ok(None);
+        }
+        let spec = match self.book.open(alloc, line)? {
             Opened::Full => unreachable!(),
             Opened::Answered => return Ok(None),
             Opened::ToRun(spec) => spec,
@@ -85,6 +112,24 @@ impl Tenant {
         };
         self.spec = Some(spec);
         Ok(Some(copy))
+    }
+
+    // Opens the next line, which is a checkpoint: what was told is kept.
+    fn open_checkpoint(&mut self, alloc: Global) -> Result<(), AllocError>
+        requires unopened { IsUnopened self.old }
+        requires checkpoint { is_checkpoint (next_line self.old) ≡ true }
+        ensures replied { OnOk result (self.new ≡ with_reply self.old false) }
+        ensures memory { OnErr result (self.new ≡ self.old) }
+        ensures sound { IsSound self.new }
+    {
+        let next = self.answered();
+        let copies = copy_told(alloc, self.book.log())?;
+        self.kept.reserve(copies.len())?;
+        let Opened::Answered = self.book.open(alloc, line_at(&self.asked, next))? else {
+            unreachable!()
+        };
+        put_behind(&mut self.kept, copies);
+        Ok(())
     }
 
     /// The job of the open request is done.
@@ -132,12 +177,20 @@ impl Tenant {
         &self.asked
     }
 
-    /// Its lines with what it was told of each. That is the first of what its own lines give.
-    pub(crate) fn log(&self) -> &[Entry]
-        ensures entries { entries_of result.now ≡ self.now.book.log }
+    /// What it was told before the book's log. All that it was told is the first of what its own lines
+    /// give.
+    pub(crate) fn kept(&self) -> &[Told]
+        ensures kept { map told_of result.now ≡ self.now.kept }
         ensures told { IsTold self.now }
     {
-        self.book.log()
+        self.kept.as_slice()
+    }
+
+    /// The arrays that it began with.
+    pub(crate) fn base(&self) -> &Store
+        ensures { result.now ≡ self.now.base }
+    {
+        &self.base
     }
 
     /// Whether a line is to be opened next.
@@ -147,15 +200,73 @@ impl Tenant {
         self.spec.is_none() && self.answered() < self.asked.len()
     }
 
-    // How many of its lines were answered.
-    fn answered(&self) -> usize
+    /// The reply at a place of all that it was given, counted from 0.
+    pub(crate) fn reply_at(&self, place: usize) -> Option<Reply<'_>>
+        ensures { option_map reply_of result ≡ reply_in self.now place }
+    {
+        let kept = self.kept.len();
+        if place >= kept {
+            return self.book.reply_at(place - kept);
+        }
+        Some(Reply {
+            number: place as u64 + 1,
+            told: &self.kept[place],
+        })
+    }
+
+    /// How many of its lines were answered.
+    pub(crate) fn answered(&self) -> usize
         ensures { result ≡ answered self.now }
     {
-        self.book.log().len()
+        self.kept.len() + self.book.log().len()
     }
 }
 
-ghost use Rattle.std.specs.Prelude.{slice_get, unwrap_or, [], map, vec_len};
+ghost use Rattle.std.specs.Prelude.{slice_get, unwrap_or, nat_le, true, if◌then◌else◌, ◌<◌, ◌^◌, [], ◌+◌, ◌-◌, ◌≤◌, ◌++◌, map, vec_len, vec_capacity, IfOk};
+ghost use Rattle.ot_book.specs.ReplyView.{told_of};
+ghost use Rattle.ot_book.specs.BookView.{entries_of};
+
+// What the entries tell, once more.
+fn copy_told(alloc: Global, entries: &[Entry]) -> Result<Vec<Told>, AllocError>
+    ensures { IfOk result (λ copies. map told_of copies.items ≡ map (λ e. e.1) (entries_of entries.now)) }
+{
+    let mut copies = Vec::with_capacity(alloc, entries.len())?;
+    for entry in entries {
+        copies.push(entry.told.copy(alloc)?)?;
+    }
+    Ok(copies)
+}
+
+// Whether a line may be asked after so many.
+fn has_room(limit: u32, since: u32, checkpoint: bool) -> bool
+    ensures { result ≡ (if nat_le limit since then checkpoint else true) }
+{
+    if limit <= since {
+        return checkpoint;
+    }
+    true
+}
+
+// The lines since the last checkpoint, after one more.
+fn next_since(since: u32, checkpoint: bool) -> u32
+    requires { since < 2 ^ 32 - 1 }
+    ensures { result ≡ (if checkpoint then 1 else since + 1) }
+{
+    if checkpoint {
+        return 1;
+    }
+    since + 1
+}
+
+// Puts what is told behind what is kept, which has room for it.
+fn put_behind(kept: &mut Vec<Told>, more: Vec<Told>)
+    requires { vec_len kept.old + vec_len more ≤ vec_capacity kept.old }
+    ensures { kept.new.items ≡ kept.old.items ++ more.items }
+{
+    for told in more {
+        kept.push_reserved(told);
+    }
+}
 
 // The line at a place that is there.
 fn line_at(asked: &Vec<Vec<u8>>, place: usize) -> &[u8]

@@ -54,7 +54,7 @@ impl World {
     ghost use Rattle.ot_core.specs.Toil.{free_hand};
     ghost use Rattle.ot_core.specs.Draining.{Drains, DrainsPart, AllAnswered, count_of, moves_at, opens_of, full_hand, IsMove, IsFreeWorker, MayFinish, LivelyAt};
     ghost use Rattle.ot_core.specs.Headline.{Tells, TellsAll};
-    ghost use Rattle.ot_core.specs.Asking.{HasRoom};
+    ghost use Rattle.ot_core.specs.Asking.{MayAsk};
     ghost use Rattle.ot_core.specs.Steps.{Admits, Opens, Starts, Finishes, RepliesTo, Aborts, Steps, HasTenant, CanOpen, MayTake, RunsOut, SameScene, LeavesOthers};
 
     /// Tenants with these names, limits and arrays, who asked nothing yet.
@@ -273,18 +273,18 @@ impl World {
 
     /// The replies that were given to a tenant, in order.
     pub fn replies(&self, tenant: u32) -> Option<Replies<'_>>
-        ensures { result ≡ option_map (λ a. replies_of a.book) (slice_get self.now.accounts tenant) }
+        ensures { result ≡ option_map replies_of (slice_get self.now.accounts tenant) }
     {
         let account = self.tenants.get(tenant as usize)?;
-        Some(Replies::new(account.book()))
+        Some(Replies::new(account))
     }
 
     /// The arrays that a tenant began with.
     pub fn base(&self, tenant: u32) -> Option<&Store>
-        ensures { option_copied result ≡ option_map (λ a. a.book.base) (slice_get self.now.accounts tenant) }
+        ensures { option_copied result ≡ option_map (λ a. a.base) (slice_get self.now.accounts tenant) }
     {
         let account = self.tenants.get(tenant as usize)?;
-        Some(account.book().base())
+        Some(account.base())
     }
 
     /// A tenant's limits.
@@ -304,8 +304,8 @@ impl World {
 
     /// Takes an event. One that isn't enabled answers `NotNow` and changes nothing. An event of one
     /// tenant leaves all others as they were. Where memory is refused nothing changes; that is told
-    /// only of an `Admit` that has room, an `Open` that may be opened, and a `Start` of a free worker on
-    /// a job that works and has a claimable task.
+    /// only of an `Admit` where a number is left for the line, an `Open` that may be opened, and a `Start`
+    /// of a free worker on a job that works and has a claimable task.
     pub fn step(&mut self, alloc: Global, event: Event<'_>) -> Result<Stepped, AllocError>
         ensures stepped { IfOk result (λ stepped. Steps self.old event.entry stepped self.new) }
         ensures others { OnOk result (LeavesOthers event.entry self.old self.new) }
@@ -341,7 +341,7 @@ impl World {
     // A tenant asks a line.
     fn admit(&mut self, alloc: Global, tenant: u32, line: &[u8]) -> Result<Stepped, AllocError>
         ensures stepped { IfOk result (λ stepped. Admits self.old tenant line.now stepped self.new) }
-        ensures memory { OnErr result (HasTenant HasRoom self.old tenant × (self.new ≡ self.old)) }
+        ensures memory { OnErr result (HasTenant MayAsk self.old tenant × (self.new ≡ self.old)) }
     {
         let Some(account) = self.tenants.get_mut(tenant as usize) else {
             return Ok(Stepped::NotNow);
@@ -472,8 +472,9 @@ fn open_books(
 {
     let mut tenants = Vec::new(alloc);
     for (name, limits, store) in openings {
+        let base = store.copy(alloc)?;
         let book = Book::new(alloc, name.as_str(), limits, store)?;
-        tenants.push(Tenant::new(alloc, book))?;
+        tenants.push(Tenant::new(alloc, book, base))?;
     }
     Ok(tenants)
 }

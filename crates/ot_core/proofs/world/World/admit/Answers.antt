@@ -3,7 +3,7 @@ use Rattle.std.proofs.lemmas.Option.{slice_get_read}
 use Rattle.std.specs.Prelude.{true, slice_get}
 use Rattle.ot_core.specs.Accounts.{Account, answered}
 use Rattle.ot_core.specs.Asking as asking
-use Rattle.ot_core.specs.Asking.{IsFull, HasRoom}
+use Rattle.ot_core.specs.Asking.{IsFull, MayAsk}
 use Rattle.ot_core.specs.SceneView.{scene_of}
 use Rattle.ot_core.proofs.SceneLemmas.{scene-account, moves-at, has-tenant}
 use Rattle.ot_core.proofs.HandedLemmas.{written-again, on_err_always}
@@ -31,7 +31,7 @@ returns-clause-stepped c =
     let a = c.in-Some.account.now in
     let here : slice_get s.accounts c.args.tenant ≡ Some a = slice_get_read s.accounts (length s.accounts) c.args.tenant a refl c.in-Some.ensures.item.3.0 c.in-Some.ensures.item.1 in
     let does = subst (λ b. asking.Admits a c.args.line.now b c.admit.new.self) c.if-branch.false c.in_ok-admit.ensures.admitted in (
-      has-tenant IsFull s _ c.args.tenant a c.self.view_is here does.0,
+      has-tenant (λ b. IsFull b c.args.line.now) s _ c.args.tenant a c.self.view_is here does.0,
       written-again s _ c.args.tenant a c.admit.new.self c.self.view_is c.in-Some.ensures.item.1 does.1,
     )
 
@@ -41,6 +41,6 @@ returns-in_err-admit-clause-memory c =
     let a = c.in-Some.account.now in
     let here : slice_get s.accounts c.args.tenant ≡ Some a = slice_get_read s.accounts (length s.accounts) c.args.tenant a refl c.in-Some.ensures.item.3.0 c.in-Some.ensures.item.1 in
     on_err_always c.from_residual.result (
-      has-tenant HasRoom s _ c.args.tenant a c.self.view_is here c.in_err-admit.ensures.memory.0,
+      has-tenant MayAsk s _ c.args.tenant a c.self.view_is here c.in_err-admit.ensures.memory.0,
       written-again s _ c.args.tenant a c.admit.new.self c.self.view_is c.in-Some.ensures.item.1 c.in_err-admit.ensures.memory.1,
     )

@@ -5,6 +5,7 @@ use Rattle.ot_core.specs.Asking.{IsUnopened, IsAnswered, Waits, with_reply}
 use Rattle.ot_core.specs.Scenes.{IsScene}
 use Rattle.ot_core.specs.Steps.{Moves, moved}
 use Rattle.ot_core.specs.SceneView.{scene_of}
+use Rattle.ot_core.proofs.AccountLemmas.{never-waits}
 use Rattle.ot_core.proofs.SceneLemmas.{scene-answered, scene-opened, reply-opened, moves-at, can-open, cannot-open, starts-job}
 use Rattle.ot_core.proofs.HandedLemmas.{read-again, written-again, on_err_always}
 use Rattle.ot_core.proofs.world.World.open.Goals as goal
@@ -42,7 +43,7 @@ invariant_of-self-in_default-submit c =
     let free : IsUnopened a = c.if-not-is_unopened.ensures.0 refl in
     let waits : Waits a c.in-Some-2.spec c.open.new.self = subst (λ o. asking.Opens a o c.open.new.self) c.in-Some-2.is c.in_ok-spec.ensures.opened in
     let b = c.close_refused.new.self in
-    let answered : IsAnswered a b = record { lost = true; new_is = c.close_refused.ensures.is ∙ reply-opened a c.open.new.self c.in-Some-2.spec waits; at_once = inl refl } in
+    let answered : IsAnswered a b = record { lost = true; new_is = c.close_refused.ensures.is ∙ reply-opened a c.open.new.self c.in-Some-2.spec waits; never = never-waits a c.open.new.self c.in-Some-2.spec true waits; at_once = inl refl } in
     subst (λ f. IsScene (moved s c.args.tenant b f)) (sym c.in_default-submit.ensures.back.1) (scene-answered s c.args.tenant a b c.self.invariant here free.1 c.close_refused.ensures.sound answered)
 
 pub returns-in_default-submit-clause-stepped : goal.returns-in_default-submit-clause-stepped
@@ -53,7 +54,7 @@ returns-in_default-submit-clause-stepped c =
     let free : IsUnopened a = c.if-not-is_unopened.ensures.0 refl in
     let waits : Waits a c.in-Some-2.spec c.open.new.self = subst (λ o. asking.Opens a o c.open.new.self) c.in-Some-2.is c.in_ok-spec.ensures.opened in
     let b = c.close_refused.new.self in
-    let answered : IsAnswered a b = record { lost = true; new_is = c.close_refused.ensures.is ∙ reply-opened a c.open.new.self c.in-Some-2.spec waits; at_once = inl refl } in (
+    let answered : IsAnswered a b = record { lost = true; new_is = c.close_refused.ensures.is ∙ reply-opened a c.open.new.self c.in-Some-2.spec waits; never = never-waits a c.open.new.self c.in-Some-2.spec true waits; at_once = inl refl } in (
       can-open s _ c.args.tenant a c.self.view_is here free,
       subst (λ f. Moves IsAnswered c.args.self.now c.args.tenant (moved s c.args.tenant b f)) (sym c.in_default-submit.ensures.back.1) (moves-at IsAnswered s _ c.args.tenant a b c.self.view_is here answered),
     )
