@@ -1,7 +1,11 @@
 -- What all threads share, and what each turn under the lock does to it.
-use Rattle.std.specs.Prelude.{◌≡◌, ◌+◌, ◌<◌, ◌^◌, ◌↔◌, ◌⊎◌, ℕ, length, Bool, true, false, Option, Some, None, Result, Ok, Err}
+use Rattle.std.specs.Prelude.{◌≡◌, ◌+◌, ◌<◌, ◌^◌, ◌↔◌, ◌⊎◌, ◌&&◌, ℕ, length, Bool, true, false, not, Option, Some, None, option_map, Result, Ok, Err}
 use Rattle.ot_check.specs.Jobs.{Spec}
 use Rattle.ot_check.specs.declared.job.Outcome.{Outcome}
+use Rattle.ot_job.specs.Live.{seen_of}
+use Rattle.ot_job.specs.Dealings.{state_of}
+use Rattle.ot_job.specs.declared.state.State.{State}
+use Rattle.ot_job.specs.declared.state.State.TheVariants.{Working, Failing}
 use Rattle.ot_job.specs.declared.piece.Done.{Done}
 use Rattle.ot_job.specs.declared.piece.Refused.{Refused}
 use Rattle.ot_book.specs.declared.executor.NotDone.{NotDone}
@@ -109,3 +113,27 @@ Collects old t spec (Some (Ok outcome)) new = Turns (λ f g. floors.Collects f t
 Collects old t spec (Some (Err Memory)) new = Turns (λ f g. floors.Collects f t spec collected.Failed g) old new
 Collects old t spec (Some (Err Stranger)) new = Turns (λ f g. floors.Collects f t spec collected.Stranger g) old new
 Collects old t spec (Some (Err Closed)) new = FindsClosed old new
+
+-- ---- looks, which are no turns
+
+-- a job that isn't over
+abbrev pub is_going : Option State → Bool
+is_going (Some Working) = true
+is_going (Some Failing) = true
+is_going _ = false
+
+-- the pool is open, and the tenant has a job that isn't over
+abbrev pub is_pending : Shared → ℕ → Bool
+is_pending s t = not s.closed && is_going (option_map (λ j. state_of (seen_of j)) (job_of s.floor.jobs t))
+
+-- ---- what a worker brings back
+
+-- a piece comes back, where there is one
+abbrev pub TakesBack : Shared → Option (ℕ × Done) → Shared → Type 0
+TakesBack old None new = new ≡ old
+TakesBack old (Some p) new = (units : Option ℕ) × Takes old p.0 p.1 units new
+
+-- the tenant of that piece has no job any more that isn't over, or the pool is closed
+abbrev pub is_over : Option (ℕ × Done) → Shared → Bool
+is_over None s = false
+is_over (Some p) s = not (is_pending s p.0)

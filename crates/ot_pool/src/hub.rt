@@ -5,7 +5,7 @@ use crate::usage::Usage;
 use ot_book::NotDone;
 use ot_check::{JobSpec, Outcome};
 use ot_core::{Collected, Hall, NoMemory, SubmitFault};
-use ot_job::{Done, Piece};
+use ot_job::{Done, Piece, State};
 use std::alloc::{AllocError, Global};
 use std::marker::Model;
 use std::sync::ledger::{Book, Ledger, Share};
@@ -55,9 +55,10 @@ impl<L: Ledger> Model for Hub<L> {
 }
 
 impl<L: Ledger> Hub<L> {
-    ghost use Rattle.std.specs.Prelude.{true, IfOk, IfErr, IfSome, IfNone, sum};
+    ghost use Rattle.std.specs.Prelude.{true, false, IfOk, IfErr, IfSome, IfNone, IsTrue, sum};
     ghost use Rattle.ot_check.specs.Jobs.{IsMeaning};
-    ghost use Rattle.ot_pool.specs.Shared.{new_shared, Submits, Refuses, Claims, Takes, Collects};
+    ghost use Rattle.ot_pool.specs.Shared.{new_shared, Submits, Refuses, Claims, Takes, Collects, is_pending};
+    ghost use Rattle.ot_core.specs.Turns.{NothingAnywhere};
 
     /// Nobody has a job, nothing was settled, and the mark isn't set.
     pub fn new(alloc: Global, tenants: u32, book: Book<L>) -> Result<Hub<L>, AllocError>
@@ -163,6 +164,27 @@ impl<L: Ledger> Hub<L> {
             Collected::Failed => return Some(Err(NotDone::Memory)),
             Collected::Stranger => return Some(Err(NotDone::Stranger)),
         }
+    }
+
+    // Whether the tenant has a job that isn't over, in an open pool. Who asks takes no turn.
+    pub(crate) fn is_pending(&self, tenant: u32) -> bool
+        ensures { result ≡ is_pending self.now tenant }
+    {
+        if self.is_closed {
+            return false;
+        }
+        match self.hall.state(tenant) {
+            Some(State::Working | State::Failing) => true,
+            Some(State::Ended | State::Failed) | None => false,
+        }
+    }
+
+    // Whether some tenant has a claimable task. Who asks takes no turn.
+    pub(crate) fn any_claimable(&self) -> bool
+        ensures some { IsTrue result → ¬ (NothingAnywhere self.now.floor.jobs) }
+        ensures none { result ≡ false → NothingAnywhere self.now.floor.jobs }
+    {
+        self.hall.any_claimable()
     }
 
     /// Sets the mark of closing.

@@ -2,20 +2,22 @@
 //!
 //! What the threads share is one `Hub` under one lock: the live jobs, the units that were settled, and the
 //! mark of closing. Each of its calls is one turn. A worker claims a piece in one turn, runs it with no lock
-//! held, and settles it in another; a client submits its job and then asks for it until it is over. A thread
-//! that finds nothing to do waits until another tells that something has changed.
+//! held, and settles it in another, behind which it claims the next one in the same hold of the lock; a client
+//! submits its job and collects it once it is over. A thread that finds nothing to do looks a few times more,
+//! and then waits until another tells that somebody may go on.
 #![tactic(auto)]
 
 mod client;
 mod crew;
 mod gate;
 mod hub;
+mod locked;
 mod pool;
 mod usage;
 mod worker;
 
 pub use client::Client;
-pub use crew::{Spent, join_all, start};
+pub use crew::{NotStarted, Staffed, staffed};
 pub use gate::{Gate, OpenGate};
 pub use hub::{Claimed, Hub};
 pub use pool::{Pool, close, totals};

@@ -2,6 +2,7 @@ ghost use Rattle.std.specs.Prelude.{◌≡◌, ◌<◌, vec_len, IfOk, sum};
 ghost use Rattle.std.specs.List.{sum_by};
 
 use crate::hub::{Claimed, Hub};
+use crate::locked::Locked;
 use crate::usage::Usage;
 use ot_book::NotDone;
 use ot_check::{JobSpec, Outcome};
@@ -9,11 +10,17 @@ use ot_job::{Done, Piece};
 use std::alloc::{AllocError, Global};
 use std::sync::ledger::{Blank, Ledger, Share};
 use std::sync::{Condvar, Mutex, Wait};
+use std::thread::yield_now;
 
-/// What workers and clients share. Each thread that changes it tells all that wait, once it has let the lock go.
+/// How often in one call a thread that finds nothing lets the lock and the processor go and looks again, before
+/// it waits.
+const LOOKS: u32 = 20;
+
+/// What workers and clients share. A thread after whose hold of the lock somebody who waits may go on tells all
+/// that wait, once it has let the lock go.
 #[derive(Drop)]
 pub struct Pool<L: Ledger> {
-    hub: Mutex<Hub<L>>,
+    locked: Mutex<Locked<L>>,
     told: Condvar,
 }
 
@@ -43,45 +50,68 @@ impl<L: Ledger> Pool<L> {
             shares.push(rest.split_off(1, 0))?;
         }
         let hub = Hub::new(alloc, tenants, book)?;
+        let locked = Locked {
+            hub,
+            worker_waits: false,
+        };
         let pool = Pool {
-            hub: Mutex::new(hub),
+            locked: Mutex::new(locked),
             told: Condvar::new(),
         };
         Ok((pool, shares))
     }
 
-    /// Waits for a claimable piece. None comes once the pool is closed.
-    pub(crate) fn next<R: Wait>(&self, rt: &R, alloc: Global, turn: u64) -> Option<(u32, Piece)> {
-        let mut hub = self.hub.lock(rt);
-        for _ in rt.forever() {
-            match hub.claim(alloc, turn) {
-                Claimed::Got(tenant, piece) => {
-                    drop(hub);
-                    self.told.notify_all();
-                    return Some((tenant, piece));
-                }
-                Claimed::Idle => hub = self.told.wait(rt, hub),
-                Claimed::Aborted(_) => self.told.notify_all(),
-                Claimed::Closed => return None,
-            }
-        }
-        unreachable!()
-    }
-
-    /// Hands back a piece that was run. What it counts is added to the share.
-    pub(crate) fn settle<R: Wait>(
+    /// Hands back the piece that was run before, where there is one, and waits for a claimable one: both in one
+    /// hold of the lock, if a task is claimable then. None comes once the pool is closed. What comes back is
+    /// counted in the share.
+    pub(crate) fn next<R: Wait>(
         &self,
         rt: &R,
         alloc: Global,
-        tenant: u32,
-        done: Done,
+        turn: u64,
+        back: Option<(u32, Done)>,
         share: &mut Share<L>,
-    )
+    ) -> Option<(u32, Piece)>
         requires { 0 < share.old.parts }
         ensures { share.new.parts ≡ share.old.parts }
     {
-        let _units = self.hub.lock(rt).settle(alloc, tenant, done, share);
-        self.told.notify_all();
+        let mut locked = self.locked.lock(rt);
+        // Whether a client may go on, who isn't told yet.
+        let mut is_over = locked.take_back(alloc, back, share);
+        let mut looks = 0u32;
+        for _ in rt.forever() {
+            match locked.hub.claim(alloc, turn) {
+                Claimed::Got(tenant, piece) => {
+                    let calls = locked.calls_workers();
+                    drop(locked);
+                    self.tell(calls || is_over);
+                    return Some((tenant, piece));
+                }
+                Claimed::Aborted(_) => is_over = true,
+                Claimed::Idle => {
+                    if is_over {
+                        drop(locked);
+                        self.tell(true);
+                        is_over = false;
+                        locked = self.locked.lock(rt);
+                    } else if looks < LOOKS {
+                        looks += 1;
+                        drop(locked);
+                        yield_now();
+                        locked = self.locked.lock(rt);
+                    } else {
+                        locked.worker_waits = true;
+                        locked = self.told.wait(rt, locked);
+                    }
+                }
+                Claimed::Closed => {
+                    drop(locked);
+                    self.tell(is_over);
+                    return None;
+                }
+            }
+        }
+        unreachable!()
     }
 
     /// Starts the tenant's job.
@@ -92,14 +122,18 @@ impl<L: Ledger> Pool<L> {
         tenant: u32,
         spec: JobSpec,
     ) -> Result<(), NotDone> {
-        if let Err((_, refusal)) = self.hub.lock(rt).submit(alloc, tenant, spec) {
+        let mut locked = self.locked.lock(rt);
+        if let Err((_, refusal)) = locked.hub.submit(alloc, tenant, spec) {
             return Err(refusal);
         }
-        self.told.notify_all();
+        let calls = locked.calls_workers();
+        drop(locked);
+        self.tell(calls);
         Ok(())
     }
 
-    /// Waits until the tenant's job of this spec is over.
+    /// Waits until the tenant's job of this spec is over. The spec is compared once the tenant has no job that
+    /// goes on.
     pub(crate) fn collect<R: Wait>(
         &self,
         rt: &R,
@@ -108,24 +142,36 @@ impl<L: Ledger> Pool<L> {
     ) -> Result<Outcome, NotDone>
         ensures { IfOk result (λ outcome. IsMeaning spec.now outcome) }
     {
-        let mut hub = self.hub.lock(rt);
+        let mut locked = self.locked.lock(rt);
+        let mut looks = 0u32;
         for _ in rt.forever() {
-            match hub.collect(tenant, spec) {
-                Some(answer) => {
-                    drop(hub);
-                    self.told.notify_all();
-                    return answer;
+            if locked.hub.is_pending(tenant) {
+                if looks < LOOKS {
+                    looks += 1;
+                    drop(locked);
+                    yield_now();
+                    locked = self.locked.lock(rt);
+                } else {
+                    locked = self.told.wait(rt, locked);
                 }
-                None => hub = self.told.wait(rt, hub),
+            } else if let Some(answer) = locked.hub.collect(tenant, spec) {
+                return answer;
             }
         }
         unreachable!()
+    }
+
+    // Tells all that wait, if somebody may go on.
+    fn tell(&self, may_go_on: bool) {
+        if may_go_on {
+            self.told.notify_all();
+        }
     }
 }
 
 /// Closes the pool: from now on workers come home and clients are answered `Closed`.
 pub fn close<L: Ledger, R: Wait>(rt: &R, pool: &Pool<L>) {
-    pool.hub.lock(rt).close();
+    pool.locked.lock(rt).hub.close();
     pool.told.notify_all();
 }
 
@@ -142,5 +188,5 @@ pub fn totals<L: Ledger, R: Wait>(
     ensures total { IfOk result (λ usage. usage.total ≡ sum_by (λ s. s.amount) shares.items) }
     ensures adds_up { IfOk result (λ usage. sum usage.by_tenant.items ≡ usage.total) }
 {
-    pool.hub.lock(rt).totals(alloc, shares)
+    pool.locked.lock(rt).hub.totals(alloc, shares)
 }

@@ -6,7 +6,7 @@ use std::alloc::Global;
 use std::sync::Wait;
 use std::sync::ledger::{Ledger, Share};
 
-/// Claims pieces, passes the gate with each, runs it and settles it, until the pool is closed. A worker's
+/// Claims pieces, passes the gate with each, runs it and hands it back, until the pool is closed. A worker's
 /// number is 1 to 16. The share that comes back has the units that this worker settled.
 pub fn work<G: Gate + Drop, L: Ledger, R: Wait>(
     rt: &R,
@@ -22,14 +22,14 @@ pub fn work<G: Gate + Drop, L: Ledger, R: Wait>(
 {
     // Workers begin with different tenants, and go on to the next one at each claim.
     let mut turn = u64::from(worker);
+    let mut back = None;
     for _ in rt.forever() {
-        let Some((tenant, piece)) = pool.next(rt, alloc, turn) else {
+        let Some((tenant, piece)) = pool.next(rt, alloc, turn, back, &mut share) else {
             return share;
         };
         turn = turn.wrapping_add(1);
         gate.pass(worker, tenant, piece.task());
-        let done = piece.run();
-        pool.settle(rt, alloc, tenant, done, &mut share);
+        back = Some((tenant, piece.run()));
     }
     unreachable!()
 }
