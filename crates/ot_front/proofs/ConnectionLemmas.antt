@@ -24,7 +24,7 @@ tells names bytes left ended start held result (inl asked) = inl asked
 tells names bytes left ended start held result (inr cut) = inr (cut.0, cut.1, never_asks bytes left ended result cut.2)
 
 -- whether the end was told counts no more
-greets_so : (names : List (List ℕ)) (ahead left : Option (List ℕ)) (ended : Type 0) (start held : Option (List ℕ)) (result : Result (Option Register) FrontFault) →
+pub greets_so : (names : List (List ℕ)) (ahead left : Option (List ℕ)) (ended : Type 0) (start held : Option (List ℕ)) (result : Result (Option Register) FrontFault) →
     Greets names ahead left ended start held result → Greets names ahead left ⊤ start held result
 greets_so names ahead left ended start held result greets = record {
   bytes = greets.bytes;
@@ -43,36 +43,3 @@ pub knows : (names : List (List ℕ)) (ahead left : Option (List ℕ)) (ended : 
 knows names ahead left ended start held given book is greets =
     let told : Greets names ahead left ended start held (Ok (Some book)) = subst (λ o. Greets names ahead left ended start held (Ok o)) is greets in
     tells_known names told.bytes left ended start held book told.tells
-
--- a session behind the greeting
-pub connects_on : (names : List (List ℕ)) (ahead next left : Option (List ℕ)) (ended : Type 0) (start told held : Option (List ℕ)) (given : Option Register) (book : Register) → given ≡ Some book →
-    Greets names ahead next ended start told (Ok given) → HasSession book next left told held → Connects names ahead left start held
-connects_on names ahead next left ended start told held given book is greets session = record {
-  given = Ok (Some book);
-  next = next;
-  told = told;
-  greets = greets_so names ahead next ended start told (Ok (Some book)) (subst (λ o. Greets names ahead next ended start told (Ok o)) is greets);
-  goes_on = session;
-}
-
--- nothing behind the greeting
-pub connects_none : (names : List (List ℕ)) (ahead next : Option (List ℕ)) (ended : Type 0) (start told : Option (List ℕ)) (given : Option Register) → given ≡ None →
-    Greets names ahead next ended start told (Ok given) → Connects names ahead next start told
-connects_none names ahead next ended start told given is greets = record {
-  given = Ok None;
-  next = next;
-  told = told;
-  greets = greets_so names ahead next ended start told (Ok None) (subst (λ o. Greets names ahead next ended start told (Ok o)) is greets);
-  goes_on = (refl, refl);
-}
-
--- nothing behind a fault
-pub connects_fault : (names : List (List ℕ)) (ahead next : Option (List ℕ)) (ended : Type 0) (start told : Option (List ℕ)) (fault : FrontFault) →
-    Greets names ahead next ended start told (Err fault) → Connects names ahead next start told
-connects_fault names ahead next ended start told fault greets = record {
-  given = Err fault;
-  next = next;
-  told = told;
-  greets = greets_so names ahead next ended start told (Err fault) greets;
-  goes_on = (refl, refl);
-}

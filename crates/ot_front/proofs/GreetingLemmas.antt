@@ -7,10 +7,10 @@ use Rattle.json.specs.Tree.{json_tokens}
 use Rattle.serde_json.specs.Written.{outline}
 use Rattle.serde_json.specs.View.{items_view}
 use Rattle.serde_json.specs.declared.value.Value.{Value}
-use Rattle.ot_book.specs.Books.{Register}
+use Rattle.ot_book.specs.Books.{Register, next_number}
 use Rattle.ot_front.specs.Heard.{HasNoEnd}
 use Rattle.ot_front.specs.FirstLines.{read_with}
-use Rattle.ot_front.specs.Greetings.{hello_of, hello_json, Greeting, greeting_of, Asks, IsFirstLine, IsTooLong, IsRefused, IsGiven, refusal_text, hello_text, next_number, Writes, Answers, Greets}
+use Rattle.ot_front.specs.Greetings.{hello_of, hello_json, Greeting, greeting_of, Asks, IsFirstLine, IsTooLong, IsRefused, IsGiven, refusal_text, hello_text, Writes, Answers, Greets}
 use Rattle.ot_front.specs.declared.device.Failed.{Failed}
 use Rattle.ot_front.specs.declared.first_line.FirstLine.{FirstLine}
 use Rattle.ot_front.specs.declared.first_line.FirstLine.TheVariants.{Whole, TooLong}

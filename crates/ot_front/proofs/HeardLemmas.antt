@@ -5,31 +5,32 @@ use Rattle.std.proofs.Common.{inl, inr}
 use Rattle.std.proofs.lemmas.List.Sums.{fold-append}
 use Rattle.std.proofs.lemmas.Bool.{le-leb}
 use Rattle.std.proofs.lemmas.Bool.Decides.{leb_tells, nat_tests}
+use Rattle.ot_book.specs.Room.{Room, takes, room_after}
 use Rattle.ot_front.specs.Heard.{Heard, nothing_heard, hear, heard, with_line, with_byte, is_bye, max_line, HasNoEnd}
 use Rattle.ot_front.specs.declared.fault.End.{End}
 use Rattle.ot_front.specs.declared.fault.End.TheVariants.{Bye, Full, LongLine}
 
-pub heard-more : (room : ℕ) (bytes : List ℕ) (byte : ℕ) → heard room (bytes ++ byte ∷ []) ≡ hear room (heard room bytes) byte
+pub heard-more : (room : Room) (bytes : List ℕ) (byte : ℕ) → heard room (bytes ++ byte ∷ []) ≡ hear room (heard room bytes) byte
 heard-more room bytes byte = fold-append (hear room) nothing_heard bytes (byte ∷ [])
 
 -- a line so far, in a session that goes on
 abbrev pub at_line : List (List ℕ) → List ℕ → Heard
 at_line lines partial = record { lines = lines; partial = partial; end = None }
 
-pub with_line-bye : (room : ℕ) (lines : List (List ℕ)) (line : List ℕ) → is_bye line ≡ true →
+pub with_line-bye : (room : Room) (lines : List (List ℕ)) (line : List ℕ) → is_bye line ≡ true →
     with_line room (at_line lines line) ≡ record { lines = lines; partial = []; end = Some Bye }
 with_line-bye room lines line bye = rw bye refl
 
-pub with_line-full : (room : ℕ) (lines : List (List ℕ)) (line : List ℕ) → is_bye line ≡ false → room ≤ length lines →
+pub with_line-full : (room : Room) (lines : List (List ℕ)) (line : List ℕ) → is_bye line ≡ false → takes (room_after room lines) line ≡ false →
     with_line room (at_line lines line) ≡ record { lines = lines; partial = []; end = Some Full }
-with_line-full room lines line bye full = rw (bye, le-leb room (length lines) full) refl
+with_line-full room lines line bye full = rw (bye, full) refl
 
 not_le : (a b : ℕ) → b < a → nat_le a b ≡ false
 not_le a b below = elim (leb_tells a b) [ inl (test, within) ↦ absurd (omega (arith, within)) | inr (test, past) ↦ test ]
 
-pub with_line-request : (room : ℕ) (lines : List (List ℕ)) (line : List ℕ) → is_bye line ≡ false → length lines < room →
+pub with_line-request : (room : Room) (lines : List (List ℕ)) (line : List ℕ) → is_bye line ≡ false → takes (room_after room lines) line ≡ true →
     with_line room (at_line lines line) ≡ at_line (lines ++ line ∷ []) []
-with_line-request room lines line bye free = rw (bye, not_le room (length lines) free) refl
+with_line-request room lines line bye free = rw (bye, free) refl
 
 pub with_byte-long : (lines : List (List ℕ)) (partial : List ℕ) (byte : ℕ) → max_line ≤ length partial →
     with_byte (at_line lines partial) byte ≡ record { lines = lines; partial = partial; end = Some LongLine }
@@ -43,16 +44,16 @@ eqb_other : (byte : ℕ) → byte ≢ 10 → (byte == 10) ≡ false
 eqb_other byte other = grind (arith, nat_tests)
 
 -- a byte that isn't an LF
-pub hear-other : (room : ℕ) (lines : List (List ℕ)) (partial : List ℕ) (byte : ℕ) → byte ≢ 10 → hear room (at_line lines partial) byte ≡ with_byte (at_line lines partial) byte
+pub hear-other : (room : Room) (lines : List (List ℕ)) (partial : List ℕ) (byte : ℕ) → byte ≢ 10 → hear room (at_line lines partial) byte ≡ with_byte (at_line lines partial) byte
 hear-other room lines partial byte other = rw (eqb_other byte other) refl
 
 -- ---- more bytes
 
-pub heard-append : (room : ℕ) (bytes more : List ℕ) → heard room (bytes ++ more) ≡ fold (hear room) (heard room bytes) more
+pub heard-append : (room : Room) (bytes more : List ℕ) → heard room (bytes ++ more) ≡ fold (hear room) (heard room bytes) more
 heard-append room bytes more = fold-append (hear room) nothing_heard bytes more
 
 -- after the end nothing is heard
-pub heard_ended : (room : ℕ) (h : Heard) (e : End) (more : List ℕ) → h.end ≡ Some e → fold (hear room) h more ≡ h
+pub heard_ended : (room : Room) (h : Heard) (e : End) (more : List ℕ) → h.end ≡ Some e → fold (hear room) h more ≡ h
 heard_ended room h e [] is = refl
 heard_ended room h e (b ∷ more) is =
     let stays : hear room h b ≡ h = ap (λ o. if is_some o then h else (if b == 10 then with_line room h else with_byte h b)) is in
@@ -68,7 +69,7 @@ grows-if false h x y gx gy = gy
 grows-none : (h now : Heard) → now.lines ≡ h.lines → Grows h now
 grows-none h now is = ([], is ∙ sym (append-nil h.lines))
 
-grows-hear : (room : ℕ) (h : Heard) (b : ℕ) → Grows h (hear room h b)
+grows-hear : (room : Room) (h : Heard) (b : ℕ) → Grows h (hear room h b)
 grows-hear room h b =
     let bye : Heard = record { lines = h.lines; partial = []; end = Some Bye } in
     let full : Heard = record { lines = h.lines; partial = []; end = Some Full } in
@@ -77,12 +78,12 @@ grows-hear room h b =
     let longer : Heard = record { lines = h.lines; partial = h.partial ++ b ∷ []; end = None } in
     grows-if (is_some h.end) h h (if b == 10 then with_line room h else with_byte h b) (grows-none h h refl)
     (grows-if (b == 10) h (with_line room h) (with_byte h b)
-    (grows-if (is_bye h.partial) h bye (if nat_le room (length h.lines) then full else request) (grows-none h bye refl)
-    (grows-if (nat_le room (length h.lines)) h full request (grows-none h full refl) (h.partial ∷ [], refl)))
+    (grows-if (is_bye h.partial) h bye (if takes (room_after room h.lines) h.partial then request else full) (grows-none h bye refl)
+    (grows-if (takes (room_after room h.lines) h.partial) h request full (h.partial ∷ [], refl) (grows-none h full refl)))
     (grows-if (nat_le max_line (length h.partial)) h long longer (grows-none h long refl) (grows-none h longer refl)))
 
 -- the lines that were heard stay the first
-pub lines_grow : (room : ℕ) (h : Heard) (more : List ℕ) → (extra : List (List ℕ)) × ((fold (hear room) h more).lines ≡ h.lines ++ extra)
+pub lines_grow : (room : Room) (h : Heard) (more : List ℕ) → (extra : List (List ℕ)) × ((fold (hear room) h more).lines ≡ h.lines ++ extra)
 lines_grow room h [] = ([], sym (append-nil h.lines))
 lines_grow room h (b ∷ more) =
     let one = grows-hear room h b in
@@ -95,7 +96,7 @@ without_first : (b : ℕ) (bs : List ℕ) → HasNoEnd (b ∷ bs) → HasNoEnd b
 without_first b bs clean = λ k within. clean (suc k) (omega (arith, within))
 
 -- a piece is appended
-pub heard-piece : (room : ℕ) (lines : List (List ℕ)) (partial piece : List ℕ) → HasNoEnd piece → length partial + length piece ≤ max_line →
+pub heard-piece : (room : Room) (lines : List (List ℕ)) (partial piece : List ℕ) → HasNoEnd piece → length partial + length piece ≤ max_line →
     fold (hear room) (at_line lines partial) piece ≡ at_line lines (partial ++ piece)
 heard-piece room lines partial [] clean fits = ap (at_line lines) (sym (append-nil partial))
 heard-piece room lines partial (b ∷ bs) clean fits =
@@ -107,7 +108,7 @@ heard-piece room lines partial (b ∷ bs) clean fits =
     ∙ ap (at_line lines) (append_assoc partial (b ∷ []) bs)
 
 -- a piece that is too long for a line
-pub heard-long : (room : ℕ) (lines : List (List ℕ)) (partial piece : List ℕ) → HasNoEnd piece → length partial ≤ max_line → max_line < length partial + length piece →
+pub heard-long : (room : Room) (lines : List (List ℕ)) (partial piece : List ℕ) → HasNoEnd piece → length partial ≤ max_line → max_line < length partial + length piece →
     (part : List ℕ) × (fold (hear room) (at_line lines partial) piece ≡ record { lines = lines; partial = part; end = Some LongLine })
 heard-long room lines partial [] clean short long = absurd (omega (arith, short, long))
 heard-long room lines partial (b ∷ bs) clean short long =

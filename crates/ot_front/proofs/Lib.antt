@@ -11,3 +11,4 @@ pub mod DeskLemmas
 pub mod FirstLineLemmas
 pub mod GreetingLemmas
 pub mod ConnectionLemmas
+pub mod RackLemmas

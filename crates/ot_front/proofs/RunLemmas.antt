@@ -6,6 +6,7 @@ use Rattle.ot_check.specs.Jobs.{Spec}
 use Rattle.ot_book.specs.Answers.{Step, Now, Runs}
 use Rattle.ot_book.specs.Books.{Register, opened, open_step}
 use Rattle.ot_book.specs.Opening.{Opens}
+use Rattle.ot_front.specs.Serving.{WouldRun}
 use Rattle.ot_book.specs.declared.book.Opened.{Opened}
 use Rattle.ot_book.specs.declared.book.Opened.TheVariants.{ToRun}
 use Rattle.ot_front.specs.Told.{RunsProgram}
@@ -20,3 +21,9 @@ run_asked b new line o spec opens is =
     let asks : ∥ open_step (opened b line) ≡ Runs (expanded_of spec.checked.program) ∥₁ =
     subst (λ x. ∥ open_step x ≡ Runs (expanded_of spec.checked.program) ∥₁) h.1 h.2.asks in
     no_run _ (expanded_of spec.checked.program) asks
+
+pub would_run : (b new : Register) (line : List ℕ) (o : Opened) (spec : Spec) → Opens b line new o → o ≡ ToRun spec → WouldRun b line
+would_run b new line o spec opens is = record {
+  room = (subst (Opens b line new) is opens).0;
+  runs = run_asked b new line o spec opens is;
+}

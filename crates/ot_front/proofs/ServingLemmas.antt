@@ -4,7 +4,7 @@ use Rattle.std.specs.Prelude.{Option, None, Result, Ok, Err}
 use Rattle.std.specs.Io.KnownBytes.{Appends, Consumes, Keeps}
 use Rattle.std.proofs.KnownBytes.{Appends-nil, Consumes-nil, Consumes-trans, Consumes-kept}
 use Rattle.std.proofs.lemmas.List.{length-take-le}
-use Rattle.ot_book.specs.Books.{Register}
+use Rattle.ot_book.specs.Books.{Register, next_number}
 use Rattle.ot_front.specs.Heard.{Heard}
 use Rattle.ot_front.specs.Told.{Lines, texts, marks, marked, after, told}
 use Rattle.ot_front.specs.Session.{heard_in, logged_lines, Tells, Session, Serves}
@@ -14,7 +14,7 @@ use Rattle.ot_front.specs.declared.fault.End.TheVariants.{Bye, EndOfInput, Full,
 use Rattle.ot_front.specs.declared.fault.FrontFault.{FrontFault}
 use Rattle.ot_front.specs.declared.fault.FrontFault.TheVariants.{ReadFailed, WriteFailed, Memory, Stranger, TooManyTurns, SocketFailed}
 use Rattle.ot_front.specs.declared.stop.Stop.{Stop}
-use Rattle.ot_front.proofs.ToldLemmas.{pending-after, length-texts, length-marked, length-log-after}
+use Rattle.ot_front.proofs.ToldLemmas.{pending-after, length-texts, length-marked, next-after}
 use Rattle.ot_front.proofs.SessionLemmas.{session_of, tells_all, breaks_between, breaks_closing}
 
 -- ---- a session that begins
@@ -58,7 +58,7 @@ serving_on {first} {ahead} {left} next chunk more new now s consumes going = rec
 
 -- the lines that were logged are no more than in the end
 logs_more : (first book new : Register) (bytes : List ℕ) (lines : Lines) (lost : List Bool) → book ≡ after first lines → new ≡ after first (logged_lines first bytes lost) →
-    length lost ≤ length (heard_in first bytes).lines → length book.log ≤ length new.log → length lines ≤ length lost
+    length lost ≤ length (heard_in first bytes).lines → next_number book ≤ next_number new → length lines ≤ length lost
 logs_more first book new bytes lines lost logs new_logs few grows =
     let count : length (logged_lines first bytes lost) ≡ length lost =
     length-take-le (length lost) (marked (heard_in first bytes).lines lost) (omega (arith, few, length-marked (heard_in first bytes).lines lost)) in
@@ -66,16 +66,16 @@ logs_more first book new bytes lines lost logs new_logs few grows =
       arith,
       grows,
       count,
-      ap (λ (b : Register). length b.log) logs,
-      ap (λ (b : Register). length b.log) new_logs,
-      length-log-after first lines,
-      length-log-after first (logged_lines first bytes lost),
+      ap next_number logs,
+      ap next_number new_logs,
+      next-after first lines,
+      next-after first (logged_lines first bytes lost),
     )
 
 -- the lines heard so far are no more than those logged
 heard_logged : {first : Register} {start : Option (List ℕ)} {bytes partial : List ℕ} {book : Register} {held : Option (List ℕ)} →
     (going : Going first start bytes partial book held) (new : Register) (now : Option (List ℕ)) (more : List ℕ) (result : Result End FrontFault) →
-    (s : Session first new more start now result) → length book.log ≤ length new.log → length (heard_in first bytes).lines ≤ length s.lost
+    (s : Session first new more start now result) → next_number book ≤ next_number new → length (heard_in first bytes).lines ≤ length s.lost
 heard_logged {first} {start} {bytes} {partial} {book} going new now more result s grows =
     let lines = logs_more first book new more going.lines s.lost going.logs s.logs s.few grows in
     omega (arith, lines, ap (λ (h : Heard). length h.lines) going.hears, length-texts going.lines)
@@ -89,7 +89,7 @@ length-take-below (suc n) (x ∷ xs) = omega (arith, length-take-below n xs)
 pub serves_chunk : {first : Register} {ahead left start : Option (List ℕ)} {partial : List ℕ} {book : Register} {held : Option (List ℕ)} →
     (next : Option (List ℕ)) (latest n : ℕ) (buffer : List ℕ) (new : Register) (now : Option (List ℕ)) (result : Result End FrontFault) (stop : Stop) →
     (s : Serving first ahead left start partial book held) → latest ≡ n → Consumes left next (take n buffer) → result ≡ result_of stop →
-    Session first new (s.bytes ++ take n buffer) start now (result_of stop) → length book.log ≤ length new.log → Serves first new ahead next latest start now result
+    Session first new (s.bytes ++ take n buffer) start now (result_of stop) → next_number book ≤ next_number new → Serves first new ahead next latest start now result
 serves_chunk {first} {ahead} {left} {start} next latest n buffer new now result stop s gave consumes is session grows =
     let same = subst (Session first new (s.bytes ++ take n buffer) start now) (sym is) session in record {
       before = s.bytes;
@@ -141,7 +141,7 @@ serves_idle {first} {ahead} {left} {start} {partial} {book} {held} next latest r
       few = omega arith;
       session = session;
       goes_on = ap (λ (h : Heard). h.end) s.going.hears;
-      logs = heard_logged s.going book held (s.bytes ++ []) result session (le_refl (length book.log));
+      logs = heard_logged s.going book held (s.bytes ++ []) result session (le_refl (next_number book));
     }
 
 -- a read gave no byte

@@ -1,18 +1,19 @@
 -- What a session is after a piece, a line or a read more.
-use Rattle.std.proofs.Common.{◌≡◌, ◌⊎◌, ℕ, ◌+◌, ◌-◌, ◌≤◌, ◌<◌, List, [], ◌∷◌, ◌++◌, length, take, drop, refl, sym, ap, ◌∙◌, subst, arith, append_assoc, append-nil, length-append, take_all, le_refl, Bool, true, false, inl, inr}
+use Rattle.std.proofs.Common.{◌≡◌, ◌⊎◌, ℕ, ◌+◌, ◌-◌, ◌≤◌, ◌<◌, List, [], ◌∷◌, ◌++◌, length, take, drop, refl, sym, ap, ◌∙◌, subst, arith, append_assoc, append-nil, length-append, take_all, le_refl, Bool, true, false, true≢false, inl, inr}
 use Rattle.std.specs.Prelude.{Option, Some, None, Result, Ok, Err, OnOk, OnErr, IfErr, ⊤, fold, slice_get}
 use Rattle.std.specs.Io.KnownBytes.{Appends}
 use Rattle.std.proofs.KnownBytes.{Appends-nil, Appends-trans}
 use Rattle.std.proofs.Math.ListN.{take-append-drop}
 use Rattle.std.proofs.Math.Seq.{take-append_seam}
 use Rattle.std.proofs.lemmas.List.{take-append-le}
-use Rattle.ot_book.specs.Books.{Register, logged}
-use Rattle.ot_book.specs.Opening.{IsFull}
+use Rattle.ot_book.specs.Books.{Register, next_number, logged}
+use Rattle.ot_book.specs.Room.{room_in, takes, room_after}
+use Rattle.ot_book.proofs.RoomLemmas.{full-takes, free-takes}
 use Rattle.ot_front.specs.Device.{AppendsFront}
 use Rattle.ot_front.specs.Heard.{Heard, hear, with_line, is_bye, max_line, HasNoEnd}
 use Rattle.ot_front.specs.Told.{Lines, texts, marks, marked, after, told, reply_line, last_reply, RunsProgram}
-use Rattle.ot_front.specs.Session.{closing, room_of, heard_in, session_text, logged_lines, TellsAll, LeavesRun, BreaksOff, Tells, Session}
-use Rattle.ot_front.specs.Serving.{result_of, Going, Goes}
+use Rattle.ot_front.specs.Session.{closing, heard_in, session_text, logged_lines, TellsAll, LeavesRun, BreaksOff, Tells, Session}
+use Rattle.ot_front.specs.Serving.{result_of, Going, Goes, Takes, WouldRun}
 use Rattle.ot_front.specs.declared.fault.End.{End}
 use Rattle.ot_front.specs.declared.fault.End.TheVariants as end
 use Rattle.ot_front.specs.declared.fault.FrontFault.{FrontFault}
@@ -20,7 +21,7 @@ use Rattle.ot_front.specs.declared.fault.FrontFault.TheVariants as fault
 use Rattle.ot_front.specs.declared.stop.Stop.{Stop}
 use Rattle.ot_front.specs.declared.stop.Stop.TheVariants.{Bye, Full, LongLine, Closed, Stranger, WriteFailed, Memory}
 use Rattle.ot_front.proofs.HeardLemmas.{heard-more, at_line, with_line-bye, with_line-full, with_line-request, heard-append, heard_ended, lines_grow, heard-piece, heard-long}
-use Rattle.ot_front.proofs.ToldLemmas.{length-texts, length-marks, texts-more, marked-texts, marked-append, length-marked, after-more, told-more, told-append, told-take, full-after, free-after, slice_get-front, slice_get-seam}
+use Rattle.ot_front.proofs.ToldLemmas.{length-texts, length-marks, texts-more, marked-texts, marked-append, length-marked, after-more, told-more, told-append, told-take, room-after, next-after, pending-after, slice_get-front, slice_get-seam}
 
 -- ---- the marks of logged lines
 
@@ -58,6 +59,7 @@ session_of first start bytes book held lines rest written result hears logs writ
   lost = marks lines;
   written = written;
   few = few-marks first bytes lines rest hears;
+  grown = omega (arith, ap next_number logs, next-after first lines, length-marks lines);
   logs = logs ∙ ap (after first) (sym (logged_lines-marks first bytes lines rest hears));
   writes = writes;
   tells = tells;
@@ -150,38 +152,38 @@ breaks_reply first bytes lines line n hears =
 
 hears_line : {first : Register} {start : Option (List ℕ)} {bytes line : List ℕ} {book : Register} {held : Option (List ℕ)} →
     (going : Going first start bytes line book held) →
-    heard_in first (bytes ++ 10 ∷ []) ≡ with_line (room_of first) (at_line (texts going.lines) line)
+    heard_in first (bytes ++ 10 ∷ []) ≡ with_line (room_in first) (at_line (texts going.lines) line)
 hears_line {first} {start} {bytes} {line} going =
-    heard-more (room_of first) bytes 10 ∙ ap (λ h. hear (room_of first) h 10) going.hears
+    heard-more (room_in first) bytes 10 ∙ ap (λ h. hear (room_in first) h 10) going.hears
 
 hears_full : {first : Register} {start : Option (List ℕ)} {bytes line : List ℕ} {book : Register} {held : Option (List ℕ)} →
-    (going : Going first start bytes line book held) → first.pending ≡ None → is_bye line ≡ false → IsFull book →
+    (going : Going first start bytes line book held) → is_bye line ≡ false → takes (room_in book) line ≡ false →
     heard_in first (bytes ++ 10 ∷ []) ≡ record { lines = texts going.lines; partial = []; end = Some end.Full }
-hears_full {first} {start} {bytes} {line} going closed bye full =
-    let past : room_of first ≤ length going.lines = full-after first going.lines closed (subst IsFull going.logs full) in
-    let long : room_of first ≤ length (texts going.lines) = omega (arith, past, length-texts going.lines) in
-    hears_line going ∙ with_line-full (room_of first) (texts going.lines) line bye long
+hears_full {first} {start} {bytes} {line} going bye full =
+    let no : takes (room_after (room_in first) (texts going.lines)) line ≡ false =
+    ap (λ r. takes r line) (sym (room-after first going.lines) ∙ ap room_in (sym going.logs)) ∙ full in
+    hears_line going ∙ with_line-full (room_in first) (texts going.lines) line bye no
 
 hears_request : {first : Register} {start : Option (List ℕ)} {bytes line : List ℕ} {book : Register} {held : Option (List ℕ)} →
-    (going : Going first start bytes line book held) → is_bye line ≡ false → ¬ (IsFull book) →
+    (going : Going first start bytes line book held) → is_bye line ≡ false → takes (room_in book) line ≡ true →
     heard_in first (bytes ++ 10 ∷ []) ≡ at_line (texts going.lines ++ line ∷ []) []
 hears_request {first} {start} {bytes} {line} going bye free =
-    let below : length going.lines < room_of first = free-after first going.lines (λ full. free (subst IsFull (sym going.logs) full)) in
-    let short : length (texts going.lines) < room_of first = omega (arith, below, length-texts going.lines) in
-    hears_line going ∙ with_line-request (room_of first) (texts going.lines) line bye short
+    let yes : takes (room_after (room_in first) (texts going.lines)) line ≡ true =
+    ap (λ r. takes r line) (sym (room-after first going.lines) ∙ ap room_in (sym going.logs)) ∙ free in
+    hears_line going ∙ with_line-request (room_in first) (texts going.lines) line bye yes
 
 pub stops_bye : {first : Register} {start : Option (List ℕ)} {bytes line : List ℕ} {book : Register} {held : Option (List ℕ)} →
     Going first start bytes line book held → is_bye line ≡ true → Session first book (bytes ++ 10 ∷ []) start held (Ok end.Bye)
 stops_bye {first} {start} {bytes} {line} {book} {held} going bye =
     session_all first start (bytes ++ 10 ∷ []) book held held going.lines [] (Some end.Bye) (Ok end.Bye)
-    (hears_line going ∙ with_line-bye (room_of first) (texts going.lines) line bye) going.logs going.writes (Appends-nil held) (λ all. all)
+    (hears_line going ∙ with_line-bye (room_in first) (texts going.lines) line bye) going.logs going.writes (Appends-nil held) (λ all. all)
 
 pub stops_full : {first : Register} {start : Option (List ℕ)} {bytes line : List ℕ} {book : Register} {held now : Option (List ℕ)} →
-    Going first start bytes line book held → first.pending ≡ None → is_bye line ≡ false → IsFull book → Appends held now (closing (Some end.Full)) →
+    Going first start bytes line book held → is_bye line ≡ false → takes (room_in book) line ≡ false → Appends held now (closing (Some end.Full)) →
     Session first book (bytes ++ 10 ∷ []) start now (Ok end.Full)
-stops_full {first} {start} {bytes} {line} {book} {held} {now} going closed bye full writes =
+stops_full {first} {start} {bytes} {line} {book} {held} {now} going bye full writes =
     session_all first start (bytes ++ 10 ∷ []) book held now going.lines [] (Some end.Full) (Ok end.Full)
-    (hears_full going closed bye full) going.logs going.writes writes (λ all. all)
+    (hears_full going bye full) going.logs going.writes writes (λ all. all)
 
 -- the session broke off where it was to close
 stops_in_closing : (first : Register) (start : Option (List ℕ)) (bytes : List ℕ) (book : Register) (held now : Option (List ℕ)) (lines : Lines) (partial : List ℕ) (end : Option End) →
@@ -194,14 +196,14 @@ stops_in_closing first start bytes book held now lines partial end hears logs wr
     (breaks_closing first bytes lines partial end front.0 hears)
 
 pub stops_in_full : {first : Register} {start : Option (List ℕ)} {bytes line : List ℕ} {book : Register} {held now : Option (List ℕ)} →
-    Going first start bytes line book held → first.pending ≡ None → is_bye line ≡ false → IsFull book → AppendsFront held now (closing (Some end.Full)) →
+    Going first start bytes line book held → is_bye line ≡ false → takes (room_in book) line ≡ false → AppendsFront held now (closing (Some end.Full)) →
     Session first book (bytes ++ 10 ∷ []) start now (Err fault.WriteFailed)
-stops_in_full {first} {start} {bytes} {line} {book} {held} {now} going closed bye full front =
-    stops_in_closing first start (bytes ++ 10 ∷ []) book held now going.lines [] (Some end.Full) (hears_full going closed bye full) going.logs going.writes front
+stops_in_full {first} {start} {bytes} {line} {book} {held} {now} going bye full front =
+    stops_in_closing first start (bytes ++ 10 ∷ []) book held now going.lines [] (Some end.Full) (hears_full going bye full) going.logs going.writes front
 
 -- the line is logged and its reply written
 pub going_on : {first : Register} {start : Option (List ℕ)} {bytes line : List ℕ} {book : Register} {held : Option (List ℕ)} →
-    (new : Register) (now : Option (List ℕ)) (lost : Bool) → Going first start bytes line book held → is_bye line ≡ false → ¬ (IsFull book) →
+    (new : Register) (now : Option (List ℕ)) (lost : Bool) → Going first start bytes line book held → is_bye line ≡ false → takes (room_in book) line ≡ true →
     new ≡ logged book line lost → Appends held now (reply_line book (line, lost)) → Going first start (bytes ++ 10 ∷ []) [] new now
 going_on {first} {start} {bytes} {line} {book} {held} new now lost going bye free is writes =
     let next : List ℕ × Bool = (line, lost) in
@@ -217,7 +219,7 @@ going_on {first} {start} {bytes} {line} {book} {held} new now lost going bye fre
 
 -- the line is logged, and its reply is cut
 pub stops_in_reply : {first : Register} {start : Option (List ℕ)} {bytes line : List ℕ} {book : Register} {held : Option (List ℕ)} →
-    (new : Register) (now : Option (List ℕ)) (lost : Bool) (result : Result End FrontFault) → Going first start bytes line book held → is_bye line ≡ false → ¬ (IsFull book) →
+    (new : Register) (now : Option (List ℕ)) (lost : Bool) (result : Result End FrontFault) → Going first start bytes line book held → is_bye line ≡ false → takes (room_in book) line ≡ true →
     new ≡ logged book line lost → (n : ℕ) × Appends held now (take n (reply_line book (line, lost))) →
     ((lost : List Bool) (written : List ℕ) → BreaksOff first (bytes ++ 10 ∷ []) lost written → Tells first (bytes ++ 10 ∷ []) lost written result) →
     Session first new (bytes ++ 10 ∷ []) start now result
@@ -235,22 +237,31 @@ stops_in_reply {first} {start} {bytes} {line} {book} {held} new now lost result 
 
 -- the line changed nothing, and nothing was written
 stops_unlogged : {first : Register} {start : Option (List ℕ)} {bytes line : List ℕ} {book : Register} {held : Option (List ℕ)} →
-    (new : Register) (result : Result End FrontFault) → (going : Going first start bytes line book held) → is_bye line ≡ false → ¬ (IsFull book) → new ≡ book →
+    (new : Register) (result : Result End FrontFault) → (going : Going first start bytes line book held) → is_bye line ≡ false → takes (room_in book) line ≡ true → new ≡ book →
     Tells first (bytes ++ 10 ∷ []) (marks going.lines) (told first going.lines) result →
     Session first new (bytes ++ 10 ∷ []) start held result
 stops_unlogged {first} {start} {bytes} {line} {book} {held} new result going bye free is tells =
     session_of first start (bytes ++ 10 ∷ []) new held going.lines (line ∷ []) (told first going.lines) result
     (ap (λ (h : Heard). h.lines) (hears_request going bye free)) (is ∙ going.logs) going.writes tells
 
+-- there was no memory for the line, or to see whether there is room for it
 pub stops_memory : {first : Register} {start : Option (List ℕ)} {bytes line : List ℕ} {book : Register} {held : Option (List ℕ)} →
-    (new : Register) → Going first start bytes line book held → is_bye line ≡ false → ¬ (IsFull book) → new ≡ book →
+    (new : Register) → Going first start bytes line book held → is_bye line ≡ false → new ≡ book →
     Session first new (bytes ++ 10 ∷ []) start held (Err fault.Memory)
-stops_memory {first} {start} {bytes} {line} new going bye free is =
-    stops_unlogged new (Err fault.Memory) going bye free is
-    (breaks_between first (bytes ++ 10 ∷ []) going.lines (line ∷ []) (ap (λ (h : Heard). h.lines) (hears_request going bye free)))
+stops_memory {first} {start} {bytes} {line} {book} {held} new going bye is = by_room (takes (room_in book) line) refl
+  where
+    by_room : (test : Bool) → takes (room_in book) line ≡ test → Session first new (bytes ++ 10 ∷ []) start held (Err fault.Memory)
+    by_room true free =
+        stops_unlogged new (Err fault.Memory) going bye free is
+        (breaks_between first (bytes ++ 10 ∷ []) going.lines (line ∷ []) (ap (λ (h : Heard). h.lines) (hears_request going bye free)))
+    by_room false full =
+        let hears = hears_full going bye full in
+        session_of first start (bytes ++ 10 ∷ []) new held going.lines [] (told first going.lines) (Err fault.Memory)
+        (ap (λ (h : Heard). h.lines) hears ∙ sym (append-nil (texts going.lines))) (is ∙ going.logs) going.writes
+        (breaks_between first (bytes ++ 10 ∷ []) going.lines [] (ap (λ (h : Heard). h.lines) hears ∙ sym (append-nil (texts going.lines))))
 
 leaves_run : {first : Register} {start : Option (List ℕ)} {bytes line : List ℕ} {book : Register} {held : Option (List ℕ)} →
-    (going : Going first start bytes line book held) → is_bye line ≡ false → ¬ (IsFull book) → RunsProgram book line →
+    (going : Going first start bytes line book held) → is_bye line ≡ false → takes (room_in book) line ≡ true → RunsProgram book line →
     LeavesRun first (bytes ++ 10 ∷ []) (marks going.lines) (told first going.lines)
 leaves_run {first} {start} {bytes} {line} going bye free runs =
     let lines = going.lines in
@@ -264,12 +275,12 @@ leaves_run {first} {start} {bytes} {line} going bye free runs =
     }
 
 pub stops_closed : {first : Register} {start : Option (List ℕ)} {bytes line : List ℕ} {book : Register} {held : Option (List ℕ)} →
-    (new : Register) → Going first start bytes line book held → is_bye line ≡ false → ¬ (IsFull book) → new ≡ book → RunsProgram book line →
+    (new : Register) → Going first start bytes line book held → is_bye line ≡ false → takes (room_in book) line ≡ true → new ≡ book → RunsProgram book line →
     Session first new (bytes ++ 10 ∷ []) start held (Ok end.Closed)
 stops_closed new going bye free is runs = stops_unlogged new (Ok end.Closed) going bye free is (leaves_run going bye free runs)
 
 pub stops_stranger : {first : Register} {start : Option (List ℕ)} {bytes line : List ℕ} {book : Register} {held : Option (List ℕ)} →
-    (new : Register) → Going first start bytes line book held → is_bye line ≡ false → ¬ (IsFull book) → new ≡ book → RunsProgram book line →
+    (new : Register) → Going first start bytes line book held → is_bye line ≡ false → takes (room_in book) line ≡ true → new ≡ book → RunsProgram book line →
     Session first new (bytes ++ 10 ∷ []) start held (Err fault.Stranger)
 stops_stranger new going bye free is runs = stops_unlogged new (Err fault.Stranger) going bye free is (leaves_run going bye free runs)
 
@@ -279,9 +290,9 @@ hears_piece : {first : Register} {start : Option (List ℕ)} {bytes partial : Li
     (going : Going first start bytes partial book held) (piece : List ℕ) → HasNoEnd piece → length partial + length piece ≤ max_line →
     heard_in first (bytes ++ piece) ≡ at_line (texts going.lines) (partial ++ piece)
 hears_piece {first} {start} {bytes} {partial} going piece clean fits =
-    heard-append (room_of first) bytes piece
-    ∙ ap (λ h. fold (hear (room_of first)) h piece) going.hears
-    ∙ heard-piece (room_of first) (texts going.lines) partial piece clean fits
+    heard-append (room_in first) bytes piece
+    ∙ ap (λ h. fold (hear (room_in first)) h piece) going.hears
+    ∙ heard-piece (room_in first) (texts going.lines) partial piece clean fits
 
 pub going_piece : {first : Register} {start : Option (List ℕ)} {bytes partial : List ℕ} {book : Register} {held : Option (List ℕ)} →
     (piece : List ℕ) → Going first start bytes partial book held → HasNoEnd piece → length partial + length piece ≤ max_line →
@@ -298,7 +309,7 @@ hears_long : {first : Register} {start : Option (List ℕ)} {bytes partial : Lis
     (going : Going first start bytes partial book held) (piece : List ℕ) → HasNoEnd piece → max_line < length partial + length piece →
     (part : List ℕ) × (heard_in first (bytes ++ piece) ≡ record { lines = texts going.lines; partial = part; end = Some end.LongLine })
 hears_long {first} {start} {bytes} {partial} going piece clean long =
-    let room = room_of first in
+    let room = room_in first in
     let far = heard-long room (texts going.lines) partial piece clean going.short long in
     (far.0, heard-append room bytes piece ∙ ap (λ h. fold (hear room) h piece) going.hears ∙ far.1)
 
@@ -329,7 +340,7 @@ stops_at_piece {first} {start} {bytes} {partial} {book} {held} piece going clean
 -- ---- the reply to a line
 
 pub goes_reply : {first : Register} {start : Option (List ℕ)} {bytes line : List ℕ} {book : Register} {held : Option (List ℕ)} →
-    (new : Register) (now : Option (List ℕ)) (r : Result ⊤ Stop) → Going first start bytes line book held → is_bye line ≡ false → ¬ (IsFull book) →
+    (new : Register) (now : Option (List ℕ)) (r : Result ⊤ Stop) → Going first start bytes line book held → is_bye line ≡ false → takes (room_in book) line ≡ true →
     (lost : Bool) × (new ≡ logged book line lost) → OnOk r (Appends held now (last_reply new)) → OnErr r ((n : ℕ) × Appends held now (take n (last_reply new))) →
     IfErr r (λ stop. (stop ≡ WriteFailed) ⊎ (stop ≡ Memory)) → Goes first start (bytes ++ 10 ∷ []) [] new now r
 goes_reply {first} {start} {bytes} {line} {book} {held} new now (Ok done) going bye free is written cut stops =
@@ -346,16 +357,56 @@ goes_reply new now (Err LongLine) going bye free is written cut stops = elim sto
 goes_reply new now (Err Closed) going bye free is written cut stops = elim stops [ inl same ↦ absurd (cc) | inr same ↦ absurd (cc) ]
 goes_reply new now (Err Stranger) going bye free is written cut stops = elim stops [ inl same ↦ absurd (cc) | inr same ↦ absurd (cc) ]
 
+-- ---- a line that was offered to the book
+
+closed_going : {first : Register} {start : Option (List ℕ)} {bytes line : List ℕ} {book : Register} {held : Option (List ℕ)} →
+    Going first start bytes line book held → first.pending ≡ None → book.pending ≡ None
+closed_going {first} going closed = ap (λ (b : Register). b.pending) going.logs ∙ pending-after first going.lines closed
+
+pub offered_full : {first : Register} {start : Option (List ℕ)} {bytes line : List ℕ} {book : Register} {held : Option (List ℕ)} →
+    (new : Register) (now : Option (List ℕ)) (took : Bool) → Going first start bytes line book held → first.pending ≡ None → is_bye line ≡ false →
+    Takes book line took new → took ≡ false → Appends held now (closing (Some end.Full)) → Session first new (bytes ++ 10 ∷ []) start now (Ok end.Full)
+offered_full new now true going closed bye does so writes = absurd (true≢false so)
+offered_full {first} {start} {bytes} {line} {book} new now false going closed bye does so writes =
+    subst (λ b. Session first b (bytes ++ 10 ∷ []) start now (Ok end.Full)) (sym does.1)
+    (stops_full going bye (full-takes book line (closed_going going closed) does.0) writes)
+
+pub offered_full_cut : {first : Register} {start : Option (List ℕ)} {bytes line : List ℕ} {book : Register} {held : Option (List ℕ)} →
+    (new : Register) (now : Option (List ℕ)) (took : Bool) → Going first start bytes line book held → first.pending ≡ None → is_bye line ≡ false →
+    Takes book line took new → took ≡ false → AppendsFront held now (closing (Some end.Full)) → Session first new (bytes ++ 10 ∷ []) start now (Err fault.WriteFailed)
+offered_full_cut new now true going closed bye does so front = absurd (true≢false so)
+offered_full_cut {first} {start} {bytes} {line} {book} new now false going closed bye does so front =
+    subst (λ b. Session first b (bytes ++ 10 ∷ []) start now (Err fault.WriteFailed)) (sym does.1)
+    (stops_in_full going bye (full-takes book line (closed_going going closed) does.0) front)
+
+pub offered_taken : {first : Register} {start : Option (List ℕ)} {bytes line : List ℕ} {book : Register} {held : Option (List ℕ)} →
+    (new : Register) (now : Option (List ℕ)) (took : Bool) (r : Result ⊤ Stop) → Going first start bytes line book held → is_bye line ≡ false →
+    Takes book line took new → took ≡ true → OnOk r (Appends held now (last_reply new)) → OnErr r ((n : ℕ) × Appends held now (take n (last_reply new))) →
+    IfErr r (λ stop. (stop ≡ WriteFailed) ⊎ (stop ≡ Memory)) → Goes first start (bytes ++ 10 ∷ []) [] new now r
+offered_taken {line = line} {book = book} new now true r going bye does so written cut stops =
+    goes_reply new now r going bye (free-takes book line does.0) (does.1, does.2) written cut stops
+offered_taken new now false r going bye does so written cut stops = absurd (true≢false (sym so))
+
+pub offered_closed : {first : Register} {start : Option (List ℕ)} {bytes line : List ℕ} {book : Register} {held : Option (List ℕ)} →
+    (new : Register) → Going first start bytes line book held → is_bye line ≡ false → new ≡ book → WouldRun book line →
+    Session first new (bytes ++ 10 ∷ []) start held (Ok end.Closed)
+offered_closed {line = line} {book = book} new going bye is would = stops_closed new going bye (free-takes book line would.room) is would.runs
+
+pub offered_stranger : {first : Register} {start : Option (List ℕ)} {bytes line : List ℕ} {book : Register} {held : Option (List ℕ)} →
+    (new : Register) → Going first start bytes line book held → is_bye line ≡ false → new ≡ book → WouldRun book line →
+    Session first new (bytes ++ 10 ∷ []) start held (Err fault.Stranger)
+offered_stranger {line = line} {book = book} new going bye is would = stops_stranger new going bye (free-takes book line would.room) is would.runs
+
 -- ---- more bytes behind those in which a session stopped
 
 -- after the end nothing more is heard
 heard_in-ended : (first : Register) (bytes more : List ℕ) (e : End) → (heard_in first bytes).end ≡ Some e → heard_in first (bytes ++ more) ≡ heard_in first bytes
-heard_in-ended first bytes more e is = heard-append (room_of first) bytes more ∙ heard_ended (room_of first) (heard_in first bytes) e more is
+heard_in-ended first bytes more e is = heard-append (room_in first) bytes more ∙ heard_ended (room_in first) (heard_in first bytes) e more is
 
 lines_more : (first : Register) (bytes more : List ℕ) → (extra : List (List ℕ)) × ((heard_in first (bytes ++ more)).lines ≡ (heard_in first bytes).lines ++ extra)
 lines_more first bytes more =
-    let grows = lines_grow (room_of first) (heard_in first bytes) more in
-    (grows.0, ap (λ (h : Heard). h.lines) (heard-append (room_of first) bytes more) ∙ grows.1)
+    let grows = lines_grow (room_in first) (heard_in first bytes) more in
+    (grows.0, ap (λ (h : Heard). h.lines) (heard-append (room_in first) bytes more) ∙ grows.1)
 
 logged_lines-more : (first : Register) (bytes more : List ℕ) (lost : List Bool) → length lost ≤ length (heard_in first bytes).lines →
     logged_lines first (bytes ++ more) lost ≡ logged_lines first bytes lost
@@ -445,6 +496,7 @@ session_more first start bytes more book held stop s =
       lost = s.lost;
       written = s.written;
       few = omega (arith, s.few, ap length grows.1, length-append (heard_in first bytes).lines grows.0);
+      grown = s.grown;
       logs = s.logs ∙ ap (after first) (sym (logged_lines-more first bytes more s.lost s.few));
       writes = s.writes;
       tells = tells_more first bytes more s.lost s.written stop s.few s.tells;

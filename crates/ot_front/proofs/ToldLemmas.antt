@@ -1,14 +1,17 @@
 -- A book after more lines, and the replies to them.
-use Rattle.std.proofs.Common.{◌≡◌, ℕ, suc, ◌+◌, ◌≤◌, ◌<◌, List, [], ◌∷◌, ◌++◌, length, take, drop, refl, sym, ap, ◌∙◌, arith, append_assoc, append-nil, length-append, Bool, true, false, inl, inr}
-use Rattle.std.specs.Prelude.{Option, Some, None, IsSome, ◌↔◌, slice_get}
+use Rattle.std.proofs.Common.{◌≡◌, ℕ, suc, ◌+◌, ◌≤◌, ◌<◌, List, [], ◌∷◌, ◌++◌, length, take, drop, refl, sym, ap, ◌∙◌, arith, append_assoc, append-nil, length-append, Bool, true, false, true≢false}
+use Rattle.std.specs.Prelude.{Some, None, ◌↔◌, slice_get}
 use Rattle.std.proofs.Math.ListN.{length-map, get_or-append, take-append-drop}
 use Rattle.std.proofs.Math.Seq.{get_or-append_seam}
 use Rattle.std.proofs.lemmas.List.{map-append}
 use Rattle.std.proofs.lemmas.Option.{slice_get-get_or, slice_get_within, get_or_from_slice_get}
-use Rattle.ot_book.specs.Books.{Register, logged}
-use Rattle.ot_book.specs.Opening.{IsFull}
+use Rattle.ot_book.specs.Books.{Register, next_number, state_in, logged}
+use Rattle.ot_book.specs.Answers.{is_checkpoint, answer_or_lost}
+use Rattle.ot_book.specs.Room.{Room, room_in, room_after}
+use Rattle.ot_book.proofs.BookLemmas.{logged-by}
+use Rattle.ot_book.proofs.RoomLemmas.{room-logged}
+use Rattle.ot_front.specs.Serving.{Takes}
 use Rattle.ot_front.specs.Told.{Lines, texts, marks, marked, after, told, reply_line}
-use Rattle.ot_front.specs.Session.{room_of}
 
 -- ---- lines and marks
 
@@ -62,42 +65,41 @@ told-take book lines n =
     let all = ap (told book) (sym (take-append-drop n lines)) ∙ told-append book (take n lines) (drop n lines) in
     omega (arith, ap length all, length-append (told book (take n lines)) (told (after book (take n lines)) (drop n lines)))
 
-pub limits-after : (book : Register) (lines : Lines) → (after book lines).limits ≡ book.limits
-limits-after book [] = refl
-limits-after book (l ∷ lines) = limits-after (logged book l.0 l.1) lines
+-- the room after lines is counted by the lines alone
+pub room-after : (book : Register) (lines : Lines) → room_in (after book lines) ≡ room_after (room_in book) (texts lines)
+room-after book [] = refl
+room-after book (l ∷ lines) = room-after (logged book l.0 l.1) lines ∙ ap (λ r. room_after r (texts lines)) (room-logged book l.0 l.1)
 
-pub length-log-after : (book : Register) (lines : Lines) → length (after book lines).log ≡ length book.log + length lines
-length-log-after book [] = omega arith
-length-log-after book (l ∷ lines) =
-    let one : length (logged book l.0 l.1).log ≡ length book.log + 1 = length-append book.log (_ ∷ []) in
-    omega (arith, one, length-log-after (logged book l.0 l.1) lines)
+-- each line has a number of its own
+pub next-after : (book : Register) (lines : Lines) → next_number (after book lines) ≡ next_number book + length lines
+next-after book [] = omega arith
+next-after book (l ∷ lines) =
+    let one : next_number (logged book l.0 l.1) ≡ next_number book + 1 = ap (λ (r : Room). r.next) (room-logged book l.0 l.1) in
+    omega (arith, one, next-after (logged book l.0 l.1) lines)
 
--- a line that is logged makes the log longer
-pub log_grows : (book new : Register) (line : List ℕ) → (lost : Bool) × (new ≡ logged book line lost) → length book.log ≤ length new.log
-log_grows book new line is =
-    let one : length (logged book line is.0).log ≡ length book.log + 1 = length-append book.log (_ ∷ []) in
-    omega (arith, one, ap (λ (b : Register). length b.log) is.1)
+-- a line that is taken makes the numbers grow
+pub number-grows : (book new : Register) (line : List ℕ) (took : Bool) → Takes book line took new → next_number book ≤ next_number new
+number-grows book new line true is =
+    let one : next_number (logged book line is.1) ≡ next_number book + 1 = ap (λ (r : Room). r.next) (room-logged book line is.1) in
+    omega (arith, one, ap next_number is.2)
+number-grows book new line false is = omega (arith, ap next_number is.1)
+
+-- a log has the line that it took last
+pub some-logged : (book : Register) (line : List ℕ) (lost : Bool) → 0 < length (logged book line lost).log
+some-logged book line lost =
+    logged-by (λ b. 0 < length b.log) book line lost (is_checkpoint line) refl (λ _. omega arith)
+    (λ _. omega (arith, length-append book.log ((line, (answer_or_lost book.limits (state_in book) line lost).0) ∷ [])))
+
+pub some-taken : (book new : Register) (line : List ℕ) (took : Bool) → Takes book line took new → took ≡ true → 0 < length new.log
+some-taken book new line true is so = omega (arith, some-logged book line is.1, ap (λ (b : Register). length b.log) is.2)
+some-taken book new line false is so = absurd (true≢false (sym so))
+
+pending-logged : (book : Register) (line : List ℕ) (lost : Bool) → (logged book line lost).pending ≡ None
+pending-logged book line lost = logged-by (λ b. b.pending ≡ None) book line lost (is_checkpoint line) refl (λ _. refl) (λ _. refl)
 
 pub pending-after : (book : Register) (lines : Lines) → book.pending ≡ None → (after book lines).pending ≡ None
 pending-after book [] closed = closed
-pending-after book (l ∷ lines) closed = pending-after (logged book l.0 l.1) lines refl
-
-some_none : {A : Type 0} (o : Option A) → o ≡ None → IsSome o → ⊥
-some_none None none some = cc
-some_none (Some x) none some = cc
-
--- the log after the lines is full exactly where it had room for no more
-pub full-after : (book : Register) (lines : Lines) → book.pending ≡ None → IsFull (after book lines) → room_of book ≤ length lines
-full-after book lines closed (inl limit) =
-    let limits : (after book lines).limits.log ≡ book.limits.log = ap (λ l. l.log) (limits-after book lines) in
-    omega (arith, limit, limits, length-log-after book lines)
-full-after book lines closed (inr some) = let none = pending-after book lines closed in absurd (some_none _ none some)
-
-pub free-after : (book : Register) (lines : Lines) → ¬ (IsFull (after book lines)) → length lines < room_of book
-free-after book lines free =
-    let limits : (after book lines).limits.log ≡ book.limits.log = ap (λ l. l.log) (limits-after book lines) in
-    let below : (after book lines).limits.log ≤ length (after book lines).log → ⊥ = λ le. free (inl le) in
-    omega (arith, below, limits, length-log-after book lines)
+pending-after book (l ∷ lines) closed = pending-after (logged book l.0 l.1) lines (pending-logged book l.0 l.1)
 
 -- a test that answered no
 pub not_so : (P : Type 0) (test : Bool) → ((test ≡ true) ↔ P) → test ≡ false → ¬ P

@@ -6,7 +6,7 @@ use Rattle.serde_json.specs.Find.{as_array}
 use Rattle.serde_json.specs.Written.{compact_text}
 use Rattle.ot_program.specs.Names.{is_word}
 use Rattle.ot_book.specs.Answers.{value_of}
-use Rattle.ot_book.specs.Books.{Register, number_at}
+use Rattle.ot_book.specs.Books.{Register, next_number}
 use Rattle.ot_book.specs.Replies.{nat}
 use Rattle.ot_book.specs.Requests.{name_in}
 use Rattle.ot_front.specs.Device.{AppendsFront}
@@ -93,10 +93,6 @@ refusal_text NotJson = codes "[\"err\",0,410]" ++ 10 ∷ []
 refusal_text NotGreeting = codes "[\"err\",0,411]" ++ 10 ∷ []
 refusal_text Unknown = codes "[\"err\",0,404]" ++ 10 ∷ []
 refusal_text Busy = codes "[\"err\",0,409]" ++ 10 ∷ []
-
--- the number of the book's next request
-abbrev pub next_number : Register → ℕ
-next_number book = number_at book (length book.log)
 
 -- `["hello", name, n]`, n being the number of the next request
 abbrev pub hello_json : Register → Data

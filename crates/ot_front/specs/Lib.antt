@@ -9,3 +9,4 @@ pub mod Desks
 pub mod FirstLines
 pub mod Greetings
 pub mod Connections
+pub mod Racks

@@ -1,9 +1,10 @@
 -- A session in the middle: between two bytes, and between two reads.
-use Rattle.std.specs.Prelude.{◌≡◌, ◌≤◌, ℕ, List, length, Option, None, Result, Ok, Err, ⊤}
+use Rattle.std.specs.Prelude.{◌≡◌, ◌≤◌, ℕ, List, length, Bool, true, false, Option, None, Result, Ok, Err, ⊤}
 use Rattle.std.specs.Io.KnownBytes.{Appends, Consumes}
-use Rattle.ot_book.specs.Books.{Register}
+use Rattle.ot_book.specs.Books.{Register, logged}
+use Rattle.ot_book.specs.Opening.{IsFullFor}
 use Rattle.ot_front.specs.Heard.{max_line}
-use Rattle.ot_front.specs.Told.{Lines, texts, after, told}
+use Rattle.ot_front.specs.Told.{Lines, texts, after, told, RunsProgram}
 use Rattle.ot_front.specs.Session.{heard_in, Session}
 use Rattle.ot_front.specs.declared.fault.End.{End}
 use Rattle.ot_front.specs.declared.fault.End.TheVariants as end
@@ -45,3 +46,13 @@ pub record Serving (first : Register) (ahead left start : Option (List ℕ)) (pa
   pub bytes : List ℕ
   pub reads : Consumes ahead left bytes
   pub going : Going first start bytes partial book held
+
+-- the line is logged, or the book has no room for it
+abbrev pub Takes : Register → List ℕ → Bool → Register → Type 0
+Takes old line true new = (¬ (IsFullFor old line)) × (lost : Bool) × (new ≡ logged old line lost)
+Takes old line false new = IsFullFor old line × (new ≡ old)
+
+-- it would run a program
+pub record WouldRun (old : Register) (line : List ℕ) : Type 0 where
+  pub room : ¬ (IsFullFor old line)
+  pub runs : RunsProgram old line

@@ -1,7 +1,8 @@
 -- What a session writes, and what it leaves, is a function of what it reads.
-use Rattle.std.specs.Prelude.{◌≡◌, ◌≤◌, ◌⊎◌, ℕ, ◌-◌, List, [], ◌∷◌, ◌++◌, length, take, slice_get, codes, Bool, Option, Some, None, Result, Ok, Err}
+use Rattle.std.specs.Prelude.{◌≡◌, ◌≤◌, ◌⊎◌, ℕ, ◌+◌, ◌-◌, List, [], ◌∷◌, ◌++◌, length, take, slice_get, codes, Bool, Option, Some, None, Result, Ok, Err}
 use Rattle.std.specs.Io.KnownBytes.{Appends, Consumes}
-use Rattle.ot_book.specs.Books.{Register}
+use Rattle.ot_book.specs.Books.{Register, next_number}
+use Rattle.ot_book.specs.Room.{room_in}
 use Rattle.ot_front.specs.Heard.{Heard, heard}
 use Rattle.ot_front.specs.Told.{Lines, marked, after, told, RunsProgram}
 use Rattle.ot_front.specs.declared.fault.End.{End}
@@ -15,13 +16,9 @@ closing (Some Full) = codes "[\"full\"]" ++ 10 ∷ []
 closing (Some LongLine) = codes "[\"long\"]" ++ 10 ∷ []
 closing end = []
 
--- how many lines the log has room for
-abbrev pub room_of : Register → ℕ
-room_of book = book.limits.log - length book.log
-
 -- what a session hears in the bytes
 abbrev pub heard_in : Register → List ℕ → Heard
-heard_in book bytes = heard (room_of book) bytes
+heard_in book bytes = heard (room_in book) bytes
 
 -- What a session writes: the replies to the lines that it hears in the bytes, and then how it closes.
 -- Beside the first lines stands whether they are answered for want of memory.
@@ -67,12 +64,14 @@ Tells book bytes lost written (Err Memory) = BreaksOff book bytes lost written
 Tells book bytes lost written (Err SocketFailed) = ⊥
 Tells book bytes lost written (Err fault) = TellsAll book bytes lost written None
 
--- A session over bytes: the first of the lines that it hears are logged, and so much of its text is
--- written as its result tells.
+-- A session over bytes: the first of the lines that it hears are logged, as many as the number of the next request
+-- has grown by, and so much of its text is written as its result tells. Of lines that a checkpoint dropped from the
+-- log what was written tells which were answered for want of memory: no other reply has that text.
 pub record Session (old new : Register) (bytes : List ℕ) (start held : Option (List ℕ)) (result : Result End FrontFault) : Type 0 where
   pub lost : List Bool
   pub written : List ℕ
   pub few : length lost ≤ length (heard_in old bytes).lines
+  pub grown : next_number new ≡ next_number old + length lost
   pub logs : new ≡ after old (logged_lines old bytes lost)
   pub writes : Appends start held written
   pub tells : Tells old bytes lost written result

@@ -1,12 +1,10 @@
 //! One line of a session: the book takes it, and its reply is written.
-ghost use Rattle.std.specs.Prelude.{◌≡◌, ◌≢◌, ◌<◌, ◌⊎◌, ℕ, Bool, None, length, take, string_bytes, IfOk, IfErr, OnOk, OnErr};
+ghost use Rattle.std.specs.Prelude.{◌≡◌, ◌≢◌, ◌<◌, ◌⊎◌, ℕ, None, length, take, string_bytes, IfOk, IfErr, OnOk, OnErr};
 ghost use Rattle.std.specs.Io.KnownBytes.{Appends};
-ghost use Rattle.ot_book.specs.Books.{logged};
-ghost use Rattle.ot_book.specs.Opening.{IsFull};
 ghost use Rattle.ot_book.specs.declared.executor.NotDone.TheVariants as not_done;
 ghost use Rattle.ot_front.specs.Device.{count_after};
-ghost use Rattle.ot_front.specs.Told.{last_reply, RunsProgram};
-ghost use Rattle.ot_front.specs.Serving.{failed_writes};
+ghost use Rattle.ot_front.specs.Told.{last_reply};
+ghost use Rattle.ot_front.specs.Serving.{failed_writes, Takes, WouldRun};
 ghost use Rattle.ot_front.specs.declared.stop.Stop.TheVariants.{WriteFailed, Memory};
 
 use crate::device::Sink;
@@ -15,35 +13,33 @@ use crate::whole::write_whole;
 use ot_book::{Book, Executor, NotDone, Opened, reply_text};
 use std::alloc::{AllocError, Global};
 
-/// Takes a line as the next request and performs it whole. Where there is no pool to run on, or the
-/// pool doesn't know the tenant, or memory ran out before the reply's place was reserved, the book
-/// is as before.
+/// Takes a line as the next request and performs it whole, where the book has room for it. Where there
+/// is no pool to run on, or the pool doesn't know the tenant, or memory ran out before the reply's place
+/// was reserved, the book is as before.
 pub(crate) fn answer<E: Executor>(
     alloc: Global,
     book: &mut Book,
     executor: &mut E,
     line: &[u8],
-) -> Result<(), NotDone>
-    requires closed { book.old.pending ≡ None }
-    requires free { ¬ (IsFull book.old) }
-    ensures logged { OnOk result ((lost : Bool) × (book.new ≡ logged book.old line.now lost)) }
+) -> Result<bool, NotDone>
+    ensures takes { IfOk result (λ took. Takes book.old line.now took book.new) }
     ensures unlogged { OnErr result (book.new ≡ book.old) }
-    ensures runs { IfErr result (λ why. why ≢ not_done.Memory → RunsProgram book.old line.now) }
+    ensures runs { IfErr result (λ why. why ≢ not_done.Memory → WouldRun book.old line.now) }
 {
     let Ok(opened) = book.open(alloc, line) else {
         return Err(NotDone::Memory);
     };
     match opened {
-        Opened::Full => unreachable!(),
-        Opened::Answered => Ok(()),
+        Opened::Full => Ok(false),
+        Opened::Answered => Ok(true),
         Opened::ToRun(spec) => match executor.perform(alloc, &spec) {
             Ok(outcome) => {
                 book.close(spec, outcome);
-                Ok(())
+                Ok(true)
             }
             Err(NotDone::Memory) => {
                 book.close_refused(spec);
-                Ok(())
+                Ok(true)
             }
             Err(NotDone::Closed) => {
                 book.forget(spec);

@@ -1,11 +1,12 @@
 //! The greeting of a connection: its first line names the tenant, whose book is taken from the desk.
-ghost use Rattle.std.specs.Prelude.{◌≡◌, ◌≢◌, ◌≤◌, ℕ, None, Some, Err, option_map, option_and_then, IfOk, IfErr, IfSome};
+ghost use Rattle.std.specs.Prelude.{◌≡◌, ◌≢◌, ◌≤◌, ℕ, None, Some, Err, option_map, option_and_then, IfOk, IfErr, IfSome, OnOk, OnErr};
 ghost use Rattle.serde_json.specs.Find.{as_array};
 ghost use Rattle.serde_json.specs.View.{view, items_view};
 ghost use Rattle.ot_book.specs.Answers.{value_of};
 ghost use Rattle.ot_book.specs.Requests.{name_in};
 ghost use Rattle.ot_front.specs.Device.{next_count, count_after};
 ghost use Rattle.ot_front.specs.Greetings.{hello_of, greeting_of, hello_text, refusal_text, Writes, Answers, Greets, IsGiven, IsRefused};
+ghost use Rattle.ot_front.specs.Racks.{with_taken, with_laid, Hands};
 ghost use Rattle.ot_front.specs.declared.fault.FrontFault.TheVariants.{ReadFailed, WriteFailed, Memory};
 ghost use Rattle.ot_front.specs.declared.refusal.Refusal.TheVariants.{NotJson, NotGreeting};
 
@@ -13,6 +14,7 @@ use crate::desk::{Desk, DeskFault};
 use crate::device::{Sink, Source};
 use crate::fault::FrontFault;
 use crate::first_line::{FirstLine, MAX_READ, read_first_line};
+use crate::rack::{OnDesk, Rack};
 use crate::refusal::Refusal;
 use crate::whole::write_whole;
 use json::Writer;
@@ -42,11 +44,32 @@ pub fn greet<R: Source, W: Sink, T: Wait>(
     ensures write_failed { result ≡ Err WriteFailed → W.failures sink.new ≡ next_count (W.failures sink.old) }
     ensures write_worked { result ≢ Err WriteFailed → W.failures sink.new ≡ W.failures sink.old }
 {
+    greet_from(alloc, &mut OnDesk { rt, desk }, source, sink)
+}
+
+/// Greets for any rack of books.
+pub(crate) fn greet_from<B: Rack, R: Source, W: Sink>(
+    alloc: Global,
+    rack: &mut B,
+    source: &mut R,
+    sink: &mut W,
+) -> Result<Option<Book>, FrontFault>
+    ensures greets { Greets (B.names rack.old) (R.ahead source.old) (R.ahead source.new) (R.ends source.new ≡ next_count (R.ends source.old))
+        (W.contents sink.old) (W.contents sink.new) result }
+    ensures names { B.names rack.new ≡ B.names rack.old }
+    ensures hands { Hands (B.moves rack.old) (B.moves rack.new) result }
+    ensures closed { IfOk result (λ given. IfSome given (λ book. book.pending ≡ None)) }
+    ensures reads { (k : ℕ) × (k ≤ 65) × (R.reads source.new ≡ count_after k (R.reads source.old)) }
+    ensures read_failed { result ≡ Err ReadFailed → R.failures source.new ≡ next_count (R.failures source.old) }
+    ensures read_worked { result ≢ Err ReadFailed → R.failures source.new ≡ R.failures source.old }
+    ensures write_failed { result ≡ Err WriteFailed → W.failures sink.new ≡ next_count (W.failures sink.old) }
+    ensures write_worked { result ≢ Err WriteFailed → W.failures sink.new ≡ W.failures sink.old }
+{
     let Ok(mut line) = Vec::with_capacity(alloc, MAX_READ) else {
         return Err(FrontFault::Memory);
     };
     match read_first_line(source, &mut line) {
-        Ok(FirstLine::Whole) => answer_line(rt, alloc, desk, &line, sink),
+        Ok(FirstLine::Whole) => answer_line(alloc, rack, &line, sink),
         Ok(FirstLine::TooLong) => refuse(Refusal::NotGreeting, sink),
         Ok(FirstLine::Cut) => Ok(None),
         Err(_) => Err(FrontFault::ReadFailed),
@@ -54,20 +77,21 @@ pub fn greet<R: Source, W: Sink, T: Wait>(
 }
 
 /// Answers a whole first line.
-fn answer_line<W: Sink, T: Wait>(
-    rt: &T,
+fn answer_line<B: Rack, W: Sink>(
     alloc: Global,
-    desk: &Desk,
+    rack: &mut B,
     line: &[u8],
     sink: &mut W,
 ) -> Result<Option<Book>, FrontFault>
-    ensures answers { Answers desk.now (greeting_of line.now) (W.contents sink.old) (W.contents sink.new) result }
+    ensures answers { Answers (B.names rack.old) (greeting_of line.now) (W.contents sink.old) (W.contents sink.new) result }
+    ensures names { B.names rack.new ≡ B.names rack.old }
+    ensures hands { Hands (B.moves rack.old) (B.moves rack.new) result }
     ensures closed { IfOk result (λ given. IfSome given (λ book. book.pending ≡ None)) }
     ensures write_failed { result ≡ Err WriteFailed → W.failures sink.new ≡ next_count (W.failures sink.old) }
     ensures write_worked { result ≢ Err WriteFailed → W.failures sink.new ≡ W.failures sink.old }
 {
-    match find_book(rt, alloc, desk, line) {
-        Ok(book) => welcome(rt, alloc, desk, book, sink),
+    match find_book(alloc, rack, line) {
+        Ok(book) => welcome(alloc, rack, book, sink),
         Err(NoBook::Refused(why)) => refuse(why, sink),
         Err(NoBook::Memory) => Err(FrontFault::Memory),
     }
@@ -81,16 +105,19 @@ enum NoBook {
 }
 
 /// The book of the tenant that a line names.
-fn find_book<T: Wait>(rt: &T, alloc: Global, desk: &Desk, line: &[u8]) -> Result<Book, NoBook>
-    ensures given { IfOk result (λ book. IsGiven desk.now (greeting_of line.now) book) }
+fn find_book<B: Rack>(alloc: Global, rack: &mut B, line: &[u8]) -> Result<Book, NoBook>
+    ensures given { IfOk result (λ book. IsGiven (B.names rack.old) (greeting_of line.now) book) }
     ensures closed { IfOk result (λ book. book.pending ≡ None) }
-    ensures refused { IfErr result (λ none. (why : Refusal) → none ≡ NoBook.Refused why → IsRefused desk.now (greeting_of line.now) why) }
+    ensures refused { IfErr result (λ none. (why : Refusal) → none ≡ NoBook.Refused why → IsRefused (B.names rack.old) (greeting_of line.now) why) }
+    ensures names { B.names rack.new ≡ B.names rack.old }
+    ensures taken { IfOk result (λ book. B.moves rack.new ≡ with_taken book (B.moves rack.old)) }
+    ensures untaken { OnErr result (B.moves rack.new ≡ B.moves rack.old) }
 {
     let value = read_line(alloc, line)?;
     let Some(name) = read_greeting(&value) else {
         return Err(NoBook::Refused(Refusal::NotGreeting));
     };
-    match desk.take(rt, name) {
+    match rack.take(name) {
         Ok(book) => Ok(book),
         Err(DeskFault::Unknown) => Err(NoBook::Refused(Refusal::Unknown)),
         Err(DeskFault::Busy) => Err(NoBook::Refused(Refusal::Busy)),
@@ -165,14 +192,16 @@ fn refuse<W: Sink>(why: Refusal, sink: &mut W) -> Result<Option<Book>, FrontFaul
 }
 
 /// Tells the tenant that it may begin, and gives its book. Where that fails the book is laid back.
-fn welcome<W: Sink, T: Wait>(
-    rt: &T,
+fn welcome<B: Rack, W: Sink>(
     alloc: Global,
-    desk: &Desk,
+    rack: &mut B,
     book: Book,
     sink: &mut W,
 ) -> Result<Option<Book>, FrontFault>
     requires { book.pending ≡ None }
+    ensures names { B.names rack.new ≡ B.names rack.old }
+    ensures kept { OnOk result (B.moves rack.new ≡ B.moves rack.old) }
+    ensures laid { OnErr result (B.moves rack.new ≡ with_laid book (B.moves rack.old)) }
     ensures writes { Writes (W.contents sink.old) (W.contents sink.new) (hello_text book) result }
     ensures given { IfOk result (λ given. given ≡ Some book) }
     ensures write_failed { result ≡ Err WriteFailed → W.failures sink.new ≡ next_count (W.failures sink.old) }
@@ -181,7 +210,7 @@ fn welcome<W: Sink, T: Wait>(
     match say_hello(alloc, &book, sink) {
         Ok(()) => Ok(Some(book)),
         Err(fault) => {
-            let _ = desk.give_back(rt, book);
+            rack.lay_back(book);
             Err(fault)
         }
     }

@@ -11,6 +11,7 @@ pub mod fault;
 mod first_line;
 pub mod greeting;
 mod line;
+mod rack;
 pub mod reader;
 mod refusal;
 pub mod session;

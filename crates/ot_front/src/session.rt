@@ -1,7 +1,7 @@
 //! A session from bytes to bytes: lines come in, one reply goes out for each.
 ghost use Rattle.std.specs.Prelude.{◌≡◌, ◌≢◌, ◌++◌, ◌∷◌, ◌<◌, ◌≤◌, [], ℕ, List, Option, None, Ok, Err, length};
 ghost use Rattle.std.specs.Io.KnownBytes.{IsAtEnd};
-ghost use Rattle.ot_book.specs.Books.{Register};
+ghost use Rattle.ot_book.specs.Books.{Register, next_number};
 ghost use Rattle.ot_front.specs.Device.{next_count, count_after};
 ghost use Rattle.ot_front.specs.Heard.{HasNoEnd};
 ghost use Rattle.ot_front.specs.Session.{Serves};
@@ -108,7 +108,7 @@ fn take_chunk<E: Executor, W: Sink>(
     ensures goes { (first : Register) (start : Option (List ℕ)) (bytes : List ℕ) → first.pending ≡ None →
         Going first start bytes partial.old.items book.old (W.contents sink.old) →
         Goes first start (bytes ++ chunk.now) partial.new.items book.new (W.contents sink.new) result }
-    ensures grows { length book.old.log ≤ length book.new.log }
+    ensures grows { next_number book.old ≤ next_number book.new }
     ensures failures { W.failures sink.new ≡ count_after (failed_writes result) (W.failures sink.old) }
 {
     let mut rest = chunk;
@@ -136,7 +136,7 @@ fn take_last_piece<E: Executor, W: Sink>(
     ensures goes { (first : Register) (start : Option (List ℕ)) (bytes : List ℕ) → first.pending ≡ None →
         Going first start bytes partial.old.items book.old (W.contents sink.old) →
         Goes first start ((bytes ++ piece.now) ++ 10 ∷ []) partial.new.items book.new (W.contents sink.new) result }
-    ensures grows { length book.old.log ≤ length book.new.log }
+    ensures grows { next_number book.old ≤ next_number book.new }
     ensures failures { W.failures sink.new ≡ count_after (failed_writes result) (W.failures sink.old) }
 {
     if let Err(stop) = take_piece(sink, partial, piece) {
@@ -178,22 +178,23 @@ fn take_line<E: Executor, W: Sink>(
     ensures goes { (first : Register) (start : Option (List ℕ)) (bytes : List ℕ) → first.pending ≡ None →
         Going first start bytes line.now book.old (W.contents sink.old) →
         Goes first start (bytes ++ 10 ∷ []) [] book.new (W.contents sink.new) result }
-    ensures grows { length book.old.log ≤ length book.new.log }
+    ensures grows { next_number book.old ≤ next_number book.new }
     ensures failures { W.failures sink.new ≡ count_after (failed_writes result) (W.failures sink.old) }
 {
     if is_bye(line) {
         return Err(Stop::Bye);
     }
-    if book.is_full() {
-        return match write_whole(sink, b"[\"full\"]\n".as_slice()) {
-            Ok(()) => Err(Stop::Full),
-            Err(_) => Err(Stop::WriteFailed),
-        };
+    let took = match answer(alloc, book, executor, line) {
+        Ok(took) => took,
+        Err(NotDone::Memory) => return Err(Stop::Memory),
+        Err(NotDone::Closed) => return Err(Stop::Closed),
+        Err(NotDone::Stranger) => return Err(Stop::Stranger),
+    };
+    if took {
+        return write_last(alloc, book, sink);
     }
-    match answer(alloc, book, executor, line) {
-        Ok(()) => write_last(alloc, book, sink),
-        Err(NotDone::Memory) => Err(Stop::Memory),
-        Err(NotDone::Closed) => Err(Stop::Closed),
-        Err(NotDone::Stranger) => Err(Stop::Stranger),
+    match write_whole(sink, b"[\"full\"]\n".as_slice()) {
+        Ok(()) => Err(Stop::Full),
+        Err(_) => Err(Stop::WriteFailed),
     }
 }
