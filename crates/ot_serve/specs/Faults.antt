@@ -4,6 +4,8 @@ use Rattle.ot_serve.specs.declared.fault.Fault.{Fault}
 use Rattle.ot_serve.specs.declared.fault.Fault.TheVariants as of
 use Rattle.ot_front.specs.declared.fault.FrontFault.{FrontFault}
 use Rattle.ot_front.specs.declared.fault.FrontFault.TheVariants as front
+use Rattle.ot_pool.specs.declared.crew.NotStarted.{NotStarted}
+use Rattle.ot_pool.specs.declared.crew.NotStarted.TheVariants as start
 
 -- the line on standard error
 abbrev pub line_of : Fault → List ℕ
@@ -39,3 +41,8 @@ fault_of front.Memory = of.Memory
 fault_of front.Stranger = of.Stranger
 fault_of front.TooManyTurns = of.TooManyReads
 fault_of front.SocketFailed = of.SocketFailed
+
+-- the program's fault where not every worker was started
+abbrev pub fault_of_start : NotStarted → Fault
+fault_of_start start.Memory = of.Memory
+fault_of_start start.NoThread = of.NoThread

@@ -7,13 +7,12 @@ use crate::door::Door;
 use crate::fault::Fault;
 use crate::serve::Serve;
 use ot_front::{Desk, listen};
-use ot_pool::{OpenGate, Pool, Usage, close, join_all, start, totals};
+use ot_pool::{OpenGate, Pool, Usage, staffed, totals};
 use std::alloc::Global;
 use std::fs::Files;
 use std::sync::Wait;
 use std::sync::ledger::{Blank, Ledger, Share};
-use std::thread;
-use std::thread::{Scope, Threads};
+use std::thread::Threads;
 
 /// Serves until as many connections came as are to come, and tells the units that were settled.
 pub(crate) fn run<L: Ledger + Send + Sync, R: Threads + Wait + Sync + Files>(
@@ -63,47 +62,18 @@ fn serve_all<L: Ledger + Send + Sync, R: Threads + Wait + Sync + Files>(
     ensures parts { IfOk result (λ back. sum_by (λ s. s.parts) back.items ≡ vec_len back) }
     ensures late { IfErr result IsLate }
 {
-    thread::scope(
-        thread::scope_env(),
-        rt,
-        |scope| -> Result<Vec<Share<L>>, Fault>
-            requires { (IsInRange asked.now) × (vec_len shares ≤ 16) × All (λ s. s.parts ≡ 1) shares.items }
-            ensures { IfOk result (λ back. (vec_len back ≡ vec_len shares) × (sum_by (λ s. s.parts) back.items ≡ vec_len back))
-                × IfErr result IsLate }
-        { serve_within(scope, rt, alloc, pool, shares, asked, desk, door) },
-    )
-}
-
-/// The same, with the workers in threads of this scope.
-fn serve_within<'s, E, L: Ledger + Send + Sync, R: Threads + Wait + Sync + Files>(
-    scope: &Scope<'s, E>,
-    rt: &'s R,
-    alloc: Global,
-    pool: &'s Pool<L>,
-    shares: Vec<Share<L>>,
-    asked: &Serve,
-    desk: &Desk,
-    door: &Door,
-) -> Result<Vec<Share<L>>, Fault>
-    requires range { IsInRange asked.now }
-    requires few { vec_len shares ≤ 16 }
-    requires one { All (λ s. s.parts ≡ 1) shares.items }
-    ensures each { IfOk result (λ back. vec_len back ≡ vec_len shares) }
-    ensures parts { IfOk result (λ back. sum_by (λ s. s.parts) back.items ≡ vec_len back) }
-    ensures late { IfErr result IsLate }
-{
-    let (threads, all_started) = start(scope, rt, alloc, pool, OpenGate, shares);
-    let served = if all_started {
-        serve_connections(rt, alloc, pool, asked, desk, door)
-    } else {
-        Err(Fault::NoThread)
-    };
-    close(rt, pool);
-    let back = join_all(rt, alloc, threads);
-    served?;
-    match back {
-        Ok(shares) => Ok(shares),
-        Err(_) => Err(Fault::Memory),
+    let serve = || -> Result<(), Fault>
+        requires { IsInRange asked.now }
+        ensures { IfErr result IsLate }
+    { serve_connections(rt, alloc, pool, asked, desk, door) };
+    let (served, back) = staffed(rt, alloc, pool, OpenGate, shares, serve);
+    match served {
+        Ok(Ok(())) => match back {
+            Ok(shares) => Ok(shares),
+            Err(_) => Err(Fault::Memory),
+        },
+        Ok(Err(fault)) => Err(fault),
+        Err(why) => Err(Fault::from(why)),
     }
 }
 

@@ -1,8 +1,9 @@
 //! What the program tells of a fault, and the status that it ends with.
 ghost use Rattle.std.specs.Prelude.{◌≡◌};
-ghost use Rattle.ot_serve.specs.Faults.{line_of, status_of, fault_of};
+ghost use Rattle.ot_serve.specs.Faults.{line_of, status_of, fault_of, fault_of_start};
 
 use ot_front::FrontFault;
+use ot_pool::NotStarted;
 
 /// What went wrong, one variant for each line that the program may print.
 #[derive(Clone, Copy, Debug, PartialEq, Eq)]
@@ -30,6 +31,17 @@ impl From<FrontFault> for Fault {
             FrontFault::Stranger => Fault::Stranger,
             FrontFault::TooManyTurns => Fault::TooManyReads,
             FrontFault::SocketFailed => Fault::SocketFailed,
+        }
+    }
+}
+
+impl From<NotStarted> for Fault {
+    ghost from_gives = { λ why f. f ≡ fault_of_start why };
+
+    fn from(why: NotStarted) -> Fault {
+        match why {
+            NotStarted::Memory => Fault::Memory,
+            NotStarted::NoThread => Fault::NoThread,
         }
     }
 }

@@ -54,7 +54,7 @@ made p name = record { names = p.names ++ name ∷ []; world = None }
 
 -- the replies that a tenant was given
 abbrev pub replies_at : Scene → ℕ → List (ℕ × Told)
-replies_at s t = unwrap_or (option_map (λ a. replies_of a.book) (slice_get s.accounts t)) []
+replies_at s t = unwrap_or (option_map replies_of (slice_get s.accounts t)) []
 
 -- how many, as far as a `usize` can tell
 abbrev pub count_at : Scene → ℕ → ℕ
@@ -93,7 +93,7 @@ usage_text line t s = text_of answer.BadLine
 -- a line over a world
 abbrev pub PlaysIn : List (List ℕ) → Line → Scene → List ℕ → Scene → Type 0
 PlaysIn names line.Drain old text new =
-    Drains old new × AllAnswered new × (text ≡ text_of answer.Drain ++ news names 0 old new ++ text_of answer.Drained)
+    Drains old new × AllAnswered new × (text ≡ news names 0 old new ++ text_of answer.Drained)
 PlaysIn names (line.Usage name) old text new = (text ≡ usage_text (line.Usage name) (place_of names name.now) old) × (new ≡ old)
 PlaysIn names line old text new = Happens line (event_of names line) old text new
 

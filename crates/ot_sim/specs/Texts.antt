@@ -15,7 +15,6 @@ text_of (of.Started w t task) = codes "start " ++ decimal w ++ codes " " ++ t.no
 text_of (of.Finished w units) = codes "finish " ++ decimal w ++ codes " units " ++ decimal units ++ codes "\n"
 text_of (of.FinishedFailed w) = codes "finish " ++ decimal w ++ codes " failed\n"
 text_of (of.Aborted t) = codes "abort " ++ t.now ++ codes "\n"
-text_of of.Drain = codes "drain\n"
 text_of of.Drained = codes "drained\n"
 text_of (of.Usage t units total) = codes "usage " ++ t.now ++ codes " " ++ decimal units ++ codes " of " ++ decimal total ++ codes "\n"
 text_of of.NotNow = codes "notnow\n"

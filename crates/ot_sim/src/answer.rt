@@ -27,8 +27,6 @@ pub enum Answer<'a> {
     FinishedFailed(u32),
     /// The tenant's job fails, or has failed.
     Aborted(&'a str),
-    /// All that can happen is going to happen.
-    Drain,
     /// Nothing more can happen.
     Drained,
     /// The units that were settled for the tenant, of those for all.
@@ -68,7 +66,6 @@ pub fn write_answer(answer: Answer<'_>, out: &mut String) -> Result<(), AllocErr
             out,
         ),
         Answer::Aborted(tenant) => write_words("abort ", tenant, "\n", out),
-        Answer::Drain => out.push_str("drain\n"),
         Answer::Drained => out.push_str("drained\n"),
         Answer::Usage(tenant, units, total) => {
             write_words("usage ", tenant, " ", out)?;

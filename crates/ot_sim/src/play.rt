@@ -226,7 +226,6 @@ fn drain<W: Sink>(
     ensures failures { W.failures sink.new ≡ count_after (untold_writes result) (W.failures sink.old) }
 {
     let given = counts_given(alloc, world, names.count())?;
-    tell(alloc, Answer::Drain, sink)?;
     world.drain(alloc, &mut |_| 0)?;
     tell_news(alloc, names, world, given.as_slice(), sink)?;
     tell(alloc, Answer::Drained, sink)

@@ -3,7 +3,7 @@ use Rattle.std.specs.Prelude.{Err}
 use Rattle.std.proofs.KnownBytes.{Consumes-trans}
 use Rattle.ot_front.specs.Device.{next_count}
 use Rattle.ot_sim.specs.Talk.{TalksBy}
-use Rattle.ot_sim.proofs.Counting.{next_count-count_after, not_zero}
+use Rattle.ot_front.proofs.Counting.{next_count-count_after, not_zero}
 use Rattle.ot_sim.proofs.TalkLemmas.{reads-on, talks-all, consumes-none, consumes-kept}
 use Rattle.ot_sim.proofs.session.converse.Goals as goal
 
