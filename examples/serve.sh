@@ -1,5 +1,5 @@
 #!/usr/bin/env bash
-# Two parties at one server, over `nc -U` (netcat-openbsd). The first runs two tasks, of which the second reads
+# Two parties at one server, over `nc -N -U` (netcat-openbsd). The first runs two tasks, of which the second reads
 # what the first wrote; the second party makes an array of the same name, and sees its own.
 #
 #   examples/serve.sh crates/omptaskd/out/omptaskd
@@ -10,14 +10,14 @@ socket=$(mktemp -d)/socket
 "$program" serve --socket "$socket" --count 2 first second > "$socket.usage" &
 until [ -S "$socket" ]; do sleep 0.01; done
 
-nc -U "$socket" <<'LINES'
+nc -N -U "$socket" <<'LINES'
 ["hello","first"]
 ["new","a",3]
 ["put","a",0,[1,2,3]]
 ["run",["program",[["a",0,3]],[["task",[["out",["a",0,1]]],[["set",["c","a",0],7]]],["task",[["in",["a",0,1]],["out",["a",1,1]]],[["set",["c","a",1],["+",["c","a",0],1]]]],["wait"]]]]
 ["bye"]
 LINES
-nc -U "$socket" <<'LINES'
+nc -N -U "$socket" <<'LINES'
 ["hello","second"]
 ["new","a",2]
 ["get","a",0,2]

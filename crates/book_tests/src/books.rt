@@ -8,7 +8,7 @@ use std::alloc::{AllocError, Global};
 use std::process::Abort;
 
 /// What a line is answered, and `full` where it isn't taken.
-fn ask(alloc: Global, book: &mut Book, line: &str) -> Result<String, AllocError> {
+pub(crate) fn ask(alloc: Global, book: &mut Book, line: &str) -> Result<String, AllocError> {
     match book.open(alloc, line.as_bytes())? {
         Opened::Full => return String::from_str(alloc, "full"),
         Opened::Answered => {}
@@ -60,7 +60,7 @@ fn undone(alloc: Global, book: &mut Book, line: &str) -> Result<&'static str, Al
         Opened::Full => Ok("full"),
         Opened::Answered => Ok("answered"),
         Opened::ToRun(spec) => {
-            if !book.is_open() || !book.is_full() || !is_closed_to_others(alloc, book) {
+            if !book.is_open() || !is_closed_to_others(alloc, book) {
                 return Ok("open to others");
             }
             book.forget(spec);
@@ -70,10 +70,17 @@ fn undone(alloc: Global, book: &mut Book, line: &str) -> Result<&'static str, Al
 }
 
 /// Asks a line while another is open. It isn't taken, and the book stays as it is.
+fn is_closed_to(alloc: Global, book: &mut Book, line: &[u8]) -> bool
+    ensures { IsTrue result → book.new ≡ book.old }
+{
+    matches!(book.open(alloc, line), Ok(Opened::Full))
+}
+
+/// Asks a line and a checkpoint while another request is open.
 fn is_closed_to_others(alloc: Global, book: &mut Book) -> bool
     ensures { IsTrue result → book.new ≡ book.old }
 {
-    matches!(book.open(alloc, b"{}"), Ok(Opened::Full))
+    is_closed_to(alloc, book, b"{}") && is_closed_to(alloc, book, b"[\"checkpoint\"]")
 }
 
 /// A copy of the job of a line that runs a program, printed.
@@ -101,6 +108,18 @@ fn tell(alloc: Global, book: &Book) -> Result<String, AllocError> {
     )
 }
 
+/// What the log of a book begins with: the number of its first line, the units before it, and the cells
+/// of the arrays; and the number of the next request.
+fn tell_beginning(alloc: Global, book: &Book) -> Result<String, AllocError> {
+    let base = book.base().cells(alloc)?;
+    format!(in alloc;
+        "{} {} {base:?} {}",
+        book.first(),
+        book.base_used(),
+        book.next_number()
+    )
+}
+
 /// What a line is answered that has line ends in place of its spaces, of which no session hands one
 /// on.
 fn ask_broken(alloc: Global, book: &mut Book, line: &str) -> Result<String, AllocError> {
@@ -116,6 +135,7 @@ fn told(alloc: Global, book: &mut Book, word: &str, line: &str) -> Result<String
         "refuse" => refuse(alloc, book, line),
         "forget" => forget(alloc, book, line),
         "copy" => copy(alloc, book, line),
+        "begins" => tell_beginning(alloc, book),
         _ => tell(alloc, book),
     }
 }
@@ -142,7 +162,7 @@ fn first_other(alloc: Global, book: &mut Book, rows: &'static str) -> Option<&'s
 }
 
 /// Asserts that each row is told what it gives, of a book that begins with these arrays.
-fn assert_rows(
+pub(crate) fn assert_rows(
     rt: &impl Abort,
     alloc: Global,
     limits: Limits,

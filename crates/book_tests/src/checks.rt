@@ -3,12 +3,12 @@ ghost use Rattle.std.specs.Prelude.{◌≡◌, ◌∷◌, []};
 ghost use Rattle.ot_model.specs.Shapes.{array_lengths};
 ghost use Rattle.ot_model.specs.Programs.{expanded_of, IsNamedIn};
 
-use super::reading::{one_array, read};
 use super::table::{Asked, assert_rows};
 use ot_check::{CheckFault, check};
 use ot_model::{Cells, Program, Shape, plain_run};
 use ot_program::ProgramFault;
 use std::alloc::{AllocError, Global};
+use test_reading::{one_array, read};
 
 /// Bodies by what they are, over 1, 2, 3 and with 1,024 task statements. A refused one gives the code,
 /// and the checker's with its place. An accepted one gives the executed task statements, the units

@@ -1,9 +1,9 @@
 //! What tasks declare, and what two declarations are to each other.
-use super::reading::read;
 use super::table::{Asked, assert_rows};
 use ot_depend::Siblings;
 use ot_model::{Decl, Shape, Stmt};
 use std::alloc::{AllocError, Global};
+use test_reading::read;
 
 /// A task over `a` and `b` of 9 cells each, and what is read of it: its cells in order, each with one
 /// mode.

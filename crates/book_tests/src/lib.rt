@@ -5,6 +5,8 @@
 #[cfg(test)]
 mod books;
 #[cfg(test)]
+mod checkpoints;
+#[cfg(test)]
 mod checks;
 #[cfg(test)]
 mod children;

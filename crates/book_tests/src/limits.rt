@@ -1,9 +1,9 @@
 //! Each limit of the reader at its value and one past it.
-use super::reading::read;
 use super::table::{Asked, assert_rows};
 use ot_model::Shape;
 use ot_program::ProgramFault;
 use std::alloc::{AllocError, Global};
+use test_reading::read;
 
 /// How many statements and task statements are read, or the code that they are refused with.
 pub(crate) fn counted(alloc: Global, text: &str, shape: &Shape) -> Result<String, AllocError> {

@@ -1,8 +1,9 @@
 //! What is read of programs, and what of their copies.
-use super::reading::{read, two_arrays};
+use super::reading::two_arrays;
 use super::table::{Asked, assert_rows};
 use ot_model::Shape;
 use std::alloc::{AllocError, Global};
+use test_reading::read;
 
 /// Shows and a body, over `a` of 3 cells and `b` of 5, and the program that is read.
 const READ: &str = r#"[],[] gives Program { shows: [], body: [], statements: 0, tasks: 0 }

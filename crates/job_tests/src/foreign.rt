@@ -1,11 +1,11 @@
 //! Pieces that are offered to another job, and jobs that fail.
 use super::choosers::Ends;
 use super::driving::{Width, finish, give_up};
-use super::reading::job_of;
 use ot_check::JobSpec;
 use ot_job::{Done, Job, Piece, Refused, State};
 use ot_program::ProgramFault;
 use std::alloc::{AllocError, Global};
+use test_reading::job_of;
 
 /// Its second task reads what the first writes.
 const TWO_TASKS: &str =

@@ -15,10 +15,10 @@ mod orders;
 #[cfg(test)]
 mod random;
 #[cfg(test)]
-mod reading;
-#[cfg(test)]
 mod rows;
 #[cfg(test)]
 mod sizes;
+#[cfg(test)]
+mod unchanged;
 #[cfg(test)]
 mod weights;

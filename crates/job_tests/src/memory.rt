@@ -1,10 +1,11 @@
 //! Jobs for which memory is refused once.
 use super::choosers::Ends;
 use super::driving::{Move, Width, give_up, next_move, told};
-use super::reading::job_of;
+use super::unchanged::are_alike;
 use ot_job::{Job, Piece, Refused, State};
 use ot_program::ProgramFault;
 use std::alloc::{AllocError, Global};
+use test_reading::job_of;
 
 /// A job, and whether memory was refused for it.
 #[derive(Drop)]
@@ -26,10 +27,10 @@ impl Watched {
         }
     }
 
-    /// Whether it shows the same numbers, spec and cells. Tables behind them may have kept room.
+    /// Whether it shows the same, but for its tables.
     fn is_still(&mut self, alloc: Global, before: &str) -> bool {
         match self.shown(alloc) {
-            Ok(now) => now.as_str().split(", owners:").next() == before.split(", owners:").next(),
+            Ok(now) => are_alike(now.as_str(), before),
             Err(_) => false,
         }
     }

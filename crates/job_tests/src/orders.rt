@@ -1,10 +1,10 @@
 //! Each order in which pieces can be claimed and settled.
 use super::choosers::Script;
 use super::driving::{Width, run};
-use super::reading::job_of;
 use ot_check::JobSpec;
 use ot_program::ProgramFault;
 use std::alloc::{AllocError, Global};
+use test_reading::job_of;
 
 /// Bodies by what they are, over 1, 2, 3: how many orders there are, and the executed task statements,
 /// the units and the cells that each leaves.

@@ -1,11 +1,11 @@
 //! Random bodies in random orders, by scripts/random_jobs.
 use super::choosers::Random;
 use super::driving::{Width, run};
-use super::reading::job_over;
 use ot_check::JobSpec;
 use ot_program::ProgramFault;
 use std::alloc::{AllocError, Global};
 use std::{env, fs};
+use test_reading::job_over;
 
 /// Whether a job leaves this in each of so many orders.
 fn leaves(

@@ -1,9 +1,9 @@
 //! What bodies leave, by whomever their moves are chosen.
 use super::choosers::Ends;
 use super::driving::{Width, run};
-use super::reading::job_of;
 use ot_program::ProgramFault;
 use std::alloc::{AllocError, Global};
+use test_reading::job_of;
 
 /// Bodies by what they are, over 1, 2, 3: the executed task statements, the units and the cells.
 const BODIES: &str =

@@ -1,10 +1,10 @@
 //! Programs at the limits, run to their ends.
 use super::choosers::Ends;
 use super::driving::{Width, run};
-use super::reading::job_over;
 use ot_program::ProgramFault;
 use std::alloc::{AllocError, Global};
 use std::time::Instant;
+use test_reading::job_over;
 
 /// So many cells, and a body that has a part many times over: its beginning, a part, how often the part
 /// stands there, what stands behind it, a part that stands there as often, and its end. The cells begin

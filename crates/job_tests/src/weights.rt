@@ -1,8 +1,8 @@
 //! The weight of a job.
-use super::reading::job_of;
 use ot_job::Job;
 use ot_program::ProgramFault;
 use std::alloc::Global;
+use test_reading::job_of;
 
 /// Tasks in a task, of seven statements. They take eight pieces.
 const NESTED: &str =

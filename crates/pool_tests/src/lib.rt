@@ -17,8 +17,12 @@ mod players;
 #[cfg(test)]
 mod reading;
 #[cfg(test)]
+mod refused;
+#[cfg(test)]
 mod scene;
 #[cfg(test)]
 mod scenes;
 #[cfg(test)]
 mod shapes;
+#[cfg(test)]
+mod turns;

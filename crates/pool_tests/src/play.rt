@@ -4,12 +4,11 @@ ghost use Rattle.std.specs.List.{All, sum_by};
 
 use super::door::Door;
 use super::scene::Scene;
-use ot_pool::{Pool, Usage, close, join_all, start, totals};
+use ot_pool::{Pool, Staffed, Usage, staffed, totals};
 use std::alloc::{AllocError, Global};
 use std::marker::Brand;
 use std::sync::Wait;
 use std::sync::ledger::{Blank, Ledger, Share};
-use std::thread;
 use std::thread::Threads;
 
 /// What was told in a scene, and the units that were settled in it.
@@ -56,7 +55,10 @@ fn on_pool<L: Ledger + Send + Sync, R: Threads + Wait + Sync>(
     requires few { (1 ≤ workers) × (workers ≤ 16) × (tenants ≤ 64) }
 {
     let (pool, shares) = Pool::<L>::new(alloc, tenants, workers, blank)?;
-    let (said, shares) = staffed(rt, alloc, &pool, door, scene, shares);
+    let (said, shares) = played_by(rt, alloc, &pool, door, scene, shares);
+    let Ok(said) = said else {
+        return Err(AllocError);
+    };
     let said = said?;
     let shares = shares?;
     if shares.len() != workers as usize {
@@ -66,41 +68,19 @@ fn on_pool<L: Ledger + Send + Sync, R: Threads + Wait + Sync>(
     Ok(Told { said, usage })
 }
 
-/// What was told in a scene, and the shares that the workers brought home.
-type Played<L> = (
-    Result<String, AllocError>,
-    Result<Vec<Share<L>>, AllocError>,
-);
-
-/// Starts the workers, plays the scene, closes the pool and waits until the workers have come home. Where a
-/// worker couldn't be started nothing is played.
-fn staffed<L: Ledger + Send + Sync, R: Threads + Wait + Sync>(
+/// Plays the scene while the pool is staffed. Where a worker couldn't be started nothing is played.
+fn played_by<L: Ledger + Send + Sync, R: Threads + Wait + Sync>(
     rt: &R,
     alloc: Global,
     pool: &Pool<L>,
     door: &Door,
     scene: &Scene,
     shares: Vec<Share<L>>,
-) -> Played<L>
+) -> Staffed<L, Result<String, AllocError>>
     requires few { vec_len shares ≤ 16 }
     requires one { All (λ s. s.parts ≡ 1) shares.items }
     ensures { IfOk result.1 (λ shares. sum_by (λ s. s.parts) shares.items ≡ vec_len shares) }
 {
-    thread::scope(
-        thread::scope_env(),
-        rt,
-        move |scope| -> Played<L>
-            requires { (vec_len shares ≤ 16) × All (λ s. s.parts ≡ 1) shares.items }
-            ensures { IfOk result.1 (λ shares. sum_by (λ s. s.parts) shares.items ≡ vec_len shares) }
-        {
-            let (threads, complete) = start(scope, rt, alloc, pool, door, shares);
-            let said = if complete {
-                scene.played(rt, alloc, pool, door)
-            } else {
-                Err(AllocError)
-            };
-            close(rt, pool);
-            (said, join_all(rt, alloc, threads))
-        },
-    )
+    let play = || scene.played(rt, alloc, pool, door);
+    staffed(rt, alloc, pool, door, shares, play)
 }

@@ -29,7 +29,7 @@ fn outcome_text(alloc: Global, outcome: &Outcome) -> Result<String, AllocError> 
     format!(in alloc; "{tasks} {units} {cells:?}")
 }
 
-fn performed_text(
+pub(crate) fn performed_text(
     alloc: Global,
     performed: Result<Outcome, NotDone>,
 ) -> Result<String, AllocError> {

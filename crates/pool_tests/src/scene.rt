@@ -28,11 +28,11 @@ pub(crate) enum Scene {
 }
 
 /// Its second task reads what the first writes. It takes six pieces and leaves 7, 8, 3.
-const READ_AFTER_WRITE: &str =
+pub(crate) const READ_AFTER_WRITE: &str =
     r#"[["task",[["out",["a",0,1]]],[["set",["c","a",0],7]]],["task",[["in",["a",0,1]],["out",["a",1,1]]],[["set",["c","a",1],["+",["c","a",0],1]]]],["wait"]]"#;
 
 /// Two tasks in a task. It takes eight pieces and leaves 4, 5, 9.
-const NESTED: &str =
+pub(crate) const NESTED: &str =
     r#"[["task",[["inout",["a",0,3]]],[["task",[["out",["a",0,1]]],[["set",["c","a",0],4]]],["task",[["out",["a",1,1]]],[["set",["c","a",1],5]]],["wait"],["set",["c","a",2],["+",["c","a",0],["c","a",1]]]]]]"#;
 
 /// The third request is refused, the fourth is to run, and a fifth stands behind it.

@@ -7,7 +7,7 @@ use std::test::Fail;
 
 const BESIDE_BY_CLIENTS: &str = "2 5 [7, 8, 3]\n3 7 [4, 5, 9]\n";
 
-const BESIDE_BY_SESSIONS: &str = r#"["ok",1]
+pub(crate) const BESIDE_BY_SESSIONS: &str = r#"["ok",1]
 ["ok",2]
 ["done",3,2,5,[[7,8,3]]]
 Ok(EndOfInput), 3 logged
@@ -16,6 +16,9 @@ Ok(EndOfInput), 3 logged
 ["done",3,3,7,[[4,5,9]]]
 Ok(EndOfInput), 3 logged
 "#;
+
+/// How many pieces of the root and of the tasks behind it pass the gate: of the first tenant, and of the second.
+const BESIDE_BY_TASK: ([u64; 4], [u64; 4]) = ([4, 1, 1, 0], [2, 4, 1, 1]);
 
 #[test]
 fn each_piece_passes_the_gate_and_its_units_are_counted(rt: HostRuntime) -> Result<(), Fail> {
@@ -26,9 +29,32 @@ fn each_piece_passes_the_gate_and_its_units_are_counted(rt: HostRuntime) -> Resu
         let door = Door::counting();
         let told = play(&rt, rt.alloc(), 2, 2, &door, &Scene::Beside(by))?;
         assert!(rt; told.is(said, [5, 7].as_slice(), 12), "{told:?}");
-        assert_eq!(rt; door.came(), (6, 8), "{said}");
+        assert_eq!(rt; door.by_task(), BESIDE_BY_TASK, "{said}");
     }
     Ok(())
+}
+
+#[test]
+fn one_worker_passes_the_gate_with_its_number(rt: HostRuntime) -> Result<(), Fail> {
+    let door = Door::counting();
+    let scene = Scene::Beside(By::Client);
+    let told = play(&rt, rt.alloc(), 2, 1, &door, &scene)?;
+    assert!(rt;
+        told.is(BESIDE_BY_CLIENTS, [5, 7].as_slice(), 12),
+        "{told:?}"
+    );
+    assert_eq!(rt; door.by_worker(), ([0, 6, 0, 0], [0, 8, 0, 0]));
+    Ok(())
+}
+
+/// Whether one of two workers has passed all pieces of the second tenant, while the other held a piece of the
+/// first.
+fn is_by_both(door: &Door) -> bool {
+    match door.by_worker() {
+        ([0, one, other, 0], [0, 8, 0, 0]) => other > 0 && one.wrapping_add(other) == 6,
+        ([0, one, other, 0], [0, 0, 8, 0]) => one > 0 && one.wrapping_add(other) == 6,
+        _ => false,
+    }
 }
 
 #[test]
@@ -41,7 +67,8 @@ fn a_tenant_is_answered_while_a_piece_of_another_is_held(rt: HostRuntime) -> Res
         let told = play(&rt, rt.alloc(), 2, 2, &door, &Scene::Held(by))?;
         assert!(rt; !door.gave_up(), "{told:?}");
         assert!(rt; told.is(said, [5, 7].as_slice(), 12), "{told:?}");
-        assert_eq!(rt; door.came(), (6, 8), "{said}");
+        assert_eq!(rt; door.by_task(), BESIDE_BY_TASK, "{said}");
+        assert!(rt; is_by_both(&door), "{:?}", door.by_worker());
     }
     Ok(())
 }
@@ -66,7 +93,7 @@ fn pieces_that_come_back_to_a_closed_pool_are_not_counted(rt: HostRuntime) -> Re
         let told = play(&rt, rt.alloc(), 2, 2, &door, &Scene::Closing(by, 3))?;
         assert!(rt; !door.gave_up(), "{told:?}");
         assert!(rt; told.is(said, [1, 0].as_slice(), 1), "{told:?}");
-        assert_eq!(rt; door.came(), (3, 0), "{said}");
+        assert_eq!(rt; door.by_task(), ([2, 1, 0, 0], [0; 4]), "{said}");
     }
     Ok(())
 }
@@ -97,7 +124,7 @@ fn a_pool_takes_one_job_of_a_tenant_at_a_time(rt: HostRuntime) -> Result<(), Fai
         told.is("2 5 [7, 8, 3]\nStranger\n", [5].as_slice(), 5),
         "{told:?}"
     );
-    assert_eq!(rt; door.came(), (6, 0));
+    assert_eq!(rt; door.by_task(), ([4, 1, 1, 0], [0; 4]));
     Ok(())
 }
 
@@ -128,7 +155,7 @@ fn a_job_without_memory_leaves_the_other_as_it_is(rt: HostRuntime) {
             if told.said.as_str() != BESIDE_BY_CLIENTS {
                 let _ = println!(rt;
                     "memory was refused behind {:?} pieces: {told:?}",
-                    door.came()
+                    door.by_task()
                 );
             }
         }

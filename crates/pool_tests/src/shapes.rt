@@ -1,8 +1,8 @@
 //! Shapes of jobs that are measured.
-use super::reading::job_over;
 use ot_check::JobSpec;
 use ot_program::ProgramFault;
 use std::alloc::{AllocError, Global};
+use test_reading::job_over;
 
 #[derive(Clone, Copy)]
 pub(crate) enum Shape {

@@ -3,11 +3,12 @@
 ghost use Rattle.std.specs.Prelude.{◌≡◌, ◌≤◌, vec_len, IfOk};
 ghost use Rattle.std.specs.List.{All, sum_by};
 
+use crate::books::desk_of;
 use crate::door::Door;
 use crate::fakes::{Dripping, Narrow};
-use crate::greetings::desk_of;
+use crate::sessions::{NO_JSON, blank_lines};
 use ot_front::{Desk, Reading, Writing, serve_connection};
-use ot_pool::{Pool, Usage, close, join_all, start, totals};
+use ot_pool::{Pool, Staffed, Usage, close, staffed, totals};
 use std::alloc::{AllocError, Global};
 use std::marker::Brand;
 use std::sync::Wait;
@@ -16,8 +17,10 @@ use std::test::Fail;
 use std::thread;
 use std::thread::Threads;
 
+pub(crate) const GREETING: &str = "[\"hello\",\"t1\"]\n";
+
 /// What is written on a connection on which this comes in.
-fn connect<L: Ledger, R: Wait>(
+pub(crate) fn connect<L: Ledger, R: Wait>(
     rt: &R,
     alloc: Global,
     pool: &Pool<L>,
@@ -32,7 +35,7 @@ fn connect<L: Ledger, R: Wait>(
 
 /// Connections, one after another: what comes in, and what is written. The pool has `t1` alone, and nobody
 /// runs jobs on it. A log takes four requests.
-const IN_TURN: [(&str, &str); 9] = [
+const IN_TURN: [(&str, &str); 11] = [
     (
         "[\"hello\",\"t2\"]\n[\"new\",\"a\",1]\n[\"bye\"]\n",
         "[\"hello\",\"t2\",1]\n[\"ok\",1]\n",
@@ -56,6 +59,14 @@ const IN_TURN: [(&str, &str); 9] = [
     (
         "[\"hello\",\"t1\"]\n[\"list\"]\n",
         "[\"hello\",\"t1\",5]\n[\"full\"]\n",
+    ),
+    (
+        "[\"hello\",\"t1\"]\n[\"checkpoint\"]\n{}\n[\"bye\"]\n",
+        "[\"hello\",\"t1\",5]\n[\"ok\",5]\n[\"err\",6,411]\n",
+    ),
+    (
+        "[\"hello\",\"t1\"]\n{}\n{}\n{}\n",
+        "[\"hello\",\"t1\",7]\n[\"err\",7,411]\n[\"err\",8,411]\n[\"full\"]\n",
     ),
 ];
 
@@ -129,10 +140,9 @@ fn connect_broken<L: Ledger, R: Wait>(
     may_take: usize,
 ) -> Vec<u8> {
     let mut source = Reading::new(Dripping {
-        bytes: BROKEN_INPUT.as_bytes(),
-        a_read: 99,
         left,
         fails: true,
+        ..Dripping::whole(BROKEN_INPUT.as_bytes(), 99)
     });
     let mut sink = Narrow {
         taken: Vec::new(alloc),
@@ -143,7 +153,30 @@ fn connect_broken<L: Ledger, R: Wait>(
     sink.taken
 }
 
-/// The place of the first broken connection on which, or behind which, something else is written.
+/// Whether the book is back behind a connection of `t1` that gives 17 lines of 60,000 spaces byte by byte, of which
+/// a million reads hear 16.
+fn comes_back_behind_a_million_reads<L: Ledger, R: Wait>(
+    rt: &R,
+    alloc: Global,
+    pool: &Pool<L>,
+    desk: &Desk,
+) -> Result<bool, Fail> {
+    let mut input = Vec::from_slice(alloc, GREETING.as_bytes())?;
+    input.extend_from_slice(&blank_lines(alloc, 17)?)?;
+    let mut source = Reading::new(Dripping::whole(&input, 1));
+    let mut sink = Writing::new(Vec::new(alloc));
+    serve_connection(rt, alloc, pool, desk, &mut source, &mut sink);
+    let written = sink.into_inner();
+    let behind = connect(rt, alloc, pool, desk, GREETING);
+    Ok(
+        written.strip_prefix(b"[\"hello\",\"t1\",1]\n".as_slice())
+            == Some(&NO_JSON.as_bytes()[..231])
+            && behind.as_slice() == b"[\"hello\",\"t1\",17]\n".as_slice(),
+    )
+}
+
+/// The place of the first broken connection on which, or behind which, something else is written; behind them all
+/// one of too many reads stands.
 fn first_other_broken<R: Wait>(rt: &R, alloc: Global) -> Result<Option<usize>, Fail> {
     first_other_broken_on::<Brand, R>(rt, alloc, Blank::new(1))
 }
@@ -160,10 +193,14 @@ fn first_other_broken_on<L: Ledger, R: Wait>(
     for (at, (left, may_take, written, next)) in BROKEN.iter().enumerate() {
         let desk = desk_of(alloc, 100)?;
         let broken = connect_broken(rt, alloc, &pool, &desk, *left, *may_take);
-        let behind = connect(rt, alloc, &pool, &desk, "[\"hello\",\"t1\"]\n");
+        let behind = connect(rt, alloc, &pool, &desk, GREETING);
         if broken.as_slice() != written.as_bytes() || behind.as_slice() != next.as_bytes() {
             return Ok(Some(at));
         }
+    }
+    let desk = desk_of(alloc, 100)?;
+    if !comes_back_behind_a_million_reads(rt, alloc, &pool, &desk)? {
+        return Ok(Some(BROKEN.len()));
     }
     Ok(None)
 }
@@ -181,35 +218,67 @@ const FIRST: [&str; 1] = [
 [\"task\",[[\"in\",[\"a\",0,1]],[\"out\",[\"a\",1,1]]],[[\"set\",[\"c\",\"a\",1],[\"+\",[\"c\",\"a\",0],1]]]],[\"wait\"]]]]\n",
 ];
 
-const FIRST_TOLD: &str =
-    "[\"hello\",\"t1\",1]\n[\"ok\",1]\n[\"ok\",2]\n[\"done\",3,2,5,[[7,8,3]]]\n";
+/// What happens while a piece of `t1` is held, and what is told.
+struct Scene {
+    /// How many of its pieces go on before.
+    free: u64,
+    /// The connections that come meanwhile.
+    meanwhile: &'static [&'static str],
+    /// Whether the pool is closed behind these, while the piece is held, or else once the first connection is over.
+    closes: bool,
+    /// Connections behind the closing of the pool.
+    behind: &'static [&'static str],
+    /// What is written on the first connection, on those meanwhile, and on those behind.
+    told: [&'static str; 3],
+    /// The units that are settled for each tenant, and for both.
+    units: ([u64; 2], u64),
+}
 
-/// While a piece of `t1` is held. The last has two tasks in a task.
-const MEANWHILE: [&str; 3] = [
-    "[\"hello\",\"t1\"]\n[\"list\"]\n",
-    "[\"hello\",\"zz\"]\n",
-    "[\"hello\",\"t2\"]\n[\"new\",\"a\",3]\n[\"put\",\"a\",0,[1,2,3]]\n[\"run\",[\"program\",[[\"a\",0,3]],\
+const SCENES: [Scene; 2] = [
+    // The last of those meanwhile has two tasks in a task.
+    Scene {
+        free: 0,
+        meanwhile: &[
+            "[\"hello\",\"t1\"]\n[\"list\"]\n",
+            "[\"hello\",\"zz\"]\n",
+            "[\"hello\",\"t2\"]\n[\"new\",\"a\",3]\n[\"put\",\"a\",0,[1,2,3]]\n[\"run\",[\"program\",[[\"a\",0,3]],\
 [[\"task\",[[\"inout\",[\"a\",0,3]]],[[\"task\",[[\"out\",[\"a\",0,1]]],[[\"set\",[\"c\",\"a\",0],4]]],\
 [\"task\",[[\"out\",[\"a\",1,1]]],[[\"set\",[\"c\",\"a\",1],5]]],[\"wait\"],\
 [\"set\",[\"c\",\"a\",2],[\"+\",[\"c\",\"a\",0],[\"c\",\"a\",1]]]]]]]]\n[\"bye\"]\n",
+        ],
+        closes: false,
+        behind: &[
+            "[\"hello\",\"t1\"]\n[\"get\",\"a\",0,3]\n[\"run\",[\"program\",[],[[\"set\",[\"c\",\"a\",0],9]]]]\n[\"list\"]\n",
+            "[\"hello\",\"t1\"]\n[\"get\",\"a\",0,1]\n",
+        ],
+        told: [
+            "[\"hello\",\"t1\",1]\n[\"ok\",1]\n[\"ok\",2]\n[\"done\",3,2,5,[[7,8,3]]]\n",
+            "[\"err\",0,409]\n[\"err\",0,404]\n[\"hello\",\"t2\",1]\n[\"ok\",1]\n[\"ok\",2]\n[\"done\",3,3,7,[[4,5,9]]]\n",
+            "[\"hello\",\"t1\",4]\n[\"cells\",4,[7,8,3]]\n[\"hello\",\"t1\",5]\n[\"cells\",5,[7]]\n",
+        ],
+        units: ([5, 7], 12),
+    },
+    // The first piece is one unit. Those that are held then come back to a closed pool.
+    Scene {
+        free: 1,
+        meanwhile: &[],
+        closes: true,
+        behind: &["[\"hello\",\"t1\"]\n[\"get\",\"a\",0,3]\n"],
+        told: [
+            "[\"hello\",\"t1\",1]\n[\"ok\",1]\n[\"ok\",2]\n",
+            "",
+            "[\"hello\",\"t1\",3]\n[\"cells\",3,[1,2,3]]\n",
+        ],
+        units: ([1, 0], 1),
+    },
 ];
-
-const MEANWHILE_TOLD: &str =
-    "[\"err\",0,409]\n[\"err\",0,404]\n[\"hello\",\"t2\",1]\n[\"ok\",1]\n[\"ok\",2]\n[\"done\",3,3,7,[[4,5,9]]]\n";
-
-/// Behind the closing of the pool.
-const BEHIND: [&str; 2] = [
-    "[\"hello\",\"t1\"]\n[\"get\",\"a\",0,3]\n[\"run\",[\"program\",[],[[\"set\",[\"c\",\"a\",0],9]]]]\n[\"list\"]\n",
-    "[\"hello\",\"t1\"]\n[\"get\",\"a\",0,1]\n",
-];
-
-const BEHIND_TOLD: &str =
-    "[\"hello\",\"t1\",4]\n[\"cells\",4,[7,8,3]]\n[\"hello\",\"t1\",5]\n[\"cells\",5,[7]]\n";
 
 /// What serves connections. A thread borrows a pool as such a service.
 trait Service {
     /// What is written on connections, one after another, up to the first for which there is no memory.
     fn written<R: Wait>(&self, rt: &R, alloc: Global, desk: &Desk, inputs: &[&str]) -> Vec<u8>;
+
+    fn close<R: Wait>(&self, rt: &R);
 }
 
 impl<L: Ledger> Service for Pool<L> {
@@ -225,21 +294,26 @@ impl<L: Ledger> Service for Pool<L> {
         }
         written
     }
+
+    fn close<R: Wait>(&self, rt: &R) {
+        close(rt, self);
+    }
 }
 
-/// The connection of `t1`, and once its first piece stands at the door those beside it. When these are
-/// over the door is opened.
+/// The connection of `t1`, and once a piece of it is held at the door those beside it. When these are over the door
+/// is opened.
 fn side_by_side<P: Service + Sync, R: Threads + Wait + Sync>(
     rt: &R,
     alloc: Global,
     service: &P,
     desk: &Desk,
     door: &Door,
+    scene: &Scene,
 ) -> (Vec<u8>, Vec<u8>) {
     thread::join(
         rt,
         || service.written(rt, alloc, desk, &FIRST),
-        || connect_behind(rt, alloc, service, desk, door),
+        || connect_behind(rt, alloc, service, desk, door, scene),
     )
 }
 
@@ -250,11 +324,15 @@ fn connect_behind<P: Service, R: Wait>(
     service: &P,
     desk: &Desk,
     door: &Door,
+    scene: &Scene,
 ) -> Vec<u8> {
     if !door.wait() {
         return Vec::new(alloc);
     }
-    let written = service.written(rt, alloc, desk, &MEANWHILE);
+    let written = service.written(rt, alloc, desk, scene.meanwhile);
+    if scene.closes {
+        service.close(rt);
+    }
     door.set_open();
     written
 }
@@ -266,8 +344,9 @@ fn over_pool<L: Ledger + Send + Sync, R: Threads + Wait + Sync>(
     pool: &Pool<L>,
     desk: &Desk,
     door: &Door,
+    scene: &Scene,
 ) -> (Vec<u8>, Vec<u8>) {
-    side_by_side(rt, alloc, pool, desk, door)
+    side_by_side(rt, alloc, pool, desk, door, scene)
 }
 
 /// What is written on all connections, and the units that were settled.
@@ -280,12 +359,14 @@ struct Played {
 }
 
 impl Played {
-    fn is_told(&self) -> bool {
-        self.first.as_slice() == FIRST_TOLD.as_bytes()
-            && self.meanwhile.as_slice() == MEANWHILE_TOLD.as_bytes()
-            && self.behind.as_slice() == BEHIND_TOLD.as_bytes()
-            && self.usage.by_tenant.as_slice() == [5, 7].as_slice()
-            && self.usage.total == 12
+    fn is_told(&self, scene: &Scene) -> bool {
+        let [first, meanwhile, behind] = scene.told;
+        let (by_tenant, total) = scene.units;
+        self.first.as_slice() == first.as_bytes()
+            && self.meanwhile.as_slice() == meanwhile.as_bytes()
+            && self.behind.as_slice() == behind.as_bytes()
+            && self.usage.by_tenant.as_slice() == by_tenant.as_slice()
+            && self.usage.total == total
     }
 }
 
@@ -294,8 +375,9 @@ fn play<R: Threads + Wait + Sync>(
     alloc: Global,
     desk: &Desk,
     door: &Door,
+    scene: &Scene,
 ) -> Result<Played, AllocError> {
-    play_on::<Brand, R>(rt, alloc, Blank::new(2), desk, door)
+    play_on::<Brand, R>(rt, alloc, Blank::new(2), desk, door, scene)
 }
 
 fn play_on<L: Ledger + Send + Sync, R: Threads + Wait + Sync>(
@@ -304,16 +386,17 @@ fn play_on<L: Ledger + Send + Sync, R: Threads + Wait + Sync>(
     blank: Blank,
     desk: &Desk,
     door: &Door,
+    scene: &Scene,
 ) -> Result<Played, AllocError>
     requires name { blank.name ≡ L.name }
     requires parts { (blank.parts ≡ L.parts) × (blank.parts ≡ 2) }
 {
     let (pool, shares) = Pool::<L>::new(alloc, 2, 2, blank)?;
-    let (written, shares) = play_staffed(rt, alloc, &pool, desk, door, shares);
-    let Some((first, meanwhile)) = written else {
+    let (written, shares) = play_staffed(rt, alloc, &pool, desk, door, scene, shares);
+    let Ok((first, meanwhile)) = written else {
         return Err(AllocError);
     };
-    let behind = pool.written(rt, alloc, desk, &BEHIND);
+    let behind = pool.written(rt, alloc, desk, scene.behind);
     let shares = shares?;
     if shares.len() != 2 {
         return Err(AllocError);
@@ -327,51 +410,31 @@ fn play_on<L: Ledger + Send + Sync, R: Threads + Wait + Sync>(
     })
 }
 
-/// What was written, and the shares that the workers brought home.
-type Staffed<L> = (
-    Option<(Vec<u8>, Vec<u8>)>,
-    Result<Vec<Share<L>>, AllocError>,
-);
-
-/// Starts the workers, takes the connections, closes the pool and waits until the workers have come home. Where
-/// a worker couldn't be started nothing is written.
+/// Takes the connections while the pool is staffed. Where a worker couldn't be started nothing is written.
 fn play_staffed<L: Ledger + Send + Sync, R: Threads + Wait + Sync>(
     rt: &R,
     alloc: Global,
     pool: &Pool<L>,
     desk: &Desk,
     door: &Door,
+    scene: &Scene,
     shares: Vec<Share<L>>,
-) -> Staffed<L>
+) -> Staffed<L, (Vec<u8>, Vec<u8>)>
     requires few { vec_len shares ≤ 16 }
     requires one { All (λ s. s.parts ≡ 1) shares.items }
     ensures { IfOk result.1 (λ shares. sum_by (λ s. s.parts) shares.items ≡ vec_len shares) }
 {
-    thread::scope(
-        thread::scope_env(),
-        rt,
-        move |scope| -> Staffed<L>
-            requires { (vec_len shares ≤ 16) × All (λ s. s.parts ≡ 1) shares.items }
-            ensures { IfOk result.1 (λ shares. sum_by (λ s. s.parts) shares.items ≡ vec_len shares) }
-        {
-            let (threads, complete) = start(scope, rt, alloc, pool, door, shares);
-            let written = if complete {
-                Some(over_pool(rt, alloc, pool, desk, door))
-            } else {
-                None
-            };
-            close(rt, pool);
-            (written, join_all(rt, alloc, threads))
-        },
-    )
+    let play = || over_pool(rt, alloc, pool, desk, door, scene);
+    staffed(rt, alloc, pool, door, shares, play)
 }
 
 #[test]
-fn a_tenant_is_answered_while_a_piece_of_another_is_held(rt: HostRuntime) -> Result<(), Fail> {
-    let desk = desk_of(rt.alloc(), 100)?;
-    let door = Door::new();
-    let played = play(&rt, rt.alloc(), &desk, &door)?;
-    assert!(rt; !door.gave_up(), "{played:?}");
-    assert!(rt; played.is_told(), "{played:?}");
+fn what_is_told_while_a_piece_is_held(rt: HostRuntime) -> Result<(), Fail> {
+    for scene in &SCENES {
+        let desk = desk_of(rt.alloc(), 100)?;
+        let door = Door::behind(scene.free);
+        let played = play(&rt, rt.alloc(), &desk, &door, scene)?;
+        assert!(rt; !door.gave_up() && played.is_told(scene), "{played:?}");
+    }
     Ok(())
 }

@@ -1,16 +1,19 @@
 //! A gate that holds the first tenant's pieces.
 use ot_pool::Gate;
-use std::sync::atomic::{AtomicBool, Ordering};
+use std::sync::atomic::{AtomicBool, AtomicU64, Ordering};
 use std::thread;
 
 /// How many turns a test waits at most. In each it looks once, and lets other threads run.
 const TURNS: u32 = 10_000_000;
 
-/// Stands between the claim of each piece and its run, and holds those of the first tenant until it is
-/// opened.
+/// Stands between the claim of each piece and its run, and holds those of the first tenant, behind so many,
+/// until it is opened.
 #[derive(Drop)]
 pub(crate) struct Door {
-    has_come: AtomicBool,
+    free: u64,
+    /// How many pieces of the first tenant have come.
+    came: AtomicU64,
+    holds: AtomicBool,
     is_open: AtomicBool,
     gave_up: AtomicBool,
 }
@@ -27,17 +30,20 @@ fn wait_for(flag: &AtomicBool) -> bool {
 }
 
 impl Door {
-    pub(crate) fn new() -> Door {
+    /// A door at which so many pieces of the first tenant go on.
+    pub(crate) fn behind(free: u64) -> Door {
         Door {
-            has_come: AtomicBool::new(false),
+            free,
+            came: AtomicU64::new(0),
+            holds: AtomicBool::new(false),
             is_open: AtomicBool::new(false),
             gave_up: AtomicBool::new(false),
         }
     }
 
-    /// Waits until a piece of the first tenant has come: whether it has.
+    /// Waits until a piece of the first tenant is held: whether one is.
     pub(crate) fn wait(&self) -> bool {
-        wait_for(&self.has_come)
+        wait_for(&self.holds)
     }
 
     /// Holds nobody any more.
@@ -53,10 +59,10 @@ impl Door {
 
 impl Gate for &Door {
     fn pass(&mut self, _worker: u32, tenant: u32, _task: u32) {
-        if tenant > 0 {
+        if tenant > 0 || self.came.fetch_add(1, Ordering::SeqCst) < self.free {
             return;
         }
-        self.has_come.store(true, Ordering::SeqCst);
+        self.holds.store(true, Ordering::SeqCst);
         if !wait_for(&self.is_open) {
             self.gave_up.store(true, Ordering::SeqCst);
         }

@@ -37,10 +37,26 @@ pub struct Dripping<'a> {
     pub a_read: usize,
     pub left: usize,
     pub fails: bool,
+    /// The least room that a read was offered.
+    pub least: usize,
+}
+
+impl<'a> Dripping<'a> {
+    /// One that gives all of the bytes, and ends.
+    pub fn whole(bytes: &'a [u8], a_read: usize) -> Dripping<'a> {
+        Dripping {
+            bytes,
+            a_read,
+            left: bytes.len(),
+            fails: false,
+            least: usize::MAX,
+        }
+    }
 }
 
 impl Read for Dripping<'_> {
     fn read(&mut self, buf: &mut [u8]) -> io::Result<usize> {
+        self.least = self.least.min(buf.len());
         if self.left == 0 && self.fails {
             return Err(io::Error::from(io::ErrorKind::Interrupted));
         }

@@ -1,36 +1,13 @@
 //! Greetings over memory: the first line of a connection, what is told, and where the book is then.
 ghost use Rattle.std.specs.Prelude.{◌≡◌, IfOk, IfSome, None};
 
+use crate::books::{USUAL, book_of, desk_of};
 use crate::fakes::Narrow;
 use ot_book::{Book, Solo};
 use ot_front::{Desk, FrontFault, Reading, Writing, greet, serve};
-use ot_store::{Limits, Store};
 use std::alloc::Global;
 use std::sync::Wait;
 use std::test::Fail;
-
-/// How many requests a log takes.
-const USUAL: u32 = 4_096;
-
-/// A new tenant's book, whose log takes so many requests.
-fn book_of(alloc: Global, name: &str, log: u32) -> Result<Book, Fail>
-    ensures name { IfOk result (λ book. book.name ≡ name.now) }
-    ensures closed { IfOk result (λ book. book.pending ≡ None) }
-{
-    let limits = Limits {
-        log,
-        ..Limits::usual()
-    };
-    Ok(Book::new(alloc, name, limits, Store::empty(alloc))?)
-}
-
-/// A desk with the books of `t1` and `t2`, whose logs take so many requests each.
-pub(crate) fn desk_of(alloc: Global, log: u32) -> Result<Desk, Fail> {
-    let mut books = Vec::new(alloc);
-    books.push(book_of(alloc, "t1", log)?)?;
-    books.push(book_of(alloc, "t2", log)?)?;
-    Ok(Desk::new(alloc, books)?)
-}
 
 /// A greeting that is over: what was answered and written, and how many bytes nobody has read.
 #[derive(Drop)]

@@ -3,6 +3,8 @@
 #![tactic(auto)]
 
 #[cfg(test)]
+mod books;
+#[cfg(test)]
 mod connections;
 #[cfg(test)]
 mod devices;
@@ -12,5 +14,7 @@ mod door;
 mod fakes;
 #[cfg(test)]
 mod greetings;
+#[cfg(test)]
+mod memory;
 #[cfg(test)]
 mod sessions;

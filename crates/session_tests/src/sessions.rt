@@ -1,30 +1,15 @@
 //! Whole sessions over memory: how they end, and what devices and executors that go wrong leave.
-ghost use Rattle.std.specs.Prelude.{◌≡◌, IfOk, None};
-
+use crate::books::{USUAL, book_of};
 use crate::fakes::{Counting, Dripping, Narrow, Refusing};
-use ot_book::{Book, NotDone, Solo};
+use ot_book::{NotDone, Solo};
 use ot_front::{End, FrontFault, Reading, Writing, serve};
-use ot_store::{Limits, Store};
+use ot_sim::sim_lines;
 use std::alloc::Global;
 use std::test::Fail;
 
 const FIRST: &str = "[\"new\",\"a\",3]\n[\"put\",\"a\",0,[1,2,3]]\n[\"get\",\"a\",0,3]\n";
 
 const FIRST_REPLIES: &str = "[\"ok\",1]\n[\"ok\",2]\n[\"cells\",3,[1,2,3]]\n";
-
-/// How many requests a log takes.
-const USUAL: u32 = 4_096;
-
-/// A book of a new tenant with usual limits, but that its log takes so many requests.
-fn book_of(alloc: Global, log: u32) -> Result<Book, Fail>
-    ensures { IfOk result (λ book. book.pending ≡ None) }
-{
-    let limits = Limits {
-        log,
-        ..Limits::usual()
-    };
-    Ok(Book::new(alloc, "t1", limits, Store::empty(alloc))?)
-}
 
 /// A session that is over: how it ended, how many requests it logged, and what it wrote.
 #[derive(Drop)]
@@ -42,7 +27,7 @@ impl Told {
 
 /// A session of a new tenant.
 fn session(alloc: Global, log: u32, reader: Dripping<'_>) -> Result<Told, Fail> {
-    let mut book = book_of(alloc, log)?;
+    let mut book = book_of(alloc, "t1", log)?;
     let mut source = Reading::new(reader);
     let mut sink = Writing::new(Vec::new(alloc));
     let ended = serve(alloc, &mut book, &mut Solo, &mut source, &mut sink);
@@ -53,19 +38,9 @@ fn session(alloc: Global, log: u32, reader: Dripping<'_>) -> Result<Told, Fail> 
     })
 }
 
-/// A reader of all of the bytes, so many a read.
-fn whole(bytes: &[u8], a_read: usize) -> Dripping<'_> {
-    Dripping {
-        bytes,
-        a_read,
-        left: bytes.len(),
-        fails: false,
-    }
-}
-
 /// Sessions: how many requests the log takes, the input, the end, how many requests are logged, and what
 /// is written.
-const ENDS: [(u32, &str, End, usize, &str); 9] = [
+const ENDS: [(u32, &str, End, usize, &str); 11] = [
     (USUAL, "", End::EndOfInput, 0, ""),
     (USUAL, FIRST, End::EndOfInput, 3, FIRST_REPLIES),
     (USUAL, "\n", End::EndOfInput, 1, "[\"err\",1,410]\n"),
@@ -93,12 +68,26 @@ const ENDS: [(u32, &str, End, usize, &str); 9] = [
         2,
         "[\"err\",1,411]\n[\"err\",2,411]\n",
     ),
+    (
+        2,
+        "[\"new\",\"a\",3]\n[\"put\",\"a\",0,[1,2,3]]\n[\"checkpoint\"]\n[\"get\",\"a\",0,3]\n[\"list\"]\n",
+        End::Full,
+        2,
+        "[\"ok\",1]\n[\"ok\",2]\n[\"ok\",3]\n[\"cells\",4,[1,2,3]]\n[\"full\"]\n",
+    ),
+    (
+        1,
+        "[\"new\",\"a\",3]\n[\"checkpoint\"]\n[\"checkpoint\"]\n[\"list\"]\n",
+        End::Full,
+        1,
+        "[\"ok\",1]\n[\"ok\",2]\n[\"ok\",3]\n[\"full\"]\n",
+    ),
 ];
 
 /// The first input that ends otherwise, or is answered otherwise.
 fn first_other_end(alloc: Global) -> Result<Option<&'static str>, Fail> {
     for (log, input, end, logged, replies) in &ENDS {
-        let told = session(alloc, *log, whole(input.as_bytes(), 65_536))?;
+        let told = session(alloc, *log, Dripping::whole(input.as_bytes(), 65_536))?;
         if !told.is(Ok(*end), *logged, replies.as_bytes()) {
             return Ok(Some(*input));
         }
@@ -138,7 +127,7 @@ const LONG_LINES: [(usize, End, usize, &str); 2] = [
 fn first_other_long_line(alloc: Global) -> Result<Option<usize>, Fail> {
     for (spaces, end, logged, replies) in &LONG_LINES {
         let input = padded(alloc, *spaces)?;
-        let told = session(alloc, USUAL, whole(input.as_bytes(), 65_536))?;
+        let told = session(alloc, USUAL, Dripping::whole(input.as_bytes(), 65_536))?;
         if !told.is(Ok(*end), *logged, replies.as_bytes()) {
             return Ok(Some(*spaces));
         }
@@ -154,7 +143,7 @@ fn the_longest_line(rt: HostRuntime) -> Result<(), Fail> {
 
 /// A session of the first three lines whose sink takes so many bytes.
 fn cut_off(alloc: Global, may_take: usize) -> Result<Told, Fail> {
-    let mut book = book_of(alloc, USUAL)?;
+    let mut book = book_of(alloc, "t1", USUAL)?;
     let mut source = Reading::new(FIRST.as_bytes());
     let mut sink = Narrow {
         taken: Vec::new(alloc),
@@ -214,10 +203,9 @@ fn first_other_read(alloc: Global, fails: bool) -> Result<Option<usize>, Fail> {
             (3, 38)
         };
         let reader = Dripping {
-            bytes: FIRST.as_bytes(),
-            a_read: 1,
             left,
             fails,
+            ..Dripping::whole(FIRST.as_bytes(), 1)
         };
         let told = session(alloc, USUAL, reader)?;
         if !told.is(end, logged, &FIRST_REPLIES.as_bytes()[..bytes]) {
@@ -235,7 +223,7 @@ fn a_read_that_fails_or_ends_at_each_place(rt: HostRuntime) -> Result<(), Fail> 
 }
 
 /// So many lines of 60,000 spaces each.
-fn blank_lines(alloc: Global, count: u32) -> Result<Vec<u8>, Fail> {
+pub(crate) fn blank_lines(alloc: Global, count: u32) -> Result<Vec<u8>, Fail> {
     let spaces = vec![in alloc; b' '; 60_000]?;
     let mut lines = Vec::new(alloc);
     for _ in 0..count {
@@ -246,7 +234,7 @@ fn blank_lines(alloc: Global, count: u32) -> Result<Vec<u8>, Fail> {
 }
 
 /// The replies to 20 lines that are no JSON.
-const NO_JSON: &str =
+pub(crate) const NO_JSON: &str =
     "[\"err\",1,410]\n[\"err\",2,410]\n[\"err\",3,410]\n[\"err\",4,410]\n[\"err\",5,410]\n\
 [\"err\",6,410]\n[\"err\",7,410]\n[\"err\",8,410]\n[\"err\",9,410]\n[\"err\",10,410]\n\
 [\"err\",11,410]\n[\"err\",12,410]\n[\"err\",13,410]\n[\"err\",14,410]\n[\"err\",15,410]\n\
@@ -262,7 +250,7 @@ const BLANK: [(u32, usize, Result<End, FrontFault>, usize, usize); 2] = [
 fn first_other_blank(alloc: Global) -> Result<Option<u32>, Fail> {
     for (count, a_read, end, logged, bytes) in &BLANK {
         let lines = blank_lines(alloc, *count)?;
-        let told = session(alloc, USUAL, whole(&lines, *a_read))?;
+        let told = session(alloc, USUAL, Dripping::whole(&lines, *a_read))?;
         if !told.is(*end, *logged, &NO_JSON.as_bytes()[..*bytes]) {
             return Ok(Some(*count));
         }
@@ -273,6 +261,26 @@ fn first_other_blank(alloc: Global) -> Result<Option<u32>, Fail> {
 #[test]
 fn reads_of_one_byte_and_of_many(rt: HostRuntime) -> Result<(), Fail> {
     assert_eq!(rt; first_other_blank(rt.alloc())?, None);
+    Ok(())
+}
+
+/// The least room that a read is offered, in a session of two such lines and by sim in the same lines.
+fn least_rooms(alloc: Global) -> Result<[usize; 2], Fail> {
+    let lines = blank_lines(alloc, 2)?;
+    let mut book = book_of(alloc, "t1", USUAL)?;
+    let mut sink = Writing::new(Vec::new(alloc));
+    let mut source = Reading::new(Dripping::whole(&lines, 1_000));
+    let _ = serve(alloc, &mut book, &mut Solo, &mut source, &mut sink);
+    let mut of_sim = Reading::new(Dripping::whole(&lines, 1_000));
+    let _ = sim_lines(alloc, &mut of_sim, &mut sink);
+    Ok([source.into_inner().least, of_sim.into_inner().least])
+}
+
+#[test]
+fn each_read_has_room_for_4096_bytes(rt: HostRuntime) -> Result<(), Fail> {
+    for least in least_rooms(rt.alloc())? {
+        assert!(rt; (4_096..usize::MAX).contains(&least), "{least}");
+    }
     Ok(())
 }
 
@@ -306,7 +314,7 @@ const REFUSALS: [(NotDone, Result<End, FrontFault>, usize, &str); 3] = [
 /// How a session whose run isn't performed ended, and what stands in the book and was written after a
 /// second one.
 fn refused(alloc: Global, why: NotDone) -> Result<Told, Fail> {
-    let mut book = book_of(alloc, USUAL)?;
+    let mut book = book_of(alloc, "t1", USUAL)?;
     let mut sink = Writing::new(Vec::new(alloc));
     let mut source = Reading::new(RUN.as_bytes());
     let ended = serve(
@@ -368,7 +376,7 @@ const PERFORMED: [(u32, &[u32], End, usize, &str); 2] = [
 /// The number of requests of the first log with which the runs are performed otherwise than once each.
 fn first_other_count(alloc: Global) -> Result<Option<u32>, Fail> {
     for (log, performed, end, logged, replies) in &PERFORMED {
-        let mut book = book_of(alloc, *log)?;
+        let mut book = book_of(alloc, "t1", *log)?;
         let mut executor = Counting {
             performed: Vec::new(alloc),
         };

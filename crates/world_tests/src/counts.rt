@@ -1,7 +1,7 @@
 //! How many events the chooser of a drain is told.
 use super::events::event_of;
 use super::tenants::world_of;
-use ot_core::World;
+use ot_core::{Event, World};
 use ot_store::{Limits, Store};
 use std::alloc::{AllocError, Global};
 
@@ -78,4 +78,91 @@ fn first_other(alloc: Global) -> Option<(usize, Option<u64>)> {
 #[test]
 fn the_chooser_is_told_how_many_events_there_are(rt: HostRuntime) {
     assert_eq!(rt; first_other(rt.alloc()), None);
+}
+
+/// The first tenant may open a run, the second's job is over, and of the third's one task is out and the root and
+/// the other task are claimable.
+const MANY: &str = r#"admit 0 ["new","a",2]
+admit 1 ["new","a",2]
+admit 2 ["new","a",2]
+open 0
+open 1
+open 2
+admit 0 ["run",["program",[],[["task",[["out",["a",0,1]]],[["set",["c","a",0],4]]]]]]
+admit 1 ["run",["program",[],[]]]
+open 1
+start 1 1 0
+finish 1
+admit 2 ["run",["program",[],[["task",[["out",["a",0,1]]],[["set",["c","a",0],4]]],["task",[["out",["a",1,1]]],[["set",["c","a",1],5]]],["wait"]]]]
+open 2
+start 1 2 0
+finish 1
+start 1 2 0
+finish 1
+start 1 2 1"#;
+
+/// That world.
+fn world_of_many(alloc: Global) -> Result<World, AllocError> {
+    let mut world = world_of(alloc, 3, Limits::usual(), &Store::empty(alloc))?;
+    take(alloc, &mut world, MANY)?;
+    Ok(world)
+}
+
+/// The counts that a chooser is told which answers 0, as one number; but for the first where that is answered otherwise.
+fn trail(alloc: Global, world: &mut World, first: Option<u64>) -> Result<u64, AllocError> {
+    let (mut first, mut trail) = (first, 0u64);
+    world.drain(
+        alloc,
+        &mut |count: u64| match first.take() {
+            Some(place) => place,
+            None => {
+                trail = trail.wrapping_mul(31).wrapping_add(count);
+                0
+            }
+        },
+    )?;
+    Ok(trail)
+}
+
+/// The trail behind an event.
+fn trail_behind(alloc: Global, event: Event<'_>) -> Result<u64, AllocError> {
+    let mut world = world_of_many(alloc)?;
+    world.step(alloc, event)?;
+    trail(alloc, &mut world, None)
+}
+
+/// The trails behind each event of that world: one line to open, one reply, one piece out, and two tasks for fifteen
+/// workers.
+fn trails(alloc: Global) -> Result<Vec<u64>, AllocError> {
+    let mut trails = Vec::new(alloc);
+    for event in [Event::Open(0), Event::Reply(1), Event::Finish(1)] {
+        trails.push(trail_behind(alloc, event)?)?;
+    }
+    for worker in 2..17 {
+        for pick in 0..2 {
+            trails.push(trail_behind(alloc, Event::Start(worker, 2, pick))?)?;
+        }
+    }
+    Ok(trails)
+}
+
+/// The first place behind which no trail comes that is left of those behind the events.
+fn first_other_place(alloc: Global) -> Result<Option<usize>, AllocError> {
+    let mut trails = trails(alloc)?;
+    for place in 0..trails.len() {
+        let mut world = world_of_many(alloc)?;
+        let came = trail(alloc, &mut world, Some(place as u64))?;
+        match trails.iter().position(|trail| *trail == came) {
+            Some(at) => {
+                trails.swap_remove(at);
+            }
+            None => return Ok(Some(place)),
+        }
+    }
+    Ok(None)
+}
+
+#[test]
+fn each_place_is_an_event_of_its_own(rt: HostRuntime) {
+    assert_eq!(rt; first_other_place(rt.alloc()), Ok(None));
 }

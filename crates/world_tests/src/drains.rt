@@ -1,5 +1,6 @@
 //! Lines of two tenants, and what each is told, alone or beside the other, whatever the order in which events
 //! are taken.
+use super::agreeing::tell_alike;
 use super::tenants::{told, world_of};
 use ot_core::{Event, World};
 use ot_store::{Limits, Store};
@@ -97,6 +98,14 @@ const ROWS: [(&str, [&str; 2], &str); 7] = [
     (LINES, LINES_TOLD, "middle"),
 ];
 
+/// Two tenants all of whose lines are answered, in this order of events.
+fn answered(alloc: Global, lines: &str, order: &str) -> Result<World, AllocError> {
+    let mut world = world_of(alloc, 2, Limits::usual(), &Store::empty(alloc))?;
+    ask(alloc, &mut world, lines)?;
+    answer(alloc, &mut world, order)?;
+    Ok(world)
+}
+
 /// Whether both are told this once all lines are answered in this order of events.
 fn are_told(
     alloc: Global,
@@ -104,9 +113,7 @@ fn are_told(
     said: [&str; 2],
     order: &str,
 ) -> Result<bool, AllocError> {
-    let mut world = world_of(alloc, 2, Limits::usual(), &Store::empty(alloc))?;
-    ask(alloc, &mut world, lines)?;
-    answer(alloc, &mut world, order)?;
+    let world = answered(alloc, lines, order)?;
     let [one, two] = said;
     Ok(told(alloc, &world, 0)?.as_str() == one && told(alloc, &world, 1)?.as_str() == two)
 }
@@ -124,4 +131,19 @@ fn first_other(alloc: Global) -> Option<usize> {
 #[test]
 fn each_order_of_events_gives_the_same_replies(rt: HostRuntime) {
     assert_eq!(rt; first_other(rt.alloc()), None);
+}
+
+/// Of each tenant, whether a world in which the first is alone agrees with one in which it is beside the second.
+fn agreements(alloc: Global) -> Result<[bool; 2], AllocError> {
+    let alone = answered(alloc, ALONE, "last")?;
+    let beside = answered(alloc, BESIDE, "first")?;
+    Ok([
+        tell_alike(alloc, &alone, &beside, 0)?,
+        tell_alike(alloc, &alone, &beside, 1)?,
+    ])
+}
+
+#[test]
+fn worlds_agree_on_a_tenant_that_asks_the_same(rt: HostRuntime) {
+    assert_eq!(rt; agreements(rt.alloc()), Ok([true, false]));
 }

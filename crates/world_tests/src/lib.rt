@@ -1,9 +1,11 @@
 //! Tests of worlds: lines of tenants that are answered in several orders, alone and side by side; events that
-//! aren't enabled; what a chooser is told; random events.
+//! aren't enabled; what a chooser is told and what its choices come to; random events.
 #![tactic(auto)]
 
 #[cfg(test)]
-mod cost;
+mod agreeing;
+#[cfg(test)]
+mod checkpoints;
 #[cfg(test)]
 mod counts;
 #[cfg(test)]

@@ -42,14 +42,14 @@ impl Random {
     }
 
     fn line(&mut self) -> &'static str {
-        let place = self.below(14) as usize;
+        let place = self.below(15) as usize;
         LINES.get(place).copied().unwrap_or("{}")
     }
 }
 
 /// What a tenant may ask that has an array `a` of four cells: a chain, readers beside a writer, nested tasks, a
-/// sum, a branch, a program without tasks, requests that are answered at once, and refused ones.
-const LINES: [&str; 14] = [
+/// sum, a branch, a program without tasks, requests that are answered at once, a checkpoint, and refused ones.
+const LINES: [&str; 15] = [
     r#"["run",["program",[["a",0,4]],[["for","i",0,3,[["task",[["inout",["a",0,2]]],[["add",["c","a",0],["+",["c","a",1],1]]]]]]]]]"#,
     r#"["run",["program",[["a",0,4]],[["task",[["out",["a",0,1]]],[["set",["c","a",0],["+",["c","a",0],7]]]],["task",[["in",["a",0,1]],["out",["a",1,1]]],[["set",["c","a",1],["+",["c","a",0],1]]]],["task",[["in",["a",0,1]],["out",["a",2,1]]],[["set",["c","a",2],["*",["c","a",0],3]]]],["wait"],["set",["c","a",3],["c","a",2]]]]]"#,
     r#"["run",["program",[["a",0,3]],[["task",[["inout",["a",0,3]]],[["task",[["out",["a",0,1]]],[["set",["c","a",0],["+",["c","a",0],4]]]],["task",[["out",["a",1,1]]],[["set",["c","a",1],5]]],["wait"],["set",["c","a",2],["+",["c","a",0],["c","a",1]]]]]]]]"#,
@@ -63,6 +63,7 @@ const LINES: [&str; 14] = [
     r#"["free","b"]"#,
     r#"["used"]"#,
     r#"["list"]"#,
+    r#"["checkpoint"]"#,
     "[",
 ];
 
