@@ -11,3 +11,4 @@ pub mod Serial
 pub mod Names
 pub mod Runs
 pub mod Programs
+pub mod Code
