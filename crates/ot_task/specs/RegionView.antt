@@ -1,15 +1,16 @@
--- The regions that the code's records stand for.
-use Rattle.std.specs.Prelude.{List, map, option_map}
+-- The region that a task's fields stand for.
+use Rattle.std.specs.Prelude.{Bool, option_map}
 use Rattle.ot_task.specs.PlaceView.{standing_of}
+use Rattle.ot_task.specs.Standing.{Standing}
 use Rattle.ot_task.specs.Regions.{Region, Run}
 use Rattle.ot_task.specs.Assigns.{assigns_of}
-use Rattle.ot_task.specs.declared.task.Task.{Task}
+use Rattle.ot_task.specs.declared.task.Task.TheInside.{Inside}
 use Rattle.ot_task.specs.declared.task.Running.{Running}
 
 abbrev pub run_of : Running → Run
 run_of r = record { assigns = assigns_of r.assigns.items; lease = r.right }
 
-abbrev pub region_of : Task → Region
+abbrev pub region_of : Inside → Region
 region_of t = record {
   parent = t.parent;
   child = t.child;
@@ -22,5 +23,6 @@ region_of t = record {
   running = option_map run_of t.running;
 }
 
-abbrev pub regions_of : List Task → List Region
-regions_of tasks = map region_of tasks
+-- with its place there, at a wait that it has executed or not
+abbrev pub stands_at : Standing → Bool → Region → Region
+stands_at s waiting r = record r { rest = s.rest; groups = s.groups; waiting = waiting }

@@ -88,6 +88,15 @@ abbrev pub next_task : Body → Option (List Use × Body)
 next_task (Next (Task d b) rest) = Some (d, b)
 next_task rest = None
 
+-- the child that this creates of a task, whose own number is i
+abbrev pub child_of : ℕ → Region → List Use × Body → Region
+child_of i r child = new_region i (length r.children) child.0 child.1
+
+-- with the child noted that is to be
+abbrev pub with_noted : Option (List Use × Body) → Region → Region
+with_noted None r = r
+with_noted (Some child) r = with_child child.0 r
+
 -- whether a statement comes next, which behind a piece is a control statement
 abbrev pub is_control : Body → Bool
 is_control End = false

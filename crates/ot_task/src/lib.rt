@@ -17,6 +17,5 @@ mod touched;
 mod weigh;
 
 pub use assign::{Assign, assign_all};
-pub use place::{OpenGroup, Place};
 pub use prepared::{Prepared, prepare};
-pub use task::{Running, Task};
+pub use task::Task;

@@ -2,23 +2,23 @@ ghost use Rattle.std.specs.Prelude.{◌≡◌, ◌<◌};
 
 use crate::same::same_test;
 use crate::weigh::weigh_rest;
-use ot_model::{Cell, Expr, Stmt};
+use ot_model::{Cell, Decl, Expr, Stmt};
 use std::alloc::{AllocError, Global};
 use std::mem;
 
 /// A group that is open: its number, its cells, and what stands behind its end, last statement first.
 #[derive(Debug, Drop)]
-pub struct OpenGroup {
-    pub group: u32,
-    pub cells: Vec<Cell>,
-    pub behind: Vec<Stmt>,
+pub(crate) struct OpenGroup {
+    pub(crate) group: u32,
+    cells: Vec<Cell>,
+    behind: Vec<Stmt>,
 }
 
 /// What a task has left, last statement first, in the innermost open group's body.
 #[derive(Debug, Drop)]
-pub struct Place {
-    pub rest: Vec<Stmt>,
-    pub groups: Vec<OpenGroup>,
+pub(crate) struct Place {
+    pub(crate) rest: Vec<Stmt>,
+    pub(crate) groups: Vec<OpenGroup>,
 }
 
 impl Place {
@@ -31,8 +31,9 @@ impl Place {
     ghost use Rattle.ot_task.specs.Pieces.{passed_end, test_of};
     ghost use Rattle.std.specs.Prelude.{IsTrue, ◌↔◌, option_map};
     ghost use Rattle.ot_model.specs.View.{expr_of};
-    ghost use Rattle.ot_task.specs.Standing.{Standing, left_group};
-    ghost use Rattle.std.specs.Prelude.{◌^◌};
+    ghost use Rattle.ot_task.specs.Standing.{Standing, left_group, with_next};
+    ghost use Rattle.std.specs.Prelude.{◌^◌, None};
+    ghost use Rattle.ot_task.specs.Regions.{next_task};
     ghost use Rattle.ot_task.specs.Weighing.{weight, weight_behind, weight_left};
 
     /// At the beginning of a body. It takes no memory.
@@ -76,6 +77,21 @@ impl Place {
         self.rest.pop()
     }
 
+    /// Takes the next statement where it is a task. It takes no memory.
+    pub(crate) fn take_task(&mut self) -> Option<(Decl, Vec<Stmt>)>
+        ensures taken { MatchOption result ((standing_of self.new ≡ standing_of self.old) × (next_task (standing_of self.old).rest ≡ None))
+            (λ p. (standing_of self.old).rest ≡ Next (Task p.0 (stmts_of p.1.items)) (standing_of self.new).rest) }
+        ensures groups { (standing_of self.new).groups ≡ (standing_of self.old).groups }
+    {
+        match self.rest.pop()? {
+            Stmt::Task(decl, body) => Some((decl, body)),
+            other => {
+                self.put_back(other);
+                None
+            }
+        }
+    }
+
     /// Puts a body before what is left. It takes no memory.
     pub(crate) fn splice(&mut self, body: Vec<Stmt>)
         requires { vec_len self.old.rest + vec_len body ≤ vec_capacity self.old.rest }
@@ -103,6 +119,66 @@ impl Place {
             cells,
             behind,
         });
+    }
+
+    /// Puts a statement back that was taken off. It takes no memory.
+    pub(crate) fn put_back(&mut self, stmt: Stmt)
+        requires { vec_len self.old.rest < vec_capacity self.old.rest }
+        ensures { standing_of self.new ≡ with_next (stmt_of stmt) (standing_of self.old) }
+    {
+        self.rest.push_reserved(stmt);
+    }
+
+    /// Goes into one body of an `if` that was taken off. Where memory is refused, the `if` is put back.
+    pub(crate) fn branch(
+        &mut self,
+        test: Expr,
+        one: Vec<Stmt>,
+        two: Vec<Stmt>,
+        taken: bool,
+    ) -> Result<(), AllocError>
+        requires { vec_len self.old.rest < vec_capacity self.old.rest }
+        ensures taken { OnOk result (standing_of self.new
+            ≡ record (standing_of self.old) { rest = append (if taken then stmts_of one.items else stmts_of two.items) (standing_of self.old).rest }) }
+        ensures refused { OnErr result (standing_of self.new ≡ with_next (If (expr_of test) (stmts_of one.items) (stmts_of two.items)) (standing_of self.old)) }
+    {
+        let len = if taken { one.len() } else { two.len() };
+        match self.rest.reserve(len) {
+            Ok(()) => {
+                self.splice(if taken { one } else { two });
+                Ok(())
+            }
+            Err(error) => {
+                self.put_back(Stmt::If(test, one, two));
+                Err(error)
+            }
+        }
+    }
+
+    /// Enters a group that was taken off. Where memory is refused, the group is put back.
+    pub(crate) fn open(
+        &mut self,
+        group: u32,
+        cells: Vec<Cell>,
+        body: Vec<Stmt>,
+    ) -> Result<(), AllocError>
+        requires { vec_len self.old.rest < vec_capacity self.old.rest }
+        ensures entered { OnOk result (standing_of self.new ≡ record {
+          rest = stmts_of body.items;
+          groups = record { group = group; cells = cells.items; behind = (standing_of self.old).rest } ∷ (standing_of self.old).groups;
+        }) }
+        ensures refused { OnErr result (standing_of self.new ≡ with_next (Group cells.items (stmts_of body.items)) (standing_of self.old)) }
+    {
+        match self.groups.reserve(1) {
+            Ok(()) => {
+                self.enter(group, cells, body);
+                Ok(())
+            }
+            Err(error) => {
+                self.put_back(Stmt::Group(cells, body));
+                Err(error)
+            }
+        }
     }
 
     /// Whether this is the condition of the `if` that comes next, or there is none.

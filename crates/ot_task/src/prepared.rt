@@ -6,7 +6,6 @@ ghost use Rattle.ot_model.specs.View.{expr_of};
 ghost use Rattle.ot_owner.specs.Leases.{lease_of, lent_from};
 ghost use Rattle.ot_task.specs.Assigns.{assigns_of};
 ghost use Rattle.ot_task.specs.Pieces.{leading, leading_len, behind, test_of, awake};
-ghost use Rattle.ot_task.specs.RegionView.{region_of};
 ghost use Rattle.ot_task.specs.Touched.{AreHeld};
 
 use crate::assign::Assign;
@@ -29,19 +28,19 @@ pub struct Prepared {
 
 /// What the task's next piece is made of.
 pub fn prepare(alloc: Global, task: &Task, cells: &Cells) -> Result<Prepared, AllocError>
-    requires named { NamedIn (lengths cells.now) (awake (region_of task.now)).rest }
+    requires named { NamedIn (lengths cells.now) (awake task.now).rest }
     ensures empty { IfOk result (λ p. p.room.items ≡ []) }
-    ensures room { IfOk result (λ p. leading_len (awake (region_of task.now)).rest ≤ vec_capacity p.room) }
-    ensures assigns { IfOk result (λ p. assigns_of p.assigns.items ≡ leading (awake (region_of task.now)).rest) }
-    ensures test { IfOk result (λ p. option_map expr_of p.condition ≡ test_of (behind (awake (region_of task.now)).rest)) }
-    ensures held { IfOk result (λ p. AreHeld (region_of task.now) p.decl) }
+    ensures room { IfOk result (λ p. leading_len (awake task.now).rest ≤ vec_capacity p.room) }
+    ensures assigns { IfOk result (λ p. assigns_of p.assigns.items ≡ leading (awake task.now).rest) }
+    ensures test { IfOk result (λ p. option_map expr_of p.condition ≡ test_of (behind (awake task.now).rest)) }
+    ensures held { IfOk result (λ p. AreHeld task.now p.decl) }
     ensures ordered { IfOk result (λ p. AreInOrder p.decl) }
     ensures there { IfOk result (λ p. All (λ u. IsSome (cell_of cells.now u.cell)) p.decl) }
     ensures right { IfOk result (λ p. p.right ≡ lease_of (lent_from cells.now p.decl)) }
 {
-    let (assigns, condition) = copy_piece(alloc, task.place.ahead())?;
+    let (assigns, condition) = copy_piece(alloc, task.ahead())?;
     let room = Vec::with_capacity(alloc, assigns.len())?;
-    let decl = touched(alloc, &assigns, condition.as_ref(), task.decl.as_ref())?;
+    let decl = touched(alloc, &assigns, condition.as_ref(), task.own())?;
     let right = right_to(alloc, cells, &decl)?;
     Ok(Prepared {
         room,

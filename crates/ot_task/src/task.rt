@@ -1,3 +1,11 @@
+ghost use Rattle.std.specs.Prelude.{◌≡◌, ◌<◌, vec_len, vec_capacity, OnOk, OnErr, IfOk, option_map};
+ghost use Rattle.ot_model.specs.Tree.{Next};
+ghost use Rattle.ot_model.specs.View.{stmt_of, stmts_of};
+ghost use Rattle.ot_task.specs.PlaceView.{standing_of};
+ghost use Rattle.ot_task.specs.Standing.{with_next};
+ghost use Rattle.ot_task.specs.Regions.{Region, stepped, next_task};
+ghost use Rattle.ot_task.specs.RegionView.{stands_at};
+
 use crate::assign::Assign;
 use crate::leading::take_leading;
 use crate::place::Place;
@@ -6,34 +14,52 @@ use ot_depend::Siblings;
 use ot_model::{Cell, Decl, Expr, Stmt};
 use ot_owner::{Lent, Right};
 use std::alloc::{AllocError, Global};
+use std::marker::Model;
 
 /// A task that was created: where it stands, and its children.
 #[derive(Debug, Drop)]
 pub struct Task {
-    pub parent: usize,
-    pub child: usize,
-    pub decl: Option<Decl>,
-    pub place: Place,
-    pub children: Siblings,
-    pub waiting: bool,
-    pub ended: bool,
-    pub running: Option<Running>,
+    parent: usize,
+    child: usize,
+    decl: Option<Decl>,
+    place: Place,
+    children: Siblings,
+    waiting: bool,
+    ended: bool,
+    running: Option<Running>,
+}
+
+impl Model for Task {
+    ghost use Rattle.std.specs.Coded.{codes};
+    ghost use Rattle.ot_model.specs.Code.{body_code};
+    ghost use Rattle.ot_task.specs.Regions.{Region};
+
+    ghost Value = { Region };
+
+    ghost coded = { Prim.hlevel (codes, body_code) };
+
+    ghost use Rattle.ot_task.specs.RegionView.{region_of};
+
+    ghost view = { region_of };
 }
 
 /// A piece that is out: what it was taken from the body for, and what it holds.
 #[derive(Debug, Drop)]
-pub struct Running {
-    pub assigns: Vec<Assign>,
-    pub right: Right,
+struct Running {
+    assigns: Vec<Assign>,
+    right: Right,
 }
 
 impl Task {
     ghost use Rattle.std.specs.Prelude.{if◌then◌else◌, ◌≡◌, ◌+◌, ◌≤◌, ◌<◌, [], ◌∷◌, length, Some, vec_len, vec_capacity, OnOk, OnErr, IfOk, IsSome, MatchOption, option_map};
     ghost use Rattle.ot_model.specs.Tree.{End, Next, Set, If, Task as Fork, Group, Wait, append};
     ghost use Rattle.ot_model.specs.View.{stmt_of, stmts_of, expr_of};
-    ghost use Rattle.ot_task.specs.Regions.{Region, new_region, with_rest, inside, stepped, next_task};
-    ghost use Rattle.ot_task.specs.RegionView.{region_of};
+    ghost use Rattle.ot_task.specs.Regions.{Region, new_region, child_of, with_rest, inside, stepped, next_task, with_noted};
+    ghost use Rattle.std.specs.Prelude.{None, Bool, ℕ, List};
+    ghost use Rattle.ot_model.specs.Tree.{Body};
+    ghost use Rattle.ot_model.specs.declared.stmt.Use.{Use};
     ghost use Rattle.ot_task.specs.Regions.{root_region};
+    ghost use Rattle.ot_task.specs.PlaceView.{rest_of};
     ghost use Rattle.std.specs.Prelude.{◌^◌};
     ghost use Rattle.ot_task.specs.Weighing.{region_weight};
     ghost use Rattle.ot_task.specs.Pieces.{leading_len, awake, begun};
@@ -53,7 +79,7 @@ impl Task {
 
     /// The root task at the beginning of the program's body. It takes no memory.
     pub fn root(alloc: Global, body: Vec<Stmt>) -> Task
-        ensures { region_of result ≡ root_region (stmts_of body.items) }
+        ensures { result ≡ root_region (stmts_of body.items) }
     {
         Task {
             parent: 0,
@@ -68,8 +94,8 @@ impl Task {
     }
 
     /// A child at the beginning of its body. It takes no memory.
-    pub fn new(alloc: Global, parent: usize, child: usize, decl: Decl, body: Vec<Stmt>) -> Task
-        ensures { region_of result ≡ new_region parent child decl (stmts_of body.items) }
+    fn new(alloc: Global, parent: usize, child: usize, decl: Decl, body: Vec<Stmt>) -> Task
+        ensures { result ≡ new_region parent child decl (stmts_of body.items) }
     {
         Task {
             parent,
@@ -83,31 +109,38 @@ impl Task {
         }
     }
 
+    /// The number of the task that created it, and its own number among that task's children.
+    pub fn place_among(&self) -> (usize, usize)
+        ensures { result ≡ (self.now.parent, self.now.child) }
+    {
+        (self.parent, self.child)
+    }
+
     /// Whether a child may begin as far as its earlier siblings go.
     pub fn lets_begin(&self, child: usize) -> bool
-        ensures { result ≡ is_ready (region_of self.now).children child }
+        ensures { result ≡ is_ready self.now.children child }
     {
         self.children.ready(child)
     }
 
     /// Whether it has not ended, and no piece of it is out.
     pub fn is_idle(&self) -> bool
-        ensures { result ≡ (not (region_of self.now).ended && not (is_some (region_of self.now).running)) }
+        ensures { result ≡ (not self.now.ended && not (is_some self.now.running)) }
     {
         !self.ended && self.running.is_none()
     }
 
     /// Whether a piece of it is out.
     fn is_out(&self) -> bool
-        ensures { result ≡ is_some (region_of self.now).running }
+        ensures { result ≡ is_some self.now.running }
     {
         self.running.is_some()
     }
 
     /// Its weight. It takes no memory.
     pub fn weigh(&self) -> u64
-        requires { region_weight (region_of self.now) < 2 ^ 64 }
-        ensures { result ≡ region_weight (region_of self.now) }
+        requires { region_weight self.now < 2 ^ 64 }
+        ensures { result ≡ region_weight self.now }
     {
         if self.ended {
             return 0;
@@ -124,7 +157,7 @@ impl Task {
 
     /// Whether no group's end holds it.
     fn end_lets_go(&self) -> bool
-        ensures { result ≡ end_lets_go (region_of self.now).rest (region_of self.now).groups self.now.children }
+        ensures { result ≡ end_lets_go self.now.rest self.now.groups self.now.children }
     {
         match self.place.next() {
             Some(_) => true,
@@ -137,16 +170,30 @@ impl Task {
 
     /// Whether neither a wait nor a group's end holds it.
     pub fn is_let_go(&self) -> bool
-        ensures { result ≡ is_let_go (region_of self.now) }
+        ensures { result ≡ is_let_go self.now }
     {
         self.wait_lets_go() && self.end_lets_go()
+    }
+
+    /// What comes next once it goes on.
+    pub(crate) fn ahead(&self) -> &[Stmt]
+        ensures { rest_of result.now ≡ (awake self.now).rest }
+    {
+        self.place.ahead()
+    }
+
+    /// What it declares.
+    pub(crate) fn own(&self) -> Option<&Decl>
+        ensures { option_map (λ d. d.now) result ≡ self.now.own }
+    {
+        self.decl.as_ref()
     }
 
     /// Goes on with a piece that is out from now on and holds this. It takes no memory.
     pub fn begin(&mut self, room: Vec<Assign>, right: Right)
         requires empty { room.items ≡ [] }
-        requires room { leading_len (awake (region_of self.old)).rest ≤ vec_capacity room }
-        ensures { region_of self.new ≡ begun right (region_of self.old) }
+        requires room { leading_len (awake self.old).rest ≤ vec_capacity room }
+        ensures { self.new ≡ begun right self.old }
     {
         self.place.go_on();
         self.waiting = false;
@@ -156,7 +203,7 @@ impl Task {
 
     /// Whether it runs these assigns with this condition on these inputs.
     pub fn runs(&self, assigns: &[Assign], condition: Option<&Expr>, lent: &Lent) -> bool
-        ensures { IsTrue result ↔ Runs (region_of self.now) (assigns_of assigns.now) (option_map (λ e. expr_of e.now) condition.entry) lent.now }
+        ensures { IsTrue result ↔ Runs self.now (assigns_of assigns.now) (option_map (λ e. expr_of e.now) condition.entry) lent.now }
     {
         let Some(running) = &self.running else {
             return false;
@@ -168,7 +215,7 @@ impl Task {
 
     /// The unit of the control statement that comes next, if one does.
     pub fn units_next(&self) -> u32
-        ensures exact { result ≡ (if is_control (region_of self.now).rest then 1 else 0) }
+        ensures exact { result ≡ (if is_control self.now.rest then 1 else 0) }
         ensures one { result ≤ 1 }
     {
         match self.place.next() {
@@ -179,7 +226,7 @@ impl Task {
 
     /// How many tasks the statement that comes next creates.
     pub fn tasks_next(&self) -> u32
-        ensures exact { result ≡ tasks_next (region_of self.now).rest }
+        ensures exact { result ≡ tasks_next self.now.rest }
         ensures one { result ≤ 1 }
     {
         match self.place.next() {
@@ -190,7 +237,7 @@ impl Task {
 
     /// Whether its place is at its body's end.
     pub fn is_at_end(&self) -> bool
-        ensures { result ≡ is_at_end (region_of self.now).rest (region_of self.now).groups }
+        ensures { result ≡ is_at_end self.now.rest self.now.groups }
     {
         match self.place.next() {
             Some(_) => false,
@@ -200,14 +247,11 @@ impl Task {
 
     /// Notes a child that is created where it stands. The answer is its number, counted from 0. Where
     /// memory is refused, nothing changes.
-    pub fn note_child(&mut self, alloc: Global, decl: &Decl) -> Result<usize, AllocError>
-        ensures number { IfOk result (λ child. child ≡ length (region_of self.old).children) }
-        ensures noted { OnOk result (region_of self.new ≡ with_child decl.now (region_of self.old)) }
-        ensures refused { OnErr result (region_of self.new ≡ region_of self.old) }
-        ensures place { self.new.place ≡ self.old.place }
-        ensures ordered { OnOk result (AreInOrder decl.now) }
+    fn note_child(&mut self, alloc: Global, decl: Decl) -> Result<usize, AllocError>
+        ensures number { IfOk result (λ child. child ≡ length self.old.children) }
+        ensures noted { OnOk result (self.new ≡ with_child decl self.old) }
+        ensures refused { OnErr result (self.new ≡ self.old) }
     {
-        let decl = Decl::new(decl.uses().to_vec(alloc)?);
         let groups = self.place.group_numbers(alloc)?;
         self.children.add(alloc, decl, &groups)
     }
@@ -217,7 +261,7 @@ impl Task {
     pub fn release_child(&mut self, child: usize) -> Vec<usize>
         requires ready { IsReady self.old.children child }
         requires unfinished { IsUnfinished self.old.children child }
-        ensures released { region_of self.new ≡ without child (region_of self.old) }
+        ensures released { self.new ≡ without child self.old }
         ensures known { All (λ w. w < length self.old.children) result.items }
         ensures others { LetsTheSame result.items self.old.children (with_finished self.old.children child) }
         ensures exact { WaitForLess result.items self.old.children (with_finished self.old.children child) }
@@ -227,109 +271,112 @@ impl Task {
 
     /// It has ended its body.
     pub fn end(&mut self)
-        ensures { region_of self.new ≡ over (region_of self.old) }
+        ensures { self.new ≡ over self.old }
     {
         self.ended = true;
     }
 
     /// No piece of it is out any more.
     pub fn stop(&mut self)
-        ensures { region_of self.new ≡ stopped (region_of self.old) }
+        ensures { self.new ≡ stopped self.old }
     {
         self.running = None;
     }
 
-    /// Goes into one body of an `if` that was taken off. Where memory is refused, the `if` is put back.
-    fn branch(
-        &mut self,
-        test: Expr,
-        one: Vec<Stmt>,
-        two: Vec<Stmt>,
-        taken: bool,
-    ) -> Result<(), AllocError>
-        requires { vec_len self.old.place.rest < vec_capacity self.old.place.rest }
-        ensures taken { OnOk result (region_of self.new
-            ≡ with_rest (append (if taken then stmts_of one.items else stmts_of two.items) (region_of self.old).rest) (region_of self.old)) }
-        ensures refused { OnErr result (region_of self.new
-            ≡ with_rest (Next (If (expr_of test) (stmts_of one.items) (stmts_of two.items)) (region_of self.old).rest) (region_of self.old)) }
-    {
-        let len = if taken { one.len() } else { two.len() };
-        match self.place.rest.reserve(len) {
-            Ok(()) => {
-                self.place.splice(if taken { one } else { two });
-                Ok(())
-            }
-            Err(error) => {
-                self.place.rest.push_reserved(Stmt::If(test, one, two));
-                Err(error)
-            }
-        }
-    }
-
-    /// Enters a group that was taken off. Where memory is refused, the group is put back.
-    fn enter(&mut self, group: u32, cells: Vec<Cell>, body: Vec<Stmt>) -> Result<(), AllocError>
-        requires { vec_len self.old.place.rest < vec_capacity self.old.place.rest }
-        ensures entered { OnOk result (region_of self.new ≡ inside group cells.items (stmts_of body.items) (region_of self.old)) }
-        ensures refused { OnErr result (region_of self.new
-            ≡ with_rest (Next (Group cells.items (stmts_of body.items)) (region_of self.old).rest) (region_of self.old)) }
-    {
-        match self.place.groups.reserve(1) {
-            Ok(()) => {
-                self.place.enter(group, cells, body);
-                Ok(())
-            }
-            Err(error) => {
-                self.place.rest.push_reserved(Stmt::Group(cells, body));
-                Err(error)
-            }
-        }
-    }
-
     /// Executes the control statement that comes next, if one does: the one body or the other of an
-    /// `if`, the group under this number. A task is handed out. Where memory is refused, nothing changes.
-    pub fn step(&mut self, taken: bool, group: u32) -> Result<Option<(Decl, Vec<Stmt>)>, AllocError>
-        ensures stepped { OnOk result (region_of self.new ≡ stepped taken group (region_of self.old)) }
-        ensures child { IfOk result (λ child. next_task (region_of self.old).rest ≡ option_map (λ c. (c.0, stmts_of c.1.items)) child) }
-        ensures refused { OnErr result (region_of self.new ≡ region_of self.old) }
-        ensures room { IfOk result (λ child. IsSome child → vec_len self.new.place.rest < vec_capacity self.new.place.rest) }
-    {
-        match self.place.take() {
-            None => Ok(None),
-            Some(stmt) => self.execute(stmt, taken, group),
-        }
-    }
-
-    /// Executes a statement that was taken off, as `step` does. A set or an add is put back.
-    fn execute(
+    /// `if`, the group under this number. Where it creates a task, the answer is the child of this task,
+    /// whose own number is `number`. Where memory is refused, nothing changes.
+    pub fn step(
         &mut self,
-        stmt: Stmt,
+        alloc: Global,
+        number: usize,
         taken: bool,
         group: u32,
-    ) -> Result<Option<(Decl, Vec<Stmt>)>, AllocError>
-        requires { vec_len self.old.place.rest < vec_capacity self.old.place.rest }
-        ensures stepped { OnOk result (region_of self.new ≡ stepped taken group (with_rest (Next (stmt_of stmt) (region_of self.old).rest) (region_of self.old))) }
-        ensures child { IfOk result (λ child. next_task (Next (stmt_of stmt) (region_of self.old).rest) ≡ option_map (λ c. (c.0, stmts_of c.1.items)) child) }
-        ensures refused { OnErr result (region_of self.new ≡ with_rest (Next (stmt_of stmt) (region_of self.old).rest) (region_of self.old)) }
-        ensures room { IfOk result (λ child. IsSome child → vec_len self.new.place.rest < vec_capacity self.new.place.rest) }
+    ) -> Result<Option<Task>, AllocError>
+        ensures stepped { OnOk result (self.new ≡ with_noted (next_task self.old.rest) (stepped taken group self.old)) }
+        ensures child { IfOk result (λ child. child ≡ option_map (child_of number self.old) (next_task self.old.rest)) }
+        ensures ordered { OnOk result ((c : List Use × Body) → next_task self.old.rest ≡ Some c → AreInOrder c.0) }
+        ensures refused { OnErr result (self.new ≡ self.old) }
     {
-        match stmt {
-            Stmt::Wait => {
-                self.waiting = true;
+        match self.place.next() {
+            Some(Stmt::Task(decl, _)) => {
+                let decl = Decl::new(decl.uses().to_vec(alloc)?);
+                self.create(alloc, number, decl)
+            }
+            _ => {
+                self.advance(taken, group)?;
                 Ok(None)
             }
-            Stmt::If(test, one, two) => {
-                self.branch(test, one, two, taken)?;
-                Ok(None)
+        }
+    }
+
+    /// Creates the task that comes next, which declares this. It is noted before its statement is taken,
+    /// so that nothing is put back where memory is refused.
+    fn create(
+        &mut self,
+        alloc: Global,
+        number: usize,
+        decl: Decl,
+    ) -> Result<Option<Task>, AllocError>
+        requires next { option_map (λ c. c.0) (next_task self.old.rest) ≡ Some decl }
+        ensures stepped { OnOk result ((taken : Bool) (g : ℕ) → self.new ≡ with_child decl (stepped taken g self.old)) }
+        ensures child { IfOk result (λ child. child ≡ option_map (child_of number self.old) (next_task self.old.rest)) }
+        ensures refused { OnErr result (self.new ≡ self.old) }
+    {
+        let child = self.note_child(alloc, decl)?;
+        match self.place.take_task() {
+            Some((decl, body)) => Ok(Some(Task::new(alloc, number, child, decl, body))),
+            None => Ok(None),
+        }
+    }
+
+    /// Executes the control statement that comes next, if one does, which creates no task.
+    fn advance(&mut self, taken: bool, group: u32) -> Result<(), AllocError>
+        ensures stepped { OnOk result (next_task self.old.rest ≡ None → self.new ≡ stepped taken group self.old) }
+        ensures refused { OnErr result (self.new ≡ self.old) }
+    {
+        match self.place.take() {
+            None => Ok(()),
+            Some(stmt) => {
+                execute(&mut self.place, &mut self.waiting, stmt, taken, group)?;
+                Ok(())
             }
-            Stmt::Group(cells, body) => {
-                self.enter(group, cells, body)?;
-                Ok(None)
-            }
-            Stmt::Task(decl, body) => Ok(Some((decl, body))),
-            other => {
-                self.place.rest.push_reserved(other);
-                Ok(None)
-            }
+        }
+    }
+}
+
+/// Executes a statement that was taken off, as `step` does. A set or an add is put back, and where
+/// memory is refused, each.
+fn execute(
+    place: &mut Place,
+    waiting: &mut bool,
+    stmt: Stmt,
+    taken: bool,
+    group: u32,
+) -> Result<Option<(Decl, Vec<Stmt>)>, AllocError>
+    requires { vec_len place.old.rest < vec_capacity place.old.rest }
+    ensures stepped { OnOk result ((r : Region) → stands_at (standing_of place.new) waiting.new r
+        ≡ stepped taken group (stands_at (with_next (stmt_of stmt) (standing_of place.old)) waiting.old r)) }
+    ensures child { IfOk result (λ child. next_task (Next (stmt_of stmt) (standing_of place.old).rest) ≡ option_map (λ c. (c.0, stmts_of c.1.items)) child) }
+    ensures refused { OnErr result ((standing_of place.new ≡ with_next (stmt_of stmt) (standing_of place.old)) × (waiting.new ≡ waiting.old)) }
+{
+    match stmt {
+        Stmt::Wait => {
+            *waiting = true;
+            Ok(None)
+        }
+        Stmt::If(test, one, two) => {
+            place.branch(test, one, two, taken)?;
+            Ok(None)
+        }
+        Stmt::Group(cells, body) => {
+            place.open(group, cells, body)?;
+            Ok(None)
+        }
+        Stmt::Task(decl, body) => Ok(Some((decl, body))),
+        other => {
+            place.put_back(other);
+            Ok(None)
         }
     }
 }

@@ -5,25 +5,24 @@ use Rattle.ot_model.specs.Cells.{lengths}
 use Rattle.ot_task.specs.Assigns.{assigns_of}
 use Rattle.ot_task.specs.Pieces.{leading, behind, test_of, awake}
 use Rattle.ot_task.specs.Touched.{AssignsFit, piece_touches, AreHeld}
-use Rattle.ot_task.specs.RegionView.{region_of}
 use Rattle.ot_task.proofs.HeldLemmas.{assigns-fit, test-fits, piece-in, held-there, test-at}
 use Rattle.ot_task.proofs.prepared.prepare.Goals as goal
 
 pub touched-requires-clause-fits : goal.touched-requires-clause-fits
 touched-requires-clause-fits c =
-    let rest : Body = (awake (region_of c.args.task.now)).rest in
+    let rest : Body = (awake c.args.task.now).rest in
     let is : assigns_of c.deref.result.now ≡ leading rest = ap assigns_of c.deref.ensures.value ∙ c.in_ok-assigns.ensures.assigns ∙ ap leading c.ahead.ensures in
     subst AssignsFit (sym is) (assigns-fit (lengths c.args.cells.now) rest c.requires.named)
 
 pub touched-requires-clause-test : goal.touched-requires-clause-test
 touched-requires-clause-test c =
-    let rest : Body = (awake (region_of c.args.task.now)).rest in
+    let rest : Body = (awake c.args.task.now).rest in
     test-at (λ e. e.now) c.as_ref.result c.in_ok-assigns.condition expr_of (test_of (behind rest)) c.as_ref.ensures.value (c.in_ok-assigns.ensures.test ∙ ap (λ b. test_of (behind b)) c.ahead.ensures)
     (test-fits (lengths c.args.cells.now) rest c.requires.named)
 
 pub right_to-requires : goal.right_to-requires
 right_to-requires c =
-    let r = region_of c.args.task.now in
+    let r = c.args.task.now in
     let is : AreHeld r c.in_ok-decl.decl = search rules in
     record {
       there = held-there c.args.cells.now r.own (piece_touches (leading (awake r).rest) (test_of (behind (awake r).rest))) c.in_ok-decl.decl (piece-in (lengths c.args.cells.now) (awake r).rest c.requires.named) is;
@@ -31,6 +30,6 @@ right_to-requires c =
 
 pub returns-clause-there : goal.returns-clause-there
 returns-clause-there c =
-    let r = region_of c.args.task.now in
+    let r = c.args.task.now in
     let is : AreHeld r c.in_ok-decl.decl = search rules in
     held-there c.args.cells.now r.own (piece_touches (leading (awake r).rest) (test_of (behind (awake r).rest))) c.in_ok-decl.decl (piece-in (lengths c.args.cells.now) (awake r).rest c.requires.named) is
