@@ -27,6 +27,17 @@ same-claim old new k here ready =
 same-root : (old new : List Region) → at new 0 ≡ at old 0 → is_claimable new 0 ≡ is_claimable old 0
 same-root old new here = ap (λ (r : Region). claim_at 0 r true) here
 
+-- none is claimable whose piece is out
+pub claimable-busy : (rs : List Region) (i : ℕ) → is_some (at rs i).running ≡ true → is_claimable rs i ≡ false
+claimable-busy rs i out = ap (λ b. (not (at rs i).ended && not b) && others) out ∙ none (not (at rs i).ended)
+  where
+    others : Bool
+    others = ((i == 0) || is_ready (at rs (at rs i).parent).children (at rs i).child) && is_let_go (at rs i)
+
+    none : (b : Bool) → ((b && false) && others) ≡ false
+    none true = refl
+    none false = refl
+
 -- ---- one region changes
 
 pub field-kept : {A : Type 0} (g : Region → A) (f : Region → Region) → ((r : Region) → g (f r) ≡ g r) → (rs : List Region) (i p : ℕ) → g (at (updated rs i f) p) ≡ g (at rs p)

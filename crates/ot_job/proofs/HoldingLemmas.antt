@@ -1,7 +1,6 @@
 -- Each piece that is out holds what it touches.
-use Rattle.std.proofs.Common.{◌≡◌, ◌≢◌, ℕ, zero, suc, ◌<◌, Bool, true, false, not, ◌&&◌, List, [], ◌∷◌, length, refl, sym, ap, subst, ◌∙◌, ◌⊎◌, inl, inr, ⊎_elim, arith, true≢false}
+use Rattle.std.proofs.Common.{◌≡◌, ℕ, zero, suc, Bool, true, false, not, ◌&&◌, List, [], ◌∷◌, refl, sym, ap, subst, ◌∙◌, inl, inr, arith, true≢false}
 use Rattle.std.specs.Prelude.{Option, Some, None, Contains, if◌then◌else◌}
-use Rattle.ot_model.specs.Tree.{Body, append}
 use Rattle.ot_model.specs.Names.{NamedIn}
 use Rattle.ot_model.specs.Cells.{lengths}
 use Rattle.ot_model.specs.Uses.{is_adds, mode_in}
@@ -11,12 +10,12 @@ use Rattle.ot_model.specs.declared.stmt.Mode.TheVariants.{Reads, Writes, Adds}
 use Rattle.ot_model.specs.declared.stmt.Use.{Use}
 use Rattle.ot_check.specs.Paths.{use_as}
 use Rattle.ot_check.specs.Offences.{Declared, allows, adds_to}
-use Rattle.ot_task.specs.Regions.{Region, Run}
+use Rattle.ot_task.specs.Regions.{Region}
 use Rattle.ot_task.specs.Touched.{held, mode_held}
 use Rattle.ot_job.specs.Holding.{Touches, OnlyReads, Holds, touches_out, AllHold, AreApart}
 use Rattle.ot_job.specs.Live.{Seen}
 use Rattle.ot_job.specs.Rights.{IsRight}
-use Rattle.ot_job.specs.Sound.{at, todo_at, IsPlaced}
+use Rattle.ot_job.specs.Sound.{at, IsPlaced}
 use Rattle.ot_job.specs.Well.{IsOnCourse}
 use Rattle.ot_job.specs.Whole.{whole, wholes}
 use Rattle.ot_job.proofs.CoverLemmas.{Covers, covered}

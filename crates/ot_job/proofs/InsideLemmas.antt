@@ -1,7 +1,6 @@
 -- A job's fields as its invariant sees them, and what a settle makes of them.
 use Rattle.std.proofs.Common.{◌≡◌, ℕ, ◌+◌, ◌<◌, ◌≤◌, ◌∙◌, ap, sym, subst, refl, arith, List, ◌∷◌, Bool, true, false, true≢false, length}
 use Rattle.std.specs.Prelude.{◌↔◌, IsTrue, if◌then◌else◌, Option, Some, option_map, get_or, IsPermutation}
-use Rattle.std.proofs.lemmas.List.{length-map}
 use Rattle.ot_model.specs.Value.{val}
 use Rattle.ot_model.specs.View.{expr_of}
 use Rattle.ot_model.specs.Cells.{cell_of, lengths}
@@ -13,9 +12,7 @@ use Rattle.ot_owner.specs.Leases.{lease_of}
 use Rattle.ot_owner.specs.Lending.{value_at}
 use Rattle.ot_owner.specs.Worth.{AreJoined}
 use Rattle.ot_task.specs.Regions.{Region, is_control, tasks_next}
-use Rattle.ot_task.specs.RegionView.{region_of, regions_of}
 use Rattle.ot_task.specs.Weighing.{weight_of}
-use Rattle.ot_task.specs.declared.task.Task.{Task}
 use Rattle.ot_job.specs.Sound.{at}
 use Rattle.ot_job.specs.Live.{Live, Seen, seen_of}
 use Rattle.ot_job.specs.Settling.{Came, IsOut, MaySettle, CreatesInOrder, taken_by, settled, units_of}
@@ -38,7 +35,7 @@ seen_in s = record {
   before = s.spec.before;
   cells = s.cells;
   owned = s.owners;
-  regions = regions_of s.tasks;
+  regions = s.tasks;
   counts = s.counts;
   failing = s.failing;
 }
@@ -48,39 +45,39 @@ live_in s = record { spec = s.spec; cells = s.cells; owned = s.owners; tasks = s
 
 -- the task that is picked, where one is: the job doesn't fail, and it is the one among the claimable tasks
 pub picked-here : (s : Inside) (l : Live) (pick i : ℕ) (told : Option ℕ) → live_in s ≡ l → told ≡ picked (claimable_in (seen_of l)) pick → told ≡ Some i
-    → (s.failing ≡ false) × (picked (claimable_of (regions_of s.tasks)) pick ≡ Some i)
+    → (s.failing ≡ false) × (picked (claimable_of s.tasks) pick ≡ Some i)
 picked-here s l pick i told view is some =
-    picked-in s.failing (regions_of s.tasks) pick i (ap (λ (x : Live). picked (claimable_in (seen_of x)) pick) view ∙ sym is ∙ some)
+    picked-in s.failing s.tasks pick i (ap (λ (x : Live). picked (claimable_in (seen_of x)) pick) view ∙ sym is ∙ some)
 
 -- a piece that is found among the tasks is out, and one that isn't found isn't out
-module _ (s : Inside) (d : Came) (tasks : List Task) (found : Bool) (same : tasks ≡ s.tasks) (is : IsTrue found ↔ IsOut (regions_of tasks) d) where
-  pub found-out : found ≡ true → IsOut (regions_of s.tasks) d
-  found-out h = subst (λ (l : List Task). IsOut (regions_of l) d) same (is.0 h)
+module _ (s : Inside) (d : Came) (tasks : List Region) (found : Bool) (same : tasks ≡ s.tasks) (is : IsTrue found ↔ IsOut tasks d) where
+  pub found-out : found ≡ true → IsOut s.tasks d
+  found-out h = subst (λ (l : List Region). IsOut l d) same (is.0 h)
 
-  pub not-found-out : found ≡ false → IsOut (regions_of s.tasks) d → ⊥
-  not-found-out h out = true≢false (sym (is.1 (subst (λ (l : List Task). IsOut (regions_of l) d) (sym same) out)) ∙ h)
+  pub not-found-out : found ≡ false → IsOut s.tasks d → ⊥
+  not-found-out h out = true≢false (sym (is.1 (subst (λ (l : List Region). IsOut l d) (sym same) out)) ∙ h)
 
-module _ (s : Inside) (w : IsWell (seen_in s)) (working : s.failing ≡ false) (done : Done) (out : IsOut (regions_of s.tasks) (done_of done)) where
+module _ (s : Inside) (w : IsWell (seen_in s)) (working : s.failing ≡ false) (done : Done) (out : IsOut s.tasks (done_of done)) where
   abbrev d : Came
   d = done_of done
 
   abbrev r : Region
-  r = at (regions_of s.tasks) done.task
+  r = at s.tasks done.task
 
   pub may : MaySettle (seen_in s)
   may = settle-may (seen_in s) w (w.course working)
 
   pub task-within : done.task < length s.tasks
-  task-within = omega (arith, is-known (seen_in s) d may out, length-map s.tasks region_of)
+  task-within = omega (arith, is-known (seen_in s) d may out)
 
   -- what the code counts, told of the task's region
-  module _ (t : Task) (here : t ≡ get_or s.tasks done.task t) where
-    pub units-more : (len next : ℕ) → len ≡ length done.assigns.items → next ≡ (if is_control (region_of t).rest then 1 else 0) → units_of d.assigns r.rest ≡ len + next
+  module _ (t : Region) (here : t ≡ get_or s.tasks done.task t) where
+    pub units-more : (len next : ℕ) → len ≡ length done.assigns.items → next ≡ (if is_control t.rest then 1 else 0) → units_of d.assigns r.rest ≡ len + next
     units-more len next is control =
         let control-is = control ∙ ap (λ (x : Region). if is_control x.rest then 1 else 0) (sym (at-here s.tasks done.task t task-within here)) in
         omega (arith, is, assigns-len done.assigns.items, control-is)
 
-    pub tasks-more : (next : ℕ) → next ≡ tasks_next (region_of t).rest → next ≡ tasks_next r.rest
+    pub tasks-more : (next : ℕ) → next ≡ tasks_next t.rest → next ≡ tasks_next r.rest
     tasks-more next is = is ∙ ap (λ (x : Region). tasks_next x.rest) (sym (at-here s.tasks done.task t task-within here))
 
   module _ (cells : List (List ℕ)) (owned : Owned) (back : AreJoined done.lent (cell_of s.cells) (cell_of cells)) (long : lengths cells ≡ lengths s.cells)
@@ -99,9 +96,9 @@ module _ (s : Inside) (w : IsWell (seen_in s)) (working : s.failing ≡ false) (
         omega (arith, (counts-few _ (settle-course (seen_in s) w working d out done.made told cells owned back long ended ordered)).0, small, tasks_in-≤-size (expanded_of s.spec.checked.program).body)
 
     abbrev pub regions_now : List Region
-    regions_now = settled (taken_by d.answer) s.counts.units done.task (regions_of s.tasks)
+    regions_now = settled (taken_by d.answer) s.counts.units done.task s.tasks
 
-    pub lighter : weight_of regions_now < weight_of (regions_of s.tasks)
+    pub lighter : weight_of regions_now < weight_of s.tasks
     lighter = settle-lighter (seen_in s) w working d out done.made told cells owned back long ended ordered
 
     -- the job once it is settled, by its parts

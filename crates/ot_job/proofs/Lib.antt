@@ -43,6 +43,7 @@ pub mod WeighingLemmas
 pub mod DealingsLemmas
 pub mod CountingLemmas
 pub mod ListingLemmas
+pub mod ListedLemmas
 pub mod ClaimableLemmas
 pub mod NumberedLemmas
 pub mod KeepingLemmas

@@ -12,22 +12,20 @@ use Rattle.std.specs.List.{list_all}
 use Rattle.std.specs.Prelude.{take}
 use Rattle.std.proofs.lemmas.List.Sums.{AllPass-from_list_all}
 use Rattle.ot_task.specs.Regions.{Region}
-use Rattle.ot_task.specs.RegionView.{region_of, regions_of}
 use Rattle.ot_job.specs.Sound.{at, gone}
 use Rattle.ot_job.specs.Claiming.{is_claimable, claimable_of, picked}
 use Rattle.ot_depend.specs.Siblings.{is_ready}
-use Rattle.ot_task.specs.declared.task.Task.{Task}
 
--- ---- regions by their records
+-- ---- regions by their numbers
 
-pub at-past : (tasks : List Task) (i : ℕ) → length tasks ≤ i → at (regions_of tasks) i ≡ gone
+pub at-past : (tasks : List Region) (i : ℕ) → length tasks ≤ i → at tasks i ≡ gone
 at-past [] i h = refl
 at-past (x ∷ tasks) zero h = absurd (omega (arith, h))
 at-past (x ∷ tasks) (suc i) h = at-past tasks i (omega (arith, h))
 
-pub at-here : (tasks : List Task) (i : ℕ) (t : Task) → i < length tasks → t ≡ get_or tasks i t → at (regions_of tasks) i ≡ region_of t
+pub at-here : (tasks : List Region) (i : ℕ) (t : Region) → i < length tasks → t ≡ get_or tasks i t → at tasks i ≡ t
 at-here [] i t within is = absurd (omega (arith, within))
-at-here (x ∷ tasks) zero t within is = ap region_of (sym is)
+at-here (x ∷ tasks) zero t within is = sym is
 at-here (x ∷ tasks) (suc i) t within is = at-here tasks i t (omega (arith, within)) is
 
 -- ---- ready

@@ -8,6 +8,7 @@ pub mod Settling
 pub mod DoneView
 pub mod States
 pub mod Counting
+pub mod Listed
 pub mod Listing
 pub mod Claims
 pub mod Whole

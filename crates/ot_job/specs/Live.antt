@@ -5,14 +5,12 @@ use Rattle.ot_model.specs.declared.plain.Counts.{Counts}
 use Rattle.ot_check.specs.Jobs.{Spec}
 use Rattle.ot_owner.specs.Owning.{Owned}
 use Rattle.ot_task.specs.Regions.{Region}
-use Rattle.ot_task.specs.RegionView.{regions_of}
-use Rattle.ot_task.specs.declared.task.Task.{Task}
 
 pub record Live : Type 0 where
   pub spec : Spec
   pub cells : List (List ℕ)
   pub owned : Owned
-  pub tasks : List Task
+  pub tasks : List Region
   pub counts : Counts
   pub failing : Bool
 
@@ -33,7 +31,7 @@ seen_of j = record {
   before = j.spec.before;
   cells = j.cells;
   owned = j.owned;
-  regions = regions_of j.tasks;
+  regions = j.tasks;
   counts = j.counts;
   failing = j.failing;
 }

@@ -35,7 +35,6 @@ impl Model for Job {
     ghost coded = { Prim.hlevel (codes, c.the_row.coded, t.the_row.coded) };
 
     ghost use Rattle.ot_model.specs.Programs.{expanded_of};
-    ghost use Rattle.ot_task.specs.RegionView.{regions_of};
     ghost use Rattle.ot_job.specs.Well.{IsWell};
 
     ghost view = { λ j. record { spec = j.spec; cells = j.cells; owned = j.owners; tasks = j.tasks; counts = j.counts; failing = j.failing } };
@@ -45,7 +44,7 @@ impl Model for Job {
       before = j.spec.before;
       cells = j.cells;
       owned = j.owners;
-      regions = regions_of j.tasks;
+      regions = j.tasks;
       counts = j.counts;
       failing = j.failing;
     }) };

@@ -9,10 +9,10 @@
 
 mod arena;
 mod job;
+mod listed;
 mod listing;
 mod pick;
 mod piece;
-mod room;
 mod settle;
 mod start;
 mod state;

@@ -2,13 +2,12 @@ ghost use Rattle.std.specs.Prelude.{◌≡◌, ◌<◌, ◌==◌, ◌||◌, leng
 ghost use Rattle.ot_job.specs.Claiming.{is_claimable, claimable_of, picked};
 ghost use Rattle.ot_depend.specs.Siblings.{is_ready};
 ghost use Rattle.ot_job.specs.Sound.{at};
-ghost use Rattle.ot_task.specs.RegionView.{regions_of};
 
 use ot_task::Task;
 
 /// Whether a child may begin as far as its earlier siblings go.
 fn is_ready(tasks: &[Task], parent: usize, child: usize) -> bool
-    ensures { result ≡ is_ready (at (regions_of tasks.now) parent).children child }
+    ensures { result ≡ is_ready (at tasks.now parent).children child }
 {
     if parent >= tasks.len() {
         return false;
@@ -19,8 +18,9 @@ fn is_ready(tasks: &[Task], parent: usize, child: usize) -> bool
 /// Whether a piece of the task may be claimed.
 pub fn is_claimable(tasks: &[Task], i: usize) -> bool
     requires known { i < length tasks.now }
-    ensures { result ≡ is_claimable (regions_of tasks.now) i }
+    ensures { result ≡ is_claimable tasks.now i }
 {
     let task = &tasks[i];
-    task.is_idle() && (i == 0 || is_ready(tasks, task.parent, task.child)) && task.is_let_go()
+    let (parent, child) = task.place_among();
+    task.is_idle() && (i == 0 || is_ready(tasks, parent, child)) && task.is_let_go()
 }

@@ -2,7 +2,6 @@ ghost use Rattle.std.specs.Prelude.{◌≡◌, [], ◌∷◌, IfOk};
 ghost use Rattle.ot_model.specs.Cells.{lengths};
 ghost use Rattle.ot_model.specs.Names.{NamedIn};
 ghost use Rattle.ot_model.specs.Programs.{expanded_of};
-ghost use Rattle.ot_task.specs.RegionView.{regions_of};
 ghost use Rattle.ot_task.specs.Regions.{root_region};
 
 use crate::tasks::Tasks;
@@ -14,7 +13,7 @@ use std::alloc::{AllocError, Global};
 pub(crate) fn beginning(alloc: Global, spec: &JobSpec) -> Result<(Cells, Tasks), AllocError>
     ensures cells { IfOk result (λ parts. parts.0 ≡ spec.now.before) }
     ensures named { IfOk result (λ parts. NamedIn (lengths spec.now.before) (expanded_of spec.now.checked.program).body) }
-    ensures root { IfOk result (λ parts. regions_of parts.1 ≡ root_region (expanded_of spec.now.checked.program).body ∷ []) }
+    ensures root { IfOk result (λ parts. parts.1 ≡ root_region (expanded_of spec.now.checked.program).body ∷ []) }
 {
     let cells = spec.before().copy(alloc)?;
     let body = copy_stmts(alloc, &spec.checked().program.body)?;

@@ -1,11 +1,10 @@
 use crate::arena::execute;
+use crate::listed::Listed;
 use crate::listing::{refresh, refresh_children};
-use crate::room::make_room_for;
 use ot_model::Stmt;
 use ot_owner::Right;
 use ot_task::{Assign, Task};
 use std::alloc::{AllocError, Global};
-use std::collections::VecDeque;
 use std::marker::Model;
 
 /// The tasks of a job in order of their creation, and what is kept so that none has to be passed over.
@@ -14,9 +13,8 @@ pub struct Tasks {
     tasks: Vec<Task>,
     /// Of each task, the numbers of its children's tasks, in order of their creation.
     children: Vec<Vec<usize>>,
-    /// Those that are claimable, in order of their numbers. It has room for all. A queue, since those that
-    /// come and go most often are the first, which create, and the last, which are new.
-    claimable: VecDeque<usize>,
+    /// Those that are claimable, in order of their numbers. It has room for all.
+    claimable: Listed,
     /// How many have a piece out.
     out: usize,
     /// How many have not ended their body.
@@ -26,20 +24,18 @@ pub struct Tasks {
 impl Model for Tasks {
     ghost use Rattle.std.specs.Coded.{codes};
     ghost use Rattle.std.specs.Prelude.{List};
-    ghost use Rattle.ot_task.specs.contracts.task.Task as t;
-    ghost use Rattle.ot_task.specs.declared.task.Task.{Task};
+    ghost use Rattle.ot_model.specs.Code.{body_code};
+    ghost use Rattle.ot_task.specs.Regions.{Region};
 
-    ghost Value = { List Task };
+    ghost Value = { List Region };
 
-    ghost coded = { Prim.hlevel (codes, t.the_row.coded) };
+    ghost coded = { Prim.hlevel (codes, body_code) };
 
-    ghost use Rattle.ot_task.specs.RegionView.{regions_of};
-    ghost use Rattle.std.specs.VecDeque.{deque_capacity};
     ghost use Rattle.ot_job.specs.Listing.{AreKept, numbers_of};
 
     ghost view = { λ t. t.tasks.items };
 
-    ghost invariant = { λ t. AreKept (regions_of t.tasks.items) (numbers_of t.children.items) t.claimable.items (deque_capacity t.claimable) t.out t.unended };
+    ghost invariant = { λ t. AreKept t.tasks.items (numbers_of t.children.items) t.claimable.listed t.claimable.room t.out t.unended };
 }
 
 impl Tasks {
@@ -50,7 +46,6 @@ impl Tasks {
     ghost use Rattle.ot_job.specs.Sound.{at, parent_of};
     ghost use Rattle.ot_task.specs.Pieces.{leading_len, awake, begun};
     ghost use Rattle.ot_task.specs.Regions.{executed};
-    ghost use Rattle.ot_task.specs.RegionView.{regions_of};
     ghost use Rattle.ot_job.specs.Settling.{CreatesInOrder, closed, settled};
     ghost use Rattle.ot_task.specs.Regions.{over, stopped, tasks_next, without};
     ghost use Rattle.ot_job.specs.Claiming.{claimable_of, picked};
@@ -59,14 +54,15 @@ impl Tasks {
 
     /// The root task alone, at the beginning of the program's body.
     pub fn root(alloc: Global, body: Vec<Stmt>) -> Result<Tasks, AllocError>
-        ensures { IfOk result (λ tasks. regions_of tasks ≡ root_region (stmts_of body.items) ∷ []) }
+        ensures { IfOk result (λ tasks. tasks ≡ root_region (stmts_of body.items) ∷ []) }
     {
         let mut tasks = Vec::with_capacity(alloc, 1)?;
         let mut children = Vec::with_capacity(alloc, 1)?;
-        let mut claimable = VecDeque::with_capacity(alloc, 1)?;
+        let mut claimable = Listed::new(alloc);
+        claimable.make_room_for(0)?;
         tasks.push_reserved(Task::root(alloc, body));
         children.push_reserved(Vec::new(alloc));
-        claimable.push_back_reserved(0);
+        claimable.insert(0);
         Ok(Tasks {
             tasks,
             children,
@@ -93,53 +89,54 @@ impl Tasks {
 
     /// Whether a piece of some task is out.
     pub fn any_out(&self) -> bool
-        ensures { result ≡ any_out (regions_of self.now) }
+        ensures { result ≡ any_out self.now }
     {
         self.out != 0
     }
 
     /// Whether each task has ended its body.
     pub fn all_ended(&self) -> bool
-        ensures { result ≡ all_ended (regions_of self.now) }
+        ensures { result ≡ all_ended self.now }
     {
         self.unended == 0
     }
 
     /// How many are claimable.
     pub fn claimable(&self) -> usize
-        ensures { result ≡ length (claimable_of (regions_of self.now)) }
+        ensures { result ≡ length (claimable_of self.now) }
     {
-        self.claimable.len()
+        self.claimable.count()
     }
 
     /// The claimable task at `pick` modulo their count.
     pub fn pick(&self, pick: usize) -> Option<usize>
-        ensures { result ≡ picked (claimable_of (regions_of self.now)) pick }
+        ensures { result ≡ picked (claimable_of self.now) pick }
     {
-        if self.claimable.is_empty() {
+        let count = self.claimable.count();
+        if count == 0 {
             return None;
         }
-        Some(self.claimable[pick % self.claimable.len()])
+        self.claimable.at(pick % count)
     }
 
     /// A task goes on with a piece that is out from now on and holds this. It takes no memory.
     pub fn begin(&mut self, i: usize, room: Vec<Assign>, right: Right)
         requires known { i < length self.old }
-        requires idle { (at (regions_of self.old) i).running ≡ None }
+        requires idle { (at self.old i).running ≡ None }
         requires empty { room.items ≡ [] }
-        requires room { leading_len (awake (at (regions_of self.old) i)).rest ≤ vec_capacity room }
-        ensures { regions_of self.new ≡ updated (regions_of self.old) i (begun right) }
+        requires room { leading_len (awake (at self.old i)).rest ≤ vec_capacity room }
+        ensures { self.new ≡ updated self.old i (begun right) }
     {
         self.tasks[i].begin(room, right);
         self.out += 1;
-        refresh(&mut self.claimable, &self.tasks, i);
+        self.claimable.remove(i);
     }
 
     /// The piece of a task is not out any more. It takes no memory.
     pub fn stop(&mut self, i: usize)
         requires known { i < length self.old }
-        requires out { is_some (at (regions_of self.old) i).running ≡ true }
-        ensures { regions_of self.new ≡ updated (regions_of self.old) i stopped }
+        requires out { is_some (at self.old i).running ≡ true }
+        ensures { self.new ≡ updated self.old i stopped }
     {
         self.tasks[i].stop();
         self.out -= 1;
@@ -156,14 +153,14 @@ impl Tasks {
         group: u32,
     ) -> Result<(), AllocError>
         requires known { i < length self.old }
-        requires out { is_some (at (regions_of self.old) i).running ≡ true }
-        requires alive { (at (regions_of self.old) i).ended ≡ false }
-        requires parent { 0 < i → parent_of (regions_of self.old) i < length self.old }
-        requires ready { 0 < i → IsReady (at (regions_of self.old) (parent_of (regions_of self.old) i)).children (at (regions_of self.old) i).child }
-        requires unfinished { 0 < i → IsUnfinished (at (regions_of self.old) (parent_of (regions_of self.old) i)).children (at (regions_of self.old) i).child }
-        ensures ordered { OnOk result (CreatesInOrder (at (regions_of self.old) i)) }
-        ensures settled { OnOk result (regions_of self.new ≡ settled taken group i (regions_of self.old)) }
-        ensures refused { OnErr result (regions_of self.new ≡ regions_of self.old) }
+        requires out { is_some (at self.old i).running ≡ true }
+        requires alive { (at self.old i).ended ≡ false }
+        requires parent { 0 < i → parent_of self.old i < length self.old }
+        requires ready { 0 < i → IsReady (at self.old (parent_of self.old i)).children (at self.old i).child }
+        requires unfinished { 0 < i → IsUnfinished (at self.old (parent_of self.old i)).children (at self.old i).child }
+        ensures ordered { OnOk result (CreatesInOrder (at self.old i)) }
+        ensures settled { OnOk result (self.new ≡ settled taken group i self.old) }
+        ensures refused { OnErr result (self.new ≡ self.old) }
     {
         if self.tasks[i].is_at_end() {
             self.close(i);
@@ -179,11 +176,12 @@ impl Tasks {
     /// A task ends its body. It takes no memory.
     fn close(&mut self, i: usize)
         requires known { i < length self.old }
-        requires alive { (at (regions_of self.old) i).ended ≡ false }
-        requires parent { 0 < i → parent_of (regions_of self.old) i < length self.old }
-        requires ready { 0 < i → IsReady (at (regions_of self.old) (parent_of (regions_of self.old) i)).children (at (regions_of self.old) i).child }
-        requires unfinished { 0 < i → IsUnfinished (at (regions_of self.old) (parent_of (regions_of self.old) i)).children (at (regions_of self.old) i).child }
-        ensures { regions_of self.new ≡ closed i (regions_of self.old) }
+        requires out { is_some (at self.old i).running ≡ true }
+        requires alive { (at self.old i).ended ≡ false }
+        requires parent { 0 < i → parent_of self.old i < length self.old }
+        requires ready { 0 < i → IsReady (at self.old (parent_of self.old i)).children (at self.old i).child }
+        requires unfinished { 0 < i → IsUnfinished (at self.old (parent_of self.old i)).children (at self.old i).child }
+        ensures { self.new ≡ closed i self.old }
     {
         if i > 0 {
             self.tell_parent(i);
@@ -194,13 +192,12 @@ impl Tasks {
     /// Tells the parent that a child has finished. It takes no memory.
     fn tell_parent(&mut self, i: usize)
         requires known { i < length self.old }
-        requires parent { parent_of (regions_of self.old) i < length self.old }
-        requires ready { IsReady (at (regions_of self.old) (parent_of (regions_of self.old) i)).children (at (regions_of self.old) i).child }
-        requires unfinished { IsUnfinished (at (regions_of self.old) (parent_of (regions_of self.old) i)).children (at (regions_of self.old) i).child }
-        ensures { regions_of self.new ≡ updated (regions_of self.old) (parent_of (regions_of self.old) i) (without (at (regions_of self.old) i).child) }
+        requires parent { parent_of self.old i < length self.old }
+        requires ready { IsReady (at self.old (parent_of self.old i)).children (at self.old i).child }
+        requires unfinished { IsUnfinished (at self.old (parent_of self.old i)).children (at self.old i).child }
+        ensures { self.new ≡ updated self.old (parent_of self.old i) (without (at self.old i).child) }
     {
-        let parent = self.tasks[i].parent;
-        let child = self.tasks[i].child;
+        let (parent, child) = self.tasks[i].place_among();
         let waiters = self.tasks[parent].release_child(child);
         refresh(&mut self.claimable, &self.tasks, parent);
         refresh_children(
@@ -214,12 +211,12 @@ impl Tasks {
     /// A task has ended its body. It takes no memory.
     fn end(&mut self, i: usize)
         requires known { i < length self.old }
-        requires alive { (at (regions_of self.old) i).ended ≡ false }
-        ensures { regions_of self.new ≡ updated (regions_of self.old) i over }
+        requires out { is_some (at self.old i).running ≡ true }
+        requires alive { (at self.old i).ended ≡ false }
+        ensures { self.new ≡ updated self.old i over }
     {
         self.tasks[i].end();
         self.unended -= 1;
-        refresh(&mut self.claimable, &self.tasks, i);
     }
 
     /// A task executes the control statement that comes next, if one does, which is not a task. Where
@@ -232,33 +229,32 @@ impl Tasks {
         group: u32,
     ) -> Result<(), AllocError>
         requires known { i < length self.old }
-        requires none { tasks_next (at (regions_of self.old) i).rest ≡ 0 }
-        ensures ordered { OnOk result (CreatesInOrder (at (regions_of self.old) i)) }
-        ensures executed { OnOk result (regions_of self.new ≡ executed taken group i (regions_of self.old)) }
-        ensures refused { OnErr result (regions_of self.new ≡ regions_of self.old) }
+        requires out { is_some (at self.old i).running ≡ true }
+        requires none { tasks_next (at self.old i).rest ≡ 0 }
+        ensures ordered { OnOk result (CreatesInOrder (at self.old i)) }
+        ensures executed { OnOk result (self.new ≡ executed taken group i self.old) }
+        ensures refused { OnErr result (self.new ≡ self.old) }
     {
-        execute(&mut self.tasks, alloc, i, taken, group)?;
-        refresh(&mut self.claimable, &self.tasks, i);
-        Ok(())
+        execute(&mut self.tasks, alloc, i, taken, group)
     }
 
     /// A task creates the task that comes next. Where memory is refused, nothing changes.
     fn create(&mut self, alloc: Global, i: usize, taken: bool, group: u32) -> Result<(), AllocError>
         requires known { i < length self.old }
-        requires some { tasks_next (at (regions_of self.old) i).rest ≡ 0 → ⊥ }
-        ensures ordered { OnOk result (CreatesInOrder (at (regions_of self.old) i)) }
-        ensures executed { OnOk result (regions_of self.new ≡ executed taken group i (regions_of self.old)) }
-        ensures refused { OnErr result (regions_of self.new ≡ regions_of self.old) }
+        requires out { is_some (at self.old i).running ≡ true }
+        requires some { tasks_next (at self.old i).rest ≡ 0 → ⊥ }
+        ensures ordered { OnOk result (CreatesInOrder (at self.old i)) }
+        ensures executed { OnOk result (self.new ≡ executed taken group i self.old) }
+        ensures refused { OnErr result (self.new ≡ self.old) }
     {
         let number = self.tasks.len();
         self.children[i].reserve(1)?;
         self.children.reserve(1)?;
-        make_room_for(&mut self.claimable, number + 1)?;
+        self.claimable.make_room_for(number)?;
         execute(&mut self.tasks, alloc, i, taken, group)?;
         self.children[i].push_reserved(number);
         self.children.push_reserved(Vec::new(alloc));
         self.unended += 1;
-        refresh(&mut self.claimable, &self.tasks, i);
         refresh(&mut self.claimable, &self.tasks, number);
         Ok(())
     }

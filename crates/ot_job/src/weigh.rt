@@ -1,13 +1,12 @@
 ghost use Rattle.std.specs.Prelude.{◌≡◌, ◌<◌, ◌^◌};
-ghost use Rattle.ot_task.specs.RegionView.{regions_of};
 ghost use Rattle.ot_task.specs.Weighing.{weight_of};
 
 use ot_task::Task;
 
 /// The weight of all tasks.
 pub fn weigh_tasks(tasks: &[Task]) -> u64
-    requires { weight_of (regions_of tasks.now) < 2 ^ 64 }
-    ensures { result ≡ weight_of (regions_of tasks.now) }
+    requires { weight_of tasks.now < 2 ^ 64 }
+    ensures { result ≡ weight_of tasks.now }
 {
     let mut sum = 0;
     for task in tasks {

@@ -2,7 +2,6 @@ use Rattle.std.proofs.Common.{◌≡◌, ◌∙◌, ◌||◌, ◌==◌, sym, sub
 use Rattle.std.proofs.lemmas.Bool.{cases_Bool, eqb-true}
 use Rattle.std.proofs.lemmas.List.Folds.{list_any_more}
 use Rattle.ot_depend.specs.Kept.{has}
-use Rattle.ot_task.specs.RegionView.{regions_of}
 use Rattle.ot_job.specs.Listing.{TellsOf}
 use Rattle.ot_job.proofs.listing.refresh_children.Goals as goal
 
@@ -19,7 +18,7 @@ loop-child-preserved c =
     let xs = c.args.children.now in
     let i = c.loop-child.child-index in
     let old = c.loop-child.invariant in
-    let tells = TellsOf (regions_of c.args.tasks.now) c.refresh.new.list.items in (
+    let tells = TellsOf c.args.tasks.now c.refresh.new.list.listed in (
       c.refresh.ensures.ordered,
       omega (arith, c.refresh.ensures.room, old.1),
       λ k was. c.refresh.ensures.others k (old.2 k was),
@@ -27,6 +26,6 @@ loop-child-preserved c =
         | inl before ↦ c.refresh.ensures.others (get_or c.args.numbers.now n 0) (old.3 n before)
         | inr not_yet ↦ (let here : (get_or xs i 0 == n) ≡ true =
             last-or (has n (take i xs)) (get_or xs i 0 == n) (sym (list_any_more (λ x. x == n) xs i 0 c.loop-child-test.true) ∙ there) not_yet in
-            subst (λ (m : ℕ). TellsOf (regions_of c.args.tasks.now) c.refresh.new.list.items (get_or c.args.numbers.now m 0)) (eqb-true (get_or xs i 0) n here) c.refresh.ensures.told)
+            subst (λ (m : ℕ). TellsOf c.args.tasks.now c.refresh.new.list.listed (get_or c.args.numbers.now m 0)) (eqb-true (get_or xs i 0) n here) c.refresh.ensures.told)
       ],
     )

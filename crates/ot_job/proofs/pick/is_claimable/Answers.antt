@@ -1,7 +1,6 @@
 use Rattle.std.proofs.Common.{rules, ◌∙◌, Bool}
 use Rattle.ot_task.specs.Waits.{is_let_go}
 use Rattle.ot_depend.specs.Siblings.{is_ready}
-use Rattle.ot_task.specs.RegionView.{region_of, regions_of}
 use Rattle.ot_job.specs.Sound.{at}
 use Rattle.ot_job.proofs.PickLemmas.{at-here, all-three, zero-or, other-or}
 use Rattle.ot_job.proofs.pick.is_claimable.Goals.{then-is_idle+then-i-eq0, then-is_idle+else-i-eq0, else-is_idle}
@@ -11,8 +10,8 @@ pub returns-then-is_ready : goal.returns-then-is_ready
 returns-then-is_ready c =
     let tasks = c.args.tasks.now in
     let here = at-here tasks c.args.i c.index-tasks-i.result c.requires.known c.index-tasks-i.is in
-    let ready : Bool = is_ready (at (regions_of tasks) (region_of c.index-tasks-i.result).parent).children (region_of c.index-tasks-i.result).child in
-    let free = is_let_go (region_of c.index-tasks-i.result) in
+    let ready : Bool = is_ready (at tasks c.index-tasks-i.result.parent).children c.index-tasks-i.result.child in
+    let free = is_let_go c.index-tasks-i.result in
     rw here (c.is_let_go.ensures ∙ elim c.if-is_idle.branch [
       | then-is_idle+then-i-eq0 w ↦ all-three _ _ free (search rules) (zero-or c.args.i ready (search rules))
       | then-is_idle+else-i-eq0 w ↦ all-three _ _ free (search rules) (other-or c.args.i ready (search rules) ∙ search rules)

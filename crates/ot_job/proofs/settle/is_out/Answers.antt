@@ -3,7 +3,6 @@ use Rattle.std.specs.Prelude.{◌↔◌, Option, option_map}
 use Rattle.ot_model.specs.Tree.{E, Body}
 use Rattle.ot_model.specs.View.{expr_of}
 use Rattle.ot_task.specs.Assigns.{assigns_of}
-use Rattle.ot_task.specs.RegionView.{region_of}
 use Rattle.ot_job.proofs.RunLemmas.{through}
 use Rattle.ot_task.specs.Regions.{Region}
 use Rattle.ot_task.specs.Pieces.{Runs}
@@ -23,5 +22,5 @@ returns c =
     let assigns : assigns_of c.deref.result.now ≡ d.assigns = ap assigns_of c.deref.ensures.value in
     let test : option_map (λ e. expr_of e.now) c.as_ref.result ≡ d.test = through (λ e. e.now) expr_of c.as_ref.result c.args.done.now.condition c.as_ref.ensures.value in
     subst (λ (r : Region). IsTrue c.runs.result ↔ Runs r d.assigns d.test d.lent) (sym here)
-    (subst (λ (t : Option E). IsTrue c.runs.result ↔ Runs (region_of c.index-tasks-task.result) d.assigns t d.lent) test
-    (subst (λ (b : Body). IsTrue c.runs.result ↔ Runs (region_of c.index-tasks-task.result) b (option_map (λ e. expr_of e.now) c.as_ref.result) d.lent) assigns c.runs.ensures))
+    (subst (λ (t : Option E). IsTrue c.runs.result ↔ Runs c.index-tasks-task.result d.assigns t d.lent) test
+    (subst (λ (b : Body). IsTrue c.runs.result ↔ Runs c.index-tasks-task.result b (option_map (λ e. expr_of e.now) c.as_ref.result) d.lent) assigns c.runs.ensures))

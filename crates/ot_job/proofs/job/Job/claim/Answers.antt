@@ -1,6 +1,5 @@
 use Rattle.std.proofs.Common.{rules, refl, [], ◌≡◌, ◌<◌, ◌∙◌, ap, sym, subst, arith, length, List, Bool}
 use Rattle.std.specs.Prelude.{Some, Option, option_map, if◌then◌else◌}
-use Rattle.std.proofs.lemmas.List.{length-map}
 use Rattle.ot_model.specs.Tree.{E, Body}
 use Rattle.ot_model.specs.Cells.{lengths, updated}
 use Rattle.ot_model.specs.Names.{NamedIn}
@@ -10,7 +9,6 @@ use Rattle.ot_owner.specs.Leases.{lease_of, lent_from}
 use Rattle.ot_owner.proofs.RightsLemmas.{lent_uses}
 use Rattle.ot_job.specs.Live.{Live, Seen, seen_of}
 use Rattle.ot_task.specs.Regions.{Region}
-use Rattle.ot_task.specs.RegionView.{region_of, regions_of}
 use Rattle.ot_job.specs.Sound.{at}
 use Rattle.ot_task.specs.Pieces.{leading, behind, test_of, awake, begun, leading_len}
 use Rattle.ot_task.specs.Assigns.{assigns_of, CanRun}
@@ -41,15 +39,15 @@ use Rattle.ot_job.proofs.job.Job.claim.Goals as goal
 pub get-requires : goal.get-requires
 get-requires c =
     let found = picked-here c.self.inside _ c.args.pick c.in-Some.task _ c.self.view_is c.pick.ensures c.in-Some.is in
-    let is : picked (claimable_of (regions_of c.self.inside.tasks)) c.args.pick ≡ Some c.in-Some.task = found.1 in
-    omega (arith, (picked-claimable (regions_of c.self.inside.tasks) c.args.pick c.in-Some.task is).0, length-map c.self.inside.tasks region_of)
+    let is : picked (claimable_of c.self.inside.tasks) c.args.pick ≡ Some c.in-Some.task = found.1 in
+    omega (arith, (picked-claimable c.self.inside.tasks c.args.pick c.in-Some.task is).0)
 
 pub prepare-requires : goal.prepare-requires
 prepare-requires c =
     let tasks = c.self.inside.tasks in
     let found = picked-here c.self.inside _ c.args.pick c.in-Some.task _ c.self.view_is c.pick.ensures c.in-Some.is in
-    let is : picked (claimable_of (regions_of tasks)) c.args.pick ≡ Some c.in-Some.task = found.1 in
-    let within : c.in-Some.task < length tasks = omega (arith, (picked-claimable (regions_of tasks) c.args.pick c.in-Some.task is).0, length-map tasks region_of) in
+    let is : picked (claimable_of tasks) c.args.pick ≡ Some c.in-Some.task = found.1 in
+    let within : c.in-Some.task < length tasks = omega (arith, (picked-claimable tasks c.args.pick c.in-Some.task is).0) in
     let here = at-here tasks c.in-Some.task c.get.result.now within c.get.ensures in
     let named = named-awake _ (c.self.invariant.course found.0) c.in-Some.task in
     record { named = subst (λ r. NamedIn (lengths c.self.inside.cells) (awake r).rest) here named }
@@ -58,9 +56,9 @@ pub lease-requires-clause-free : goal.lease-requires-clause-free
 lease-requires-clause-free c =
     let tasks = c.self.inside.tasks in
     let found = picked-here c.self.inside _ c.args.pick c.in-Some.task _ c.self.view_is c.pick.ensures c.in-Some.is in
-    let is : picked (claimable_of (regions_of tasks)) c.args.pick ≡ Some c.in-Some.task = found.1 in
-    let both = picked-claimable (regions_of tasks) c.args.pick c.in-Some.task is in
-    let within : c.in-Some.task < length tasks = omega (arith, both.0, length-map tasks region_of) in
+    let is : picked (claimable_of tasks) c.args.pick ≡ Some c.in-Some.task = found.1 in
+    let both = picked-claimable tasks c.args.pick c.in-Some.task is in
+    let within : c.in-Some.task < length tasks = omega (arith, both.0) in
     let here = at-here tasks c.in-Some.task c.get.result.now within c.get.ensures in
     claim-free _ c.self.invariant (c.self.invariant.course found.0) c.in-Some.task both.0 both.1 c.in_ok-room.field-0.decl
     (subst (λ r. AreHeld r c.in_ok-room.field-0.decl) (sym here) c.in_ok-room.ensures.held) c.in_ok-room.ensures.ordered
@@ -68,22 +66,22 @@ lease-requires-clause-free c =
 pub begin-requires-clause-known : goal.begin-requires-clause-known
 begin-requires-clause-known c =
     let found = picked-here c.self.inside _ c.args.pick c.in-Some.task _ c.self.view_is c.pick.ensures c.in-Some.is in
-    let is : picked (claimable_of (regions_of c.self.inside.tasks)) c.args.pick ≡ Some c.in-Some.task = found.1 in
-    omega (arith, (picked-claimable (regions_of c.self.inside.tasks) c.args.pick c.in-Some.task is).0, length-map c.self.inside.tasks region_of)
+    let is : picked (claimable_of c.self.inside.tasks) c.args.pick ≡ Some c.in-Some.task = found.1 in
+    omega (arith, (picked-claimable c.self.inside.tasks c.args.pick c.in-Some.task is).0)
 
 pub begin-requires-clause-room : goal.begin-requires-clause-room
 begin-requires-clause-room c =
     let tasks = c.self.inside.tasks in
     let found = picked-here c.self.inside _ c.args.pick c.in-Some.task _ c.self.view_is c.pick.ensures c.in-Some.is in
-    let is : picked (claimable_of (regions_of tasks)) c.args.pick ≡ Some c.in-Some.task = found.1 in
-    let within : c.in-Some.task < length tasks = omega (arith, (picked-claimable (regions_of tasks) c.args.pick c.in-Some.task is).0, length-map tasks region_of) in
+    let is : picked (claimable_of tasks) c.args.pick ≡ Some c.in-Some.task = found.1 in
+    let within : c.in-Some.task < length tasks = omega (arith, (picked-claimable tasks c.args.pick c.in-Some.task is).0) in
     let one = at-here tasks c.in-Some.task c.get.result.now within c.get.ensures in
     let same = ap (λ r. leading_len (awake r).rest) one in
     omega (arith, same, c.in_ok-room.ensures.room)
 
 pub begin-requires-clause-idle : goal.begin-requires-clause-idle
 begin-requires-clause-idle c =
-    let rs = regions_of c.self.inside.tasks in
+    let rs = c.self.inside.tasks in
     let found = picked-here c.self.inside _ c.args.pick c.in-Some.task _ c.self.view_is c.pick.ensures c.in-Some.is in
     let is : picked (claimable_of rs) c.args.pick ≡ Some c.in-Some.task = found.1 in
     claimable-idle rs c.in-Some.task (picked-claimable rs c.args.pick c.in-Some.task is).1
@@ -100,11 +98,11 @@ overflow_cast-task c =
 pub new-requires : goal.new-requires
 new-requires c =
     let tasks = c.self.inside.tasks in
-    let rs = regions_of tasks in
+    let rs = tasks in
     let i = c.in-Some.task in
     let found = picked-here c.self.inside _ c.args.pick c.in-Some.task _ c.self.view_is c.pick.ensures c.in-Some.is in
     let is : picked (claimable_of rs) c.args.pick ≡ Some i = found.1 in
-    let within : i < length tasks = omega (arith, (picked-claimable rs c.args.pick i is).0, length-map tasks region_of) in
+    let within : i < length tasks = omega (arith, (picked-claimable rs c.args.pick i is).0) in
     let here = at-here tasks i c.get.result.now within c.get.ensures in
     let lent = c.in_ok-lent.ensures.lent in
     let uses = lent_uses c.self.inside.cells c.in_ok-room.field-0.decl c.in_ok-lent.lent lent in
@@ -118,12 +116,12 @@ new-requires c =
 pub invariant_of-self-2 : goal.invariant_of-self-2
 invariant_of-self-2 c =
     let tasks = c.self.inside.tasks in
-    let rs = regions_of tasks in
+    let rs = tasks in
     let i = c.in-Some.task in
     let found = picked-here c.self.inside _ c.args.pick c.in-Some.task _ c.self.view_is c.pick.ensures c.in-Some.is in
     let is : picked (claimable_of rs) c.args.pick ≡ Some i = found.1 in
     let both = picked-claimable rs c.args.pick i is in
-    let within : i < length tasks = omega (arith, both.0, length-map tasks region_of) in
+    let within : i < length tasks = omega (arith, both.0) in
     let here = at-here tasks i c.get.result.now within c.get.ensures in
     let lent = c.in_ok-lent.ensures.lent in
     let uses = lent_uses c.self.inside.cells c.in_ok-room.field-0.decl c.in_ok-lent.lent lent in
@@ -138,12 +136,12 @@ invariant_of-self-2 c =
 pub returns-clause-claimed : goal.returns-clause-claimed
 returns-clause-claimed c =
     let tasks = c.self.inside.tasks in
-    let rs = regions_of tasks in
+    let rs = tasks in
     let i = c.in-Some.task in
     let found = picked-here c.self.inside _ c.args.pick c.in-Some.task _ c.self.view_is c.pick.ensures c.in-Some.is in
     let is : picked (claimable_of rs) c.args.pick ≡ Some i = found.1 in
     let both = picked-claimable rs c.args.pick i is in
-    let within : i < length tasks = omega (arith, both.0, length-map tasks region_of) in
+    let within : i < length tasks = omega (arith, both.0) in
     let here = at-here tasks i c.get.result.now within c.get.ensures in
     let lent = c.in_ok-lent.ensures.lent in
     let uses = lent_uses c.self.inside.cells c.in_ok-room.field-0.decl c.in_ok-lent.lent lent in
@@ -151,7 +149,7 @@ returns-clause-claimed c =
     let now = c.begin.ensures ∙ ap (λ l. updated rs i (begun l)) lease in
     let seen : List Region → Seen = λ regions. record (seen_in c.self.inside) { owned = c.lease.new.self; regions = regions } in
     let piece : Taken = record { task = i; assigns = assigns_of c.in_ok-room.field-0.assigns.items; test = option_map expr_of c.in_ok-room.field-0.condition; lent = c.in_ok-lent.lent } in
-    let new : Seen = seen (regions_of c.begin.new.self) in
+    let new : Seen = seen c.begin.new.self in
     let held = subst (AreHeld (at rs i)) (sym uses) (subst (λ r. AreHeld r c.in_ok-room.field-0.decl) (sym here) c.in_ok-room.ensures.held) in
     let assigns : piece.assigns ≡ leading (awake (at rs i)).rest = c.in_ok-room.ensures.assigns ∙ ap (λ r. leading (awake r).rest) (sym here) in
     let test : piece.test ≡ test_of (behind (awake (at rs i)).rest) = c.in_ok-room.ensures.test ∙ ap (λ r. test_of (behind (awake r).rest)) (sym here) in
@@ -173,7 +171,7 @@ returns-clause-claimed c =
 pub returns-clause-weight : goal.returns-clause-weight
 returns-clause-weight c =
     let tasks = c.self.inside.tasks in
-    let rs = regions_of tasks in
+    let rs = tasks in
     let i = c.in-Some.task in
     let found = picked-here c.self.inside _ c.args.pick c.in-Some.task _ c.self.view_is c.pick.ensures c.in-Some.is in
     let is : picked (claimable_of rs) c.args.pick ≡ Some i = found.1 in
@@ -182,7 +180,7 @@ returns-clause-weight c =
     let lease : c.in_ok-room.field-0.right ≡ lease_of c.in_ok-lent.lent = c.in_ok-room.ensures.right ∙ ap lease_of (sym lent) in
     let now = c.begin.ensures ∙ ap (λ l. updated rs i (begun l)) lease in
     let idle = claimable-idle rs i both.1 in
-    omega (arith, weight-begun (lease_of c.in_ok-lent.lent) rs i both.0 idle, ap weight_of now, ap (λ (l : Live). weight_of (regions_of l.tasks)) c.self.view_is)
+    omega (arith, weight-begun (lease_of c.in_ok-lent.lent) rs i both.0 idle, ap weight_of now, ap (λ (l : Live). weight_of l.tasks) c.self.view_is)
 
 pub returns-clause-gives : goal.returns-clause-gives
 returns-clause-gives c = claimed-gives (seen_of c.args.self.now) c.args.pick (Some (taken_of c.new.result)) _ (returns-clause-claimed c)
@@ -204,28 +202,28 @@ pub returns-in_err-room-clause-working : goal.returns-in_err-room-clause-working
 returns-in_err-room-clause-working c =
     let j : Seen = seen_in c.self.inside in
     let found = picked-here c.self.inside _ c.args.pick c.in-Some.task _ c.self.view_is c.pick.ensures c.in-Some.is in
-    let is : picked (claimable_of (regions_of c.self.inside.tasks)) c.args.pick ≡ Some c.in-Some.task = found.1 in
+    let is : picked (claimable_of c.self.inside.tasks) c.args.pick ≡ Some c.in-Some.task = found.1 in
     on_err_always c.from_residual.result (subst (λ (l : Live). state_of (seen_of l) ≡ Working) c.self.view_is (picked-working j c.args.pick c.in-Some.task found.0 is))
 
 pub returns-in_err-lent-clause-working : goal.returns-in_err-lent-clause-working
 returns-in_err-lent-clause-working c =
     let j : Seen = seen_in c.self.inside in
     let found = picked-here c.self.inside _ c.args.pick c.in-Some.task _ c.self.view_is c.pick.ensures c.in-Some.is in
-    let is : picked (claimable_of (regions_of c.self.inside.tasks)) c.args.pick ≡ Some c.in-Some.task = found.1 in
+    let is : picked (claimable_of c.self.inside.tasks) c.args.pick ≡ Some c.in-Some.task = found.1 in
     on_err_always c.from_residual-in_err-lent.result (subst (λ (l : Live). state_of (seen_of l) ≡ Working) c.self.view_is (picked-working j c.args.pick c.in-Some.task found.0 is))
 
 pub returns-in_err-room-clause-some : goal.returns-in_err-room-clause-some
 returns-in_err-room-clause-some c =
     let j : Seen = seen_in c.self.inside in
     let found = picked-here c.self.inside _ c.args.pick c.in-Some.task _ c.self.view_is c.pick.ensures c.in-Some.is in
-    let is : picked (claimable_of (regions_of c.self.inside.tasks)) c.args.pick ≡ Some c.in-Some.task = found.1 in
+    let is : picked (claimable_of c.self.inside.tasks) c.args.pick ≡ Some c.in-Some.task = found.1 in
     on_err_always c.from_residual.result (subst (λ (l : Live). 0 < length (claimable_in (seen_of l))) c.self.view_is (picked-some j c.args.pick c.in-Some.task found.0 is))
 
 pub returns-in_err-lent-clause-some : goal.returns-in_err-lent-clause-some
 returns-in_err-lent-clause-some c =
     let j : Seen = seen_in c.self.inside in
     let found = picked-here c.self.inside _ c.args.pick c.in-Some.task _ c.self.view_is c.pick.ensures c.in-Some.is in
-    let is : picked (claimable_of (regions_of c.self.inside.tasks)) c.args.pick ≡ Some c.in-Some.task = found.1 in
+    let is : picked (claimable_of c.self.inside.tasks) c.args.pick ≡ Some c.in-Some.task = found.1 in
     on_err_always c.from_residual-in_err-lent.result (subst (λ (l : Live). 0 < length (claimable_in (seen_of l))) c.self.view_is (picked-some j c.args.pick c.in-Some.task found.0 is))
 
 pub returns-in_err-room-clause-claimed : goal.returns-in_err-room-clause-claimed
@@ -246,7 +244,7 @@ invariant_of-self c =
     subst (λ (o : Owned). IsWell (seen o)) (sym c.in_err-lent.ensures.memory) c.self.invariant
 
 pub returns-in_err-lent-clause-weight : goal.returns-in_err-lent-clause-weight
-returns-in_err-lent-clause-weight c = ap (λ (l : Live). weight_of (regions_of l.tasks)) c.self.view_is
+returns-in_err-lent-clause-weight c = ap (λ (l : Live). weight_of l.tasks) c.self.view_is
 
 pub returns-in_err-lent-clause-spec : goal.returns-in_err-lent-clause-spec
 returns-in_err-lent-clause-spec c = ap (λ (l : Live). l.spec) c.self.view_is

@@ -1,7 +1,6 @@
 use Rattle.std.proofs.Common.{◌∙◌, ap, sym, subst, arith, length, Bool, []}
 use Rattle.std.specs.Prelude.{if◌then◌else◌}
 use Rattle.ot_job.specs.Live.{Live, seen_of, Seen}
-use Rattle.ot_task.specs.RegionView.{regions_of}
 use Rattle.ot_job.specs.Claiming.{claimable_of}
 use Rattle.ot_job.specs.States.{claimable_in}
 use Rattle.ot_job.specs.Well.{IsWell}
@@ -15,7 +14,7 @@ use Rattle.ot_job.proofs.job.Job.claimable.Goals as goal
 pub returns-then-self-clause-count : goal.returns-then-self-clause-count
 returns-then-self-clause-count c =
     sym (ap (λ (l : Live). length (claimable_in (seen_of l))) (sym c.self.view_is)
-    ∙ ap (λ (b : Bool). length (if b then [] else claimable_of (regions_of c.self.inside.tasks))) c.if-self.true)
+    ∙ ap (λ (b : Bool). length (if b then [] else claimable_of c.self.inside.tasks)) c.if-self.true)
 
 pub returns-clause-never_stuck : goal.returns-clause-never_stuck
 returns-clause-never_stuck c = λ is none.
@@ -24,7 +23,7 @@ returns-clause-never_stuck c = λ is none.
     let working = state-working j is in
     let some = has-claimable j w working.0 working.1 (out-none j none) in
     let tasks = ap (λ (l : Live). l.tasks) c.self.view_is in
-    omega (arith, some, c.claimable.ensures, ap (λ ts. length (claimable_of (regions_of ts))) tasks)
+    omega (arith, some, c.claimable.ensures, ap (λ ts. length (claimable_of ts)) tasks)
 
 pub returns-clause-few : goal.returns-clause-few
 returns-clause-few c =

@@ -1,10 +1,8 @@
 use Rattle.std.proofs.Common.{refl, ap, sym, subst, arith, List, true, inl, inr}
 use Rattle.std.specs.Prelude.{is_some}
-use Rattle.std.proofs.lemmas.List.{length-map}
 use Rattle.ot_owner.specs.Leases.{lease_of}
 use Rattle.ot_job.specs.Live.{Live, Seen, seen_of}
 use Rattle.ot_task.specs.Regions.{Region}
-use Rattle.ot_task.specs.RegionView.{region_of, regions_of}
 use Rattle.ot_job.specs.Settling.{Came}
 use Rattle.ot_job.specs.DoneView.{done_of}
 use Rattle.ot_job.specs.States.{Fails}
@@ -38,7 +36,7 @@ stop-requires-clause-known c =
     let j : Seen = seen_in c.self.inside in
     let d : Came = done_of c.args.done in
     let out = found-out c.self.inside d _ _ c.all.ensures c.is_out.ensures c.if-not-is_out.false in
-    omega (arith, runs-within j.regions d.task (record { assigns = d.assigns; lease = lease_of d.lent }) out.0, length-map c.self.inside.tasks region_of)
+    omega (arith, runs-within j.regions d.task (record { assigns = d.assigns; lease = lease_of d.lent }) out.0)
 
 pub stop-requires-clause-out : goal.stop-requires-clause-out
 stop-requires-clause-out c =
@@ -63,7 +61,7 @@ returns-clause-failed c =
     let out = found-out c.self.inside d _ _ c.all.ensures c.is_out.ensures c.if-not-is_out.false in
     let seen : List Region → Seen = λ regions. record j { owned = c.drop_right.new.owners; regions = regions; failing = true } in
     let now = c.stop.ensures in
-    subst (λ (l : Live). Fails (seen_of l) d (seen (regions_of c.stop.new.self))) c.self.view_is (inl (record {
+    subst (λ (l : Live). Fails (seen_of l) d (seen c.stop.new.self)) c.self.view_is (inl (record {
       out = out;
       ended = c.drop_right.ensures.ended;
       worth = c.drop_right.ensures.worth;
@@ -77,7 +75,7 @@ returns-clause-weight c =
     let out = found-out c.self.inside d _ _ c.all.ensures c.is_out.ensures c.if-not-is_out.false in
     let now = c.stop.ensures in
     let less = weight-stopped j.regions d.task (runs-within j.regions d.task (record { assigns = d.assigns; lease = lease_of d.lent }) out.0) in
-    omega (arith, less, ap weight_of now, ap (λ (l : Live). weight_of (regions_of l.tasks)) c.self.view_is)
+    omega (arith, less, ap weight_of now, ap (λ (l : Live). weight_of l.tasks) c.self.view_is)
 
 pub returns-clause-fails : goal.returns-clause-fails
 returns-clause-fails c =

@@ -1,9 +1,7 @@
 use Rattle.std.proofs.Common.{◌≡◌, ◌+◌, ◌∙◌, ap, sym, subst, arith, List, Bool, true, false}
 use Rattle.std.specs.Prelude.{is_some}
-use Rattle.std.proofs.lemmas.List.{length-map}
 use Rattle.ot_owner.specs.Leases.{lease_of}
 use Rattle.ot_task.specs.Regions.{Region}
-use Rattle.ot_task.specs.RegionView.{region_of, regions_of}
 use Rattle.ot_task.specs.Weighing.{weight_of}
 use Rattle.ot_job.specs.Live.{Live, Seen, seen_of}
 use Rattle.ot_job.specs.Settling.{IsOut, Settles, settled}
@@ -43,7 +41,7 @@ settle-requires-clause-alive c =
 pub settle-requires-clause-parent : goal.settle-requires-clause-parent
 settle-requires-clause-parent c =
     let out = found-out c.self.inside (done_of c.args.done) _ _ c.all.ensures c.is_out.ensures c.if-not-is_out.false in
-    λ some. omega (arith, parent-known (seen_in c.self.inside) (done_of c.args.done) (may c.self.inside c.self.invariant c.if-self.false c.args.done out) out some, length-map c.self.inside.tasks region_of)
+    λ some. omega (arith, parent-known (seen_in c.self.inside) (done_of c.args.done) (may c.self.inside c.self.invariant c.if-self.false c.args.done out) out some)
 
 pub settle-requires-clause-ready : goal.settle-requires-clause-ready
 settle-requires-clause-ready c =
@@ -99,7 +97,7 @@ invariant_of-self-2 c =
     let ordered = ok-holds c.settle.result (sym c.is_err.ensures.value ∙ c.if-is_err.false) c.settle.ensures.ordered in
     let more = units-more c.self.inside c.self.invariant c.if-self.false c.args.done out c.get.result.now c.get.ensures c.len-assigns.result c.units_next-control.result (omega (arith, c.len-assigns.ensures, c.args.done.assigns.ok.0)) c.units_next-control.ensures.exact in
     let created = tasks-more c.self.inside c.self.invariant c.if-self.false c.args.done out c.get-2.result.now c.get-2.ensures _ c.tasks_next-created.ensures.exact in
-    let regions = ok-holds c.settle.result (sym c.is_err.ensures.value ∙ c.if-is_err.false) c.settle.ensures.settled ∙ ap (λ (b : Bool). settled b c.self.inside.counts.units c.args.done.task (regions_of c.self.inside.tasks)) c.is_taken.ensures in
+    let regions = ok-holds c.settle.result (sym c.is_err.ensures.value ∙ c.if-is_err.false) c.settle.ensures.settled ∙ ap (λ (b : Bool). settled b c.self.inside.counts.units c.args.done.task c.self.inside.tasks) c.is_taken.ensures in
     well-now c.self.inside c.self.invariant c.if-self.false c.args.done out c.give_back.new.cells c.give_back.new.owners c.give_back.ensures.stored c.give_back.ensures.lengths c.give_back.ensures.ended ordered _ _ _ regions created more
 
 pub returns-clause-settled : goal.returns-clause-settled
@@ -108,9 +106,9 @@ returns-clause-settled c =
     let ordered = ok-holds c.settle.result (sym c.is_err.ensures.value ∙ c.if-is_err.false) c.settle.ensures.ordered in
     let more = units-more c.self.inside c.self.invariant c.if-self.false c.args.done out c.get.result.now c.get.ensures c.len-assigns.result c.units_next-control.result (omega (arith, c.len-assigns.ensures, c.args.done.assigns.ok.0)) c.units_next-control.ensures.exact in
     let created = tasks-more c.self.inside c.self.invariant c.if-self.false c.args.done out c.get-2.result.now c.get-2.ensures _ c.tasks_next-created.ensures.exact in
-    let regions = ok-holds c.settle.result (sym c.is_err.ensures.value ∙ c.if-is_err.false) c.settle.ensures.settled ∙ ap (λ (b : Bool). settled b c.self.inside.counts.units c.args.done.task (regions_of c.self.inside.tasks)) c.is_taken.ensures in
+    let regions = ok-holds c.settle.result (sym c.is_err.ensures.value ∙ c.if-is_err.false) c.settle.ensures.settled ∙ ap (λ (b : Bool). settled b c.self.inside.counts.units c.args.done.task c.self.inside.tasks) c.is_taken.ensures in
     let units = c.len-assigns.result + c.units_next-control.result in
-    let new : Seen = now c.self.inside c.self.invariant c.if-self.false c.args.done out c.give_back.new.cells c.give_back.new.owners c.give_back.ensures.stored c.give_back.ensures.lengths c.give_back.ensures.ended ordered (regions_of c.settle.new.self) c.tasks_next-created.result units in
+    let new : Seen = now c.self.inside c.self.invariant c.if-self.false c.args.done out c.give_back.new.cells c.give_back.new.owners c.give_back.ensures.stored c.give_back.ensures.lengths c.give_back.ensures.ended ordered c.settle.new.self c.tasks_next-created.result units in
     subst (λ (l : Live). Settles (seen_of l) (done_of c.args.done) units new) c.self.view_is (record {
       out = out;
       working = c.if-self.false;
@@ -126,8 +124,8 @@ pub returns-clause-lighter : goal.returns-clause-lighter
 returns-clause-lighter c =
     let out = found-out c.self.inside (done_of c.args.done) _ _ c.all.ensures c.is_out.ensures c.if-not-is_out.false in
     let ordered = ok-holds c.settle.result (sym c.is_err.ensures.value ∙ c.if-is_err.false) c.settle.ensures.ordered in
-    let regions = ok-holds c.settle.result (sym c.is_err.ensures.value ∙ c.if-is_err.false) c.settle.ensures.settled ∙ ap (λ (b : Bool). settled b c.self.inside.counts.units c.args.done.task (regions_of c.self.inside.tasks)) c.is_taken.ensures in
-    omega (arith, lighter c.self.inside c.self.invariant c.if-self.false c.args.done out c.give_back.new.cells c.give_back.new.owners c.give_back.ensures.stored c.give_back.ensures.lengths c.give_back.ensures.ended ordered, ap weight_of regions, ap (λ (l : Live). weight_of (regions_of l.tasks)) c.self.view_is)
+    let regions = ok-holds c.settle.result (sym c.is_err.ensures.value ∙ c.if-is_err.false) c.settle.ensures.settled ∙ ap (λ (b : Bool). settled b c.self.inside.counts.units c.args.done.task c.self.inside.tasks) c.is_taken.ensures in
+    omega (arith, lighter c.self.inside c.self.invariant c.if-self.false c.args.done out c.give_back.new.cells c.give_back.new.owners c.give_back.ensures.stored c.give_back.ensures.lengths c.give_back.ensures.ended ordered, ap weight_of regions, ap (λ (l : Live). weight_of l.tasks) c.self.view_is)
 
 pub returns-clause-pays : goal.returns-clause-pays
 returns-clause-pays c =

@@ -3,7 +3,6 @@ use Rattle.ot_model.specs.Cells.{lengths}
 use Rattle.ot_model.specs.Names.{NamedIn}
 use Rattle.ot_model.specs.Programs.{expanded_of}
 use Rattle.ot_job.specs.Live.{Seen}
-use Rattle.ot_task.specs.RegionView.{regions_of}
 use Rattle.ot_task.specs.Regions.{root_region}
 use Rattle.ot_job.proofs.StartLemmas.{starts-well, root-light}
 use Rattle.ot_task.specs.Weighing.{weight_of}
@@ -13,14 +12,14 @@ use Rattle.ot_job.proofs.job.Job.start.Goals as goal
 pub invariant_of-result : goal.invariant_of-result
 invariant_of-result c =
     let cells : c.in-Ok.cells ≡ c.args.spec.before = search rules in
-    let regions : regions_of c.in-Ok.tasks ≡ root_region (expanded_of c.args.spec.checked.program).body ∷ [] = search rules in
+    let regions : c.in-Ok.tasks ≡ root_region (expanded_of c.args.spec.checked.program).body ∷ [] = search rules in
     let named : NamedIn (lengths c.args.spec.before) (expanded_of c.args.spec.checked.program).body = search rules in
     let j : Seen = record {
       program = expanded_of c.args.spec.checked.program;
       before = c.args.spec.before;
       cells = c.in-Ok.cells;
       owned = c.new.result;
-      regions = regions_of c.in-Ok.tasks;
+      regions = c.in-Ok.tasks;
       counts = record { tasks = 0; units = 0 };
       failing = false;
     } in
@@ -29,7 +28,7 @@ invariant_of-result c =
 pub returns-in-Ok-clause-weight : goal.returns-in-Ok-clause-weight
 returns-in-Ok-clause-weight c =
     let body = (expanded_of c.args.spec.checked.program).body in
-    let regions : regions_of c.in-Ok.tasks ≡ root_region body ∷ [] = search rules in
+    let regions : c.in-Ok.tasks ≡ root_region body ∷ [] = search rules in
     omega (arith, ap weight_of regions, root-light body, c.args.spec.checked.program.statements_are)
 
 pub returns-in-Ok-clause-starts : goal.returns-in-Ok-clause-starts

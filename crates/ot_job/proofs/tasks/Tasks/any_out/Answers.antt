@@ -1,11 +1,10 @@
 use Rattle.std.proofs.Common.{◌∙◌, ap, not, List}
 use Rattle.std.specs.Prelude.{◌==◌}
-use Rattle.ot_task.specs.RegionView.{regions_of}
+use Rattle.ot_task.specs.Regions.{Region}
 use Rattle.ot_job.specs.States.{any_out}
-use Rattle.ot_task.specs.declared.task.Task.{Task}
 use Rattle.ot_job.proofs.CountingLemmas.{out-any}
 use Rattle.ot_job.proofs.tasks.Tasks.any_out.Goals as goal
 
 pub returns : goal.returns
 returns c =
-    ap (λ n. not (n == 0)) c.self.invariant.counted.out ∙ out-any (regions_of c.self.inside.tasks.items) ∙ ap (λ (l : List Task). any_out (regions_of l)) c.self.view_is
+    ap (λ n. not (n == 0)) c.self.invariant.counted.out ∙ out-any c.self.inside.tasks.items ∙ ap (λ (l : List Region). any_out l) c.self.view_is

@@ -1,13 +1,10 @@
 use Rattle.std.proofs.Common.{rules, ◌≡◌, ◌<◌, ◌∙◌, ap, sym, arith, List, Bool, true, false, length}
 use Rattle.std.specs.Prelude.{is_some, if◌then◌else◌}
-use Rattle.std.proofs.lemmas.List.{length-map}
 use Rattle.ot_model.specs.Cells.{updated}
 use Rattle.ot_task.specs.Regions.{Region, executed, tasks_next, stopped}
-use Rattle.ot_task.specs.RegionView.{region_of, regions_of}
 use Rattle.ot_job.specs.Sound.{at}
 use Rattle.ot_task.specs.Standing.{is_at_end}
 use Rattle.ot_job.specs.Settling.{closed, moved_on}
-use Rattle.ot_task.specs.declared.task.Task.{Task}
 use Rattle.ot_job.proofs.PickLemmas.{at-here}
 use Rattle.ot_job.proofs.SettleLemmas.{none-next}
 use Rattle.ot_job.proofs.StepLemmas.{moved-running, moved-length}
@@ -17,63 +14,63 @@ use Rattle.ot_job.proofs.tasks.Tasks.settle.Goals as goal
 
 pub advance-requires-clause-none : goal.advance-requires-clause-none
 advance-requires-clause-none c =
-    let rs = regions_of c.args.self.now in
+    let rs = c.args.self.now in
     let i = c.args.i in
     let within : i < length c.self.inside.tasks.items = omega (arith, c.requires.known, ap length c.self.view_is) in
-    let next : at rs i ≡ region_of c.index-else-is_at_end.result.now =
-    sym (ap (λ (l : List Task). at (regions_of l) i) c.self.view_is) ∙ at-here c.self.inside.tasks.items i c.index-else-is_at_end.result.now within c.index-else-is_at_end.ensures in
+    let next : at rs i ≡ c.index-else-is_at_end.result.now =
+    sym (ap (λ (l : List Region). at l i) c.self.view_is) ∙ at-here c.self.inside.tasks.items i c.index-else-is_at_end.result.now within c.index-else-is_at_end.ensures in
     ap (λ (r : Region). tasks_next r.rest) next ∙ sym c.tasks_next.ensures.exact ∙ c.if-tasks_next-eq0.true
 
 pub create-requires-clause-some : goal.create-requires-clause-some
 create-requires-clause-some c =
-    let rs = regions_of c.args.self.now in
+    let rs = c.args.self.now in
     let i = c.args.i in
     let within : i < length c.self.inside.tasks.items = omega (arith, c.requires.known, ap length c.self.view_is) in
-    let next : at rs i ≡ region_of c.index-else-is_at_end.result.now =
-    sym (ap (λ (l : List Task). at (regions_of l) i) c.self.view_is) ∙ at-here c.self.inside.tasks.items i c.index-else-is_at_end.result.now within c.index-else-is_at_end.ensures in
+    let next : at rs i ≡ c.index-else-is_at_end.result.now =
+    sym (ap (λ (l : List Region). at l i) c.self.view_is) ∙ at-here c.self.inside.tasks.items i c.index-else-is_at_end.result.now within c.index-else-is_at_end.ensures in
     λ none. c.if-tasks_next-eq0.false (c.tasks_next.ensures.exact ∙ sym (ap (λ (r : Region). tasks_next r.rest) next) ∙ none)
 
 pub stop-requires-clause-known : goal.stop-requires-clause-known
 stop-requires-clause-known c =
-    let rs = regions_of c.args.self.now in
+    let rs = c.args.self.now in
     let i = c.args.i in
     let within : i < length c.self.inside.tasks.items = omega (arith, c.requires.known, ap length c.self.view_is) in
-    let here : at rs i ≡ region_of c.index.result.now = sym (ap (λ (l : List Task). at (regions_of l) i) c.self.view_is) ∙ at-here c.self.inside.tasks.items i c.index.result.now within c.index.ensures in
+    let here : at rs i ≡ c.index.result.now = sym (ap (λ (l : List Region). at l i) c.self.view_is) ∙ at-here c.self.inside.tasks.items i c.index.result.now within c.index.ensures in
     let at-end : is_at_end (at rs i).rest (at rs i).groups ≡ c.is_at_end.result = ap (λ (r : Region). is_at_end r.rest r.groups) here ∙ sym c.is_at_end.ensures in
-    let moved : regions_of c.if-is_at_end.self ≡ moved_on c.args.taken c.args.group i rs = elim c.if-is_at_end.branch [
+    let moved : c.if-is_at_end.self ≡ moved_on c.args.taken c.args.group i rs = elim c.if-is_at_end.branch [
       | then-is_at_end w ↦ (let yes_end : c.is_at_end.result ≡ true = search rules in
-          ap regions_of w.self-is ∙ w.close.ensures ∙ ap (λ (b : Bool). if b then closed i rs else executed c.args.taken c.args.group i rs) (sym (at-end ∙ yes_end)))
+          w.self-is ∙ w.close.ensures ∙ ap (λ (b : Bool). if b then closed i rs else executed c.args.taken c.args.group i rs) (sym (at-end ∙ yes_end)))
       | else-is_at_end+then-tasks_next-eq0+in_ok-advance w ↦ (let no_end : c.is_at_end.result ≡ false = search rules in
-          ap regions_of w.self-is ∙ w.in_ok-advance.ensures.executed ∙ ap (λ (b : Bool). if b then closed i rs else executed c.args.taken c.args.group i rs) (sym (at-end ∙ no_end)))
+          w.self-is ∙ w.in_ok-advance.ensures.executed ∙ ap (λ (b : Bool). if b then closed i rs else executed c.args.taken c.args.group i rs) (sym (at-end ∙ no_end)))
       | else-is_at_end+else-tasks_next-eq0+in_ok-create w ↦ (let no_end : c.is_at_end.result ≡ false = search rules in
-          ap regions_of w.self-is ∙ w.in_ok-create.ensures.executed ∙ ap (λ (b : Bool). if b then closed i rs else executed c.args.taken c.args.group i rs) (sym (at-end ∙ no_end)))
+          w.self-is ∙ w.in_ok-create.ensures.executed ∙ ap (λ (b : Bool). if b then closed i rs else executed c.args.taken c.args.group i rs) (sym (at-end ∙ no_end)))
     ] in
-    omega (arith, c.requires.known, ap length moved, moved-length (is_at_end (at rs i).rest (at rs i).groups) c.args.taken c.args.group i rs, length-map c.if-is_at_end.self region_of, length-map c.args.self.now region_of)
+    omega (arith, c.requires.known, ap length moved, moved-length (is_at_end (at rs i).rest (at rs i).groups) c.args.taken c.args.group i rs)
 
 pub stop-requires-clause-out : goal.stop-requires-clause-out
 stop-requires-clause-out c =
-    let rs = regions_of c.args.self.now in
+    let rs = c.args.self.now in
     let i = c.args.i in
     let within : i < length c.self.inside.tasks.items = omega (arith, c.requires.known, ap length c.self.view_is) in
-    let here : at rs i ≡ region_of c.index.result.now = sym (ap (λ (l : List Task). at (regions_of l) i) c.self.view_is) ∙ at-here c.self.inside.tasks.items i c.index.result.now within c.index.ensures in
+    let here : at rs i ≡ c.index.result.now = sym (ap (λ (l : List Region). at l i) c.self.view_is) ∙ at-here c.self.inside.tasks.items i c.index.result.now within c.index.ensures in
     let at-end : is_at_end (at rs i).rest (at rs i).groups ≡ c.is_at_end.result = ap (λ (r : Region). is_at_end r.rest r.groups) here ∙ sym c.is_at_end.ensures in
-    let moved : regions_of c.if-is_at_end.self ≡ moved_on c.args.taken c.args.group i rs = elim c.if-is_at_end.branch [
+    let moved : c.if-is_at_end.self ≡ moved_on c.args.taken c.args.group i rs = elim c.if-is_at_end.branch [
       | then-is_at_end w ↦ (let yes_end : c.is_at_end.result ≡ true = search rules in
-          ap regions_of w.self-is ∙ w.close.ensures ∙ ap (λ (b : Bool). if b then closed i rs else executed c.args.taken c.args.group i rs) (sym (at-end ∙ yes_end)))
+          w.self-is ∙ w.close.ensures ∙ ap (λ (b : Bool). if b then closed i rs else executed c.args.taken c.args.group i rs) (sym (at-end ∙ yes_end)))
       | else-is_at_end+then-tasks_next-eq0+in_ok-advance w ↦ (let no_end : c.is_at_end.result ≡ false = search rules in
-          ap regions_of w.self-is ∙ w.in_ok-advance.ensures.executed ∙ ap (λ (b : Bool). if b then closed i rs else executed c.args.taken c.args.group i rs) (sym (at-end ∙ no_end)))
+          w.self-is ∙ w.in_ok-advance.ensures.executed ∙ ap (λ (b : Bool). if b then closed i rs else executed c.args.taken c.args.group i rs) (sym (at-end ∙ no_end)))
       | else-is_at_end+else-tasks_next-eq0+in_ok-create w ↦ (let no_end : c.is_at_end.result ≡ false = search rules in
-          ap regions_of w.self-is ∙ w.in_ok-create.ensures.executed ∙ ap (λ (b : Bool). if b then closed i rs else executed c.args.taken c.args.group i rs) (sym (at-end ∙ no_end)))
+          w.self-is ∙ w.in_ok-create.ensures.executed ∙ ap (λ (b : Bool). if b then closed i rs else executed c.args.taken c.args.group i rs) (sym (at-end ∙ no_end)))
     ] in
     ap (λ (l : List Region). is_some (at l i).running) moved
-    ∙ ap is_some (moved-running (is_at_end (at rs i).rest (at rs i).groups) c.args.taken c.args.group i rs (omega (arith, c.requires.known, length-map c.args.self.now region_of))) ∙ c.requires.out
+    ∙ ap is_some (moved-running (is_at_end (at rs i).rest (at rs i).groups) c.args.taken c.args.group i rs (omega (arith, c.requires.known))) ∙ c.requires.out
 
 pub returns-clause-ordered : goal.returns-clause-ordered
 returns-clause-ordered c =
-    let rs = regions_of c.args.self.now in
+    let rs = c.args.self.now in
     let i = c.args.i in
     let within : i < length c.self.inside.tasks.items = omega (arith, c.requires.known, ap length c.self.view_is) in
-    let here : at rs i ≡ region_of c.index.result.now = sym (ap (λ (l : List Task). at (regions_of l) i) c.self.view_is) ∙ at-here c.self.inside.tasks.items i c.index.result.now within c.index.ensures in
+    let here : at rs i ≡ c.index.result.now = sym (ap (λ (l : List Region). at l i) c.self.view_is) ∙ at-here c.self.inside.tasks.items i c.index.result.now within c.index.ensures in
     elim c.if-is_at_end.branch [
       | then-is_at_end w ↦ (let yes_end : c.is_at_end.result ≡ true = search rules in
           λ child is. none-next (at rs i).rest (at rs i).groups (ap (λ (r : Region). is_at_end r.rest r.groups) here ∙ sym c.is_at_end.ensures ∙ yes_end) child is)
@@ -83,18 +80,18 @@ returns-clause-ordered c =
 
 pub returns-clause-settled : goal.returns-clause-settled
 returns-clause-settled c =
-    let rs = regions_of c.args.self.now in
+    let rs = c.args.self.now in
     let i = c.args.i in
     let within : i < length c.self.inside.tasks.items = omega (arith, c.requires.known, ap length c.self.view_is) in
-    let here : at rs i ≡ region_of c.index.result.now = sym (ap (λ (l : List Task). at (regions_of l) i) c.self.view_is) ∙ at-here c.self.inside.tasks.items i c.index.result.now within c.index.ensures in
+    let here : at rs i ≡ c.index.result.now = sym (ap (λ (l : List Region). at l i) c.self.view_is) ∙ at-here c.self.inside.tasks.items i c.index.result.now within c.index.ensures in
     let at-end : is_at_end (at rs i).rest (at rs i).groups ≡ c.is_at_end.result = ap (λ (r : Region). is_at_end r.rest r.groups) here ∙ sym c.is_at_end.ensures in
-    let moved : regions_of c.if-is_at_end.self ≡ moved_on c.args.taken c.args.group i rs = elim c.if-is_at_end.branch [
+    let moved : c.if-is_at_end.self ≡ moved_on c.args.taken c.args.group i rs = elim c.if-is_at_end.branch [
       | then-is_at_end w ↦ (let yes_end : c.is_at_end.result ≡ true = search rules in
-          ap regions_of w.self-is ∙ w.close.ensures ∙ ap (λ (b : Bool). if b then closed i rs else executed c.args.taken c.args.group i rs) (sym (at-end ∙ yes_end)))
+          w.self-is ∙ w.close.ensures ∙ ap (λ (b : Bool). if b then closed i rs else executed c.args.taken c.args.group i rs) (sym (at-end ∙ yes_end)))
       | else-is_at_end+then-tasks_next-eq0+in_ok-advance w ↦ (let no_end : c.is_at_end.result ≡ false = search rules in
-          ap regions_of w.self-is ∙ w.in_ok-advance.ensures.executed ∙ ap (λ (b : Bool). if b then closed i rs else executed c.args.taken c.args.group i rs) (sym (at-end ∙ no_end)))
+          w.self-is ∙ w.in_ok-advance.ensures.executed ∙ ap (λ (b : Bool). if b then closed i rs else executed c.args.taken c.args.group i rs) (sym (at-end ∙ no_end)))
       | else-is_at_end+else-tasks_next-eq0+in_ok-create w ↦ (let no_end : c.is_at_end.result ≡ false = search rules in
-          ap regions_of w.self-is ∙ w.in_ok-create.ensures.executed ∙ ap (λ (b : Bool). if b then closed i rs else executed c.args.taken c.args.group i rs) (sym (at-end ∙ no_end)))
+          w.self-is ∙ w.in_ok-create.ensures.executed ∙ ap (λ (b : Bool). if b then closed i rs else executed c.args.taken c.args.group i rs) (sym (at-end ∙ no_end)))
     ] in
     c.stop.ensures ∙ ap (λ (l : List Region). updated l i stopped) moved
 

@@ -1,0 +1,256 @@
+-- Numbers that are listed by bits, 64 to a word.
+use Rattle.std.proofs.Common.{◌≡◌, ◌≢◌, ◌==◌, ◌<◌, ◌≤◌, ◌+◌, ◌-◌, ◌*◌, ◌/◌, ◌%◌, ◌^◌, ℕ, zero, suc, Bool, true, false, cond, List, [], ◌∷◌, ◌++◌, map, set, drop, length, get_or, refl, sym, ap, subst, ◌∙◌, inl, inr, arith, w64, bit_and}
+use Rattle.std.specs.Prelude.{Some, None, slice_get, option_map, ◌⊎◌}
+use Rattle.std.specs.Int.{bit_at, bit_not, trailing_zeros}
+use Rattle.std.specs.List.{range_with_len}
+use Rattle.std.proofs.lemmas.List.Sums.{length-filter, count_by-le-length}
+use Rattle.std.proofs.lemmas.List.FromFn.{length-range_with_len}
+use Rattle.std.specs.Int.Count.{ones, ones_step, ones-le}
+use Rattle.std.proofs.lemmas.Bool.{cases_eq, cases_lt}
+use Rattle.std.proofs.lemmas.List.{length-map, length-set, length-append, get_or-set_same, get_or-set_other, get_or_past, get_or_default, length-drop}
+use Rattle.std.proofs.lemmas.Nat.Bits.{bit_at-zero, bit_at-suc, bit_at_lowest, bit_at-trailing_zeros, bit_at_clear_same, bit_at_clear_other}
+use Rattle.std.proofs.lemmas.Nat.{shr_below}
+use Rattle.std.proofs.lemmas.Option.{slice_get-map, slice_get-get_or, slice_get_past}
+use Rattle.ot_depend.specs.Kept.{has}
+use Rattle.ot_job.specs.Listed.{has_bit, bits_in, has_number, numbers_in}
+use Rattle.ot_job.specs.Listing.{IsListBelow}
+use Rattle.ot_job.proofs.ListingLemmas.{those, those-same, has-those, has-behind, listed, those-longer}
+
+pub has-in : (ws : List ℕ) (k : ℕ) → has k (numbers_in ws) ≡ has_number ws k
+has-in ws k = elim (cases_lt k (64 * length ws)) [
+  | inl below ↦ has-those (has_number ws) 0 (64 * length ws) k (omega arith) (omega (arith, below))
+  | inr past ↦ has-behind (has_number ws) 0 (64 * length ws) k (omega (arith, past)) ∙ sym (none past)
+]
+  where
+    none : 64 * length ws ≤ k → has_number ws k ≡ false
+    none past = ap (λ w. has_bit w (k % 64)) (get_or_past ws (k / 64) 0 (omega (arith, past))) ∙ ap (λ b. b == 1) (bit_at-zero (k % 64))
+
+pub numbers-ordered : (ws : List ℕ) → IsListBelow (64 * length ws) (numbers_in ws)
+numbers-ordered ws = listed (has_number ws) (64 * length ws) (numbers_in ws) refl
+
+-- a word, as the code reads it
+pub word-is : (ws : List ℕ) (q w : ℕ) → q < length ws → w ≡ get_or ws q w → w ≡ get_or ws q 0
+word-is ws q w h is = is ∙ get_or_default ws q w 0 h
+
+pub numbers-few : (ws : List ℕ) → length (numbers_in ws) ≤ 64 * length ws
+numbers-few ws = omega (arith, length-filter (has_number ws) (range_with_len 0 (64 * length ws)), count_by-le-length (has_number ws) (range_with_len 0 (64 * length ws)), length-range_with_len 0 (64 * length ws))
+
+-- ---- one bit changes
+
+counted-one : (f g : ℕ → Bool) (a n i : ℕ) → a ≤ i → i < a + n → f i ≡ false → g i ≡ true → ((k : ℕ) → k ≢ i → g k ≡ f k) → length (those g a n) ≡ length (those f a n) + 1
+counted-one f g a zero i low high no_f yes_g same = absurd (omega (arith, low, high))
+counted-one f g a (suc n) i low high no_f yes_g same = elim (cases_eq a i) [
+  | inl is ↦ (let rest = ap length (those-same g f (a + 1) n (λ k l h. same k (λ e. absurd (omega (arith, e, is, l))))) in
+      ap (λ b. length (cond b (a ∷ those g (a + 1) n) (those g (a + 1) n))) (ap g is ∙ yes_g)
+      ∙ (let more : length (a ∷ those g (a + 1) n) ≡ length (those f (a + 1) n) + 1 = omega (arith, rest) in more)
+      ∙ sym (ap (λ b. length (cond b (a ∷ those f (a + 1) n) (those f (a + 1) n)) + 1) (ap f is ∙ no_f)))
+  | inr apart ↦ by (f a) (same a apart) (counted-one f g (a + 1) n i (omega (arith, low, apart)) (omega (arith, high)) no_f yes_g same)
+]
+  where
+    by : (b : Bool) → g a ≡ b → length (those g (a + 1) n) ≡ length (those f (a + 1) n) + 1
+        → length (cond (g a) (a ∷ those g (a + 1) n) (those g (a + 1) n)) ≡ length (cond b (a ∷ those f (a + 1) n) (those f (a + 1) n)) + 1
+    by true e later = ap (λ b. length (cond b (a ∷ those g (a + 1) n) (those g (a + 1) n))) e ∙ (let more : length (a ∷ those g (a + 1) n) ≡ length (a ∷ those f (a + 1) n) + 1 = omega (arith, later) in more)
+    by false e later = ap (λ b. length (cond b (a ∷ those g (a + 1) n) (those g (a + 1) n))) e ∙ later
+
+module _ (ws : List ℕ) (n w : ℕ) (within : n < 64 * length ws) (others : (i : ℕ) → i < 64 → i ≢ n % 64 → bit_at w i ≡ bit_at (get_or ws (n / 64) 0) i) where
+  abbrev new : List ℕ
+  new = set ws (n / 64) w
+
+  here : get_or new (n / 64) 0 ≡ w
+  here = get_or-set_same ws (n / 64) w 0 (omega (arith, within))
+
+  pub this-number : has_number new n ≡ has_bit w (n % 64)
+  this-number = ap (λ x. has_bit x (n % 64)) here
+
+  other-number : (k : ℕ) → k ≢ n → has_number new k ≡ has_number ws k
+  other-number k apart = elim (cases_eq (k / 64) (n / 64)) [
+    | inl same ↦ ap (λ q. has_bit (get_or new q 0) (k % 64)) same ∙ ap (λ x. has_bit x (k % 64)) here
+        ∙ ap (λ b. b == 1) (others (k % 64) (omega arith) (λ e. absurd (omega (arith, same, e, apart)))) ∙ sym (ap (λ q. has_bit (get_or ws q 0) (k % 64)) same)
+    | inr away ↦ ap (λ x. has_bit x (k % 64)) (get_or-set_other ws (n / 64) (k / 64) w 0 away)
+  ]
+
+  long : 64 * length new ≡ 64 * length ws
+  long = ap (λ l. 64 * l) (length-set ws (n / 64) w)
+
+  pub now-has : has n (numbers_in new) ≡ has_bit w (n % 64)
+  now-has = has-in new n ∙ this-number
+
+  pub others-have : (k : ℕ) → k ≢ n → has k (numbers_in new) ≡ has k (numbers_in ws)
+  others-have k apart = has-in new k ∙ other-number k apart ∙ sym (has-in ws k)
+
+  pub one-more : has_number ws n ≡ false → has_bit w (n % 64) ≡ true → length (numbers_in new) ≡ length (numbers_in ws) + 1
+  one-more was_not is =
+      ap (λ m. length (those (has_number new) 0 m)) long
+      ∙ counted-one (has_number ws) (has_number new) 0 (64 * length ws) n (omega arith) (omega (arith, within)) was_not (this-number ∙ is) other-number
+
+  pub one-fewer : has_number ws n ≡ true → has_bit w (n % 64) ≡ false → length (numbers_in ws) ≡ length (numbers_in new) + 1
+  one-fewer was is_not =
+      counted-one (has_number new) (has_number ws) 0 (64 * length ws) n (omega arith) (omega (arith, within)) (this-number ∙ is_not) was (λ k apart. sym (other-number k apart))
+      ∙ sym (ap (λ m. length (those (has_number new) 0 m) + 1) long)
+
+-- ---- a word more
+
+get_or-behind : (ws : List ℕ) (q : ℕ) → get_or (ws ++ 0 ∷ []) q 0 ≡ get_or ws q 0
+get_or-behind [] zero = refl
+get_or-behind [] (suc q) = refl
+get_or-behind (w ∷ ws) zero = refl
+get_or-behind (w ∷ ws) (suc q) = get_or-behind ws q
+
+pub numbers-longer : (ws : List ℕ) → numbers_in (ws ++ 0 ∷ []) ≡ numbers_in ws
+numbers-longer ws =
+    let more : 64 * length (ws ++ 0 ∷ []) ≡ 64 * length ws + 64 = omega (arith, length-append ws (0 ∷ [])) in
+    those-same (has_number (ws ++ 0 ∷ [])) (has_number ws) 0 (64 * length (ws ++ 0 ∷ [])) (λ k l h. ap (λ w. has_bit w (k % 64)) (get_or-behind ws (k / 64)))
+    ∙ ap (those (has_number ws) 0) more
+    ∙ those-longer (has_number ws) 0 (64 * length ws) 64 (λ k h. ap (λ w. has_bit w (k % 64)) (get_or_past ws (k / 64) 0 (omega (arith, h))) ∙ ap (λ b. b == 1) (bit_at-zero (k % 64)))
+
+-- ---- the bits of a word
+
+-- the first that passes, and the others
+those-first : (f g : ℕ → Bool) (a n z : ℕ) → a ≤ z → z < a + n → ((k : ℕ) → k < z → f k ≡ false) → f z ≡ true → g z ≡ false → ((k : ℕ) → k < a + n → k ≢ z → g k ≡ f k)
+    → those f a n ≡ z ∷ those g a n
+those-first f g a zero z low high none passes fails same = absurd (omega (arith, low, high))
+those-first f g a (suc n) z low high none passes fails same = elim (cases_eq a z) [
+  | inl is ↦ ap (λ b. cond b (a ∷ those f (a + 1) n) (those f (a + 1) n)) (ap f is ∙ passes) ∙ ap (λ k. k ∷ those f (a + 1) n) is
+      ∙ ap (λ l. z ∷ l) (those-same f g (a + 1) n (λ k l h. sym (same k (omega (arith, h)) (λ e. absurd (omega (arith, e, is, l)))))) ∙ sym (ap (λ b. z ∷ cond b (a ∷ those g (a + 1) n) (those g (a + 1) n)) (ap g is ∙ fails))
+  | inr apart ↦ (let f_a : f a ≡ false = none a (omega (arith, low, apart)) in
+      ap (λ b. cond b (a ∷ those f (a + 1) n) (those f (a + 1) n)) f_a
+      ∙ those-first f g (a + 1) n z (omega (arith, low, apart)) (omega (arith, high)) none passes fails (λ k h. same k (omega (arith, h)))
+      ∙ sym (ap (λ b. z ∷ cond b (a ∷ those g (a + 1) n) (those g (a + 1) n)) (same a (omega arith) apart ∙ f_a)))
+]
+
+pub first-bit : (w v z : ℕ) → z < 64 → bit_at w z ≡ 1 → ((i : ℕ) → i < z → bit_at w i ≡ 0) → bit_at v z ≡ 0 → ((i : ℕ) → i < 64 → i ≢ z → bit_at v i ≡ bit_at w i)
+    → bits_in w ≡ z ∷ bits_in v
+unfolding bits_in
+first-bit w v z within is below cleared others =
+    those-first (has_bit w) (has_bit v) 0 64 z (omega arith) (omega (arith, within)) (λ k h. ap (λ b. b == 1) (below k h)) (ap (λ b. b == 1) is) (ap (λ b. b == 1) cleared)
+    (λ k h apart. ap (λ b. b == 1) (others k (omega (arith, h)) apart))
+
+-- the numbers from one on, as those from 0 on
+pub those-shift : (f : ℕ → Bool) (b a n : ℕ) → those f (b + a) n ≡ map (λ i. b + i) (those (λ i. f (b + i)) a n)
+those-shift f b a zero = refl
+those-shift f b a (suc n) =
+    by (f (b + a)) (ap (λ m. those f m n) (let e : b + a + 1 ≡ b + (a + 1) = omega arith in e) ∙ those-shift f b (a + 1) n)
+  where
+    by : (c : Bool) → those f (b + a + 1) n ≡ map (λ i. b + i) (those (λ i. f (b + i)) (a + 1) n)
+        → cond c ((b + a) ∷ those f (b + a + 1) n) (those f (b + a + 1) n) ≡ map (λ i. b + i) (cond c (a ∷ those (λ i. f (b + i)) (a + 1) n) (those (λ i. f (b + i)) (a + 1) n))
+    by true later = ap (λ l. (b + a) ∷ l) later
+    by false later = later
+
+pub ones-counted : (k n : ℕ) → n < 2 ^ k → length (those (has_bit n) 0 k) ≡ ones n
+ones-counted zero n h = let none = ones-le 0 n h in omega (arith, none)
+ones-counted (suc k) n h = by (ones-counted k (n / 2) half) (elim (cases_eq (n % 2) 1) [ inl one ↦ inl one | inr other ↦ inr (let zero_bit : n % 2 ≡ 0 = omega (arith, other) in zero_bit) ])
+  where
+    half : n / 2 < 2 ^ k
+    half = let twice : n < 2 ^ (k + 1) = subst (λ m. n < 2 ^ m) (let e : suc k ≡ k + 1 = omega arith in e) h in shr_below n k 1 twice
+
+    rest : List ℕ
+    rest = those (has_bit n) 1 k
+
+    by : length (those (has_bit (n / 2)) 0 k) ≡ ones (n / 2) → (n % 2 ≡ 1) ⊎ (n % 2 ≡ 0) → length (those (has_bit n) 0 (suc k)) ≡ ones n
+    by halved bit = both bit
+      where
+        later : length rest ≡ ones (n / 2)
+        later =
+            ap length (those-shift (has_bit n) 1 0 k) ∙ length-map (those (λ i. has_bit n (1 + i)) 0 k) (λ i. 1 + i)
+            ∙ ap length (those-same (λ i. has_bit n (1 + i)) (has_bit (n / 2)) 0 k (λ i l m. ap (has_bit n) (let e : 1 + i ≡ suc i = omega arith in e) ∙ ap (λ b. b == 1) (bit_at-suc n i)))
+            ∙ halved
+
+        both : (n % 2 ≡ 1) ⊎ (n % 2 ≡ 0) → length (those (has_bit n) 0 (suc k)) ≡ ones n
+        both (inl e) =
+            ap (λ b. length (cond (b == 1) (0 ∷ rest) rest)) (bit_at_lowest n ∙ e)
+            ∙ (let sum : length (0 ∷ rest) ≡ n % 2 + ones (n / 2) = omega (arith, later, e) in sum) ∙ sym (ones_step n)
+        both (inr e) =
+            ap (λ b. length (cond (b == 1) (0 ∷ rest) rest)) (bit_at_lowest n ∙ e)
+            ∙ (let sum : length rest ≡ n % 2 + ones (n / 2) = omega (arith, later, e) in sum) ∙ sym (ones_step n)
+
+pub bits-counted : (w : ℕ) → w < 2 ^ 64 → length (bits_in w) ≡ ones w
+unfolding bits_in
+bits-counted w h = ones-counted 64 w h
+
+some-bit : (w : ℕ) → w < 2 ^ 64 → 0 < length (bits_in w) → 0 < w
+some-bit zero fits some = let none = ones-le 0 0 (omega arith) in absurd (omega (arith, some, none, bits-counted 0 fits))
+some-bit (suc w) fits some = omega arith
+
+drop-next : (k : ℕ) (xs : List ℕ) (z : ℕ) (ys : List ℕ) → drop k xs ≡ z ∷ ys → (get_or xs k 0 ≡ z) × (drop (suc k) xs ≡ ys)
+drop-next zero [] z ys is = absurd (let none = ap length is in omega (arith, none))
+drop-next zero (x ∷ xs) z ys is = (ap (λ l. get_or l 0 0) is, ap (drop 1) is)
+drop-next (suc k) [] z ys is = absurd (let none = ap length is in omega (arith, none))
+drop-next (suc k) (x ∷ xs) z ys is = drop-next k xs z ys is
+
+-- what is left of the bits once so many were passed
+module _ (w k rest : ℕ) (left : drop k (bits_in w) ≡ bits_in rest) (fits : rest < 2 ^ 64) (within : k < length (bits_in w)) where
+  lowest : (trailing_zeros w64 rest < 64) × (bit_at rest (trailing_zeros w64 rest) ≡ 1) × ((i : ℕ) → i < trailing_zeros w64 rest → bit_at rest i ≡ 0)
+  lowest = bit_at-trailing_zeros w64 rest (some-bit rest fits (omega (arith, within, ap length left, length-drop k (bits_in w)))) fits
+
+  pub lowest-within : trailing_zeros w64 rest < 64
+  lowest-within = lowest.0
+
+  module _ (v : ℕ) (cleared : bit_at v (trailing_zeros w64 rest) ≡ 0) (others : (i : ℕ) → i < 64 → i ≢ trailing_zeros w64 rest → bit_at v i ≡ bit_at rest i) where
+    next : (get_or (bits_in w) k 0 ≡ trailing_zeros w64 rest) × (drop (suc k) (bits_in w) ≡ bits_in v)
+    next = drop-next k (bits_in w) (trailing_zeros w64 rest) (bits_in v) (left ∙ first-bit rest v (trailing_zeros w64 rest) lowest.0 lowest.1 lowest.2 cleared others)
+
+    pub bits-behind : drop (k + 1) (bits_in w) ≡ bits_in v
+    bits-behind = ap (λ n. drop n (bits_in w)) (let e : k + 1 ≡ suc k = omega arith in e) ∙ next.1
+
+  pub bit-is : get_or (bits_in w) k 0 ≡ trailing_zeros w64 rest
+  bit-is = (next (bit_and rest (bit_not w64 (1 * 2 ^ trailing_zeros w64 rest % 2 ^ 64))) (bit_at_clear_same w64 rest (trailing_zeros w64 rest) lowest.0) (bit_at_clear_other w64 rest (trailing_zeros w64 rest) lowest.0)).0
+
+-- ---- the words before one, and that one
+
+those-append : (f : ℕ → Bool) (a n m : ℕ) → those f a (n + m) ≡ those f a n ++ those f (a + n) m
+those-append f a zero m = ap (those f a) (let e : 0 + m ≡ m = omega arith in e) ∙ ap (λ b. those f b m) (let e : a ≡ a + 0 = omega arith in e)
+those-append f a (suc n) m =
+    ap (those f a) (let e : suc n + m ≡ suc (n + m) = omega arith in e)
+    ∙ by (f a) (those-append f (a + 1) n m ∙ ap (λ b. those f (a + 1) n ++ those f b m) (let e : a + 1 + n ≡ a + suc n = omega arith in e))
+  where
+    by : (c : Bool) → those f (a + 1) (n + m) ≡ those f (a + 1) n ++ those f (a + suc n) m
+        → cond c (a ∷ those f (a + 1) (n + m)) (those f (a + 1) (n + m)) ≡ cond c (a ∷ those f (a + 1) n) (those f (a + 1) n) ++ those f (a + suc n) m
+    by true later = ap (λ l. a ∷ l) later
+    by false later = later
+
+in-the-middle : (xs ys zs : List ℕ) (left : ℕ) → left < length ys → slice_get (xs ++ (ys ++ zs)) (length xs + left) ≡ slice_get ys left
+in-the-middle [] ys zs left h = ap (slice_get (ys ++ zs)) (let e : 0 + left ≡ left = omega arith in e) ∙ front ys zs left h
+  where
+    front : (ys zs : List ℕ) (left : ℕ) → left < length ys → slice_get (ys ++ zs) left ≡ slice_get ys left
+    front [] zs left h = absurd (omega (arith, h))
+    front (y ∷ ys) zs zero h = refl
+    front (y ∷ ys) zs (suc left) h = front ys zs left (omega (arith, h))
+in-the-middle (x ∷ xs) ys zs left h = ap (slice_get (x ∷ xs ++ (ys ++ zs))) (let e : suc (length xs) + left ≡ suc (length xs + left) = omega arith in e) ∙ in-the-middle xs ys zs left h
+
+module _ (ws : List ℕ) (i : ℕ) (within : i < length ws) where
+  abbrev word : ℕ
+  word = get_or ws i 0
+
+  its-bits : those (has_number ws) (0 + 64 * i) 64 ≡ map (λ j. 64 * i + j) (bits_in word)
+  unfolding bits_in
+  its-bits =
+      ap (λ a. those (has_number ws) a 64) (let e : 0 + 64 * i ≡ 64 * i + 0 = omega arith in e) ∙ those-shift (has_number ws) (64 * i) 0 64
+      ∙ ap (map (λ j. 64 * i + j)) (those-same (λ j. has_number ws (64 * i + j)) (has_bit word) 0 64 (λ j l h. same j (omega (arith, h))))
+    where
+      same : (j : ℕ) → j < 64 → has_number ws (64 * i + j) ≡ has_bit word j
+      same j h = ap (λ q. has_bit (get_or ws q 0) ((64 * i + j) % 64)) (let e : (64 * i + j) / 64 ≡ i = omega (arith, h) in e) ∙ ap (has_bit word) (let e : (64 * i + j) % 64 ≡ j = omega (arith, h) in e)
+
+  pub words-more : length (those (has_number ws) 0 (64 * (i + 1))) ≡ length (those (has_number ws) 0 (64 * i)) + length (bits_in word)
+  words-more =
+      ap (λ m. length (those (has_number ws) 0 m)) (let e : 64 * (i + 1) ≡ 64 * i + 64 = omega arith in e)
+      ∙ ap length (those-append (has_number ws) 0 (64 * i) 64) ∙ length-append (those (has_number ws) 0 (64 * i)) (those (has_number ws) (0 + 64 * i) 64)
+      ∙ ap (λ n. length (those (has_number ws) 0 (64 * i)) + n) (ap length its-bits ∙ length-map (bits_in word) (λ j. 64 * i + j))
+
+  -- the number at this place stands in the word
+  pub found-in : (left : ℕ) → left < length (bits_in word) → slice_get (numbers_in ws) (length (those (has_number ws) 0 (64 * i)) + left) ≡ Some (64 * i + get_or (bits_in word) left 0)
+  found-in left h =
+      let behind = 64 * length ws - (64 * i + 64) in
+      let parts : numbers_in ws ≡ those (has_number ws) 0 (64 * i) ++ (map (λ j. 64 * i + j) (bits_in word) ++ those (has_number ws) (0 + 64 * i + 64) behind) =
+      ap (those (has_number ws) 0) (let e : 64 * length ws ≡ 64 * i + (64 + behind) = omega (arith, within) in e)
+      ∙ those-append (has_number ws) 0 (64 * i) (64 + behind)
+      ∙ ap (λ l. those (has_number ws) 0 (64 * i) ++ l) (those-append (has_number ws) (0 + 64 * i) 64 behind ∙ ap (λ l. l ++ those (has_number ws) (0 + 64 * i + 64) behind) its-bits) in
+      ap (λ l. slice_get l (length (those (has_number ws) 0 (64 * i)) + left)) parts
+      ∙ in-the-middle (those (has_number ws) 0 (64 * i)) (map (λ j. 64 * i + j) (bits_in word)) (those (has_number ws) (0 + 64 * i + 64) behind) left (omega (arith, h, length-map (bits_in word) (λ j. 64 * i + j)))
+      ∙ slice_get-map (λ j. 64 * i + j) (bits_in word) left ∙ ap (option_map (λ j. 64 * i + j)) (slice_get-get_or (bits_in word) left 0 h)
+
+  pub found-at : (place left : ℕ) → length (those (has_number ws) 0 (64 * i)) + left ≡ place → left < length (bits_in word) → slice_get (numbers_in ws) place ≡ Some (64 * i + get_or (bits_in word) left 0)
+  found-at place left sum h = ap (slice_get (numbers_in ws)) (sym sum) ∙ found-in left h
+
+-- no number stands there
+pub none-at : (ws : List ℕ) (place left : ℕ) → length (numbers_in ws) + left ≡ place → slice_get (numbers_in ws) place ≡ None
+none-at ws place left sum = slice_get_past (numbers_in ws) place (omega (arith, sum))
