@@ -16,10 +16,10 @@ use Rattle.ot_job.specs.Counting.{out_in, unended_in, AreCounted}
 
 -- ---- counts
 
-abbrev one : Bool → ℕ
+abbrev pub one : Bool → ℕ
 one b = cond b 1 0
 
-count-cons : (p : Region → Bool) (r : Region) (rs : List Region) → count_by p (r ∷ rs) ≡ one (p r) + count_by p rs
+pub count-cons : (p : Region → Bool) (r : Region) (rs : List Region) → count_by p (r ∷ rs) ≡ one (p r) + count_by p rs
 count-cons p r rs = sum_by-cons (λ x. cond {A = ℕ} (p x) 1 0) r rs
 
 count-push : (p : Region → Bool) (rs : List Region) (r : Region) → count_by p (rs ++ r ∷ []) ≡ count_by p rs + one (p r)
@@ -60,7 +60,7 @@ unended-all (r ∷ rs) = by (unended-all rs) r.ended refl
 
 -- ---- one region changes
 
-count-updated : (p : Region → Bool) (f : Region → Region) (rs : List Region) (i : ℕ) → i < length rs
+pub count-updated : (p : Region → Bool) (f : Region → Region) (rs : List Region) (i : ℕ) → i < length rs
     → count_by p (updated rs i f) + one (p (at rs i)) ≡ count_by p rs + one (p (f (at rs i)))
 count-updated p f [] i h = absurd (omega (arith, h))
 count-updated p f (r ∷ rs) zero h = omega (arith, count-cons p r rs, count-cons p (f r) rs)

@@ -34,11 +34,12 @@ use Rattle.ot_task.specs.Pieces.{leading, test_of}
 use Rattle.ot_task.specs.Touched.{held, piece_touches}
 use Rattle.ot_job.specs.Whole.{assigns_out, whole, wholes, leases_out}
 use Rattle.ot_job.specs.Running.{RunsWell}
-use Rattle.ot_job.specs.Live.{Seen}
+use Rattle.ot_job.specs.Live.{Live}
 use Rattle.ot_task.specs.Weighing.{weight_of}
 use Rattle.ot_job.proofs.WeighingLemmas.{weight-settled}
 use Rattle.ot_job.specs.Well.{IsOnCourse, IsWell}
-use Rattle.ot_job.specs.Settling.{Came, IsOut, taken_by, moved_on, settled, counted, counts_after}
+use Rattle.ot_job.specs.Taken.{Came, IsOut, taken_by}
+use Rattle.ot_job.specs.Settling.{moved_on, settled, counted, counts_after}
 use Rattle.ot_job.proofs.BackLemmas.{mode_at, back-serial, test-serial, HasInputs}
 use Rattle.ot_job.proofs.KeptLemmas.{at-updated, at-updated-other, todo-append, kept-piece}
 use Rattle.ot_job.proofs.ChangedLemmas.{begun-changed}
@@ -54,7 +55,7 @@ use Rattle.ot_job.proofs.MovedLemmas.{Goes, goes-on}
 use Rattle.ot_job.proofs.MovesLemmas.{wholes-settled, still-out, leases-settled, length-settled}
 
 -- a job on its course has counted at most what its program has
-pub counts-few : (j : Seen) → IsOnCourse j → (j.counts.tasks ≤ tasks_in j.program.body) × (j.counts.units ≤ size j.program.body)
+pub counts-few : (j : Live) → IsOnCourse j → (j.counts.tasks ≤ tasks_in j.program.body) × (j.counts.units ≤ size j.program.body)
 counts-few j o =
     let s = state_of (worths j.owned j.cells) j.counts in
     let g = left-grows (todo_at (wholes j.regions)) (parents (wholes j.regions)) s in
@@ -63,7 +64,7 @@ counts-few j o =
     let u = ap (λ (x : State). x.units) o.kept in
     (omega (arith, g.0, t, f.0), omega (arith, g.1, u, f.1))
 
-module _ (j : Seen) (w : IsWell j) (working : j.failing ≡ false) (d : Came) (out : IsOut j.regions d)
+module _ (j : Live) (w : IsWell j) (working : j.failing ≡ false) (d : Came) (out : IsOut j.regions d)
     (made : (c : Cell) → value_at d.lent c ≡ assigned d.assigns (first_at d.lent) c) (told : d.answer ≡ option_map (λ e. val (value_at d.lent) e) d.test)
     (cells : List (List ℕ)) (owned : Owned) (back : AreJoined d.lent (cell_of j.cells) (cell_of cells)) (long : lengths cells ≡ lengths j.cells)
     (ended : IsPermutation j.owned.out (lease_of d.lent ∷ owned.out))
@@ -77,7 +78,7 @@ module _ (j : Seen) (w : IsWell j) (working : j.failing ≡ false) (d : Came) (o
   abbrev run : Run
   run = record { assigns = d.assigns; lease = lease_of d.lent }
 
-  abbrev pub settles : Seen
+  abbrev pub settles : Live
   settles = record j {
     regions = settled (taken_by d.answer) j.counts.units i j.regions;
     cells = cells;

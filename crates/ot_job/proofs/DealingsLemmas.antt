@@ -1,9 +1,8 @@
 -- A job's calls, as whoever deals with it sees them.
-use Rattle.std.proofs.Common.{◌≡◌, ◌≢◌, ℕ, zero, suc, ◌+◌, ◌*◌, ◌<◌, ◌≤◌, Bool, true, false, not, ◌&&◌, ◌||◌, List, [], ◌∷◌, ◌++◌, length, get_or, refl, sym, ap, subst, ◌∙◌, ◌⊎◌, inl, inr, arith, true≢false, length-append}
+use Rattle.std.proofs.Common.{◌≡◌, ◌≢◌, ℕ, zero, suc, ◌+◌, ◌<◌, ◌≤◌, Bool, true, false, not, ◌&&◌, ◌||◌, List, [], ◌∷◌, ◌++◌, length, get_or, refl, sym, ap, subst, ◌∙◌, ◌⊎◌, inl, inr, arith, true≢false, length-append}
 use Rattle.std.specs.Prelude.{◌==◌, ◌%◌, Option, Some, None, is_some, option_map, nat_lt, if◌then◌else◌}
 use Rattle.std.specs.List.{range_with_len}
 use Rattle.std.proofs.lemmas.Bool.{cases_eq, cases_lt}
-use Rattle.std.proofs.lemmas.Bool.Decides.{nat_tests}
 use Rattle.std.proofs.lemmas.Nat.{mod_below}
 use Rattle.std.proofs.lemmas.Option.{same_Some, none-some, slice_get-get_or}
 use Rattle.std.proofs.lemmas.List.FromFn.{length-range_with_len}
@@ -19,7 +18,7 @@ use Rattle.ot_check.proofs.Bits.{and_left, not_true}
 use Rattle.ot_owner.specs.Leases.{Lease, lease_of}
 use Rattle.ot_task.specs.Regions.{Region, Run, with_child, new_region, with_created, stepped, executed, next_task, rest_at, children_at, over, stopped, root_region}
 use Rattle.ot_job.specs.Sound.{at, parent_of}
-use Rattle.ot_job.specs.Live.{Seen}
+use Rattle.ot_job.specs.Live.{Live}
 use Rattle.ot_job.specs.Taken.{Taken}
 use Rattle.ot_task.specs.Pieces.{behind, test_of, begun}
 use Rattle.ot_job.specs.Whole.{with_lease, leases_out}
@@ -27,35 +26,35 @@ use Rattle.ot_job.specs.Claiming.{is_claimable, claimable_of, picked}
 use Rattle.ot_task.specs.Waits.{is_let_go}
 use Rattle.ot_depend.specs.Siblings.{is_ready}
 use Rattle.ot_job.specs.Claims.{Claims, Claimed, ahead}
-use Rattle.ot_job.specs.Settling.{Came, IsOut, Settles, closed, moved_on, settled, taken_by, Refuses as RefusesOut}
+use Rattle.ot_job.specs.Taken.{Came, IsOut, taken_by}
+use Rattle.ot_job.specs.Settling.{Settles, closed, moved_on, settled}
 use Rattle.ot_task.specs.Standing.{is_at_end}
-use Rattle.ot_job.specs.States.{Starts, FailsBy, any_out, all_ended, claimable_in, aborted, Fails as FailsOut}
+use Rattle.ot_job.specs.States.{Starts, FailsBy, any_out, all_ended, claimable_in, aborted}
 use Rattle.ot_task.specs.Weighing.{region_weight, weight_left, weight_of as weight_in}
-use Rattle.ot_job.specs.Running.{RunsWell}
 use Rattle.ot_job.specs.Well.{IsWell}
 use Rattle.ot_job.specs.declared.state.State.TheVariants.{Working, Failing, Ended, Failed}
-use Rattle.ot_job.specs.declared.piece.Refused.{Refused}
-use Rattle.ot_job.specs.declared.piece.Refused.TheVariants as r
-use Rattle.ot_job.specs.Dealings.{Work, work_of, brought, run_with, work_in, work_at, NoneOut, out_in, out_of, state_of, weight_of, settled_units, IsOver, after_failure, IsBegun, Takes, Returns, Gives, Pays, Breaks, Fails, Aborts, Refuses}
+use Rattle.ot_job.specs.Dealings.{Work, work_of, brought, run_with, work_in, work_at, NoneOut, out_of, state_of, weight_of, IsOver, after_failure, IsFresh, Takes, Returns, Gives, Pays, Breaks, Aborts}
+use Rattle.ot_job.specs.Counting.{out_in}
+use Rattle.ot_job.proofs.CountingLemmas.{one, count-cons, count-updated, out-any}
 use Rattle.ot_job.proofs.KeptLemmas.{at-updated, at-updated-other, at-more, at-new}
 use Rattle.ot_job.proofs.SoundLemmas.{at-past}
 use Rattle.ot_job.proofs.WellLemmas.{claimable-idle}
 use Rattle.ot_job.proofs.PickLemmas.{picked-claimable}
-use Rattle.ot_job.proofs.StartLemmas.{runs-within, each-ended, one-out, ended-none-out}
+use Rattle.ot_job.proofs.StartLemmas.{runs-within, each-ended, one-out, ended-none-out, root-light}
 use Rattle.ot_job.proofs.MovesLemmas.{Alike, tell, tell-field, others-moved, still-out, leases-settled}
-use Rattle.ot_job.proofs.WeighingLemmas.{weight-begun, weight-settled}
+use Rattle.ot_job.proofs.WeighingLemmas.{weight-begun}
 
 -- ---- the piece that is out
 
 abbrev run_of : Came → Run
 run_of d = record { assigns = d.assigns; lease = lease_of d.lent }
 
-pub out-work : (j : Seen) (d : Came) → IsOut j.regions d → work_at j d.task ≡ Some (brought d)
+pub out-work : (j : Live) (d : Came) → IsOut j.regions d → work_at j d.task ≡ Some (brought d)
 out-work j d out =
     ap (option_map (run_with (test_of (at j.regions d.task).rest))) out.0
     ∙ ap (λ (t : Option E). Some (run_with t (record { assigns = d.assigns; lease = lease_of d.lent }))) (sym out.1)
 
-pub work-out : (j : Seen) (d : Came) → work_at j d.task ≡ Some (brought d) → IsOut j.regions d
+pub work-out : (j : Live) (d : Came) → work_at j d.task ≡ Some (brought d) → IsOut j.regions d
 work-out j d h = by (at j.regions d.task).running refl h
   where
     by : (o : Option Run) → (at j.regions d.task).running ≡ o → option_map (run_with (test_of (at j.regions d.task).rest)) o ≡ Some (brought d) → IsOut j.regions d
@@ -72,31 +71,19 @@ work-none a none = ap (option_map (run_with (test_of a.rest))) none
 
 -- ---- how many are out
 
-abbrev one_out : Region → ℕ
-one_out r = if is_some r.running then 1 else 0
+abbrev runs : Region → Bool
+runs r = is_some r.running
 
-count-updated : (rs : List Region) (i : ℕ) (f : Region → Region) → i < length rs → out_in (updated rs i f) + one_out (at rs i) ≡ out_in rs + one_out (f (at rs i))
-count-updated [] i f h = absurd (omega (arith, h))
-count-updated (r ∷ rs) zero f h = by (is_some r.running) (is_some (f r).running)
-  where
-    by : (b c : Bool) → (if c then 1 + out_in rs else out_in rs) + (if b then 1 else 0) ≡ (if b then 1 + out_in rs else out_in rs) + (if c then 1 else 0)
-    by true true = refl
-    by true false = omega arith
-    by false true = omega arith
-    by false false = refl
-count-updated (r ∷ rs) (suc i) f h = by (is_some r.running) (count-updated rs i f (omega (arith, h)))
-  where
-    by : (b : Bool) → out_in (updated rs i f) + one_out (at rs i) ≡ out_in rs + one_out (f (at rs i))
-        → (if b then 1 + out_in (updated rs i f) else out_in (updated rs i f)) + one_out (at rs i) ≡ (if b then 1 + out_in rs else out_in rs) + one_out (f (at rs i))
-    by true w = omega (arith, w)
-    by false w = w
+-- one region more
+out-cons : (r : Region) (rs : List Region) → out_in (r ∷ rs) ≡ one (runs r) + out_in rs
+out-cons r rs = count-cons runs r rs
 
 pub out-leases : (rs : List Region) → out_in rs ≡ length (leases_out rs)
 out-leases [] = refl
-out-leases (r ∷ rs) = by r.running (out-leases rs)
+out-leases (r ∷ rs) = out-cons r rs ∙ by r.running (out-leases rs)
   where
-    by : (o : Option Run) → out_in rs ≡ length (leases_out rs) → (if is_some o then 1 + out_in rs else out_in rs) ≡ length (with_lease o (leases_out rs))
-    by None h = h
+    by : (o : Option Run) → out_in rs ≡ length (leases_out rs) → one (is_some o) + out_in rs ≡ length (with_lease o (leases_out rs))
+    by None h = omega (arith, h)
     by (Some run) h = omega (arith, h)
 
 -- each that is out weighs something
@@ -104,11 +91,14 @@ pub out-light : (rs : List Region) → ((i : ℕ) (run : Run) → (at rs i).runn
 out-light [] alive = omega arith
 out-light (r ∷ rs) alive = by r.running refl (out-light rs (λ i. alive (suc i)))
   where
-    by : (o : Option Run) → r.running ≡ o → out_in rs ≤ weight_in rs → (if is_some o then 1 + out_in rs else out_in rs) ≤ region_weight r + weight_in rs
-    by None e h = omega (arith, h)
+    by : (o : Option Run) → r.running ≡ o → out_in rs ≤ weight_in rs → out_in (r ∷ rs) ≤ region_weight r + weight_in rs
+    by None e h =
+        let none : one (runs r) ≡ 0 = ap (λ (o : Option Run). one (is_some o)) e in
+        omega (arith, h, none, out-cons r rs)
     by (Some run) e h =
+        let some : one (runs r) ≡ 1 = ap (λ (o : Option Run). one (is_some o)) e in
         let heavy : region_weight r ≡ 1 + weight_left (is_some r.running) r.rest r.groups = ap (λ (b : Bool). if b then 0 else 1 + weight_left (is_some r.running) r.rest r.groups) (alive 0 run e) in
-        omega (arith, h, heavy)
+        omega (arith, h, heavy, some, out-cons r rs)
 
 -- ---- whether one is out
 
@@ -130,10 +120,10 @@ none-at (r ∷ rs) h k = by r.running refl (none-at rs) k
     by None e more zero = e
     by None e more (suc k) = more (ap (λ (o : Option Run). is_some o || any_out rs) (sym e) ∙ h) k
 
-pub none-out : (j : Seen) → any_out j.regions ≡ false → NoneOut j
+pub none-out : (j : Live) → any_out j.regions ≡ false → NoneOut j
 none-out j h k = work-none (at j.regions k) (none-at j.regions h k)
 
-pub out-none : (j : Seen) → NoneOut j → any_out j.regions ≡ false
+pub out-none : (j : Live) → NoneOut j → any_out j.regions ≡ false
 out-none j none = by (any_out j.regions) refl
   where
     by : (b : Bool) → any_out j.regions ≡ b → b ≡ false
@@ -143,21 +133,20 @@ out-none j none = by (any_out j.regions) refl
         absurd (none-some (run_with (test_of (at j.regions o.0).rest) o.1) (sym (none o.0) ∙ ap (option_map (run_with (test_of (at j.regions o.0).rest))) o.2))
 
 failed-state : (rs : List Region) → (if any_out rs then Failing else Failed) ≡ after_failure (out_in rs)
-failed-state [] = refl
-failed-state (r ∷ rs) = by r.running (failed-state rs)
+failed-state rs = ap (λ (b : Bool). if b then Failing else Failed) (sym (out-any rs)) ∙ by (out_in rs == 0)
   where
-    by : (o : Option Run) → (if any_out rs then Failing else Failed) ≡ after_failure (out_in rs) → (if is_some o || any_out rs then Failing else Failed) ≡ after_failure ((if is_some o then 1 + out_in rs else out_in rs))
-    by None h = h
-    by (Some run) h = let some : (1 + out_in rs == 0) ≡ false = grind (arith, nat_tests) in ap (λ (b : Bool). if b then Failed else Failing) (sym some)
+    by : (b : Bool) → (if not b then Failing else Failed) ≡ (if b then Failed else Failing)
+    by true = refl
+    by false = refl
 
 -- ---- how it stands
 
-working-is : (j : Seen) → j.failing ≡ false → all_ended j.regions ≡ false → state_of j ≡ Working
+working-is : (j : Live) → j.failing ≡ false → all_ended j.regions ≡ false → state_of j ≡ Working
 working-is j working left =
     ap (λ (f : Bool). if f then (if any_out j.regions then Failing else Failed) else if all_ended j.regions then Ended else Working) working
     ∙ ap (λ (e : Bool). if e then Ended else Working) left
 
-failing-is : (j : Seen) → j.failing ≡ true → state_of j ≡ after_failure (out_of j)
+failing-is : (j : Live) → j.failing ≡ true → state_of j ≡ after_failure (out_of j)
 failing-is j failing =
     ap (λ (f : Bool). if f then (if any_out j.regions then Failing else Failed) else if all_ended j.regions then Ended else Working) failing
     ∙ failed-state j.regions
@@ -169,7 +158,7 @@ one-alive rs i alive = by (all_ended rs) refl
     by false e = refl
     by true e = absurd (true≢false (sym (each-ended rs e i) ∙ alive))
 
-pub is-calm : (j : Seen) → IsWell j → IsOver (state_of j) → NoneOut j
+pub is-calm : (j : Live) → IsWell j → IsOver (state_of j) → NoneOut j
 is-calm j w over = by j.failing (any_out j.regions) (all_ended j.regions) refl refl refl over
   where
     by : (f a e : Bool) → j.failing ≡ f → any_out j.regions ≡ a → all_ended j.regions ≡ e → IsOver (if f then (if a then Failing else Failed) else if e then Ended else Working) → NoneOut j
@@ -178,7 +167,7 @@ is-calm j w over = by j.failing (any_out j.regions) (all_ended j.regions) refl r
     by false a true failing any all h = none-out j (ended-none-out j w failing all)
     by false a false failing any all h = absurd h
 
-pub is-going : (j : Seen) → state_of j ≡ Failing → NoneOut j → ⊥
+pub is-going : (j : Live) → state_of j ≡ Failing → NoneOut j → ⊥
 is-going j is none = by j.failing (any_out j.regions) (all_ended j.regions) (out-none j none) is
   where
     by : (f a e : Bool) → a ≡ false → (if f then (if a then Failing else Failed) else if e then Ended else Working) ≡ Failing → ⊥
@@ -193,19 +182,19 @@ root-none : (body : Body) (k : ℕ) → work_in (at (root_region body ∷ []) k)
 root-none body zero = refl
 root-none body (suc k) = refl
 
-pub starts-begun : (spec : Spec) (j : Seen) → spec.checked.program.statements ≤ 20000 → Starts spec j → weight_of j ≤ 2 * spec.checked.program.statements + 1 → IsBegun spec j
-starts-begun spec j few s light = record {
+pub starts-fresh : (spec : Spec) (j : Live) → Starts spec j → IsFresh spec j
+starts-fresh spec j s = record {
   of = record { program = sym s.program; before = sym s.before };
   working = working-is j s.working (ap all_ended s.regions);
   none = λ k. ap (λ (rs : List Region). work_in (at rs k)) s.regions ∙ root-none (expanded_of spec.checked.program).body k;
   out = ap out_in s.regions;
-  weight = omega (arith, few, light);
+  weight = omega (arith, spec.checked.program.few, spec.checked.program.statements_are, root-light (expanded_of spec.checked.program).body, ap weight_in s.regions);
   units = s.units;
 }
 
 -- ---- a claim
 
-not-failing : (j : Seen) (pick i : ℕ) → picked (claimable_in j) pick ≡ Some i → j.failing ≡ false
+not-failing : (j : Live) (pick i : ℕ) → picked (claimable_in j) pick ≡ Some i → j.failing ≡ false
 not-failing j pick i h = by j.failing refl h
   where
     by : (b : Bool) → j.failing ≡ b → picked (if b then [] else claimable_of j.regions) pick ≡ Some i → b ≡ false
@@ -233,15 +222,15 @@ pub picked-in : (failing : Bool) (rs : List Region) (pick i : ℕ) → picked (i
 picked-in true rs pick i is = cc
 picked-in false rs pick i is = (refl, is)
 
-pub picked-some : (j : Seen) (pick i : ℕ) → j.failing ≡ false → picked (claimable_of j.regions) pick ≡ Some i → 0 < length (claimable_in j)
+pub picked-some : (j : Live) (pick i : ℕ) → j.failing ≡ false → picked (claimable_of j.regions) pick ≡ Some i → 0 < length (claimable_in j)
 picked-some j pick i working h =
     some-picked (claimable_in j) pick i (ap (λ (b : Bool). picked (if b then [] else claimable_of j.regions) pick) working ∙ h)
 
-pub picked-working : (j : Seen) (pick i : ℕ) → j.failing ≡ false → picked (claimable_of j.regions) pick ≡ Some i → state_of j ≡ Working
+pub picked-working : (j : Live) (pick i : ℕ) → j.failing ≡ false → picked (claimable_of j.regions) pick ≡ Some i → state_of j ≡ Working
 picked-working j pick i working h = working-is j working (one-alive j.regions i (claimable-alive j.regions i (picked-claimable j.regions pick i h).1))
 
-pub claims-takes : (old : Seen) (pick : ℕ) (p : Taken) (new : Seen) → Claims old pick p new → Takes old p.task (work_of p) new
-claims-takes old pick p new c = subst (λ (n : Seen). Takes old p.task (work_of p) n) (sym c.now) (record {
+pub claims-takes : (old : Live) (pick : ℕ) (p : Taken) (new : Live) → Claims old pick p new → Takes old p.task (work_of p) new
+claims-takes old pick p new c = subst (λ (n : Live). Takes old p.task (work_of p) n) (sym c.now) (record {
   free = work-none (at rs i) idle;
   taken =
       ap work_in here
@@ -265,7 +254,7 @@ claims-takes old pick p new c = subst (λ (n : Seen). Takes old p.task (work_of 
     lease : Lease
     lease = lease_of p.lent
 
-    now : Seen
+    now : Live
     now = record old { regions = updated old.regions p.task (begun (lease_of p.lent)); owned = new.owned }
 
     working : old.failing ≡ false
@@ -288,11 +277,11 @@ claims-takes old pick p new c = subst (λ (n : Seen). Takes old p.task (work_of 
 
     counts : out_in (updated rs i (begun lease)) ≡ out_in rs + 1
     counts =
-        let one : one_out (at rs i) ≡ 0 = ap (λ (o : Option Run). if is_some o then 1 else 0) idle in
-        let w = count-updated rs i (begun lease) both.0 in
-        omega (arith, w, one)
+        let none : one (runs (at rs i)) ≡ 0 = ap (λ (o : Option Run). one (is_some o)) idle in
+        let w = count-updated runs (begun lease) rs i both.0 in
+        omega (arith, w, none)
 
-pub claimed-gives : (old : Seen) (pick : ℕ) (p : Option Taken) (new : Seen) → Claimed old pick p new → Gives old p new
+pub claimed-gives : (old : Live) (pick : ℕ) (p : Option Taken) (new : Live) → Claimed old pick p new → Gives old p new
 claimed-gives old pick None new c = (none-picked (claimable_in old) pick c.0, c.1)
 claimed-gives old pick (Some p) new c = (some-picked (claimable_in old) pick p.task c.task, claims-takes old pick p new c)
 
@@ -348,20 +337,20 @@ work-settled taken g i rs = by (at (settled taken g i rs) i).running refl
     by None e = work-none (at (settled taken g i rs) i) e
     by (Some run) e = absurd ((still-out taken g i rs i run e).0 refl)
 
-pub settles-returns : (old : Seen) (d : Came) (n : ℕ) (new : Seen) → Settles old d n new → Returns old d.task (brought d) new
+pub settles-returns : (old : Live) (d : Came) (n : ℕ) (new : Live) → Settles old d n new → Returns old d.task (brought d) new
 settles-returns old d n new s = record {
   was = out-work old d s.out;
   free = ap (λ (rs : List Region). work_in (at rs i)) regions ∙ work-settled (taken_by d.answer) old.counts.units i old.regions;
   others = λ k other. ap (λ (rs : List Region). work_in (at rs k)) regions ∙ work-settled-other (taken_by d.answer) old.counts.units i old.regions k other;
   out = counts;
-  same = record { program = ap (λ (j : Seen). j.program) s.now; before = ap (λ (j : Seen). j.before) s.now };
+  same = record { program = ap (λ (j : Live). j.program) s.now; before = ap (λ (j : Live). j.before) s.now };
 }
   where
     i : ℕ
     i = d.task
 
     regions : new.regions ≡ settled (taken_by d.answer) old.counts.units i old.regions
-    regions = ap (λ (j : Seen). j.regions) s.now
+    regions = ap (λ (j : Live). j.regions) s.now
 
     counts : out_in new.regions + 1 ≡ out_in old.regions
     counts =
@@ -369,27 +358,26 @@ settles-returns old d n new s = record {
         (leases-settled (taken_by d.answer) old.counts.units i old.regions (run_of d) (runs-within old.regions i (run_of d) s.out.0) s.out.0) in
         omega (arith, same, ap out_in regions, out-leases old.regions, out-leases (settled (taken_by d.answer) old.counts.units i old.regions))
 
-pub settles-pays : (old : Seen) (d : Came) (n : ℕ) (new : Seen) → IsWell old → settled_units new ≤ 20000 → Settles old d n new → Pays old d n new
-settles-pays old d n new w few s = record {
+working-goes : (j : Live) → state_of j ≡ Working → j.failing ≡ false
+working-goes j is = by j.failing (any_out j.regions) refl is
+  where
+    by : (f a : Bool) → j.failing ≡ f → (if f then (if a then Failing else Failed) else if all_ended j.regions then Ended else Working) ≡ Working → f ≡ false
+    by false a e h = refl
+    by true true e h = cc
+    by true false e h = cc
+
+pub settles-pays : (old : Live) (d : Came) (n : ℕ) (new : Live) → Settles old d n new → Pays old d n new
+settles-pays old d n new s = record {
   returns = settles-returns old d n new s;
-  working = working-is old s.working (one-alive old.regions i well.alive);
+  working = s.working;
   after = after (all_ended new.regions) refl;
-  weight = lighter;
-  units = ap (λ (j : Seen). j.counts.units) s.now ∙ ap (λ (m : ℕ). old.counts.units + m) (sym s.units);
-  few = few;
+  weight = s.lighter;
+  units = ap (λ (j : Live). j.counts.units) s.now ∙ ap (λ (m : ℕ). old.counts.units + m) (sym s.units);
+  few = s.few;
 }
   where
-    i : ℕ
-    i = d.task
-
-    run : Run
-    run = record { assigns = d.assigns; lease = lease_of d.lent }
-
-    well : RunsWell (at old.regions i) run
-    well = (w.course s.working).runs i run s.out.0
-
     working-now : new.failing ≡ false
-    working-now = ap (λ (j : Seen). j.failing) s.now ∙ s.working
+    working-now = ap (λ (j : Live). j.failing) s.now ∙ working-goes old s.working
 
     after : (b : Bool) → all_ended new.regions ≡ b → (state_of new ≡ Working) ⊎ (state_of new ≡ Ended)
     after false e = inl (working-is new working-now e)
@@ -397,15 +385,20 @@ settles-pays old d n new w few s = record {
         inr (ap (λ (f : Bool). if f then (if any_out new.regions then Failing else Failed) else if all_ended new.regions then Ended else Working) working-now
         ∙ ap (λ (x : Bool). if x then Ended else Working) e)
 
-    lighter : weight_in new.regions < weight_in old.regions
-    lighter =
-        let less = weight-settled (taken_by d.answer) old.counts.units i old.regions run (runs-within old.regions i run s.out.0) s.out.0 well.alive well.stops in
-        omega (arith, less, ap (λ (j : Seen). weight_in j.regions) s.now)
+-- a job that goes well works while a piece of it is out
+pub works : (j : Live) (d : Came) → IsWell j → IsOut j.regions d → j.failing ≡ false → state_of j ≡ Working
+works j d w out going =
+    working-is j going (one-alive j.regions d.task ((w.course going).runs d.task (run_of d) out.0).alive)
 
 -- ---- a piece comes back without results
 
-pub fails-breaks : (old : Seen) (d : Came) (new : Seen) → IsWell old → FailsBy old d new → Breaks old d new
-fails-breaks old d new w f = subst (λ (n : Seen). Breaks old d n) (sym f.now) (record {
+pub state-by-out : (old : Live) (d : Came) → IsOut old.regions d → old.failing ≡ true → state_of old ≡ Failing
+state-by-out old d out e =
+    ap (λ (x : Bool). if x then (if any_out old.regions then Failing else Failed) else if all_ended old.regions then Ended else Working) e
+    ∙ ap (λ (x : Bool). if x then Failing else Failed) (any-at old.regions d.task (record { assigns = d.assigns; lease = lease_of d.lent }) out.0)
+
+pub fails-breaks : (old : Live) (d : Came) (new : Live) → FailsBy old d new → Breaks old d new
+fails-breaks old d new f = subst (λ (n : Live). Breaks old d n) (sym f.now) (record {
   returns = record {
     was = out-work old d f.out;
     free = ap work_in (at-updated rs i stopped within);
@@ -414,7 +407,7 @@ fails-breaks old d new w f = subst (λ (n : Seen). Breaks old d n) (sym f.now) (
     same = record { program = refl; before = refl };
   };
   state = failed-state (updated rs i stopped);
-  going = going old.failing refl;
+  going = f.going;
   units = refl;
 })
   where
@@ -432,46 +425,23 @@ fails-breaks old d new w f = subst (λ (n : Seen). Breaks old d n) (sym f.now) (
 
     counts : out_in (updated rs i stopped) + 1 ≡ out_in rs
     counts =
-        let one : one_out (at rs i) ≡ 1 = ap (λ (o : Option Run). if is_some o then 1 else 0) f.out.0 in
-        let w = count-updated rs i stopped within in
-        omega (arith, w, one)
+        let some : one (runs (at rs i)) ≡ 1 = ap (λ (o : Option Run). one (is_some o)) f.out.0 in
+        let w = count-updated runs stopped rs i within in
+        omega (arith, w, some)
 
-    going : (b : Bool) → old.failing ≡ b → ((state_of old ≡ Working) × (out_of old ≤ weight_of old)) ⊎ (state_of old ≡ Failing)
-    going true e =
-        inr (ap (λ (x : Bool). if x then (if any_out rs then Failing else Failed) else if all_ended rs then Ended else Working) e
-        ∙ ap (λ (x : Bool). if x then Failing else Failed) (any-at rs i run f.out.0))
-    going false e =
-        let o = w.course e in
-        inl (working-is old e (one-alive rs i (o.runs i run f.out.0).alive), out-light rs (λ k x is. (o.runs k x is).alive))
+-- how a job stands that a piece comes back to
+pub stands-by : (old : Live) (d : Came) → IsWell old → IsOut old.regions d → ((state_of old ≡ Working) × (out_of old ≤ weight_of old)) ⊎ (state_of old ≡ Failing)
+stands-by old d w out = by old.failing refl
+  where
+    by : (b : Bool) → old.failing ≡ b → ((state_of old ≡ Working) × (out_of old ≤ weight_of old)) ⊎ (state_of old ≡ Failing)
+    by true e = inr (state-by-out old d out e)
+    by false e = inl (works old d w out e, out-light old.regions (λ k x is. ((w.course e).runs k x is).alive))
 
-pub fails-deals : (old : Seen) (d : Came) (new : Seen) → IsWell old → FailsOut old d new → Fails old d new
-fails-deals old d new w (inl f) = record {
-  own = λ is. fails-breaks old d new w f;
-  stranger = λ not. absurd (not (out-work old d f.out));
-}
-fails-deals old d new w (inr s) = record {
-  own = λ is. absurd (s.0 (work-out old d is));
-  stranger = λ not. s.1;
-}
-
-pub aborted-aborts : (old new : Seen) → new ≡ aborted old → Aborts old new
-aborted-aborts old new is = subst (λ (n : Seen). Aborts old n) (sym is) (record {
+pub aborted-aborts : (old new : Live) → new ≡ aborted old → Aborts old new
+aborted-aborts old new is = subst (λ (n : Live). Aborts old n) (sym is) (record {
   state = failed-state old.regions;
   works = λ k. refl;
   out = refl;
   units = refl;
   same = record { program = refl; before = refl };
 })
-
--- ---- a piece is refused
-
-state-by-out : (old : Seen) (d : Came) → IsOut old.regions d → old.failing ≡ true → state_of old ≡ Failing
-state-by-out old d out e =
-    ap (λ (x : Bool). if x then (if any_out old.regions then Failing else Failed) else if all_ended old.regions then Ended else Working) e
-    ∙ ap (λ (x : Bool). if x then Failing else Failed) (any-at old.regions d.task (record { assigns = d.assigns; lease = lease_of d.lent }) out.0)
-
-pub refuses-deals : (old : Seen) (d : Came) (why : Refused) → IsWell old → RefusesOut old d why → Refuses old d why
-refuses-deals old d r.Stranger w not = λ is. not (work-out old d is)
-refuses-deals old d r.Failing w (out, e) = (out-work old d out, state-by-out old d out e)
-refuses-deals old d r.Memory w (out, e) =
-    (out-work old d out, working-is old e (one-alive old.regions d.task ((w.course e).runs d.task (record { assigns = d.assigns; lease = lease_of d.lent }) out.0).alive))

@@ -15,7 +15,7 @@ use Rattle.ot_job.specs.Sound.{at, parent_of}
 use Rattle.ot_job.specs.Whole.{whole, wholes}
 use Rattle.ot_job.specs.Claiming.{is_claimable, claimable_of}
 use Rattle.ot_task.specs.Waits.{is_let_go, end_lets_go}
-use Rattle.ot_job.specs.Live.{Seen}
+use Rattle.ot_job.specs.Live.{Live}
 use Rattle.ot_job.specs.Well.{IsWell}
 use Rattle.ot_job.specs.States.{any_out, all_ended, state_in}
 use Rattle.ot_job.specs.declared.state.State.TheVariants.{Working, Failing, Ended, Failed}
@@ -115,7 +115,7 @@ some-pass test a (suc n) (suc k) below passes =
     by true h = omega arith
     by false h = h
 
-pub has-claimable : (j : Seen) → IsWell j → j.failing ≡ false → all_ended j.regions ≡ false → any_out j.regions ≡ false → 0 < length (claimable_of j.regions)
+pub has-claimable : (j : Live) → IsWell j → j.failing ≡ false → all_ended j.regions ≡ false → any_out j.regions ≡ false → 0 < length (claimable_of j.regions)
 has-claimable j w working left out =
     let o = w.course working in
     let one = one-left j.regions left in
@@ -124,7 +124,7 @@ has-claimable j w working left out =
     some-pass (is_claimable j.regions) 0 (length j.regions) f.0 (omega (arith, f.1.within, length-map j.regions whole))
     (ap (is_claimable j.regions) e ∙ free-claimable j.regions out f.0 f.1)
 
-pub state-working : (j : Seen) → state_in j ≡ Working → (j.failing ≡ false) × (all_ended j.regions ≡ false)
+pub state-working : (j : Live) → state_in j ≡ Working → (j.failing ≡ false) × (all_ended j.regions ≡ false)
 state-working j h = by j.failing (any_out j.regions) (all_ended j.regions) h
   where
     by : (f a e : Bool) → (if f then (if a then Failing else Failed) else if e then Ended else Working) ≡ Working → (f ≡ false) × (e ≡ false)

@@ -13,7 +13,7 @@ use Rattle.ot_check.specs.Offences.{Declared, allows, adds_to}
 use Rattle.ot_task.specs.Regions.{Region}
 use Rattle.ot_task.specs.Touched.{held, mode_held}
 use Rattle.ot_job.specs.Holding.{Touches, OnlyReads, Holds, touches_out, AllHold, AreApart}
-use Rattle.ot_job.specs.Live.{Seen}
+use Rattle.ot_job.specs.Live.{Live}
 use Rattle.ot_job.specs.Rights.{IsRight}
 use Rattle.ot_job.specs.Sound.{at, IsPlaced}
 use Rattle.ot_job.specs.Well.{IsOnCourse}
@@ -104,7 +104,7 @@ module _ (own : Declared) (us d : List Use) (modes : (c : Cell) → mode_in d c 
 
 -- ---- a job on its course
 
-module _ (j : Seen) (o : IsOnCourse j) where
+module _ (j : Live) (o : IsOnCourse j) where
   named-at : (i : ℕ) → NamedIn (lengths j.cells) (at (wholes j.regions) i).rest
   named-at i = named-front (lengths j.cells) (at (wholes j.regions) i).rest (at (wholes j.regions) i).groups (o.named i)
 

@@ -12,12 +12,13 @@ use Rattle.ot_owner.specs.Lending.{uses_of}
 use Rattle.ot_owner.specs.declared.lent.LentCell.{LentCell}
 use Rattle.ot_task.specs.Regions.{Region, Run, next_task}
 use Rattle.ot_job.specs.Sound.{at, parent_of}
-use Rattle.ot_job.specs.Live.{Seen}
+use Rattle.ot_job.specs.Live.{Live}
 use Rattle.ot_task.specs.Pieces.{leading_len}
 use Rattle.ot_task.specs.Assigns.{assigns_of}
 use Rattle.ot_task.specs.declared.assign.Assign.{Assign}
 use Rattle.ot_task.specs.declared.assign.Assign.TheVariants as v
-use Rattle.ot_job.specs.Settling.{Came, IsOut, MaySettle}
+use Rattle.ot_job.specs.Taken.{Came, IsOut}
+use Rattle.ot_job.specs.Settling.{MaySettle}
 use Rattle.ot_task.specs.Standing.{is_at_end}
 
 runs-known : (rs : List Region) (i : ℕ) (run : Run) → (at rs i).running ≡ Some run → i < length rs
@@ -34,7 +35,7 @@ uses-there cells (l ∷ ls) h =
 run_of : Came → Run
 run_of d = record { assigns = d.assigns; lease = lease_of d.lent }
 
-module _ (j : Seen) (d : Came) (may : MaySettle j) (out : IsOut j.regions d) where
+module _ (j : Live) (d : Came) (may : MaySettle j) (out : IsOut j.regions d) where
   pub is-known : d.task < length j.regions
   unfolding run_of
   is-known = runs-known j.regions d.task (run_of d) out.0

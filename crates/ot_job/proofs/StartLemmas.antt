@@ -28,11 +28,11 @@ use Rattle.ot_job.specs.Left.{left, children_left}
 use Rattle.ot_task.specs.Regions.{Region, Run, root_region, stopped}
 use Rattle.ot_job.specs.Sound.{at, gone, parent_of, todo_at, parents, left_of, IsPlaced, IsSound}
 use Rattle.ot_job.specs.Whole.{wholes, leases_out}
-use Rattle.ot_job.specs.Live.{Seen}
+use Rattle.ot_job.specs.Live.{Live}
 use Rattle.ot_job.specs.Well.{IsWell}
 use Rattle.ot_job.specs.States.{all_ended, any_out, state_in}
 use Rattle.ot_job.specs.declared.state.State.TheVariants.{Working, Failing, Ended, Failed}
-use Rattle.ot_job.specs.Settling.{Came, IsOut}
+use Rattle.ot_job.specs.Taken.{Came, IsOut}
 use Rattle.ot_job.proofs.Kept.{touch-all}
 use Rattle.ot_job.proofs.KeptLemmas.{at-updated, at-updated-other}
 use Rattle.ot_job.proofs.FreeLemmas.{at-whole}
@@ -113,7 +113,7 @@ root-light End = omega arith
 root-light (Next x rest) = omega (arith, weight-few (Next x rest))
 
 -- a job begins well
-pub starts-well : (j : Seen) → IsDisciplined j.program → NamedIn (lengths j.cells) j.program.body → j.owned.out ≡ [] → j.regions ≡ root_region j.program.body ∷ []
+pub starts-well : (j : Live) → IsDisciplined j.program → NamedIn (lengths j.cells) j.program.body → j.owned.out ≡ [] → j.regions ≡ root_region j.program.body ∷ []
     → j.cells ≡ j.before → j.counts.tasks ≡ 0 → j.counts.units ≡ 0 → IsWell j
 starts-well j disciplined named out regions cells tasks units = record {
   rights = subst (λ rs. IsPermutation j.owned.out (leases_out rs)) (sym regions) (subst (λ o. IsPermutation o []) (sym out) (IsPermutation-refl []));
@@ -156,7 +156,7 @@ nothing-left p k (q ∷ qs) s =
     by false h = h
 
 -- an ended job's cells and counts are the serial meaning
-pub ended-meaning : (j : Seen) → IsWell j → j.failing ≡ false → all_ended j.regions ≡ true → state_of j.cells j.counts ≡ serial_run j.program.body j.before
+pub ended-meaning : (j : Live) → IsWell j → j.failing ≡ false → all_ended j.regions ≡ true → state_of j.cells j.counts ≡ serial_run j.program.body j.before
 ended-meaning j w working ended =
     let o = w.course working in
     let s = state_of (worths j.owned j.cells) j.counts in
@@ -172,12 +172,12 @@ runs-within [] i run is = cc
 runs-within (r ∷ rs) zero run is = omega arith
 runs-within (r ∷ rs) (suc i) run is = omega (arith, runs-within rs i run is)
 
-pub fails-out : (j : Seen) (d : Came) → IsWell j → IsOut j.regions d → Contains j.owned.out (lease_of d.lent)
+pub fails-out : (j : Live) (d : Came) → IsWell j → IsOut j.regions d → Contains j.owned.out (lease_of d.lent)
 fails-out j d w out =
     Contains-permutation (leases_out j.regions) j.owned.out (lease_of d.lent) (IsPermutation-sym j.owned.out (leases_out j.regions) w.rights)
     (out-contained j.regions d.task (record { assigns = d.assigns; lease = lease_of d.lent }) out.0)
 
-pub fails-well : (j : Seen) (d : Came) (owned : Owned) → IsWell j → IsOut j.regions d → IsPermutation j.owned.out (lease_of d.lent ∷ owned.out)
+pub fails-well : (j : Live) (d : Came) (owned : Owned) → IsWell j → IsOut j.regions d → IsPermutation j.owned.out (lease_of d.lent ∷ owned.out)
     → IsWell (record j { regions = updated j.regions d.task stopped; owned = owned; failing = true })
 fails-well j d owned w out ended = record {
   rights =
@@ -211,23 +211,23 @@ fails-well j d owned w out ended = record {
     was k run is = sym (ap (λ (r : Region). r.running) (still k run is)) ∙ is
 
 -- where a job stands, by what is known of it
-pub state-is-failing : (j : Seen) → j.failing ≡ true → any_out j.regions ≡ true → Failing ≡ state_in j
+pub state-is-failing : (j : Live) → j.failing ≡ true → any_out j.regions ≡ true → Failing ≡ state_in j
 state-is-failing j fails out =
     sym (ap (λ b. if b then (if any_out j.regions then Failing else Failed) else if all_ended j.regions then Ended else Working) fails ∙ ap (λ b. if b then Failing else Failed) out)
 
-pub state-is-failed : (j : Seen) → j.failing ≡ true → any_out j.regions ≡ false → Failed ≡ state_in j
+pub state-is-failed : (j : Live) → j.failing ≡ true → any_out j.regions ≡ false → Failed ≡ state_in j
 state-is-failed j fails out =
     sym (ap (λ b. if b then (if any_out j.regions then Failing else Failed) else if all_ended j.regions then Ended else Working) fails ∙ ap (λ b. if b then Failing else Failed) out)
 
-pub state-is-ended : (j : Seen) → j.failing ≡ false → all_ended j.regions ≡ true → Ended ≡ state_in j
+pub state-is-ended : (j : Live) → j.failing ≡ false → all_ended j.regions ≡ true → Ended ≡ state_in j
 state-is-ended j fails ended =
     sym (ap (λ b. if b then (if any_out j.regions then Failing else Failed) else if all_ended j.regions then Ended else Working) fails ∙ ap (λ b. if b then Ended else Working) ended)
 
-pub state-is-working : (j : Seen) → j.failing ≡ false → all_ended j.regions ≡ false → Working ≡ state_in j
+pub state-is-working : (j : Live) → j.failing ≡ false → all_ended j.regions ≡ false → Working ≡ state_in j
 state-is-working j fails ended =
     sym (ap (λ b. if b then (if any_out j.regions then Failing else Failed) else if all_ended j.regions then Ended else Working) fails ∙ ap (λ b. if b then Ended else Working) ended)
 
-pub state-ended : (j : Seen) → state_in j ≡ Ended → (j.failing ≡ false) × (all_ended j.regions ≡ true)
+pub state-ended : (j : Live) → state_in j ≡ Ended → (j.failing ≡ false) × (all_ended j.regions ≡ true)
 state-ended j h = by j.failing (any_out j.regions) (all_ended j.regions) h
   where
     by : (f a e : Bool) → (if f then (if a then Failing else Failed) else if e then Ended else Working) ≡ Ended → (f ≡ false) × (e ≡ true)
@@ -246,7 +246,7 @@ one-out (r ∷ rs) h = by r.running refl (λ g. one-out rs g)
     by None e more = let m = more (ap (λ o. is_some o || any_out rs) (sym e) ∙ h) in (suc m.0, m.1, m.2)
 
 -- no piece of an ended job is out
-pub ended-none-out : (j : Seen) → IsWell j → j.failing ≡ false → all_ended j.regions ≡ true → any_out j.regions ≡ false
+pub ended-none-out : (j : Live) → IsWell j → j.failing ≡ false → all_ended j.regions ≡ true → any_out j.regions ≡ false
 ended-none-out j w working ended = by (any_out j.regions) refl
   where
     by : (b : Bool) → any_out j.regions ≡ b → b ≡ false

@@ -15,7 +15,7 @@ use Rattle.ot_job.specs.Sound.{at}
 use Rattle.ot_task.specs.Pieces.{leading, behind, test_of, awake}
 use Rattle.ot_model.specs.Uses.{mode_in}
 use Rattle.ot_task.specs.Touched.{held, piece_touches, test_touches, AreHeld}
-use Rattle.ot_job.specs.Live.{Seen}
+use Rattle.ot_job.specs.Live.{Live}
 use Rattle.ot_job.specs.Well.{IsOnCourse}
 use Rattle.ot_job.proofs.WholeLemmas.{whole-again}
 use Rattle.ot_job.proofs.CoverLemmas.{piece-can, piece-reads, lent-fresh}
@@ -29,7 +29,7 @@ back : (lens : List ℕ) (a b : Body) → NamedIn lens (append a b) → NamedIn 
 back lens End b n = n
 back lens (Next x a) b n = back lens a b n.1
 
-module _ (j : Seen) (o : IsOnCourse j) (i : ℕ) (lent : List LentCell) (are : AreHeld (at j.regions i) (uses_of lent)) (inputs : lent ≡ lent_from j.cells (uses_of lent)) where
+module _ (j : Live) (o : IsOnCourse j) (i : ℕ) (lent : List LentCell) (are : AreHeld (at j.regions i) (uses_of lent)) (inputs : lent ≡ lent_from j.cells (uses_of lent)) where
   abbrev r : Region
   r = at j.regions i
 

@@ -32,7 +32,7 @@ use Rattle.ot_owner.specs.Owning.{Owned}
 use Rattle.ot_owner.specs.Worth.{worths}
 use Rattle.ot_owner.proofs.WorthLemmas.{worths-combined}
 use Rattle.ot_model.specs.Runs.{state_of}
-use Rattle.ot_job.specs.Live.{Seen}
+use Rattle.ot_job.specs.Live.{Live}
 use Rattle.ot_task.specs.Touched.{AreHeld, piece_touches, assign_touches, test_touches}
 use Rattle.ot_job.specs.Claiming.{is_claimable}
 use Rattle.ot_job.specs.Holding.{Holds, touches_out}
@@ -203,7 +203,7 @@ module _ (lens : List ℕ) (rs : List Region) (s : IsSound (wholes rs)) (named :
 -- ---- a job on its course
 
 -- what a task goes on with names cells that are there
-pub named-awake : (j : Seen) → IsOnCourse j → (i : ℕ) → NamedIn (lengths j.cells) (awake (at j.regions i)).rest
+pub named-awake : (j : Live) → IsOnCourse j → (i : ℕ) → NamedIn (lengths j.cells) (awake (at j.regions i)).rest
 named-awake j w i =
     let lens = lengths j.cells in
     let r = at j.regions i in
@@ -212,7 +212,7 @@ named-awake j w i =
     named-front lens (awake r).rest (awake r).groups (subst (NamedIn lens) (sym (todo-passed r.rest r.groups)) left)
 
 -- what its piece holds is free
-pub claim-free : (j : Seen) → IsWell j → IsOnCourse j → (i : ℕ) → i < length j.regions → is_claimable j.regions i ≡ true → (d : List Use) → AreHeld (at j.regions i) d → AreInOrder d → IsFreeFor j.owned.out d
+pub claim-free : (j : Live) → IsWell j → IsOnCourse j → (i : ℕ) → i < length j.regions → is_claimable j.regions i ≡ true → (d : List Use) → AreHeld (at j.regions i) d → AreInOrder d → IsFreeFor j.owned.out d
 claim-free j w o i h can d are ordered =
     All-permutation (λ l. Conflict l.uses d → ⊥) (leases_out j.regions) j.owned.out (IsPermutation-sym j.owned.out (leases_out j.regions) w.rights)
     (free-now (lengths j.cells) j.regions o.sound o.named o.runs o.begun i h can (record { uses = d; firsts = [] }) are ordered)
@@ -239,10 +239,10 @@ inputs-begun cells rs i lease h fresh old k run is = pick (cases_eq k i)
         subst (λ (r : Run). r.lease ≡ lease_of (lent_from cells r.lease.uses)) same fresh
     pick (inr e) = old k run (sym (ap (λ (x : Region). x.running) (at-updated-other rs i k (begun lease) e)) ∙ is)
 
-module _ (j : Seen) (w : IsWell j) (working : j.failing ≡ false) (i : ℕ) (h : i < length j.regions) (can : is_claimable j.regions i ≡ true) (lease : Lease)
+module _ (j : Live) (w : IsWell j) (working : j.failing ≡ false) (i : ℕ) (h : i < length j.regions) (can : is_claimable j.regions i ≡ true) (lease : Lease)
     (are : AreHeld (at j.regions i) lease.uses) (ordered : AreInOrder lease.uses) (fresh : lease ≡ lease_of (lent_from j.cells lease.uses))
     (owned : Owned) (out : IsPermutation (lease ∷ j.owned.out) owned.out) where
-  abbrev pub claimed : Seen
+  abbrev pub claimed : Live
   claimed = record j { regions = updated j.regions i (begun lease); owned = owned }
 
   o : IsOnCourse j
@@ -313,7 +313,7 @@ test-named lens (Next (Task d b) rest) n = tt
 test-named lens (Next Wait rest) n = tt
 test-named lens (Next (Group cs b) rest) n = tt
 
-pub settle-may : (j : Seen) → IsWell j → IsOnCourse j → MaySettle j
+pub settle-may : (j : Live) → IsWell j → IsOnCourse j → MaySettle j
 settle-may j v w = record { out = out; kin = kin }
   where
     out : (i : ℕ) (run : Run) → (at j.regions i).running ≡ Some run → Contains j.owned.out run.lease × All (λ u. IsSome (cell_of j.cells u.cell)) run.lease.uses

@@ -6,7 +6,7 @@ use Rattle.ot_owner.specs.Leases.{lease_of, lent_from}
 use Rattle.ot_owner.specs.Lending.{uses_of}
 use Rattle.ot_owner.specs.Worth.{KeepsWorth}
 use Rattle.ot_job.specs.Sound.{at}
-use Rattle.ot_job.specs.Live.{Seen}
+use Rattle.ot_job.specs.Live.{Live}
 use Rattle.ot_job.specs.Taken.{Taken}
 use Rattle.ot_task.specs.Pieces.{leading, behind, test_of, awake, begun}
 use Rattle.ot_task.specs.Touched.{piece_touches}
@@ -15,10 +15,10 @@ use Rattle.ot_job.specs.Claiming.{picked}
 use Rattle.ot_job.specs.States.{claimable_in}
 
 -- what a task goes on with
-abbrev pub ahead : Seen → ℕ → Body
+abbrev pub ahead : Live → ℕ → Body
 ahead j i = (awake (at j.regions i)).rest
 
-pub record Claims (old : Seen) (pick : ℕ) (p : Taken) (new : Seen) : Type 0 where
+pub record Claims (old : Live) (pick : ℕ) (p : Taken) (new : Live) : Type 0 where
   pub task : picked (claimable_in old) pick ≡ Some p.task
   pub assigns : p.assigns ≡ leading (ahead old p.task)
   pub test : p.test ≡ test_of (behind (ahead old p.task))
@@ -28,6 +28,6 @@ pub record Claims (old : Seen) (pick : ℕ) (p : Taken) (new : Seen) : Type 0 wh
   pub worth : KeepsWorth old.owned new.owned
   pub now : new ≡ record old { regions = updated old.regions p.task (begun (lease_of p.lent)); owned = new.owned }
 
-abbrev pub Claimed : Seen → ℕ → Option Taken → Seen → Type 0
+abbrev pub Claimed : Live → ℕ → Option Taken → Live → Type 0
 Claimed old pick None new = (picked (claimable_in old) pick ≡ None) × (new ≡ old)
 Claimed old pick (Some p) new = Claims old pick p new

@@ -1,5 +1,5 @@
 -- A job as whoever deals with it sees it.
-use Rattle.std.specs.Prelude.{◌≡◌, ◌≢◌, ◌<◌, ◌≤◌, ◌⊎◌, ℕ, ◌+◌, ◌==◌, List, [], ◌∷◌, length, if◌then◌else◌, Option, Some, None, is_some, option_map}
+use Rattle.std.specs.Prelude.{◌≡◌, ◌≢◌, ◌<◌, ◌≤◌, ◌⊎◌, ℕ, ◌+◌, ◌==◌, [], length, if◌then◌else◌, Option, Some, None, option_map}
 use Rattle.ot_model.specs.Tree.{E, Body}
 use Rattle.ot_model.specs.Programs.{expanded_of}
 use Rattle.ot_check.specs.Jobs.{Spec}
@@ -7,15 +7,14 @@ use Rattle.ot_owner.specs.Leases.{Lease, lease_of}
 use Rattle.ot_task.specs.Regions.{Region, Run}
 use Rattle.ot_job.specs.Sound.{at}
 use Rattle.ot_task.specs.Pieces.{test_of}
-use Rattle.ot_job.specs.Live.{Seen}
+use Rattle.ot_job.specs.Live.{Live}
 use Rattle.ot_job.specs.Taken.{Taken}
-use Rattle.ot_job.specs.Settling.{Came}
+use Rattle.ot_job.specs.Taken.{Came}
 use Rattle.ot_job.specs.States.{state_in, claimable_in}
+use Rattle.ot_job.specs.Counting.{out_in}
 use Rattle.ot_task.specs.Weighing.{weight_of as weight_in}
 use Rattle.ot_job.specs.declared.state.State.{State}
 use Rattle.ot_job.specs.declared.state.State.TheVariants.{Working, Failing, Ended, Failed}
-use Rattle.ot_job.specs.declared.piece.Refused.{Refused}
-use Rattle.ot_job.specs.declared.piece.Refused.TheVariants as r
 
 -- a piece that is out: its assigns, the condition behind them, and what it holds
 pub record Work : Type 0 where
@@ -36,30 +35,26 @@ abbrev pub work_in : Region → Option Work
 work_in r = option_map (run_with (test_of r.rest)) r.running
 
 -- the piece of this task that is out
-abbrev pub work_at : Seen → ℕ → Option Work
+abbrev pub work_at : Live → ℕ → Option Work
 work_at j k = work_in (at j.regions k)
 
 -- no piece is out
-abbrev pub NoneOut : Seen → Type 0
+abbrev pub NoneOut : Live → Type 0
 NoneOut j = (k : ℕ) → work_at j k ≡ None
 
 -- how many pieces are out
-abbrev pub out_in : List Region → ℕ
-out_in [] = 0
-out_in (r ∷ rs) = if is_some r.running then 1 + out_in rs else out_in rs
-
-abbrev pub out_of : Seen → ℕ
+abbrev pub out_of : Live → ℕ
 out_of j = out_in j.regions
 
-abbrev pub state_of : Seen → State
+abbrev pub state_of : Live → State
 state_of j = state_in j
 
 -- how many settles it may still take
-abbrev pub weight_of : Seen → ℕ
+abbrev pub weight_of : Live → ℕ
 weight_of j = weight_in j.regions
 
 -- the units that were settled
-abbrev pub settled_units : Seen → ℕ
+abbrev pub settled_units : Live → ℕ
 settled_units j = j.counts.units
 
 abbrev pub IsOver : State → Type 0
@@ -72,17 +67,17 @@ abbrev pub after_failure : ℕ → State
 after_failure n = if n == 0 then Failed else Failing
 
 -- the same program and cells
-pub record SameSpec (old new : Seen) : Type 0 where
+pub record SameSpec (old new : Live) : Type 0 where
   pub program : new.program ≡ old.program
   pub before : new.before ≡ old.before
 
 -- the job has this spec
-pub record IsOf (spec : Spec) (j : Seen) : Type 0 where
+pub record IsOf (spec : Spec) (j : Live) : Type 0 where
   pub program : expanded_of spec.checked.program ≡ j.program
   pub before : spec.before ≡ j.before
 
 -- a job that was started
-pub record IsBegun (spec : Spec) (j : Seen) : Type 0 where
+pub record IsFresh (spec : Spec) (j : Live) : Type 0 where
   pub of : IsOf spec j
   pub working : state_of j ≡ Working
   pub none : NoneOut j
@@ -91,7 +86,7 @@ pub record IsBegun (spec : Spec) (j : Seen) : Type 0 where
   pub units : settled_units j ≡ 0
 
 -- the task has this piece out, and no other task's piece changes
-pub record Takes (old : Seen) (task : ℕ) (work : Work) (new : Seen) : Type 0 where
+pub record Takes (old : Live) (task : ℕ) (work : Work) (new : Live) : Type 0 where
   pub free : work_at old task ≡ None
   pub taken : work_at new task ≡ Some work
   pub others : (k : ℕ) → k ≢ task → work_at new k ≡ work_at old k
@@ -103,7 +98,7 @@ pub record Takes (old : Seen) (task : ℕ) (work : Work) (new : Seen) : Type 0 w
   pub same : SameSpec old new
 
 -- the task has its piece no longer out
-pub record Returns (old : Seen) (task : ℕ) (work : Work) (new : Seen) : Type 0 where
+pub record Returns (old : Live) (task : ℕ) (work : Work) (new : Live) : Type 0 where
   pub was : work_at old task ≡ Some work
   pub free : work_at new task ≡ None
   pub others : (k : ℕ) → k ≢ task → work_at new k ≡ work_at old k
@@ -111,12 +106,12 @@ pub record Returns (old : Seen) (task : ℕ) (work : Work) (new : Seen) : Type 0
   pub same : SameSpec old new
 
 -- a claim
-abbrev pub Gives : Seen → Option Taken → Seen → Type 0
+abbrev pub Gives : Live → Option Taken → Live → Type 0
 Gives old None new = (claimable_in old ≡ []) × (new ≡ old)
 Gives old (Some p) new = (0 < length (claimable_in old)) × Takes old p.task (work_of p) new
 
 -- a settle of so many units
-pub record Pays (old : Seen) (d : Came) (n : ℕ) (new : Seen) : Type 0 where
+pub record Pays (old : Live) (d : Came) (n : ℕ) (new : Live) : Type 0 where
   pub returns : Returns old d.task (brought d) new
   pub working : state_of old ≡ Working
   pub after : (state_of new ≡ Working) ⊎ (state_of new ≡ Ended)
@@ -124,30 +119,16 @@ pub record Pays (old : Seen) (d : Came) (n : ℕ) (new : Seen) : Type 0 where
   pub units : settled_units new ≡ settled_units old + n
   pub few : settled_units new ≤ 20000
 
--- the task isn't running this piece
-abbrev pub IsStranger : Seen → Came → Type 0
-IsStranger old d = work_at old d.task ≢ Some (brought d)
-
 -- a piece that is out fails its job
-pub record Breaks (old : Seen) (d : Came) (new : Seen) : Type 0 where
+pub record Breaks (old : Live) (d : Came) (new : Live) : Type 0 where
   pub returns : Returns old d.task (brought d) new
   pub state : state_of new ≡ after_failure (out_of new)
   pub going : ((state_of old ≡ Working) × (out_of old ≤ weight_of old)) ⊎ (state_of old ≡ Failing)
   pub units : settled_units new ≡ settled_units old
 
-pub record Fails (old : Seen) (d : Came) (new : Seen) : Type 0 where
-  pub own : work_at old d.task ≡ Some (brought d) → Breaks old d new
-  pub stranger : IsStranger old d → new ≡ old
-
-pub record Aborts (old new : Seen) : Type 0 where
+pub record Aborts (old new : Live) : Type 0 where
   pub state : state_of new ≡ after_failure (out_of new)
   pub works : (k : ℕ) → work_at new k ≡ work_at old k
   pub out : out_of new ≡ out_of old
   pub units : settled_units new ≡ settled_units old
   pub same : SameSpec old new
-
--- why a piece that comes back is refused
-abbrev pub Refuses : Seen → Came → Refused → Type 0
-Refuses old d r.Stranger = IsStranger old d
-Refuses old d r.Failing = (work_at old d.task ≡ Some (brought d)) × (state_of old ≡ Failing)
-Refuses old d r.Memory = (work_at old d.task ≡ Some (brought d)) × (state_of old ≡ Working)

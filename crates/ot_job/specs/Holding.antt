@@ -9,7 +9,7 @@ use Rattle.ot_owner.specs.Leases.{lease_of, lent_from}
 use Rattle.ot_task.specs.Pieces.{test_of}
 use Rattle.ot_task.specs.Regions.{Region, Run}
 use Rattle.ot_task.specs.Touched.{piece_touches}
-use Rattle.ot_job.specs.Live.{Seen}
+use Rattle.ot_job.specs.Live.{Live}
 use Rattle.ot_job.specs.Sound.{at}
 
 -- one of the touches is of the cell
@@ -33,14 +33,14 @@ abbrev pub touches_out : Region → Run → List Use
 touches_out r run = piece_touches run.assigns (test_of r.rest)
 
 -- each piece that is out holds what it touches
-abbrev pub AllHold : Seen → Type 0
+abbrev pub AllHold : Live → Type 0
 AllHold j = (i : ℕ) (run : Run) → (at j.regions i).running ≡ Some run → Holds (at j.regions i).own (touches_out (at j.regions i) run) run.lease.uses
 
 -- what it was lent are the cells as they are now, and 0 under Adds
-abbrev pub HavePresent : Seen → Type 0
+abbrev pub HavePresent : Live → Type 0
 HavePresent j = (i : ℕ) (run : Run) → (at j.regions i).running ≡ Some run → run.lease ≡ lease_of (lent_from j.cells run.lease.uses)
 
 -- no two pieces that are out hold what conflicts
-abbrev pub AreApart : Seen → Type 0
+abbrev pub AreApart : Live → Type 0
 AreApart j =
     (i k : ℕ) (one two : Run) → i ≢ k → (at j.regions i).running ≡ Some one → (at j.regions k).running ≡ Some two → ¬ Conflict one.lease.uses two.lease.uses

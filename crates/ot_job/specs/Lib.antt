@@ -5,6 +5,7 @@ pub mod Sound
 pub mod Taken
 pub mod Claiming
 pub mod Settling
+pub mod JobView
 pub mod DoneView
 pub mod States
 pub mod Counting

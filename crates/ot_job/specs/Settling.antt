@@ -1,6 +1,6 @@
 -- What a settle does to a job.
-use Rattle.std.specs.Prelude.{◌≡◌, ◌<◌, ℕ, ◌+◌, Bool, true, false, if◌then◌else◌, List, ◌∷◌, Option, Some, All, Contains, IsSome, length, IsPermutation, unwrap_or, nat_lt}
-use Rattle.ot_model.specs.Tree.{E, Task, Body, End, Next}
+use Rattle.std.specs.Prelude.{◌≡◌, ◌<◌, ◌≤◌, ℕ, ◌+◌, Bool, true, if◌then◌else◌, List, ◌∷◌, Some, All, Contains, IsSome, length, IsPermutation, nat_lt}
+use Rattle.ot_model.specs.Tree.{Task, Body, End, Next}
 use Rattle.ot_model.specs.Serial.{State, bump}
 use Rattle.ot_model.specs.declared.plain.Counts.{Counts}
 use Rattle.ot_model.specs.Cells.{cell_of, updated, lengths}
@@ -9,29 +9,17 @@ use Rattle.ot_model.specs.declared.stmt.Use.{Use}
 use Rattle.ot_depend.specs.Siblings.{IsReady, IsUnfinished}
 use Rattle.ot_owner.specs.Leases.{lease_of}
 use Rattle.ot_owner.specs.Worth.{AreJoined, worth}
-use Rattle.ot_owner.specs.declared.lent.LentCell.{LentCell}
 use Rattle.ot_task.specs.Standing.{is_at_end}
 use Rattle.ot_task.specs.Regions.{Region, Run, executed, is_control, next_task, over, stopped, tasks_next, without}
 use Rattle.ot_job.specs.Sound.{at, parent_of}
-use Rattle.ot_job.specs.Live.{Seen}
+use Rattle.ot_job.specs.Live.{Live}
 use Rattle.ot_job.specs.declared.piece.Refused.{Refused}
 use Rattle.ot_job.specs.declared.piece.Refused.TheVariants.{Stranger, Failing, Memory}
-use Rattle.ot_task.specs.Pieces.{Runs, leading_len}
-
--- a piece that comes back: what it was claimed with, and the value of its condition
-pub record Came : Type 0 where
-  pub task : ℕ
-  pub assigns : Body
-  pub test : Option E
-  pub lent : List LentCell
-  pub answer : Option ℕ
-
-abbrev pub IsOut : List Region → Came → Type 0
-IsOut rs d = Runs (at rs d.task) d.assigns d.test d.lent
-
--- whether the condition's value takes the first body
-abbrev pub taken_by : Option ℕ → Bool
-taken_by answer = nat_lt 0 (unwrap_or answer 0)
+use Rattle.ot_task.specs.Pieces.{leading_len}
+use Rattle.ot_task.specs.Weighing.{weight_of}
+use Rattle.ot_job.specs.Taken.{Came, IsOut, taken_by}
+use Rattle.ot_job.specs.States.{state_in}
+use Rattle.ot_job.specs.declared.state.State.TheVariants.{Working}
 
 -- task i has finished, as its parent's table tells
 abbrev pub told_parent : ℕ → List Region → List Region
@@ -66,25 +54,27 @@ units_of assigns rest = leading_len assigns + (if is_control rest then 1 else 0)
 abbrev pub counts_after : Counts → Body → Body → Counts
 counts_after counts assigns rest = record { tasks = counts.tasks + tasks_next rest; units = counts.units + units_of assigns rest }
 
-pub record Settles (old : Seen) (d : Came) (number : ℕ) (new : Seen) : Type 0 where
+pub record Settles (old : Live) (d : Came) (number : ℕ) (new : Live) : Type 0 where
   pub out : IsOut old.regions d
-  pub working : old.failing ≡ false
+  pub working : state_in old ≡ Working
   pub units : number ≡ units_of d.assigns (at old.regions d.task).rest
   pub stored : AreJoined d.lent (cell_of old.cells) (cell_of new.cells)
   pub lengths : lengths new.cells ≡ lengths old.cells
   pub worth : AreJoined d.lent (worth old.owned old.cells) (worth new.owned new.cells)
   pub ended : IsPermutation old.owned.out (lease_of d.lent ∷ new.owned.out)
+  pub lighter : weight_of new.regions < weight_of old.regions
+  pub few : new.counts.units ≤ 20000
   pub now : new ≡ record old { regions = settled (taken_by d.answer) old.counts.units d.task old.regions; cells = new.cells; owned = new.owned; counts = counts_after old.counts d.assigns (at old.regions d.task).rest }
 
 -- what holds of a job for each piece that is out: its lease is out, its cells are there, and its parent's table lets it finish
-pub record MaySettle (j : Seen) : Type 0 where
+pub record MaySettle (j : Live) : Type 0 where
   pub out : (i : ℕ) (run : Run) → (at j.regions i).running ≡ Some run → Contains j.owned.out run.lease × All (λ u. IsSome (cell_of j.cells u.cell)) run.lease.uses
   pub kin : (i : ℕ) (run : Run) → (at j.regions i).running ≡ Some run → 0 < i
       → (parent_of j.regions i < length j.regions) × IsReady (at j.regions (parent_of j.regions i)).children (at j.regions i).child
       × IsUnfinished (at j.regions (parent_of j.regions i)).children (at j.regions i).child
 
 -- why a piece that comes back is refused
-abbrev pub Refuses : Seen → Came → Refused → Type 0
+abbrev pub Refuses : Live → Came → Refused → Type 0
 Refuses old d Stranger = IsOut old.regions d → ⊥
 Refuses old d Failing = IsOut old.regions d × (old.failing ≡ true)
-Refuses old d Memory = IsOut old.regions d × (old.failing ≡ false)
+Refuses old d Memory = IsOut old.regions d × (state_in old ≡ Working)

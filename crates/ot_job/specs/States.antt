@@ -1,5 +1,5 @@
 -- How a job begins, where it stands, and how it fails.
-use Rattle.std.specs.Prelude.{◌≡◌, ℕ, ◌∷◌, [], Bool, true, false, if◌then◌else◌, ◌⊎◌, List, is_some, IsPermutation}
+use Rattle.std.specs.Prelude.{◌≡◌, ◌≤◌, ℕ, ◌∷◌, [], Bool, true, false, if◌then◌else◌, ◌⊎◌, List, is_some, IsPermutation}
 use Rattle.std.specs.List.{list_any, list_all}
 use Rattle.ot_model.specs.Cells.{updated}
 use Rattle.ot_model.specs.Programs.{expanded_of}
@@ -7,14 +7,16 @@ use Rattle.ot_check.specs.Jobs.{Spec}
 use Rattle.ot_owner.specs.Leases.{lease_of}
 use Rattle.ot_owner.specs.Worth.{KeepsWorth}
 use Rattle.ot_task.specs.Regions.{Region, root_region, stopped}
-use Rattle.ot_job.specs.Live.{Seen}
+use Rattle.ot_task.specs.Weighing.{weight_of}
+use Rattle.ot_job.specs.Counting.{out_in}
+use Rattle.ot_job.specs.Live.{Live}
 use Rattle.ot_job.specs.Claiming.{claimable_of}
-use Rattle.ot_job.specs.Settling.{Came, IsOut}
+use Rattle.ot_job.specs.Taken.{Came, IsOut}
 use Rattle.ot_job.specs.declared.state.State.{State}
 use Rattle.ot_job.specs.declared.state.State.TheVariants.{Working, Failing, Ended, Failed}
 
 -- a job that has the whole program left, its cells as they were handed in, and no piece out
-pub record Starts (spec : Spec) (j : Seen) : Type 0 where
+pub record Starts (spec : Spec) (j : Live) : Type 0 where
   pub program : j.program ≡ expanded_of spec.checked.program
   pub before : j.before ≡ spec.before
   pub cells : j.cells ≡ spec.before
@@ -32,26 +34,27 @@ any_out rs = list_any (λ r. is_some r.running) rs
 abbrev pub all_ended : List Region → Bool
 all_ended rs = list_all (λ r. r.ended) rs
 
-abbrev pub state_in : Seen → State
+abbrev pub state_in : Live → State
 state_in j =
     if j.failing then (if any_out j.regions then Failing else Failed)
     else if all_ended j.regions then Ended
     else Working
 
 -- none is claimable in a job that fails
-abbrev pub claimable_in : Seen → List ℕ
+abbrev pub claimable_in : Live → List ℕ
 claimable_in j = if j.failing then [] else claimable_of j.regions
 
-abbrev pub aborted : Seen → Seen
+abbrev pub aborted : Live → Live
 aborted j = record j { failing = true }
 
 -- a piece comes back without results: its rights end, and the job fails
-pub record FailsBy (old : Seen) (d : Came) (new : Seen) : Type 0 where
+pub record FailsBy (old : Live) (d : Came) (new : Live) : Type 0 where
   pub out : IsOut old.regions d
   pub ended : IsPermutation old.owned.out (lease_of d.lent ∷ new.owned.out)
   pub worth : KeepsWorth old.owned new.owned
+  pub going : ((state_in old ≡ Working) × (out_in old.regions ≤ weight_of old.regions)) ⊎ (state_in old ≡ Failing)
   pub now : new ≡ record old { regions = updated old.regions d.task stopped; owned = new.owned; failing = true }
 
 -- a piece that isn't out changes nothing
-abbrev pub Fails : Seen → Came → Seen → Type 0
+abbrev pub Fails : Live → Came → Live → Type 0
 Fails old d new = FailsBy old d new ⊎ ((IsOut old.regions d → ⊥) × (new ≡ old))

@@ -1,11 +1,14 @@
--- A piece that is handed out.
-use Rattle.std.specs.Prelude.{ℕ, List, Option, option_map}
+-- A piece that is handed out, and comes back.
+use Rattle.std.specs.Prelude.{◌≡◌, ℕ, Bool, List, Option, option_map, unwrap_or, nat_lt}
 use Rattle.ot_model.specs.Tree.{E, Body}
-use Rattle.ot_model.specs.View.{expr_of}
-use Rattle.ot_model.specs.declared.expr.Expr.{Expr}
+use Rattle.ot_model.specs.Value.{val}
+use Rattle.ot_model.specs.declared.expr.Cell.{Cell}
+use Rattle.ot_owner.specs.Lending.{first_at, value_at}
 use Rattle.ot_owner.specs.declared.lent.LentCell.{LentCell}
-use Rattle.ot_task.specs.Assigns.{assigns_of}
-use Rattle.ot_task.specs.declared.assign.Assign.{Assign}
+use Rattle.ot_task.specs.Copies.{assigned}
+use Rattle.ot_task.specs.Pieces.{Runs}
+use Rattle.ot_task.specs.Regions.{Region}
+use Rattle.ot_job.specs.Sound.{at}
 
 -- its task, its sets and adds, the condition behind them, and the copies that it was lent
 pub record Taken : Type 0 where
@@ -14,12 +17,23 @@ pub record Taken : Type 0 where
   pub test : Option E
   pub lent : List LentCell
 
--- the same, as the code's records have it
-pub record Parts : Type 0 where
+-- a piece that comes back: what it was claimed with, and the value of its condition
+pub record Came : Type 0 where
   pub task : ℕ
-  pub assigns : List Assign
-  pub condition : Option Expr
+  pub assigns : Body
+  pub test : Option E
   pub lent : List LentCell
+  pub answer : Option ℕ
 
-abbrev pub taken_of : Parts → Taken
-taken_of p = record { task = p.task; assigns = assigns_of p.assigns; test = option_map expr_of p.condition; lent = p.lent }
+-- it was run: its copies have what its assigns make of the inputs, and the answer is its condition's value on them
+pub record IsRun (d : Came) : Type 0 where
+  pub made : (cell : Cell) → value_at d.lent cell ≡ assigned d.assigns (first_at d.lent) cell
+  pub told : d.answer ≡ option_map (λ e. val (value_at d.lent) e) d.test
+
+-- its task runs it
+abbrev pub IsOut : List Region → Came → Type 0
+IsOut rs d = Runs (at rs d.task) d.assigns d.test d.lent
+
+-- whether the condition's value takes the first body
+abbrev pub taken_by : Option ℕ → Bool
+taken_by answer = nat_lt 0 (unwrap_or answer 0)

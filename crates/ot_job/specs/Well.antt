@@ -8,7 +8,7 @@ use Rattle.ot_model.specs.Runs.{state_of}
 use Rattle.ot_owner.specs.Worth.{worths}
 use Rattle.ot_task.specs.Regions.{Run}
 use Rattle.ot_job.specs.Sound.{at, todo_at, left_of, IsBegun, IsSound}
-use Rattle.ot_job.specs.Live.{Seen}
+use Rattle.ot_job.specs.Live.{Live}
 use Rattle.ot_job.specs.Whole.{wholes, leases_out}
 use Rattle.ot_job.specs.Holding.{AllHold, HavePresent, AreApart}
 use Rattle.ot_job.specs.Running.{RunsWell}
@@ -17,17 +17,17 @@ use Rattle.ot_job.specs.declared.state.State.TheVariants.{Working, Ended}
 use Rattle.ot_task.specs.Weighing.{weight_of}
 
 -- what is left of the job, run serially from what its cells are worth, gives the serial meaning of its program
-abbrev pub IsKept : Seen → Type 0
+abbrev pub IsKept : Live → Type 0
 IsKept j = left_of (wholes j.regions) (state_of (worths j.owned j.cells) j.counts) ≡ serial_run j.program.body j.before
 
 -- a job that is going well, or has ended
-abbrev pub IsKeptIn : State → Seen → Type 0
+abbrev pub IsKeptIn : State → Live → Type 0
 IsKeptIn Working j = IsKept j
 IsKeptIn Ended j = IsKept j
 IsKeptIn state j = Unit {0}
 
 -- what holds until it fails
-pub record IsOnCourse (j : Seen) : Type 0 where
+pub record IsOnCourse (j : Live) : Type 0 where
   pub some : 0 < length j.regions
   pub sound : IsSound (wholes j.regions)
   pub named : (i : ℕ) → NamedIn (lengths j.cells) (todo_at (wholes j.regions) i)
@@ -38,7 +38,7 @@ pub record IsOnCourse (j : Seen) : Type 0 where
 -- The leases that are out are those of its tasks' pieces, of which each holds what it touches, as the cells are now, and no
 -- two conflict. It has the root and each task that was created, has executed at most its statements, and weighs no more
 -- than when it began.
-pub record IsWell (j : Seen) : Type 0 where
+pub record IsWell (j : Live) : Type 0 where
   pub rights : IsPermutation j.owned.out (leases_out j.regions)
   pub holds : AllHold j
   pub present : HavePresent j

@@ -26,41 +26,29 @@ pub struct Job {
 
 impl Model for Job {
     ghost use Rattle.std.specs.Coded.{codes};
-    ghost use Rattle.ot_check.specs.contracts.checked.Checked as c;
-    ghost use Rattle.ot_task.specs.contracts.task.Task as t;
+    ghost use Rattle.ot_model.specs.Code.{body_code};
     ghost use Rattle.ot_job.specs.Live.{Live};
 
     ghost Value = { Live };
 
-    ghost coded = { Prim.hlevel (codes, c.the_row.coded, t.the_row.coded) };
+    ghost coded = { Prim.hlevel (codes, body_code) };
 
-    ghost use Rattle.ot_model.specs.Programs.{expanded_of};
+    ghost use Rattle.ot_job.specs.JobView.{live_of};
     ghost use Rattle.ot_job.specs.Well.{IsWell};
 
-    ghost view = { λ j. record { spec = j.spec; cells = j.cells; owned = j.owners; tasks = j.tasks; counts = j.counts; failing = j.failing } };
+    ghost view = { live_of };
 
-    ghost invariant = { λ j. IsWell (record {
-      program = expanded_of j.spec.checked.program;
-      before = j.spec.before;
-      cells = j.cells;
-      owned = j.owners;
-      regions = j.tasks;
-      counts = j.counts;
-      failing = j.failing;
-    }) };
+    ghost invariant = { λ j. IsWell (live_of j) };
 }
 
 impl Job {
     ghost use Rattle.std.specs.Prelude.{◌≡◌, ◌<◌, ◌≤◌, ◌+◌, ◌*◌, ◌↔◌, IsTrue, length, false, OnOk, OnErr};
     ghost use Rattle.std.specs.Prelude.{IfOk, IfErr, option_map};
-    ghost use Rattle.ot_job.specs.Settling.{Settles, Refuses as IsRefused};
-    ghost use Rattle.ot_job.specs.DoneView.{done_of};
-    ghost use Rattle.ot_job.specs.Live.{seen_of};
+    ghost use Rattle.ot_job.specs.Settling.{Settles, Refuses};
     ghost use Rattle.ot_job.specs.Claiming.{picked};
     ghost use Rattle.ot_job.specs.Claims.{Claimed};
-    ghost use Rattle.ot_job.specs.Taken.{taken_of};
-    ghost use Rattle.ot_job.specs.States.{Starts, Fails as HasFailed, state_in, any_out, claimable_in, aborted};
-    ghost use Rattle.ot_job.specs.Dealings.{state_of, IsBegun, IsOver, NoneOut, IsOf, Gives, Pays, Refuses, Fails, Aborts};
+    ghost use Rattle.ot_job.specs.States.{Starts, Fails, state_in, claimable_in, aborted};
+    ghost use Rattle.ot_job.specs.Dealings.{state_of, IsOver, NoneOut, IsOf};
     ghost use Rattle.ot_job.specs.declared.state.State.TheVariants.{Working, Failing, Ended, Failed};
     ghost use Rattle.ot_check.specs.Jobs.{Spec, IsMeaning};
     ghost use Rattle.ot_task.specs.Weighing.{weight_of};
@@ -69,10 +57,7 @@ impl Job {
 
     /// A job that begins. It has the whole program left. Where memory is refused, the spec comes back.
     pub fn start(alloc: Global, spec: JobSpec) -> Result<Job, (JobSpec, AllocError)>
-        ensures starts { IfOk result (λ job. Starts spec (seen_of job)) }
-        ensures begun { IfOk result (λ job. IsBegun spec (seen_of job)) }
-        ensures spec { IfOk result (λ job. job.spec ≡ spec) }
-        ensures weight { IfOk result (λ job. weight_of (seen_of job).regions ≤ 2 * spec.checked.program.statements + 1) }
+        ensures starts { IfOk result (λ job. Starts spec job) }
         ensures back { IfErr result (λ r. r.0 ≡ spec) }
     {
         match beginning(alloc, &spec) {
@@ -90,14 +75,13 @@ impl Job {
 
     /// Where it stands, and what holds of it there. It takes no memory.
     pub fn state(&self) -> State
-        ensures is { result ≡ state_of (seen_of self.now) }
-        ensures calm { IsOver result → NoneOut (seen_of self.now) }
-        ensures going { result ≡ Failing → NoneOut (seen_of self.now) → ⊥ }
-        ensures kept { IsKeptIn result (seen_of self.now) }
-        ensures holds { AllHold (seen_of self.now) }
-        ensures present { HavePresent (seen_of self.now) }
-        ensures apart { AreApart (seen_of self.now) }
-        ensures ended { result ≡ Ended → any_out (seen_of self.now).regions ≡ false }
+        ensures is { result ≡ state_of self.now }
+        ensures calm { IsOver result → NoneOut self.now }
+        ensures going { result ≡ Failing → NoneOut self.now → ⊥ }
+        ensures kept { IsKeptIn result self.now }
+        ensures holds { AllHold self.now }
+        ensures present { HavePresent self.now }
+        ensures apart { AreApart self.now }
     {
         if self.failing {
             if self.tasks.any_out() {
@@ -115,8 +99,8 @@ impl Job {
     /// How many tasks are claimable. Some task of a working job is, where no piece of it is out. It takes
     /// no memory.
     pub fn claimable(&self) -> usize
-        ensures count { result ≡ length (claimable_in (seen_of self.now)) }
-        ensures never_stuck { state_of (seen_of self.now) ≡ Working → NoneOut (seen_of self.now) → 0 < result }
+        ensures count { result ≡ length (claimable_in self.now) }
+        ensures never_stuck { state_of self.now ≡ Working → NoneOut self.now → 0 < result }
         ensures few { result ≤ 20001 }
     {
         if self.failing {
@@ -127,21 +111,21 @@ impl Job {
 
     /// How many settles it may still take, at most. It takes no memory.
     pub fn weight(&self) -> u64
-        ensures { result ≡ weight_of (seen_of self.now).regions }
+        ensures { result ≡ weight_of self.now.regions }
     {
         weigh_tasks(self.tasks.all())
     }
 
     /// Whether it is the job of this spec. It takes no memory.
     pub fn is_of(&self, spec: &JobSpec) -> bool
-        ensures { IsTrue result ↔ IsOf spec.now (seen_of self.now) }
+        ensures { IsTrue result ↔ IsOf spec.now self.now }
     {
         spec.same_as(&self.spec)
     }
 
     /// The claimable task at `pick` modulo their count. A job that fails has none.
     fn pick(&self, pick: usize) -> Option<usize>
-        ensures { result ≡ picked (claimable_in (seen_of self.now)) pick }
+        ensures { result ≡ picked (claimable_in self.now) pick }
     {
         if self.failing {
             return None;
@@ -152,13 +136,10 @@ impl Job {
     /// Hands out the next piece of the claimable task at `pick` modulo their count. Memory is refused
     /// only where a task is claimable, and then nothing changes.
     pub fn claim(&mut self, alloc: Global, pick: usize) -> Result<Option<Piece>, AllocError>
-        ensures weight { weight_of (seen_of self.new).regions ≡ weight_of (seen_of self.old).regions }
-        ensures spec { self.new.spec ≡ self.old.spec }
-        ensures claimed { IfOk result (λ p. Claimed (seen_of self.old) pick (option_map taken_of p) (seen_of self.new)) }
-        ensures gives { IfOk result (λ p. Gives (seen_of self.old) (option_map taken_of p) (seen_of self.new)) }
-        ensures working { OnErr result (state_of (seen_of self.old) ≡ Working) }
-        ensures some { OnErr result (0 < length (claimable_in (seen_of self.old))) }
-        ensures refused { OnErr result (seen_of self.new ≡ seen_of self.old) }
+        ensures claimed { IfOk result (λ p. Claimed self.old pick p self.new) }
+        ensures working { OnErr result (state_of self.old ≡ Working) }
+        ensures some { OnErr result (0 < length (claimable_in self.old)) }
+        ensures refused { OnErr result (self.new ≡ self.old) }
     {
         let Some(task) = self.pick(pick) else {
             return Ok(None);
@@ -178,14 +159,10 @@ impl Job {
     /// Takes a piece back: its cells have their present values from now on, and the control statement
     /// that ended it takes effect. The answer is the units. Where it is refused, nothing changes.
     pub fn settle(&mut self, alloc: Global, done: Done) -> Result<u32, (Done, Refused)>
-        ensures lighter { OnOk result (weight_of (seen_of self.new).regions < weight_of (seen_of self.old).regions) }
-        ensures spec { self.new.spec ≡ self.old.spec }
-        ensures settled { IfOk result (λ units. Settles (seen_of self.old) (done_of done) units (seen_of self.new)) }
-        ensures pays { IfOk result (λ units. Pays (seen_of self.old) (done_of done) units (seen_of self.new)) }
-        ensures same { IfErr result (λ r. done_of r.0 ≡ done_of done) }
-        ensures why { IfErr result (λ r. IsRefused (seen_of self.old) (done_of done) r.1) }
-        ensures refuses { IfErr result (λ r. Refuses (seen_of self.old) (done_of done) r.1) }
-        ensures refused { OnErr result (seen_of self.new ≡ seen_of self.old) }
+        ensures settled { IfOk result (λ units. Settles self.old done units self.new) }
+        ensures same { IfErr result (λ r. r.0 ≡ done) }
+        ensures refuses { IfErr result (λ r. Refuses self.old done r.1) }
+        ensures refused { OnErr result (self.new ≡ self.old) }
     {
         if !is_out(self.tasks.all(), &done) {
             return Err((done, Refused::Stranger));
@@ -193,8 +170,8 @@ impl Job {
         if self.failing {
             return Err((done, Refused::Failing));
         }
-        let task = done.task as usize;
-        let assigns = done.assigns.len();
+        let task = done.task() as usize;
+        let assigns = done.assigns();
         let control = self.tasks.get(task).units_next();
         let created = self.tasks.get(task).tasks_next();
         if self
@@ -216,16 +193,14 @@ impl Job {
     /// Takes a piece back without its results: its rights end, and the job fails. A piece that isn't out
     /// changes nothing. It takes no memory.
     pub fn fail(&mut self, done: Done)
-        ensures failed { HasFailed (seen_of self.old) (done_of done) (seen_of self.new) }
-        ensures fails { Fails (seen_of self.old) (done_of done) (seen_of self.new) }
-        ensures spec { self.new.spec ≡ self.old.spec }
-        ensures weight { weight_of (seen_of self.new).regions ≤ weight_of (seen_of self.old).regions }
+        ensures fails { Fails self.old done self.new }
+        ensures weight { weight_of self.new.regions ≤ weight_of self.old.regions }
     {
         if !is_out(self.tasks.all(), &done) {
             done.discard();
             return;
         }
-        let task = done.task as usize;
+        let task = done.task() as usize;
         done.drop_right(&mut self.owners);
         self.tasks.stop(task);
         self.failing = true;
@@ -233,19 +208,16 @@ impl Job {
 
     /// Makes a working job fail. It takes no memory.
     pub fn abort(&mut self)
-        requires { state_in (seen_of self.old) ≡ Working }
-        ensures spec { self.new.spec ≡ self.old.spec }
-        ensures aborted { seen_of self.new ≡ aborted (seen_of self.old) }
-        ensures aborts { Aborts (seen_of self.old) (seen_of self.new) }
+        requires { state_in self.old ≡ Working }
+        ensures { self.new ≡ aborted self.old }
     {
         self.failing = true;
     }
 
     /// What an ended job leaves: the serial meaning of its spec. It takes no memory.
     pub fn into_outcome(self) -> Outcome
-        requires { state_in (seen_of self) ≡ Ended }
-        ensures means { IsMeaning self.spec result }
-        ensures meaning { (spec : Spec) → IsOf spec (seen_of self) → IsMeaning spec result }
+        requires { state_in self ≡ Ended }
+        ensures { (spec : Spec) → IsOf spec self → IsMeaning spec result }
     {
         Outcome {
             cells: self.cells,
@@ -255,9 +227,8 @@ impl Job {
 
     /// The spec of a failed job, as it was handed in. It takes no memory.
     pub fn into_spec(self) -> JobSpec
-        requires { state_in (seen_of self) ≡ Failed }
-        ensures spec { result ≡ self.spec }
-        ensures of { IsOf result (seen_of self) }
+        requires { state_in self ≡ Failed }
+        ensures { IsOf result self }
     {
         self.spec
     }

@@ -1,14 +1,11 @@
 ghost use Rattle.std.specs.Prelude.{◌≡◌, IfSome, option_map};
 ghost use Rattle.ot_model.specs.View.{expr_of};
 ghost use Rattle.ot_model.specs.Value.{val, HasAll};
-ghost use Rattle.ot_model.specs.declared.expr.Cell.{Cell};
-ghost use Rattle.ot_owner.specs.Lending.{first_at, value_at};
-ghost use Rattle.ot_task.specs.Assigns.{assigns_of};
-ghost use Rattle.ot_task.specs.Copies.{assigned};
+ghost use Rattle.ot_owner.specs.Lending.{value_at};
 
 use ot_model::{Cells, Expr, value};
 use ot_owner::{Lent, Owners};
-use ot_task::{Assign, assign_all};
+use ot_task::{Assign, Task, assign_all};
 use std::marker::Model;
 
 /// A piece of a task's body that was claimed: sets and adds, the condition of an `if` that comes
@@ -23,19 +20,17 @@ pub struct Piece {
 
 impl Model for Piece {
     ghost use Rattle.std.specs.Coded.{codes};
-    ghost use Rattle.ot_model.specs.contracts.expr.Expr as e;
-    ghost use Rattle.ot_task.specs.contracts.assign.Assign as a;
-    ghost use Rattle.ot_job.specs.Taken.{Parts};
-
-    ghost Value = { Parts };
-
-    ghost coded = { Prim.hlevel (codes, e.the_row.coded, a.the_row.coded) };
-
     ghost use Rattle.std.specs.Prelude.{option_map};
+    ghost use Rattle.ot_model.specs.Code.{body_code, value_code};
     ghost use Rattle.ot_model.specs.View.{expr_of};
     ghost use Rattle.ot_task.specs.Assigns.{assigns_of, CanRun};
+    ghost use Rattle.ot_job.specs.Taken.{Taken};
 
-    ghost view = { λ p. record { task = p.task; assigns = p.assigns.items; condition = p.condition; lent = p.lent } };
+    ghost Value = { Taken };
+
+    ghost coded = { Prim.hlevel (codes, body_code, value_code) };
+
+    ghost view = { λ p. record { task = p.task; assigns = assigns_of p.assigns.items; test = option_map expr_of p.condition; lent = p.lent } };
 
     ghost invariant = { λ p. CanRun (assigns_of p.assigns.items) (option_map expr_of p.condition) p.lent };
 }
@@ -44,28 +39,41 @@ impl Model for Piece {
 /// condition's value on them.
 #[derive(Debug)]
 pub struct Done {
-    pub task: u32,
-    pub assigns: Vec<Assign>,
-    pub condition: Option<Expr>,
-    pub lent: Lent,
-    pub answer: Option<u64>,
-    ghost made: { (cell : Cell) → value_at lent cell ≡ assigned (assigns_of assigns.items) (first_at lent) cell },
-    ghost told: { answer ≡ option_map (λ e. val (value_at lent) (expr_of e)) condition },
+    task: u32,
+    assigns: Vec<Assign>,
+    condition: Option<Expr>,
+    lent: Lent,
+    answer: Option<u64>,
+}
+
+impl Model for Done {
+    ghost use Rattle.std.specs.Coded.{codes};
+    ghost use Rattle.ot_model.specs.Code.{body_code, value_code};
+    ghost use Rattle.ot_job.specs.Taken.{Came};
+
+    ghost Value = { Came };
+
+    ghost coded = { Prim.hlevel (codes, body_code, value_code) };
+
+    ghost use Rattle.ot_job.specs.DoneView.{came_of};
+    ghost use Rattle.ot_job.specs.Taken.{IsRun};
+
+    ghost view = { came_of };
+
+    ghost invariant = { λ d. IsRun (came_of d) };
 }
 
 impl Piece {
     ghost use Rattle.std.specs.Prelude.{◌≡◌, option_map};
     ghost use Rattle.ot_model.specs.View.{expr_of};
-    ghost use Rattle.ot_owner.specs.Leases.{lease_of};
     ghost use Rattle.ot_task.specs.Assigns.{assigns_of, CanRun};
-    ghost use Rattle.ot_job.specs.Taken.{taken_of};
-    ghost use Rattle.ot_job.specs.DoneView.{done_of};
+    ghost use Rattle.ot_job.specs.Taken.{IsRun};
     ghost use Rattle.ot_job.specs.Dealings.{brought, work_of};
 
     /// A piece that may be run on these copies.
     pub(crate) fn new(task: u32, assigns: Vec<Assign>, condition: Option<Expr>, lent: Lent) -> Piece
         requires { CanRun (assigns_of assigns.items) (option_map expr_of condition) lent }
-        ensures { result ≡ record { task = task; assigns = assigns.items; condition = condition; lent = lent } }
+        ensures { result ≡ record { task = task; assigns = assigns_of assigns.items; test = option_map expr_of condition; lent = lent } }
     {
         Piece {
             task,
@@ -85,10 +93,8 @@ impl Piece {
     /// Makes the assignments on the copies, and evaluates the condition. It takes no memory.
     pub fn run(self) -> Done
         ensures task { result.task ≡ self.task }
-        ensures assigns { result.assigns.items ≡ self.assigns }
-        ensures condition { result.condition ≡ self.condition }
-        ensures inputs { lease_of result.lent ≡ lease_of self.lent }
-        ensures ran { (result.task ≡ self.task) × (brought (done_of result) ≡ work_of (taken_of self)) }
+        ensures ran { brought result ≡ work_of self }
+        ensures made { IsRun result }
     {
         let Piece {
             task,
@@ -132,11 +138,33 @@ fn answer(condition: Option<&Expr>, lent: &Lent) -> Option<u64>
 }
 
 impl Done {
-    ghost use Rattle.std.specs.Prelude.{◌≡◌, ◌∷◌, All, Contains, IsSome, IsPermutation};
+    ghost use Rattle.std.specs.Prelude.{◌≡◌, ◌∷◌, ◌↔◌, IsTrue, All, Contains, IsSome, IsPermutation};
     ghost use Rattle.ot_model.specs.Cells.{cell_of, lengths};
     ghost use Rattle.ot_owner.specs.Leases.{lease_of};
     ghost use Rattle.ot_owner.specs.Worth.{AreJoined, KeepsWorth, worth};
-    ghost use Rattle.ot_job.specs.Settling.{taken_by};
+    ghost use Rattle.ot_task.specs.Pieces.{Runs, leading_len};
+    ghost use Rattle.ot_job.specs.Taken.{IsRun, taken_by};
+
+    /// The number of its task.
+    pub(crate) fn task(&self) -> u32
+        ensures { result ≡ self.now.task }
+    {
+        self.task
+    }
+
+    /// How many sets and adds it has.
+    pub(crate) fn assigns(&self) -> usize
+        ensures { result ≡ leading_len self.now.assigns }
+    {
+        self.assigns.len()
+    }
+
+    /// Whether the task runs these assigns with this condition on these inputs.
+    pub(crate) fn is_of(&self, task: &Task) -> bool
+        ensures { IsTrue result ↔ Runs task.now self.now.assigns self.now.test self.now.lent }
+    {
+        task.runs(&self.assigns, self.condition.as_ref(), &self.lent)
+    }
 
     /// Whether the condition's value takes the first body.
     pub(crate) fn is_taken(&self) -> bool
@@ -156,6 +184,7 @@ impl Done {
         ensures worth { AreJoined self.lent (worth owners.old cells.old) (worth owners.new cells.new) }
         ensures lengths { lengths cells.new ≡ lengths cells.old }
         ensures ended { IsPermutation owners.old.out (lease_of self.lent ∷ owners.new.out) }
+        ensures run { IsRun self }
     {
         let Done {
             task: _,

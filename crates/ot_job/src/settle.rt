@@ -1,19 +1,16 @@
-ghost use Rattle.std.specs.Prelude.{◌≡◌, ◌<◌, ◌↔◌, IsTrue, length};
-ghost use Rattle.ot_depend.specs.Siblings.{IsReady, IsUnfinished};
-ghost use Rattle.ot_job.specs.Sound.{at, parent_of};
-ghost use Rattle.ot_job.specs.Settling.{IsOut, told_parent};
-ghost use Rattle.ot_job.specs.DoneView.{done_of};
+ghost use Rattle.std.specs.Prelude.{◌↔◌, IsTrue};
+ghost use Rattle.ot_job.specs.Taken.{IsOut};
 
 use crate::piece::Done;
 use ot_task::Task;
 
 /// Whether that task runs these assigns with this condition on these inputs.
 pub fn is_out(tasks: &[Task], done: &Done) -> bool
-    ensures { IsTrue result ↔ IsOut tasks.now (done_of done.now) }
+    ensures { IsTrue result ↔ IsOut tasks.now done.now }
 {
-    let task = done.task as usize;
+    let task = done.task() as usize;
     if task >= tasks.len() {
         return false;
     }
-    tasks[task].runs(&done.assigns, done.condition.as_ref(), &done.lent)
+    done.is_of(&tasks[task])
 }

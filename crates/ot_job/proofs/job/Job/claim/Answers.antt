@@ -7,7 +7,8 @@ use Rattle.ot_model.specs.Uses.{AreInOrder}
 use Rattle.ot_model.specs.View.{expr_of}
 use Rattle.ot_owner.specs.Leases.{lease_of, lent_from}
 use Rattle.ot_owner.proofs.RightsLemmas.{lent_uses}
-use Rattle.ot_job.specs.Live.{Live, Seen, seen_of}
+use Rattle.ot_job.specs.Live.{Live}
+use Rattle.ot_job.specs.JobView.{live_of}
 use Rattle.ot_task.specs.Regions.{Region}
 use Rattle.ot_job.specs.Sound.{at}
 use Rattle.ot_task.specs.Pieces.{leading, behind, test_of, awake, begun, leading_len}
@@ -17,7 +18,7 @@ use Rattle.ot_task.specs.Touched.{AreHeld, piece_touches}
 use Rattle.ot_job.specs.Claims.{Claims}
 use Rattle.ot_job.specs.Holding.{Holds}
 use Rattle.ot_owner.specs.Lending.{uses_of}
-use Rattle.ot_job.specs.Taken.{Taken, Parts, taken_of}
+use Rattle.ot_job.specs.Taken.{Taken}
 use Rattle.ot_job.specs.Well.{IsWell}
 use Rattle.ot_job.proofs.WellLemmas.{claimable-idle, named-awake, claim-free, claim-holds, claim-well}
 use Rattle.ot_model.proofs.CountsLemmas.{tasks_in-≤-size}
@@ -25,11 +26,8 @@ use Rattle.ot_job.proofs.CourseLemmas.{counts-few}
 use Rattle.ot_job.proofs.TakenLemmas.{claim-can}
 use Rattle.ot_job.proofs.PickLemmas.{picked-claimable, at-here}
 use Rattle.ot_job.specs.States.{claimable_in}
-use Rattle.ot_task.specs.Weighing.{weight_of}
-use Rattle.ot_job.proofs.WeighingLemmas.{weight-begun}
-use Rattle.ot_job.proofs.DealingsLemmas.{claimed-gives, picked-some, picked-working}
-use Rattle.ot_job.proofs.InsideLemmas.{seen_in, picked-here}
-use Rattle.std.specs.Prelude.{None}
+use Rattle.ot_job.proofs.DealingsLemmas.{picked-some, picked-working}
+use Rattle.ot_job.proofs.InsideLemmas.{picked-here}
 use Rattle.ot_job.specs.Dealings.{state_of}
 use Rattle.ot_job.specs.declared.state.State.TheVariants.{Working}
 use Rattle.ot_owner.specs.Owning.{Owned}
@@ -88,7 +86,7 @@ begin-requires-clause-idle c =
 
 pub overflow_cast-task : goal.overflow_cast-task
 overflow_cast-task c =
-    let j : Seen = seen_in c.self.inside in
+    let j : Live = live_of c.self.inside in
     let found = picked-here c.self.inside _ c.args.pick c.in-Some.task _ c.self.view_is c.pick.ensures c.in-Some.is in
     let is : picked (claimable_of j.regions) c.args.pick ≡ Some c.in-Some.task = found.1 in
     let within = (picked-claimable j.regions c.args.pick c.in-Some.task is).0 in
@@ -128,7 +126,7 @@ invariant_of-self-2 c =
     let lease : c.in_ok-room.field-0.right ≡ lease_of c.in_ok-lent.lent = c.in_ok-room.ensures.right ∙ ap lease_of (sym lent) in
     let now = c.begin.ensures ∙ ap (λ l. updated rs i (begun l)) lease in
     let held = subst (AreHeld (at rs i)) (sym uses) (subst (λ r. AreHeld r c.in_ok-room.field-0.decl) (sym here) c.in_ok-room.ensures.held) in
-    let seen : List Region → Seen = λ regions. record (seen_in c.self.inside) { owned = c.lease.new.self; regions = regions } in
+    let seen : List Region → Live = λ regions. record (live_of c.self.inside) { owned = c.lease.new.self; regions = regions } in
     subst (λ (l : List Region). IsWell (seen l)) (sym now)
     (claim-well _ c.self.invariant found.0 i both.0 both.1 (lease_of c.in_ok-lent.lent) held (subst AreInOrder (sym uses) c.in_ok-room.ensures.ordered)
     (ap lease_of (lent ∙ ap (lent_from c.self.inside.cells) (sym uses))) c.lease.new.self c.in_ok-lent.ensures.out)
@@ -147,13 +145,13 @@ returns-clause-claimed c =
     let uses = lent_uses c.self.inside.cells c.in_ok-room.field-0.decl c.in_ok-lent.lent lent in
     let lease : c.in_ok-room.field-0.right ≡ lease_of c.in_ok-lent.lent = c.in_ok-room.ensures.right ∙ ap lease_of (sym lent) in
     let now = c.begin.ensures ∙ ap (λ l. updated rs i (begun l)) lease in
-    let seen : List Region → Seen = λ regions. record (seen_in c.self.inside) { owned = c.lease.new.self; regions = regions } in
+    let seen : List Region → Live = λ regions. record (live_of c.self.inside) { owned = c.lease.new.self; regions = regions } in
     let piece : Taken = record { task = i; assigns = assigns_of c.in_ok-room.field-0.assigns.items; test = option_map expr_of c.in_ok-room.field-0.condition; lent = c.in_ok-lent.lent } in
-    let new : Seen = seen c.begin.new.self in
+    let new : Live = seen c.begin.new.self in
     let held = subst (AreHeld (at rs i)) (sym uses) (subst (λ r. AreHeld r c.in_ok-room.field-0.decl) (sym here) c.in_ok-room.ensures.held) in
     let assigns : piece.assigns ≡ leading (awake (at rs i)).rest = c.in_ok-room.ensures.assigns ∙ ap (λ r. leading (awake r).rest) (sym here) in
     let test : piece.test ≡ test_of (behind (awake (at rs i)).rest) = c.in_ok-room.ensures.test ∙ ap (λ r. test_of (behind (awake r).rest)) (sym here) in
-    subst (λ (p : Parts). Claims (seen_of c.args.self.now) c.args.pick (taken_of p) new) (sym c.new.ensures) (subst (λ (l : Live). Claims (seen_of l) c.args.pick piece new) c.self.view_is (record {
+    subst (λ (p : Taken). Claims c.args.self.now c.args.pick p new) (sym c.new.ensures) (subst (λ (l : Live). Claims l c.args.pick piece new) c.self.view_is (record {
       task = ap (λ (b : Bool). picked (if b then [] else claimable_of rs) c.args.pick) found.0 ∙ is;
       assigns = assigns;
       test = test;
@@ -168,23 +166,6 @@ returns-clause-claimed c =
       now = ap seen now;
     }))
 
-pub returns-clause-weight : goal.returns-clause-weight
-returns-clause-weight c =
-    let tasks = c.self.inside.tasks in
-    let rs = tasks in
-    let i = c.in-Some.task in
-    let found = picked-here c.self.inside _ c.args.pick c.in-Some.task _ c.self.view_is c.pick.ensures c.in-Some.is in
-    let is : picked (claimable_of rs) c.args.pick ≡ Some i = found.1 in
-    let both = picked-claimable rs c.args.pick i is in
-    let lent = c.in_ok-lent.ensures.lent in
-    let lease : c.in_ok-room.field-0.right ≡ lease_of c.in_ok-lent.lent = c.in_ok-room.ensures.right ∙ ap lease_of (sym lent) in
-    let now = c.begin.ensures ∙ ap (λ l. updated rs i (begun l)) lease in
-    let idle = claimable-idle rs i both.1 in
-    omega (arith, weight-begun (lease_of c.in_ok-lent.lent) rs i both.0 idle, ap weight_of now, ap (λ (l : Live). weight_of l.tasks) c.self.view_is)
-
-pub returns-clause-gives : goal.returns-clause-gives
-returns-clause-gives c = claimed-gives (seen_of c.args.self.now) c.args.pick (Some (taken_of c.new.result)) _ (returns-clause-claimed c)
-
 pub returns-in_default-clause-claimed : goal.returns-in_default-clause-claimed
 returns-in_default-clause-claimed c = search rules
 
@@ -195,42 +176,36 @@ returns-in_default-clause-working c = tt
 pub returns-in_default-clause-some : goal.returns-in_default-clause-some
 returns-in_default-clause-some c = tt
 
-pub returns-in_default-clause-gives : goal.returns-in_default-clause-gives
-returns-in_default-clause-gives c = claimed-gives (seen_of c.args.self.now) c.args.pick None (seen_of c.args.self.now) (returns-in_default-clause-claimed c)
-
 pub returns-in_err-room-clause-working : goal.returns-in_err-room-clause-working
 returns-in_err-room-clause-working c =
-    let j : Seen = seen_in c.self.inside in
+    let j : Live = live_of c.self.inside in
     let found = picked-here c.self.inside _ c.args.pick c.in-Some.task _ c.self.view_is c.pick.ensures c.in-Some.is in
     let is : picked (claimable_of c.self.inside.tasks) c.args.pick ≡ Some c.in-Some.task = found.1 in
-    on_err_always c.from_residual.result (subst (λ (l : Live). state_of (seen_of l) ≡ Working) c.self.view_is (picked-working j c.args.pick c.in-Some.task found.0 is))
+    on_err_always c.from_residual.result (subst (λ (l : Live). state_of l ≡ Working) c.self.view_is (picked-working j c.args.pick c.in-Some.task found.0 is))
 
 pub returns-in_err-lent-clause-working : goal.returns-in_err-lent-clause-working
 returns-in_err-lent-clause-working c =
-    let j : Seen = seen_in c.self.inside in
+    let j : Live = live_of c.self.inside in
     let found = picked-here c.self.inside _ c.args.pick c.in-Some.task _ c.self.view_is c.pick.ensures c.in-Some.is in
     let is : picked (claimable_of c.self.inside.tasks) c.args.pick ≡ Some c.in-Some.task = found.1 in
-    on_err_always c.from_residual-in_err-lent.result (subst (λ (l : Live). state_of (seen_of l) ≡ Working) c.self.view_is (picked-working j c.args.pick c.in-Some.task found.0 is))
+    on_err_always c.from_residual-in_err-lent.result (subst (λ (l : Live). state_of l ≡ Working) c.self.view_is (picked-working j c.args.pick c.in-Some.task found.0 is))
 
 pub returns-in_err-room-clause-some : goal.returns-in_err-room-clause-some
 returns-in_err-room-clause-some c =
-    let j : Seen = seen_in c.self.inside in
+    let j : Live = live_of c.self.inside in
     let found = picked-here c.self.inside _ c.args.pick c.in-Some.task _ c.self.view_is c.pick.ensures c.in-Some.is in
     let is : picked (claimable_of c.self.inside.tasks) c.args.pick ≡ Some c.in-Some.task = found.1 in
-    on_err_always c.from_residual.result (subst (λ (l : Live). 0 < length (claimable_in (seen_of l))) c.self.view_is (picked-some j c.args.pick c.in-Some.task found.0 is))
+    on_err_always c.from_residual.result (subst (λ (l : Live). 0 < length (claimable_in l)) c.self.view_is (picked-some j c.args.pick c.in-Some.task found.0 is))
 
 pub returns-in_err-lent-clause-some : goal.returns-in_err-lent-clause-some
 returns-in_err-lent-clause-some c =
-    let j : Seen = seen_in c.self.inside in
+    let j : Live = live_of c.self.inside in
     let found = picked-here c.self.inside _ c.args.pick c.in-Some.task _ c.self.view_is c.pick.ensures c.in-Some.is in
     let is : picked (claimable_of c.self.inside.tasks) c.args.pick ≡ Some c.in-Some.task = found.1 in
-    on_err_always c.from_residual-in_err-lent.result (subst (λ (l : Live). 0 < length (claimable_in (seen_of l))) c.self.view_is (picked-some j c.args.pick c.in-Some.task found.0 is))
+    on_err_always c.from_residual-in_err-lent.result (subst (λ (l : Live). 0 < length (claimable_in l)) c.self.view_is (picked-some j c.args.pick c.in-Some.task found.0 is))
 
 pub returns-in_err-room-clause-claimed : goal.returns-in_err-room-clause-claimed
 returns-in_err-room-clause-claimed c = if_ok_of_err _ c.from_residual.result c.from_residual.ensures.0
-
-pub returns-in_err-room-clause-gives : goal.returns-in_err-room-clause-gives
-returns-in_err-room-clause-gives c = if_ok_of_err _ c.from_residual.result c.from_residual.ensures.0
 
 pub returns-in_err-room-clause-refused : goal.returns-in_err-room-clause-refused
 returns-in_err-room-clause-refused c = on_err_always c.from_residual.result refl
@@ -240,28 +215,16 @@ lease-requires-clause-there c = c.in_ok-room.ensures.there
 
 pub invariant_of-self : goal.invariant_of-self
 invariant_of-self c =
-    let seen : Owned → Seen = λ owned. record (seen_in c.self.inside) { owned = owned } in
+    let seen : Owned → Live = λ owned. record (live_of c.self.inside) { owned = owned } in
     subst (λ (o : Owned). IsWell (seen o)) (sym c.in_err-lent.ensures.memory) c.self.invariant
-
-pub returns-in_err-lent-clause-weight : goal.returns-in_err-lent-clause-weight
-returns-in_err-lent-clause-weight c = ap (λ (l : Live). weight_of l.tasks) c.self.view_is
-
-pub returns-in_err-lent-clause-spec : goal.returns-in_err-lent-clause-spec
-returns-in_err-lent-clause-spec c = ap (λ (l : Live). l.spec) c.self.view_is
 
 pub returns-in_err-lent-clause-claimed : goal.returns-in_err-lent-clause-claimed
 returns-in_err-lent-clause-claimed c = if_ok_of_err _ c.from_residual-in_err-lent.result c.from_residual-in_err-lent.ensures.0
 
-pub returns-in_err-lent-clause-gives : goal.returns-in_err-lent-clause-gives
-returns-in_err-lent-clause-gives c = if_ok_of_err _ c.from_residual-in_err-lent.result c.from_residual-in_err-lent.ensures.0
-
 pub returns-in_err-lent-clause-refused : goal.returns-in_err-lent-clause-refused
 returns-in_err-lent-clause-refused c =
-    let seen : Owned → Seen = λ owned. record (seen_in c.self.inside) { owned = owned } in
-    on_err_always c.from_residual-in_err-lent.result (ap seen c.in_err-lent.ensures.memory ∙ ap seen_of c.self.view_is)
+    let seen : Owned → Live = λ owned. record (live_of c.self.inside) { owned = owned } in
+    on_err_always c.from_residual-in_err-lent.result (ap seen c.in_err-lent.ensures.memory ∙ c.self.view_is)
 
 pub begin-requires-clause-empty : goal.begin-requires-clause-empty
 begin-requires-clause-empty c = c.in_ok-room.ensures.empty
-
-pub returns-clause-spec : goal.returns-clause-spec
-returns-clause-spec c = ap (λ (l : Live). l.spec) c.self.view_is

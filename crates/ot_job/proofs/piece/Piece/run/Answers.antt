@@ -1,4 +1,4 @@
-use Rattle.std.proofs.Common.{◌∙◌, ap}
+use Rattle.std.proofs.Common.{◌∙◌, ap, refl, option_map}
 use Rattle.ot_model.specs.View.{expr_of}
 use Rattle.ot_model.specs.Value.{val}
 use Rattle.ot_owner.specs.Lending.{value_at}
@@ -17,5 +17,15 @@ invariant_of-result c =
     record {
       made = made-of (assigns_of c.self.inside.assigns.items) c.self.inside.lent c.assign_all.new.lent c.assign_all.ensures.lease c.self.invariant.fresh
           (λ cell. c.assign_all.ensures.made cell ∙ ap (λ xs. assigned (assigns_of xs) (value_at c.self.inside.lent) cell) c.deref.ensures.value);
-      told = c.answer-answer.ensures ∙ through (λ e. e.now) (λ e. val (value_at c.assign_all.new.lent) (expr_of e)) c.as_ref.result c.self.inside.condition c.as_ref.ensures.value;
+      told = c.answer-answer.ensures ∙ through (λ e. e.now) (λ e. val (value_at c.assign_all.new.lent) (expr_of e)) c.as_ref.result c.self.inside.condition c.as_ref.ensures.value
+          ∙ through expr_of (λ x. val (value_at c.assign_all.new.lent) x) c.self.inside.condition (option_map expr_of c.self.inside.condition) refl;
+    }
+
+pub returns-clause-made : goal.returns-clause-made
+returns-clause-made c =
+    record {
+      made = made-of (assigns_of c.self.inside.assigns.items) c.self.inside.lent c.assign_all.new.lent c.assign_all.ensures.lease c.self.invariant.fresh
+          (λ cell. c.assign_all.ensures.made cell ∙ ap (λ xs. assigned (assigns_of xs) (value_at c.self.inside.lent) cell) c.deref.ensures.value);
+      told = c.answer-answer.ensures ∙ through (λ e. e.now) (λ e. val (value_at c.assign_all.new.lent) (expr_of e)) c.as_ref.result c.self.inside.condition c.as_ref.ensures.value
+          ∙ through expr_of (λ x. val (value_at c.assign_all.new.lent) x) c.self.inside.condition (option_map expr_of c.self.inside.condition) refl;
     }
