@@ -146,35 +146,12 @@ working-is j working left =
     ap (λ (f : Bool). if f then (if any_out j.regions then Failing else Failed) else if all_ended j.regions then Ended else Working) working
     ∙ ap (λ (e : Bool). if e then Ended else Working) left
 
-failing-is : (j : Live) → j.failing ≡ true → state_of j ≡ after_failure (out_of j)
-failing-is j failing =
-    ap (λ (f : Bool). if f then (if any_out j.regions then Failing else Failed) else if all_ended j.regions then Ended else Working) failing
-    ∙ failed-state j.regions
-
 one-alive : (rs : List Region) (i : ℕ) → (at rs i).ended ≡ false → all_ended rs ≡ false
 one-alive rs i alive = by (all_ended rs) refl
   where
     by : (b : Bool) → all_ended rs ≡ b → b ≡ false
     by false e = refl
     by true e = absurd (true≢false (sym (each-ended rs e i) ∙ alive))
-
-pub is-calm : (j : Live) → IsWell j → IsOver (state_of j) → NoneOut j
-is-calm j w over = by j.failing (any_out j.regions) (all_ended j.regions) refl refl refl over
-  where
-    by : (f a e : Bool) → j.failing ≡ f → any_out j.regions ≡ a → all_ended j.regions ≡ e → IsOver (if f then (if a then Failing else Failed) else if e then Ended else Working) → NoneOut j
-    by true true e failing any all h = absurd h
-    by true false e failing any all h = none-out j any
-    by false a true failing any all h = none-out j (ended-none-out j w failing all)
-    by false a false failing any all h = absurd h
-
-pub is-going : (j : Live) → state_of j ≡ Failing → NoneOut j → ⊥
-is-going j is none = by j.failing (any_out j.regions) (all_ended j.regions) (out-none j none) is
-  where
-    by : (f a e : Bool) → a ≡ false → (if f then (if a then Failing else Failed) else if e then Ended else Working) ≡ Failing → ⊥
-    by true true e h is = true≢false h
-    by true false e h is = cc
-    by false a true h is = cc
-    by false a false h is = cc
 
 -- ---- a job begins
 
