@@ -13,7 +13,8 @@ use Rattle.ot_check.specs.Touches.{EachTouch, EachTask}
 use Rattle.ot_task.specs.Place.{todo, IsFineAt, AwaitsAll, unawaited}
 use Rattle.ot_job.proofs.PlaceLemmas.{at-one, at-two, at-wait, at-enter}
 use Rattle.ot_task.specs.Regions.{Region, with_rest, inside}
-use Rattle.ot_job.specs.Sound.{at, LetsAll, IsPlaced, IsSound}
+use Rattle.ot_job.specs.Numbered.{at}
+use Rattle.ot_job.specs.Sound.{LetsAll, IsPlaced, IsSound}
 use Rattle.ot_job.proofs.KeptLemmas.{todo-append, todo-next}
 use Rattle.ot_job.proofs.GroupLemmas.{touch-append, task-append, placed-enter}
 use Rattle.ot_job.proofs.AwaitsLemmas.{awaits-one, awaits-two, awaits-wait, awaits-enter}

@@ -12,7 +12,8 @@ use Rattle.ot_task.specs.Place.{Open, IsFineAt, AwaitsAll, unawaited}
 use Rattle.ot_job.proofs.PlaceLemmas.{at-fewer, at-leave}
 use Rattle.ot_job.proofs.AwaitsLemmas.{awaits-fewer, awaits-leave}
 use Rattle.ot_task.specs.Regions.{Region}
-use Rattle.ot_job.specs.Sound.{at, IsPlaced, IsSound}
+use Rattle.ot_job.specs.Numbered.{at}
+use Rattle.ot_job.specs.Sound.{IsPlaced, IsSound}
 use Rattle.ot_task.specs.Pieces.{passed, awake}
 use Rattle.ot_task.specs.Waits.{is_let_go, end_lets_go}
 use Rattle.ot_job.proofs.GroupLemmas.{placed-leave}

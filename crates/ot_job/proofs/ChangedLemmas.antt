@@ -6,7 +6,8 @@ use Rattle.ot_model.specs.Cells.{updated}
 use Rattle.ot_model.proofs.CellsLemmas.{length-updated}
 use Rattle.ot_depend.specs.Siblings.{IsReady}
 use Rattle.ot_task.specs.Regions.{Region}
-use Rattle.ot_job.specs.Sound.{at, parent_of, IsBegun, IsPlaced, IsSound}
+use Rattle.ot_job.specs.Numbered.{at, parent_of}
+use Rattle.ot_job.specs.Sound.{IsBegun, IsPlaced, IsSound}
 use Rattle.ot_job.proofs.KeptLemmas.{at-updated, at-updated-other}
 
 -- what says who is whose child stays

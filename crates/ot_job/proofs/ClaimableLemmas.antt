@@ -9,7 +9,7 @@ use Rattle.ot_model.proofs.CellsLemmas.{length-updated}
 use Rattle.ot_model.specs.declared.stmt.Use.{Use}
 use Rattle.ot_depend.specs.Siblings.{Sibling, is_ready, with_finished, depends_on}
 use Rattle.ot_task.specs.Regions.{Region, with_child, without}
-use Rattle.ot_job.specs.Sound.{at}
+use Rattle.ot_job.specs.Numbered.{at}
 use Rattle.ot_job.specs.Claiming.{is_claimable}
 use Rattle.ot_task.specs.Waits.{is_let_go}
 use Rattle.ot_job.proofs.KeptLemmas.{at-updated, at-updated-other, at-more}

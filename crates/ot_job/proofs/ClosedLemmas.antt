@@ -18,7 +18,8 @@ use Rattle.ot_check.specs.Offences.{allows, adds_to, has_cell}
 use Rattle.ot_task.specs.Place.{Open, todo, AwaitsAll, unawaited}
 use Rattle.ot_task.specs.Regions.{Region, over, without}
 use Rattle.ot_job.specs.Settling.{told_parent, closed}
-use Rattle.ot_job.specs.Sound.{at, parent_of, todo_at, ended_at, parents, DontMix, sums_in, IsBegun, IsKin, IsPlaced, IsSound}
+use Rattle.ot_job.specs.Numbered.{at, parent_of, todo_at, ended_at, parents}
+use Rattle.ot_job.specs.Sound.{DontMix, sums_in, IsBegun, IsKin, IsPlaced, IsSound}
 use Rattle.ot_job.proofs.PlaceLemmas.{at-fewer}
 use Rattle.ot_job.proofs.AwaitsLemmas.{awaits-fewer, awaits-end}
 use Rattle.ot_job.proofs.KeptLemmas.{at-updated, at-updated-other, parents-updated}

@@ -10,7 +10,7 @@ use Rattle.ot_model.specs.Cells.{updated}
 use Rattle.ot_owner.specs.Leases.{Lease}
 use Rattle.ot_task.specs.Regions.{Region, with_child, stepped, stepped_from, stopped, over, without}
 use Rattle.ot_task.specs.Pieces.{begun}
-use Rattle.ot_job.specs.Sound.{at}
+use Rattle.ot_job.specs.Numbered.{at}
 use Rattle.ot_job.specs.States.{any_out, all_ended}
 use Rattle.ot_job.specs.Counting.{out_in, unended_in, AreCounted}
 

@@ -29,7 +29,8 @@ use Rattle.ot_owner.proofs.OutLemmas.{permutation_rest}
 use Rattle.ot_task.specs.Copies.{assigned, Lets}
 use Rattle.ot_task.specs.Place.{todo, opened, children_of, unawaited, IsFineAt}
 use Rattle.ot_task.specs.Regions.{Region, Run, with_rest, next_task}
-use Rattle.ot_job.specs.Sound.{at, todo_at, parents, left_of, IsBegun, IsSound}
+use Rattle.ot_job.specs.Numbered.{at, todo_at, parents, left_of}
+use Rattle.ot_job.specs.Sound.{IsBegun, IsSound}
 use Rattle.ot_task.specs.Pieces.{leading, test_of}
 use Rattle.ot_task.specs.Touched.{held, piece_touches}
 use Rattle.ot_job.specs.Whole.{assigns_out, whole, wholes, leases_out}

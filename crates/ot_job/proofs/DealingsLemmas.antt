@@ -17,7 +17,7 @@ use Rattle.ot_check.specs.Jobs.{Spec}
 use Rattle.ot_check.proofs.Bits.{and_left, not_true}
 use Rattle.ot_owner.specs.Leases.{Lease, lease_of}
 use Rattle.ot_task.specs.Regions.{Region, Run, with_child, new_region, with_created, stepped, executed, next_task, rest_at, children_at, over, stopped, root_region}
-use Rattle.ot_job.specs.Sound.{at, parent_of}
+use Rattle.ot_job.specs.Numbered.{at, parent_of}
 use Rattle.ot_job.specs.Live.{Live}
 use Rattle.ot_job.specs.Taken.{Taken}
 use Rattle.ot_task.specs.Pieces.{behind, test_of, begun}
@@ -33,14 +33,14 @@ use Rattle.ot_job.specs.States.{Starts, FailsBy, any_out, all_ended, claimable_i
 use Rattle.ot_task.specs.Weighing.{region_weight, weight_left, weight_of as weight_in}
 use Rattle.ot_job.specs.Well.{IsWell}
 use Rattle.ot_job.specs.declared.state.State.TheVariants.{Working, Failing, Ended, Failed}
-use Rattle.ot_job.specs.Dealings.{Work, work_of, brought, run_with, work_in, work_at, NoneOut, out_of, state_of, weight_of, IsOver, after_failure, IsFresh, Takes, Returns, Gives, Pays, Breaks, Aborts}
+use Rattle.ot_job.specs.Dealings.{Work, work_of, brought, run_with, work_in, work_at, NoneOut, out_of, state_of, weight_of, after_failure, IsFresh, Takes, Returns, Gives, Pays, Breaks, Aborts}
 use Rattle.ot_job.specs.Counting.{out_in}
 use Rattle.ot_job.proofs.CountingLemmas.{one, count-cons, count-updated, out-any}
 use Rattle.ot_job.proofs.KeptLemmas.{at-updated, at-updated-other, at-more, at-new}
 use Rattle.ot_job.proofs.SoundLemmas.{at-past}
 use Rattle.ot_job.proofs.WellLemmas.{claimable-idle}
 use Rattle.ot_job.proofs.PickLemmas.{picked-claimable}
-use Rattle.ot_job.proofs.StartLemmas.{runs-within, each-ended, one-out, ended-none-out, root-light}
+use Rattle.ot_job.proofs.StartLemmas.{runs-within, each-ended, one-out, root-light}
 use Rattle.ot_job.proofs.MovesLemmas.{Alike, tell, tell-field, others-moved, still-out, leases-settled}
 use Rattle.ot_job.proofs.WeighingLemmas.{weight-begun}
 

@@ -29,7 +29,8 @@ use Rattle.ot_check.proofs.SameLemmas.{same_is}
 use Rattle.ot_task.proofs.CellLemmas.{same_self}
 use Rattle.ot_job.proofs.RightsLemmas.{right_apart, right_may, rights_apart}
 use Rattle.ot_task.specs.Regions.{Region, Run}
-use Rattle.ot_job.specs.Sound.{at, parent_of, todo_at, may_at, ended_at, parents, sums_in, IsBegun, IsPlaced, IsSound}
+use Rattle.ot_job.specs.Numbered.{at, parent_of, todo_at, ended_at, parents}
+use Rattle.ot_job.specs.Sound.{may_at, sums_in, IsBegun, IsPlaced, IsSound}
 use Rattle.ot_task.specs.Pieces.{test_of}
 use Rattle.ot_task.specs.Touched.{piece_touches, assign_touches, test_touches}
 use Rattle.ot_job.specs.Running.{RunsWell}

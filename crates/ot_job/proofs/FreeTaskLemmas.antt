@@ -11,7 +11,7 @@ use Rattle.ot_depend.proofs.ReadyLemmas.{is_ready-told}
 use Rattle.ot_check.proofs.Bits.{and_true, or_false_left, or_false_right}
 use Rattle.ot_task.specs.Place.{Open}
 use Rattle.ot_task.specs.Regions.{Region, Run}
-use Rattle.ot_job.specs.Sound.{at, parent_of}
+use Rattle.ot_job.specs.Numbered.{at, parent_of}
 use Rattle.ot_job.specs.Whole.{whole, wholes}
 use Rattle.ot_job.specs.Claiming.{is_claimable, claimable_of}
 use Rattle.ot_task.specs.Waits.{is_let_go, end_lets_go}

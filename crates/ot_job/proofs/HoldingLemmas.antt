@@ -15,7 +15,8 @@ use Rattle.ot_task.specs.Touched.{held, mode_held}
 use Rattle.ot_job.specs.Holding.{Touches, OnlyReads, Holds, touches_out, AllHold, AreApart}
 use Rattle.ot_job.specs.Live.{Live}
 use Rattle.ot_job.specs.Rights.{IsRight}
-use Rattle.ot_job.specs.Sound.{at, IsPlaced}
+use Rattle.ot_job.specs.Numbered.{at}
+use Rattle.ot_job.specs.Sound.{IsPlaced}
 use Rattle.ot_job.specs.Well.{IsOnCourse}
 use Rattle.ot_job.specs.Whole.{whole, wholes}
 use Rattle.ot_job.proofs.CoverLemmas.{Covers, covered}

@@ -10,12 +10,13 @@ use Rattle.ot_owner.specs.Leases.{lease_of}
 use Rattle.ot_owner.specs.Worth.{AreJoined}
 use Rattle.ot_task.specs.Regions.{Region, is_control, tasks_next}
 use Rattle.ot_task.specs.Weighing.{weight_of}
-use Rattle.ot_job.specs.Sound.{at}
+use Rattle.ot_job.specs.Numbered.{at}
 use Rattle.ot_job.specs.Live.{Live}
 use Rattle.ot_job.specs.JobView.{live_of}
 use Rattle.ot_task.specs.Pieces.{leading_len}
 use Rattle.ot_job.specs.Taken.{Came, IsOut, IsRun, taken_by}
-use Rattle.ot_job.specs.Settling.{MaySettle, CreatesInOrder, settled, units_of}
+use Rattle.ot_job.specs.Well.{MaySettle}
+use Rattle.ot_job.specs.Settling.{CreatesInOrder, settled, units_of}
 use Rattle.ot_job.specs.Well.{IsWell}
 use Rattle.ot_job.specs.declared.job.Job.TheInside.{Inside}
 use Rattle.ot_job.proofs.PickLemmas.{at-here}

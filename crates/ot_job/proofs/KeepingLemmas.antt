@@ -16,7 +16,7 @@ use Rattle.ot_job.proofs.StepLemmas.{stepped-parent, stepped-child, stepped-chil
 use Rattle.ot_job.proofs.CountingLemmas.{counted-told, counted-stepped, counted-created}
 use Rattle.std.specs.List.{All}
 use Rattle.std.proofs.lemmas.List.{get_or_default}
-use Rattle.ot_job.specs.Sound.{at}
+use Rattle.ot_job.specs.Numbered.{at}
 use Rattle.ot_job.specs.Claiming.{is_claimable, claimable_of}
 use Rattle.ot_job.specs.Counting.{AreCounted}
 use Rattle.ot_job.specs.Listing.{IsListBelow, TellsOf, IsNumbered, AreKept}

@@ -18,7 +18,8 @@ use Rattle.ot_task.specs.Place.{Open, todo}
 use Rattle.ot_job.proofs.Order.{order, order_from, insert_before, Each, AreParents, Descends, Each-weaker, small-insert}
 use Rattle.ot_job.proofs.Kept.{In, MayRun, left-piece, left-counts, left-if, left-task}
 use Rattle.ot_task.specs.Regions.{Region, with_rest, inside, with_child, new_region}
-use Rattle.ot_job.specs.Sound.{at, parent_of, todo_at, may_at, ended_at, parents, left_of, IsBegun, IsSound}
+use Rattle.ot_job.specs.Numbered.{at, parent_of, todo_at, ended_at, parents, left_of}
+use Rattle.ot_job.specs.Sound.{may_at, IsBegun, IsSound}
 use Rattle.ot_job.proofs.SoundLemmas.{sound}
 
 pub at-updated : (rs : List Region) (i : ℕ) (f : Region → Region) → i < length rs → at (updated rs i f) i ≡ f (at rs i)

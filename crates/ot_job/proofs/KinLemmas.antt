@@ -8,7 +8,8 @@ use Rattle.ot_model.proofs.CellsLemmas.{length-updated}
 use Rattle.ot_model.specs.declared.stmt.Use.{Use}
 use Rattle.ot_depend.specs.Siblings.{Sibling, created, IsReady}
 use Rattle.ot_task.specs.Regions.{Region, with_child, new_region}
-use Rattle.ot_job.specs.Sound.{at, parent_of, IsBegun, IsKin, IsSound}
+use Rattle.ot_job.specs.Numbered.{at, parent_of}
+use Rattle.ot_job.specs.Sound.{IsBegun, IsKin, IsSound}
 use Rattle.ot_job.proofs.KeptLemmas.{at-updated, at-updated-other, at-more, at-new}
 
 get-more : {A : Type 0} (xs ys : List A) (k : ℕ) (x : A) → slice_get xs k ≡ Some x → slice_get (xs ++ ys) k ≡ Some x

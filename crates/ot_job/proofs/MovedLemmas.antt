@@ -19,7 +19,8 @@ use Rattle.ot_task.specs.Regions.{Region, with_rest, with_child, new_region, ins
 use Rattle.ot_task.specs.Pieces.{leading, test_of}
 use Rattle.ot_job.specs.Settling.{closed, moved_on, counted}
 use Rattle.ot_task.specs.Standing.{is_at_end}
-use Rattle.ot_job.specs.Sound.{at, todo_at, parents, left_of, IsBegun, IsSound}
+use Rattle.ot_job.specs.Numbered.{at, todo_at, parents, left_of}
+use Rattle.ot_job.specs.Sound.{IsBegun, IsSound}
 use Rattle.ot_job.proofs.KeptLemmas.{at-updated, at-updated-other, at-more, at-new, todo-append, todo-next, kept-wait, kept-group, kept-if, kept-task}
 use Rattle.ot_job.proofs.SoundLemmas.{at-past}
 use Rattle.ot_job.proofs.ChangedLemmas.{begun-changed}

@@ -12,7 +12,7 @@ use Rattle.ot_task.specs.Place.{Open}
 use Rattle.ot_task.specs.Regions.{Region, Run, with_rest, with_child, new_region, with_created, stepped, stepped_from, executed, next_task, rest_at, children_at, over, stopped, without, tasks_next}
 use Rattle.ot_job.specs.Settling.{told_parent, closed, moved_on, settled}
 use Rattle.ot_task.specs.Standing.{is_at_end}
-use Rattle.ot_job.specs.Sound.{at, parent_of}
+use Rattle.ot_job.specs.Numbered.{at, parent_of}
 use Rattle.ot_job.specs.Whole.{whole, wholes, with_lease, leases_out}
 use Rattle.ot_job.proofs.KeptLemmas.{at-updated, at-updated-other, at-more, at-new}
 use Rattle.ot_job.proofs.SoundLemmas.{at-past}

@@ -8,7 +8,7 @@ use Rattle.ot_model.specs.Cells.{updated}
 use Rattle.ot_model.proofs.CellsLemmas.{length-updated}
 use Rattle.ot_model.specs.declared.stmt.Use.{Use}
 use Rattle.ot_task.specs.Regions.{Region, with_child}
-use Rattle.ot_job.specs.Sound.{at}
+use Rattle.ot_job.specs.Numbered.{at}
 use Rattle.ot_job.specs.Listing.{IsNumbered}
 use Rattle.ot_job.proofs.KeptLemmas.{at-updated, at-updated-other, at-more, at-new}
 use Rattle.ot_job.proofs.ClaimableLemmas.{field-kept}

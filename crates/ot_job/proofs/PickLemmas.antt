@@ -12,7 +12,7 @@ use Rattle.std.specs.List.{list_all}
 use Rattle.std.specs.Prelude.{take}
 use Rattle.std.proofs.lemmas.List.Sums.{AllPass-from_list_all}
 use Rattle.ot_task.specs.Regions.{Region}
-use Rattle.ot_job.specs.Sound.{at, gone}
+use Rattle.ot_job.specs.Numbered.{at, gone}
 use Rattle.ot_job.specs.Claiming.{is_claimable, claimable_of, picked}
 use Rattle.ot_depend.specs.Siblings.{is_ready}
 

@@ -11,14 +11,14 @@ use Rattle.ot_owner.specs.Leases.{lease_of}
 use Rattle.ot_owner.specs.Lending.{uses_of}
 use Rattle.ot_owner.specs.declared.lent.LentCell.{LentCell}
 use Rattle.ot_task.specs.Regions.{Region, Run, next_task}
-use Rattle.ot_job.specs.Sound.{at, parent_of}
+use Rattle.ot_job.specs.Numbered.{at, parent_of}
 use Rattle.ot_job.specs.Live.{Live}
 use Rattle.ot_task.specs.Pieces.{leading_len}
 use Rattle.ot_task.specs.Assigns.{assigns_of}
 use Rattle.ot_task.specs.declared.assign.Assign.{Assign}
 use Rattle.ot_task.specs.declared.assign.Assign.TheVariants as v
 use Rattle.ot_job.specs.Taken.{Came, IsOut}
-use Rattle.ot_job.specs.Settling.{MaySettle}
+use Rattle.ot_job.specs.Well.{MaySettle}
 use Rattle.ot_task.specs.Standing.{is_at_end}
 
 runs-known : (rs : List Region) (i : ℕ) (run : Run) → (at rs i).running ≡ Some run → i < length rs

@@ -7,7 +7,7 @@ use Rattle.ot_model.specs.Cells.{updated}
 use Rattle.ot_model.proofs.CellsLemmas.{length-updated, updated-updated}
 use Rattle.ot_model.specs.declared.stmt.Use.{Use}
 use Rattle.ot_task.specs.Regions.{Region, with_rest, with_child, new_region, with_created, stepped, stepped_from, executed, next_task, rest_at, children_at, stopped}
-use Rattle.ot_job.specs.Sound.{at}
+use Rattle.ot_job.specs.Numbered.{at}
 use Rattle.ot_job.specs.Whole.{whole, wholes}
 
 -- a step sees no piece that is out

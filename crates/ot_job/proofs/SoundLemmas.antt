@@ -17,7 +17,8 @@ use Rattle.ot_model.specs.Cells.{same_cell}
 use Rattle.ot_check.specs.Touches.{Agree}
 use Rattle.ot_job.proofs.Kept.{Sound}
 use Rattle.ot_task.specs.Regions.{Region}
-use Rattle.ot_job.specs.Sound.{at, gone, parent_of, todo_at, may_at, ended_at, IsBegun, DontMix, IsSound}
+use Rattle.ot_job.specs.Numbered.{at, gone, parent_of, todo_at, ended_at}
+use Rattle.ot_job.specs.Sound.{may_at, IsBegun, DontMix, IsSound}
 
 pub at-past : (rs : List Region) (i : ℕ) → length rs ≤ i → at rs i ≡ gone
 at-past [] i h = refl

@@ -26,7 +26,8 @@ use Rattle.ot_owner.proofs.OutLemmas.{permutation_rest}
 use Rattle.ot_job.specs.Holding.{Holds, touches_out}
 use Rattle.ot_job.specs.Left.{left, children_left}
 use Rattle.ot_task.specs.Regions.{Region, Run, root_region, stopped}
-use Rattle.ot_job.specs.Sound.{at, gone, parent_of, todo_at, parents, left_of, IsPlaced, IsSound}
+use Rattle.ot_job.specs.Numbered.{at, gone, parent_of, todo_at, parents, left_of}
+use Rattle.ot_job.specs.Sound.{IsPlaced, IsSound}
 use Rattle.ot_job.specs.Whole.{wholes, leases_out}
 use Rattle.ot_job.specs.Live.{Live}
 use Rattle.ot_job.specs.Well.{IsWell}

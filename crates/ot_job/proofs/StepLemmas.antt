@@ -11,7 +11,7 @@ use Rattle.ot_task.specs.Regions.{Region, with_child, new_region, children_at, s
 use Rattle.std.proofs.lemmas.Option.{none-some, same_Some}
 use Rattle.ot_job.proofs.ViewLemmas.{set-changed, rest_at-here, children_at-here}
 use Rattle.ot_job.specs.Settling.{told_parent, closed}
-use Rattle.ot_job.specs.Sound.{at, parent_of}
+use Rattle.ot_job.specs.Numbered.{at, parent_of}
 
 pub stepped-parent : (taken : Bool) (g : ℕ) (r : Region) → (stepped taken g r).parent ≡ r.parent
 stepped-parent taken g r = by r.rest

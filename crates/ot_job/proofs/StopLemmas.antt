@@ -19,7 +19,8 @@ use Rattle.ot_job.proofs.Kept.{MayRun}
 use Rattle.ot_check.specs.walk.Fine.{IsHarmless, AreAssigns}
 use Rattle.ot_check.proofs.TouchLemmas.{harmless, harmless_if, clash_free}
 use Rattle.ot_task.specs.Regions.{Region, with_rest}
-use Rattle.ot_job.specs.Sound.{at, parent_of, may_at, ended_at, IsBegun, LetsAll, IsPlaced, IsSound}
+use Rattle.ot_job.specs.Numbered.{at, parent_of, ended_at}
+use Rattle.ot_job.specs.Sound.{may_at, IsBegun, LetsAll, IsPlaced, IsSound}
 use Rattle.ot_job.proofs.KeptLemmas.{todo-append, todo-next}
 use Rattle.ot_job.proofs.SoundLemmas.{at-past}
 use Rattle.ot_job.proofs.GroupLemmas.{kid-none}

@@ -3,7 +3,8 @@ use Rattle.std.proofs.Common.{◌≡◌, ℕ, zero, suc, ◌+◌, ◌<◌, ◌�
 use Rattle.std.specs.Prelude.{Some, slice_get}
 use Rattle.ot_depend.specs.Siblings.{Sibling, IsReady}
 use Rattle.ot_task.specs.Regions.{Region}
-use Rattle.ot_job.specs.Sound.{at, parent_of, ended_at, IsBegun, IsKin, IsSound}
+use Rattle.ot_job.specs.Numbered.{at, parent_of, ended_at}
+use Rattle.ot_job.specs.Sound.{IsBegun, IsKin, IsSound}
 
 abbrev pub AllFinished : List Sibling → Type 0
 AllFinished kids = (k : ℕ) (s : Sibling) → slice_get kids k ≡ Some s → s.finished ≡ true

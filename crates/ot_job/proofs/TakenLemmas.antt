@@ -11,7 +11,7 @@ use Rattle.ot_owner.specs.Lending.{first_at, value_at, uses_of}
 use Rattle.ot_owner.specs.declared.lent.LentCell.{LentCell}
 use Rattle.ot_task.specs.Assigns.{CanAssign, CanRun}
 use Rattle.ot_task.specs.Regions.{Region}
-use Rattle.ot_job.specs.Sound.{at}
+use Rattle.ot_job.specs.Numbered.{at}
 use Rattle.ot_task.specs.Pieces.{leading, behind, test_of, awake}
 use Rattle.ot_model.specs.Uses.{mode_in}
 use Rattle.ot_task.specs.Touched.{held, piece_touches, test_touches, AreHeld}

@@ -9,7 +9,7 @@ use Rattle.ot_model.proofs.CellsLemmas.{length-updated, updated-updated}
 use Rattle.ot_owner.specs.Leases.{Lease}
 use Rattle.ot_task.specs.Place.{Open}
 use Rattle.ot_task.specs.Regions.{Region, Run, with_child, new_region, with_created, stepped, stepped_from, executed, next_task, rest_at, children_at, over, stopped, without}
-use Rattle.ot_job.specs.Sound.{at, parent_of}
+use Rattle.ot_job.specs.Numbered.{at, parent_of}
 use Rattle.ot_task.specs.Pieces.{leading, behind, passed, begun}
 use Rattle.ot_job.specs.Settling.{closed, settled}
 use Rattle.ot_task.specs.Standing.{is_at_end}

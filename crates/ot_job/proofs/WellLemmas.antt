@@ -21,7 +21,8 @@ use Rattle.ot_job.specs.Left.{left}
 use Rattle.ot_task.specs.Place.{Open, todo}
 use Rattle.ot_check.specs.walk.Fine.{AreAssigns}
 use Rattle.ot_task.specs.Regions.{Region, Run}
-use Rattle.ot_job.specs.Sound.{at, parent_of, todo_at, parents, left_of, IsBegun, IsSound}
+use Rattle.ot_job.specs.Numbered.{at, parent_of, todo_at, parents, left_of}
+use Rattle.ot_job.specs.Sound.{IsBegun, IsSound}
 use Rattle.ot_model.proofs.CellsLemmas.{length-updated}
 use Rattle.ot_task.specs.Pieces.{leading, behind, test_of, passed, awake, begun}
 use Rattle.ot_job.specs.Whole.{assigns_out, whole, wholes, with_lease, leases_out}
@@ -45,7 +46,7 @@ use Rattle.ot_job.proofs.AwakeLemmas.{sound-awake}
 use Rattle.ot_job.proofs.FreeLemmas.{pieces_apart, at-whole, named-front, named-back}
 use Rattle.ot_job.proofs.HoldingLemmas.{course-holds, course-apart}
 use Rattle.ot_job.proofs.PickLemmas.{ready-from}
-use Rattle.ot_job.specs.Settling.{MaySettle}
+use Rattle.ot_job.specs.Well.{MaySettle}
 use Rattle.ot_task.proofs.HeldLemmas.{AllIn, all-append, reads-in, held-there}
 
 pub leading-assigns : (b : Body) → AreAssigns (leading b)

@@ -6,7 +6,7 @@ use Rattle.ot_model.specs.Tree.{Set, Add, If, Task, Wait, Group, Body, End, Next
 use Rattle.ot_model.specs.Cells.{updated}
 use Rattle.ot_owner.specs.Leases.{Lease}
 use Rattle.ot_task.specs.Regions.{Region, Run}
-use Rattle.ot_job.specs.Sound.{at}
+use Rattle.ot_job.specs.Numbered.{at}
 use Rattle.ot_task.specs.Pieces.{leading, behind, passed, awake, begun}
 use Rattle.ot_job.specs.Whole.{assigns_out, whole, wholes, with_lease, leases_out}
 

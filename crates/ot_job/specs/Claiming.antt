@@ -4,7 +4,7 @@ use Rattle.std.specs.List.{range_with_len}
 use Rattle.ot_depend.specs.Siblings.{is_ready}
 use Rattle.ot_task.specs.Regions.{Region}
 use Rattle.ot_task.specs.Waits.{is_let_go}
-use Rattle.ot_job.specs.Sound.{at}
+use Rattle.ot_job.specs.Numbered.{at}
 
 abbrev pub is_claimable : List Region → ℕ → Bool
 is_claimable rs i = let r = at rs i in

@@ -5,7 +5,7 @@ use Rattle.ot_model.specs.Programs.{expanded_of}
 use Rattle.ot_check.specs.Jobs.{Spec}
 use Rattle.ot_owner.specs.Leases.{Lease, lease_of}
 use Rattle.ot_task.specs.Regions.{Region, Run}
-use Rattle.ot_job.specs.Sound.{at}
+use Rattle.ot_job.specs.Numbered.{at}
 use Rattle.ot_task.specs.Pieces.{test_of}
 use Rattle.ot_job.specs.Live.{Live}
 use Rattle.ot_job.specs.Taken.{Taken}

@@ -10,7 +10,7 @@ use Rattle.ot_task.specs.Pieces.{test_of}
 use Rattle.ot_task.specs.Regions.{Region, Run}
 use Rattle.ot_task.specs.Touched.{piece_touches}
 use Rattle.ot_job.specs.Live.{Live}
-use Rattle.ot_job.specs.Sound.{at}
+use Rattle.ot_job.specs.Numbered.{at}
 
 -- one of the touches is of the cell
 abbrev pub Touches : List Use → Cell → Type 0

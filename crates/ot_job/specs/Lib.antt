@@ -1,19 +1,23 @@
-pub mod Left
-pub mod Rights
+-- what callers read
 pub mod Live
-pub mod Sound
-pub mod Taken
+pub mod Left
+pub mod Numbered
+pub mod Whole
+pub mod Counting
 pub mod Claiming
+pub mod Taken
+pub mod States
+pub mod Holding
+pub mod Claims
 pub mod Settling
+pub mod Kept
+pub mod Dealings
+-- what only this crate knows
 pub mod JobView
 pub mod DoneView
-pub mod States
-pub mod Counting
+pub mod Sound
+pub mod Running
+pub mod Well
+pub mod Rights
 pub mod Listed
 pub mod Listing
-pub mod Claims
-pub mod Whole
-pub mod Running
-pub mod Holding
-pub mod Well
-pub mod Dealings

@@ -3,7 +3,7 @@ use Rattle.std.specs.Prelude.{◌≡◌, ◌<◌, ◌≤◌, ℕ, List, [], map,
 use Rattle.std.specs.List.{range_with_len}
 use Rattle.ot_depend.specs.Kept.{has}
 use Rattle.ot_task.specs.Regions.{Region}
-use Rattle.ot_job.specs.Sound.{at}
+use Rattle.ot_job.specs.Numbered.{at}
 use Rattle.ot_job.specs.Claiming.{is_claimable, claimable_of}
 use Rattle.ot_job.specs.Counting.{AreCounted}
 use Rattle.std.specs.declared.vec.Vec.{Vec}

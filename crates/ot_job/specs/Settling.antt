@@ -1,17 +1,16 @@
 -- What a settle does to a job.
-use Rattle.std.specs.Prelude.{◌≡◌, ◌<◌, ◌≤◌, ℕ, ◌+◌, Bool, true, if◌then◌else◌, List, ◌∷◌, Some, All, Contains, IsSome, length, IsPermutation, nat_lt}
+use Rattle.std.specs.Prelude.{◌≡◌, ◌<◌, ◌≤◌, ℕ, ◌+◌, Bool, true, if◌then◌else◌, List, ◌∷◌, Some, IsPermutation, nat_lt}
 use Rattle.ot_model.specs.Tree.{Task, Body, End, Next}
 use Rattle.ot_model.specs.Serial.{State, bump}
 use Rattle.ot_model.specs.declared.plain.Counts.{Counts}
 use Rattle.ot_model.specs.Cells.{cell_of, updated, lengths}
 use Rattle.ot_model.specs.Uses.{AreInOrder}
 use Rattle.ot_model.specs.declared.stmt.Use.{Use}
-use Rattle.ot_depend.specs.Siblings.{IsReady, IsUnfinished}
 use Rattle.ot_owner.specs.Leases.{lease_of}
 use Rattle.ot_owner.specs.Worth.{AreJoined, worth}
 use Rattle.ot_task.specs.Standing.{is_at_end}
-use Rattle.ot_task.specs.Regions.{Region, Run, executed, is_control, next_task, over, stopped, tasks_next, without}
-use Rattle.ot_job.specs.Sound.{at, parent_of}
+use Rattle.ot_task.specs.Regions.{Region, executed, is_control, next_task, over, stopped, tasks_next, without}
+use Rattle.ot_job.specs.Numbered.{at, parent_of}
 use Rattle.ot_job.specs.Live.{Live}
 use Rattle.ot_job.specs.declared.piece.Refused.{Refused}
 use Rattle.ot_job.specs.declared.piece.Refused.TheVariants.{Stranger, Failing, Memory}
@@ -65,13 +64,6 @@ pub record Settles (old : Live) (d : Came) (number : ℕ) (new : Live) : Type 0 
   pub lighter : weight_of new.regions < weight_of old.regions
   pub few : new.counts.units ≤ 20000
   pub now : new ≡ record old { regions = settled (taken_by d.answer) old.counts.units d.task old.regions; cells = new.cells; owned = new.owned; counts = counts_after old.counts d.assigns (at old.regions d.task).rest }
-
--- what holds of a job for each piece that is out: its lease is out, its cells are there, and its parent's table lets it finish
-pub record MaySettle (j : Live) : Type 0 where
-  pub out : (i : ℕ) (run : Run) → (at j.regions i).running ≡ Some run → Contains j.owned.out run.lease × All (λ u. IsSome (cell_of j.cells u.cell)) run.lease.uses
-  pub kin : (i : ℕ) (run : Run) → (at j.regions i).running ≡ Some run → 0 < i
-      → (parent_of j.regions i < length j.regions) × IsReady (at j.regions (parent_of j.regions i)).children (at j.regions i).child
-      × IsUnfinished (at j.regions (parent_of j.regions i)).children (at j.regions i).child
 
 -- why a piece that comes back is refused
 abbrev pub Refuses : Live → Came → Refused → Type 0

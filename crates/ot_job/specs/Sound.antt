@@ -1,7 +1,6 @@
 -- What holds of the regions of a job.
-use Rattle.std.specs.Prelude.{◌≡◌, ◌<◌, ◌⊎◌, ℕ, zero, suc, ◌&&◌, ◌||◌, Bool, true, false, List, [], ◌∷◌, map, length, Some, None, slice_get}
+use Rattle.std.specs.Prelude.{◌≡◌, ◌<◌, ◌⊎◌, ℕ, ◌&&◌, ◌||◌, Bool, true, false, List, [], ◌∷◌, length, Some, None, slice_get}
 use Rattle.ot_model.specs.Tree.{Body, End}
-use Rattle.ot_model.specs.Serial.{State}
 use Rattle.ot_model.specs.declared.expr.Cell.{Cell}
 use Rattle.ot_model.specs.declared.stmt.Mode.TheVariants.{Reads, Writes}
 use Rattle.ot_model.specs.declared.stmt.Use.{Use}
@@ -9,39 +8,12 @@ use Rattle.ot_depend.specs.Siblings.{Sibling, IsReady, is_in}
 use Rattle.ot_check.specs.Paths.{use_as}
 use Rattle.ot_check.specs.Offences.{allows, adds_to, has_cell}
 use Rattle.ot_check.specs.Touches.{EachTouch, EachTask}
-use Rattle.ot_job.specs.Left.{left}
+use Rattle.ot_job.specs.Numbered.{at, parent_of, ended_at}
 use Rattle.ot_task.specs.Place.{Open, todo, opened, IsFineAt, AwaitsAll, unawaited}
 use Rattle.ot_task.specs.Regions.{Region}
 
--- no region
-abbrev pub gone : Region
-gone = record { parent = 0; child = 0; own = None; rest = End; groups = []; children = []; waiting = false; ended = true; running = None }
-
-abbrev pub at : List Region → ℕ → Region
-at [] i = gone
-at (r ∷ rs) zero = r
-at (r ∷ rs) (suc i) = at rs i
-
-abbrev pub parent_of : List Region → ℕ → ℕ
-parent_of rs i = (at rs i).parent
-
-abbrev pub todo_at : List Region → ℕ → Body
-todo_at rs i = todo (at rs i).rest (at rs i).groups
-
 abbrev pub may_at : List Region → ℕ → Use → Type 0
 may_at rs i u = allows (at rs i).own u ≡ true
-
-abbrev pub ended_at : List Region → ℕ → Bool
-ended_at rs i = (at rs i).ended
-
--- the parents of all tasks but the root
-abbrev pub parents : List Region → List ℕ
-parents [] = []
-parents (r ∷ rs) = map (λ x. x.parent) rs
-
--- what is left of the job, run serially
-abbrev pub left_of : List Region → State → State
-left_of rs s = left (todo_at rs) (parents rs) s
 
 -- the task is the root, or ready by its parent's table
 abbrev pub IsBegun : List Region → ℕ → Type 0

@@ -8,7 +8,7 @@ use Rattle.ot_owner.specs.declared.lent.LentCell.{LentCell}
 use Rattle.ot_task.specs.Copies.{assigned}
 use Rattle.ot_task.specs.Pieces.{Runs}
 use Rattle.ot_task.specs.Regions.{Region}
-use Rattle.ot_job.specs.Sound.{at}
+use Rattle.ot_job.specs.Numbered.{at}
 
 -- its task, its sets and adds, the condition behind them, and the copies that it was lent
 pub record Taken : Type 0 where

@@ -1,30 +1,18 @@
 -- What holds of a job between its calls.
-use Rattle.std.specs.Prelude.{◌≡◌, ◌<◌, ◌≤◌, ◌+◌, ◌*◌, ℕ, false, Some, length, IsPermutation}
+use Rattle.std.specs.Prelude.{◌≡◌, ◌<◌, ◌≤◌, ◌+◌, ◌*◌, ℕ, false, Some, All, Contains, IsSome, length, IsPermutation}
 use Rattle.ot_model.specs.Names.{NamedIn}
-use Rattle.ot_model.specs.Cells.{lengths}
+use Rattle.ot_model.specs.Cells.{cell_of, lengths}
 use Rattle.ot_model.specs.Counts.{size}
-use Rattle.ot_model.specs.Serial.{serial_run}
-use Rattle.ot_model.specs.Runs.{state_of}
-use Rattle.ot_owner.specs.Worth.{worths}
 use Rattle.ot_task.specs.Regions.{Run}
-use Rattle.ot_job.specs.Sound.{at, todo_at, left_of, IsBegun, IsSound}
+use Rattle.ot_job.specs.Numbered.{at, parent_of, todo_at}
+use Rattle.ot_job.specs.Sound.{IsBegun, IsSound}
+use Rattle.ot_job.specs.Kept.{IsKept}
+use Rattle.ot_depend.specs.Siblings.{IsReady, IsUnfinished}
 use Rattle.ot_job.specs.Live.{Live}
 use Rattle.ot_job.specs.Whole.{wholes, leases_out}
 use Rattle.ot_job.specs.Holding.{AllHold, HavePresent, AreApart}
 use Rattle.ot_job.specs.Running.{RunsWell}
-use Rattle.ot_job.specs.declared.state.State.{State}
-use Rattle.ot_job.specs.declared.state.State.TheVariants.{Working, Ended}
 use Rattle.ot_task.specs.Weighing.{weight_of}
-
--- what is left of the job, run serially from what its cells are worth, gives the serial meaning of its program
-abbrev pub IsKept : Live → Type 0
-IsKept j = left_of (wholes j.regions) (state_of (worths j.owned j.cells) j.counts) ≡ serial_run j.program.body j.before
-
--- a job that is going well, or has ended
-abbrev pub IsKeptIn : State → Live → Type 0
-IsKeptIn Working j = IsKept j
-IsKeptIn Ended j = IsKept j
-IsKeptIn state j = Unit {0}
 
 -- what holds until it fails
 pub record IsOnCourse (j : Live) : Type 0 where
@@ -47,3 +35,10 @@ pub record IsWell (j : Live) : Type 0 where
   pub few : j.counts.units ≤ size j.program.body
   pub light : weight_of j.regions ≤ 2 * size j.program.body + 1
   pub course : j.failing ≡ false → IsOnCourse j
+
+-- what holds of a job for each piece that is out: its lease is out, its cells are there, and its parent's table lets it finish
+pub record MaySettle (j : Live) : Type 0 where
+  pub out : (i : ℕ) (run : Run) → (at j.regions i).running ≡ Some run → Contains j.owned.out run.lease × All (λ u. IsSome (cell_of j.cells u.cell)) run.lease.uses
+  pub kin : (i : ℕ) (run : Run) → (at j.regions i).running ≡ Some run → 0 < i
+      → (parent_of j.regions i < length j.regions) × IsReady (at j.regions (parent_of j.regions i)).children (at j.regions i).child
+      × IsUnfinished (at j.regions (parent_of j.regions i)).children (at j.regions i).child

@@ -4,7 +4,7 @@ ghost use Rattle.ot_model.specs.Tree.{Next, Task as Fork};
 ghost use Rattle.ot_model.specs.View.{stmts_of};
 ghost use Rattle.ot_model.specs.Cells.{updated};
 ghost use Rattle.ot_model.specs.Uses.{AreInOrder};
-ghost use Rattle.ot_job.specs.Sound.{at};
+ghost use Rattle.ot_job.specs.Numbered.{at};
 ghost use Rattle.ot_job.specs.Settling.{CreatesInOrder};
 ghost use Rattle.ot_task.specs.Regions.{with_child, with_rest, new_region, children_at, executed};
 

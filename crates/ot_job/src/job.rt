@@ -52,7 +52,7 @@ impl Job {
     ghost use Rattle.ot_job.specs.declared.state.State.TheVariants.{Working, Failing, Ended, Failed};
     ghost use Rattle.ot_check.specs.Jobs.{Spec, IsMeaning};
     ghost use Rattle.ot_task.specs.Weighing.{weight_of};
-    ghost use Rattle.ot_job.specs.Well.{IsKeptIn};
+    ghost use Rattle.ot_job.specs.Kept.{IsKeptIn};
     ghost use Rattle.ot_job.specs.Holding.{AllHold, HavePresent, AreApart};
 
     /// A job that begins. It has the whole program left. Where memory is refused, the spec comes back.

@@ -43,7 +43,7 @@ impl Tasks {
     ghost use Rattle.ot_model.specs.Cells.{updated};
     ghost use Rattle.ot_model.specs.View.{stmts_of};
     ghost use Rattle.ot_depend.specs.Siblings.{IsReady, IsUnfinished};
-    ghost use Rattle.ot_job.specs.Sound.{at, parent_of};
+    ghost use Rattle.ot_job.specs.Numbered.{at, parent_of};
     ghost use Rattle.ot_task.specs.Pieces.{leading_len, awake, begun};
     ghost use Rattle.ot_task.specs.Regions.{executed};
     ghost use Rattle.ot_job.specs.Settling.{CreatesInOrder, closed, settled};

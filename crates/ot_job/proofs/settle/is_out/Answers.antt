@@ -2,7 +2,7 @@ use Rattle.std.proofs.Common.{◌≡◌, ◌∙◌, ap, sym, arith, IsTrue, subs
 use Rattle.std.specs.Prelude.{◌↔◌}
 use Rattle.ot_task.specs.Regions.{Region}
 use Rattle.ot_task.specs.Pieces.{Runs}
-use Rattle.ot_job.specs.Sound.{at}
+use Rattle.ot_job.specs.Numbered.{at}
 use Rattle.ot_job.proofs.PickLemmas.{at-here, at-past}
 use Rattle.ot_job.proofs.settle.is_out.Goals as goal
 

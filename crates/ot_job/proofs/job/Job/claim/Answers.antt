@@ -10,7 +10,7 @@ use Rattle.ot_owner.proofs.RightsLemmas.{lent_uses}
 use Rattle.ot_job.specs.Live.{Live}
 use Rattle.ot_job.specs.JobView.{live_of}
 use Rattle.ot_task.specs.Regions.{Region}
-use Rattle.ot_job.specs.Sound.{at}
+use Rattle.ot_job.specs.Numbered.{at}
 use Rattle.ot_task.specs.Pieces.{leading, behind, test_of, awake, begun, leading_len}
 use Rattle.ot_task.specs.Assigns.{assigns_of, CanRun}
 use Rattle.ot_job.specs.Claiming.{claimable_of, picked}

@@ -2,7 +2,7 @@ use Rattle.std.proofs.Common.{rules, sym, ap, ◌∙◌, ◌≡◌, subst, true,
 use Rattle.ot_job.specs.Live.{Live}
 use Rattle.ot_job.specs.States.{all_ended, any_out}
 use Rattle.ot_job.specs.Dealings.{NoneOut}
-use Rattle.ot_job.specs.Well.{IsKept}
+use Rattle.ot_job.specs.Kept.{IsKept}
 use Rattle.ot_job.specs.Holding.{AllHold, HavePresent, AreApart}
 use Rattle.ot_job.proofs.StartLemmas.{ended-none-out, state-is-failing, state-is-failed, state-is-ended, state-is-working}
 use Rattle.ot_job.proofs.DealingsLemmas.{none-out, out-none}

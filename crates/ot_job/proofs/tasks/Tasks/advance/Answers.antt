@@ -1,7 +1,7 @@
 use Rattle.std.proofs.Common.{◌≡◌, ◌<◌, ◌∙◌, List, length, true, ap, sym, subst, arith}
 use Rattle.std.specs.Prelude.{is_some}
 use Rattle.ot_task.specs.Regions.{Region, executed, stepped, tasks_next}
-use Rattle.ot_job.specs.Sound.{at}
+use Rattle.ot_job.specs.Numbered.{at}
 use Rattle.ot_job.specs.Settling.{CreatesInOrder}
 use Rattle.ot_job.specs.Listing.{numbers_of, AreKept}
 use Rattle.ot_job.proofs.ViewLemmas.{if_ok_also, on_err_also, on_both}

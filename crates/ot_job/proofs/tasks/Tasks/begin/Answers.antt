@@ -4,7 +4,7 @@ use Rattle.std.proofs.lemmas.List.Sums.{count_by-le-length}
 use Rattle.ot_model.specs.Cells.{updated}
 use Rattle.ot_task.specs.Regions.{Region}
 use Rattle.ot_task.specs.Pieces.{leading_len, awake, begun}
-use Rattle.ot_job.specs.Sound.{at}
+use Rattle.ot_job.specs.Numbered.{at}
 use Rattle.ot_job.specs.Listing.{numbers_of, AreKept}
 use Rattle.ot_job.proofs.PickLemmas.{at-here}
 use Rattle.ot_job.proofs.ViewLemmas.{set-changed}

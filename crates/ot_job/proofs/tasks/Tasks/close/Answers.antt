@@ -2,7 +2,7 @@ use Rattle.std.proofs.Common.{◌∙◌, ap, arith, refl, List, length}
 use Rattle.std.specs.Prelude.{is_some}
 use Rattle.ot_model.proofs.CellsLemmas.{length-updated}
 use Rattle.ot_task.specs.Regions.{Region, without}
-use Rattle.ot_job.specs.Sound.{at, parent_of}
+use Rattle.ot_job.specs.Numbered.{at, parent_of}
 use Rattle.ot_job.proofs.ClaimableLemmas.{field-kept}
 use Rattle.ot_job.proofs.tasks.Tasks.close.Goals.{then-i-gt0, else-i-gt0}
 use Rattle.ot_job.proofs.tasks.Tasks.close.Goals as goal

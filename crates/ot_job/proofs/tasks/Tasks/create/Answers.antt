@@ -4,7 +4,7 @@ use Rattle.std.proofs.lemmas.List.Sums.{count_by-le-length}
 use Rattle.std.specs.Prelude.{is_some, not, vec_len, vec_capacity, get_or}
 use Rattle.ot_model.specs.Cells.{updated}
 use Rattle.ot_task.specs.Regions.{Region, executed, tasks_next}
-use Rattle.ot_job.specs.Sound.{at}
+use Rattle.ot_job.specs.Numbered.{at}
 use Rattle.ot_job.specs.Listing.{IsListBelow, TellsOf, numbers_of, AreKept}
 use Rattle.ot_job.specs.Settling.{CreatesInOrder}
 use Rattle.ot_job.proofs.ViewLemmas.{map-kept, map-changed, on_err_always, on_ok_of_err}

@@ -2,7 +2,7 @@ use Rattle.std.proofs.Common.{rules, ◌≡◌, ◌<◌, ◌∙◌, ap, sym, ari
 use Rattle.std.specs.Prelude.{is_some, if◌then◌else◌}
 use Rattle.ot_model.specs.Cells.{updated}
 use Rattle.ot_task.specs.Regions.{Region, executed, tasks_next, stopped}
-use Rattle.ot_job.specs.Sound.{at}
+use Rattle.ot_job.specs.Numbered.{at}
 use Rattle.ot_task.specs.Standing.{is_at_end}
 use Rattle.ot_job.specs.Settling.{closed, moved_on}
 use Rattle.ot_job.proofs.PickLemmas.{at-here}

@@ -2,7 +2,7 @@ use Rattle.std.proofs.Common.{◌≡◌, ◌<◌, ◌∙◌, ap, subst, arith, r
 use Rattle.std.specs.Prelude.{is_some}
 use Rattle.std.proofs.lemmas.List.{length-set}
 use Rattle.ot_model.specs.Cells.{updated}
-use Rattle.ot_job.specs.Sound.{at}
+use Rattle.ot_job.specs.Numbered.{at}
 use Rattle.ot_job.specs.Listing.{numbers_of, AreKept}
 use Rattle.ot_job.proofs.ViewLemmas.{set-changed}
 use Rattle.ot_job.proofs.KeepingLemmas.{ordered-tasks, kept-tasks}

@@ -7,7 +7,7 @@ use Rattle.ot_depend.specs.Siblings.{IsReady, IsUnfinished, with_finished}
 use Rattle.ot_depend.specs.Kept.{has}
 use Rattle.ot_depend.specs.Waiting.{LetsTheSame}
 use Rattle.ot_task.specs.Regions.{Region, without}
-use Rattle.ot_job.specs.Sound.{at, parent_of}
+use Rattle.ot_job.specs.Numbered.{at, parent_of}
 use Rattle.ot_job.specs.Listing.{IsListBelow, TellsOf, numbers_of, AreKept}
 use Rattle.ot_job.proofs.PickLemmas.{at-here}
 use Rattle.ot_job.proofs.ViewLemmas.{set-changed}

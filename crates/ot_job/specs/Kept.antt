@@ -1,0 +1,20 @@
+-- What is kept at every moment.
+use Rattle.std.specs.Prelude.{◌≡◌}
+use Rattle.ot_model.specs.Serial.{serial_run}
+use Rattle.ot_model.specs.Runs.{state_of}
+use Rattle.ot_owner.specs.Worth.{worths}
+use Rattle.ot_job.specs.Numbered.{left_of}
+use Rattle.ot_job.specs.Live.{Live}
+use Rattle.ot_job.specs.Whole.{wholes}
+use Rattle.ot_job.specs.declared.state.State.{State}
+use Rattle.ot_job.specs.declared.state.State.TheVariants.{Working, Ended}
+
+-- what is left of the job, run serially from what its cells are worth, gives the serial meaning of its program
+abbrev pub IsKept : Live → Type 0
+IsKept j = left_of (wholes j.regions) (state_of (worths j.owned j.cells) j.counts) ≡ serial_run j.program.body j.before
+
+-- a job that is going well, or has ended
+abbrev pub IsKeptIn : State → Live → Type 0
+IsKeptIn Working j = IsKept j
+IsKeptIn Ended j = IsKept j
+IsKeptIn state j = Unit {0}

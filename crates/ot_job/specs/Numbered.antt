@@ -1,0 +1,34 @@
+-- The regions of a job by their numbers, and what is left of it.
+use Rattle.std.specs.Prelude.{ℕ, zero, suc, Bool, true, false, List, [], ◌∷◌, map, None}
+use Rattle.ot_model.specs.Tree.{Body, End}
+use Rattle.ot_model.specs.Serial.{State}
+use Rattle.ot_job.specs.Left.{left}
+use Rattle.ot_task.specs.Place.{todo}
+use Rattle.ot_task.specs.Regions.{Region}
+
+-- no region
+abbrev pub gone : Region
+gone = record { parent = 0; child = 0; own = None; rest = End; groups = []; children = []; waiting = false; ended = true; running = None }
+
+abbrev pub at : List Region → ℕ → Region
+at [] i = gone
+at (r ∷ rs) zero = r
+at (r ∷ rs) (suc i) = at rs i
+
+abbrev pub parent_of : List Region → ℕ → ℕ
+parent_of rs i = (at rs i).parent
+
+abbrev pub todo_at : List Region → ℕ → Body
+todo_at rs i = todo (at rs i).rest (at rs i).groups
+
+abbrev pub ended_at : List Region → ℕ → Bool
+ended_at rs i = (at rs i).ended
+
+-- the parents of all tasks but the root
+abbrev pub parents : List Region → List ℕ
+parents [] = []
+parents (r ∷ rs) = map (λ x. x.parent) rs
+
+-- what is left of the job, run serially
+abbrev pub left_of : List Region → State → State
+left_of rs s = left (todo_at rs) (parents rs) s
