@@ -1,12 +1,7 @@
-ghost use Rattle.std.specs.Prelude.{◌≡◌, ◌+◌, ◌<◌, ◌≤◌, ◌^◌, ◌++◌, [], ◌∷◌, length, vec_len, vec_capacity, OnOk, OnErr, IfOk, slice_index_or};
-ghost use Rattle.ot_task.specs.declared.task.Task.{Task};
-ghost use Rattle.ot_model.specs.Tree.{Next, Task as Fork};
-ghost use Rattle.ot_model.specs.View.{stmts_of};
-ghost use Rattle.ot_model.specs.Cells.{updated};
-ghost use Rattle.ot_model.specs.Uses.{AreInOrder};
+ghost use Rattle.std.specs.Prelude.{◌≡◌, ◌<◌, ◌≤◌, length, vec_len, OnOk, OnErr};
+ghost use Rattle.ot_task.specs.Regions.{executed};
 ghost use Rattle.ot_job.specs.Numbered.{at};
 ghost use Rattle.ot_job.specs.Settling.{CreatesInOrder};
-ghost use Rattle.ot_task.specs.Regions.{with_child, with_rest, new_region, children_at, executed};
 
 use ot_task::Task;
 use std::alloc::{AllocError, Global};

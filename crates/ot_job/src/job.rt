@@ -42,8 +42,7 @@ impl Model for Job {
 }
 
 impl Job {
-    ghost use Rattle.std.specs.Prelude.{◌≡◌, ◌<◌, ◌≤◌, ◌+◌, ◌*◌, ◌↔◌, IsTrue, length, false, OnOk, OnErr};
-    ghost use Rattle.std.specs.Prelude.{IfOk, IfErr, option_map};
+    ghost use Rattle.std.specs.Prelude.{◌≡◌, ◌<◌, ◌≤◌, ◌↔◌, IsTrue, length, OnErr, IfOk, IfErr};
     ghost use Rattle.ot_job.specs.Settling.{Settles, Refuses};
     ghost use Rattle.ot_job.specs.Claiming.{picked};
     ghost use Rattle.ot_job.specs.Claims.{Claimed};

@@ -1,5 +1,5 @@
-ghost use Rattle.std.specs.Prelude.{◌≡◌, ◌<◌, ◌==◌, ◌||◌, length, Some, slice_get, vec_len};
-ghost use Rattle.ot_job.specs.Claiming.{is_claimable, claimable_of, picked};
+ghost use Rattle.std.specs.Prelude.{◌≡◌, ◌<◌, length};
+ghost use Rattle.ot_job.specs.Claiming.{is_claimable};
 ghost use Rattle.ot_depend.specs.Siblings.{is_ready};
 ghost use Rattle.ot_job.specs.Numbered.{at};
 

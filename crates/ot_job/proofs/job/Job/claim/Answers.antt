@@ -95,13 +95,12 @@ overflow_cast-task c =
 
 pub new-requires : goal.new-requires
 new-requires c =
-    let tasks = c.self.inside.tasks in
-    let rs = tasks in
+    let rs = c.self.inside.tasks in
     let i = c.in-Some.task in
     let found = picked-here c.self.inside _ c.args.pick c.in-Some.task _ c.self.view_is c.pick.ensures c.in-Some.is in
     let is : picked (claimable_of rs) c.args.pick ≡ Some i = found.1 in
-    let within : i < length tasks = omega (arith, (picked-claimable rs c.args.pick i is).0) in
-    let here = at-here tasks i c.get.result.now within c.get.ensures in
+    let within : i < length rs = omega (arith, (picked-claimable rs c.args.pick i is).0) in
+    let here = at-here rs i c.get.result.now within c.get.ensures in
     let lent = c.in_ok-lent.ensures.lent in
     let uses = lent_uses c.self.inside.cells c.in_ok-room.field-0.decl c.in_ok-lent.lent lent in
     let held = subst (AreHeld (at rs i)) (sym uses) (subst (λ r. AreHeld r c.in_ok-room.field-0.decl) (sym here) c.in_ok-room.ensures.held) in
@@ -113,14 +112,13 @@ new-requires c =
 
 pub invariant_of-self-2 : goal.invariant_of-self-2
 invariant_of-self-2 c =
-    let tasks = c.self.inside.tasks in
-    let rs = tasks in
+    let rs = c.self.inside.tasks in
     let i = c.in-Some.task in
     let found = picked-here c.self.inside _ c.args.pick c.in-Some.task _ c.self.view_is c.pick.ensures c.in-Some.is in
     let is : picked (claimable_of rs) c.args.pick ≡ Some i = found.1 in
     let both = picked-claimable rs c.args.pick i is in
-    let within : i < length tasks = omega (arith, both.0) in
-    let here = at-here tasks i c.get.result.now within c.get.ensures in
+    let within : i < length rs = omega (arith, both.0) in
+    let here = at-here rs i c.get.result.now within c.get.ensures in
     let lent = c.in_ok-lent.ensures.lent in
     let uses = lent_uses c.self.inside.cells c.in_ok-room.field-0.decl c.in_ok-lent.lent lent in
     let lease : c.in_ok-room.field-0.right ≡ lease_of c.in_ok-lent.lent = c.in_ok-room.ensures.right ∙ ap lease_of (sym lent) in
@@ -133,14 +131,13 @@ invariant_of-self-2 c =
 
 pub returns-clause-claimed : goal.returns-clause-claimed
 returns-clause-claimed c =
-    let tasks = c.self.inside.tasks in
-    let rs = tasks in
+    let rs = c.self.inside.tasks in
     let i = c.in-Some.task in
     let found = picked-here c.self.inside _ c.args.pick c.in-Some.task _ c.self.view_is c.pick.ensures c.in-Some.is in
     let is : picked (claimable_of rs) c.args.pick ≡ Some i = found.1 in
     let both = picked-claimable rs c.args.pick i is in
-    let within : i < length tasks = omega (arith, both.0) in
-    let here = at-here tasks i c.get.result.now within c.get.ensures in
+    let within : i < length rs = omega (arith, both.0) in
+    let here = at-here rs i c.get.result.now within c.get.ensures in
     let lent = c.in_ok-lent.ensures.lent in
     let uses = lent_uses c.self.inside.cells c.in_ok-room.field-0.decl c.in_ok-lent.lent lent in
     let lease : c.in_ok-room.field-0.right ≡ lease_of c.in_ok-lent.lent = c.in_ok-room.ensures.right ∙ ap lease_of (sym lent) in

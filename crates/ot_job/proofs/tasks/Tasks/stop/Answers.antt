@@ -12,32 +12,29 @@ use Rattle.ot_job.proofs.tasks.Tasks.stop.Goals as goal
 
 pub overflow_sub-self : goal.overflow_sub-self
 overflow_sub-self c =
-    let tasks = c.self.inside.tasks.items in
-    let rs = tasks in
+    let rs = c.self.inside.tasks.items in
     let i = c.args.i in
-    let within : i < length tasks = omega (arith, c.requires.known, ap length c.self.view_is) in
+    let within : i < length rs = omega (arith, c.requires.known, ap length c.self.view_is) in
     let h : i < length rs = omega (arith, within) in
     let out : is_some (at rs i).running ≡ true = ap (λ (l : List Region). is_some (at l i).running) c.self.view_is ∙ c.requires.out in
     omega (arith, one-is-out rs i h out, c.self.invariant.counted.out)
 
 pub refresh-requires-clause-ordered : goal.refresh-requires-clause-ordered
 refresh-requires-clause-ordered c =
-    let tasks = c.self.inside.tasks.items in
-    let rs = tasks in
+    let rs = c.self.inside.tasks.items in
     let i = c.args.i in
-    let now = set-changed tasks i c.index_mut.result.now c.stop.new.self stopped c.index_mut.ensures.value c.stop.ensures in
+    let now = set-changed rs i c.index_mut.result.now c.stop.new.self stopped c.index_mut.ensures.value c.stop.ensures in
     let is : c.deref.result.now ≡ updated rs i stopped = c.deref.ensures.value ∙ now in
     ordered-tasks stopped (λ r. refl) (λ r. refl) (λ r. refl) rs i (numbers_of c.self.inside.children.items) c.self.inside.claimable.listed _ _ _ c.self.invariant c.deref.result.now is
 
 pub invariant_of-self : goal.invariant_of-self
 invariant_of-self c =
-    let tasks = c.self.inside.tasks.items in
-    let rs = tasks in
+    let rs = c.self.inside.tasks.items in
     let i = c.args.i in
-    let within : i < length tasks = omega (arith, c.requires.known, ap length c.self.view_is) in
+    let within : i < length rs = omega (arith, c.requires.known, ap length c.self.view_is) in
     let h : i < length rs = omega (arith, within) in
     let out : is_some (at rs i).running ≡ true = ap (λ (l : List Region). is_some (at l i).running) c.self.view_is ∙ c.requires.out in
-    let now = set-changed tasks i c.index_mut.result.now c.stop.new.self stopped c.index_mut.ensures.value c.stop.ensures in
+    let now = set-changed rs i c.index_mut.result.now c.stop.new.self stopped c.index_mut.ensures.value c.stop.ensures in
     let is : c.deref.result.now ≡ updated rs i stopped = c.deref.ensures.value ∙ now in
     let kept = kept-tasks stopped (λ r. refl) (λ r. refl) (λ r. refl) rs i (numbers_of c.self.inside.children.items) c.self.inside.claimable.listed _ _ _ c.self.invariant c.deref.result.now is
     c.refresh.new.list.listed c.refresh.new.list.room (c.self.inside.out - 1) c.self.inside.unended (counted-stopped rs i c.self.inside.out c.self.inside.unended h out c.self.invariant.counted) c.refresh.ensures.ordered c.refresh.ensures.told c.refresh.ensures.others c.refresh.ensures.room in

@@ -16,89 +16,82 @@ use Rattle.ot_job.proofs.tasks.Tasks.tell_parent.Goals as goal
 
 pub index_mut-requires : goal.index_mut-requires
 index_mut-requires c =
-    let tasks = c.self.inside.tasks.items in
-    let rs = tasks in
+    let rs = c.self.inside.tasks.items in
     let i = c.args.i in
-    let within : i < length tasks = omega (arith, c.requires.known, ap length c.self.view_is) in
-    let one = at-here tasks i c.index.result.now within c.index.ensures in
+    let within : i < length rs = omega (arith, c.requires.known, ap length c.self.view_is) in
+    let one = at-here rs i c.index.result.now within c.index.ensures in
     let p : c.place_among-parent.result.0 ≡ parent_of rs i = ap (λ (q : ℕ × ℕ). q.0) c.place_among-parent.ensures ∙ sym (ap (λ (r : Region). r.parent) one) in
-    let up : c.place_among-parent.result.0 < length tasks = omega (arith, p, ap (λ (l : List Region). parent_of l i) c.self.view_is, c.requires.parent, ap length c.self.view_is) in
+    let up : c.place_among-parent.result.0 < length rs = omega (arith, p, ap (λ (l : List Region). parent_of l i) c.self.view_is, c.requires.parent, ap length c.self.view_is) in
     omega (arith, up, c.self.inside.tasks.ok.0)
 
 pub release_child-waiters-requires-clause-ready : goal.release_child-waiters-requires-clause-ready
 release_child-waiters-requires-clause-ready c =
-    let tasks = c.self.inside.tasks.items in
-    let rs = tasks in
+    let rs = c.self.inside.tasks.items in
     let i = c.args.i in
-    let within : i < length tasks = omega (arith, c.requires.known, ap length c.self.view_is) in
-    let one = at-here tasks i c.index.result.now within c.index.ensures in
+    let within : i < length rs = omega (arith, c.requires.known, ap length c.self.view_is) in
+    let one = at-here rs i c.index.result.now within c.index.ensures in
     let p : c.place_among-parent.result.0 ≡ parent_of rs i = ap (λ (q : ℕ × ℕ). q.0) c.place_among-parent.ensures ∙ sym (ap (λ (r : Region). r.parent) one) in
-    let up : c.place_among-parent.result.0 < length tasks = omega (arith, p, ap (λ (l : List Region). parent_of l i) c.self.view_is, c.requires.parent, ap length c.self.view_is) in
+    let up : c.place_among-parent.result.0 < length rs = omega (arith, p, ap (λ (l : List Region). parent_of l i) c.self.view_is, c.requires.parent, ap length c.self.view_is) in
     let k : c.place_among-parent.result.1 ≡ (at rs i).child = ap (λ (q : ℕ × ℕ). q.1) c.place_among-parent.ensures ∙ sym (ap (λ (r : Region). r.child) one) in
-    let here = at-here tasks c.place_among-parent.result.0 c.index_mut.result.now up c.index_mut.ensures.value in
+    let here = at-here rs c.place_among-parent.result.0 c.index_mut.result.now up c.index_mut.ensures.value in
     let given = subst (λ (l : List Region). IsReady (at l (parent_of l i)).children (at l i).child) (sym c.self.view_is) c.requires.ready in
     subst (λ (r : Region). IsReady r.children c.place_among-parent.result.1) here
     (subst (λ (q : ℕ). IsReady (at rs q).children c.place_among-parent.result.1) (sym p) (subst (λ (n : ℕ). IsReady (at rs (parent_of rs i)).children n) (sym k) given))
 
 pub release_child-waiters-requires-clause-unfinished : goal.release_child-waiters-requires-clause-unfinished
 release_child-waiters-requires-clause-unfinished c =
-    let tasks = c.self.inside.tasks.items in
-    let rs = tasks in
+    let rs = c.self.inside.tasks.items in
     let i = c.args.i in
-    let within : i < length tasks = omega (arith, c.requires.known, ap length c.self.view_is) in
-    let one = at-here tasks i c.index.result.now within c.index.ensures in
+    let within : i < length rs = omega (arith, c.requires.known, ap length c.self.view_is) in
+    let one = at-here rs i c.index.result.now within c.index.ensures in
     let p : c.place_among-parent.result.0 ≡ parent_of rs i = ap (λ (q : ℕ × ℕ). q.0) c.place_among-parent.ensures ∙ sym (ap (λ (r : Region). r.parent) one) in
-    let up : c.place_among-parent.result.0 < length tasks = omega (arith, p, ap (λ (l : List Region). parent_of l i) c.self.view_is, c.requires.parent, ap length c.self.view_is) in
+    let up : c.place_among-parent.result.0 < length rs = omega (arith, p, ap (λ (l : List Region). parent_of l i) c.self.view_is, c.requires.parent, ap length c.self.view_is) in
     let k : c.place_among-parent.result.1 ≡ (at rs i).child = ap (λ (q : ℕ × ℕ). q.1) c.place_among-parent.ensures ∙ sym (ap (λ (r : Region). r.child) one) in
-    let here = at-here tasks c.place_among-parent.result.0 c.index_mut.result.now up c.index_mut.ensures.value in
+    let here = at-here rs c.place_among-parent.result.0 c.index_mut.result.now up c.index_mut.ensures.value in
     let given = subst (λ (l : List Region). IsUnfinished (at l (parent_of l i)).children (at l i).child) (sym c.self.view_is) c.requires.unfinished in
     subst (λ (r : Region). IsUnfinished r.children c.place_among-parent.result.1) here
     (subst (λ (q : ℕ). IsUnfinished (at rs q).children c.place_among-parent.result.1) (sym p) (subst (λ (n : ℕ). IsUnfinished (at rs (parent_of rs i)).children n) (sym k) given))
 
 pub refresh-requires-clause-known : goal.refresh-requires-clause-known
 refresh-requires-clause-known c =
-    let tasks = c.self.inside.tasks.items in
-    let rs = tasks in
+    let rs = c.self.inside.tasks.items in
     let i = c.args.i in
-    let within : i < length tasks = omega (arith, c.requires.known, ap length c.self.view_is) in
-    let one = at-here tasks i c.index.result.now within c.index.ensures in
+    let within : i < length rs = omega (arith, c.requires.known, ap length c.self.view_is) in
+    let one = at-here rs i c.index.result.now within c.index.ensures in
     let p : c.place_among-parent.result.0 ≡ parent_of rs i = ap (λ (q : ℕ × ℕ). q.0) c.place_among-parent.ensures ∙ sym (ap (λ (r : Region). r.parent) one) in
-    let up : c.place_among-parent.result.0 < length tasks = omega (arith, p, ap (λ (l : List Region). parent_of l i) c.self.view_is, c.requires.parent, ap length c.self.view_is) in
-    let now = set-changed tasks c.place_among-parent.result.0 c.index_mut.result.now c.release_child-waiters.new.self (without c.place_among-parent.result.1) c.index_mut.ensures.value c.release_child-waiters.ensures.released in
+    let up : c.place_among-parent.result.0 < length rs = omega (arith, p, ap (λ (l : List Region). parent_of l i) c.self.view_is, c.requires.parent, ap length c.self.view_is) in
+    let now = set-changed rs c.place_among-parent.result.0 c.index_mut.result.now c.release_child-waiters.new.self (without c.place_among-parent.result.1) c.index_mut.ensures.value c.release_child-waiters.ensures.released in
     let is : c.deref.result.now ≡ updated rs c.place_among-parent.result.0 (without c.place_among-parent.result.1) = c.deref.ensures.value ∙ now in
     let long : length c.deref.result.now ≡ length rs = ap length is ∙ length-updated rs c.place_among-parent.result.0 (without c.place_among-parent.result.1) in
     omega (arith, up, long)
 
 pub refresh-requires-clause-ordered : goal.refresh-requires-clause-ordered
 refresh-requires-clause-ordered c =
-    let tasks = c.self.inside.tasks.items in
-    let rs = tasks in
-    let now = set-changed tasks c.place_among-parent.result.0 c.index_mut.result.now c.release_child-waiters.new.self (without c.place_among-parent.result.1) c.index_mut.ensures.value c.release_child-waiters.ensures.released in
+    let rs = c.self.inside.tasks.items in
+    let now = set-changed rs c.place_among-parent.result.0 c.index_mut.result.now c.release_child-waiters.new.self (without c.place_among-parent.result.1) c.index_mut.ensures.value c.release_child-waiters.ensures.released in
     let is : c.deref.result.now ≡ updated rs c.place_among-parent.result.0 (without c.place_among-parent.result.1) = c.deref.ensures.value ∙ now in
     let long : length c.deref.result.now ≡ length rs = ap length is ∙ length-updated rs c.place_among-parent.result.0 (without c.place_among-parent.result.1) in
     subst (λ n. IsListBelow n c.self.inside.claimable.listed) (sym long) (list-ordered rs c.self.inside.claimable.listed c.self.invariant.claimable)
 
 pub index-requires-2 : goal.index-requires-2
 index-requires-2 c =
-    let tasks = c.self.inside.tasks.items in
-    let rs = tasks in
+    let rs = c.self.inside.tasks.items in
     let i = c.args.i in
-    let within : i < length tasks = omega (arith, c.requires.known, ap length c.self.view_is) in
-    let one = at-here tasks i c.index.result.now within c.index.ensures in
+    let within : i < length rs = omega (arith, c.requires.known, ap length c.self.view_is) in
+    let one = at-here rs i c.index.result.now within c.index.ensures in
     let p : c.place_among-parent.result.0 ≡ parent_of rs i = ap (λ (q : ℕ × ℕ). q.0) c.place_among-parent.ensures ∙ sym (ap (λ (r : Region). r.parent) one) in
-    let up : c.place_among-parent.result.0 < length tasks = omega (arith, p, ap (λ (l : List Region). parent_of l i) c.self.view_is, c.requires.parent, ap length c.self.view_is) in
+    let up : c.place_among-parent.result.0 < length rs = omega (arith, p, ap (λ (l : List Region). parent_of l i) c.self.view_is, c.requires.parent, ap length c.self.view_is) in
     omega (arith, up, c.self.invariant.numbered.long, length-map c.self.inside.children.items (λ v. v.items), c.self.inside.children.ok.0)
 
 pub refresh_children-requires-clause-children : goal.refresh_children-requires-clause-children
 refresh_children-requires-clause-children c =
-    let tasks = c.self.inside.tasks.items in
-    let rs = tasks in
+    let rs = c.self.inside.tasks.items in
     let i = c.args.i in
-    let within : i < length tasks = omega (arith, c.requires.known, ap length c.self.view_is) in
-    let one = at-here tasks i c.index.result.now within c.index.ensures in
+    let within : i < length rs = omega (arith, c.requires.known, ap length c.self.view_is) in
+    let one = at-here rs i c.index.result.now within c.index.ensures in
     let p : c.place_among-parent.result.0 ≡ parent_of rs i = ap (λ (q : ℕ × ℕ). q.0) c.place_among-parent.ensures ∙ sym (ap (λ (r : Region). r.parent) one) in
-    let up : c.place_among-parent.result.0 < length tasks = omega (arith, p, ap (λ (l : List Region). parent_of l i) c.self.view_is, c.requires.parent, ap length c.self.view_is) in
-    let here = at-here tasks c.place_among-parent.result.0 c.index_mut.result.now up c.index_mut.ensures.value in
+    let up : c.place_among-parent.result.0 < length rs = omega (arith, p, ap (λ (l : List Region). parent_of l i) c.self.view_is, c.requires.parent, ap length c.self.view_is) in
+    let here = at-here rs c.place_among-parent.result.0 c.index_mut.result.now up c.index_mut.ensures.value in
     let lists = c.self.inside.children.items in
     let place : c.place_among-parent.result.0 < length (numbers_of lists) = omega (arith, up, c.self.invariant.numbered.long) in
     let numbers : get_or (numbers_of lists) c.place_among-parent.result.0 [] ≡ c.index-2.result.now.items =
@@ -110,14 +103,13 @@ refresh_children-requires-clause-children c =
 
 pub refresh_children-requires-clause-numbers : goal.refresh_children-requires-clause-numbers
 refresh_children-requires-clause-numbers c =
-    let tasks = c.self.inside.tasks.items in
-    let rs = tasks in
+    let rs = c.self.inside.tasks.items in
     let i = c.args.i in
-    let within : i < length tasks = omega (arith, c.requires.known, ap length c.self.view_is) in
-    let one = at-here tasks i c.index.result.now within c.index.ensures in
+    let within : i < length rs = omega (arith, c.requires.known, ap length c.self.view_is) in
+    let one = at-here rs i c.index.result.now within c.index.ensures in
     let p : c.place_among-parent.result.0 ≡ parent_of rs i = ap (λ (q : ℕ × ℕ). q.0) c.place_among-parent.ensures ∙ sym (ap (λ (r : Region). r.parent) one) in
-    let up : c.place_among-parent.result.0 < length tasks = omega (arith, p, ap (λ (l : List Region). parent_of l i) c.self.view_is, c.requires.parent, ap length c.self.view_is) in
-    let now = set-changed tasks c.place_among-parent.result.0 c.index_mut.result.now c.release_child-waiters.new.self (without c.place_among-parent.result.1) c.index_mut.ensures.value c.release_child-waiters.ensures.released in
+    let up : c.place_among-parent.result.0 < length rs = omega (arith, p, ap (λ (l : List Region). parent_of l i) c.self.view_is, c.requires.parent, ap length c.self.view_is) in
+    let now = set-changed rs c.place_among-parent.result.0 c.index_mut.result.now c.release_child-waiters.new.self (without c.place_among-parent.result.1) c.index_mut.ensures.value c.release_child-waiters.ensures.released in
     let is : c.deref.result.now ≡ updated rs c.place_among-parent.result.0 (without c.place_among-parent.result.1) = c.deref.ensures.value ∙ now in
     let long : length c.deref.result.now ≡ length rs = ap length is ∙ length-updated rs c.place_among-parent.result.0 (without c.place_among-parent.result.1) in
     let lists = c.self.inside.children.items in
@@ -130,15 +122,14 @@ refresh_children-requires-clause-numbers c =
 
 pub invariant_of-self : goal.invariant_of-self
 invariant_of-self c =
-    let tasks = c.self.inside.tasks.items in
-    let rs = tasks in
+    let rs = c.self.inside.tasks.items in
     let i = c.args.i in
-    let within : i < length tasks = omega (arith, c.requires.known, ap length c.self.view_is) in
-    let one = at-here tasks i c.index.result.now within c.index.ensures in
+    let within : i < length rs = omega (arith, c.requires.known, ap length c.self.view_is) in
+    let one = at-here rs i c.index.result.now within c.index.ensures in
     let p : c.place_among-parent.result.0 ≡ parent_of rs i = ap (λ (q : ℕ × ℕ). q.0) c.place_among-parent.ensures ∙ sym (ap (λ (r : Region). r.parent) one) in
-    let up : c.place_among-parent.result.0 < length tasks = omega (arith, p, ap (λ (l : List Region). parent_of l i) c.self.view_is, c.requires.parent, ap length c.self.view_is) in
-    let here = at-here tasks c.place_among-parent.result.0 c.index_mut.result.now up c.index_mut.ensures.value in
-    let now = set-changed tasks c.place_among-parent.result.0 c.index_mut.result.now c.release_child-waiters.new.self (without c.place_among-parent.result.1) c.index_mut.ensures.value c.release_child-waiters.ensures.released in
+    let up : c.place_among-parent.result.0 < length rs = omega (arith, p, ap (λ (l : List Region). parent_of l i) c.self.view_is, c.requires.parent, ap length c.self.view_is) in
+    let here = at-here rs c.place_among-parent.result.0 c.index_mut.result.now up c.index_mut.ensures.value in
+    let now = set-changed rs c.place_among-parent.result.0 c.index_mut.result.now c.release_child-waiters.new.self (without c.place_among-parent.result.1) c.index_mut.ensures.value c.release_child-waiters.ensures.released in
     let is : c.deref.result.now ≡ updated rs c.place_among-parent.result.0 (without c.place_among-parent.result.1) = c.deref.ensures.value ∙ now in
     let long : length c.deref.result.now ≡ length rs = ap length is ∙ length-updated rs c.place_among-parent.result.0 (without c.place_among-parent.result.1) in
     let lists = c.self.inside.children.items in
@@ -160,22 +151,20 @@ invariant_of-self c =
 
 pub returns : goal.returns
 returns c =
-    let tasks = c.self.inside.tasks.items in
-    let rs = tasks in
+    let rs = c.self.inside.tasks.items in
     let i = c.args.i in
-    let within : i < length tasks = omega (arith, c.requires.known, ap length c.self.view_is) in
-    let one = at-here tasks i c.index.result.now within c.index.ensures in
+    let within : i < length rs = omega (arith, c.requires.known, ap length c.self.view_is) in
+    let one = at-here rs i c.index.result.now within c.index.ensures in
     let p : c.place_among-parent.result.0 ≡ parent_of rs i = ap (λ (q : ℕ × ℕ). q.0) c.place_among-parent.ensures ∙ sym (ap (λ (r : Region). r.parent) one) in
     let k : c.place_among-parent.result.1 ≡ (at rs i).child = ap (λ (q : ℕ × ℕ). q.1) c.place_among-parent.ensures ∙ sym (ap (λ (r : Region). r.child) one) in
-    let now = set-changed tasks c.place_among-parent.result.0 c.index_mut.result.now c.release_child-waiters.new.self (without c.place_among-parent.result.1) c.index_mut.ensures.value c.release_child-waiters.ensures.released in
+    let now = set-changed rs c.place_among-parent.result.0 c.index_mut.result.now c.release_child-waiters.new.self (without c.place_among-parent.result.1) c.index_mut.ensures.value c.release_child-waiters.ensures.released in
     now ∙ ap (λ q. updated rs q (without c.place_among-parent.result.1)) p ∙ ap (λ n. updated rs (parent_of rs i) (without n)) k
     ∙ ap (λ (l : List Region). updated l (parent_of l i) (without (at l i).child)) c.self.view_is
 
 pub refresh-requires-clause-room : goal.refresh-requires-clause-room
 refresh-requires-clause-room c =
-    let tasks = c.self.inside.tasks.items in
-    let rs = tasks in
-    let now = set-changed tasks c.place_among-parent.result.0 c.index_mut.result.now c.release_child-waiters.new.self (without c.place_among-parent.result.1) c.index_mut.ensures.value c.release_child-waiters.ensures.released in
+    let rs = c.self.inside.tasks.items in
+    let now = set-changed rs c.place_among-parent.result.0 c.index_mut.result.now c.release_child-waiters.new.self (without c.place_among-parent.result.1) c.index_mut.ensures.value c.release_child-waiters.ensures.released in
     let is : c.deref.result.now ≡ updated rs c.place_among-parent.result.0 (without c.place_among-parent.result.1) = c.deref.ensures.value ∙ now in
     let long : length c.deref.result.now ≡ length rs = ap length is ∙ length-updated rs c.place_among-parent.result.0 (without c.place_among-parent.result.1) in
     omega (arith, long, c.self.invariant.room)
@@ -186,9 +175,8 @@ refresh_children-requires-clause-ordered c =
 
 pub refresh_children-requires-clause-room : goal.refresh_children-requires-clause-room
 refresh_children-requires-clause-room c =
-    let tasks = c.self.inside.tasks.items in
-    let rs = tasks in
-    let now = set-changed tasks c.place_among-parent.result.0 c.index_mut.result.now c.release_child-waiters.new.self (without c.place_among-parent.result.1) c.index_mut.ensures.value c.release_child-waiters.ensures.released in
+    let rs = c.self.inside.tasks.items in
+    let now = set-changed rs c.place_among-parent.result.0 c.index_mut.result.now c.release_child-waiters.new.self (without c.place_among-parent.result.1) c.index_mut.ensures.value c.release_child-waiters.ensures.released in
     let is : c.deref.result.now ≡ updated rs c.place_among-parent.result.0 (without c.place_among-parent.result.1) = c.deref.ensures.value ∙ now in
     let long : length c.deref.result.now ≡ length rs = ap length is ∙ length-updated rs c.place_among-parent.result.0 (without c.place_among-parent.result.1) in
     omega (arith, long, c.self.invariant.room, c.refresh.ensures.room, ap length (c.deref-2.ensures.value ∙ sym c.deref.ensures.value))
