@@ -1,3 +1,5 @@
+mod MarkLemmas
+mod TurnLemmas
 mod IndexLemmas
 mod AccountLemmas
 mod ToldLemmas

@@ -1,15 +1,20 @@
 -- Where each tenant's job lies.
-use Rattle.std.specs.Prelude.{◌≡◌, ℕ, List, Option, None, Some, IsSome, map, slice_index_or, slice_set}
+use Rattle.std.specs.Prelude.{◌≡◌, ℕ, nat_lt, Bool, false, List, length, Option, None, Some, IsSome, map, slice_index_or, slice_set}
 use Rattle.slab.specs.Slab.{Slab, get}
 use Rattle.ot_check.specs.Jobs.{Spec}
 use Rattle.ot_job.specs.Live.{Live, seen_of}
-use Rattle.ot_job.specs.States.{Starts}
+use Rattle.ot_job.specs.States.{Starts, claimable_in}
 use Rattle.ot_job.specs.Dealings.{IsBegun}
 use Rattle.ot_core.specs.declared.live.Jobs.TheInside.{Inside}
 
 -- the tenant's job
 abbrev pub job_of : List (Option Live) → ℕ → Option Live
 job_of jobs tenant = slice_index_or jobs tenant None
+
+-- whether the tenant of this job has a claimable task
+abbrev pub has_claimable : Option Live → Bool
+has_claimable None = false
+has_claimable (Some j) = nat_lt 0 (length (claimable_in (seen_of j)))
 
 -- the job at a key
 abbrev pub job_at : Slab Live → Option ℕ → Option Live

@@ -1,3 +1,4 @@
+pub mod Marking
 pub mod Index
 pub mod Lending
 pub mod Floors

@@ -1,5 +1,5 @@
 -- Claims by turn.
-use Rattle.std.specs.Prelude.{◌≡◌, ◌≤◌, ◌<◌, ℕ, List, Option, Some, None}
+use Rattle.std.specs.Prelude.{◌≡◌, ◌≤◌, ◌<◌, ◌⊎◌, ℕ, List, length, Option, Some, None}
 use Rattle.ot_job.specs.Live.{Live}
 use Rattle.ot_job.specs.Taken.{Parts as Piece}
 use Rattle.ot_core.specs.Floors.{Floor, Claims, NothingAt, IsAsBefore, IsWorking}
@@ -12,9 +12,10 @@ NothingIn jobs from to = (t : ℕ) → from ≤ t → t < to → NothingAt jobs 
 abbrev pub NothingAnywhere : List (Option Live) → Type 0
 NothingAnywhere jobs = (t : ℕ) → NothingAt jobs t
 
-abbrev pub ClaimsIn : Floor → ℕ → ℕ → ℕ → Option (ℕ × Piece) → Floor → Type 0
-ClaimsIn old from to pick None new = NothingIn old.jobs from to × (new ≡ old)
-ClaimsIn old from to pick (Some p) new = Claims old p.0 pick p.1 new
+-- the first tenant with a claimable task from one number on, and else the first of all
+abbrev pub IsNext : List (Option Live) → ℕ → Option ℕ → Type 0
+IsNext jobs first None = NothingAnywhere jobs
+IsNext jobs first (Some t) = ¬ (NothingAt jobs t) × (((first ≤ t) × NothingIn jobs first t) ⊎ (NothingIn jobs first (length jobs) × NothingIn jobs 0 t))
 
 -- a piece of some tenant, where a tenant has a claimable task
 abbrev pub ClaimsSome : Floor → ℕ → Option (ℕ × Piece) → Floor → Type 0

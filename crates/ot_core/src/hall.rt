@@ -1,6 +1,7 @@
 ghost use Rattle.std.specs.Prelude.{◌≡◌, ◌<◌, length};
 
 use crate::live::Jobs;
+use crate::marks::Marks;
 use ot_check::{JobSpec, Outcome};
 use ot_job::{Done, Job, Piece, Refused, State};
 use std::alloc::{AllocError, Global};
@@ -10,6 +11,8 @@ use std::marker::Model;
 #[derive(Drop)]
 pub struct Hall {
     jobs: Jobs,
+    // Set where the tenant has a claimable task.
+    marks: Marks,
     units: Vec<u64>,
     total: u64,
 }
@@ -68,7 +71,7 @@ impl Hall {
     ghost use Rattle.ot_core.specs.Index.{job_of};
     ghost use Rattle.ot_core.specs.Floors.{new_floor, units_of, total_of, IsFree, Submits, ClaimsOf, IsWorking, NothingAt, IsAsBefore, Settles, RefusesIn, FailsIn, AbortsJob, Collects};
     ghost use Rattle.ot_core.specs.Draining.{claimable_of, over_of, LivelyAt};
-    ghost use Rattle.ot_core.specs.Turns.{NothingAnywhere, ClaimsIn, ClaimsSome, RunsShort};
+    ghost use Rattle.ot_core.specs.Turns.{NothingAnywhere, IsNext, ClaimsSome, RunsShort};
     ghost use Rattle.ot_core.specs.declared.hall.SubmitFault.TheVariants.{Busy};
 
     /// Nobody has a job, and nothing was settled.
@@ -76,9 +79,11 @@ impl Hall {
         ensures { IfOk result (λ hall. hall ≡ new_floor tenants) }
     {
         let jobs = Jobs::new(alloc, tenants)?;
+        let marks = Marks::new(alloc, tenants)?;
         let units = vec![in alloc; 0u64; tenants as usize]?;
         Ok(Hall {
             jobs,
+            marks,
             units,
             total: 0,
         })
@@ -104,6 +109,7 @@ impl Hall {
         if let Err((spec, _)) = self.jobs.begin(alloc, tenant, spec) {
             return Err((spec, SubmitFault::Memory));
         }
+        self.marks.put(tenant, self.jobs.has_claimable(tenant));
         Ok(())
     }
 
@@ -120,7 +126,9 @@ impl Hall {
         if self.jobs.get(tenant).is_none() {
             return Ok(None);
         }
-        self.jobs.get_mut(tenant).claim(alloc, pick)
+        let claimed = self.jobs.get_mut(tenant).claim(alloc, pick);
+        self.marks.put(tenant, self.jobs.has_claimable(tenant));
+        claimed
     }
 
     /// A claimable piece of some tenant, by the turn, where a tenant has one.
@@ -128,52 +136,27 @@ impl Hall {
         ensures claimed { IfOk result (λ claimed. ClaimsSome self.old turn claimed self.new) }
         ensures refused { IfErr result (λ e. RunsShort self.old e.tenant self.new) }
     {
-        let tenants = self.jobs.tenants() as u32;
+        let tenants = self.jobs.tenants() as u64;
         if tenants == 0 {
             return Ok(None);
         }
-        let first = (turn % u64::from(tenants)) as u32;
-        let pick = turn as usize;
-        if let Some(claimed) = self.claim_among(alloc, first, tenants, pick)? {
-            return Ok(Some(claimed));
+        let Some(tenant) = self.next_from((turn % tenants) as u32) else {
+            return Ok(None);
+        };
+        match self.claim_of(alloc, tenant, turn as usize) {
+            Ok(Some(piece)) => Ok(Some((tenant, piece))),
+            Ok(None) => unreachable!(),
+            Err(_) => Err(NoMemory { tenant }),
         }
-        if let Some(claimed) = self.claim_among(alloc, 0, first, pick)? {
-            return Ok(Some(claimed));
-        }
-        Ok(None)
     }
 
-    // A claimable piece of a tenant from one number up to another.
-    fn claim_among(
-        &mut self,
-        alloc: Global,
-        from: u32,
-        to: u32,
-        pick: usize,
-    ) -> Result<Option<(u32, Piece)>, NoMemory>
-        ensures claimed { IfOk result (λ claimed. ClaimsIn self.old from to pick claimed self.new) }
-        ensures refused { IfErr result (λ e. RunsShort self.old e.tenant self.new) }
+    // The first tenant with a claimable task from this one on, and else the first of all.
+    fn next_from(&self, first: u32) -> Option<u32>
+        ensures { IsNext self.now.jobs first result }
     {
-        for tenant in from..to {
-            if self.has_claimable(tenant) {
-                match self.claim_of(alloc, tenant, pick) {
-                    Ok(Some(piece)) => return Ok(Some((tenant, piece))),
-                    Ok(None) => unreachable!(),
-                    Err(_) => return Err(NoMemory { tenant }),
-                }
-            }
-        }
-        Ok(None)
-    }
-
-    // Whether the tenant has a claimable task.
-    fn has_claimable(&self, tenant: u32) -> bool
-        ensures some { IsTrue result → ¬ (NothingAt self.now.jobs tenant) }
-        ensures none { result ≡ false → NothingAt self.now.jobs tenant }
-    {
-        match self.jobs.get(tenant) {
-            Some(job) => job.claimable() > 0,
-            None => false,
+        match self.marks.first_from(first) {
+            Some(tenant) => Some(tenant),
+            None => self.marks.first_from(0),
         }
     }
 
@@ -189,7 +172,9 @@ impl Hall {
         if self.jobs.get(tenant).is_none() {
             return Err((done, Refused::Stranger));
         }
-        let units = match self.jobs.get_mut(tenant).settle(alloc, done) {
+        let settled = self.jobs.get_mut(tenant).settle(alloc, done);
+        self.marks.put(tenant, self.jobs.has_claimable(tenant));
+        let units = match settled {
             Ok(units) => units,
             Err(refused) => return Err(refused),
         };
@@ -207,6 +192,7 @@ impl Hall {
             return;
         }
         self.jobs.get_mut(tenant).fail(done);
+        self.marks.put(tenant, self.jobs.has_claimable(tenant));
     }
 
     /// The tenant's job fails.
@@ -215,6 +201,7 @@ impl Hall {
         ensures { AbortsJob self.old tenant self.new }
     {
         self.jobs.get_mut(tenant).abort();
+        self.marks.put(tenant, self.jobs.has_claimable(tenant));
     }
 
     /// What became of the tenant's job of this spec. One that is over is taken out.
@@ -229,9 +216,15 @@ impl Hall {
         }
         match job.state() {
             State::Working | State::Failing => return Collected::Pending,
-            State::Ended => return Collected::Ended(self.jobs.take(tenant).into_outcome()),
+            State::Ended => {
+                let job = self.jobs.take(tenant);
+                self.marks.put(tenant, false);
+                return Collected::Ended(job.into_outcome());
+            }
             State::Failed => {
-                let _ = self.jobs.take(tenant).into_spec();
+                let job = self.jobs.take(tenant);
+                self.marks.put(tenant, false);
+                let _ = job.into_spec();
                 return Collected::Failed;
             }
         }
@@ -250,12 +243,7 @@ impl Hall {
         ensures some { IsTrue result → ¬ (NothingAnywhere self.now.jobs) }
         ensures none { result ≡ false → NothingAnywhere self.now.jobs }
     {
-        for tenant in 0..self.jobs.tenants() as u32 {
-            if self.has_claimable(tenant) {
-                return true;
-            }
-        }
-        false
+        self.marks.first_from(0).is_some()
     }
 
     /// How many tasks of the tenant are claimable.

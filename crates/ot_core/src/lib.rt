@@ -5,6 +5,7 @@ mod event;
 mod hall;
 mod held;
 mod live;
+mod marks;
 mod replies;
 mod tenant;
 mod world;

@@ -36,7 +36,7 @@ impl Jobs {
     ghost use Rattle.std.specs.Prelude.{◌≡◌, None, Some, IfOk, IfErr, IsSome, length, replicate, slice_set, slice_get, option_copied};
     ghost use Rattle.std.specs.Borrow.{sem};
     ghost use Rattle.ot_core.specs.Lending.{LendsJob};
-    ghost use Rattle.ot_core.specs.Index.{job_of, Begins};
+    ghost use Rattle.ot_core.specs.Index.{job_of, has_claimable, Begins};
 
     /// Nobody has a job.
     pub(crate) fn new(alloc: Global, tenants: u32) -> Result<Jobs, AllocError>
@@ -65,6 +65,16 @@ impl Jobs {
     {
         let key: Option<usize> = *self.keys.get(tenant as usize)?;
         self.slab.get(key?)
+    }
+
+    /// Whether the tenant has a claimable task.
+    pub(crate) fn has_claimable(&self, tenant: u32) -> bool
+        ensures { result ≡ has_claimable (job_of self.now tenant) }
+    {
+        match self.get(tenant) {
+            Some(job) => job.claimable() > 0,
+            None => false,
+        }
     }
 
     /// The tenant's job, for a change.
