@@ -3,11 +3,11 @@ use Rattle.std.proofs.Common.{◌≡◌, ◌≢◌, ◌<◌, ◌≤◌, ◌+◌,
 use Rattle.std.specs.Prelude.{Option, Some, None, is_some, option_map, slice_get, All, Result, Ok, Err, OnErr}
 use Rattle.std.proofs.lemmas.Bool.{cases_eq}
 use Rattle.std.proofs.lemmas.Option.{same_Some, slice_get_within, slice_get_cases}
-use Rattle.std.proofs.lemmas.List.{get_or-set_same, get_or-set_other, get_or_default, length-set, set-set, set-get_or}
+use Rattle.std.proofs.lemmas.List.{get_or-set_same, get_or-set_other, get_or_default, length-set, set-get_or}
 use Rattle.std.proofs.lemmas.List.Elements.{All-from_get_or}
 use Rattle.std.proofs.lemmas.List.Sums.{sum_by-le}
 use Rattle.ot_check.specs.Jobs.{Spec}
-use Rattle.ot_job.specs.Live.{Live, Seen, seen_of}
+use Rattle.ot_job.specs.Live.{Seen}
 use Rattle.ot_job.specs.DoneView.{done_of}
 use Rattle.ot_job.specs.Settling.{Came}
 use Rattle.ot_job.specs.States.{FailsBy, Fails as HasFailed}
@@ -19,12 +19,12 @@ use Rattle.ot_job.specs.declared.state.State.TheVariants as state
 use Rattle.ot_core.specs.Accounts.{Account, IsSound}
 use Rattle.ot_core.specs.Asking.{with_reply}
 use Rattle.ot_core.specs.Index.{job_of}
-use Rattle.ot_core.specs.Floors.{Floor, IsAsBefore, Claims, Settles, FailsIn, AbortsJob, IsWorking, IsStrange, NothingAt, HasJob, with_job, with_settled, units_of, total_of}
+use Rattle.ot_core.specs.Floors.{Floor, Claims, Settles, FailsIn, AbortsJob, IsWorking, IsStrange, NothingAt, HasJob, with_job, with_settled, units_of, total_of}
 use Rattle.ot_core.specs.Scenes.{Scene, IsScene, Pairs, Agrees, hand_of, held_work, out_at}
-use Rattle.ot_core.specs.Steps.{handed, moved, Takes, GivesBack, BreaksJob, SameScene, EndsJob, Stops, CannotReply, CannotStart, MayTake}
+use Rattle.ot_core.specs.Steps.{handed, moved, Takes, GivesBack, BreaksJob, EndsJob, Stops, CannotReply, CannotStart, MayTake}
 use Rattle.ot_core.specs.declared.held.Held.{Held}
 use Rattle.ot_core.proofs.AccountLemmas.{answered-≤}
-use Rattle.ot_core.proofs.FloorLemmas.{job-within, all-told}
+use Rattle.ot_core.proofs.FloorLemmas.{job-within}
 use Rattle.ot_core.proofs.HandLemmas.{OthersOut, held-taken, held-given}
 use Rattle.ot_core.proofs.SceneLemmas.{SameBut, but-none, but-set, job-set, scene-handed, scene-replied, agrees-same, agrees-job, held-same, out-but}
 
@@ -59,7 +59,7 @@ is-none (Some x) empty = absurd (true≢false empty)
 pub hand-free : (hands : List (Option Held)) (w : ℕ) (x : Option Held) → w < 16 → length hands ≡ 16 → x ≡ get_or hands w x → is_some x ≡ false → hand_of hands w ≡ None
 hand-free hands w x below many read empty = hand-read hands w x x None below many read refl (is-none x empty)
 
-others-out : (jobs : List (Option Live)) (t task : ℕ) (j k : Live) → job_of jobs t ≡ Some j → ((i : ℕ) → i ≢ task → work_at (seen_of k) i ≡ work_at (seen_of j) i)
+others-out : (jobs : List (Option Seen)) (t task : ℕ) (j k : Seen) → job_of jobs t ≡ Some j → ((i : ℕ) → i ≢ task → work_at k i ≡ work_at j i)
     → OthersOut jobs (set jobs t (Some k)) t task
 others-out jobs t task j k job others u i not = elim (cases_eq u t) [
   | inl here ↦
@@ -69,7 +69,7 @@ others-out jobs t task j k job others u i not = elim (cases_eq u t) [
 ]
 
 -- of the tenant with this job
-was : (s : Scene) (t : ℕ) (j : Live) (a : Account) → IsScene s → job_of s.floor.jobs t ≡ Some j → slice_get s.accounts t ≡ Some a → Agrees a (Some j) (units_of s.floor t)
+was : (s : Scene) (t : ℕ) (j : Seen) (a : Account) → IsScene s → job_of s.floor.jobs t ≡ Some j → slice_get s.accounts t ≡ Some a → Agrees a (Some j) (units_of s.floor t)
 was s t j a scene job at = subst (λ o. Agrees a o (units_of s.floor t)) job (scene.each t a at)
 
 -- ---- a worker takes a piece
@@ -98,8 +98,8 @@ taken s now w t pick task piece floor hand is scene below free claims task_is ha
     (scene-taken s w t pick piece floor scene below free claims, subst (λ o. Takes o w t pick task (handed s floor w (Some h))) is does)
 
 -- a tenant's job goes on with the same pieces out
-scene-goes_on : (s : Scene) (t : ℕ) (j k : Live) → IsScene s → job_of s.floor.jobs t ≡ Some j → SameSpec (seen_of j) (seen_of k) → settled_units (seen_of k) ≡ settled_units (seen_of j)
-    → ((i : ℕ) → work_at (seen_of k) i ≡ work_at (seen_of j) i) → IsScene (record { accounts = s.accounts; floor = with_job s.floor t (Some k); hands = s.hands })
+scene-goes_on : (s : Scene) (t : ℕ) (j k : Seen) → IsScene s → job_of s.floor.jobs t ≡ Some j → SameSpec j k → settled_units k ≡ settled_units j
+    → ((i : ℕ) → work_at k i ≡ work_at j i) → IsScene (record { accounts = s.accounts; floor = with_job s.floor t (Some k); hands = s.hands })
 scene-goes_on s t j k scene job same units works =
     let mine = job-set s.floor.jobs t (Some k) (job-within s.floor.jobs t j job) in
     scene-handed s t (with_job s.floor t (Some k)) s.hands scene (but-set s.floor.jobs t (Some k)) (but-none s.floor.units t)
@@ -108,19 +108,12 @@ scene-goes_on s t j k scene job same units works =
     (held-same s.floor.jobs (set s.floor.jobs t (Some k)) s.hands
     (out-but s.floor.jobs (set s.floor.jobs t (Some k)) t (but-set s.floor.jobs t (Some k)) (λ i. ap (λ o. out_at o i) mine ∙ works i ∙ sym (ap (λ o. out_at o i) job))) scene.held)
 
--- nothing has changed but what a job reserves
-pub as-before : (s now : Scene) (t : ℕ) (floor : Floor) → s ≡ now → IsScene s → IsAsBefore s.floor t floor
-    → IsScene (record { accounts = s.accounts; floor = floor; hands = s.hands }) × SameScene now (record { accounts = s.accounts; floor = floor; hands = s.hands })
-as-before s now t floor is scene before =
-    let same : SameScene s (record { accounts = s.accounts; floor = floor; hands = s.hands }) = record { accounts = refl; floor = all-told s.floor floor t before; hands = refl } in (
-      elim before [
-        | inl one ↦ subst (λ f. IsScene (record { accounts = s.accounts; floor = f; hands = s.hands })) (sym one) scene
-        | inr r ↦ subst (λ f. IsScene (record { accounts = s.accounts; floor = f; hands = s.hands })) (sym r.new_is)
-            (scene-goes_on s t r.job r.next scene r.is (record { program = ap (λ (x : Seen). x.program) r.told; before = ap (λ (x : Seen). x.before) r.told })
-            (ap settled_units r.told) (λ i. ap (λ x. work_at x i) r.told))
-      ],
-      subst (λ o. SameScene o (record { accounts = s.accounts; floor = floor; hands = s.hands })) is same,
-    )
+-- nothing has changed
+pub as-before : (s now : Scene) (floor : Floor) → s ≡ now → IsScene s → floor ≡ s.floor
+    → IsScene (record { accounts = s.accounts; floor = floor; hands = s.hands }) × (record { accounts = s.accounts; floor = floor; hands = s.hands } ≡ now)
+as-before s now floor is scene same =
+    let one : record { accounts = s.accounts; floor = floor; hands = s.hands } ≡ s = ap (λ f. let r : Scene = record { accounts = s.accounts; floor = f; hands = s.hands } in r) same in
+    (subst IsScene (sym one) scene, one ∙ is)
 
 -- a job fails
 pub stopped : (s now : Scene) (t : ℕ) (floor : Floor) → s ≡ now → IsScene s → IsWorking s.floor t → AbortsJob s.floor t floor
@@ -136,15 +129,15 @@ stopped s now t floor is scene working stops =
 
 -- the piece in a hand runs in its tenant's job
 pub held-runs : (s : Scene) (w : ℕ) (h : Held) → IsScene s → hand_of s.hands w ≡ Some h
-    → (j : Live) × (job_of s.floor.jobs h.tenant ≡ Some j) × (work_at (seen_of j) h.piece.task ≡ Some (held_work h))
+    → (j : Seen) × (job_of s.floor.jobs h.tenant ≡ Some j) × (work_at j h.piece.task ≡ Some (held_work h))
 held-runs s w h scene mine = runs (job_of s.floor.jobs h.tenant) (scene.held.out w h mine)
   where
-    runs : (o : Option Live) → out_at o h.piece.task ≡ Some (held_work h) → (j : Live) × (o ≡ Some j) × (work_at (seen_of j) h.piece.task ≡ Some (held_work h))
+    runs : (o : Option Seen) → out_at o h.piece.task ≡ Some (held_work h) → (j : Seen) × (o ≡ Some j) × (work_at j h.piece.task ≡ Some (held_work h))
     runs None out = absurd (true≢false (sym (ap is_some out)))
     runs (Some j) out = (j, refl, out)
 
-scene-given : (s : Scene) (w : ℕ) (h : Held) (j k : Live) (units : List ℕ) → IsScene s → w < 16 → hand_of s.hands w ≡ Some h → job_of s.floor.jobs h.tenant ≡ Some j
-    → Returns (seen_of j) h.piece.task (held_work h) (seen_of k) → SameBut s.floor.units h.tenant units
+scene-given : (s : Scene) (w : ℕ) (h : Held) (j k : Seen) (units : List ℕ) → IsScene s → w < 16 → hand_of s.hands w ≡ Some h → job_of s.floor.jobs h.tenant ≡ Some j
+    → Returns j h.piece.task (held_work h) k → SameBut s.floor.units h.tenant units
     → ((a : Account) → slice_get s.accounts h.tenant ≡ Some a → Agrees a (Some k) (get_or units h.tenant 0))
     → IsScene (handed s (record { jobs = set s.floor.jobs h.tenant (Some k); units = units }) w None)
 scene-given s w h j k units scene below mine job returns but agrees =
@@ -172,7 +165,7 @@ given s now w h done n floor hand is scene below mine task ran does gone =
     let k = does.next in
     let more = units_of s.floor t + n in
     let right : IsScene (handed s (with_settled s.floor t k n) w None) =
-    scene-given s w h j k (set s.floor.units t more) scene below mine does.is (returned (seen_of j) (seen_of k) done h task ran does.pays.returns) (but-set s.floor.units t more)
+    scene-given s w h j k (set s.floor.units t more) scene below mine does.is (returned j k done h task ran does.pays.returns) (but-set s.floor.units t more)
     (λ a at. subst (Agrees a (Some k)) (sym (get_or-set_same s.floor.units t more 0 (omega (arith, slice_get_within s.accounts t a at, scene.units_many))))
     (agrees-job a j k (units_of s.floor t) n (was s t j a scene does.is at) does.pays.returns.same does.pays.units does.pays.few)) in
     let back : GivesBack s w (λ f t d g. Settles f t d n g) (handed s floor w None) =
@@ -187,55 +180,32 @@ fails-by old new d failed breaks = elim failed [
   | inr not ↦ absurd (true≢false (ap is_some (sym breaks.returns.was ∙ ap (λ j. work_at j d.task) (sym not.1) ∙ breaks.returns.free)))
 ]
 
-breaks-of : (f : Floor) (t : ℕ) (done back : Done) (j : Live) (floor : Floor) → job_of f.jobs t ≡ Some j → work_at (seen_of j) (done_of done).task ≡ Some (brought (done_of done))
+breaks-of : (f : Floor) (t : ℕ) (done back : Done) (j : Seen) (floor : Floor) → job_of f.jobs t ≡ Some j → work_at j (done_of done).task ≡ Some (brought (done_of done))
     → done_of back ≡ done_of done → FailsIn f t back (job_of f.jobs t) floor → BreaksJob f t done floor
 breaks-of f t done back j floor job out same fails =
     let does = subst (λ o. FailsIn f t back o floor) job fails in
-    let broke = (subst (λ d. Fails (seen_of j) d (seen_of does.next)) same does.fails).own out in record {
+    let broke = (subst (λ d. Fails j d does.next) same does.fails).own out in record {
       job = j;
       is = job;
       next = does.next;
       breaks = broke;
-      failed = fails-by (seen_of j) (seen_of does.next) (done_of done) (subst (λ d. HasFailed (seen_of j) d (seen_of does.next)) same does.failed) broke;
+      failed = fails-by j does.next (done_of done) (subst (λ d. HasFailed j d does.next) same does.failed) broke;
       new_is = does.new_is;
     }
 
--- a piece that a settle refused fails its job
-breaks-again : (f mid : Floor) (t : ℕ) (done back : Done) (j : Live) (floor : Floor) → job_of f.jobs t ≡ Some j → work_at (seen_of j) (done_of done).task ≡ Some (brought (done_of done))
-    → IsAsBefore f t mid → done_of back ≡ done_of done → FailsIn mid t back (job_of mid.jobs t) floor → BreaksJob f t done floor
-breaks-again f mid t done back j floor job out before same fails = elim before [
-  | inl one ↦ breaks-of f t done back j floor job out same (subst (λ (g : Floor). FailsIn g t back (job_of g.jobs t) floor) one fails)
-  | inr r ↦
-      let g = with_job f t (Some r.next) in
-      let is_job : r.job ≡ j = same_Some r.job j (sym r.is ∙ job) in
-      let told : seen_of r.next ≡ seen_of j = r.told ∙ ap seen_of is_job in
-      let does : BreaksJob g t done floor =
-      breaks-of g t done back r.next floor (job-set f.jobs t (Some r.next) (job-within f.jobs t j job)) (ap (λ x. work_at x (done_of done).task) told ∙ out) same
-      (subst (λ (m : Floor). FailsIn m t back (job_of m.jobs t) floor) r.new_is fails) in
-      let again : does.job ≡ r.next = same_Some does.job r.next (sym does.is ∙ job-set f.jobs t (Some r.next) (job-within f.jobs t j job)) in
-      record {
-        job = j;
-        is = job;
-        next = does.next;
-        breaks = subst (λ x. Breaks x (done_of done) (seen_of does.next)) (ap seen_of again ∙ told) does.breaks;
-        failed = subst (λ x. FailsBy x (done_of done) (seen_of does.next)) (ap seen_of again ∙ told) does.failed;
-        new_is = does.new_is ∙ ap (λ js. let x : Floor = record { jobs = js; units = f.units } in x) (set-set f.jobs t (Some r.next) (Some does.next));
-      }
-]
-
 pub broken : (s now : Scene) (w : ℕ) (h : Held) (done back : Done) (mid floor : Floor) (hand : Option Held) → s ≡ now → IsScene s → w < 16 → hand_of s.hands w ≡ Some h
-    → done.task ≡ h.piece.task → brought (done_of done) ≡ held_work h → IsAsBefore s.floor h.tenant mid → done_of back ≡ done_of done
+    → done.task ≡ h.piece.task → brought (done_of done) ≡ held_work h → mid ≡ s.floor → done_of back ≡ done_of done
     → FailsIn mid h.tenant back (job_of mid.jobs h.tenant) floor → hand ≡ None
     → IsScene (handed s floor w hand) × GivesBack now w BreaksJob (handed s floor w hand)
 broken s now w h done back mid floor hand is scene below mine task ran before same fails gone =
     let t = h.tenant in
     let runs = held-runs s w h scene mine in
-    let out : work_at (seen_of runs.0) (done_of done).task ≡ Some (brought (done_of done)) = ap (work_at (seen_of runs.0)) task ∙ runs.2 ∙ ap Some (sym ran) in
-    let does : BreaksJob s.floor t done floor = breaks-again s.floor mid t done back runs.0 floor runs.1 out before same fails in
+    let out : work_at runs.0 (done_of done).task ≡ Some (brought (done_of done)) = ap (work_at runs.0) task ∙ runs.2 ∙ ap Some (sym ran) in
+    let does : BreaksJob s.floor t done floor = breaks-of s.floor t done back runs.0 floor runs.1 out same (subst (λ (g : Floor). FailsIn g t back (job_of g.jobs t) floor) before fails) in
     let j = does.job in
     let k = does.next in
     let right : IsScene (handed s (with_job s.floor t (Some k)) w None) =
-    scene-given s w h j k s.floor.units scene below mine does.is (returned (seen_of j) (seen_of k) done h task ran does.breaks.returns) (but-none s.floor.units t)
+    scene-given s w h j k s.floor.units scene below mine does.is (returned j k done h task ran does.breaks.returns) (but-none s.floor.units t)
     (λ a at. agrees-same a j k (units_of s.floor t) (was s t j a scene does.is at) does.breaks.returns.same does.breaks.units) in
     let gives : GivesBack s w BreaksJob (handed s floor w None) =
     record { held = h; is = mine; done = done; task_is = task; ran = ran; floor = floor; does_so = does; new_is = refl } in
@@ -245,8 +215,8 @@ broken s now w h done back mid floor hand is scene below mine task ran before sa
 -- ---- a tenant is told what its job came to
 
 pub ended : (s now : Scene) (t : ℕ) (a b : Account) (spec : Spec) (lost : Bool) (floor : Floor) → s ≡ now → IsScene s → slice_get s.accounts t ≡ Some a → (has : HasJob s.floor t spec)
-    → ((lost ≡ false) × (state_of (seen_of has.job) ≡ state.Ended)) ⊎ ((lost ≡ true) × (state_of (seen_of has.job) ≡ state.Failed))
-    → NoneOut (seen_of has.job) → b ≡ with_reply a lost → IsSound b → floor ≡ with_job s.floor t None
+    → ((lost ≡ false) × (state_of has.job ≡ state.Ended)) ⊎ ((lost ≡ true) × (state_of has.job ≡ state.Failed))
+    → NoneOut has.job → b ≡ with_reply a lost → IsSound b → floor ≡ with_job s.floor t None
     → IsScene (moved s t b floor) × EndsJob now t (moved s t b floor)
 ended s now t a b spec lost floor is scene at has over calm replied sound left =
     let right : IsScene (moved s t b (with_job s.floor t None)) =
@@ -266,11 +236,11 @@ ended s now t a b spec lost floor is scene at has over calm replied sound left =
 pub never-strange : (s : Scene) (t : ℕ) (a : Account) (spec : Spec) → IsScene s → slice_get s.accounts t ≡ Some a → a.spec ≡ Some spec → IsStrange s.floor t spec → ⊥
 never-strange s t a spec scene at open_for strange = none (job_of s.floor.jobs t) refl (subst (λ o. Pairs o (job_of s.floor.jobs t)) open_for (scene.each t a at).pairs)
   where
-    none : (o : Option Live) → job_of s.floor.jobs t ≡ o → Pairs (Some spec) o → ⊥
+    none : (o : Option Seen) → job_of s.floor.jobs t ≡ o → Pairs (Some spec) o → ⊥
     none None is pairs = pairs
     none (Some j) is pairs = strange j is pairs
 
-pub cannot-reply : (s now : Scene) (t : ℕ) (o : Option Live) → s ≡ now → job_of s.floor.jobs t ≡ o → CannotReply o → CannotReply (job_of now.floor.jobs t)
+pub cannot-reply : (s now : Scene) (t : ℕ) (o : Option Seen) → s ≡ now → job_of s.floor.jobs t ≡ o → CannotReply o → CannotReply (job_of now.floor.jobs t)
 cannot-reply s now t o is job not = subst (λ (r : Scene). CannotReply (job_of r.floor.jobs t)) is (subst CannotReply (sym job) not)
 
 -- what was read is written again
@@ -283,12 +253,12 @@ pub written-again : (s now : Scene) (t : ℕ) (a b : Account) → s ≡ now → 
 written-again s now t a b is read same = ap (λ o. moved s t o s.floor) same ∙ read-again s now t a is read
 
 -- a job whose state was read works
-pub working-of : (f : Floor) (t : ℕ) (s : State) → Some s ≡ option_map (λ j. state_of (seen_of j)) (job_of f.jobs t) → s ≡ state.Working → IsWorking f t
+pub working-of : (f : Floor) (t : ℕ) (s : State) → Some s ≡ option_map (λ j. state_of j) (job_of f.jobs t) → s ≡ state.Working → IsWorking f t
 working-of f t s read is = works (job_of f.jobs t) refl (ap Some (sym is) ∙ read)
   where
-    works : (o : Option Live) → job_of f.jobs t ≡ o → Some state.Working ≡ option_map (λ j. state_of (seen_of j)) o → IsWorking f t
+    works : (o : Option Seen) → job_of f.jobs t ≡ o → Some state.Working ≡ option_map (λ j. state_of j) o → IsWorking f t
     works None job said = absurd (true≢false (ap is_some said))
-    works (Some j) job said = record { job = j; is = job; working = sym (same_Some state.Working (state_of (seen_of j)) said) }
+    works (Some j) job said = record { job = j; is = job; working = sym (same_Some state.Working (state_of j) said) }
 
 pub cannot-start : (s now : Scene) (w t : ℕ) → s ≡ now → NothingAt s.floor.jobs t → CannotStart now w t
 cannot-start s now w t is none = subst (λ o. CannotStart o w t) is (inr none)

@@ -1,20 +1,17 @@
 -- Where memory ran out at an event.
-use Rattle.std.proofs.Common.{◌≡◌, ℕ, refl, sym, subst}
+use Rattle.std.proofs.Common.{◌≡◌, ℕ, subst}
 use Rattle.std.specs.Prelude.{Result, Some, OnErr}
 use Rattle.std.proofs.lemmas.Result.{on_err_weaker}
 use Rattle.ot_core.specs.Scenes.{Scene, seat_of}
-use Rattle.ot_core.specs.Steps.{SameScene, MayTake, MayRunOut, RunsOut}
+use Rattle.ot_core.specs.Steps.{MayTake, MayRunOut, RunsOut}
 use Rattle.ot_core.specs.declared.event.Event.{Event}
 use Rattle.ot_core.specs.declared.event.Event.TheVariants as event
 
-same-scene : (old new : Scene) → new ≡ old → SameScene old new
-same-scene old new is = subst (SameScene old) (sym is) (record { accounts = refl; floor = record { jobs = refl; units = refl }; hands = refl })
-
 -- an Admit or an Open that changed nothing
 pub out-unchanged : {T E : Type 0} (e : Event) (old new : Scene) (r : Result T E) → OnErr r (MayRunOut old e × (new ≡ old)) → OnErr r (RunsOut old e new)
-out-unchanged e old new r = on_err_weaker r (λ out. record { may = out.0; same = same-scene old new out.1 })
+out-unchanged e old new r = on_err_weaker r (λ out. record { may = out.0; same = out.1 })
 
 -- a Start
-pub out-start : {T E : Type 0} (x hand t pick : ℕ) (old new : Scene) (r : Result T E) → Some hand ≡ seat_of x → OnErr r (MayTake old (Some hand) t × SameScene old new)
+pub out-start : {T E : Type 0} (x hand t pick : ℕ) (old new : Scene) (r : Result T E) → Some hand ≡ seat_of x → OnErr r (MayTake old (Some hand) t × (new ≡ old))
     → OnErr r (RunsOut old (event.Start x t pick) new)
 out-start x hand t pick old new r seat = on_err_weaker r (λ out. record { may = subst (λ o. MayTake old o t) seat out.0; same = out.1 })

@@ -2,16 +2,15 @@
 use Rattle.std.proofs.Common.{◌≡◌, ◌≢◌, ◌+◌, inl, inr, ℕ, List, length, set, refl, sym, ap, ◌∙◌, subst, arith}
 use Rattle.std.proofs.lemmas.Bool.{cases_eq, cases_lt}
 use Rattle.std.proofs.lemmas.Bool.Decides.{nat_tests}
-use Rattle.std.specs.Prelude.{◌==◌, Option, Some, None, Result, Ok, Err, IfOk, OnOk, slice_get, slice_index_or, option_map, if◌then◌else◌, false}
-use Rattle.std.proofs.Math.ListN.{get_or-map}
+use Rattle.std.specs.Prelude.{◌==◌, Option, Some, None, Result, Ok, Err, IfOk, OnOk, slice_get, option_map, if◌then◌else◌, false}
 use Rattle.std.proofs.lemmas.List.{get_or-set_same, get_or-set_other, get_or_past, length-set}
-use Rattle.ot_job.specs.Live.{Live, Seen, seen_of}
+use Rattle.ot_job.specs.Live.{Seen}
 use Rattle.ot_job.specs.declared.piece.Done.{Done}
 use Rattle.ot_core.specs.Accounts.{Account}
 use Rattle.ot_core.specs.Index.{job_of}
 use Rattle.ot_core.specs.Floors.{Floor, with_job, with_settled, units_of, Settles}
 use Rattle.ot_core.specs.Scenes.{Scene, hand_of, seat_of}
-use Rattle.ot_core.specs.Steps.{moved, handed, Admits, Opens, Starts, Finishes, RepliesTo, Aborts, GivesBack, BreaksJob, Steps, SameScene, IsAsItWas, LeavesOthers, of_tenant, holder}
+use Rattle.ot_core.specs.Steps.{moved, handed, Admits, Opens, Starts, Finishes, RepliesTo, Aborts, GivesBack, BreaksJob, Steps, IsAsItWas, LeavesOthers, of_tenant, holder}
 use Rattle.ot_core.specs.declared.held.Held.{Held}
 use Rattle.ot_core.specs.declared.event.Event.{Event}
 use Rattle.ot_core.specs.declared.event.Event.TheVariants as event
@@ -27,35 +26,24 @@ pub record FloorBut (f : Floor) (t : ℕ) (g : Floor) : Type 0 where
 same-floor : (f : Floor) (t : ℕ) → FloorBut f t f
 same-floor f t = record { jobs = but-none f.jobs t; units = but-none f.units t }
 
-job-floor : (f g : Floor) (t : ℕ) (job : Option Live) → g ≡ with_job f t job → FloorBut f t g
+job-floor : (f g : Floor) (t : ℕ) (job : Option Seen) → g ≡ with_job f t job → FloorBut f t g
 job-floor f g t job is = subst (FloorBut f t) (sym is) (record { jobs = but-set f.jobs t job; units = but-none f.units t })
 
-settled-floor : (f g : Floor) (t : ℕ) (job : Live) (n : ℕ) → g ≡ with_settled f t job n → FloorBut f t g
+settled-floor : (f g : Floor) (t : ℕ) (job : Seen) (n : ℕ) → g ≡ with_settled f t job n → FloorBut f t g
 settled-floor f g t job n is = subst (FloorBut f t) (sym is) (record { jobs = but-set f.jobs t (Some job); units = but-set f.units t (units_of f t + n) })
 
 same : (u : ℕ) (old new : Scene) → new ≡ old → IsAsItWas u old new
 same u old new is = record {
   account = ap (λ (s : Scene). slice_get s.accounts u) is;
-  job = ap (λ (s : Scene). option_map seen_of (job_of s.floor.jobs u)) is;
+  job = ap (λ (s : Scene). job_of s.floor.jobs u) is;
   units = ap (λ (s : Scene). units_of s.floor u) is;
   hands = λ w. ap (λ (s : Scene). of_tenant u (hand_of s.hands w)) is;
 }
 
-told-same : (u : ℕ) (old new : Scene) → SameScene old new → IsAsItWas u old new
-told-same u old new is = record {
-  account = ap (λ l. slice_get l u) is.accounts;
-  job = sym (get_or-map (option_map seen_of) new.floor.jobs u None) ∙ ap (λ l. job_told l u) is.floor.jobs ∙ get_or-map (option_map seen_of) old.floor.jobs u None;
-  units = ap (λ l. slice_index_or l u 0) is.floor.units;
-  hands = λ w. ap (λ hs. of_tenant u (hand_of hs w)) is.hands;
-}
-  where
-    job_told : List (Option Seen) → ℕ → Option Seen
-    job_told l u = slice_index_or l u None
-
 by-moved : (u t : ℕ) (old new : Scene) (b : Account) (floor : Floor) → u ≢ t → FloorBut old.floor t floor → new ≡ moved old t b floor → IsAsItWas u old new
 by-moved u t old new b floor other but is = subst (IsAsItWas u old) (sym is) (record {
   account = slice_get-set_other old.accounts t u b other;
-  job = ap (option_map seen_of) (but-read old.floor.jobs floor.jobs t None u but.jobs other);
+  job = but-read old.floor.jobs floor.jobs t None u but.jobs other;
   units = but-read old.floor.units floor.units t 0 u but.units other;
   hands = λ w. refl;
 })
@@ -82,7 +70,7 @@ by-handed : (u t w : ℕ) (old new : Scene) (floor : Floor) (hand : Option Held)
     → new ≡ handed old floor w hand → IsAsItWas u old new
 by-handed u t w old new floor hand other but was now is = subst (IsAsItWas u old) (sym is) (record {
   account = refl;
-  job = ap (option_map seen_of) (but-read old.floor.jobs floor.jobs t None u but.jobs other);
+  job = but-read old.floor.jobs floor.jobs t None u but.jobs other;
   units = but-read old.floor.units floor.units t 0 u but.units other;
   hands = λ v. hand-other u w v old.hands hand was now;
 })
@@ -90,7 +78,7 @@ by-handed u t w old new floor hand other but was now is = subst (IsAsItWas u old
 by-floor : (u t : ℕ) (old new : Scene) (floor : Floor) → u ≢ t → FloorBut old.floor t floor → new ≡ record old { floor = floor } → IsAsItWas u old new
 by-floor u t old new floor other but is = subst (IsAsItWas u old) (sym is) (record {
   account = refl;
-  job = ap (option_map seen_of) (but-read old.floor.jobs floor.jobs t None u but.jobs other);
+  job = but-read old.floor.jobs floor.jobs t None u but.jobs other;
   units = but-read old.floor.units floor.units t 0 u but.units other;
   hands = λ v. refl;
 })
@@ -122,7 +110,7 @@ others-start : (w : Option ℕ) (t pick : ℕ) (old new : Scene) (stepped : Step
 others-start None t pick old new stepped did = λ u not. same u old new did.1
 others-start (Some w) t pick old new (Started k) did = λ u not.
     by-handed u t w old new did.floor _ not (job-floor old.floor did.floor t (Some did.claims.next) did.claims.new_is) (ap (of_tenant u) did.free) (not_own u _ not) did.new_is
-others-start (Some w) t pick old new NotNow did = λ u not. told-same u old new did.1
+others-start (Some w) t pick old new NotNow did = λ u not. same u old new did.1
 others-start (Some w) t pick old new other did = absurd did
 
 others-finish : (w : Option ℕ) (old new : Scene) (stepped : Stepped) → Finishes old w stepped new → (u : ℕ) → Some u ≢ holder w old.hands → IsAsItWas u old new

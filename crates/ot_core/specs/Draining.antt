@@ -2,7 +2,7 @@
 use Rattle.std.specs.Prelude.{◌≡◌, ◌<◌, ◌+◌, ◌*◌, ℕ, zero, suc, nat_lt, if◌then◌else◌, List, length, All, Option, Some, None, IsSome, slice_get}
 use Rattle.std.specs.List.{sum_by}
 use Rattle.ot_check.specs.Jobs.{Spec}
-use Rattle.ot_job.specs.Live.{Live, Seen, seen_of}
+use Rattle.ot_job.specs.Live.{Seen}
 use Rattle.ot_job.specs.States.{claimable_in}
 use Rattle.ot_job.specs.Dealings.{NoneOut, state_of}
 use Rattle.ot_job.specs.declared.state.State.{State}
@@ -35,13 +35,13 @@ over_by Failing = 0
 over_by Ended = 1
 over_by Failed = 1
 
-abbrev pub over_of : Option Live → ℕ
+abbrev pub over_of : Option Seen → ℕ
 over_of None = 0
-over_of (Some j) = over_by (state_of (seen_of j))
+over_of (Some j) = over_by (state_of j)
 
-abbrev pub claimable_of : Option Live → ℕ
+abbrev pub claimable_of : Option Seen → ℕ
 claimable_of None = 0
-claimable_of (Some j) = length (claimable_in (seen_of j))
+claimable_of (Some j) = length (claimable_in j)
 
 -- of a tenant: its next line, its job's end, and each claimable task for each free hand
 abbrev pub moves_at : Scene → ℕ → ℕ
@@ -89,9 +89,9 @@ pub record IsLively (j : Seen) : Type 0 where
   pub works : state_of j ≡ Working → NoneOut j → 0 < length (claimable_in j)
   pub fails : state_of j ≡ Failing → NoneOut j → ⊥
 
-abbrev pub LivelyAt : Option Live → Type 0
+abbrev pub LivelyAt : Option Seen → Type 0
 LivelyAt None = Unit {0}
-LivelyAt (Some j) = IsLively (seen_of j)
+LivelyAt (Some j) = IsLively j
 
 -- ---- what drain does
 

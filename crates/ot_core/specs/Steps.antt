@@ -1,7 +1,7 @@
 -- What each event does.
 use Rattle.std.specs.Prelude.{◌≡◌, ◌≢◌, ◌==◌, if◌then◌else◌, ◌⊎◌, ℕ, List, option_map, IsSome, Bool, true, false, Option, Some, None, slice_get, slice_set}
 use Rattle.ot_check.specs.Jobs.{Spec}
-use Rattle.ot_job.specs.Live.{Live, seen_of}
+use Rattle.ot_job.specs.Live.{Seen}
 use Rattle.ot_job.specs.DoneView.{done_of}
 use Rattle.ot_job.specs.States.{FailsBy}
 use Rattle.ot_job.specs.Dealings.{Breaks, brought, state_of}
@@ -12,7 +12,7 @@ use Rattle.ot_core.specs.Accounts.{Account}
 use Rattle.ot_core.specs.Asking as asking
 use Rattle.ot_core.specs.Asking.{IsFull, MayAsk, IsUnopened, IsAnswered, Waits, with_reply}
 use Rattle.ot_core.specs.Index.{job_of}
-use Rattle.ot_core.specs.Floors.{Floor, units_of, with_job, SameTold, Submits, NothingAt, Claims, IsWorking, Settles, AbortsJob}
+use Rattle.ot_core.specs.Floors.{Floor, units_of, with_job, Submits, NothingAt, Claims, IsWorking, Settles, AbortsJob}
 use Rattle.ot_core.specs.Scenes.{Scene, hand_of, held_work, seat_of}
 use Rattle.ot_core.specs.declared.held.Held.{Held}
 use Rattle.ot_core.specs.declared.event.Stepped.{Stepped}
@@ -27,12 +27,6 @@ moved s t a floor = record { accounts = slice_set s.accounts t a; floor = floor;
 -- the world with another thing in one hand, and this floor
 abbrev pub handed : Scene → Floor → ℕ → Option Held → Scene
 handed s floor w hand = record { accounts = s.accounts; floor = floor; hands = slice_set s.hands w hand }
-
--- the same, as it is told
-pub record SameScene (old new : Scene) : Type 0 where
-  pub accounts : new.accounts ≡ old.accounts
-  pub floor : SameTold old.floor new.floor
-  pub hands : new.hands ≡ old.hands
 
 -- ---- a tenant asks a line
 
@@ -94,18 +88,18 @@ CannotStart s w t = IsSome (hand_of s.hands w) ⊎ NothingAt s.floor.jobs t
 abbrev pub Starts : Scene → Option ℕ → ℕ → ℕ → Stepped → Scene → Type 0
 Starts old None t pick stepped new = (stepped ≡ NotNow) × (new ≡ old)
 Starts old (Some w) t pick (Started k) new = Takes old w t pick k new
-Starts old (Some w) t pick NotNow new = CannotStart old w t × SameScene old new
+Starts old (Some w) t pick NotNow new = CannotStart old w t × (new ≡ old)
 Starts old (Some w) t pick other new = ⊥
 
 -- ---- a worker has run its piece
 
 -- the hand's piece fails its job
 pub record BreaksJob (old : Floor) (t : ℕ) (done : Done) (new : Floor) : Type 0 where
-  pub job : Live
+  pub job : Seen
   pub is : job_of old.jobs t ≡ Some job
-  pub next : Live
-  pub breaks : Breaks (seen_of job) (done_of done) (seen_of next)
-  pub failed : FailsBy (seen_of job) (done_of done) (seen_of next)
+  pub next : Seen
+  pub breaks : Breaks job (done_of done) next
+  pub failed : FailsBy job (done_of done) next
   pub new_is : new ≡ with_job old t (Some next)
 
 -- the hand gives its piece back, which was run: it is settled, or the job fails
@@ -132,16 +126,16 @@ Finishes old (Some w) other new = ⊥
 pub record EndsJob (old : Scene) (t : ℕ) (new : Scene) : Type 0 where
   pub account : Account
   pub is : slice_get old.accounts t ≡ Some account
-  pub job : Live
+  pub job : Seen
   pub job_is : job_of old.floor.jobs t ≡ Some job
   pub lost : Bool
-  pub over : ((lost ≡ false) × (state_of (seen_of job) ≡ state.Ended)) ⊎ ((lost ≡ true) × (state_of (seen_of job) ≡ state.Failed))
+  pub over : ((lost ≡ false) × (state_of job ≡ state.Ended)) ⊎ ((lost ≡ true) × (state_of job ≡ state.Failed))
   pub new_is : new ≡ moved old t (with_reply account lost) (with_job old.floor t None)
 
 -- no job of the tenant is over
-abbrev pub CannotReply : Option Live → Type 0
+abbrev pub CannotReply : Option Seen → Type 0
 CannotReply None = Unit {0}
-CannotReply (Some j) = (state_of (seen_of j) ≡ state.Working) ⊎ (state_of (seen_of j) ≡ state.Failing)
+CannotReply (Some j) = (state_of j ≡ state.Working) ⊎ (state_of j ≡ state.Failing)
 
 abbrev pub RepliesTo : Scene → ℕ → Stepped → Scene → Type 0
 RepliesTo old t NotNow new = CannotReply (job_of old.floor.jobs t) × (new ≡ old)
@@ -190,7 +184,7 @@ MayRunOut s other = ⊥
 -- memory ran out at this event, and nothing has changed
 pub record RunsOut (old : Scene) (e : Event) (new : Scene) : Type 0 where
   pub may : MayRunOut old e
-  pub same : SameScene old new
+  pub same : new ≡ old
 
 -- ---- the other tenants
 
@@ -216,7 +210,7 @@ of_tenant t (Some h) = if h.tenant == t then Some h else None
 -- the tenant's book, lines, replies, job, units and pieces in hands are as they were
 pub record IsAsItWas (t : ℕ) (old new : Scene) : Type 0 where
   pub account : slice_get new.accounts t ≡ slice_get old.accounts t
-  pub job : option_map seen_of (job_of new.floor.jobs t) ≡ option_map seen_of (job_of old.floor.jobs t)
+  pub job : job_of new.floor.jobs t ≡ job_of old.floor.jobs t
   pub units : units_of new.floor t ≡ units_of old.floor t
   pub hands : (w : ℕ) → of_tenant t (hand_of new.hands w) ≡ of_tenant t (hand_of old.hands w)
 

@@ -1,7 +1,7 @@
 -- How much is left to do in a world.
 use Rattle.std.specs.Prelude.{ℕ, ◌+◌, ◌*◌, ◌-◌, length, Option, Some, None}
 use Rattle.std.specs.List.{sum_by}
-use Rattle.ot_job.specs.Live.{Live, Seen, seen_of}
+use Rattle.ot_job.specs.Live.{Seen}
 use Rattle.ot_job.specs.Dealings.{state_of, weight_of, out_of}
 use Rattle.ot_job.specs.declared.state.State.{State}
 use Rattle.ot_job.specs.declared.state.State.TheVariants.{Working, Failing, Ended, Failed}
@@ -16,9 +16,9 @@ toil_by Ended j = 1
 toil_by Failed j = 1
 
 -- of a job: its weight while it works, then its pieces that are out
-abbrev pub toil_of : Option Live → ℕ
+abbrev pub toil_of : Option Seen → ℕ
 toil_of None = 0
-toil_of (Some j) = toil_by (state_of (seen_of j)) (seen_of j)
+toil_of (Some j) = toil_by (state_of j) j
 
 abbrev pub one_if : {X : Type 0} → Option X → ℕ
 one_if None = 0

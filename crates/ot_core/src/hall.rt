@@ -47,13 +47,12 @@ pub enum Collected {
 
 impl Model for Hall {
     ghost use Rattle.std.specs.Coded.{codes};
-    ghost use Rattle.ot_check.specs.contracts.checked.Checked as c;
-    ghost use Rattle.ot_task.specs.contracts.task.Task as t;
+    ghost use Rattle.ot_model.specs.Code.{value_code, body_code};
     ghost use Rattle.ot_core.specs.Floors.{Floor};
 
     ghost Value = { Floor };
 
-    ghost coded = { Prim.hlevel (codes, c.the_row.coded, t.the_row.coded) };
+    ghost coded = { Prim.hlevel (codes, value_code, body_code) };
 
     ghost use Rattle.ot_core.specs.FloorView.{floor_of, IsHall};
 
@@ -64,12 +63,11 @@ impl Model for Hall {
 
 impl Hall {
     ghost use Rattle.std.specs.Prelude.{◌≡◌, ◌≢◌, ◌↔◌, ◌<◌, ◌≤◌, ◌+◌, ◌^◌, [], None, Some, IfOk, IfErr, OnErr, IsTrue, IsSome, false, length, option_map};
-    ghost use Rattle.ot_job.specs.Live.{seen_of};
     ghost use Rattle.ot_job.specs.States.{claimable_in};
     ghost use Rattle.ot_job.specs.DoneView.{done_of};
     ghost use Rattle.ot_job.specs.Dealings.{state_of};
     ghost use Rattle.ot_core.specs.Index.{job_of};
-    ghost use Rattle.ot_core.specs.Floors.{new_floor, units_of, total_of, IsFree, Submits, ClaimsOf, IsWorking, NothingAt, IsAsBefore, Settles, RefusesIn, FailsIn, AbortsJob, Collects};
+    ghost use Rattle.ot_core.specs.Floors.{new_floor, units_of, total_of, IsFree, Submits, ClaimsOf, IsWorking, NothingAt, Settles, RefusesIn, FailsIn, AbortsJob, Collects};
     ghost use Rattle.ot_core.specs.Draining.{claimable_of, over_of, LivelyAt};
     ghost use Rattle.ot_core.specs.Turns.{NothingAnywhere, IsNext, ClaimsSome, RunsShort};
     ghost use Rattle.ot_core.specs.declared.hall.SubmitFault.TheVariants.{Busy};
@@ -167,7 +165,7 @@ impl Hall {
         ensures few { IfOk result (λ units. units ≤ 20000) }
         ensures same { IfErr result (λ r. done_of r.0 ≡ done_of done) }
         ensures refuses { IfErr result (λ r. RefusesIn (job_of self.old.jobs tenant) done r.1) }
-        ensures refused { OnErr result (IsAsBefore self.old tenant self.new) }
+        ensures refused { OnErr result (self.new ≡ self.old) }
     {
         if self.jobs.get(tenant).is_none() {
             return Err((done, Refused::Stranger));
@@ -232,7 +230,7 @@ impl Hall {
 
     /// How the tenant's job stands.
     pub fn state(&self, tenant: u32) -> Option<State>
-        ensures { result ≡ option_map (λ j. state_of (seen_of j)) (job_of self.now.jobs tenant) }
+        ensures { result ≡ option_map (λ j. state_of j) (job_of self.now.jobs tenant) }
     {
         let job = self.jobs.get(tenant)?;
         Some(job.state())
@@ -248,7 +246,7 @@ impl Hall {
 
     /// How many tasks of the tenant are claimable.
     pub fn claimable(&self, tenant: u32) -> usize
-        ensures some { (j : _) → job_of self.now.jobs tenant ≡ Some j → result ≡ length (claimable_in (seen_of j)) }
+        ensures some { (j : _) → job_of self.now.jobs tenant ≡ Some j → result ≡ length (claimable_in j) }
         ensures none { job_of self.now.jobs tenant ≡ None → result ≡ 0 }
     {
         match self.jobs.get(tenant) {

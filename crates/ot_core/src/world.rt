@@ -24,15 +24,15 @@ pub struct World {
 
 impl Model for World {
     ghost use Rattle.std.specs.Coded.{codes};
+    ghost use Rattle.ot_model.specs.Code.{value_code, body_code};
     ghost use Rattle.ot_check.specs.contracts.checked.Checked as c;
-    ghost use Rattle.ot_task.specs.contracts.task.Task as t;
     ghost use Rattle.ot_model.specs.contracts.expr.Expr as e;
     ghost use Rattle.ot_task.specs.contracts.assign.Assign as a;
     ghost use Rattle.ot_core.specs.Scenes.{Scene};
 
     ghost Value = { Scene };
 
-    ghost coded = { Prim.hlevel (codes, c.the_row.coded, t.the_row.coded, e.the_row.coded, a.the_row.coded) };
+    ghost coded = { Prim.hlevel (codes, value_code, body_code, c.the_row.coded, e.the_row.coded, a.the_row.coded) };
 
     ghost use Rattle.ot_core.specs.SceneView.{scene_of, IsWorld};
 
@@ -55,7 +55,7 @@ impl World {
     ghost use Rattle.ot_core.specs.Draining.{Drains, DrainsPart, AllAnswered, count_of, moves_at, opens_of, full_hand, IsMove, IsFreeWorker, MayFinish, LivelyAt};
     ghost use Rattle.ot_core.specs.Headline.{Tells, TellsAll};
     ghost use Rattle.ot_core.specs.Asking.{MayAsk};
-    ghost use Rattle.ot_core.specs.Steps.{Admits, Opens, Starts, Finishes, RepliesTo, Aborts, Steps, HasTenant, CanOpen, MayTake, RunsOut, SameScene, LeavesOthers};
+    ghost use Rattle.ot_core.specs.Steps.{Admits, Opens, Starts, Finishes, RepliesTo, Aborts, Steps, HasTenant, CanOpen, MayTake, RunsOut, LeavesOthers};
 
     /// Tenants with these names, limits and arrays, who asked nothing yet.
     pub fn new(alloc: Global, openings: Vec<(String, Limits, Store)>) -> Result<World, AllocError>
@@ -383,7 +383,7 @@ impl World {
     ) -> Result<Stepped, AllocError>
         requires { hand < 16 }
         ensures stepped { IfOk result (λ stepped. Starts self.old (Some hand) tenant pick stepped self.new) }
-        ensures memory { OnErr result (MayTake self.old (Some hand) tenant × SameScene self.old self.new) }
+        ensures memory { OnErr result (MayTake self.old (Some hand) tenant × (self.new ≡ self.old)) }
     {
         if self.hands[hand].is_some() {
             return Ok(Stepped::NotNow);

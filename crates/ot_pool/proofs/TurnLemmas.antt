@@ -1,30 +1,27 @@
 -- What the Hall's answers come to in a turn.
-use Rattle.std.proofs.Common.{◌≡◌, ◌⊎◌, inl, inr, ℕ, refl, sym, ap, ◌∙◌, subst, Bool, true, false, true≢false}
+use Rattle.std.proofs.Common.{◌≡◌, ◌⊎◌, inl, inr, ℕ, refl, sym, ap, subst, Bool, true, false, true≢false}
 use Rattle.std.specs.Prelude.{is_some, Option, Some, None, slice_get, ◌↔◌}
-use Rattle.std.proofs.lemmas.List.{get_or-set_same}
 use Rattle.std.proofs.lemmas.Option.{same_Some}
-use Rattle.ot_job.specs.Live.{Live, seen_of}
+use Rattle.ot_job.specs.Live.{Seen}
 use Rattle.ot_job.specs.DoneView.{done_of}
 use Rattle.ot_job.specs.States.{Fails as HasFailed}
-use Rattle.ot_job.specs.Dealings.{Fails, state_of}
+use Rattle.ot_job.specs.Dealings.{Fails}
 use Rattle.ot_job.specs.declared.piece.Done.{Done}
 use Rattle.ot_job.specs.declared.piece.Refused.{Refused}
-use Rattle.ot_job.specs.declared.state.State.TheVariants.{Working}
 use Rattle.ot_core.specs.Index.{job_of}
 use Rattle.ot_core.specs.Floors as floors
-use Rattle.ot_core.specs.Floors.{Floor, IsFree, IsWorking, IsAsBefore, RefusesIn, FailsIn, AbortsJob}
+use Rattle.ot_core.specs.Floors.{Floor, IsFree, IsWorking, RefusesIn, FailsIn, AbortsJob}
 use Rattle.ot_core.specs.Turns.{RunsShort}
 use Rattle.ot_core.specs.declared.hall.SubmitFault.{SubmitFault}
 use Rattle.ot_core.specs.declared.hall.SubmitFault.TheVariants.{Busy, Memory}
 use Rattle.ot_pool.specs.Shared.{Shared, Turns, FindsClosed, Claims, Aborts, Takes, Breaks, HasRoom}
 use Rattle.ot_pool.specs.declared.hub.Claimed.TheVariants as claimed
-use Rattle.ot_pool.proofs.KeptLemmas.{job-within}
 
 abbrev is_busy : SubmitFault → Bool
 is_busy Busy = true
 is_busy Memory = false
 
-free-or-not : (o : Option (Option Live)) → (o ≡ Some None) ⊎ (o ≡ Some None → ⊥)
+free-or-not : (o : Option (Option Seen)) → (o ≡ Some None) ⊎ (o ≡ Some None → ⊥)
 free-or-not None = inr (λ e. absurd (true≢false (sym (ap is_some e))))
 free-or-not (Some None) = inl refl
 free-or-not (Some (Some j)) = inr (λ e. absurd (true≢false (ap is_some (same_Some (Some j) None e))))
@@ -36,34 +33,28 @@ memory-free f t busy = elim (free-or-not (slice_get f.jobs t)) [
   | inr not ↦ absurd (true≢false (sym (ap is_busy (busy.1 not))))
 ]
 
--- a job that works is told as working where it has other room
+-- a job that works does so where nothing has changed
 pub still-working : (old new : Floor) (t : ℕ) → RunsShort old t new → IsWorking new t
-still-working old new t short = elim short.same [
-  | inl same ↦ subst (λ f. IsWorking f t) (sym same) short.working
-  | inr r ↦
-      let w = short.working in
-      let works : state_of (seen_of r.job) ≡ Working = subst (λ (j : Live). state_of (seen_of j) ≡ Working) (same_Some w.job r.job (sym w.is ∙ r.is)) w.working in
-      subst (λ f. IsWorking f t) (sym r.new_is) (record {
-        job = r.next;
-        is = get_or-set_same old.jobs t (Some r.next) None (job-within old.jobs t r.job r.is);
-        working = ap state_of r.told ∙ works;
-      })
-]
+still-working old new t short = subst (λ f. IsWorking f t) (sym short.same) short.working
 
 -- a piece that is handed back is the one that came
-pub fails-same : (f g : Floor) (t : ℕ) (done back : Done) (job : Option Live) → done_of back ≡ done_of done → FailsIn f t back job g → FailsIn f t done job g
+pub fails-same : (f g : Floor) (t : ℕ) (done back : Done) (job : Option Seen) → done_of back ≡ done_of done → FailsIn f t back job g → FailsIn f t done job g
 fails-same f g t done back None same r = r
 fails-same f g t done back (Some j) same r = record {
   next = r.next;
-  fails = subst (λ d. Fails (seen_of j) d (seen_of r.next)) same r.fails;
-  failed = subst (λ d. HasFailed (seen_of j) d (seen_of r.next)) same r.failed;
+  fails = subst (λ d. Fails j d r.next) same r.fails;
+  failed = subst (λ d. HasFailed j d r.next) same r.failed;
   new_is = r.new_is;
 }
 
-pub breaks : (old mid new : Floor) (t : ℕ) (done back : Done) (why : Refused) → done_of back ≡ done_of done → RefusesIn (job_of old.jobs t) done why → IsAsBefore old t mid
+pub breaks : (old mid new : Floor) (t : ℕ) (done back : Done) (why : Refused) → done_of back ≡ done_of done → RefusesIn (job_of old.jobs t) done why → mid ≡ old
     → FailsIn mid t back (job_of mid.jobs t) new → Breaks t done old new
 breaks old mid new t done back why same refused before fails =
-    record { why = why; refused = refused; mid = mid; before = before; fails = fails-same mid new t done back (job_of mid.jobs t) same fails }
+    record {
+      why = why;
+      refused = refused;
+      fails = subst (λ (f : Floor). FailsIn f t done (job_of f.jobs t) new) before (fails-same mid new t done back (job_of mid.jobs t) same fails);
+    }
 
 -- ---- turns
 
@@ -75,7 +66,8 @@ finds-closed s now is set = subst (λ o. FindsClosed o s) is (record { closed = 
 
 pub aborts : (s now : Shared) (turn t : ℕ) (mid g : Floor) → s ≡ now → s.closed ≡ false → RunsShort s.floor t mid → AbortsJob mid t g
     → Claims now turn (claimed.Aborted t) (record { floor = g; closed = s.closed })
-aborts s now turn t mid g is unset short fails = turns (Aborts t) s now g is unset (record { mid = mid; short = short; aborts = fails })
+aborts s now turn t mid g is unset short fails =
+    turns (Aborts t) s now g is unset (record { working = short.working; some = short.some; aborts = subst (λ f. AbortsJob f t g) short.same fails })
 
 pub counts : (s now : Shared) (t n : ℕ) (done : Done) (g : Floor) (closed : Bool) → s ≡ now → s.closed ≡ false → floors.Settles s.floor t done n g → closed ≡ false ↔ HasRoom g
     → Takes now t done (Some n) (record { floor = g; closed = closed })
@@ -83,7 +75,7 @@ counts s now t n done g closed is unset settles bound =
     subst (λ o. Takes o t done (Some n) (record { floor = g; closed = closed })) is (record { is_open = unset; settles = settles; bound = bound })
 
 pub counts-none : (s now : Shared) (t : ℕ) (done back : Done) (why : Refused) (mid g : Floor) → s ≡ now → s.closed ≡ false → done_of back ≡ done_of done
-    → RefusesIn (job_of s.floor.jobs t) done why → IsAsBefore s.floor t mid → FailsIn mid t back (job_of mid.jobs t) g
+    → RefusesIn (job_of s.floor.jobs t) done why → mid ≡ s.floor → FailsIn mid t back (job_of mid.jobs t) g
     → Takes now t done None (record { floor = g; closed = s.closed })
 counts-none s now t done back why mid g is unset same refused before fails =
     inl (turns (Breaks t done) s now g is unset (breaks s.floor mid g t done back why same refused before fails))

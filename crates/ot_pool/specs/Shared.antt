@@ -2,7 +2,6 @@
 use Rattle.std.specs.Prelude.{◌≡◌, ◌+◌, ◌<◌, ◌^◌, ◌↔◌, ◌⊎◌, ◌&&◌, ℕ, length, Bool, true, false, not, Option, Some, None, option_map, Result, Ok, Err}
 use Rattle.ot_check.specs.Jobs.{Spec}
 use Rattle.ot_check.specs.declared.job.Outcome.{Outcome}
-use Rattle.ot_job.specs.Live.{seen_of}
 use Rattle.ot_job.specs.Dealings.{state_of}
 use Rattle.ot_job.specs.declared.state.State.{State}
 use Rattle.ot_job.specs.declared.state.State.TheVariants.{Working, Failing}
@@ -12,8 +11,8 @@ use Rattle.ot_book.specs.declared.executor.NotDone.{NotDone}
 use Rattle.ot_book.specs.declared.executor.NotDone.TheVariants.{Memory, Closed, Stranger}
 use Rattle.ot_core.specs.Index.{job_of}
 use Rattle.ot_core.specs.Floors as floors
-use Rattle.ot_core.specs.Floors.{Floor, new_floor, total_of, IsFree, IsAsBefore, RefusesIn, FailsIn, AbortsJob}
-use Rattle.ot_core.specs.Turns.{ClaimsSome, RunsShort}
+use Rattle.ot_core.specs.Floors.{Floor, new_floor, total_of, IsFree, IsWorking, NothingAt, RefusesIn, FailsIn, AbortsJob}
+use Rattle.ot_core.specs.Turns.{ClaimsSome}
 use Rattle.ot_core.specs.declared.hall.Collected.TheVariants as collected
 use Rattle.ot_pool.specs.declared.hub.Claimed.{Claimed}
 use Rattle.ot_pool.specs.declared.hub.Claimed.TheVariants as claimed
@@ -66,9 +65,9 @@ Refuses old t Memory = (old.closed ≡ false) × IsFree old.floor t
 
 -- memory ran out at a claim of the tenant's job, which works, and so it fails
 pub record Aborts (t : ℕ) (old new : Floor) : Type 0 where
-  pub mid : Floor
-  pub short : RunsShort old t mid
-  pub aborts : AbortsJob mid t new
+  pub working : IsWorking old t
+  pub some : ¬ (NothingAt old.jobs t)
+  pub aborts : AbortsJob old t new
 
 -- a piece of some tenant, where a tenant has a claimable task
 abbrev pub Claims : Shared → ℕ → Claimed → Shared → Type 0
@@ -89,9 +88,7 @@ pub record Settles (old : Shared) (t : ℕ) (done : Done) (n : ℕ) (new : Share
 pub record Breaks (t : ℕ) (done : Done) (old new : Floor) : Type 0 where
   pub why : Refused
   pub refused : RefusesIn (job_of old.jobs t) done why
-  pub mid : Floor
-  pub before : IsAsBefore old t mid
-  pub fails : FailsIn mid t done (job_of mid.jobs t) new
+  pub fails : FailsIn old t done (job_of old.jobs t) new
 
 -- in a closed pool a piece fails the job that it is of, whatever it is
 pub record FailsClosed (old : Shared) (t : ℕ) (done : Done) (new : Shared) : Type 0 where
@@ -124,7 +121,7 @@ is_going _ = false
 
 -- the pool is open, and the tenant has a job that isn't over
 abbrev pub is_pending : Shared → ℕ → Bool
-is_pending s t = not s.closed && is_going (option_map (λ j. state_of (seen_of j)) (job_of s.floor.jobs t))
+is_pending s t = not s.closed && is_going (option_map (λ j. state_of j) (job_of s.floor.jobs t))
 
 -- ---- what a worker brings back
 

@@ -5,7 +5,7 @@ use Rattle.ot_core.proofs.HandedLemmas.{hand-read, hand-free, as-before, taken, 
 use Rattle.ot_core.proofs.world.World.start.Goals as goal
 
 pub invariant_of-self : goal.invariant_of-self
-invariant_of-self c = (as-before (scene_of c.self.inside) _ c.args.tenant c.claim_of.new.self c.self.view_is c.self.invariant c.in_err-piece.ensures.refused.same).0
+invariant_of-self c = (as-before (scene_of c.self.inside) _ c.claim_of.new.self c.self.view_is c.self.invariant c.in_err-piece.ensures.refused.same).0
 
 pub returns-in_err-piece-clause-memory : goal.returns-in_err-piece-clause-memory
 returns-in_err-piece-clause-memory c =
@@ -13,19 +13,19 @@ returns-in_err-piece-clause-memory c =
     let free = hand-free s.hands c.args.hand c.index.result.now c.requires c.self.invariant.hands_many c.index.ensures (sym c.is_some.ensures ∙ c.if-is_some.false) in
     on_err_always c.from_residual.result (
       may-take s _ c.args.hand c.args.tenant c.self.view_is free c.in_err-piece.ensures.refused.working c.in_err-piece.ensures.refused.some,
-      (as-before s _ c.args.tenant c.claim_of.new.self c.self.view_is c.self.invariant c.in_err-piece.ensures.refused.same).1,
+      (as-before s _ c.claim_of.new.self c.self.view_is c.self.invariant c.in_err-piece.ensures.refused.same).1,
     )
 
 pub invariant_of-self-in_default : goal.invariant_of-self-in_default
 invariant_of-self-in_default c =
     let claims = subst (λ p. ClaimsOf c.self.inside.hall c.args.tenant c.args.pick p c.claim_of.new.self) c.in_default.is c.in_ok-piece.ensures.claimed in
-    (as-before (scene_of c.self.inside) _ c.args.tenant c.claim_of.new.self c.self.view_is c.self.invariant claims.1).0
+    (as-before (scene_of c.self.inside) _ c.claim_of.new.self c.self.view_is c.self.invariant claims.1).0
 
 pub returns-in_default-clause-stepped : goal.returns-in_default-clause-stepped
 returns-in_default-clause-stepped c =
     let claims = subst (λ p. ClaimsOf c.self.inside.hall c.args.tenant c.args.pick p c.claim_of.new.self) c.in_default.is c.in_ok-piece.ensures.claimed in (
       cannot-start (scene_of c.self.inside) _ c.args.hand c.args.tenant c.self.view_is claims.0,
-      (as-before (scene_of c.self.inside) _ c.args.tenant c.claim_of.new.self c.self.view_is c.self.invariant claims.1).1,
+      (as-before (scene_of c.self.inside) _ c.claim_of.new.self c.self.view_is c.self.invariant claims.1).1,
     )
 
 pub invariant_of-self-2 : goal.invariant_of-self-2
