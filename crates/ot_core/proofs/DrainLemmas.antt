@@ -8,11 +8,12 @@ use Rattle.std.proofs.lemmas.Bool.Decides.{nat_tests}
 use Rattle.std.proofs.lemmas.List.Sums.{sum_by-set, sum_by-cons}
 use Rattle.std.proofs.lemmas.Option.{slice_get_within, get_or_from_slice_get, same_Some}
 use Rattle.ot_check.specs.Jobs.{Spec}
-use Rattle.ot_job.specs.Live.{Seen}
+use Rattle.ot_job.specs.Live.{Live}
 use Rattle.ot_job.specs.States.{claimable_in}
 use Rattle.ot_job.specs.Dealings.{NoneOut, Work, after_failure, state_of, weight_of, out_of, work_at}
 use Rattle.ot_job.specs.declared.state.State.{State}
 use Rattle.ot_job.specs.declared.state.State.TheVariants.{Working, Failing, Ended, Failed}
+use Rattle.ot_job.proofs.DealingsLemmas.{starts-fresh, claimed-gives, settles-pays, fails-breaks}
 use Rattle.ot_core.specs.Accounts.{Account, answered}
 use Rattle.ot_core.specs.Asking.{IsUnopened, with_reply}
 use Rattle.ot_core.specs.Index.{job_of}
@@ -33,7 +34,7 @@ use Rattle.ot_core.proofs.SceneLemmas.{there}
 -- ---- less to do
 
 -- one tenant moves
-falls-moved : (s : Scene) (t : ℕ) (a b : Account) (job : Option Seen) (units : List ℕ) → slice_get s.accounts t ≡ Some a → t < length s.floor.jobs
+falls-moved : (s : Scene) (t : ℕ) (a b : Account) (job : Option Live) (units : List ℕ) → slice_get s.accounts t ≡ Some a → t < length s.floor.jobs
     → 200000 * unopened b + toil_of job < 200000 * unopened a + toil_of (job_of s.floor.jobs t) → toil (moved s t b (record { jobs = set s.floor.jobs t job; units = units })) < toil s
 falls-moved s t a b job units at within less =
     let accounts : sum_by unopened (set s.accounts t b) + unopened a ≡ sum_by unopened s.accounts + unopened b =
@@ -51,7 +52,7 @@ falls-account s t a b at less =
     omega (arith, less, accounts)
 
 -- one worker takes a piece or gives it back
-falls-handed : (s : Scene) (t w : ℕ) (job : Option Seen) (units : List ℕ) (hand : Option Held) → t < length s.floor.jobs → w < length s.hands
+falls-handed : (s : Scene) (t w : ℕ) (job : Option Live) (units : List ℕ) (hand : Option Held) → t < length s.floor.jobs → w < length s.hands
     → toil_of job + free_hand hand < toil_of (job_of s.floor.jobs t) + free_hand (hand_of s.hands w) → toil (handed s (record { jobs = set s.floor.jobs t job; units = units }) w hand) < toil s
 falls-handed s t w job units hand within below less =
     let jobs = sum_by-set toil_of s.floor.jobs t job None within in
@@ -59,14 +60,14 @@ falls-handed s t w job units hand within below less =
     omega (arith, less, jobs, hands)
 
 -- a piece settles
-settled-less : (j k : Seen) → state_of j ≡ Working → weight_of k < weight_of j → (state_of k ≡ Working) ⊎ (state_of k ≡ Ended) → toil_by (state_of k) k + 1 < toil_by (state_of j) j
+settled-less : (j k : Live) → state_of j ≡ Working → weight_of k < weight_of j → (state_of k ≡ Working) ⊎ (state_of k ≡ Ended) → toil_by (state_of k) k + 1 < toil_by (state_of j) j
 settled-less j k working less after = elim after [
   | inl still ↦ rw (still, working) (omega (arith, less))
   | inr ended ↦ rw (ended, working) (omega (arith, less))
 ]
 
 -- a piece fails
-failed-less : (j k : Seen) → ((state_of j ≡ Working) × (out_of j ≤ weight_of j)) ⊎ (state_of j ≡ Failing) → out_of k + 1 ≡ out_of j → (state_of k ≡ Failing) ⊎ (state_of k ≡ Failed)
+failed-less : (j k : Live) → ((state_of j ≡ Working) × (out_of j ≤ weight_of j)) ⊎ (state_of j ≡ Failing) → out_of k + 1 ≡ out_of j → (state_of k ≡ Failing) ⊎ (state_of k ≡ Failed)
     → toil_by (state_of k) k + 1 < toil_by (state_of j) j
 failed-less j k before out after = elim before [
   | inl working ↦ elim after [
@@ -142,15 +143,16 @@ falls-open old new t Answered scene can did =
 falls-open old new t Job scene can did =
     let m = did.1 in
     let j = m.submits.job in
+    let fresh = starts-fresh m.spec j m.submits.starts in
     let same : can.0 ≡ m.account = same_Some can.0 m.account (sym can.1 ∙ m.is) in
     let free : IsUnopened m.account = subst IsUnopened same can.2 in
     let fewer : unopened m.next + 1 ≡ unopened m.account = omega (arith, free.0, ap unopened m.waits.new_is, ap one_if free.1) in
-    let most : toil_of (Some m.submits.job) ≡ 2 + 2 * weight_of j = ap (λ st. toil_by st j) m.submits.begun.working in
+    let most : toil_of (Some m.submits.job) ≡ 2 + 2 * weight_of j = ap (λ st. toil_by st j) fresh.working in
     subst (λ s. toil s < toil old) (sym (m.new_is ∙ ap (moved old t m.next) m.submits.new_is))
-    (falls-moved old t m.account m.next (Some m.submits.job) old.floor.units m.is (there old t m.account scene m.is) (omega (arith, fewer, most, m.submits.begun.weight)))
+    (falls-moved old t m.account m.next (Some m.submits.job) old.floor.units m.is (there old t m.account scene m.is) (omega (arith, fewer, most, fresh.weight)))
 falls-open old new t other scene can did = absurd did
 
-over-not : (o : Option Seen) → 0 < over_of o → CannotReply o → ⊥
+over-not : (o : Option Live) → 0 < over_of o → CannotReply o → ⊥
 over-not None more not = absurd (omega (arith, more))
 over-not (Some j) more not = elim not [
   | inl working ↦ absurd (omega (arith, more, ap over_by working))
@@ -170,14 +172,14 @@ falls-reply old new t Replied scene more did =
     (falls-moved old t did.account b None old.floor.units did.is (there old t did.account scene did.is) (omega (arith, one, same-replied did.account b did.lost refl)))
 falls-reply old new t other scene more did = absurd did
 
-none-left : (o : Option Seen) (jobs : List (Option Seen)) (t : ℕ) → job_of jobs t ≡ o → 0 < claimable_of o → ((j : Seen) → job_of jobs t ≡ Some j → claimable_in j ≡ []) → ⊥
+none-left : (o : Option Live) (jobs : List (Option Live)) (t : ℕ) → job_of jobs t ≡ o → 0 < claimable_of o → ((j : Live) → job_of jobs t ≡ Some j → claimable_in j ≡ []) → ⊥
 none-left None jobs t is more none = absurd (omega (arith, more))
 none-left (Some j) jobs t is more none = absurd (omega (arith, more, ap length (none j is)))
 
 falls-start : (old new : Scene) (x : ℕ) (o : Option ℕ) (t pick : ℕ) (stepped : Stepped) → seat_of x ≡ o → IsScene old → MayStart old o t → Starts old o t pick stepped new → toil new < toil old
 falls-start old new x None t pick stepped seat scene may did = absurd may.0
 falls-start old new x (Some w) t pick (Started k) seat scene may did =
-    let takes = did.claims.gives.1 in
+    let takes = (claimed-gives did.claims.job _ (Some did.piece) did.claims.next did.claims.claimed).1 in
     let j = did.claims.job in
     let n = did.claims.next in
     let same : toil_of (Some did.claims.next) ≡ toil_of (job_of old.floor.jobs t) =
@@ -196,15 +198,17 @@ falls-finish old new x None stepped seat scene may did = absurd may
 falls-finish old new x (Some w) (Finished n) seat scene may did =
     let t = did.held.tenant in
     let d = did.does_so in
-    let less = settled-less d.job d.next d.pays.working d.pays.weight d.pays.after in
+    let pays = settles-pays d.job _ _ d.next d.settled in
+    let less = settled-less d.job d.next pays.working pays.weight pays.after in
     subst (λ s. toil s < toil old) (sym (did.new_is ∙ ap (λ f. handed old f w None) d.new_is))
     (falls-handed old t w (Some d.next) (set old.floor.units t (units_of old.floor t + n)) None (job-within old.floor.jobs t d.job d.is) (omega (arith, seat-within x w seat, scene.hands_many))
     (omega (arith, less, ap toil_of d.is, ap free_hand did.is)))
 falls-finish old new x (Some w) FinishedFailed seat scene may did =
     let t = did.held.tenant in
     let d = did.does_so in
-    let after : (state_of d.next ≡ Failing) ⊎ (state_of d.next ≡ Failed) = subst (λ st. (st ≡ Failing) ⊎ (st ≡ Failed)) (sym d.breaks.state) (after-failing (out_of d.next)) in
-    let less = failed-less d.job d.next d.breaks.going d.breaks.returns.out after in
+    let breaks = fails-breaks d.job _ d.next d.failed in
+    let after : (state_of d.next ≡ Failing) ⊎ (state_of d.next ≡ Failed) = subst (λ st. (st ≡ Failing) ⊎ (st ≡ Failed)) (sym breaks.state) (after-failing (out_of d.next)) in
+    let less = failed-less d.job d.next breaks.going breaks.returns.out after in
     subst (λ s. toil s < toil old) (sym (did.new_is ∙ ap (λ f. handed old f w None) d.new_is))
     (falls-handed old t w (Some d.next) old.floor.units None (job-within old.floor.jobs t d.job d.is) (omega (arith, seat-within x w seat, scene.hands_many))
     (omega (arith, less, ap toil_of d.is, ap free_hand did.is)))
@@ -226,24 +230,24 @@ none-out None not = refl
 none-out (Some work) not = absurd (not work refl)
 
 -- no piece is out
-calm : (s : Scene) → IsScene s → ((w : ℕ) → hand_of s.hands w ≡ None) → (t : ℕ) (j : Seen) → job_of s.floor.jobs t ≡ Some j → NoneOut j
+calm : (s : Scene) → IsScene s → ((w : ℕ) → hand_of s.hands w ≡ None) → (t : ℕ) (j : Live) → job_of s.floor.jobs t ≡ Some j → NoneOut j
 calm s scene free t j job = λ k. none-out (work_at j k) (λ work is.
     let held : IsHeld s.hands t k = scene.held.all t k work (ap (λ o. out_at o k) job ∙ is) in
     true≢false (sym (ap is_some held.is) ∙ ap is_some (free held.hand)))
 
 -- a job with no piece out has a move
-state-of : (j : Seen) → IsLively j → NoneOut j → (st : State) → state_of j ≡ st → 0 < over_by (state_of j) + length (claimable_in j)
+state-of : (j : Live) → IsLively j → NoneOut j → (st : State) → state_of j ≡ st → 0 < over_by (state_of j) + length (claimable_in j)
 state-of j lively none Working is = omega (arith, lively.works is none)
 state-of j lively none Failing is = absurd (lively.fails is none)
 state-of j lively none Ended is = omega (arith, ap over_by is)
 state-of j lively none Failed is = omega (arith, ap over_by is)
 
-no-job : (s : Scene) (t : ℕ) (o : Option Seen) → IsScene s → ((w : ℕ) → hand_of s.hands w ≡ None) → job_of s.floor.jobs t ≡ o → LivelyAt o → over_of o ≡ 0 → claimable_of o ≡ 0 → o ≡ None
+no-job : (s : Scene) (t : ℕ) (o : Option Live) → IsScene s → ((w : ℕ) → hand_of s.hands w ≡ None) → job_of s.floor.jobs t ≡ o → LivelyAt o → over_of o ≡ 0 → claimable_of o ≡ 0 → o ≡ None
 no-job s t None scene free is lively over none = refl
 no-job s t (Some j) scene free is lively over none =
     absurd (omega (arith, state-of j lively (calm s scene free t j is) (state_of j) refl, over, none))
 
-closed : (o : Option Spec) (job : Option Seen) → Pairs o job → job ≡ None → o ≡ None
+closed : (o : Option Spec) (job : Option Live) → Pairs o job → job ≡ None → o ≡ None
 closed None job pairs is = refl
 closed (Some x) None pairs is = absurd pairs
 closed (Some x) (Some j) pairs is = absurd (true≢false (ap is_some is))

@@ -1,21 +1,20 @@
 -- What a call on one tenant's job is to the floor.
 use Rattle.std.proofs.Common.{◌≡◌, ◌<◌, ◌+◌, ◌⊎◌, get_or, inl, inr, ℕ, List, [], length, set, refl, sym, ap, ◌∙◌, subst, arith, Bool, true, false, true≢false}
-use Rattle.std.specs.Prelude.{is_some, Option, Some, None, Result, Ok, Err, IfOk, OnErr, option_map, slice_get, ◌↔◌}
+use Rattle.std.specs.Prelude.{is_some, Option, Some, None, Result, Ok, Err, IfOk, OnErr, slice_get, ◌↔◌}
 use Rattle.std.proofs.lemmas.Bool.{cases_lt}
 use Rattle.std.proofs.lemmas.List.{get_or_past, get_or_default, set-get_or}
 use Rattle.std.proofs.lemmas.Option.{same_Some, slice_get_read}
 use Rattle.ot_check.specs.Jobs.{Spec, IsMeaning}
 use Rattle.ot_check.specs.declared.job.Outcome.{Outcome}
-use Rattle.ot_job.specs.Live.{Seen}
+use Rattle.ot_job.specs.Live.{Live}
 use Rattle.ot_job.specs.States.{Fails as HasFailed, claimable_in, aborted}
 use Rattle.ot_job.specs.Claims.{Claimed}
 use Rattle.ot_job.specs.Settling.{Settles as HasSettled}
-use Rattle.ot_job.specs.Taken.{taken_of}
-use Rattle.ot_job.specs.DoneView.{done_of}
-use Rattle.ot_job.specs.Dealings.{IsOf, Gives, Pays, Fails, Aborts, NoneOut, state_of}
-use Rattle.ot_job.specs.Taken.{Parts as Piece}
-use Rattle.ot_job.specs.declared.piece.Done.{Done}
+use Rattle.ot_job.specs.Dealings.{IsOf, NoneOut, state_of}
+use Rattle.ot_job.specs.Taken.{Taken as Piece}
+use Rattle.ot_job.specs.Taken.{Came as Done}
 use Rattle.ot_job.specs.declared.state.State.TheVariants.{Working, Failing, Ended, Failed}
+use Rattle.ot_job.proofs.DealingsLemmas.{claimed-gives}
 use Rattle.ot_core.specs.Index.{job_of, Begins}
 use Rattle.ot_core.specs.Floors.{Floor, with_job, IsFree, Submits, NothingAt, Claims, ClaimsOf, IsWorking, FailsIn, AbortsJob, HasJob, Collects, Settles, units_of}
 use Rattle.ot_core.specs.Turns.{RunsShort}
@@ -24,36 +23,36 @@ use Rattle.ot_core.specs.declared.hall.SubmitFault.TheVariants.{Busy, Memory}
 use Rattle.ot_core.specs.declared.hall.Collected.TheVariants as collected
 
 -- who has a job is there
-pub job-within : (jobs : List (Option Seen)) (t : ℕ) (j : Seen) → job_of jobs t ≡ Some j → t < length jobs
+pub job-within : (jobs : List (Option Live)) (t : ℕ) (j : Live) → job_of jobs t ≡ Some j → t < length jobs
 job-within jobs t j is = elim (cases_lt t (length jobs)) [
   | inl within ↦ within
   | inr past ↦ absurd (true≢false (sym (ap is_some (sym (get_or_past jobs t None past) ∙ is))))
 ]
 
 -- a job that is as it was is written again
-pub written-again : (f now : Floor) (t : ℕ) (job next : Seen) → f ≡ now → job_of f.jobs t ≡ Some job → next ≡ job → with_job f t (Some next) ≡ now
+pub written-again : (f now : Floor) (t : ℕ) (job next : Live) → f ≡ now → job_of f.jobs t ≡ Some job → next ≡ job → with_job f t (Some next) ≡ now
 written-again f now t job next is at same =
     ap (λ jobs. let r : Floor = record { jobs = jobs; units = f.units } in r) (ap (set f.jobs t) (ap Some same ∙ sym at) ∙ set-get_or f.jobs t None) ∙ is
 
-pub nothing-at : (f now : Floor) (t : ℕ) (job : Seen) → f ≡ now → job_of f.jobs t ≡ Some job → claimable_in job ≡ [] → NothingAt now.jobs t
+pub nothing-at : (f now : Floor) (t : ℕ) (job : Live) → f ≡ now → job_of f.jobs t ≡ Some job → claimable_in job ≡ [] → NothingAt now.jobs t
 nothing-at f now t job is at none =
-    subst (λ (o : Floor). NothingAt o.jobs t) is (λ j here. subst (λ (y : Seen). claimable_in y ≡ []) (same_Some job j (sym at ∙ here)) none)
+    subst (λ (o : Floor). NothingAt o.jobs t) is (λ j here. subst (λ (y : Live). claimable_in y ≡ []) (same_Some job j (sym at ∙ here)) none)
 
-pub claims-of : {E : Type 0} (f now : Floor) (t pick : ℕ) (job next : Seen) (r : Result (Option Piece) E) → f ≡ now → job_of f.jobs t ≡ Some job
-    → IfOk r (λ p. Gives job (option_map taken_of p) next)
-    → IfOk r (λ p. Claimed job pick (option_map taken_of p) next) → IfOk r (λ p. ClaimsOf now t pick p (with_job f t (Some next)))
-claims-of f now t pick job next (Ok None) is at gives claimed = (nothing-at f now t job is at gives.0, written-again f now t job next is at gives.1)
-claims-of f now t pick job next (Ok (Some p)) is at gives claimed = subst (λ o. Claims o t pick p (with_job f t (Some next))) is (record {
+pub claims-of : {E : Type 0} (f now : Floor) (t pick : ℕ) (job next : Live) (r : Result (Option Piece) E) → f ≡ now → job_of f.jobs t ≡ Some job
+    → IfOk r (λ p. Claimed job pick p next) → IfOk r (λ p. ClaimsOf now t pick p (with_job f t (Some next)))
+claims-of f now t pick job next (Ok None) is at claimed =
+    let gives = claimed-gives job pick None next claimed in
+    (nothing-at f now t job is at gives.0, written-again f now t job next is at gives.1)
+claims-of f now t pick job next (Ok (Some p)) is at claimed = subst (λ o. Claims o t pick p (with_job f t (Some next))) is (record {
   job = job;
   is = at;
   next = next;
-  gives = gives;
   claimed = claimed;
   new_is = refl;
 })
-claims-of f now t pick job next (Err e) is at gives claimed = tt
+claims-of f now t pick job next (Err e) is at claimed = tt
 
-pub runs-short : {T E : Type 0} (f now : Floor) (t : ℕ) (job next : Seen) (r : Result T E) → f ≡ now → job_of f.jobs t ≡ Some job
+pub runs-short : {T E : Type 0} (f now : Floor) (t : ℕ) (job next : Live) (r : Result T E) → f ≡ now → job_of f.jobs t ≡ Some job
     → OnErr r (state_of job ≡ Working) → OnErr r (0 < length (claimable_in job)) → OnErr r (next ≡ job)
     → OnErr r (RunsShort now t (with_job f t (Some next)))
 runs-short f now t job next (Ok x) is at working some same = tt
@@ -71,64 +70,62 @@ is_busy Memory = false
 pub memory-busy : (f : Floor) (t : ℕ) → IsFree f t → Memory ≡ Busy ↔ ¬ (IsFree f t)
 memory-busy f t free = ((λ is. absurd (true≢false (sym (ap is_busy is)))), (λ not. absurd (not free)))
 
-pub fails-in : (f now : Floor) (t : ℕ) (done : Done) (job next : Seen) → f ≡ now → job_of f.jobs t ≡ Some job → Fails job (done_of done) next
-    → HasFailed job (done_of done) next → FailsIn now t done (job_of now.jobs t) (with_job f t (Some next))
-fails-in f now t done job next is at fails failed =
-    let does : FailsIn f t done (Some job) (with_job f t (Some next)) = record { next = next; fails = fails; failed = failed; new_is = refl } in
+pub fails-in : (f now : Floor) (t : ℕ) (done : Done) (job next : Live) → f ≡ now → job_of f.jobs t ≡ Some job → HasFailed job done next
+    → FailsIn now t done (job_of now.jobs t) (with_job f t (Some next))
+fails-in f now t done job next is at failed =
+    let does : FailsIn f t done (Some job) (with_job f t (Some next)) = record { next = next; failed = failed; new_is = refl } in
     subst (λ (o : Floor). FailsIn o t done (job_of o.jobs t) (with_job f t (Some next))) is (subst (λ o. FailsIn f t done o (with_job f t (Some next))) (sym at) does)
 
-pub aborts-job : (f now : Floor) (t : ℕ) (job next : Seen) → f ≡ now → job_of f.jobs t ≡ Some job → Aborts job next → next ≡ aborted job
-    → AbortsJob now t (with_job f t (Some next))
-aborts-job f now t job next is at aborts as_told = subst (λ o. AbortsJob o t (with_job f t (Some next))) is (record { job = job; is = at; next = next; aborts = aborts; now = as_told; new_is = refl })
+pub aborts-job : (f now : Floor) (t : ℕ) (job next : Live) → f ≡ now → job_of f.jobs t ≡ Some job → next ≡ aborted job → AbortsJob now t (with_job f t (Some next))
+aborts-job f now t job next is at fails =
+    subst (λ o. AbortsJob o t (with_job f t (Some next))) is (record { job = job; is = at; new_is = ap (λ j. with_job f t (Some j)) fails })
 
-pub is-working : (f now : Floor) (t : ℕ) (job : Seen) → f ≡ now → IsWorking now t → job_of f.jobs t ≡ Some job → state_of job ≡ Working
+pub is-working : (f now : Floor) (t : ℕ) (job : Live) → f ≡ now → IsWorking now t → job_of f.jobs t ≡ Some job → state_of job ≡ Working
 is-working f now t job is works at =
     let w = subst (λ o. IsWorking o t) (sym is) works in
-    subst (λ (j : Seen). state_of j ≡ Working) (same_Some w.job job (sym w.is ∙ at)) w.working
+    subst (λ (j : Live). state_of j ≡ Working) (same_Some w.job job (sym w.is ∙ at)) w.working
 
-abbrev has-job : (f : Floor) (t : ℕ) (spec : Spec) (job : Seen) → job_of f.jobs t ≡ Some job → IsOf spec job → HasJob f t spec
+abbrev has-job : (f : Floor) (t : ℕ) (spec : Spec) (job : Live) → job_of f.jobs t ≡ Some job → IsOf spec job → HasJob f t spec
 has-job f t spec job at of = record { job = job; is = at; of = of }
 
-pub collects-pending : (f now : Floor) (t : ℕ) (spec : Spec) (job : Seen) → f ≡ now → job_of f.jobs t ≡ Some job → IsOf spec job
+pub collects-pending : (f now : Floor) (t : ℕ) (spec : Spec) (job : Live) → f ≡ now → job_of f.jobs t ≡ Some job → IsOf spec job
     → (state_of job ≡ Working) ⊎ (state_of job ≡ Failing) → Collects now t spec collected.Pending now
 collects-pending f now t spec job is at of state = subst (λ o. Collects o t spec collected.Pending o) is ((has-job f t spec job at of, state), refl)
 
-pub collects-ended : (f now : Floor) (t : ℕ) (spec : Spec) (job : Seen) (outcome : Outcome) (jobs : List (Option Seen)) → f ≡ now → job_of f.jobs t ≡ Some job → IsOf spec job
+pub collects-ended : (f now : Floor) (t : ℕ) (spec : Spec) (job : Live) (outcome : Outcome) (jobs : List (Option Live)) → f ≡ now → job_of f.jobs t ≡ Some job → IsOf spec job
     → state_of job ≡ Ended → NoneOut job → IsMeaning spec outcome → jobs ≡ set f.jobs t None
     → Collects now t spec (collected.Ended outcome) (record { jobs = jobs; units = f.units })
 collects-ended f now t spec job outcome jobs is at of state calm means left =
     subst (λ o. Collects o t spec (collected.Ended outcome) (record { jobs = jobs; units = f.units })) is
     ((has-job f t spec job at of, state, calm), means, ap (λ js. let r : Floor = record { jobs = js; units = f.units } in r) left)
 
-pub collects-failed : (f now : Floor) (t : ℕ) (spec : Spec) (job : Seen) (jobs : List (Option Seen)) → f ≡ now → job_of f.jobs t ≡ Some job → IsOf spec job
+pub collects-failed : (f now : Floor) (t : ℕ) (spec : Spec) (job : Live) (jobs : List (Option Live)) → f ≡ now → job_of f.jobs t ≡ Some job → IsOf spec job
     → state_of job ≡ Failed → NoneOut job → jobs ≡ set f.jobs t None
     → Collects now t spec collected.Failed (record { jobs = jobs; units = f.units })
 collects-failed f now t spec job jobs is at of state calm left =
     subst (λ o. Collects o t spec collected.Failed (record { jobs = jobs; units = f.units })) is
     ((has-job f t spec job at of, state, calm), ap (λ js. let r : Floor = record { jobs = js; units = f.units } in r) left)
 
-pub submits : (f now : Floor) (t : ℕ) (spec : Spec) (jobs : List (Option Seen)) → f ≡ now → IsFree f t → Begins f.jobs t spec jobs
+pub submits : (f now : Floor) (t : ℕ) (spec : Spec) (jobs : List (Option Live)) → f ≡ now → IsFree f t → Begins f.jobs t spec jobs
     → Submits now t spec (record { jobs = jobs; units = f.units })
 submits f now t spec jobs is free begins = subst (λ o. Submits o t spec (record { jobs = jobs; units = f.units })) is (record {
   free = free;
   job = begins.job;
-  begun = begins.begun;
   starts = begins.starts;
   new_is = ap (λ js. let r : Floor = record { jobs = js; units = f.units } in r) begins.new_is;
 })
 
 -- a tenant that is there and has no job is free
-pub is-free : (jobs : List (Option Seen)) (t : ℕ) → t < length jobs → job_of jobs t ≡ None → slice_get jobs t ≡ Some None
+pub is-free : (jobs : List (Option Live)) (t : ℕ) → t < length jobs → job_of jobs t ≡ None → slice_get jobs t ≡ Some None
 is-free jobs t within none = slice_get_read jobs (length jobs) t None refl within (sym none)
 
-pub settles : (f now : Floor) (t : ℕ) (done : Done) (n x : ℕ) (job next : Seen) → f ≡ now → job_of f.jobs t ≡ Some job → Pays job (done_of done) n next
-    → HasSettled job (done_of done) n next → x ≡ units_of f t + n → Settles now t done n (record { jobs = set f.jobs t (Some next); units = set f.units t x })
-settles f now t done n x job next is at pays settled more =
+pub settles : (f now : Floor) (t : ℕ) (done : Done) (n x : ℕ) (job next : Live) → f ≡ now → job_of f.jobs t ≡ Some job
+    → HasSettled job done n next → x ≡ units_of f t + n → Settles now t done n (record { jobs = set f.jobs t (Some next); units = set f.units t x })
+settles f now t done n x job next is at settled more =
     subst (λ o. Settles o t done n (record { jobs = set f.jobs t (Some next); units = set f.units t x })) is (record {
       job = job;
       is = at;
       next = next;
-      pays = pays;
       settled = settled;
       new_is = ap (λ u. let r : Floor = record { jobs = set f.jobs t (Some next); units = set f.units t u } in r) more;
     })

@@ -4,7 +4,7 @@ use Rattle.std.specs.Prelude.{Option, Some, None, is_some}
 use Rattle.std.proofs.lemmas.Bool.{cases_eq}
 use Rattle.std.proofs.lemmas.Option.{same_Some}
 use Rattle.std.proofs.lemmas.List.{get_or-set_same, get_or-set_other}
-use Rattle.ot_job.specs.Live.{Seen}
+use Rattle.ot_job.specs.Live.{Live}
 use Rattle.ot_core.specs.Index.{job_of}
 use Rattle.ot_core.specs.Scenes.{AreHeld, IsHeld, hand_of, held_work, out_at}
 use Rattle.ot_core.specs.declared.held.Held.{Held}
@@ -23,7 +23,7 @@ both_or_not u t j k = elim (cases_eq u t) [
 ]
 
 -- every other task's piece is out as before
-abbrev pub OthersOut : List (Option Seen) → List (Option Seen) → ℕ → ℕ → Type 0
+abbrev pub OthersOut : List (Option Live) → List (Option Live) → ℕ → ℕ → Type 0
 OthersOut old new t k = (u j : ℕ) → (u ≡ t → j ≡ k → ⊥) → out_at (job_of new u) j ≡ out_at (job_of old u) j
 
 hand-same : (hands : List (Option Held)) (w v : ℕ) (x : Option Held) → w < length hands → v ≡ w → hand_of (set hands w x) v ≡ x
@@ -33,7 +33,7 @@ hand-other : (hands : List (Option Held)) (w v : ℕ) (x : Option Held) → v �
 hand-other hands w v x other = get_or-set_other hands w v x None other
 
 -- the piece of a task comes to a free hand
-pub held-taken : (old new : List (Option Seen)) (hands : List (Option Held)) (w : ℕ) (h : Held) → AreHeld old hands → w < length hands → hand_of hands w ≡ None
+pub held-taken : (old new : List (Option Live)) (hands : List (Option Held)) (w : ℕ) (h : Held) → AreHeld old hands → w < length hands → hand_of hands w ≡ None
     → out_at (job_of old h.tenant) h.piece.task ≡ None → out_at (job_of new h.tenant) h.piece.task ≡ Some (held_work h)
     → OthersOut old new h.tenant h.piece.task → AreHeld new (set hands w (Some h))
 held-taken old new hands w h held below free was now others =
@@ -77,7 +77,7 @@ held-taken old new hands w h held below free was now others =
     }
 
 -- a hand gives its piece back
-pub held-given : (old new : List (Option Seen)) (hands : List (Option Held)) (w : ℕ) (h : Held) → AreHeld old hands → w < length hands → hand_of hands w ≡ Some h
+pub held-given : (old new : List (Option Live)) (hands : List (Option Held)) (w : ℕ) (h : Held) → AreHeld old hands → w < length hands → hand_of hands w ≡ Some h
     → out_at (job_of new h.tenant) h.piece.task ≡ None → OthersOut old new h.tenant h.piece.task → AreHeld new (set hands w None)
 held-given old new hands w h held below mine gone others =
     let theirs : (v : ℕ) (g : Held) → hand_of (set hands w None) v ≡ Some g → (v ≢ w) × (hand_of hands v ≡ Some g) =

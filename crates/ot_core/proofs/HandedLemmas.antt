@@ -7,15 +7,14 @@ use Rattle.std.proofs.lemmas.List.{get_or-set_same, get_or-set_other, get_or_def
 use Rattle.std.proofs.lemmas.List.Elements.{All-from_get_or}
 use Rattle.std.proofs.lemmas.List.Sums.{sum_by-le}
 use Rattle.ot_check.specs.Jobs.{Spec}
-use Rattle.ot_job.specs.Live.{Seen}
-use Rattle.ot_job.specs.DoneView.{done_of}
-use Rattle.ot_job.specs.Settling.{Came}
-use Rattle.ot_job.specs.States.{FailsBy, Fails as HasFailed}
-use Rattle.ot_job.specs.Dealings.{NoneOut, Returns, SameSpec, Fails, Breaks, brought, work_at, state_of, settled_units}
-use Rattle.ot_job.specs.Taken.{Parts as Piece}
-use Rattle.ot_job.specs.declared.piece.Done.{Done}
+use Rattle.ot_job.specs.Live.{Live}
+use Rattle.ot_job.specs.States.{FailsBy, Fails as HasFailed, aborted}
+use Rattle.ot_job.specs.Dealings.{NoneOut, Returns, SameSpec, brought, work_at, state_of, settled_units}
+use Rattle.ot_job.specs.Taken.{Taken as Piece}
+use Rattle.ot_job.specs.Taken.{Came as Done}
 use Rattle.ot_job.specs.declared.state.State.{State}
 use Rattle.ot_job.specs.declared.state.State.TheVariants as state
+use Rattle.ot_job.proofs.DealingsLemmas.{claimed-gives, settles-pays, fails-breaks, aborted-aborts, work-out}
 use Rattle.ot_core.specs.Accounts.{Account, IsSound}
 use Rattle.ot_core.specs.Asking.{with_reply}
 use Rattle.ot_core.specs.Index.{job_of}
@@ -59,7 +58,7 @@ is-none (Some x) empty = absurd (true≢false empty)
 pub hand-free : (hands : List (Option Held)) (w : ℕ) (x : Option Held) → w < 16 → length hands ≡ 16 → x ≡ get_or hands w x → is_some x ≡ false → hand_of hands w ≡ None
 hand-free hands w x below many read empty = hand-read hands w x x None below many read refl (is-none x empty)
 
-others-out : (jobs : List (Option Seen)) (t task : ℕ) (j k : Seen) → job_of jobs t ≡ Some j → ((i : ℕ) → i ≢ task → work_at k i ≡ work_at j i)
+others-out : (jobs : List (Option Live)) (t task : ℕ) (j k : Live) → job_of jobs t ≡ Some j → ((i : ℕ) → i ≢ task → work_at k i ≡ work_at j i)
     → OthersOut jobs (set jobs t (Some k)) t task
 others-out jobs t task j k job others u i not = elim (cases_eq u t) [
   | inl here ↦
@@ -69,7 +68,7 @@ others-out jobs t task j k job others u i not = elim (cases_eq u t) [
 ]
 
 -- of the tenant with this job
-was : (s : Scene) (t : ℕ) (j : Seen) (a : Account) → IsScene s → job_of s.floor.jobs t ≡ Some j → slice_get s.accounts t ≡ Some a → Agrees a (Some j) (units_of s.floor t)
+was : (s : Scene) (t : ℕ) (j : Live) (a : Account) → IsScene s → job_of s.floor.jobs t ≡ Some j → slice_get s.accounts t ≡ Some a → Agrees a (Some j) (units_of s.floor t)
 was s t j a scene job at = subst (λ o. Agrees a o (units_of s.floor t)) job (scene.each t a at)
 
 -- ---- a worker takes a piece
@@ -80,7 +79,7 @@ scene-taken s w t pick piece floor scene below free claims =
     let h : Held = record { tenant = t; piece = piece } in
     let j = claims.job in
     let k = claims.next in
-    let takes = claims.gives.1 in
+    let takes = (claimed-gives j pick (Some piece) k claims.claimed).1 in
     let mine = job-set s.floor.jobs t (Some k) (job-within s.floor.jobs t j claims.is) in
     subst (λ f. IsScene (handed s f w (Some h))) (sym claims.new_is)
     (scene-handed s t (with_job s.floor t (Some k)) (set s.hands w (Some h)) scene (but-set s.floor.jobs t (Some k)) (but-none s.floor.units t)
@@ -98,7 +97,7 @@ taken s now w t pick task piece floor hand is scene below free claims task_is ha
     (scene-taken s w t pick piece floor scene below free claims, subst (λ o. Takes o w t pick task (handed s floor w (Some h))) is does)
 
 -- a tenant's job goes on with the same pieces out
-scene-goes_on : (s : Scene) (t : ℕ) (j k : Seen) → IsScene s → job_of s.floor.jobs t ≡ Some j → SameSpec j k → settled_units k ≡ settled_units j
+scene-goes_on : (s : Scene) (t : ℕ) (j k : Live) → IsScene s → job_of s.floor.jobs t ≡ Some j → SameSpec j k → settled_units k ≡ settled_units j
     → ((i : ℕ) → work_at k i ≡ work_at j i) → IsScene (record { accounts = s.accounts; floor = with_job s.floor t (Some k); hands = s.hands })
 scene-goes_on s t j k scene job same units works =
     let mine = job-set s.floor.jobs t (Some k) (job-within s.floor.jobs t j job) in
@@ -119,9 +118,10 @@ as-before s now floor is scene same =
 pub stopped : (s now : Scene) (t : ℕ) (floor : Floor) → s ≡ now → IsScene s → IsWorking s.floor t → AbortsJob s.floor t floor
     → IsScene (record { accounts = s.accounts; floor = floor; hands = s.hands }) × Stops now t (record { accounts = s.accounts; floor = floor; hands = s.hands })
 stopped s now t floor is scene working stops =
+    let fails = aborted-aborts stops.job (aborted stops.job) refl in
     let does : Stops s t (record { accounts = s.accounts; floor = floor; hands = s.hands }) = record { working = working; floor = floor; aborts = stops; new_is = refl } in (
       subst (λ f. IsScene (record { accounts = s.accounts; floor = f; hands = s.hands })) (sym stops.new_is)
-          (scene-goes_on s t stops.job stops.next scene stops.is stops.aborts.same stops.aborts.units stops.aborts.works),
+          (scene-goes_on s t stops.job (aborted stops.job) scene stops.is fails.same fails.units fails.works),
       subst (λ o. Stops o t (record { accounts = s.accounts; floor = floor; hands = s.hands })) is does,
     )
 
@@ -129,14 +129,14 @@ stopped s now t floor is scene working stops =
 
 -- the piece in a hand runs in its tenant's job
 pub held-runs : (s : Scene) (w : ℕ) (h : Held) → IsScene s → hand_of s.hands w ≡ Some h
-    → (j : Seen) × (job_of s.floor.jobs h.tenant ≡ Some j) × (work_at j h.piece.task ≡ Some (held_work h))
+    → (j : Live) × (job_of s.floor.jobs h.tenant ≡ Some j) × (work_at j h.piece.task ≡ Some (held_work h))
 held-runs s w h scene mine = runs (job_of s.floor.jobs h.tenant) (scene.held.out w h mine)
   where
-    runs : (o : Option Seen) → out_at o h.piece.task ≡ Some (held_work h) → (j : Seen) × (o ≡ Some j) × (work_at j h.piece.task ≡ Some (held_work h))
+    runs : (o : Option Live) → out_at o h.piece.task ≡ Some (held_work h) → (j : Live) × (o ≡ Some j) × (work_at j h.piece.task ≡ Some (held_work h))
     runs None out = absurd (true≢false (sym (ap is_some out)))
     runs (Some j) out = (j, refl, out)
 
-scene-given : (s : Scene) (w : ℕ) (h : Held) (j k : Seen) (units : List ℕ) → IsScene s → w < 16 → hand_of s.hands w ≡ Some h → job_of s.floor.jobs h.tenant ≡ Some j
+scene-given : (s : Scene) (w : ℕ) (h : Held) (j k : Live) (units : List ℕ) → IsScene s → w < 16 → hand_of s.hands w ≡ Some h → job_of s.floor.jobs h.tenant ≡ Some j
     → Returns j h.piece.task (held_work h) k → SameBut s.floor.units h.tenant units
     → ((a : Account) → slice_get s.accounts h.tenant ≡ Some a → Agrees a (Some k) (get_or units h.tenant 0))
     → IsScene (handed s (record { jobs = set s.floor.jobs h.tenant (Some k); units = units }) w None)
@@ -151,62 +151,57 @@ scene-given s w h j k units scene below mine job returns but agrees =
     (ap (λ o. out_at o h.piece.task) now ∙ returns.free) (others-out s.floor.jobs t h.piece.task j k job returns.others))
 
 -- what came back is what was held
-returned : (j k : Seen) (done : Done) (h : Held) → done.task ≡ h.piece.task → brought (done_of done) ≡ held_work h → Returns j (done_of done).task (brought (done_of done)) k
+returned : (j k : Live) (done : Done) (h : Held) → done.task ≡ h.piece.task → brought done ≡ held_work h → Returns j done.task (brought done) k
     → Returns j h.piece.task (held_work h) k
-returned j k done h task ran returns = subst (λ w. Returns j h.piece.task w k) ran (subst (λ t. Returns j t (brought (done_of done)) k) task returns)
+returned j k done h task ran returns = subst (λ w. Returns j h.piece.task w k) ran (subst (λ t. Returns j t (brought done) k) task returns)
 
 -- it is settled
 pub given : (s now : Scene) (w : ℕ) (h : Held) (done : Done) (n : ℕ) (floor : Floor) (hand : Option Held) → s ≡ now → IsScene s → w < 16 → hand_of s.hands w ≡ Some h
-    → done.task ≡ h.piece.task → brought (done_of done) ≡ held_work h → Settles s.floor h.tenant done n floor → hand ≡ None
+    → done.task ≡ h.piece.task → brought done ≡ held_work h → Settles s.floor h.tenant done n floor → hand ≡ None
     → IsScene (handed s floor w hand) × GivesBack now w (λ f t d g. Settles f t d n g) (handed s floor w hand)
 given s now w h done n floor hand is scene below mine task ran does gone =
     let t = h.tenant in
     let j = does.job in
     let k = does.next in
     let more = units_of s.floor t + n in
+    let pays = settles-pays j done n k does.settled in
     let right : IsScene (handed s (with_settled s.floor t k n) w None) =
-    scene-given s w h j k (set s.floor.units t more) scene below mine does.is (returned j k done h task ran does.pays.returns) (but-set s.floor.units t more)
+    scene-given s w h j k (set s.floor.units t more) scene below mine does.is (returned j k done h task ran pays.returns) (but-set s.floor.units t more)
     (λ a at. subst (Agrees a (Some k)) (sym (get_or-set_same s.floor.units t more 0 (omega (arith, slice_get_within s.accounts t a at, scene.units_many))))
-    (agrees-job a j k (units_of s.floor t) n (was s t j a scene does.is at) does.pays.returns.same does.pays.units does.pays.few)) in
+    (agrees-job a j k (units_of s.floor t) n (was s t j a scene does.is at) pays.returns.same pays.units pays.few)) in
     let back : GivesBack s w (λ f t d g. Settles f t d n g) (handed s floor w None) =
     record { held = h; is = mine; done = done; task_is = task; ran = ran; floor = floor; does_so = does; new_is = refl } in
     subst (λ o. IsScene (handed s floor w o) × GivesBack now w (λ f t d g. Settles f t d n g) (handed s floor w o)) (sym gone)
     (subst (λ f. IsScene (handed s f w None)) (sym does.new_is) right, subst (λ o. GivesBack o w (λ f t d g. Settles f t d n g) (handed s floor w None)) is back)
 
--- a piece that breaks its job was out
-fails-by : (old new : Seen) (d : Came) → HasFailed old d new → Breaks old d new → FailsBy old d new
-fails-by old new d failed breaks = elim failed [
+-- a piece that was out fails its job
+fails-by : (old new : Live) (d : Done) → work_at old d.task ≡ Some (brought d) → HasFailed old d new → FailsBy old d new
+fails-by old new d out failed = elim failed [
   | inl by ↦ by
-  | inr not ↦ absurd (true≢false (ap is_some (sym breaks.returns.was ∙ ap (λ j. work_at j d.task) (sym not.1) ∙ breaks.returns.free)))
+  | inr not ↦ absurd (not.0 (work-out old d out))
 ]
 
-breaks-of : (f : Floor) (t : ℕ) (done back : Done) (j : Seen) (floor : Floor) → job_of f.jobs t ≡ Some j → work_at j (done_of done).task ≡ Some (brought (done_of done))
-    → done_of back ≡ done_of done → FailsIn f t back (job_of f.jobs t) floor → BreaksJob f t done floor
+breaks-of : (f : Floor) (t : ℕ) (done back : Done) (j : Live) (floor : Floor) → job_of f.jobs t ≡ Some j → work_at j done.task ≡ Some (brought done)
+    → back ≡ done → FailsIn f t back (job_of f.jobs t) floor → BreaksJob f t done floor
 breaks-of f t done back j floor job out same fails =
-    let does = subst (λ o. FailsIn f t back o floor) job fails in
-    let broke = (subst (λ d. Fails j d does.next) same does.fails).own out in record {
-      job = j;
-      is = job;
-      next = does.next;
-      breaks = broke;
-      failed = fails-by j does.next (done_of done) (subst (λ d. HasFailed j d does.next) same does.failed) broke;
-      new_is = does.new_is;
-    }
+    let does = subst (λ d. FailsIn f t d (Some j) floor) same (subst (λ o. FailsIn f t back o floor) job fails) in
+    record { job = j; is = job; next = does.next; failed = fails-by j does.next done out does.failed; new_is = does.new_is }
 
 pub broken : (s now : Scene) (w : ℕ) (h : Held) (done back : Done) (mid floor : Floor) (hand : Option Held) → s ≡ now → IsScene s → w < 16 → hand_of s.hands w ≡ Some h
-    → done.task ≡ h.piece.task → brought (done_of done) ≡ held_work h → mid ≡ s.floor → done_of back ≡ done_of done
+    → done.task ≡ h.piece.task → brought done ≡ held_work h → mid ≡ s.floor → back ≡ done
     → FailsIn mid h.tenant back (job_of mid.jobs h.tenant) floor → hand ≡ None
     → IsScene (handed s floor w hand) × GivesBack now w BreaksJob (handed s floor w hand)
 broken s now w h done back mid floor hand is scene below mine task ran before same fails gone =
     let t = h.tenant in
     let runs = held-runs s w h scene mine in
-    let out : work_at runs.0 (done_of done).task ≡ Some (brought (done_of done)) = ap (work_at runs.0) task ∙ runs.2 ∙ ap Some (sym ran) in
+    let out : work_at runs.0 done.task ≡ Some (brought done) = ap (work_at runs.0) task ∙ runs.2 ∙ ap Some (sym ran) in
     let does : BreaksJob s.floor t done floor = breaks-of s.floor t done back runs.0 floor runs.1 out same (subst (λ (g : Floor). FailsIn g t back (job_of g.jobs t) floor) before fails) in
     let j = does.job in
     let k = does.next in
+    let breaks = fails-breaks j done k does.failed in
     let right : IsScene (handed s (with_job s.floor t (Some k)) w None) =
-    scene-given s w h j k s.floor.units scene below mine does.is (returned j k done h task ran does.breaks.returns) (but-none s.floor.units t)
-    (λ a at. agrees-same a j k (units_of s.floor t) (was s t j a scene does.is at) does.breaks.returns.same does.breaks.units) in
+    scene-given s w h j k s.floor.units scene below mine does.is (returned j k done h task ran breaks.returns) (but-none s.floor.units t)
+    (λ a at. agrees-same a j k (units_of s.floor t) (was s t j a scene does.is at) breaks.returns.same breaks.units) in
     let gives : GivesBack s w BreaksJob (handed s floor w None) =
     record { held = h; is = mine; done = done; task_is = task; ran = ran; floor = floor; does_so = does; new_is = refl } in
     subst (λ o. IsScene (handed s floor w o) × GivesBack now w BreaksJob (handed s floor w o)) (sym gone)
@@ -236,11 +231,11 @@ ended s now t a b spec lost floor is scene at has over calm replied sound left =
 pub never-strange : (s : Scene) (t : ℕ) (a : Account) (spec : Spec) → IsScene s → slice_get s.accounts t ≡ Some a → a.spec ≡ Some spec → IsStrange s.floor t spec → ⊥
 never-strange s t a spec scene at open_for strange = none (job_of s.floor.jobs t) refl (subst (λ o. Pairs o (job_of s.floor.jobs t)) open_for (scene.each t a at).pairs)
   where
-    none : (o : Option Seen) → job_of s.floor.jobs t ≡ o → Pairs (Some spec) o → ⊥
+    none : (o : Option Live) → job_of s.floor.jobs t ≡ o → Pairs (Some spec) o → ⊥
     none None is pairs = pairs
     none (Some j) is pairs = strange j is pairs
 
-pub cannot-reply : (s now : Scene) (t : ℕ) (o : Option Seen) → s ≡ now → job_of s.floor.jobs t ≡ o → CannotReply o → CannotReply (job_of now.floor.jobs t)
+pub cannot-reply : (s now : Scene) (t : ℕ) (o : Option Live) → s ≡ now → job_of s.floor.jobs t ≡ o → CannotReply o → CannotReply (job_of now.floor.jobs t)
 cannot-reply s now t o is job not = subst (λ (r : Scene). CannotReply (job_of r.floor.jobs t)) is (subst CannotReply (sym job) not)
 
 -- what was read is written again
@@ -256,7 +251,7 @@ written-again s now t a b is read same = ap (λ o. moved s t o s.floor) same ∙
 pub working-of : (f : Floor) (t : ℕ) (s : State) → Some s ≡ option_map (λ j. state_of j) (job_of f.jobs t) → s ≡ state.Working → IsWorking f t
 working-of f t s read is = works (job_of f.jobs t) refl (ap Some (sym is) ∙ read)
   where
-    works : (o : Option Seen) → job_of f.jobs t ≡ o → Some state.Working ≡ option_map (λ j. state_of j) o → IsWorking f t
+    works : (o : Option Live) → job_of f.jobs t ≡ o → Some state.Working ≡ option_map (λ j. state_of j) o → IsWorking f t
     works None job said = absurd (true≢false (ap is_some said))
     works (Some j) job said = record { job = j; is = job; working = sym (same_Some state.Working (state_of j) said) }
 

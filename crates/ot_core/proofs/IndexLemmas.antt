@@ -2,11 +2,11 @@
 use Rattle.std.proofs.Common.{◌≡◌, ◌≢◌, ◌<◌, ◌⊎◌, inl, inr, ℕ, zero, suc, List, [], ◌∷◌, length, map, get_or, set, replicate, refl, sym, ap, ◌∙◌, subst, arith, true≢false}
 use Rattle.std.proofs.lemmas.Bool.{cases_eq, cases_lt}
 use Rattle.std.proofs.lemmas.List.{get_or-set_same, get_or-set_other, set-get_or, length-map, get_or_default, get_or_past, get_or-replicate, length-replicate}
-use Rattle.std.specs.Prelude.{Option, Some, None, IsSome, is_some, option_map, slice_get}
+use Rattle.std.specs.Prelude.{Option, Some, None, IsSome, is_some, slice_get}
 use Rattle.std.proofs.lemmas.Option.{same_Some, slice_get_within, get_or_from_slice_get}
 use Rattle.std.proofs.Math.ListN.{get_or-map}
 use Rattle.slab.specs.Slab.{Slab, get, with_value}
-use Rattle.ot_job.specs.Live.{Live, Seen, seen_of}
+use Rattle.ot_job.specs.Live.{Live}
 use Rattle.ot_core.specs.Index.{job_at, key_of, Indexes}
 
 map-same : {X Y : Type 0} (f g : X → Y) (d : X) (xs : List X) → ((u : ℕ) → u < length xs → f (get_or xs u d) ≡ g (get_or xs u d)) → map f xs ≡ map g xs
@@ -25,7 +25,7 @@ map-changed f g d (y ∷ xs) (suc t) x same =
 
 job_at-other : (old new : Slab Live) (key : ℕ) (p : Option ℕ) → ((k : ℕ) → k ≢ key → get new k ≡ get old k) → p ≢ Some key → job_at new p ≡ job_at old p
 job_at-other old new key None others other = refl
-job_at-other old new key (Some k) others other = ap (option_map seen_of) (others k (λ e. other (ap Some e)))
+job_at-other old new key (Some k) others other = others k (λ e. other (ap Some e))
 
 -- one key changes, which is no other tenant's
 pub jobs-changed : (old new : Slab Live) (keys : List (Option ℕ)) (t key : ℕ) (p : Option ℕ)
@@ -103,7 +103,7 @@ at_key slab keys t key p some read is = elim (cases_lt t (length keys)) [
 pub not_others : (slab : Slab Live) (keys : List (Option ℕ)) (t key : ℕ) → Indexes slab keys → key_of keys t ≡ Some key → (u : ℕ) → u ≢ t → key_of keys u ≢ Some key
 not_others slab keys t key index mine u other is = other (index.apart u t key is mine)
 
-pub job-at_key : (slab : Slab Live) (keys : List (Option ℕ)) (t key : ℕ) → t < length keys → key_of keys t ≡ Some key → get_or (map (job_at slab) keys) t None ≡ option_map seen_of (get slab key)
+pub job-at_key : (slab : Slab Live) (keys : List (Option ℕ)) (t key : ℕ) → t < length keys → key_of keys t ≡ Some key → get_or (map (job_at slab) keys) t None ≡ get slab key
 job-at_key slab keys t key within mine = get_or-map (job_at slab) keys t None ∙ ap (job_at slab) mine
 
 key_within : (slab : Slab Live) (key : ℕ) → IsSome (get slab key) → key < length slab.slots
@@ -114,14 +114,14 @@ key_within slab key some = elim (cases_lt key (length slab.slots)) [
 
 -- a tenant's job is written over
 pub jobs-written : (slab : Slab Live) (keys : List (Option ℕ)) (t key : ℕ) (w : Live) → Indexes slab keys → t < length keys → key_of keys t ≡ Some key
-    → map (job_at (with_value slab key w)) keys ≡ set (map (job_at slab) keys) t (Some (seen_of w))
+    → map (job_at (with_value slab key w)) keys ≡ set (map (job_at slab) keys) t (Some w)
 jobs-written slab keys t key w index within mine =
     let new = with_value slab key w in
     ap (map (job_at new)) (sym (set-get_or keys t None) ∙ ap (set keys t) mine)
     ∙ jobs-changed slab new keys t key (Some key) (λ k other. get_or-set_other slab.slots key k (Some w) None other) (not_others slab keys t key index mine)
-    ∙ ap (set (map (job_at slab) keys) t) (ap (option_map seen_of) (get_or-set_same slab.slots key (Some w) None (key_within slab key (index.there t key mine))))
+    ∙ ap (set (map (job_at slab) keys) t) (get_or-set_same slab.slots key (Some w) None (key_within slab key (index.there t key mine)))
 
-pub within-jobs : (slab : Slab Live) (keys : List (Option ℕ)) (t : ℕ) (o : Option Seen) → slice_get (map (job_at slab) keys) t ≡ Some o → t < length keys
+pub within-jobs : (slab : Slab Live) (keys : List (Option ℕ)) (t : ℕ) (o : Option Live) → slice_get (map (job_at slab) keys) t ≡ Some o → t < length keys
 within-jobs slab keys t o is = omega (arith, slice_get_within (map (job_at slab) keys) t o is, length-map keys (job_at slab))
 
 -- a tenant that has no job has no key
@@ -142,4 +142,4 @@ indexes-none slab n = record {
 
 pub jobs-none : (slab : Slab Live) (n : ℕ) → map (job_at slab) (replicate n None) ≡ replicate n None
 jobs-none slab zero = refl
-jobs-none slab (suc n) = ap (λ (l : List (Option Seen)). None ∷ l) (jobs-none slab n)
+jobs-none slab (suc n) = ap (λ (l : List (Option Live)). None ∷ l) (jobs-none slab n)

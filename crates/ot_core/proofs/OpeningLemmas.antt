@@ -7,7 +7,7 @@ use Rattle.std.proofs.lemmas.Option.{same_Some, slice_get_within, slice_get-map,
 use Rattle.std.proofs.lemmas.List.{get_or-replicate, get_or_past, length-replicate, length-map}
 use Rattle.ot_store.specs.Arrays.{Named}
 use Rattle.ot_store.specs.declared.limits.Limits.{Limits}
-use Rattle.ot_job.specs.Live.{Seen}
+use Rattle.ot_job.specs.Live.{Live}
 use Rattle.ot_core.specs.Accounts.{Account, IsSound}
 use Rattle.ot_core.specs.Index.{job_of}
 use Rattle.ot_core.specs.Floors.{Floor, new_floor, units_of}
@@ -45,10 +45,10 @@ held-none : (n : ℕ) → AreHeld (replicate n None) (replicate 16 None)
 held-none n = record {
   out = λ w h is. absent h (sym (none-at Held 16 w) ∙ is);
   one = λ v w g h is _ _ _. absent g (sym (none-at Held 16 v) ∙ is);
-  all = λ t k work is. absent work (sym (ap (λ o. out_at o k) (none-at Seen n t)) ∙ is);
+  all = λ t k work is. absent work (sym (ap (λ o. out_at o k) (none-at Live n t)) ∙ is);
 }
 
-agrees-new : (a : Account) (job : Option Seen) (units : ℕ) → IsSound a → a.spec ≡ None → job ≡ None → units ≡ 0 → Agrees a job units
+agrees-new : (a : Account) (job : Option Live) (units : ℕ) → IsSound a → a.spec ≡ None → job ≡ None → units ≡ 0 → Agrees a job units
 agrees-new a job units sound closed none zero = record {
   sound = sound;
   pairs = subst (λ o. Pairs a.spec o) (sym none) (subst (λ o. Pairs o None) (sym closed) tt);
@@ -66,8 +66,8 @@ scene-new openings accounts floor hands are sound floor_is hands_are few =
       each = λ t a at.
           agrees-new a (job_of (new_floor n).jobs t) (units_of (new_floor n) t)
           (subst IsSound (get_or_from_slice_get accounts t a a at) (sound t a (slice_get_within accounts t a at)))
-          (fresh (slice_get openings t) a (sym (slice_get-map opening_of openings t) ∙ ap (λ l. slice_get l t) (sym are) ∙ at)) (none-at Seen n t) (zero-at n t);
-      jobs_many = length-replicate n (nothing Seen) ∙ sym many;
+          (fresh (slice_get openings t) a (sym (slice_get-map opening_of openings t) ∙ ap (λ l. slice_get l t) (sym are) ∙ at)) (none-at Live n t) (zero-at n t);
+      jobs_many = length-replicate n (nothing Live) ∙ sym many;
       units_many = length-replicate n no_units ∙ sym many;
       few = omega (arith, many, few);
       hands_many = length-replicate 16 (nothing Held);

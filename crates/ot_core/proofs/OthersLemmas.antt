@@ -4,8 +4,9 @@ use Rattle.std.proofs.lemmas.Bool.{cases_eq, cases_lt}
 use Rattle.std.proofs.lemmas.Bool.Decides.{nat_tests}
 use Rattle.std.specs.Prelude.{◌==◌, Option, Some, None, Result, Ok, Err, IfOk, OnOk, slice_get, option_map, if◌then◌else◌, false}
 use Rattle.std.proofs.lemmas.List.{get_or-set_same, get_or-set_other, get_or_past, length-set}
-use Rattle.ot_job.specs.Live.{Seen}
-use Rattle.ot_job.specs.declared.piece.Done.{Done}
+use Rattle.ot_job.specs.Live.{Live}
+use Rattle.ot_job.specs.Taken.{Came as Done}
+use Rattle.ot_job.specs.States.{aborted}
 use Rattle.ot_core.specs.Accounts.{Account}
 use Rattle.ot_core.specs.Index.{job_of}
 use Rattle.ot_core.specs.Floors.{Floor, with_job, with_settled, units_of, Settles}
@@ -26,10 +27,10 @@ pub record FloorBut (f : Floor) (t : ℕ) (g : Floor) : Type 0 where
 same-floor : (f : Floor) (t : ℕ) → FloorBut f t f
 same-floor f t = record { jobs = but-none f.jobs t; units = but-none f.units t }
 
-job-floor : (f g : Floor) (t : ℕ) (job : Option Seen) → g ≡ with_job f t job → FloorBut f t g
+job-floor : (f g : Floor) (t : ℕ) (job : Option Live) → g ≡ with_job f t job → FloorBut f t g
 job-floor f g t job is = subst (FloorBut f t) (sym is) (record { jobs = but-set f.jobs t job; units = but-none f.units t })
 
-settled-floor : (f g : Floor) (t : ℕ) (job : Seen) (n : ℕ) → g ≡ with_settled f t job n → FloorBut f t g
+settled-floor : (f g : Floor) (t : ℕ) (job : Live) (n : ℕ) → g ≡ with_settled f t job n → FloorBut f t g
 settled-floor f g t job n is = subst (FloorBut f t) (sym is) (record { jobs = but-set f.jobs t (Some job); units = but-set f.units t (units_of f t + n) })
 
 same : (u : ℕ) (old new : Scene) → new ≡ old → IsAsItWas u old new
@@ -129,7 +130,7 @@ others-reply t old new other did = absurd did
 
 others-abort : (t : ℕ) (old new : Scene) (stepped : Stepped) → Aborts old t stepped new → (u : ℕ) → u ≢ t → IsAsItWas u old new
 others-abort t old new NotNow did = λ u not. same u old new did.1
-others-abort t old new Aborted did = λ u not. by-floor u t old new did.floor not (job-floor old.floor did.floor t (Some did.aborts.next) did.aborts.new_is) did.new_is
+others-abort t old new Aborted did = λ u not. by-floor u t old new did.floor not (job-floor old.floor did.floor t (Some (aborted did.aborts.job)) did.aborts.new_is) did.new_is
 others-abort t old new other did = absurd did
 
 pub others : (e : Event) (old new : Scene) (stepped : Stepped) → Steps old e stepped new → LeavesOthers e old new

@@ -5,8 +5,9 @@ use Rattle.std.proofs.lemmas.Bool.{cases_eq}
 use Rattle.std.proofs.lemmas.Option.{same_Some, slice_get_within, unwrap_or-slice_get, slice_get_read}
 use Rattle.std.proofs.lemmas.List.{get_or-set_same, length-set}
 use Rattle.ot_check.specs.Jobs.{Spec}
-use Rattle.ot_job.specs.Live.{Seen}
-use Rattle.ot_job.specs.Dealings.{IsBegun, SameSpec, NoneOut, settled_units}
+use Rattle.ot_job.specs.Live.{Live}
+use Rattle.ot_job.specs.Dealings.{IsFresh, SameSpec, NoneOut, settled_units}
+use Rattle.ot_job.proofs.DealingsLemmas.{starts-fresh}
 use Rattle.ot_core.specs.Accounts.{Account, IsSound, answered}
 use Rattle.ot_core.specs.Asking.{IsAnswered, IsUnopened, Waits, with_reply}
 use Rattle.ot_core.specs.Index.{job_of}
@@ -46,7 +47,7 @@ but-read xs ys t d u but other = sym (unwrap_or-slice_get ys u d) ∙ ap (λ o. 
 -- ---- what goes together of one tenant
 
 -- the next line has its reply, and no job is left
-pub agrees-replied : (a : Account) (job : Option Seen) (units : ℕ) (lost : Bool) → Agrees a job units → IsSound (with_reply a lost) → Agrees (with_reply a lost) None units
+pub agrees-replied : (a : Account) (job : Option Live) (units : ℕ) (lost : Bool) → Agrees a job units → IsSound (with_reply a lost) → Agrees (with_reply a lost) None units
 agrees-replied a job units lost agrees sound = record {
   sound = sound;
   pairs = tt;
@@ -55,7 +56,7 @@ agrees-replied a job units lost agrees sound = record {
 }
 
 -- another account of the same log, for the same request
-pub agrees-account : (a b : Account) (job : Option Seen) (units : ℕ) → Agrees a job units → IsSound b → b.spec ≡ a.spec → answered b ≡ answered a → Agrees b job units
+pub agrees-account : (a b : Account) (job : Option Live) (units : ℕ) → Agrees a job units → IsSound b → b.spec ≡ a.spec → answered b ≡ answered a → Agrees b job units
 agrees-account a b job units agrees sound spec same = record {
   sound = sound;
   pairs = subst (λ o. Pairs o job) (sym spec) agrees.pairs;
@@ -64,7 +65,7 @@ agrees-account a b job units agrees sound spec same = record {
 }
 
 -- a request is open and its job begins
-pub agrees-opened : (a b : Account) (spec : Spec) (j : Seen) (units : ℕ) → Agrees a None units → IsSound b → Waits a spec b → IsBegun spec j → Agrees b (Some j) units
+pub agrees-opened : (a b : Account) (spec : Spec) (j : Live) (units : ℕ) → Agrees a None units → IsSound b → Waits a spec b → IsFresh spec j → Agrees b (Some j) units
 agrees-opened a b spec j units agrees sound waits begun = record {
   sound = sound;
   pairs = subst (λ o. Pairs o (Some j)) (sym (ap (λ (o : Account). o.spec) waits.new_is)) (record {
@@ -75,12 +76,12 @@ agrees-opened a b spec j units agrees sound waits begun = record {
   bounded = omega (arith, begun.units);
 }
 
-pairs-same : (o : Option Spec) (j k : Seen) → SameSpec j k → Pairs o (Some j) → Pairs o (Some k)
+pairs-same : (o : Option Spec) (j k : Live) → SameSpec j k → Pairs o (Some j) → Pairs o (Some k)
 pairs-same None j k same pairs = pairs
 pairs-same (Some x) j k same pairs = record { program = pairs.program ∙ sym same.program; before = pairs.before ∙ sym same.before }
 
 -- the same job later, with more units
-pub agrees-job : (a : Account) (j k : Seen) (units more : ℕ) → Agrees a (Some j) units → SameSpec j k
+pub agrees-job : (a : Account) (j k : Live) (units more : ℕ) → Agrees a (Some j) units → SameSpec j k
     → settled_units k ≡ settled_units j + more → settled_units k ≤ 20000 → Agrees a (Some k) (units + more)
 agrees-job a j k units more agrees same settled few = record {
   sound = agrees.sound;
@@ -90,7 +91,7 @@ agrees-job a j k units more agrees same settled few = record {
 }
 
 -- and with as many
-pub agrees-same : (a : Account) (j k : Seen) (units : ℕ) → Agrees a (Some j) units → SameSpec j k
+pub agrees-same : (a : Account) (j k : Live) (units : ℕ) → Agrees a (Some j) units → SameSpec j k
     → settled_units k ≡ settled_units j → Agrees a (Some k) units
 agrees-same a j k units agrees same settled = record {
   sound = agrees.sound;
@@ -102,10 +103,10 @@ agrees-same a j k units agrees same settled = record {
 -- ---- worlds
 
 -- the same pieces are out
-abbrev pub SameOut : List (Option Seen) → List (Option Seen) → Type 0
+abbrev pub SameOut : List (Option Live) → List (Option Live) → Type 0
 SameOut old new = (t k : ℕ) → out_at (job_of new t) k ≡ out_at (job_of old t) k
 
-pub held-same : (old new : List (Option Seen)) (hands : List (Option Held)) → SameOut old new → AreHeld old hands → AreHeld new hands
+pub held-same : (old new : List (Option Live)) (hands : List (Option Held)) → SameOut old new → AreHeld old hands → AreHeld new hands
 held-same old new hands same held = record {
   out = λ w h is. same h.tenant h.piece.task ∙ held.out w h is;
   one = held.one;
@@ -113,7 +114,7 @@ held-same old new hands same held = record {
 }
 
 -- of one tenant the same pieces are out, and the others' jobs are the same
-pub out-but : (old new : List (Option Seen)) (t : ℕ) → SameBut old t new → ((k : ℕ) → out_at (job_of new t) k ≡ out_at (job_of old t) k) → SameOut old new
+pub out-but : (old new : List (Option Live)) (t : ℕ) → SameBut old t new → ((k : ℕ) → out_at (job_of new t) k ≡ out_at (job_of old t) k) → SameOut old new
 out-but old new t but same u k = elim (cases_eq u t) [
   | inl is ↦ ap (λ v. out_at (job_of new v) k) is ∙ same k ∙ ap (λ v. out_at (job_of old v) k) (sym is)
   | inr other ↦ ap (λ o. out_at o k) (but-read old new t None u but other)
@@ -164,7 +165,7 @@ scene-account s t a b scene at sound spec same =
 pub jobless : (s : Scene) (t : ℕ) (a : Account) → IsScene s → slice_get s.accounts t ≡ Some a → a.spec ≡ None → job_of s.floor.jobs t ≡ None
 jobless s t a scene at free = no-job a.spec (job_of s.floor.jobs t) (scene.each t a at).pairs free
   where
-    no-job : (spec : Option Spec) (job : Option Seen) → Pairs spec job → spec ≡ None → job ≡ None
+    no-job : (spec : Option Spec) (job : Option Live) → Pairs spec job → spec ≡ None → job ≡ None
     no-job None None pairs is = refl
     no-job None (Some j) pairs is = absurd pairs
     no-job (Some s) None pairs is = refl
@@ -188,7 +189,7 @@ scene-answered s t a b scene at free sound answers =
     scene-moved s t a b s.floor scene at (but-none s.floor.jobs t) (but-none s.floor.units t)
     (subst (λ o. Agrees b o (units_of s.floor t)) (sym none) now) (λ k. refl)
 
-pub job-set : (jobs : List (Option Seen)) (t : ℕ) (job : Option Seen) → t < length jobs → job_of (set jobs t job) t ≡ job
+pub job-set : (jobs : List (Option Live)) (t : ℕ) (job : Option Live) → t < length jobs → job_of (set jobs t job) t ≡ job
 job-set jobs t job below = get_or-set_same jobs t job None below
 
 -- a tenant's request is open and its job begins
@@ -196,20 +197,21 @@ pub scene-opened : (s : Scene) (t : ℕ) (a b : Account) (spec : Spec) (floor : 
     → Waits a spec b → Submits s.floor t spec floor → IsScene (moved s t b floor)
 scene-opened s t a b spec floor scene at free sound waits submits =
     let j = submits.job in
+    let fresh = starts-fresh spec j submits.starts in
     let none = jobless s t a scene at free in
     let mine = job-set s.floor.jobs t (Some j) (there s t a scene at) in
     let was : Agrees a None (units_of s.floor t) = subst (λ o. Agrees a o (units_of s.floor t)) none (scene.each t a at) in
     subst (λ f. IsScene (moved s t b f)) (sym submits.new_is)
     (scene-moved s t a b (with_job s.floor t (Some j)) scene at (but-set s.floor.jobs t (Some j)) (but-none s.floor.units t)
-    (subst (λ o. Agrees b o (units_of s.floor t)) (sym mine) (agrees-opened a b spec j (units_of s.floor t) was sound waits submits.begun))
-    (λ k. ap (λ o. out_at o k) mine ∙ submits.begun.none k ∙ sym (ap (λ o. out_at o k) none)))
+    (subst (λ o. Agrees b o (units_of s.floor t)) (sym mine) (agrees-opened a b spec j (units_of s.floor t) was sound waits fresh))
+    (λ k. ap (λ o. out_at o k) mine ∙ fresh.none k ∙ sym (ap (λ o. out_at o k) none)))
 
 -- opened, and answered for want of memory
 pub reply-opened : (a b : Account) (spec : Spec) → Waits a spec b → with_reply b true ≡ with_reply a true
 reply-opened a b spec waits = ap (λ o. with_reply o true) waits.new_is
 
 -- a tenant is told what its job came to
-pub scene-replied : (s : Scene) (t : ℕ) (a : Account) (j : Seen) (lost : Bool) → IsScene s → slice_get s.accounts t ≡ Some a → IsSound (with_reply a lost)
+pub scene-replied : (s : Scene) (t : ℕ) (a : Account) (j : Live) (lost : Bool) → IsScene s → slice_get s.accounts t ≡ Some a → IsSound (with_reply a lost)
     → job_of s.floor.jobs t ≡ Some j → NoneOut j → IsScene (moved s t (with_reply a lost) (with_job s.floor t None))
 scene-replied s t a j lost scene at sound job calm =
     let mine = job-set s.floor.jobs t None (there s t a scene at) in

@@ -5,7 +5,7 @@ use Rattle.std.specs.Slice.Scan.{HoldsNowhere}
 use Rattle.std.proofs.Math.ListN.{get_or-map}
 use Rattle.std.proofs.lemmas.Bool.{cases_lt, ltb-false}
 use Rattle.std.proofs.lemmas.List.{ext_get_or, get_or_past, get_or-replicate, get_or-set_same, length-map, length-replicate, length-set, map-set, nil_from_length}
-use Rattle.ot_job.specs.Live.{Seen}
+use Rattle.ot_job.specs.Live.{Live}
 use Rattle.ot_job.specs.States.{claimable_in}
 use Rattle.ot_core.specs.Index.{job_of, has_claimable}
 use Rattle.ot_core.specs.Floors.{NothingAt}
@@ -16,45 +16,45 @@ use Rattle.ot_core.specs.declared.hall.Hall.TheInside.{Inside}
 
 -- ---- the marks
 
-abbrev pub AreMarked : List Bool → List (Option Seen) → Type 0
+abbrev pub AreMarked : List Bool → List (Option Live) → Type 0
 AreMarked marks jobs = marks ≡ map has_claimable jobs
 
 -- the tenant's job has become another, and its mark is put anew
-pub marked-anew : (marks : List Bool) (jobs : List (Option Seen)) (t : ℕ) (job : Option Seen) → AreMarked marks jobs → AreMarked (set marks t (has_claimable job)) (set jobs t job)
+pub marked-anew : (marks : List Bool) (jobs : List (Option Live)) (t : ℕ) (job : Option Live) → AreMarked marks jobs → AreMarked (set marks t (has_claimable job)) (set jobs t job)
 marked-anew marks jobs t job are = ap (λ m. set m t (has_claimable job)) are ∙ sym (map-set has_claimable jobs t job)
 
-pub marked-read : (marks : List Bool) (jobs : List (Option Seen)) (t : ℕ) (job : Option Seen) → AreMarked marks jobs → t < length jobs
+pub marked-read : (marks : List Bool) (jobs : List (Option Live)) (t : ℕ) (job : Option Live) → AreMarked marks jobs → t < length jobs
     → AreMarked (set marks t (has_claimable (job_of (set jobs t job) t))) (set jobs t job)
 marked-read marks jobs t job are within =
     subst (λ j. AreMarked (set marks t (has_claimable j)) (set jobs t job)) (sym (get_or-set_same jobs t job None within)) (marked-anew marks jobs t job are)
 
-pub as-many-marks : (marks : List Bool) (jobs : List (Option Seen)) → AreMarked marks jobs → length marks ≡ length jobs
+pub as-many-marks : (marks : List Bool) (jobs : List (Option Live)) → AreMarked marks jobs → length marks ≡ length jobs
 as-many-marks marks jobs are = ap length are ∙ length-map jobs has_claimable
 
-mark-is : (marks : List Bool) (jobs : List (Option Seen)) (t : ℕ) → AreMarked marks jobs → is_marked marks t ≡ has_claimable (job_of jobs t)
+mark-is : (marks : List Bool) (jobs : List (Option Live)) (t : ℕ) → AreMarked marks jobs → is_marked marks t ≡ has_claimable (job_of jobs t)
 mark-is marks jobs t are = ap (λ m. is_marked m t) are ∙ get_or-map has_claimable jobs t None
 
 -- ---- what they tell
 
-nothing : (jobs : List (Option Seen)) (t : ℕ) → has_claimable (job_of jobs t) ≡ false → NothingAt jobs t
+nothing : (jobs : List (Option Live)) (t : ℕ) → has_claimable (job_of jobs t) ≡ false → NothingAt jobs t
 nothing jobs t not_so j here = nil_from_length (claimable_in j) (omega (arith, ltb-false 0 (length (claimable_in j)) (sym (ap has_claimable here) ∙ not_so)))
 
-something : (jobs : List (Option Seen)) (t : ℕ) (job : Option Seen) → job_of jobs t ≡ job → has_claimable job ≡ true → ¬ (NothingAt jobs t)
+something : (jobs : List (Option Live)) (t : ℕ) (job : Option Live) → job_of jobs t ≡ job → has_claimable job ≡ true → ¬ (NothingAt jobs t)
 something jobs t None is is_so none = true≢false (sym is_so)
 something jobs t (Some j) is is_so none = true≢false (sym is_so ∙ ap (λ tasks. nat_lt 0 (length tasks)) (none j is))
 
-nothing-in : (marks : List Bool) (jobs : List (Option Seen)) (from to : ℕ) → AreMarked marks jobs → HoldsNowhere (is_marked marks) from to → NothingIn jobs from to
+nothing-in : (marks : List Bool) (jobs : List (Option Live)) (from to : ℕ) → AreMarked marks jobs → HoldsNowhere (is_marked marks) from to → NothingIn jobs from to
 nothing-in marks jobs from to are none t after before = nothing jobs t (sym (mark-is marks jobs t are) ∙ none t after before)
 
 -- ---- whose turn it is
 
-some-at : (marks : List Bool) (jobs : List (Option Seen)) (from t : ℕ) → AreMarked marks jobs → IsFirst marks from (Some t) → ¬ (NothingAt jobs t)
+some-at : (marks : List Bool) (jobs : List (Option Live)) (from t : ℕ) → AreMarked marks jobs → IsFirst marks from (Some t) → ¬ (NothingAt jobs t)
 some-at marks jobs from t are first = something jobs t (job_of jobs t) refl (sym (mark-is marks jobs t are) ∙ first.1.hit first.0)
 
-pub next-on : (marks : List Bool) (jobs : List (Option Seen)) (from t : ℕ) → AreMarked marks jobs → IsFirst marks from (Some t) → IsNext jobs from (Some t)
+pub next-on : (marks : List Bool) (jobs : List (Option Live)) (from t : ℕ) → AreMarked marks jobs → IsFirst marks from (Some t) → IsNext jobs from (Some t)
 next-on marks jobs from t are first = (some-at marks jobs from t are first, inl (first.1.low, nothing-in marks jobs from t are first.1.before))
 
-pub next-again : (marks : List Bool) (jobs : List (Option Seen)) (from : ℕ) (next : Option ℕ) → AreMarked marks jobs → IsFirst marks from None → IsFirst marks 0 next → IsNext jobs from next
+pub next-again : (marks : List Bool) (jobs : List (Option Live)) (from : ℕ) (next : Option ℕ) → AreMarked marks jobs → IsFirst marks from None → IsFirst marks 0 next → IsNext jobs from next
 next-again marks jobs from None are none first = λ t. elim (cases_lt t (length marks)) [
   | inl within ↦ nothing-in marks jobs 0 (length marks) are first t (omega arith) within
   | inr past ↦ nothing jobs t (sym (mark-is marks jobs t are) ∙ get_or_past marks t false past)
@@ -63,23 +63,23 @@ next-again marks jobs from (Some t) are none first =
     (some-at marks jobs 0 t are first, inr (subst (NothingIn jobs from) (as-many-marks marks jobs are) (nothing-in marks jobs from (length marks) are none), nothing-in marks jobs 0 t are first.1.before))
 
 -- whether some mark is set
-pub any-marked : (marks : List Bool) (jobs : List (Option Seen)) (next : Option ℕ) → AreMarked marks jobs → IsFirst marks 0 next → is_some next ≡ true → ¬ (NothingAnywhere jobs)
+pub any-marked : (marks : List Bool) (jobs : List (Option Live)) (next : Option ℕ) → AreMarked marks jobs → IsFirst marks 0 next → is_some next ≡ true → ¬ (NothingAnywhere jobs)
 any-marked marks jobs None are first is_so none = true≢false (sym is_so)
 any-marked marks jobs (Some t) are first is_so none = some-at marks jobs 0 t are first (none t)
 
-pub none-marked : (marks : List Bool) (jobs : List (Option Seen)) (next : Option ℕ) → AreMarked marks jobs → IsFirst marks 0 next → is_some next ≡ false → NothingAnywhere jobs
+pub none-marked : (marks : List Bool) (jobs : List (Option Live)) (next : Option ℕ) → AreMarked marks jobs → IsFirst marks 0 next → is_some next ≡ false → NothingAnywhere jobs
 none-marked marks jobs None are first not_so = next-again marks jobs 0 None are first first
 none-marked marks jobs (Some t) are first not_so = absurd (true≢false not_so)
 
 -- ---- the hall, where a tenant's job has become another
 
-pub noted : (h : Inside) (t : ℕ) (job : Option Seen) (jobs : List (Option Seen)) (claims : Bool) (marks : List Bool) → IsHall h → t < length h.jobs → jobs ≡ set h.jobs t job
+pub noted : (h : Inside) (t : ℕ) (job : Option Live) (jobs : List (Option Live)) (claims : Bool) (marks : List Bool) → IsHall h → t < length h.jobs → jobs ≡ set h.jobs t job
     → claims ≡ has_claimable (job_of jobs t) → marks ≡ set h.marks t claims → AreMarked marks jobs
 noted h t job jobs claims marks is within jobs_are claims_is marks_are =
     marks_are ∙ ap (set h.marks t) claims_is
     ∙ subst (λ js. AreMarked (set h.marks t (has_claimable (job_of js t))) js) (sym jobs_are) (marked-read h.marks h.jobs t job is.marks within)
 
-pub hall-noted : (h : Inside) (t : ℕ) (job : Option Seen) (jobs : List (Option Seen)) (claims : Bool) (marks : List Bool) → IsHall h → t < length h.jobs → jobs ≡ set h.jobs t job
+pub hall-noted : (h : Inside) (t : ℕ) (job : Option Live) (jobs : List (Option Live)) (claims : Bool) (marks : List Bool) → IsHall h → t < length h.jobs → jobs ≡ set h.jobs t job
     → claims ≡ has_claimable (job_of jobs t) → marks ≡ set h.marks t claims → IsHall (record { jobs = jobs; marks = marks; units = h.units; total = h.total })
 hall-noted h t job jobs claims marks is within jobs_are claims_is marks_are =
     let many : length jobs ≡ length h.jobs = ap length jobs_are ∙ length-set h.jobs t job in record {
@@ -90,10 +90,10 @@ hall-noted h t job jobs claims marks is within jobs_are claims_is marks_are =
     }
 
 -- nobody has a job, and no mark is set
-pub none-at-first : (n : ℕ) (jobs : List (Option Seen)) (marks : List Bool) → jobs ≡ replicate n None → marks ≡ replicate n false → AreMarked marks jobs
+pub none-at-first : (n : ℕ) (jobs : List (Option Live)) (marks : List Bool) → jobs ≡ replicate n None → marks ≡ replicate n false → AreMarked marks jobs
 none-at-first n jobs marks jobs_are marks_are = marks_are ∙ sym none ∙ ap (map has_claimable) (sym jobs_are)
   where
-    empty : List (Option Seen)
+    empty : List (Option Live)
     empty = replicate n None
 
     many : length (map has_claimable empty) ≡ n

@@ -2,7 +2,7 @@
 use Rattle.std.specs.Prelude.{◌≡◌, ◌<◌, ◌+◌, ◌*◌, ℕ, zero, suc, nat_lt, if◌then◌else◌, List, length, All, Option, Some, None, IsSome, slice_get}
 use Rattle.std.specs.List.{sum_by}
 use Rattle.ot_check.specs.Jobs.{Spec}
-use Rattle.ot_job.specs.Live.{Seen}
+use Rattle.ot_job.specs.Live.{Live}
 use Rattle.ot_job.specs.States.{claimable_in}
 use Rattle.ot_job.specs.Dealings.{NoneOut, state_of}
 use Rattle.ot_job.specs.declared.state.State.{State}
@@ -35,11 +35,11 @@ over_by Failing = 0
 over_by Ended = 1
 over_by Failed = 1
 
-abbrev pub over_of : Option Seen → ℕ
+abbrev pub over_of : Option Live → ℕ
 over_of None = 0
 over_of (Some j) = over_by (state_of j)
 
-abbrev pub claimable_of : Option Seen → ℕ
+abbrev pub claimable_of : Option Live → ℕ
 claimable_of None = 0
 claimable_of (Some j) = length (claimable_in j)
 
@@ -85,11 +85,11 @@ IsMove s (event.Reply t) = 0 < over_of (job_of s.floor.jobs t)
 IsMove s (event.Abort t) = ⊥
 
 -- a job that works with no piece out has a claimable task, and one that fails has a piece out
-pub record IsLively (j : Seen) : Type 0 where
+pub record IsLively (j : Live) : Type 0 where
   pub works : state_of j ≡ Working → NoneOut j → 0 < length (claimable_in j)
   pub fails : state_of j ≡ Failing → NoneOut j → ⊥
 
-abbrev pub LivelyAt : Option Seen → Type 0
+abbrev pub LivelyAt : Option Live → Type 0
 LivelyAt None = Unit {0}
 LivelyAt (Some j) = IsLively j
 

@@ -2,15 +2,13 @@
 use Rattle.std.specs.Prelude.{◌≡◌, ◌+◌, ◌⊎◌, ℕ, List, [], replicate, Option, Some, None, slice_get, slice_set, slice_index_or}
 use Rattle.std.specs.List.{sum_by}
 use Rattle.ot_check.specs.Jobs.{Spec, IsMeaning}
-use Rattle.ot_job.specs.Live.{Seen}
+use Rattle.ot_job.specs.Live.{Live}
 use Rattle.ot_job.specs.States.{Starts, Fails as HasFailed, claimable_in, aborted}
 use Rattle.ot_job.specs.Claims.{Claimed}
-use Rattle.ot_job.specs.Settling.{Settles as HasSettled}
-use Rattle.ot_job.specs.Taken.{taken_of}
-use Rattle.ot_job.specs.DoneView.{done_of}
-use Rattle.ot_job.specs.Dealings.{IsBegun, IsOf, Gives, Pays, Fails, Aborts, Refuses, NoneOut, state_of}
-use Rattle.ot_job.specs.Taken.{Parts as Piece}
-use Rattle.ot_job.specs.declared.piece.Done.{Done}
+use Rattle.ot_job.specs.Settling.{Settles as HasSettled, Refuses}
+use Rattle.ot_job.specs.Dealings.{IsOf, NoneOut, state_of}
+use Rattle.ot_job.specs.Taken.{Taken as Piece}
+use Rattle.ot_job.specs.Taken.{Came as Done}
 use Rattle.ot_job.specs.declared.piece.Refused.{Refused}
 use Rattle.ot_job.specs.declared.piece.Refused.TheVariants.{Stranger}
 use Rattle.ot_job.specs.declared.state.State.TheVariants as state
@@ -19,7 +17,7 @@ use Rattle.ot_core.specs.declared.hall.Collected.{Collected}
 use Rattle.ot_core.specs.declared.hall.Collected.TheVariants as collected
 
 pub record Floor : Type 0 where
-  pub jobs : List (Option Seen)
+  pub jobs : List (Option Live)
   pub units : List ℕ
 
 -- the units settled for a tenant
@@ -35,11 +33,11 @@ abbrev pub new_floor : ℕ → Floor
 new_floor n = record { jobs = replicate n None; units = replicate n 0 }
 
 -- with another job of one tenant
-abbrev pub with_job : Floor → ℕ → Option Seen → Floor
+abbrev pub with_job : Floor → ℕ → Option Live → Floor
 with_job f t job = record { jobs = slice_set f.jobs t job; units = f.units }
 
 -- and with more units of it
-abbrev pub with_settled : Floor → ℕ → Seen → ℕ → Floor
+abbrev pub with_settled : Floor → ℕ → Live → ℕ → Floor
 with_settled f t job n = record { jobs = slice_set f.jobs t (Some job); units = slice_set f.units t (units_of f t + n) }
 
 -- there is such a tenant, and it has no job
@@ -49,22 +47,20 @@ IsFree f t = slice_get f.jobs t ≡ Some None
 -- the tenant has a job of this spec that begins
 pub record Submits (old : Floor) (t : ℕ) (spec : Spec) (new : Floor) : Type 0 where
   pub free : IsFree old t
-  pub job : Seen
-  pub begun : IsBegun spec job
+  pub job : Live
   pub starts : Starts spec job
   pub new_is : new ≡ with_job old t (Some job)
 
 -- the tenant has no claimable task
-abbrev pub NothingAt : List (Option Seen) → ℕ → Type 0
-NothingAt jobs t = (j : Seen) → job_of jobs t ≡ Some j → claimable_in j ≡ []
+abbrev pub NothingAt : List (Option Live) → ℕ → Type 0
+NothingAt jobs t = (j : Live) → job_of jobs t ≡ Some j → claimable_in j ≡ []
 
 -- a piece of the tenant's job is claimed
 pub record Claims (old : Floor) (t pick : ℕ) (piece : Piece) (new : Floor) : Type 0 where
-  pub job : Seen
+  pub job : Live
   pub is : job_of old.jobs t ≡ Some job
-  pub next : Seen
-  pub gives : Gives job (Some (taken_of piece)) next
-  pub claimed : Claimed job pick (Some (taken_of piece)) next
+  pub next : Live
+  pub claimed : Claimed job pick (Some piece) next
   pub new_is : new ≡ with_job old t (Some next)
 
 abbrev pub ClaimsOf : Floor → ℕ → ℕ → Option Piece → Floor → Type 0
@@ -73,53 +69,48 @@ ClaimsOf old t pick (Some piece) new = Claims old t pick piece new
 
 -- the tenant's job works
 pub record IsWorking (f : Floor) (t : ℕ) : Type 0 where
-  pub job : Seen
+  pub job : Live
   pub is : job_of f.jobs t ≡ Some job
   pub working : state_of job ≡ state.Working
 
 -- a piece of the tenant's job is settled, and its units are counted
 pub record Settles (old : Floor) (t : ℕ) (done : Done) (n : ℕ) (new : Floor) : Type 0 where
-  pub job : Seen
+  pub job : Live
   pub is : job_of old.jobs t ≡ Some job
-  pub next : Seen
-  pub pays : Pays job (done_of done) n next
-  pub settled : HasSettled job (done_of done) n next
+  pub next : Live
+  pub settled : HasSettled job done n next
   pub new_is : new ≡ with_settled old t next n
 
 -- why the piece of a tenant isn't settled; without a job it is a stranger's
-abbrev pub RefusesIn : Option Seen → Done → Refused → Type 0
+abbrev pub RefusesIn : Option Live → Done → Refused → Type 0
 RefusesIn None done why = why ≡ Stranger
-RefusesIn (Some j) done why = Refuses j (done_of done) why
+RefusesIn (Some j) done why = Refuses j done why
 
 -- a piece comes back to the tenant's job, and fails it
-pub record FailsJob (old : Floor) (t : ℕ) (done : Done) (job : Seen) (new : Floor) : Type 0 where
-  pub next : Seen
-  pub fails : Fails job (done_of done) next
-  pub failed : HasFailed job (done_of done) next
+pub record FailsJob (old : Floor) (t : ℕ) (done : Done) (job : Live) (new : Floor) : Type 0 where
+  pub next : Live
+  pub failed : HasFailed job done next
   pub new_is : new ≡ with_job old t (Some next)
 
-abbrev pub FailsIn : Floor → ℕ → Done → Option Seen → Floor → Type 0
+abbrev pub FailsIn : Floor → ℕ → Done → Option Live → Floor → Type 0
 FailsIn old t done None new = new ≡ old
 FailsIn old t done (Some job) new = FailsJob old t done job new
 
 -- the tenant's job fails
 pub record AbortsJob (old : Floor) (t : ℕ) (new : Floor) : Type 0 where
-  pub job : Seen
+  pub job : Live
   pub is : job_of old.jobs t ≡ Some job
-  pub next : Seen
-  pub aborts : Aborts job next
-  pub now : next ≡ aborted job
-  pub new_is : new ≡ with_job old t (Some next)
+  pub new_is : new ≡ with_job old t (Some (aborted job))
 
 -- the tenant has a job of this spec
 pub record HasJob (f : Floor) (t : ℕ) (spec : Spec) : Type 0 where
-  pub job : Seen
+  pub job : Live
   pub is : job_of f.jobs t ≡ Some job
   pub of : IsOf spec job
 
 -- the tenant has no job, or its job's spec is another
 abbrev pub IsStrange : Floor → ℕ → Spec → Type 0
-IsStrange f t spec = (j : Seen) → job_of f.jobs t ≡ Some j → IsOf spec j → ⊥
+IsStrange f t spec = (j : Live) → job_of f.jobs t ≡ Some j → IsOf spec j → ⊥
 
 -- Whoever submitted this spec asks for its job. One that is over is taken out.
 abbrev pub Collects : Floor → ℕ → Spec → Collected → Floor → Type 0

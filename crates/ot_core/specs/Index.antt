@@ -1,27 +1,26 @@
 -- Where each tenant's job lies.
-use Rattle.std.specs.Prelude.{◌≡◌, ℕ, nat_lt, Bool, false, List, length, Option, None, Some, IsSome, map, option_map, slice_index_or, slice_set}
+use Rattle.std.specs.Prelude.{◌≡◌, ℕ, nat_lt, Bool, false, List, length, Option, None, Some, IsSome, map, slice_index_or, slice_set}
 use Rattle.slab.specs.Slab.{Slab, get}
 use Rattle.ot_check.specs.Jobs.{Spec}
-use Rattle.ot_job.specs.Live.{Live, Seen, seen_of}
+use Rattle.ot_job.specs.Live.{Live}
 use Rattle.ot_job.specs.States.{Starts, claimable_in}
-use Rattle.ot_job.specs.Dealings.{IsBegun}
 use Rattle.ot_core.specs.declared.live.Jobs.TheInside.{Inside}
 
 -- the tenant's job
-abbrev pub job_of : List (Option Seen) → ℕ → Option Seen
+abbrev pub job_of : List (Option Live) → ℕ → Option Live
 job_of jobs tenant = slice_index_or jobs tenant None
 
 -- whether the tenant of this job has a claimable task
-abbrev pub has_claimable : Option Seen → Bool
+abbrev pub has_claimable : Option Live → Bool
 has_claimable None = false
 has_claimable (Some j) = nat_lt 0 (length (claimable_in j))
 
 -- the job at a key
-abbrev pub job_at : Slab Live → Option ℕ → Option Seen
+abbrev pub job_at : Slab Live → Option ℕ → Option Live
 job_at s None = None
-job_at s (Some key) = option_map seen_of (get s key)
+job_at s (Some key) = get s key
 
-abbrev pub jobs_of : Inside → List (Option Seen)
+abbrev pub jobs_of : Inside → List (Option Live)
 jobs_of l = map (job_at l.slab) l.keys.items
 
 -- the key of the tenant's job
@@ -37,8 +36,7 @@ abbrev pub IsIndexed : Inside → Type 0
 IsIndexed l = Indexes l.slab l.keys.items
 
 -- the tenant has a job that begins
-pub record Begins (old : List (Option Seen)) (tenant : ℕ) (spec : Spec) (new : List (Option Seen)) : Type 0 where
-  pub job : Seen
-  pub begun : IsBegun spec job
+pub record Begins (old : List (Option Live)) (tenant : ℕ) (spec : Spec) (new : List (Option Live)) : Type 0 where
+  pub job : Live
   pub starts : Starts spec job
   pub new_is : new ≡ slice_set old tenant (Some job)

@@ -1,12 +1,11 @@
 -- What each event does.
 use Rattle.std.specs.Prelude.{◌≡◌, ◌≢◌, ◌==◌, if◌then◌else◌, ◌⊎◌, ℕ, List, option_map, IsSome, Bool, true, false, Option, Some, None, slice_get, slice_set}
 use Rattle.ot_check.specs.Jobs.{Spec}
-use Rattle.ot_job.specs.Live.{Seen}
-use Rattle.ot_job.specs.DoneView.{done_of}
+use Rattle.ot_job.specs.Live.{Live}
 use Rattle.ot_job.specs.States.{FailsBy}
-use Rattle.ot_job.specs.Dealings.{Breaks, brought, state_of}
-use Rattle.ot_job.specs.Taken.{Parts as Piece}
-use Rattle.ot_job.specs.declared.piece.Done.{Done}
+use Rattle.ot_job.specs.Dealings.{brought, state_of}
+use Rattle.ot_job.specs.Taken.{Taken as Piece}
+use Rattle.ot_job.specs.Taken.{Came as Done}
 use Rattle.ot_job.specs.declared.state.State.TheVariants as state
 use Rattle.ot_core.specs.Accounts.{Account}
 use Rattle.ot_core.specs.Asking as asking
@@ -95,11 +94,10 @@ Starts old (Some w) t pick other new = ⊥
 
 -- the hand's piece fails its job
 pub record BreaksJob (old : Floor) (t : ℕ) (done : Done) (new : Floor) : Type 0 where
-  pub job : Seen
+  pub job : Live
   pub is : job_of old.jobs t ≡ Some job
-  pub next : Seen
-  pub breaks : Breaks job (done_of done) next
-  pub failed : FailsBy job (done_of done) next
+  pub next : Live
+  pub failed : FailsBy job done next
   pub new_is : new ≡ with_job old t (Some next)
 
 -- the hand gives its piece back, which was run: it is settled, or the job fails
@@ -108,7 +106,7 @@ pub record GivesBack (old : Scene) (w : ℕ) (does : Floor → ℕ → Done → 
   pub is : hand_of old.hands w ≡ Some held
   pub done : Done
   pub task_is : done.task ≡ held.piece.task
-  pub ran : brought (done_of done) ≡ held_work held
+  pub ran : brought done ≡ held_work held
   pub floor : Floor
   pub does_so : does old.floor held.tenant done floor
   pub new_is : new ≡ handed old floor w None
@@ -126,14 +124,14 @@ Finishes old (Some w) other new = ⊥
 pub record EndsJob (old : Scene) (t : ℕ) (new : Scene) : Type 0 where
   pub account : Account
   pub is : slice_get old.accounts t ≡ Some account
-  pub job : Seen
+  pub job : Live
   pub job_is : job_of old.floor.jobs t ≡ Some job
   pub lost : Bool
   pub over : ((lost ≡ false) × (state_of job ≡ state.Ended)) ⊎ ((lost ≡ true) × (state_of job ≡ state.Failed))
   pub new_is : new ≡ moved old t (with_reply account lost) (with_job old.floor t None)
 
 -- no job of the tenant is over
-abbrev pub CannotReply : Option Seen → Type 0
+abbrev pub CannotReply : Option Live → Type 0
 CannotReply None = Unit {0}
 CannotReply (Some j) = (state_of j ≡ state.Working) ⊎ (state_of j ≡ state.Failing)
 

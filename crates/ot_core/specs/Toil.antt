@@ -1,7 +1,7 @@
 -- How much is left to do in a world.
 use Rattle.std.specs.Prelude.{ℕ, ◌+◌, ◌*◌, ◌-◌, length, Option, Some, None}
 use Rattle.std.specs.List.{sum_by}
-use Rattle.ot_job.specs.Live.{Seen}
+use Rattle.ot_job.specs.Live.{Live}
 use Rattle.ot_job.specs.Dealings.{state_of, weight_of, out_of}
 use Rattle.ot_job.specs.declared.state.State.{State}
 use Rattle.ot_job.specs.declared.state.State.TheVariants.{Working, Failing, Ended, Failed}
@@ -9,14 +9,14 @@ use Rattle.ot_core.specs.Accounts.{Account, answered}
 use Rattle.ot_core.specs.Scenes.{Scene}
 use Rattle.ot_core.specs.declared.held.Held.{Held}
 
-abbrev pub toil_by : State → Seen → ℕ
+abbrev pub toil_by : State → Live → ℕ
 toil_by Working j = 2 + 2 * weight_of j
 toil_by Failing j = 1 + 2 * out_of j
 toil_by Ended j = 1
 toil_by Failed j = 1
 
 -- of a job: its weight while it works, then its pieces that are out
-abbrev pub toil_of : Option Seen → ℕ
+abbrev pub toil_of : Option Live → ℕ
 toil_of None = 0
 toil_of (Some j) = toil_by (state_of j) j
 

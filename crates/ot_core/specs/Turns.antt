@@ -1,19 +1,19 @@
 -- Claims by turn.
 use Rattle.std.specs.Prelude.{◌≡◌, ◌≤◌, ◌<◌, ◌⊎◌, ℕ, List, length, Option, Some, None}
-use Rattle.ot_job.specs.Live.{Seen}
-use Rattle.ot_job.specs.Taken.{Parts as Piece}
+use Rattle.ot_job.specs.Live.{Live}
+use Rattle.ot_job.specs.Taken.{Taken as Piece}
 use Rattle.ot_core.specs.Floors.{Floor, Claims, NothingAt, IsWorking}
 
 -- no tenant from one number up to another has a claimable task
-abbrev pub NothingIn : List (Option Seen) → ℕ → ℕ → Type 0
+abbrev pub NothingIn : List (Option Live) → ℕ → ℕ → Type 0
 NothingIn jobs from to = (t : ℕ) → from ≤ t → t < to → NothingAt jobs t
 
 -- no tenant has a claimable task
-abbrev pub NothingAnywhere : List (Option Seen) → Type 0
+abbrev pub NothingAnywhere : List (Option Live) → Type 0
 NothingAnywhere jobs = (t : ℕ) → NothingAt jobs t
 
 -- the first tenant with a claimable task from one number on, and else the first of all
-abbrev pub IsNext : List (Option Seen) → ℕ → Option ℕ → Type 0
+abbrev pub IsNext : List (Option Live) → ℕ → Option ℕ → Type 0
 IsNext jobs first None = NothingAnywhere jobs
 IsNext jobs first (Some t) = ¬ (NothingAt jobs t) × (((first ≤ t) × NothingIn jobs first t) ⊎ (NothingIn jobs first (length jobs) × NothingIn jobs 0 t))
 

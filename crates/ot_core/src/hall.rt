@@ -47,12 +47,12 @@ pub enum Collected {
 
 impl Model for Hall {
     ghost use Rattle.std.specs.Coded.{codes};
-    ghost use Rattle.ot_model.specs.Code.{value_code, body_code};
+    ghost use Rattle.ot_model.specs.Code.{body_code};
     ghost use Rattle.ot_core.specs.Floors.{Floor};
 
     ghost Value = { Floor };
 
-    ghost coded = { Prim.hlevel (codes, value_code, body_code) };
+    ghost coded = { Prim.hlevel (codes, body_code) };
 
     ghost use Rattle.ot_core.specs.FloorView.{floor_of, IsHall};
 
@@ -64,7 +64,6 @@ impl Model for Hall {
 impl Hall {
     ghost use Rattle.std.specs.Prelude.{◌≡◌, ◌≢◌, ◌↔◌, ◌<◌, ◌≤◌, ◌+◌, ◌^◌, [], None, Some, IfOk, IfErr, OnErr, IsTrue, IsSome, false, length, option_map};
     ghost use Rattle.ot_job.specs.States.{claimable_in};
-    ghost use Rattle.ot_job.specs.DoneView.{done_of};
     ghost use Rattle.ot_job.specs.Dealings.{state_of};
     ghost use Rattle.ot_core.specs.Index.{job_of};
     ghost use Rattle.ot_core.specs.Floors.{new_floor, units_of, total_of, IsFree, Submits, ClaimsOf, IsWorking, NothingAt, Settles, RefusesIn, FailsIn, AbortsJob, Collects};
@@ -163,7 +162,7 @@ impl Hall {
         requires { total_of self.old + 20000 < 2 ^ 63 }
         ensures settled { IfOk result (λ units. Settles self.old tenant done units self.new) }
         ensures few { IfOk result (λ units. units ≤ 20000) }
-        ensures same { IfErr result (λ r. done_of r.0 ≡ done_of done) }
+        ensures same { IfErr result (λ r. r.0 ≡ done) }
         ensures refuses { IfErr result (λ r. RefusesIn (job_of self.old.jobs tenant) done r.1) }
         ensures refused { OnErr result (self.new ≡ self.old) }
     {

@@ -17,12 +17,12 @@ pub(crate) struct Jobs {
 impl Model for Jobs {
     ghost use Rattle.std.specs.Prelude.{List, Option};
     ghost use Rattle.std.specs.Coded.{codes};
-    ghost use Rattle.ot_model.specs.Code.{value_code, body_code};
-    ghost use Rattle.ot_job.specs.Live.{Seen};
+    ghost use Rattle.ot_model.specs.Code.{body_code};
+    ghost use Rattle.ot_job.specs.Live.{Live};
 
-    ghost Value = { List (Option Seen) };
+    ghost Value = { List (Option Live) };
 
-    ghost coded = { Prim.hlevel (codes, value_code, body_code) };
+    ghost coded = { Prim.hlevel (codes, body_code) };
 
     ghost use Rattle.ot_core.specs.Index.{jobs_of, IsIndexed};
 
@@ -32,9 +32,8 @@ impl Model for Jobs {
 }
 
 impl Jobs {
-    ghost use Rattle.std.specs.Prelude.{◌≡◌, None, Some, IfOk, IfErr, IsSome, length, replicate, slice_set, slice_get, option_copied, option_map};
+    ghost use Rattle.std.specs.Prelude.{◌≡◌, None, Some, IfOk, IfErr, IsSome, length, replicate, slice_set, slice_get, option_copied};
     ghost use Rattle.std.specs.Borrow.{sem};
-    ghost use Rattle.ot_job.specs.Live.{seen_of};
     ghost use Rattle.ot_core.specs.Lending.{LendsJob};
     ghost use Rattle.ot_core.specs.Index.{job_of, has_claimable, Begins};
 
@@ -61,7 +60,7 @@ impl Jobs {
 
     /// The tenant's job.
     pub(crate) fn get(&self, tenant: u32) -> Option<&Job>
-        ensures { option_map seen_of (option_copied result) ≡ job_of self.now tenant }
+        ensures { option_copied result ≡ job_of self.now tenant }
     {
         let key: Option<usize> = *self.keys.get(tenant as usize)?;
         self.slab.get(key?)
@@ -81,7 +80,7 @@ impl Jobs {
     pub(crate) fn get_mut(&mut self, tenant: u32) -> &mut Job
         requires { IsSome (job_of self.old tenant) }
         ensures* writes_back { sem 𝓛 (LendsJob self.entry tenant result) }
-        ensures value { job_of self.old tenant ≡ Some (seen_of result.now) }
+        ensures value { job_of self.old tenant ≡ Some result.now }
     {
         let Some(key) = self.keys[tenant as usize] else {
             unreachable!()
@@ -112,7 +111,7 @@ impl Jobs {
     /// Takes the tenant's job out.
     pub(crate) fn take(&mut self, tenant: u32) -> Job
         requires { IsSome (job_of self.old tenant) }
-        ensures job { job_of self.old tenant ≡ Some (seen_of result) }
+        ensures job { job_of self.old tenant ≡ Some result }
         ensures left { self.new ≡ slice_set self.old tenant None }
     {
         let Some(key) = self.keys[tenant as usize] else {

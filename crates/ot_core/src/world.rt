@@ -26,13 +26,11 @@ impl Model for World {
     ghost use Rattle.std.specs.Coded.{codes};
     ghost use Rattle.ot_model.specs.Code.{value_code, body_code};
     ghost use Rattle.ot_check.specs.contracts.checked.Checked as c;
-    ghost use Rattle.ot_model.specs.contracts.expr.Expr as e;
-    ghost use Rattle.ot_task.specs.contracts.assign.Assign as a;
     ghost use Rattle.ot_core.specs.Scenes.{Scene};
 
     ghost Value = { Scene };
 
-    ghost coded = { Prim.hlevel (codes, value_code, body_code, c.the_row.coded, e.the_row.coded, a.the_row.coded) };
+    ghost coded = { Prim.hlevel (codes, value_code, body_code, c.the_row.coded) };
 
     ghost use Rattle.ot_core.specs.SceneView.{scene_of, IsWorld};
 
@@ -43,7 +41,6 @@ impl Model for World {
 
 impl World {
     ghost use Rattle.std.specs.Prelude.{◌≡◌, ◌<◌, ◌≤◌, vec_len, map, IfOk, OnOk, OnErr, Some, option_map, option_copied, slice_get};
-    ghost use Rattle.ot_job.specs.DoneView.{done_of};
     ghost use Rattle.ot_core.specs.Floors.{units_of, total_of};
     ghost use Rattle.ot_core.specs.Given.{replies_of};
     ghost use Rattle.ot_core.specs.Openings.{new_scene};

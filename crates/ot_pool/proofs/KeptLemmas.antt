@@ -4,8 +4,8 @@ use Rattle.std.specs.Prelude.{is_some, Option, Some, None}
 use Rattle.std.proofs.lemmas.Bool.{cases_lt}
 use Rattle.std.proofs.lemmas.List.{get_or_past, length-set}
 use Rattle.std.proofs.lemmas.List.Sums.{sum_by-set}
-use Rattle.ot_job.specs.Live.{Seen}
-use Rattle.ot_job.specs.declared.piece.Done.{Done}
+use Rattle.ot_job.specs.Live.{Live}
+use Rattle.ot_job.specs.Taken.{Came as Done}
 use Rattle.ot_core.specs.Index.{job_of}
 use Rattle.ot_core.specs.Floors.{Floor, with_job, total_of, FailsIn, Settles}
 use Rattle.ot_pool.specs.Shared.{IsKept, HasRoom}
@@ -18,13 +18,13 @@ pub record SameUnits (old new : Floor) : Type 0 where
 pub same-units : (f : Floor) → SameUnits f f
 same-units f = record { jobs = refl; units = refl }
 
-pub with-job : (f g : Floor) (t : ℕ) (o : Option Seen) → g ≡ with_job f t o → SameUnits f g
+pub with-job : (f g : Floor) (t : ℕ) (o : Option Live) → g ≡ with_job f t o → SameUnits f g
 with-job f g t o is = subst (SameUnits f) (sym is) (record { jobs = length-set f.jobs t o; units = refl })
 
 pub unchanged : (f g : Floor) → g ≡ f → SameUnits f g
 unchanged f g same = subst (SameUnits f) (sym same) (same-units f)
 
-pub fails-in : (f g : Floor) (t : ℕ) (done : Done) (job : Option Seen) → FailsIn f t done job g → SameUnits f g
+pub fails-in : (f g : Floor) (t : ℕ) (done : Done) (job : Option Live) → FailsIn f t done job g → SameUnits f g
 fails-in f g t done None same = unchanged f g same
 fails-in f g t done (Some j) r = with-job f g t (Some r.next) r.new_is
 
@@ -44,7 +44,7 @@ kept f g closed counted tenants same k =
     }
 
 -- who has a job is there
-pub job-within : (jobs : List (Option Seen)) (t : ℕ) (j : Seen) → job_of jobs t ≡ Some j → t < length jobs
+pub job-within : (jobs : List (Option Live)) (t : ℕ) (j : Live) → job_of jobs t ≡ Some j → t < length jobs
 job-within jobs t j is = elim (cases_lt t (length jobs)) [
   | inl within ↦ within
   | inr past ↦ absurd (true≢false (sym (ap is_some (sym (get_or_past jobs t None past) ∙ is))))

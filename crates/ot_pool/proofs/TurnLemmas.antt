@@ -2,11 +2,8 @@
 use Rattle.std.proofs.Common.{◌≡◌, ◌⊎◌, inl, inr, ℕ, refl, sym, ap, subst, Bool, true, false, true≢false}
 use Rattle.std.specs.Prelude.{is_some, Option, Some, None, slice_get, ◌↔◌}
 use Rattle.std.proofs.lemmas.Option.{same_Some}
-use Rattle.ot_job.specs.Live.{Seen}
-use Rattle.ot_job.specs.DoneView.{done_of}
-use Rattle.ot_job.specs.States.{Fails as HasFailed}
-use Rattle.ot_job.specs.Dealings.{Fails}
-use Rattle.ot_job.specs.declared.piece.Done.{Done}
+use Rattle.ot_job.specs.Live.{Live}
+use Rattle.ot_job.specs.Taken.{Came as Done}
 use Rattle.ot_job.specs.declared.piece.Refused.{Refused}
 use Rattle.ot_core.specs.Index.{job_of}
 use Rattle.ot_core.specs.Floors as floors
@@ -21,7 +18,7 @@ abbrev is_busy : SubmitFault → Bool
 is_busy Busy = true
 is_busy Memory = false
 
-free-or-not : (o : Option (Option Seen)) → (o ≡ Some None) ⊎ (o ≡ Some None → ⊥)
+free-or-not : (o : Option (Option Live)) → (o ≡ Some None) ⊎ (o ≡ Some None → ⊥)
 free-or-not None = inr (λ e. absurd (true≢false (sym (ap is_some e))))
 free-or-not (Some None) = inl refl
 free-or-not (Some (Some j)) = inr (λ e. absurd (true≢false (ap is_some (same_Some (Some j) None e))))
@@ -38,16 +35,10 @@ pub still-working : (old new : Floor) (t : ℕ) → RunsShort old t new → IsWo
 still-working old new t short = subst (λ f. IsWorking f t) (sym short.same) short.working
 
 -- a piece that is handed back is the one that came
-pub fails-same : (f g : Floor) (t : ℕ) (done back : Done) (job : Option Seen) → done_of back ≡ done_of done → FailsIn f t back job g → FailsIn f t done job g
-fails-same f g t done back None same r = r
-fails-same f g t done back (Some j) same r = record {
-  next = r.next;
-  fails = subst (λ d. Fails j d r.next) same r.fails;
-  failed = subst (λ d. HasFailed j d r.next) same r.failed;
-  new_is = r.new_is;
-}
+pub fails-same : (f g : Floor) (t : ℕ) (done back : Done) (job : Option Live) → back ≡ done → FailsIn f t back job g → FailsIn f t done job g
+fails-same f g t done back job same = subst (λ d. FailsIn f t d job g) same
 
-pub breaks : (old mid new : Floor) (t : ℕ) (done back : Done) (why : Refused) → done_of back ≡ done_of done → RefusesIn (job_of old.jobs t) done why → mid ≡ old
+pub breaks : (old mid new : Floor) (t : ℕ) (done back : Done) (why : Refused) → back ≡ done → RefusesIn (job_of old.jobs t) done why → mid ≡ old
     → FailsIn mid t back (job_of mid.jobs t) new → Breaks t done old new
 breaks old mid new t done back why same refused before fails =
     record {
@@ -74,7 +65,7 @@ pub counts : (s now : Shared) (t n : ℕ) (done : Done) (g : Floor) (closed : Bo
 counts s now t n done g closed is unset settles bound =
     subst (λ o. Takes o t done (Some n) (record { floor = g; closed = closed })) is (record { is_open = unset; settles = settles; bound = bound })
 
-pub counts-none : (s now : Shared) (t : ℕ) (done back : Done) (why : Refused) (mid g : Floor) → s ≡ now → s.closed ≡ false → done_of back ≡ done_of done
+pub counts-none : (s now : Shared) (t : ℕ) (done back : Done) (why : Refused) (mid g : Floor) → s ≡ now → s.closed ≡ false → back ≡ done
     → RefusesIn (job_of s.floor.jobs t) done why → mid ≡ s.floor → FailsIn mid t back (job_of mid.jobs t) g
     → Takes now t done None (record { floor = g; closed = s.closed })
 counts-none s now t done back why mid g is unset same refused before fails =

@@ -5,7 +5,7 @@ use Rattle.ot_check.specs.declared.job.Outcome.{Outcome}
 use Rattle.ot_job.specs.Dealings.{state_of}
 use Rattle.ot_job.specs.declared.state.State.{State}
 use Rattle.ot_job.specs.declared.state.State.TheVariants.{Working, Failing}
-use Rattle.ot_job.specs.declared.piece.Done.{Done}
+use Rattle.ot_job.specs.Taken.{Came as Done}
 use Rattle.ot_job.specs.declared.piece.Refused.{Refused}
 use Rattle.ot_book.specs.declared.executor.NotDone.{NotDone}
 use Rattle.ot_book.specs.declared.executor.NotDone.TheVariants.{Memory, Closed, Stranger}

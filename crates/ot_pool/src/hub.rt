@@ -41,12 +41,12 @@ pub enum Claimed {
 
 impl<L: Ledger> Model for Hub<L> {
     ghost use Rattle.std.specs.Coded.{codes};
-    ghost use Rattle.ot_model.specs.Code.{value_code, body_code};
+    ghost use Rattle.ot_model.specs.Code.{body_code};
     ghost use Rattle.ot_pool.specs.Shared.{Shared, IsKept};
 
     ghost Value = { Shared };
 
-    ghost coded = { Prim.hlevel (codes, value_code, body_code) };
+    ghost coded = { Prim.hlevel (codes, body_code) };
 
     ghost view = { λ h. record { floor = h.hall; closed = h.is_closed } };
 

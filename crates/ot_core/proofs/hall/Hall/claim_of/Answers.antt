@@ -1,4 +1,3 @@
-use Rattle.ot_job.specs.Live.{seen_of}
 use Rattle.ot_core.specs.FloorView.{floor_of}
 use Rattle.ot_core.proofs.FloorLemmas.{claims-of, runs-short}
 use Rattle.std.proofs.Common.{refl}
@@ -8,12 +7,12 @@ use Rattle.ot_core.proofs.TurnLemmas.{hall-noted}
 use Rattle.ot_core.proofs.hall.Hall.claim_of.Goals as goal
 
 pub returns-clause-claimed : goal.returns-clause-claimed
-returns-clause-claimed c = claims-of (floor_of c.self.inside) _ c.args.tenant c.args.pick (seen_of c.get_mut.result.now) (seen_of c.claim-claimed.new.self) c.claim-claimed.result c.self.view_is c.get_mut.ensures.value c.claim-claimed.ensures.gives c.claim-claimed.ensures.claimed
+returns-clause-claimed c = claims-of (floor_of c.self.inside) _ c.args.tenant c.args.pick c.get_mut.result.now c.claim-claimed.new.self c.claim-claimed.result c.self.view_is c.get_mut.ensures.value c.claim-claimed.ensures.claimed
 
 pub returns-clause-refused : goal.returns-clause-refused
-returns-clause-refused c = runs-short (floor_of c.self.inside) _ c.args.tenant (seen_of c.get_mut.result.now) (seen_of c.claim-claimed.new.self) c.claim-claimed.result c.self.view_is c.get_mut.ensures.value c.claim-claimed.ensures.working c.claim-claimed.ensures.some c.claim-claimed.ensures.refused
+returns-clause-refused c = runs-short (floor_of c.self.inside) _ c.args.tenant c.get_mut.result.now c.claim-claimed.new.self c.claim-claimed.result c.self.view_is c.get_mut.ensures.value c.claim-claimed.ensures.working c.claim-claimed.ensures.some c.claim-claimed.ensures.refused
 
 pub invariant_of-self : goal.invariant_of-self
 invariant_of-self c =
-    hall-noted c.self.inside c.args.tenant (Some (seen_of c.claim-claimed.new.self)) _ c.has_claimable.result c.put.new.self c.self.invariant (job-within c.self.inside.jobs c.args.tenant (seen_of c.get_mut.result.now) c.get_mut.ensures.value) refl
+    hall-noted c.self.inside c.args.tenant (Some c.claim-claimed.new.self) _ c.has_claimable.result c.put.new.self c.self.invariant (job-within c.self.inside.jobs c.args.tenant c.get_mut.result.now c.get_mut.ensures.value) refl
     c.has_claimable.ensures c.put.ensures

@@ -1,4 +1,3 @@
-use Rattle.ot_job.specs.Live.{seen_of}
 use Rattle.ot_core.specs.FloorView.{floor_of}
 use Rattle.ot_core.proofs.FloorLemmas.{fails-in}
 use Rattle.std.proofs.Common.{refl}
@@ -8,9 +7,9 @@ use Rattle.ot_core.proofs.TurnLemmas.{hall-noted}
 use Rattle.ot_core.proofs.hall.Hall.fail.Goals as goal
 
 pub returns : goal.returns
-returns c = fails-in (floor_of c.self.inside) _ c.args.tenant c.args.done (seen_of c.get_mut.result.now) (seen_of c.fail.new.self) c.self.view_is c.get_mut.ensures.value c.fail.ensures.fails c.fail.ensures.failed
+returns c = fails-in (floor_of c.self.inside) _ c.args.tenant c.args.done c.get_mut.result.now c.fail.new.self c.self.view_is c.get_mut.ensures.value c.fail.ensures.fails
 
 pub invariant_of-self : goal.invariant_of-self
 invariant_of-self c =
-    hall-noted c.self.inside c.args.tenant (Some (seen_of c.fail.new.self)) _ c.has_claimable.result c.put.new.self c.self.invariant (job-within c.self.inside.jobs c.args.tenant (seen_of c.get_mut.result.now) c.get_mut.ensures.value) refl
+    hall-noted c.self.inside c.args.tenant (Some c.fail.new.self) _ c.has_claimable.result c.put.new.self c.self.invariant (job-within c.self.inside.jobs c.args.tenant c.get_mut.result.now c.get_mut.ensures.value) refl
     c.has_claimable.ensures c.put.ensures

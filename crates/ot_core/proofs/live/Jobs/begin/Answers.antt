@@ -1,8 +1,6 @@
-use Rattle.std.proofs.Common.{◌≡◌, sym, ap, ◌∙◌, subst, Some, None, map, set}
-use Rattle.std.specs.Prelude.{slice_get, option_map}
-use Rattle.ot_job.specs.Live.{seen_of}
+use Rattle.std.proofs.Common.{◌≡◌, sym, ap, ◌∙◌, subst, Some, None, set}
+use Rattle.std.specs.Prelude.{slice_get}
 use Rattle.slab.specs.Slab.{get}
-use Rattle.ot_core.specs.Index.{job_at}
 use Rattle.ot_core.proofs.IndexLemmas.{jobs-changed, indexes-more, not_vacant, within-jobs}
 use Rattle.ot_core.proofs.live.Jobs.begin.Goals as goal
 
@@ -21,12 +19,11 @@ pub returns-clause-begun : goal.returns-clause-begun
 returns-clause-begun c =
     let inside = c.self.inside in
     let put = c.insert_reserved-key in record {
-      job = seen_of c.in_ok-job.job;
-      begun = c.in_ok-job.ensures.begun;
+      job = c.in_ok-job.job;
       starts = c.in_ok-job.ensures.starts;
       new_is =
           jobs-changed inside.slab put.new.self inside.keys.items c.args.tenant put.result (Some put.result)
           (λ k other. put.ensures.updates.others k other ∙ kept c k)
           (λ u _. not_vacant inside.slab inside.keys.items put.result c.self.invariant (sym (kept c put.result) ∙ put.ensures.was_vacant) u)
-          ∙ ap (λ job. set (map (job_at inside.slab) inside.keys.items) c.args.tenant (option_map seen_of job)) put.ensures.updates.changed ∙ ap (λ jobs. set jobs c.args.tenant (Some (seen_of c.in_ok-job.job))) c.self.view_is;
+          ∙ ap (set _ c.args.tenant) put.ensures.updates.changed ∙ ap (λ jobs. set jobs c.args.tenant (Some c.in_ok-job.job)) c.self.view_is;
     }

@@ -1,7 +1,6 @@
 use Rattle.std.proofs.Common.{ap, ◌∙◌}
 use Rattle.ot_job.specs.Dealings.{work_of}
-use Rattle.ot_job.specs.Taken.{taken_of}
-use Rattle.ot_job.specs.Taken.{Parts as Piece}
+use Rattle.ot_job.specs.Taken.{Taken as Piece}
 use Rattle.ot_core.specs.SceneView.{scene_of}
 use Rattle.ot_core.proofs.HandedLemmas.{total-small, hand-read, given, broken}
 use Rattle.ot_core.proofs.world.World.finish.Goals as goal
@@ -14,25 +13,25 @@ invariant_of-self-in-Ok c =
     let s = scene_of c.self.inside in
     let mine = hand-read s.hands c.args.hand c.index_mut.result.now c.take.result _ c.requires c.self.invariant.hands_many c.index_mut.ensures.value c.take.ensures.value c.in-Some.is in
     (given s _ c.args.hand c.in-Some.held c.run.result c.in-Ok.units c.settle.new.self c.take.new.self c.self.view_is c.self.invariant c.requires mine
-    (c.run.ensures.ran.0 ∙ ap (λ (p : Piece). p.task) c.into_piece-piece.ensures) (c.run.ensures.ran.1 ∙ ap (λ p. work_of (taken_of p)) c.into_piece-piece.ensures) c.in-Ok.ensures.settled c.take.ensures.after).0
+    (c.run.ensures.task ∙ ap (λ (p : Piece). p.task) c.into_piece-piece.ensures) (c.run.ensures.ran ∙ ap work_of c.into_piece-piece.ensures) c.in-Ok.ensures.settled c.take.ensures.after).0
 
 pub returns-in-Ok : goal.returns-in-Ok
 returns-in-Ok c =
     let s = scene_of c.self.inside in
     let mine = hand-read s.hands c.args.hand c.index_mut.result.now c.take.result _ c.requires c.self.invariant.hands_many c.index_mut.ensures.value c.take.ensures.value c.in-Some.is in
     (given s _ c.args.hand c.in-Some.held c.run.result c.in-Ok.units c.settle.new.self c.take.new.self c.self.view_is c.self.invariant c.requires mine
-    (c.run.ensures.ran.0 ∙ ap (λ (p : Piece). p.task) c.into_piece-piece.ensures) (c.run.ensures.ran.1 ∙ ap (λ p. work_of (taken_of p)) c.into_piece-piece.ensures) c.in-Ok.ensures.settled c.take.ensures.after).1
+    (c.run.ensures.task ∙ ap (λ (p : Piece). p.task) c.into_piece-piece.ensures) (c.run.ensures.ran ∙ ap work_of c.into_piece-piece.ensures) c.in-Ok.ensures.settled c.take.ensures.after).1
 
 pub invariant_of-self-in-Err : goal.invariant_of-self-in-Err
 invariant_of-self-in-Err c =
     let s = scene_of c.self.inside in
     let mine = hand-read s.hands c.args.hand c.index_mut.result.now c.take.result _ c.requires c.self.invariant.hands_many c.index_mut.ensures.value c.take.ensures.value c.in-Some.is in
     (broken s _ c.args.hand c.in-Some.held c.run.result c.in-Err.done c.settle.new.self c.fail.new.self c.take.new.self c.self.view_is c.self.invariant c.requires mine
-    (c.run.ensures.ran.0 ∙ ap (λ (p : Piece). p.task) c.into_piece-piece.ensures) (c.run.ensures.ran.1 ∙ ap (λ p. work_of (taken_of p)) c.into_piece-piece.ensures) c.in-Err.ensures.refused c.in-Err.ensures.same c.fail.ensures c.take.ensures.after).0
+    (c.run.ensures.task ∙ ap (λ (p : Piece). p.task) c.into_piece-piece.ensures) (c.run.ensures.ran ∙ ap work_of c.into_piece-piece.ensures) c.in-Err.ensures.refused c.in-Err.ensures.same c.fail.ensures c.take.ensures.after).0
 
 pub returns : goal.returns
 returns c =
     let s = scene_of c.self.inside in
     let mine = hand-read s.hands c.args.hand c.index_mut.result.now c.take.result _ c.requires c.self.invariant.hands_many c.index_mut.ensures.value c.take.ensures.value c.in-Some.is in
     (broken s _ c.args.hand c.in-Some.held c.run.result c.in-Err.done c.settle.new.self c.fail.new.self c.take.new.self c.self.view_is c.self.invariant c.requires mine
-    (c.run.ensures.ran.0 ∙ ap (λ (p : Piece). p.task) c.into_piece-piece.ensures) (c.run.ensures.ran.1 ∙ ap (λ p. work_of (taken_of p)) c.into_piece-piece.ensures) c.in-Err.ensures.refused c.in-Err.ensures.same c.fail.ensures c.take.ensures.after).1
+    (c.run.ensures.task ∙ ap (λ (p : Piece). p.task) c.into_piece-piece.ensures) (c.run.ensures.ran ∙ ap work_of c.into_piece-piece.ensures) c.in-Err.ensures.refused c.in-Err.ensures.same c.fail.ensures c.take.ensures.after).1
