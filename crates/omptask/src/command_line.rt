@@ -1,0 +1,51 @@
+//! The command line.
+ghost use Rattle.std.specs.Prelude.{◌≡◌, map, IfOk};
+ghost use Rattle.clap.specs.Words.{FailsBy, app_of, fault_of, found_of, rows_of, subcommand_of, subcommand_rows_of};
+ghost use Rattle.omptask.specs.Asked.{AsksFor, AsksServer};
+ghost use Rattle.omptask.specs.Grammar.{program_words};
+
+use crate::asked::{Ask, Words};
+use crate::commands::{MAX_CODE, program_command};
+use crate::matched::{number, text};
+use clap::{ArgMatches, Error};
+use std::alloc::{AllocError, Global};
+
+/// Reads the words of a command line, of which the first is the program's name.
+pub fn words(alloc: Global, given: &[&str]) -> Result<Words, Error>
+    // It fails exactly where `clap` gives no matches of these words, by the kind that `clap` gives them,
+    // or for want of memory.
+    ensures kinds { FailsBy (fault_of program_words (map (λ word. word.now) given.now)) result }
+
+    // What is asked for is told by the subcommand that `clap` enters, and what it finds behind it.
+    ensures asked { IfOk result (AsksFor (subcommand_of program_words (map (λ word. word.now) given.now))) }
+{
+    let matches = program_command(alloc)?.try_get_matches_from(given)?;
+    Ok(asked_for(alloc, &matches)?)
+}
+
+/// What the matches ask for.
+fn asked_for(alloc: Global, matches: &ArgMatches<'_>) -> Result<Words, AllocError>
+    ensures { IfOk result (AsksFor (subcommand_rows_of matches.now)) }
+{
+    if let Some(found) = matches.subcommand_matches("explain") {
+        return Ok(Words::Explain(number(found, "code", MAX_CODE)));
+    }
+    if let Some(found) = matches.subcommand_matches("ask") {
+        let ask = ask_of(alloc, found)?;
+        return Ok(Words::Ask(ask));
+    }
+    if matches.subcommand_matches("graph").is_some() {
+        return Ok(Words::Graph);
+    }
+    Ok(Words::C)
+}
+
+/// The session that is asked for.
+fn ask_of(alloc: Global, found: &ArgMatches<'_>) -> Result<Ask, AllocError>
+    ensures { IfOk result (AsksServer (rows_of (found_of found.now))) }
+{
+    Ok(Ask {
+        socket: text(alloc, found, "socket")?,
+        name: text(alloc, found, "name")?,
+    })
+}

@@ -1,0 +1,10 @@
+//! How the program ends where nothing went wrong.
+
+/// How the program ends where nothing went wrong.
+#[derive(Clone, Copy, Debug, PartialEq, Eq)]
+pub enum Ended {
+    /// All was taken, or written.
+    Well,
+    /// A line was refused.
+    Refused,
+}

@@ -1,0 +1,35 @@
+//! What `clap` finds under the name of an argument.
+ghost use Rattle.std.specs.Prelude.{◌≡◌, ◌≤◌, [], string_bytes, unwrap_or, IfOk, IfSome};
+ghost use Rattle.clap.specs.Words.{first_of, found_of, one_of, rows_of};
+ghost use Rattle.omptask.specs.Asked.{IsRead, within};
+
+use clap::ArgMatches;
+use std::alloc::{AllocError, Global};
+
+/// The text of an argument, empty where there is none.
+pub(crate) fn text(alloc: Global, matches: &ArgMatches<'_>, id: &str) -> Result<String, AllocError>
+    ensures { IfOk result (λ text. string_bytes text ≡ unwrap_or (first_of id.now (rows_of (found_of matches.now))) []) }
+{
+    match matches.get_str(id) {
+        Some(text) => String::from_str(alloc, text),
+        None => Ok(String::new(alloc)),
+    }
+}
+
+/// The number of an argument, from 1 to `most`.
+pub(crate) fn number(matches: &ArgMatches<'_>, id: &str, most: u32) -> Option<u32>
+    ensures read { IsRead most (one_of id.now (rows_of (found_of matches.now))) result }
+    ensures range { IfSome result (λ n. (1 ≤ n) × (n ≤ most)) }
+{
+    within(most, matches.get_one::<u32>(id))
+}
+
+fn within(most: u32, number: Option<u32>) -> Option<u32>
+    ensures is { result ≡ within most number }
+    ensures range { IfSome result (λ n. (1 ≤ n) × (n ≤ most)) }
+{
+    match number {
+        Some(number) if 1 <= number && number <= most => Some(number),
+        _ => None,
+    }
+}
