@@ -1,12 +1,12 @@
 -- A talk, one line after another.
-use Rattle.std.proofs.Common.{◌≡◌, ◌||◌, ◌∙◌, ◌+◌, ℕ, Bool, true, false, List, [], ◌∷◌, ◌++◌, map, refl, sym, ap, ap₂, subst, arith, append-nil, length-append, Result, Ok}
+use Rattle.std.proofs.Common.{◌≡◌, ◌||◌, ◌∙◌, ◌+◌, ℕ, Bool, true, false, List, [], ◌∷◌, ◌++◌, map, refl, sym, ap, ap₂, subst, append-nil, length-append, Result, Ok}
 use Rattle.std.specs.List.{concat}
 use Rattle.std.specs.Io.KnownBytes.{Appends, Consumes}
 use Rattle.std.proofs.KnownBytes.{Appends-nil, Appends-trans, Consumes-nil, Consumes-trans}
 use Rattle.std.proofs.lemmas.List.Folds.{concat-append, list_any-append}
-use Rattle.std.proofs.lemmas.List.Elements.{All-append, All-nil}
+use Rattle.std.proofs.lemmas.List.Elements.{All-nil, All-push}
 use Rattle.ot_ask.specs.Asking.{Ends, IsAnswered, SaysBye, Steps, Talk, Talks, Ways, asked_after, asked_of}
-use Rattle.ot_ask.specs.Lines.{IsWhole, is_refusal, sent_for}
+use Rattle.ot_ask.specs.Lines.{IsWhole, is_last, is_refusal, sent_for}
 use Rattle.ot_ask.specs.declared.asked.Asked.{Asked}
 use Rattle.ot_ask.specs.declared.asked.AskFault.{AskFault}
 use Rattle.ot_ask.specs.declared.exchange.Step.{Step}
@@ -34,6 +34,7 @@ talk_none w = record {
   hears = Consumes-nil w.heard;
   prints = Appends-nil w.printed;
   whole = All-nil IsWhole;
+  goes_on = All-nil (λ reply. is_last reply ≡ false);
   told = refl;
 }
 
@@ -49,7 +50,8 @@ talk_more a b c r s talk step = record {
       (Appends-trans a.sent b.sent c.sent _ _ talk.sends step.sends);
   hears = subst (Consumes a.heard c.heard) (sym (concat-more talk.replies step.reply)) (Consumes-trans a.heard b.heard c.heard _ _ talk.hears step.hears);
   prints = subst (Appends a.printed c.printed) (sym (concat-more talk.replies step.reply)) (Appends-trans a.printed b.printed c.printed _ _ talk.prints step.prints);
-  whole = All-append IsWhole talk.replies (step.reply ∷ []) talk.whole (grind (arith, step.whole));
+  whole = All-push IsWhole talk.replies step.reply talk.whole step.whole;
+  goes_on = All-push (λ reply. is_last reply ≡ false) talk.replies step.reply talk.goes_on step.goes_on;
   told = ap₂ (λ x y. x || y) talk.told (step.told ∙ sym (or-false (is_refusal step.reply))) ∙ sym (list_any-append is_refusal talk.replies (step.reply ∷ []));
 }
 

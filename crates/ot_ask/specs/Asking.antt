@@ -36,6 +36,7 @@ pub record IsAnswered (old new : Ways) (is_refused : Bool) : Type 0 where
   pub hears : Consumes old.heard new.heard reply
   pub prints : Appends old.printed new.printed reply
   pub whole : IsWhole reply
+  pub goes_on : is_last reply ≡ false
   pub told : is_refused ≡ is_refusal reply
 
 -- a goodbye is read and sent, or the lines are over and one is sent
@@ -79,6 +80,7 @@ pub record Talk (old new : Ways) (is_refused : Bool) : Type 0 where
   pub hears : Consumes old.heard new.heard (concat replies)
   pub prints : Appends old.printed new.printed (concat replies)
   pub whole : All IsWhole replies
+  pub goes_on : All (λ reply. is_last reply ≡ false) replies
   pub told : is_refused ≡ list_any is_refusal replies
 
 -- what a client comes to whose lines were all answered
