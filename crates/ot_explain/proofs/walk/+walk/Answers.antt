@@ -1,0 +1,159 @@
+use Rattle.std.proofs.Common.{rules, ◌≡◌, ◌+◌, ◌<◌, ◌≤◌, ◌^◌, ◌⊎◌, IfOk, IfErr, List, Some, None, Ok, Err, true, ℕ, drop, refl, sym, ap, subst, inl, inr, ◌∙◌, arith, add_assoc}
+use Rattle.ot_model.specs.Tree.{E, S, Set, Add, If, Task, Wait, Group}
+use Rattle.ot_model.specs.declared.expr.Cell.{Cell}
+use Rattle.ot_model.specs.declared.stmt.Stmt.{the_lemmas}
+use Rattle.ot_check.specs.walk.Walk.{through}
+use Rattle.ot_model.specs.View.{expr_of, stmt_of, stmts_of}
+use Rattle.ot_model.specs.Counts.{size, size_one}
+use Rattle.ot_check.specs.Paths.{PassesOne, Passes}
+use Rattle.ot_check.proofs.WalkLemmas.{if_ok, stmt_of-Set, stmt_of-Add, stmt_of-If, stmt_of-Task, stmt_of-Wait, stmt_of-Group, rest_is, rest_none}
+use Rattle.ot_explain.specs.Walk.{Pending, pending_of, Carries, Arrives, ArrivesOne}
+use Rattle.ot_explain.proofs.WalkLemmas.{if_err, carries-set, carries-add, carries-none, carries-first, carries-second, carries-task, carries-made, carries-group, carries-end, carries-next, arrives-here, arrives-first, arrives-second, arrives-task, arrives-group, arrives-next, arrives-later}
+use Rattle.ot_explain.proofs.walk.+walk.Goals as goal
+
+pub walk-returns-in-Err-clause-arrives : goal.walk-returns-in-Err-clause-arrives
+walk-returns-in-Err-clause-arrives t c =
+    let b = c.args.body.now.items in
+    let rest = rest_is c.deref-stmt-items.result.now b c.loop-stmt.stmt-index c.stmt-item.result c.deref-stmt-items.ensures.value c.loop-stmt-test.true c.stmt-item.is in
+    let x = stmt_of c.stmt-item.result in
+    let more = stmts_of (drop (c.loop-stmt.stmt-index + 1) b) in
+    let place = c.args.search.now.place in
+    let here = stmt_of c.in-Err.arrived.stmt.now in
+    let now = pending_of c.in-Err.arrived.child in
+    let p = pending_of c.loop-stmt.behind.child in
+    c.loop-stmt.invariant.2 place here now
+    (subst (λ body. Arrives c.loop-stmt.behind.next body p place here now) (sym rest)
+    (arrives-next c.loop-stmt.behind.next x more p place here now c.in-Err.ensures.arrives))
+
+pub walk-loop-stmt-preserved : goal.walk-loop-stmt-preserved
+walk-loop-stmt-preserved t c =
+    let b = c.args.body.now.items in
+    let rest = rest_is c.deref-stmt-items.result.now b c.loop-stmt.stmt-index c.stmt-item.result c.deref-stmt-items.ensures.value c.loop-stmt-test.true c.stmt-item.is in
+    let x = stmt_of c.stmt-item.result in
+    let more = stmts_of (drop (c.loop-stmt.stmt-index + 1) b) in
+    let k = c.loop-stmt.behind.next in
+    let p = pending_of c.loop-stmt.behind.child in
+    let q = pending_of c.in-Ok.now.child in
+    let sizes : size (stmts_of (drop c.loop-stmt.stmt-index b)) ≡ size_one x + size more = ap size rest in (
+      omega (arith, sizes, c.loop-stmt.invariant.0, c.in-Ok.ensures.place),
+      λ now carries. c.loop-stmt.invariant.1 now
+          (subst (λ body. Carries (Passes k body) p now) (sym rest)
+          (carries-next k x more p q now c.in-Ok.ensures.carries
+          (subst (λ n. Carries (Passes n more) q now) c.in-Ok.ensures.place carries))),
+      λ place here now arrives. c.loop-stmt.invariant.2 place here now
+          (subst (λ body. Arrives k body p place here now) (sym rest)
+          (arrives-later k x more p q place here now c.in-Ok.ensures.carries
+          (subst (λ n. Arrives n more q place here now) c.in-Ok.ensures.place arrives))),
+    )
+
+pub walk_group-returns-in-Ok-clause-carries : goal.walk_group-returns-in-Ok-clause-carries
+walk_group-returns-in-Ok-clause-carries t c = λ cells.
+    let b = stmts_of c.args.body.now.items in
+    elim c.kept.ensures [
+      | inl none ↦ subst (λ q. Carries (PassesOne c.args.place (Group cells b)) (pending_of c.args.child) q) (sym none) (carries-none c.args.place (Group cells b) (pending_of c.args.child))
+      | inr same ↦ subst (λ q. Carries (PassesOne c.args.place (Group cells b)) (pending_of c.args.child) q) (sym same.0) (carries-group c.args.place cells b (pending_of c.args.child) same.1)
+    ]
+
+pub walk_group-returns-in-Err-clause-arrives : goal.walk_group-returns-in-Err-clause-arrives
+walk_group-returns-in-Err-clause-arrives t c = λ cells.
+    arrives-group c.args.place cells (stmts_of c.args.body.now.items) (pending_of c.args.child) c.args.search.now.place
+    (stmt_of c.in-Err.arrived.stmt.now) (pending_of c.in-Err.arrived.child) c.in-Err.ensures.arrives
+
+pub walk_one-returns-then-place-search-clause-arrives : goal.walk_one-returns-then-place-search-clause-arrives
+walk_one-returns-then-place-search-clause-arrives t c =
+    let x = stmt_of c.args.stmt.now in
+    let p = pending_of c.args.child in
+    subst (λ place. ArrivesOne c.args.place x p place x p) c.if-place-search.true (arrives-here c.args.place x p)
+
+pub walk_one-returns-in-Task-clause-carries : goal.walk_one-returns-in-Task-clause-carries
+walk_one-returns-in-Task-clause-carries t c =
+    subst (λ x. IfOk c.walk_task.result (λ behind. Carries (PassesOne c.args.place x) (pending_of c.args.child) (pending_of behind.child)))
+    (sym (stmt_of-Task _ _ _ c.in-Task.is)) c.walk_task.ensures.carries
+
+pub walk_one-returns-in-Task-clause-arrives : goal.walk_one-returns-in-Task-clause-arrives
+walk_one-returns-in-Task-clause-arrives t c =
+    subst (λ x. IfErr c.walk_task.result (λ at. ArrivesOne c.args.place x (pending_of c.args.child) c.args.search.now.place (stmt_of at.stmt.now) (pending_of at.child)))
+    (sym (stmt_of-Task _ _ _ c.in-Task.is)) c.walk_task.ensures.arrives
+
+pub walk_one-returns-in-Wait-clause-carries : goal.walk_one-returns-in-Wait-clause-carries
+walk_one-returns-in-Wait-clause-carries t c = carries-none c.args.place (stmt_of c.args.stmt.now) (pending_of c.args.child)
+
+pub walk_one-returns-in-Group-clause-carries : goal.walk_one-returns-in-Group-clause-carries
+walk_one-returns-in-Group-clause-carries t c =
+    subst (λ x. IfOk c.walk_group.result (λ behind. Carries (PassesOne c.args.place x) (pending_of c.args.child) (pending_of behind.child)))
+    (sym (stmt_of-Group _ _ _ c.in-Group.is)) (c.walk_group.ensures.carries c.in-Group.field-0.items)
+
+pub walk_one-returns-in-Group-clause-arrives : goal.walk_one-returns-in-Group-clause-arrives
+walk_one-returns-in-Group-clause-arrives t c =
+    subst (λ x. IfErr c.walk_group.result (λ at. ArrivesOne c.args.place x (pending_of c.args.child) c.args.search.now.place (stmt_of at.stmt.now) (pending_of at.child)))
+    (sym (stmt_of-Group _ _ _ c.in-Group.is)) (c.walk_group.ensures.arrives c.in-Group.field-0.items)
+
+pub walk_one-returns-in-Set-clause-carries : goal.walk_one-returns-in-Set-clause-carries
+walk_one-returns-in-Set-clause-carries t c =
+    let p = pending_of c.args.child in
+    elim c.in-Set.is [
+      | inl s ↦ subst (λ x. Carries (PassesOne c.args.place x) p p) (sym (stmt_of-Set _ _ _ s.2)) (carries-set c.args.place s.0 (expr_of s.1) p)
+      | inr s ↦ subst (λ x. Carries (PassesOne c.args.place x) p p) (sym (stmt_of-Add _ _ _ s.2)) (carries-add c.args.place s.0 (expr_of s.1) p)
+    ]
+
+pub walk_task-returns-in-Ok-clause-carries : goal.walk_task-returns-in-Ok-clause-carries
+walk_task-returns-in-Ok-clause-carries t c =
+    let d = c.args.decl.now in
+    let b = stmts_of c.args.body.now.items in
+    let p = pending_of c.args.child in
+    elim c.made.ensures [
+      | inl same ↦ subst (λ q. Carries (PassesOne c.args.place (Task d b)) p q) (sym same) (carries-task c.args.place d b p)
+      | inr made ↦ subst (λ q. Carries (PassesOne c.args.place (Task d b)) p q) (sym made) (carries-made c.args.place d b p)
+    ]
+
+pub walk_task-returns-in-Err-clause-arrives : goal.walk_task-returns-in-Err-clause-arrives
+walk_task-returns-in-Err-clause-arrives t c =
+    arrives-task c.args.place c.args.decl.now (stmts_of c.args.body.now.items) (pending_of c.args.child) c.args.search.now.place
+    (stmt_of c.in-Err.arrived.stmt.now) (pending_of c.in-Err.arrived.child) c.in-Err.ensures.arrives
+
+pub walk_one-returns-in-Ok-clause-carries : goal.walk_one-returns-in-Ok-clause-carries
+walk_one-returns-in-Ok-clause-carries t c =
+    let k = c.args.place in
+    let e = expr_of c.in-If.field-0 in
+    let a = stmts_of c.in-If.one.items in
+    let b = stmts_of c.in-If.two.items in
+    let p = pending_of c.args.child in
+    let r = c.walk_other.result in
+    subst (λ x. IfOk r (λ behind. Carries (PassesOne k x) p (pending_of behind.child))) (sym (stmt_of-If _ _ _ _ c.in-If.is))
+    (if_ok r _ (λ behind. Carries (PassesOne k (If e a b)) p (pending_of behind.child))
+    (λ behind way. elim way [
+      | inl same ↦ subst (λ q. Carries (PassesOne k (If e a b)) p q) (sym same)
+          (carries-first k e a b p (pending_of c.in-Ok.first.child) c.in-Ok.ensures.carries)
+      | inr two ↦ carries-second k e a b p (pending_of behind.child)
+          (subst (λ n. Carries (Passes n b) p (pending_of behind.child)) c.in-Ok.ensures.place two)
+    ]) c.walk_other.ensures.carries)
+
+pub walk_one-returns-in-Ok-clause-arrives : goal.walk_one-returns-in-Ok-clause-arrives
+walk_one-returns-in-Ok-clause-arrives t c =
+    let k = c.args.place in
+    let e = expr_of c.in-If.field-0 in
+    let a = stmts_of c.in-If.one.items in
+    let b = stmts_of c.in-If.two.items in
+    let p = pending_of c.args.child in
+    let place = c.args.search.now.place in
+    let r = c.walk_other.result in
+    subst (λ x. IfErr r (λ at. ArrivesOne k x p place (stmt_of at.stmt.now) (pending_of at.child))) (sym (stmt_of-If _ _ _ _ c.in-If.is))
+    (if_err r _ (λ at. ArrivesOne k (If e a b) p place (stmt_of at.stmt.now) (pending_of at.child))
+    (λ at arrives. arrives-second k e a b p place (stmt_of at.stmt.now) (pending_of at.child)
+    (subst (λ n. Arrives n b p place (stmt_of at.stmt.now) (pending_of at.child)) c.in-Ok.ensures.place arrives)) c.walk_other.ensures.arrives)
+
+pub walk_one-returns-in-Err-clause-arrives : goal.walk_one-returns-in-Err-clause-arrives
+walk_one-returns-in-Err-clause-arrives t c =
+    let p = pending_of c.args.child in
+    let place = c.args.search.now.place in
+    let here = stmt_of c.in-Err.arrived.stmt.now in
+    let now = pending_of c.in-Err.arrived.child in
+    subst (λ x. ArrivesOne c.args.place x p place here now) (sym (stmt_of-If _ _ _ _ c.in-If.is))
+    (arrives-first c.args.place (expr_of c.in-If.field-0) (stmts_of c.in-If.one.items) (stmts_of c.in-If.two.items) p place here now c.in-Err.ensures.arrives)
+
+pub walk_other-returns-in-Ok-clause-carries : goal.walk_other-returns-in-Ok-clause-carries
+walk_other-returns-in-Ok-clause-carries t c =
+    elim c.either.ensures [
+      | inl first ↦ inl first
+      | inr second ↦ inr (subst (λ q. Carries (Passes c.args.first.next (stmts_of c.args.body.now.items)) (pending_of c.args.child) q) (sym second) c.in-Ok.ensures.carries)
+    ]

@@ -1,0 +1,73 @@
+-- Which child is pending where a statement stands, and where the two conflict.
+use Rattle.std.specs.Prelude.{◌≡◌, ℕ, ◌+◌, ◌++◌, ◌⊎◌, Bool, true, not, ◌&&◌, List, ◌∷◌, map}
+use Rattle.std.specs.List.{list_any}
+use Rattle.ot_model.specs.Tree.{S, Set, Add, If, Task, Wait, Group, Body, End, Next}
+use Rattle.ot_model.specs.Cells.{same_cell}
+use Rattle.ot_model.specs.Counts.{size, size_one}
+use Rattle.ot_model.specs.declared.expr.Cell.{Cell}
+use Rattle.ot_model.specs.declared.stmt.Mode.TheVariants.{Writes}
+use Rattle.ot_model.specs.declared.stmt.Use.{Use}
+use Rattle.ot_check.specs.Paths.{Create, Step, At, touches, use_as, PassesOne, Passes}
+use Rattle.ot_check.specs.Offences.{clashes, stays_within, has_wait}
+
+-- ---- who is pending
+
+-- whether neither a wait nor the end of a group that is open before them stands in these steps
+abbrev pub awaits_none : List Step → Bool
+awaits_none steps = stays_within 0 steps && not (has_wait steps)
+
+-- the child that is created at this place, with this declaration, is unawaited behind these steps
+pub record IsPending (steps : List Step) (child : ℕ) (declared : List Use) : Type 0 where
+  pub before : List Step
+  pub behind : List Step
+  pub created : steps ≡ before ++ At child (Create declared) ∷ behind
+  pub unawaited : awaits_none behind ≡ true
+
+-- on some path of the body the statement stands at the place, and the child is unawaited before it
+pub record Meets (place : ℕ) (x : S) (child : ℕ) (declared : List Use) (k : ℕ) (body : Body) : Type 0 where
+  pub before : List Step
+  pub own : List Step
+  pub later : List Step
+  pub passes : Passes k body (before ++ (own ++ later))
+  pub stands : PassesOne place x own
+  pub pending : IsPending before child declared
+
+-- on some path of the body the child is unawaited where the body ends
+pub record Leaves (child : ℕ) (declared : List Use) (k : ℕ) (body : Body) : Type 0 where
+  pub path : List Step
+  pub passes : Passes k body path
+  pub pending : IsPending path child declared
+
+-- P holds of the body of a task that stands in a body, however deep
+abbrev mutual
+  pub InTaskOne : (ℕ → Body → Type 0) → ℕ → S → Type 0
+  InTaskOne P k (Set c e) = ⊥
+  InTaskOne P k (Add c e) = ⊥
+  InTaskOne P k (If e a b) = InTask P (k + 1) a ⊎ InTask P (k + 1 + size a) b
+  InTaskOne P k (Task d b) = P (k + 1) b ⊎ InTask P (k + 1) b
+  InTaskOne P k Wait = ⊥
+  InTaskOne P k (Group cs b) = InTask P (k + 1) b
+
+  pub InTask : (ℕ → Body → Type 0) → ℕ → Body → Type 0
+  InTask P k End = ⊥
+  InTask P k (Next x rest) = InTaskOne P k x ⊎ InTask P (k + size_one x) rest
+
+-- P holds of a body, or of that of a task in it; P is told the place of the body's first statement
+abbrev pub Somewhere : (ℕ → Body → Type 0) → ℕ → Body → Type 0
+Somewhere P k body = P k body ⊎ InTask P k body
+
+-- ---- where they conflict
+
+-- what a statement itself uses; a group that names cells writes them
+abbrev pub uses_of : S → List Use
+uses_of (Group cs b) = map (use_as Writes) cs
+uses_of x = touches x
+
+-- whether the statement uses the cell in conflict with what a child declares
+abbrev pub conflicts_at : Cell → S → List Use → Bool
+conflicts_at cell x declared = list_any (λ u. same_cell u.cell cell && clashes u declared) (uses_of x)
+
+-- In the program, where the statement stands at its place, the child is unawaited on some path, and the two conflict at the cell.
+pub record Races (body : Body) (place : ℕ) (x : S) (child : ℕ) (declared : List Use) (cell : Cell) : Type 0 where
+  pub meets : Somewhere (Meets place x child declared) 1 body
+  pub conflicts : conflicts_at cell x declared ≡ true

@@ -1,0 +1,18 @@
+//! Explains refusals: what a session writes, with remarks for people behind each refusal, and what each code
+//! means.
+#![tactic(auto)]
+
+mod child;
+mod code;
+mod explaining;
+mod print;
+mod race;
+mod remarks;
+mod sentences;
+mod through;
+mod touch;
+mod walk;
+mod wanted;
+
+pub use code::code_page;
+pub use explaining::{Explained, explain};

@@ -1,0 +1,214 @@
+//! Statements as people who write OpenMP read them.
+use ot_model::{ArrayShape, Cell, Decl, Expr, Mode, Op, Section, Stmt};
+use std::alloc::{AllocError, Global};
+
+/// A text that is being written, with the arrays whose names it uses.
+#[derive(Drop)]
+pub(crate) struct Printer<'a> {
+    alloc: Global,
+    arrays: &'a [ArrayShape],
+    text: String,
+}
+
+impl<'a> Printer<'a> {
+    pub(crate) fn new(alloc: Global, arrays: &'a [ArrayShape]) -> Printer<'a> {
+        Printer {
+            alloc,
+            arrays,
+            text: String::new(alloc),
+        }
+    }
+
+    /// The text so far.
+    pub(crate) fn into_text(self) -> String {
+        self.text
+    }
+
+    pub(crate) fn words(&mut self, words: &str) -> Result<(), AllocError> {
+        self.text.push_str(words)
+    }
+
+    pub(crate) fn number(&mut self, number: u64) -> Result<(), AllocError> {
+        let digits = format!(in self.alloc; "{number}")?;
+        self.text.push_str(digits.as_str())
+    }
+
+    fn name(&mut self, array: u32) -> Result<(), AllocError> {
+        match self.arrays.get(array as usize) {
+            Some(array) => self.text.push_str(array.name.as_str()),
+            None => self.text.push_str("?"),
+        }
+    }
+
+    /// `a[0]`.
+    pub(crate) fn cell(&mut self, cell: Cell) -> Result<(), AllocError> {
+        self.name(cell.array)?;
+        self.words("[")?;
+        self.number(u64::from(cell.index))?;
+        self.words("]")
+    }
+
+    /// `a[0]`, or `a[0:2]` where there are more cells: the first one and how many there are.
+    fn section(&mut self, section: Section) -> Result<(), AllocError> {
+        self.name(section.array)?;
+        self.words("[")?;
+        self.number(u64::from(section.start))?;
+        if section.len > 1 {
+            self.words(":")?;
+            self.number(u64::from(section.len))?;
+        }
+        self.words("]")
+    }
+
+    fn sections(&mut self, sections: &[Section]) -> Result<(), AllocError> {
+        let mut first = true;
+        for section in sections {
+            if !first {
+                self.words(", ")?;
+            }
+            first = false;
+            self.section(*section)?;
+        }
+        Ok(())
+    }
+
+    /// The statement itself, without its bodies.
+    pub(crate) fn statement(&mut self, stmt: &Stmt) -> Result<(), AllocError> {
+        match stmt {
+            Stmt::Set(cell, expr) => self.assignment(*cell, " = ", expr),
+            Stmt::Add(cell, expr) => self.assignment(*cell, " += ", expr),
+            Stmt::If(expr, _, _) => {
+                self.words("if (")?;
+                self.value(expr)?;
+                self.words(")")
+            }
+            Stmt::Task(decl, _) => self.task(decl),
+            Stmt::Wait => self.words("taskwait"),
+            Stmt::Group(cells, _) => self.group(cells),
+        }
+    }
+
+    fn assignment(&mut self, cell: Cell, sign: &str, expr: &Expr) -> Result<(), AllocError> {
+        self.cell(cell)?;
+        self.words(sign)?;
+        self.value(expr)
+    }
+
+    /// A task with what it declares.
+    pub(crate) fn task(&mut self, decl: &Decl) -> Result<(), AllocError> {
+        self.words("task")?;
+        self.clause(" in(", decl, Mode::Reads)?;
+        self.clause(" out(", decl, Mode::Writes)?;
+        self.clause(" in_reduction(+: ", decl, Mode::Adds)
+    }
+
+    /// The cells that are declared in this mode, if any.
+    fn clause(&mut self, words: &str, decl: &Decl, mode: Mode) -> Result<(), AllocError> {
+        let mut sections = Vec::new(self.alloc);
+        for used in decl.uses() {
+            if used.mode == mode {
+                put_cell(&mut sections, used.cell)?;
+            }
+        }
+        self.list(words, &sections)
+    }
+
+    fn group(&mut self, cells: &[Cell]) -> Result<(), AllocError> {
+        let mut sections = Vec::new(self.alloc);
+        for cell in cells {
+            put_cell(&mut sections, *cell)?;
+        }
+        self.words("taskgroup")?;
+        self.list(" task_reduction(+: ", &sections)
+    }
+
+    fn list(&mut self, words: &str, sections: &[Section]) -> Result<(), AllocError> {
+        if sections.is_empty() {
+            return Ok(());
+        }
+        self.words(words)?;
+        self.sections(sections)?;
+        self.words(")")
+    }
+
+    #[cycle(value)]
+    fn value(&mut self, expr: &Expr) -> Result<(), AllocError> {
+        match expr {
+            Expr::Number(number) => self.number(*number),
+            Expr::Cell(cell) => self.cell(*cell),
+            Expr::Op(op, one, two) => match sign(*op) {
+                Ok(sign) => {
+                    self.operand(one)?;
+                    self.words(sign)?;
+                    self.operand(two)
+                }
+                Err(name) => {
+                    self.words(name)?;
+                    self.value(one)?;
+                    self.words(", ")?;
+                    self.value(two)?;
+                    self.words(")")
+                }
+            },
+            Expr::Pick(section, chosen) => {
+                self.name(section.array)?;
+                self.words("[")?;
+                self.number(u64::from(section.start))?;
+                self.words(" + ")?;
+                self.operand(chosen)?;
+                self.words(" % ")?;
+                self.number(u64::from(section.len))?;
+                self.words("]")
+            }
+        }
+    }
+
+    /// A side of an operation: in brackets where it is an operation with a sign itself.
+    #[cycle(value)]
+    fn operand(&mut self, expr: &Expr) -> Result<(), AllocError> {
+        let nested = match expr {
+            Expr::Op(op, _, _) => sign(*op).is_ok(),
+            _ => false,
+        };
+        if nested {
+            self.words("(")?;
+        }
+        self.value(expr)?;
+        if nested {
+            self.words(")")?;
+        }
+        Ok(())
+    }
+}
+
+/// The sign of an operation, or the name of the one that is written as a function.
+fn sign(op: Op) -> Result<&'static str, &'static str> {
+    match op {
+        Op::Plus => Ok(" + "),
+        Op::Minus => Ok(" - "),
+        Op::Times => Ok(" * "),
+        Op::And => Ok(" & "),
+        Op::Or => Ok(" | "),
+        Op::Xor => Ok(" ^ "),
+        Op::Less => Ok(" < "),
+        Op::Equal => Ok(" == "),
+        Op::Min => Err("min("),
+        Op::Max => Err("max("),
+    }
+}
+
+/// Puts a cell behind the last section, or begins a new one with it.
+fn put_cell(sections: &mut Vec<Section>, cell: Cell) -> Result<(), AllocError> {
+    if let Some(last) = sections.last_mut() {
+        if last.array == cell.array && last.start.saturating_add(last.len) == cell.index {
+            last.len = last.len.saturating_add(1);
+            return Ok(());
+        }
+    }
+    sections.push(Section {
+        array: cell.array,
+        start: cell.index,
+        len: 1,
+    })?;
+    Ok(())
+}

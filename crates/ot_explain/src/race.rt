@@ -1,0 +1,83 @@
+//! The child with which a statement conflicts, and the child that a body leaves.
+ghost use Rattle.std.specs.Prelude.{◌≡◌, ◌+◌, ◌<◌, ◌^◌, IfSome, true};
+ghost use Rattle.ot_model.specs.View.{stmt_of, stmts_of};
+ghost use Rattle.ot_model.specs.Counts.{size};
+ghost use Rattle.ot_explain.specs.Races.{Races, Leaves, conflicts_at};
+
+use crate::child::Child;
+use crate::touch::conflicts_at;
+use crate::walk::{Search, walk};
+use crate::wanted::Wanted;
+use ot_model::{Cell, Decl, Stmt};
+
+/// A statement, a child that may be unawaited there, and a cell at which they conflict.
+#[derive(Clone, Copy, Debug)]
+pub(crate) struct Race<'a> {
+    pub(crate) stmt: &'a Stmt,
+    pub(crate) child: Child<'a>,
+    pub(crate) cell: Cell,
+}
+
+/// The statement at a place of a program.
+pub(crate) fn statement_at<'a>(body: &'a Vec<Stmt>, place: u32) -> Option<&'a Stmt>
+    requires short { 1 + size (stmts_of body.now.items) < 2 ^ 32 }
+{
+    let search = Search {
+        place,
+        wanted: Wanted::Each,
+    };
+    match walk(body, &search, 1, None) {
+        Ok(_) => None,
+        Err(arrived) => Some(arrived.stmt),
+    }
+}
+
+/// A child with which the statement at a place of a program conflicts, the latest that the walk meets.
+pub(crate) fn find_race<'a>(body: &'a Vec<Stmt>, place: u32, wanted: Wanted) -> Option<Race<'a>>
+    requires short { 1 + size (stmts_of body.now.items) < 2 ^ 32 }
+    ensures { IfSome result (λ race. Races (stmts_of body.now.items) place (stmt_of race.stmt.now) race.child.place race.child.decl.now race.cell) }
+{
+    let search = Search { place, wanted };
+    let arrived = match walk(body, &search, 1, None) {
+        Ok(_) => return None,
+        Err(arrived) => arrived,
+    };
+    match arrived.child {
+        None => None,
+        Some(child) => match conflict(arrived.stmt, child.decl, &search.wanted) {
+            None => None,
+            Some(cell) => Some(Race {
+                stmt: arrived.stmt,
+                child,
+                cell,
+            }),
+        },
+    }
+}
+
+/// A cell that the statement uses in conflict with what a child declares.
+fn conflict(stmt: &Stmt, decl: &Decl, wanted: &Wanted) -> Option<Cell>
+    ensures { IfSome result (λ cell. conflicts_at cell (stmt_of stmt.now) decl.now ≡ true) }
+{
+    for used in decl.uses() {
+        if wanted.meets(*used) && conflicts_at(used.cell, stmt, decl) {
+            return Some(used.cell);
+        }
+    }
+    None
+}
+
+/// A child that is unawaited where the body of the task at this place ends, on some path of it.
+pub(crate) fn find_left<'a>(place: u32, body: &'a Vec<Stmt>) -> Option<Child<'a>>
+    requires short { place + 1 + size (stmts_of body.now.items) < 2 ^ 32 }
+    ensures { IfSome result (λ child. Leaves child.place child.decl.now (place + 1) (stmts_of body.now.items)) }
+{
+    let search = Search {
+        place: 0,
+        wanted: Wanted::Each,
+    };
+    match walk(body, &search, place + 1, None) {
+        Ok(behind) => behind.child,
+        Err(_) => None,
+    }
+}

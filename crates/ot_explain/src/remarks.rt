@@ -1,0 +1,150 @@
+//! What is said of a refusal, line by line.
+use crate::print::Printer;
+use crate::race::{find_left, find_race, statement_at};
+use crate::sentences::{page_of, wrong_in_program};
+use crate::wanted::{Touched, Wanted};
+use ot_book::{Book, Code, Entry, Told};
+use ot_check::Offence;
+use ot_model::{Program, Shape, Stmt};
+use ot_program::read_program;
+use serde_json::Value;
+use std::alloc::{AllocError, Global};
+
+/// What is said of the last request of a book, where it was refused: lines with an LF between them.
+pub(crate) fn remarks_on_last(alloc: Global, book: &Book) -> Result<Option<String>, AllocError> {
+    let Some(entry) = book.log().last() else {
+        return Ok(None);
+    };
+    match &entry.told {
+        Told::Refused(code) => Ok(Some(refused(alloc, *code)?)),
+        Told::Offends(offence, place) => {
+            Ok(Some(offends(alloc, book, entry, *offence, *place)?))
+        }
+        Told::Lost => Ok(Some(sentence(alloc, 508)?)),
+        _ => Ok(None),
+    }
+}
+
+/// `427: ` and the code's sentence.
+fn sentence(alloc: Global, code: u32) -> Result<String, AllocError> {
+    match page_of(code) {
+        Some(page) => format!(in alloc; "{code}: {}", page.sentence),
+        None => format!(in alloc; "{code}"),
+    }
+}
+
+fn refused(alloc: Global, code: Code) -> Result<String, AllocError> {
+    let mut said = sentence(alloc, code.number())?;
+    if let Code::Program(refusal) = code {
+        said.push_str("\n")?;
+        said.push_str(wrong_in_program(refusal))?;
+    }
+    Ok(said)
+}
+
+/// The sentence, the statement at the place, and what it offends against.
+fn offends(
+    alloc: Global,
+    book: &Book,
+    entry: &Entry,
+    offence: Offence,
+    place: u32,
+) -> Result<String, AllocError> {
+    let mut said = sentence(alloc, offence.code())?;
+    let shape = book.store().shape(alloc, &book.limits())?;
+    if let Some(program) = program_of(alloc, entry.line.as_slice(), &shape)? {
+        let shown = explained(alloc, &program, &shape, offence, place)?;
+        said.push_str(shown.as_str())?;
+    }
+    Ok(said)
+}
+
+/// The program that a line runs. No array has changed since it was refused.
+fn program_of(alloc: Global, line: &[u8], shape: &Shape) -> Result<Option<Program>, AllocError> {
+    let Ok(Value::Array(items)) = Value::from_slice(alloc, line) else {
+        return Ok(None);
+    };
+    let Some(text) = items.get(1) else {
+        return Ok(None);
+    };
+    match read_program(alloc, text, shape) {
+        Ok(program) => Ok(Some(program)),
+        Err(_) => Ok(None),
+    }
+}
+
+/// Of an offence: the statement, and with which child it conflicts or which it leaves.
+fn explained(
+    alloc: Global,
+    program: &Program,
+    shape: &Shape,
+    offence: Offence,
+    place: u32,
+) -> Result<String, AllocError> {
+    let mut printer = Printer::new(alloc, shape.arrays());
+    let Some(stmt) = statement_at(&program.body, place) else {
+        return Ok(printer.into_text());
+    };
+    printer.words("\nstatement ")?;
+    printer.number(u64::from(place))?;
+    printer.words(": ")?;
+    printer.statement(stmt)?;
+    printer.words("\n")?;
+    match offence {
+        Offence::ConflictsWithChild => {
+            let touched = Touched::by(alloc, shape.arrays(), stmt)?;
+            conflict(&mut printer, program, place, Wanted::Touching(touched))?;
+        }
+        Offence::EndsWithChildren => left(&mut printer, stmt, place)?,
+        _ => printer.words(wrong_by(offence))?,
+    }
+    Ok(printer.into_text())
+}
+
+/// What an offence is, where no child has a part in it.
+fn wrong_by(offence: Offence) -> &'static str {
+    match offence {
+        Offence::NotDeclared => {
+            "it reads a cell that its task declares neither for reading nor for writing; writes one that isn't declared for writing; or adds to one that is declared neither for writing nor under `red`"
+        }
+        Offence::ChildBeyond => {
+            "it declares, for reading, a cell that the task around declares neither for reading nor for writing; or, for writing, one that isn't declared for writing"
+        }
+        Offence::ReductionMisuse => {
+            "it touches a cell of an open group; or declares such a cell without `red`, or under `red` a cell that the task around hasn't under `red` and no open group names; or it is a group that names a cell which the task around doesn't declare for writing or which an open group names"
+        }
+        Offence::ConflictsWithChild => {
+            "it touches a cell, or is a group that names one, in conflict with a child that may be pending"
+        }
+        Offence::EndsWithChildren => "its body can end with a child pending",
+    }
+}
+
+fn conflict(
+    printer: &mut Printer<'_>,
+    program: &Program,
+    place: u32,
+    wanted: Wanted,
+) -> Result<(), AllocError> {
+    let Some(race) = find_race(&program.body, place, wanted) else {
+        return printer.words(wrong_by(Offence::ConflictsWithChild));
+    };
+    printer.words("conflicts at ")?;
+    printer.cell(race.cell)?;
+    printer.words(" with statement ")?;
+    printer.number(u64::from(race.child.place))?;
+    printer.words(", which may be pending: ")?;
+    printer.task(race.child.decl)
+}
+
+fn left(printer: &mut Printer<'_>, stmt: &Stmt, place: u32) -> Result<(), AllocError> {
+    if let Stmt::Task(_, body) = stmt {
+        if let Some(child) = find_left(place, body) {
+            printer.words("can end before its child, statement ")?;
+            printer.number(u64::from(child.place))?;
+            printer.words(": ")?;
+            return printer.task(child.decl);
+        }
+    }
+    printer.words(wrong_by(Offence::EndsWithChildren))
+}

@@ -1,0 +1,93 @@
+//! Whether a statement uses a cell in conflict with what a child declares.
+ghost use Rattle.std.specs.Prelude.{◌≡◌, true, map};
+ghost use Rattle.std.specs.List.{list_any};
+ghost use Rattle.ot_model.specs.View.{expr_of, stmt_of};
+ghost use Rattle.ot_model.specs.Value.{cells_of, cells_named};
+ghost use Rattle.ot_model.specs.Cells.{same_cell};
+ghost use Rattle.ot_model.specs.declared.stmt.Mode.TheVariants.{Reads};
+ghost use Rattle.ot_check.specs.Paths.{use_as};
+ghost use Rattle.ot_explain.specs.Races.{uses_of, conflicts_at};
+ghost use Rattle.ot_explain.specs.Walk.{is_against};
+
+use ot_model::{Cell, Decl, Expr, Mode, Section, Stmt, Use};
+
+/// Whether the statement uses the cell in conflict with what the child declares.
+pub(crate) fn conflicts_at(cell: Cell, stmt: &Stmt, decl: &Decl) -> bool
+    ensures { result ≡ true → conflicts_at cell (stmt_of stmt.now) decl.now ≡ true }
+{
+    match decl.mode(cell) {
+        None => false,
+        Some(mode) => uses_against(mode, cell, stmt),
+    }
+}
+
+/// Whether the statement uses the cell in conflict with this mode.
+fn uses_against(mode: Mode, cell: Cell, stmt: &Stmt) -> bool
+    ensures { result ≡ true → list_any (is_against mode cell) (uses_of (stmt_of stmt.now)) ≡ true }
+{
+    match stmt {
+        Stmt::Set(target, expr) => {
+            let used = Use {
+                cell: *target,
+                mode: Mode::Writes,
+            };
+            value_against(mode, cell, expr) || use_against(mode, cell, used)
+        }
+        Stmt::Add(target, expr) => {
+            let used = Use {
+                cell: *target,
+                mode: Mode::Adds,
+            };
+            value_against(mode, cell, expr) || use_against(mode, cell, used)
+        }
+        Stmt::If(expr, _, _) => value_against(mode, cell, expr),
+        Stmt::Group(cells, _) => mode.conflicts(Mode::Writes) && has(cells, cell),
+        Stmt::Task(_, _) | Stmt::Wait => false,
+    }
+}
+
+/// Whether a use is one of the cell, in conflict with this mode.
+fn use_against(mode: Mode, cell: Cell, used: Use) -> bool
+    ensures { result ≡ is_against mode cell used }
+{
+    used.cell == cell && mode.conflicts(used.mode)
+}
+
+/// Whether the value reads the cell, in conflict with this mode.
+fn value_against(mode: Mode, cell: Cell, expr: &Expr) -> bool
+    ensures { result ≡ true → list_any (is_against mode cell) (map (use_as Reads) (cells_named (expr_of expr.now))) ≡ true }
+{
+    mode.conflicts(Mode::Reads) && reads(expr, cell)
+}
+
+fn has(cells: &[Cell], cell: Cell) -> bool
+    ensures { result ≡ true → list_any (λ c. same_cell c cell) cells.now ≡ true }
+{
+    for one in cells {
+        if *one == cell {
+            return true;
+        }
+    }
+    false
+}
+
+/// Whether the value reads the cell.
+fn reads(expr: &Expr, cell: Cell) -> bool
+    ensures { result ≡ true → list_any (λ c. same_cell c cell) (cells_named (expr_of expr.now)) ≡ true }
+{
+    match expr {
+        Expr::Number(_) => false,
+        Expr::Cell(one) => *one == cell,
+        Expr::Op(_, one, two) => reads(one, cell) || reads(two, cell),
+        Expr::Pick(section, chosen) => is_in(*section, cell) || reads(chosen, cell),
+    }
+}
+
+/// Whether the cell is one of the section.
+fn is_in(section: Section, cell: Cell) -> bool
+    ensures { result ≡ true → list_any (λ c. same_cell c cell) (cells_of section) ≡ true }
+{
+    section.array == cell.array
+        && section.start <= cell.index
+        && cell.index - section.start < section.len
+}
