@@ -66,9 +66,9 @@ against_clashes c mode declared is u h =
     (and_true (same_cell c u.cell) (conflicts mode u.mode) (ap (λ d. same_cell c d) cell ∙ same_itself c)
     (and_right (same_cell u.cell c) (conflicts mode u.mode) h)))
 
-pub conflicts-found : (c : Cell) (mode : Mode) (x : S) (declared : List Use) → mode_in declared c ≡ Some mode
+pub conflicts_found : (c : Cell) (mode : Mode) (x : S) (declared : List Use) → mode_in declared c ≡ Some mode
     → list_any (is_against mode c) (uses_of x) ≡ true → conflicts_at c x declared ≡ true
-conflicts-found c mode x declared is h = any-more (is_against mode c) (λ u. same_cell u.cell c && clashes u declared) (uses_of x) (against_clashes c mode declared is) h
+conflicts_found c mode x declared is h = any-more (is_against mode c) (λ u. same_cell u.cell c && clashes u declared) (uses_of x) (against_clashes c mode declared is) h
 
 -- cells used in one mode
 pub used-against : (mode own : Mode) (c : Cell) (cells : List Cell) → conflicts mode own ≡ true → list_any (λ d. same_cell d c) cells ≡ true

@@ -32,12 +32,6 @@ pub record Meets (place : ℕ) (x : S) (child : ℕ) (declared : List Use) (k : 
   pub stands : PassesOne place x own
   pub pending : IsPending before child declared
 
--- on some path of the body the child is unawaited where the body ends
-pub record Leaves (child : ℕ) (declared : List Use) (k : ℕ) (body : Body) : Type 0 where
-  pub path : List Step
-  pub passes : Passes k body path
-  pub pending : IsPending path child declared
-
 -- P holds of the body of a task that stands in a body, however deep
 abbrev mutual
   pub InTaskOne : (ℕ → Body → Type 0) → ℕ → S → Type 0

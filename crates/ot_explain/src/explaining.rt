@@ -1,4 +1,6 @@
 //! A session with remarks behind its refusals.
+ghost use Rattle.std.specs.Prelude.{◌≡◌, None};
+
 use crate::remarks::remarks_on_last;
 use memchr::memchr;
 use ot_book::{Book, Solo};
@@ -29,6 +31,7 @@ struct Talk {
     /// The line that has begun.
     partial: Vec<u8>,
     said: Explained,
+    ghost closed: { book.pending ≡ None },
 }
 
 /// Serves the one session of a new tenant, called `t1`, and writes what a session writes. Behind each refusal

@@ -5,6 +5,7 @@
 mod child;
 mod code;
 mod explaining;
+mod left;
 mod print;
 mod race;
 mod remarks;

@@ -1,8 +1,8 @@
-//! The child with which a statement conflicts, and the child that a body leaves.
+//! The child with which a statement conflicts.
 ghost use Rattle.std.specs.Prelude.{◌≡◌, ◌+◌, ◌<◌, ◌^◌, IfSome, true};
 ghost use Rattle.ot_model.specs.View.{stmt_of, stmts_of};
 ghost use Rattle.ot_model.specs.Counts.{size};
-ghost use Rattle.ot_explain.specs.Races.{Races, Leaves, conflicts_at};
+ghost use Rattle.ot_explain.specs.Races.{Races, conflicts_at};
 
 use crate::child::Child;
 use crate::touch::conflicts_at;
@@ -65,19 +65,4 @@ fn conflict(stmt: &Stmt, decl: &Decl, wanted: &Wanted) -> Option<Cell>
         }
     }
     None
-}
-
-/// A child that is unawaited where the body of the task at this place ends, on some path of it.
-pub(crate) fn find_left<'a>(place: u32, body: &'a Vec<Stmt>) -> Option<Child<'a>>
-    requires short { place + 1 + size (stmts_of body.now.items) < 2 ^ 32 }
-    ensures { IfSome result (λ child. Leaves child.place child.decl.now (place + 1) (stmts_of body.now.items)) }
-{
-    let search = Search {
-        place: 0,
-        wanted: Wanted::Each,
-    };
-    match walk(body, &search, place + 1, None) {
-        Ok(behind) => behind.child,
-        Err(_) => None,
-    }
 }

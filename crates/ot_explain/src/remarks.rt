@@ -1,6 +1,7 @@
 //! What is said of a refusal, line by line.
+use crate::left::find_left;
 use crate::print::Printer;
-use crate::race::{find_left, find_race, statement_at};
+use crate::race::{find_race, statement_at};
 use crate::sentences::{page_of, wrong_in_program};
 use crate::wanted::{Touched, Wanted};
 use ot_book::{Book, Code, Entry, Told};

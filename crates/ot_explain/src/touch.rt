@@ -12,6 +12,7 @@ ghost use Rattle.ot_explain.specs.Walk.{is_against};
 use ot_model::{Cell, Decl, Expr, Mode, Section, Stmt, Use};
 
 /// Whether the statement uses the cell in conflict with what the child declares.
+#[tactic(auto, using(crate::proofs::TouchLemmas::conflicts_found))]
 pub(crate) fn conflicts_at(cell: Cell, stmt: &Stmt, decl: &Decl) -> bool
     ensures { result ≡ true → conflicts_at cell (stmt_of stmt.now) decl.now ≡ true }
 {

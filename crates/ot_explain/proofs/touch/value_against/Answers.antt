@@ -1,0 +1,10 @@
+use Rattle.std.proofs.Common.{◌≡◌, ◌∙◌, sym}
+use Rattle.ot_model.specs.View.{expr_of}
+use Rattle.ot_model.specs.Value.{cells_named}
+use Rattle.ot_model.specs.declared.stmt.Mode.TheVariants.{Reads}
+use Rattle.ot_explain.proofs.TouchLemmas.{used-against}
+use Rattle.ot_explain.proofs.touch.value_against.Goals as goal
+
+pub returns-then-conflicts : goal.returns-then-conflicts
+returns-then-conflicts c = λ yes.
+    used-against c.args.mode Reads c.args.cell (cells_named (expr_of c.args.expr.now)) (sym c.conflicts.ensures ∙ c.if-conflicts.true) (c.reads.ensures yes)
