@@ -19,7 +19,8 @@ pub use command_line::words;
 pub use ended::Ended;
 pub use fault::{Fault, fault_line};
 use ot_ask::{Asked, ask};
-use ot_front::Writing;
+use ot_explain::{Explained, code_page, explain};
+use ot_front::{Reading, Writing, write_whole};
 use std::alloc::Global;
 use std::env::Env;
 use std::io::BufReader;
@@ -66,7 +67,9 @@ fn run<R: Input + Print + Eprint + Net>(rt: &R, alloc: Global, given: &[&str]) -
     };
     let ended = match asked {
         Words::Ask(asked) => ask_server(rt, alloc, &asked),
-        Words::Explain(_) | Words::Graph | Words::C => Err(Fault::NotBuilt),
+        Words::Explain(None) => explain_session(rt, alloc),
+        Words::Explain(Some(code)) => explain_code(rt, alloc, code),
+        Words::Graph | Words::C => Err(Fault::NotBuilt),
     };
     match ended {
         Ok(ended) => status_of(ended),
@@ -90,6 +93,30 @@ fn show(rt: &(impl Print + Eprint), error: &clap::Error) -> ExitCode
     match printed {
         Ok(()) => ExitCode::SUCCESS,
         Err(_) => tell(rt, &Fault::WriteFailed),
+    }
+}
+
+/// Explains the session that comes on standard input.
+fn explain_session<R: Input + Print>(rt: &R, alloc: Global) -> Result<Ended, Fault> {
+    let mut source = Reading::new(rt.reader());
+    let mut sink = Writing::new(io::writer(rt));
+    match explain(alloc, &mut source, &mut sink) {
+        Ok(Explained::AllTaken) => Ok(Ended::Well),
+        Ok(Explained::SomeRefused) => Ok(Ended::Refused),
+        Err(fault) => Err(Fault::from(fault)),
+    }
+}
+
+/// Prints what a code means.
+fn explain_code<R: Print>(rt: &R, alloc: Global, code: u32) -> Result<Ended, Fault> {
+    let text = match code_page(alloc, code) {
+        Ok(Some(text)) => text,
+        Ok(None) => return Err(Fault::UnknownCode),
+        Err(_) => return Err(Fault::Memory),
+    };
+    match write_whole(&mut Writing::new(io::writer(rt)), text.as_bytes()) {
+        Ok(()) => Ok(Ended::Well),
+        Err(_) => Err(Fault::WriteFailed),
     }
 }
 
