@@ -24,7 +24,6 @@ line_of of.WriteFailed = codes "omptask: write failed"
 line_of of.Memory = codes "omptask: no memory"
 line_of of.TooManyReads = codes "omptask: too many reads"
 line_of of.Stranger = codes "omptask: stranger"
-line_of of.NotBuilt = codes "omptask: not built"
 
 -- the program's fault where a session with a server failed
 abbrev pub fault_of : AskFault → Fault

@@ -1,7 +1,7 @@
 -- The words that the program takes, as `clap` sees them.
 use Rattle.std.specs.Prelude.{Some, true, codes, pos}
 use Rattle.clap.specs.Words.{App, Rule, Shape, new_app, with_subcommand}
-use Rattle.clap.specs.Simple.{new_rule, new_shape, on_top, with_rule}
+use Rattle.clap.specs.Simple.{new_rule, on_top, with_rule}
 use Rattle.clap.specs.declared.builder.value_parser.ValueParser.TheVariants.{Signed}
 
 -- a code may be given
@@ -22,16 +22,8 @@ name_rule = record (new_rule (codes "name")) { value_names = 1; required = true 
 unfoldable pub ask_words : Shape
 ask_words = (with_rule (with_rule (new_app (codes "ask")) socket_rule) name_rule).top
 
--- `graph` takes no further word
-unfoldable pub graph_words : Shape
-graph_words = new_shape (codes "graph")
-
--- and neither does `c`
-unfoldable pub c_words : Shape
-c_words = new_shape (codes "c")
-
 -- one of the subcommands has to be given, but where the version is asked for
 unfoldable pub program_words : App
 program_words =
     let program = on_top (λ s. record s { has_version = true; subcommand_required = true }) (new_app (codes "omptask")) in
-    with_subcommand (with_subcommand (with_subcommand (with_subcommand program explain_words) ask_words) graph_words) c_words
+    with_subcommand (with_subcommand program explain_words) ask_words

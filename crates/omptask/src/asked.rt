@@ -7,10 +7,6 @@ pub enum Words {
     Explain(Option<u32>),
     /// A session with a server.
     Ask(Ask),
-    /// The task graph of the last program of a session.
-    Graph,
-    /// The last program of a session, in C.
-    C,
 }
 
 /// A session with a server, over its Unix socket.

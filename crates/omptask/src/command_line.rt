@@ -27,17 +27,14 @@ pub fn words(alloc: Global, given: &[&str]) -> Result<Words, Error>
 fn asked_for(alloc: Global, matches: &ArgMatches<'_>) -> Result<Words, AllocError>
     ensures { IfOk result (AsksFor (subcommand_rows_of matches.now)) }
 {
-    if let Some(found) = matches.subcommand_matches("explain") {
-        return Ok(Words::Explain(number(found, "code", MAX_CODE)));
-    }
     if let Some(found) = matches.subcommand_matches("ask") {
         let ask = ask_of(alloc, found)?;
         return Ok(Words::Ask(ask));
     }
-    if matches.subcommand_matches("graph").is_some() {
-        return Ok(Words::Graph);
+    if let Some(found) = matches.subcommand_matches("explain") {
+        return Ok(Words::Explain(number(found, "code", MAX_CODE)));
     }
-    Ok(Words::C)
+    Ok(Words::Explain(None))
 }
 
 /// The session that is asked for.

@@ -2,7 +2,7 @@
 ghost use Rattle.std.specs.Prelude.{◌≡◌, IfOk, false};
 ghost use Rattle.clap.specs.Words.{app_of, rule_of, shape_of};
 ghost use Rattle.clap.specs.declared.builder.command.Command.TheViews.{out-Command as fields_of};
-ghost use Rattle.omptask.specs.Grammar.{program_words, explain_words, ask_words, graph_words, c_words, code_rule, socket_rule, name_rule};
+ghost use Rattle.omptask.specs.Grammar.{program_words, explain_words, ask_words, code_rule, socket_rule, name_rule};
 
 use clap::{Arg, Command, value_parser};
 use std::alloc::{AllocError, Global};
@@ -25,16 +25,6 @@ It reads lines on standard input. Each is sent, and its reply is printed before 
 the end of the lines, or behind a line [\"bye\"], it waits until the server has ended the session.
 The status is 3 where a line was refused, and 1 where the session couldn't be held.";
 
-/// What `graph` draws.
-const GRAPH_HELP: &str = "\
-It reads a session of one tenant on standard input and writes the tasks of its last `run` for `dot`:
-solid edges say who waits for whom by itself, and at which cells, dashed ones who created whom.";
-
-/// What `c` writes.
-const C_HELP: &str = "\
-It reads a session of one tenant on standard input and writes its last `run` as a program in C with
-OpenMP, which prints the shows as the reply has them.";
-
 /// The program's command.
 pub(crate) fn program_command<'a>(alloc: Global) -> Result<Command<'a>, AllocError>
     ensures { IfOk result (λ command. app_of command ≡ program_words) }
@@ -46,9 +36,7 @@ pub(crate) fn program_command<'a>(alloc: Global) -> Result<Command<'a>, AllocErr
         .version(VERSION)
         .subcommand_required(true)
         .subcommand(explain)?
-        .subcommand(ask)?
-        .subcommand(graph_command(alloc))?
-        .subcommand(c_command(alloc))
+        .subcommand(ask)
 }
 
 fn explain_command<'a>(alloc: Global) -> Result<Command<'a>, AllocError>
@@ -70,24 +58,6 @@ fn ask_command<'a>(alloc: Global) -> Result<Command<'a>, AllocError>
         .after_help(ASK_HELP)
         .arg(socket_arg(alloc))?
         .arg(name_arg(alloc))
-}
-
-fn graph_command<'a>(alloc: Global) -> Command<'a>
-    ensures words { shape_of result ≡ graph_words }
-    ensures own { (fields_of result).has_globals ≡ false }
-{
-    Command::new(alloc, "graph")
-        .about("Draw the tasks of a session's last program")
-        .after_help(GRAPH_HELP)
-}
-
-fn c_command<'a>(alloc: Global) -> Command<'a>
-    ensures words { shape_of result ≡ c_words }
-    ensures own { (fields_of result).has_globals ≡ false }
-{
-    Command::new(alloc, "c")
-        .about("Write a session's last program in C with OpenMP")
-        .after_help(C_HELP)
 }
 
 fn code_arg<'a>(alloc: Global) -> Arg<'a>

@@ -30,8 +30,6 @@ pub enum Fault {
     TooManyReads,
     /// A session that has no server was told of one.
     Stranger,
-    /// The program was built without it.
-    NotBuilt,
 }
 
 impl From<AskFault> for Fault {
@@ -82,6 +80,5 @@ pub fn fault_line(fault: &Fault) -> &'static str
         Fault::Memory => "omptask: no memory",
         Fault::TooManyReads => "omptask: too many reads",
         Fault::Stranger => "omptask: stranger",
-        Fault::NotBuilt => "omptask: not built",
     }
 }

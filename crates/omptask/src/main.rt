@@ -69,7 +69,6 @@ fn run<R: Input + Print + Eprint + Net>(rt: &R, alloc: Global, given: &[&str]) -
         Words::Ask(asked) => ask_server(rt, alloc, &asked),
         Words::Explain(None) => explain_session(rt, alloc),
         Words::Explain(Some(code)) => explain_code(rt, alloc, code),
-        Words::Graph | Words::C => Err(Fault::NotBuilt),
     };
     match ended {
         Ok(ended) => status_of(ended),
