@@ -1,5 +1,5 @@
 //! A session with remarks behind its refusals.
-ghost use Rattle.std.specs.Prelude.{◌≡◌, None};
+ghost use Rattle.std.specs.Prelude.{◌≡◌, ◌<◌, None, length};
 
 use crate::remarks::remarks_on_last;
 use memchr::memchr;
@@ -52,15 +52,27 @@ pub fn explain<R: Source, W: Sink>(
         partial: Vec::new(alloc),
         said: Explained::AllTaken,
     };
+    converse(alloc, &mut talk, source, sink, room.as_mut_slice())
+}
+
+/// Serves a session that reads into `room`.
+fn converse<R: Source, W: Sink>(
+    alloc: Global,
+    talk: &mut Talk,
+    source: &mut R,
+    sink: &mut W,
+    room: &mut [u8],
+) -> Result<Explained, FrontFault>
+    requires { 0 < length room.old }
+{
     for _ in 0..MAX_READS {
-        let Ok(count) = source.read(room.as_mut_slice()) else {
+        let Ok(count) = source.read(room) else {
             return Err(FrontFault::ReadFailed);
         };
         if count == 0 {
             return Ok(talk.said);
         }
-        let chunk = &room.as_slice()[..count];
-        match take_chunk(alloc, &mut talk, sink, chunk) {
+        match take_chunk(alloc, talk, sink, &room[..count]) {
             Ok(true) => {}
             Ok(false) => return Ok(talk.said),
             Err(fault) => return Err(fault),
@@ -78,8 +90,9 @@ fn take_chunk<W: Sink>(
 ) -> Result<bool, FrontFault> {
     let mut rest = chunk;
     while let Some(at) = memchr(b'\n', rest) {
-        let (line, behind) = rest.split_at(at + 1);
-        if talk.partial.extend_from_slice(line).is_err() {
+        let (piece, behind) = rest.split_at(at);
+        let (_, after) = behind.split_at(1);
+        if talk.partial.extend_from_slice(piece).is_err() || talk.partial.push(b'\n').is_err() {
             return Err(FrontFault::Memory);
         }
         match take_line(alloc, talk, sink) {
@@ -87,7 +100,7 @@ fn take_chunk<W: Sink>(
             Ok(false) => return Ok(false),
             Err(fault) => return Err(fault),
         }
-        rest = behind;
+        rest = after;
     }
     if talk.partial.extend_from_slice(rest).is_err() {
         return Err(FrontFault::Memory);
