@@ -15,11 +15,17 @@ const ROWS: [(u32, &str); 19] = [
     (415, "415: too many cells\n"),
     (416, "416: too many arrays\n"),
     (420, "420: the program is of no form of the language\n"),
-    (421, "421: a size in the program is not exact or out of range"),
+    (
+        421,
+        "421: a size in the program is not exact or out of range",
+    ),
     (422, "422: the program is too large or too deep\n"),
     (423, "423: the program has too many task statements\n"),
     (424, "424: a section of the program has length 0\n"),
-    (425, "425: the body of a task touches a cell as the task doesn't declare it\n"),
+    (
+        425,
+        "425: the body of a task touches a cell as the task doesn't declare it\n",
+    ),
     (426, "426: a task declares more than the task around it\n"),
     (
         427,

@@ -116,7 +116,9 @@ const ROWS: [(&str, &str); 25] = [
 ];
 
 fn is_as_told(alloc: Global, body: &str, text: &str) -> Result<bool, Fail> {
-    let lines = format!(in alloc; "[\"new\",\"a\",3]\n[\"run\",[\"program\",[],{body}]]\n[\"used\"]\n")?;
+    let lines = format!(in alloc;
+        "[\"new\",\"a\",3]\n[\"run\",[\"program\",[],{body}]]\n[\"used\"]\n"
+    )?;
     let all = format!(in alloc; "[\"ok\",1]\n{text}[\"used\",3,0]\n")?;
     let told = session(alloc, lines.as_str());
     Ok(told.ended == Ok(Explained::SomeRefused) && told.written.as_slice() == all.as_bytes())

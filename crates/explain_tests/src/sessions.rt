@@ -76,10 +76,7 @@ fn requests_are_explained(rt: HostRuntime) -> Result<(), Fail> {
 
 /// How many spaces stand behind a list request, and what is written. With its 8 bytes the first line is as
 /// long as a line may be.
-const LONG: [(usize, &str); 2] = [
-    (65_528, "[\"arrays\",1,[]]\n"),
-    (65_529, "[\"long\"]\n"),
-];
+const LONG: [(usize, &str); 2] = [(65_528, "[\"arrays\",1,[]]\n"), (65_529, "[\"long\"]\n")];
 
 fn first_other_long(alloc: Global) -> Result<Option<usize>, Fail> {
     for (spaces, text) in &LONG {

@@ -1,19 +1,19 @@
 -- Steps of the walk: what it carries, and where it comes.
-use Rattle.std.proofs.Common.{◌≡◌, ℕ, ◌+◌, ◌++◌, Bool, true, false, not, ◌&&◌, ◌||◌, List, [], ◌∷◌, refl, sym, ap, subst, inl, inr, ◌∙◌, append_assoc, append-nil}
-use Rattle.std.specs.Prelude.{◌⊎◌, Some, None, Result, Ok, Err, IfErr}
+use Rattle.std.proofs.Common.{◌≡◌, ℕ, ◌+◌, ◌++◌, true, false, not, ◌||◌, List, [], ◌∷◌, refl, sym, ap, subst, inl, inr, ◌∙◌, append_assoc, append-nil}
+use Rattle.std.specs.Prelude.{Some, None, Result, Ok, Err, IfErr}
 use Rattle.std.specs.List.{list_any}
 use Rattle.std.proofs.lemmas.List.Folds.{list_any-append}
-use Rattle.ot_model.specs.Tree.{E, S, Set, Add, If, Task, Wait, Group, Body, End, Next}
+use Rattle.ot_model.specs.Tree.{E, S, Set, Add, If, Task, Group, Body, End, Next}
 use Rattle.ot_model.specs.Counts.{size, size_one}
 use Rattle.ot_model.specs.declared.expr.Cell.{Cell}
 use Rattle.ot_model.specs.declared.stmt.Use.{Use}
-use Rattle.ot_check.specs.Paths.{Create, Await, Enter, Leave, Step, At, touched, touches, PassesOne, Passes}
+use Rattle.ot_check.specs.Paths.{Create, Enter, Leave, Step, At, touched, touches, PassesOne, Passes}
 use Rattle.ot_check.specs.Offences.{stays_within, is_wait, has_wait, unawaited}
 use Rattle.ot_check.specs.walk.Walk.{through}
 use Rattle.ot_check.proofs.Bits.{and_true, and_left, and_right, true_not, not_true, false_or, or_none}
 use Rattle.ot_check.proofs.Steps.{IsClosed, closed_of, within-closed, touched-balanced, touched-waits, passes_one-closed}
-use Rattle.ot_check.proofs.After.{some_path, some_path_one, left_by, after-to_one}
-use Rattle.ot_explain.specs.Races.{IsPending, Meets, InTask, InTaskOne, Somewhere, awaits_none}
+use Rattle.ot_check.proofs.After.{some_path, some_path_one, after-to_one}
+use Rattle.ot_explain.specs.Races.{IsPending, Somewhere}
 use Rattle.ot_explain.specs.Walk.{Pending, Carried, Carries, Reaches, Comes, Arrives, ArrivesOne}
 
 -- ---- who stays pending

@@ -1,5 +1,5 @@
 -- What a walk through a body carries: a child that may be unawaited.
-use Rattle.std.specs.Prelude.{◌≡◌, ℕ, ◌++◌, ◌⊎◌, Bool, ◌&&◌, List, Option, Some, None, option_map}
+use Rattle.std.specs.Prelude.{ℕ, ◌++◌, ◌⊎◌, Bool, ◌&&◌, List, Option, Some, None, option_map}
 use Rattle.ot_model.specs.Tree.{S, Body}
 use Rattle.ot_model.specs.Cells.{same_cell}
 use Rattle.ot_model.specs.Uses.{conflicts}

@@ -1,4 +1,4 @@
-use Rattle.std.proofs.Common.{◌≡◌, ℕ, List, None, Some, ap, subst}
+use Rattle.std.proofs.Common.{ℕ, List, None, Some, ap, subst}
 use Rattle.ot_model.specs.declared.stmt.Use.{Use}
 use Rattle.ot_model.specs.View.{stmt_of, stmts_of}
 use Rattle.ot_explain.specs.Walk.{pending_of, Arrives}

@@ -1,4 +1,4 @@
-use Rattle.std.proofs.Common.{◌≡◌, ◌<◌, arith}
+use Rattle.std.proofs.Common.{arith}
 use Rattle.std.proofs.lemmas.Bool.Decides.{nat_tests}
 use Rattle.ot_explain.proofs.TouchLemmas.{in_section}
 use Rattle.ot_explain.proofs.touch.is_in.Goals as goal

@@ -1,6 +1,5 @@
 use Rattle.std.proofs.Common.{◌≡◌, true, ◌∙◌, sym, subst}
 use Rattle.std.specs.List.{list_any}
-use Rattle.ot_model.specs.View.{stmts_of}
 use Rattle.ot_model.specs.Cells.{same_cell}
 use Rattle.ot_model.specs.declared.stmt.Mode.TheVariants.{Writes}
 use Rattle.ot_check.proofs.WalkLemmas.{stmt_of-Group}

@@ -1,4 +1,4 @@
-use Rattle.std.proofs.Common.{◌≡◌, ◌∙◌, sym}
+use Rattle.std.proofs.Common.{◌∙◌, sym}
 use Rattle.ot_model.specs.View.{expr_of}
 use Rattle.ot_model.specs.Value.{cells_named}
 use Rattle.ot_model.specs.declared.stmt.Mode.TheVariants.{Reads}

@@ -1,14 +1,11 @@
-use Rattle.std.proofs.Common.{rules, ◌≡◌, ◌+◌, ◌<◌, ◌≤◌, ◌^◌, ◌⊎◌, IfOk, IfErr, List, Some, None, Ok, Err, true, ℕ, drop, refl, sym, ap, subst, inl, inr, ◌∙◌, arith, add_assoc}
-use Rattle.ot_model.specs.Tree.{E, S, Set, Add, If, Task, Wait, Group}
-use Rattle.ot_model.specs.declared.expr.Cell.{Cell}
-use Rattle.ot_model.specs.declared.stmt.Stmt.{the_lemmas}
-use Rattle.ot_check.specs.walk.Walk.{through}
+use Rattle.std.proofs.Common.{◌≡◌, ◌+◌, IfOk, IfErr, drop, sym, ap, subst, inl, inr, arith}
+use Rattle.ot_model.specs.Tree.{If, Task, Group}
 use Rattle.ot_model.specs.View.{expr_of, stmt_of, stmts_of}
 use Rattle.ot_model.specs.Counts.{size, size_one}
 use Rattle.ot_check.specs.Paths.{PassesOne, Passes}
-use Rattle.ot_check.proofs.WalkLemmas.{if_ok, stmt_of-Set, stmt_of-Add, stmt_of-If, stmt_of-Task, stmt_of-Wait, stmt_of-Group, rest_is, rest_none}
-use Rattle.ot_explain.specs.Walk.{Pending, pending_of, Carries, Arrives, ArrivesOne}
-use Rattle.ot_explain.proofs.WalkLemmas.{if_err, carries-set, carries-add, carries-none, carries-first, carries-second, carries-task, carries-made, carries-group, carries-end, carries-next, arrives-here, arrives-first, arrives-second, arrives-task, arrives-group, arrives-next, arrives-later}
+use Rattle.ot_check.proofs.WalkLemmas.{if_ok, stmt_of-Set, stmt_of-Add, stmt_of-If, stmt_of-Task, stmt_of-Group, rest_is}
+use Rattle.ot_explain.specs.Walk.{pending_of, Carries, Arrives, ArrivesOne}
+use Rattle.ot_explain.proofs.WalkLemmas.{if_err, carries-set, carries-add, carries-none, carries-first, carries-second, carries-task, carries-made, carries-group, carries-next, arrives-here, arrives-first, arrives-second, arrives-task, arrives-group, arrives-next, arrives-later}
 use Rattle.ot_explain.proofs.walk.+walk.Goals as goal
 
 pub walk-returns-in-Err-clause-arrives : goal.walk-returns-in-Err-clause-arrives
