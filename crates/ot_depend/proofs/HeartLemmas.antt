@@ -46,7 +46,7 @@ pub writes-uses : (c : Cell) (us : List Use) → writes_cell c us ≡ true → u
 writes-uses c us writes = let found = write_found c us writes in use_there c us (found.0, found.1, found.2, found.3, found.4.0)
 
 -- a dependence is at a cell that both use and one of them writes
-pub MeetsAt : List Use → List Use → Type 0
+unfoldable pub MeetsAt : List Use → List Use → Type 0
 MeetsAt us vs = (c : Cell) × (uses_cell c us ≡ true) × (uses_cell c vs ≡ true) × ((writes_cell c us || writes_cell c vs) ≡ true)
 
 pub MeetsAt-from_DependsOn : (us vs : List Use) → DependsOn us vs → MeetsAt us vs

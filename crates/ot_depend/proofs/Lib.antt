@@ -16,3 +16,4 @@ pub mod EnterLemmas
 pub mod KeptLemmas
 pub mod WaitLemmas
 pub mod ReleaseLemmas
+pub mod WaitsLemmas

@@ -85,11 +85,12 @@ is_ready-from_IsReady siblings child ready =
     ∙ list_all-from_AllPass (lets_run ready.itself.uses) (take child siblings) (λ k d within. lets_run-from_LetsRun ready.itself.uses (get_or (take child siblings) k d) (all k d within))
 
 -- what tells exactly that the child is ready is the test
+-- two answers that follow from each other
+pub same_answer : (x y : Bool) → (x ≡ true → y ≡ true) → (y ≡ true → x ≡ true) → x ≡ y
+same_answer true y f g = sym (f refl)
+same_answer false true f g = g refl
+same_answer false false f g = refl
+
 pub is_ready-told : (b : Bool) (siblings : List Sibling) (child : ℕ) → (IsTrue b ↔ IsReady siblings child) → b ≡ is_ready siblings child
 is_ready-told b siblings child told =
-    either b (is_ready siblings child) (λ passed. is_ready-from_IsReady siblings child (told.0 passed)) (λ passed. told.1 (IsReady-from_test siblings child passed))
-  where
-    either : (x y : Bool) → (x ≡ true → y ≡ true) → (y ≡ true → x ≡ true) → x ≡ y
-    either true y f g = sym (f refl)
-    either false true f g = g refl
-    either false false f g = refl
+    same_answer b (is_ready siblings child) (λ passed. is_ready-from_IsReady siblings child (told.0 passed)) (λ passed. told.1 (IsReady-from_test siblings child passed))

@@ -9,3 +9,4 @@ pub mod Children
 pub mod Groups
 pub mod Places
 pub mod Cells
+pub mod Waits

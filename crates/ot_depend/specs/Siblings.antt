@@ -58,3 +58,12 @@ is_in group s = list_any (λ g. g == group) s.groups
 -- whether it has not finished, and was created in this group
 abbrev pub is_unfinished_in : ℕ → Sibling → Bool
 is_unfinished_in group s = is_unfinished s && is_in group s
+
+-- whether a wait for these cells awaits the child: it has not finished, and a task created now with these uses would
+-- depend on it (`taskwait` with `depend`, OpenMP API 5.2, sections 15.5 and 15.9.5)
+abbrev pub is_awaited : List Use → Sibling → Bool
+is_awaited uses s = is_unfinished s && depends_on s.uses uses
+
+-- whether it awaits one of the children
+abbrev pub waits_for : List Sibling → List Use → Bool
+waits_for siblings uses = list_any (is_awaited uses) siblings

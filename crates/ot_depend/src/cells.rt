@@ -1,7 +1,11 @@
 //! For each cell that is declared, the last child that writes it and the children that use it since.
 ghost use Rattle.std.specs.Prelude.{◌≡◌, ◌++◌, ◌<◌, ℕ, IfOk, OnOk, All, Some, length, map, slice_get};
 ghost use Rattle.ot_model.specs.declared.expr.Cell.{Cell};
+ghost use Rattle.ot_model.specs.declared.stmt.Mode.TheVariants.{Reads};
+ghost use Rattle.ot_depend.specs.Children.{kids_of};
+ghost use Rattle.ot_depend.specs.Waits.{must_wait, some_must_wait};
 
+use crate::child::{Child, is_pending, some_pending};
 use crate::numbers::{make_room, put_last};
 use crate::places::Places;
 use ot_model::{Cell, Mode, Use};
@@ -62,6 +66,25 @@ impl Row {
             earlier.extend_from_slice(&self.users)?;
         }
         Ok(())
+    }
+
+    /// Whether the last child that writes the cell has not finished: a reader waits for no other.
+    fn has_pending_writer(&self, children: &[Child]) -> bool
+        ensures { result ≡ must_wait (kids_of children.now) Reads (entry_in self.now) }
+    {
+        match self.writer {
+            Some(writer) => is_pending(children, writer),
+            None => false,
+        }
+    }
+
+    /// Whether a use of the cell has to wait. The row knows no child before the last that writes the
+    /// cell, and needs none: that one depends on each of them, so it is unfinished as long as they are.
+    fn must_wait(&self, mode: Mode, children: &[Child]) -> bool
+        ensures { result ≡ must_wait (kids_of children.now) mode (entry_in self.now) }
+    {
+        let writes = matches!(mode, Mode::Writes);
+        self.has_pending_writer(children) || (writes && some_pending(children, &self.users))
     }
 }
 
@@ -166,5 +189,29 @@ impl Table {
         for spot in spots {
             self.rows[spot.place].enter(child, spot.one.mode);
         }
+    }
+
+    /// Whether a use has to wait.
+    fn must_wait(&self, one: Use, children: &[Child]) -> bool
+        requires { IsSound self.now }
+        ensures { result ≡ must_wait (kids_of children.now) one.mode (entry_of self.now one.cell) }
+    {
+        match self.places.of(one.cell) {
+            Some(place) => self.rows[place].must_wait(one.mode, children),
+            None => false,
+        }
+    }
+
+    /// Whether one of these uses has to wait. It takes no memory.
+    pub(crate) fn some_must_wait(&self, uses: &[Use], children: &[Child]) -> bool
+        requires { IsSound self.now }
+        ensures { result ≡ some_must_wait (kids_of children.now) self.now uses.now }
+    {
+        for one in uses {
+            if self.must_wait(*one, children) {
+                return true;
+            }
+        }
+        false
     }
 }

@@ -1,5 +1,7 @@
 //! One child of a body, and who waits for whom among the children.
 ghost use Rattle.std.specs.Prelude.{◌≡◌, ◌+◌, ◌<◌, ◌||◌, false, OnOk, All, length, not, vec_capacity};
+ghost use Rattle.std.specs.List.{list_any};
+ghost use Rattle.ot_depend.specs.Waits.{is_pending};
 ghost use Rattle.ot_depend.specs.Kept.{ends_with, due, enlist, enlisted, woken, waiters_of, WaitForAll};
 ghost use Rattle.ot_depend.specs.Numbers.{HasRoom, Admits};
 ghost use Rattle.ot_depend.specs.Children.{kid_of, kids_of, HasRoomAt, AdmitsAt};
@@ -83,4 +85,26 @@ pub(crate) fn wake(children: &mut Vec<Child>, finished: usize)
         let later = children[finished].waiters[i];
         children[later].waiting -= 1;
     }
+}
+
+/// Whether a child is known, and has not finished.
+pub(crate) fn is_pending(children: &[Child], child: usize) -> bool
+    ensures { result ≡ is_pending (kids_of children.now) child }
+{
+    match children.get(child) {
+        Some(known) => !known.finished,
+        None => false,
+    }
+}
+
+/// Whether one of these children is known, and has not finished.
+pub(crate) fn some_pending(children: &[Child], some: &[usize]) -> bool
+    ensures { result ≡ list_any (is_pending (kids_of children.now)) some.now }
+{
+    for child in some {
+        if is_pending(children, *child) {
+            return true;
+        }
+    }
+    false
 }

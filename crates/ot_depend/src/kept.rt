@@ -1,7 +1,7 @@
 //! The children of a body with what is kept beside them: the rows of the cells and the counters.
 ghost use Rattle.std.specs.Prelude.{◌≡◌, ◌++◌, ◌∷◌, [], ◌↔◌, ◌<◌, IsTrue, OnOk, length};
 ghost use Rattle.ot_depend.specs.Direct.{waiting_for};
-ghost use Rattle.ot_depend.specs.Siblings.{created, with_finished, IsReady, IsUnfinished};
+ghost use Rattle.ot_depend.specs.Siblings.{created, with_finished, IsReady, IsUnfinished, waits_for};
 
 use crate::cells::{Spot, Table};
 use crate::child::{Child, enlist, make_rooms, wake};
@@ -136,5 +136,13 @@ impl Kept {
         ensures none { (result ≡ 0) ↔ IsReady (siblings_in self.now) child }
     {
         self.children[child].waiting
+    }
+
+    /// Whether a wait that declares these uses has to wait for one of the children.
+    pub(crate) fn waits_for(&self, uses: &[Use]) -> bool
+        requires { IsKept self.now }
+        ensures { result ≡ waits_for (siblings_in self.now) uses.now }
+    {
+        self.cells.some_must_wait(uses, &self.children)
     }
 }

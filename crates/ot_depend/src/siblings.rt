@@ -28,7 +28,7 @@ impl Siblings {
     ghost use Rattle.std.specs.Prelude.{All};
     ghost use Rattle.ot_depend.specs.Direct.{waiting_for};
     ghost use Rattle.ot_depend.specs.Waiting.{LetsTheSame, WaitForLess};
-    ghost use Rattle.ot_depend.specs.Siblings.{IsReady, IsUnfinished, FinishedAreReady, created, with_finished, is_ready, is_unfinished, is_unfinished_in};
+    ghost use Rattle.ot_depend.specs.Siblings.{IsReady, IsUnfinished, FinishedAreReady, created, with_finished, is_ready, is_unfinished, is_unfinished_in, waits_for};
 
     /// No children. It takes no memory.
     pub fn new(alloc: Global) -> Siblings
@@ -112,5 +112,15 @@ impl Siblings {
         ensures { result ≡ count_by (is_unfinished_in group) self.now }
     {
         self.kept.groups.of(group)
+    }
+
+    /// Whether a wait that declares these cells has to wait still: a child that has not finished shares
+    /// a cell with it that at least one of the two writes (`taskwait` with `depend`, OpenMP API 5.2,
+    /// sections 15.5 and 15.9.5). A wait without cells awaits nobody. It looks at the rows of these
+    /// cells alone, and takes no memory.
+    pub fn waits_for(&self, decl: &Decl) -> bool
+        ensures { result ≡ waits_for self.now decl.now }
+    {
+        self.kept.waits_for(decl.uses())
     }
 }
