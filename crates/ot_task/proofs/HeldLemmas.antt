@@ -21,7 +21,8 @@ use Rattle.ot_check.proofs.SameLemmas.{same_is}
 use Rattle.ot_task.proofs.CellLemmas.{same_self}
 use Rattle.ot_task.specs.Pieces.{leading, behind, test_of}
 use Rattle.ot_model.specs.Uses.{mode_in}
-use Rattle.ot_task.specs.Touched.{assign_touches, test_touches, piece_touches, held, noted, with_mode, mode_held, PicksFit, AssignsFit}
+use Rattle.ot_task.specs.Touched.{assign_touches, test_touches, piece_touches}
+use Rattle.ot_task.specs.Modes.{held, noted, with_mode, mode_held, PicksFit, AssignsFit}
 
 -- ---- each touch is of a cell in the shape
 

@@ -9,4 +9,6 @@ pub mod HeldLemmas
 pub mod SameLemmas
 pub mod WeightLemmas
 pub mod ExecuteLemmas
+pub mod GatherLemmas
 pub mod WaitsLemmas
+pub mod SendLemmas

@@ -5,7 +5,7 @@ use Rattle.std.proofs.lemmas.Grind.{reverse_onto}
 use Rattle.ot_model.specs.Tree.{S, Body, Next, body_of, append}
 use Rattle.ot_model.specs.View.{stmt_of, stmts_of}
 use Rattle.ot_model.specs.declared.stmt.Stmt.{Stmt}
-use Rattle.ot_task.specs.PlaceView.{rest_of}
+use Rattle.ot_task.specs.Rest.{rest_of}
 
 pub rest-push : (xs : List Stmt) (x : Stmt) → rest_of (xs ++ x ∷ []) ≡ Next (stmt_of x) (rest_of xs)
 rest-push xs x = ap (λ l. body_of (map stmt_of l)) (reverse-append xs (x ∷ []))

@@ -13,7 +13,7 @@ use Rattle.ot_model.specs.declared.expr.Cell.{Cell}
 use Rattle.ot_model.specs.declared.stmt.Mode.{Mode}
 use Rattle.ot_model.specs.declared.stmt.Mode.TheVariants.{Reads, Writes, Adds}
 use Rattle.ot_model.specs.declared.stmt.Use.{Use}
-use Rattle.ot_task.specs.Touched.{stronger, with_mode}
+use Rattle.ot_task.specs.Modes.{stronger, with_mode}
 use Rattle.ot_task.specs.Held.{added, strongest}
 use Rattle.ot_task.proofs.UseLemmas.{added-one}
 

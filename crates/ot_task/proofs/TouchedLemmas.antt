@@ -8,7 +8,7 @@ use Rattle.ot_model.specs.declared.stmt.Use.{Use}
 use Rattle.ot_model.specs.Value.{cell_at}
 use Rattle.ot_check.specs.Paths.{use_as}
 use Rattle.ot_check.specs.Offences.{Declared}
-use Rattle.ot_task.specs.Touched.{noted}
+use Rattle.ot_task.specs.Modes.{noted}
 use Rattle.ot_task.specs.Held.{strongest}
 
 -- one cell of a section more

@@ -13,7 +13,7 @@ use Rattle.ot_model.specs.Cells.{same_cell, is_before}
 use Rattle.ot_model.proofs.EqualLemmas.{cell-decides}
 use Rattle.ot_model.proofs.OrderLemmas.{precedes_trans, precedes_apart, before_from_precedes, precedes_from_before, rest_in_order, each_precedes}
 use Rattle.ot_model.proofs.DeclaredLemmas.{after_more, neither_before}
-use Rattle.ot_task.specs.Touched.{with_mode}
+use Rattle.ot_task.specs.Modes.{with_mode}
 use Rattle.ot_task.specs.Held.{added}
 
 -- ---- the place of a cell

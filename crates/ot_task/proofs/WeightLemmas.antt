@@ -5,7 +5,8 @@ use Rattle.ot_model.specs.Tree.{S, body_of}
 use Rattle.ot_model.specs.View.{stmt_of, stmts_of}
 use Rattle.ot_model.specs.declared.stmt.Stmt.{Stmt}
 use Rattle.ot_task.specs.Place.{Open}
-use Rattle.ot_task.specs.PlaceView.{open_of, rest_of}
+use Rattle.ot_task.specs.PlaceView.{open_of}
+use Rattle.ot_task.specs.Rest.{rest_of}
 use Rattle.ot_task.specs.Weighing.{weight, weight_behind}
 use Rattle.ot_task.specs.declared.place.OpenGroup.{OpenGroup}
 use Rattle.ot_task.proofs.RestLemmas.{map-reverse}

@@ -1,6 +1,7 @@
 -- Sets and adds, and when lent copies let them be made.
-use Rattle.std.specs.Prelude.{◌≡◌, List, map, Option, IfSome}
-use Rattle.ot_model.specs.Tree.{E, S, Set, Add, Body, Next, body_of}
+use Rattle.std.specs.Prelude.{◌≡◌, List, map, Option, Some, None, IfSome, Vec}
+use Rattle.std.specs.Global.{Global}
+use Rattle.ot_model.specs.Tree.{E, S, Set, Add, Body, End, Next, body_of}
 use Rattle.ot_model.specs.View.{expr_of}
 use Rattle.ot_model.specs.Value.{HasAll}
 use Rattle.ot_owner.specs.Lending.{first_at, value_at, MayChange}
@@ -15,6 +16,11 @@ assign_of (v.Add c e) = Add c (expr_of e)
 
 abbrev pub assigns_of : List Assign → Body
 assigns_of assigns = body_of (map assign_of assigns)
+
+-- those of a list, where there is one
+abbrev pub assigns_in : Option (Vec Assign Global) → Body
+assigns_in None = End
+assigns_in (Some list) = assigns_of list.items
 
 -- each cell that is read is lent, and each that is set or added to may be changed
 abbrev pub CanAssign : Body → List LentCell → Type 0

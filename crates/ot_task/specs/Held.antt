@@ -6,7 +6,7 @@ use Rattle.ot_model.specs.Cells.{same_cell, is_before}
 use Rattle.ot_model.specs.declared.expr.Cell.{Cell}
 use Rattle.ot_model.specs.declared.stmt.Mode.{Mode}
 use Rattle.ot_model.specs.declared.stmt.Use.{Use}
-use Rattle.ot_task.specs.Touched.{with_mode}
+use Rattle.ot_task.specs.Modes.{with_mode}
 
 -- one use more, as this cell sees it
 abbrev pub added : Cell → Option Mode → Use → Option Mode

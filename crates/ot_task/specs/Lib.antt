@@ -1,12 +1,17 @@
+-- what callers read
 pub mod Place
-pub mod Copies
 pub mod Standing
-pub mod PlaceView
 pub mod Regions
-pub mod RegionView
-pub mod Assigns
 pub mod Pieces
 pub mod Touched
-pub mod Held
+pub mod Copies
 pub mod Waits
 pub mod Weighing
+-- what only this crate and ot_job know
+pub mod Assigns
+pub mod Modes
+-- what only this crate knows
+pub mod Held
+pub mod Rest
+pub mod PlaceView
+pub mod RegionView

@@ -1,14 +1,9 @@
 -- The region that a task's fields stand for.
-use Rattle.std.specs.Prelude.{Bool, option_map}
+use Rattle.std.specs.Prelude.{Bool}
 use Rattle.ot_task.specs.PlaceView.{standing_of}
 use Rattle.ot_task.specs.Standing.{Standing}
-use Rattle.ot_task.specs.Regions.{Region, Run}
-use Rattle.ot_task.specs.Assigns.{assigns_of}
+use Rattle.ot_task.specs.Regions.{Region}
 use Rattle.ot_task.specs.declared.task.Task.TheInside.{Inside}
-use Rattle.ot_task.specs.declared.task.Running.{Running}
-
-abbrev pub run_of : Running → Run
-run_of r = record { assigns = assigns_of r.assigns.items; lease = r.right }
 
 abbrev pub region_of : Inside → Region
 region_of t = record {
@@ -20,7 +15,7 @@ region_of t = record {
   children = t.children;
   waiting = t.waiting;
   ended = t.ended;
-  running = option_map run_of t.running;
+  running = t.running;
 }
 
 -- with its place there, at a wait that it has executed or not

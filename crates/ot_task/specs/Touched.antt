@@ -1,18 +1,10 @@
--- What a piece holds of the cells that it touches.
-use Rattle.std.specs.Prelude.{◌≡◌, ◌+◌, ◌≤◌, ◌^◌, not, ◌&&◌, if◌then◌else◌, List, [], ◌++◌, map, Option, Some, None}
-use Rattle.std.specs.List.{fold}
-use Rattle.ot_model.specs.Tree.{E, Literal, CellAt, Apply, PickFrom, Set, Add, Body, End, Next}
-use Rattle.ot_model.specs.Uses.{is_adds, mode_in}
-use Rattle.ot_model.specs.declared.expr.Cell.{Cell}
-use Rattle.ot_model.specs.declared.stmt.Mode.{Mode}
-use Rattle.ot_model.specs.declared.stmt.Mode.TheVariants.{Reads, Writes, Adds}
+-- What a piece touches.
+use Rattle.std.specs.Prelude.{List, [], ◌++◌, map, Option, Some, None}
+use Rattle.ot_model.specs.Tree.{E, Body, End, Next}
+use Rattle.ot_model.specs.declared.stmt.Mode.TheVariants.{Reads}
 use Rattle.ot_model.specs.declared.stmt.Use.{Use}
 use Rattle.ot_check.specs.Paths.{use_as, touches}
 use Rattle.ot_model.specs.Value.{cells_named}
-use Rattle.ot_check.specs.Offences.{Declared, adds_to}
-use Rattle.ot_model.specs.Cells.{same_cell}
-use Rattle.ot_task.specs.Regions.{Region}
-use Rattle.ot_task.specs.Pieces.{leading, behind, test_of, awake}
 
 -- the touches of assignments, in their order
 abbrev pub assign_touches : Body → List Use
@@ -27,42 +19,3 @@ test_touches (Some e) = map (use_as Reads) (cells_named e)
 -- the touches of a piece
 abbrev pub piece_touches : Body → Option E → List Use
 piece_touches assigns test = assign_touches assigns ++ test_touches test
-
--- the mode in which one touch is held: where the body doesn't declare the cell as Adds, an add is a write
-abbrev pub mode_held : Declared → Use → Mode
-mode_held own u = if is_adds u.mode && not (adds_to own u.cell) then Writes else u.mode
-
--- the one of two modes in which a cell is held
-abbrev pub stronger : Mode → Mode → Mode
-stronger Reads two = two
-stronger Writes two = Writes
-stronger Adds Writes = Writes
-stronger Adds two = Adds
-
-abbrev pub with_mode : Option Mode → Mode → Mode
-with_mode None mode = mode
-with_mode (Some earlier) mode = stronger earlier mode
-
--- one touch more, as this cell sees it
-abbrev pub noted : Declared → Cell → Option Mode → Use → Option Mode
-noted own c earlier u = if same_cell u.cell c then Some (with_mode earlier (mode_held own u)) else earlier
-
--- the mode in which these touches hold the cell, if one of them is of it
-abbrev pub held : Declared → List Use → Cell → Option Mode
-held own us c = fold (noted own c) None us
-
--- these are the modes in which a region's next piece holds its cells
-abbrev pub AreHeld : Region → List Use → Type 0
-AreHeld r d = (c : Cell) → mode_in d c ≡ held r.own (piece_touches (leading (awake r).rest) (test_of (behind (awake r).rest))) c
-
--- each section has indexes of 32 bits
-abbrev pub PicksFit : E → Type 0
-PicksFit (Literal n) = Unit {0}
-PicksFit (CellAt c) = Unit {0}
-PicksFit (Apply o a b) = PicksFit a × PicksFit b
-PicksFit (PickFrom s e) = (s.start + s.len ≤ 2 ^ 32) × PicksFit e
-
-abbrev pub AssignsFit : Body → Type 0
-AssignsFit (Next (Set c e) rest) = PicksFit e × AssignsFit rest
-AssignsFit (Next (Add c e) rest) = PicksFit e × AssignsFit rest
-AssignsFit b = Unit {0}

@@ -3,7 +3,7 @@ ghost use Rattle.std.specs.List.{AllWithin};
 ghost use Rattle.ot_model.specs.Cells.{is_before};
 ghost use Rattle.ot_model.specs.Uses.{AreInOrder, mode_in};
 ghost use Rattle.ot_model.specs.declared.expr.Cell.{Cell};
-ghost use Rattle.ot_task.specs.Touched.{stronger};
+ghost use Rattle.ot_task.specs.Modes.{stronger};
 ghost use Rattle.ot_task.specs.Held.{added, strongest, IsPlaceOf};
 
 use ot_model::{Cell, Mode, Use};

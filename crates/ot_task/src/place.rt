@@ -1,37 +1,36 @@
 ghost use Rattle.std.specs.Prelude.{◌≡◌, ◌<◌};
 
+use crate::assigns::Assigns;
+use crate::rest::Rest;
 use crate::same::same_test;
-use crate::weigh::weigh_rest;
 use ot_model::{Cell, Decl, Expr, Stmt};
 use std::alloc::{AllocError, Global};
-use std::mem;
 
-/// A group that is open: its number, its cells, and what stands behind its end, last statement first.
+/// A group that is open: its number, its cells, and what stands behind its end.
 #[derive(Debug, Drop)]
 pub(crate) struct OpenGroup {
     pub(crate) group: u32,
     cells: Vec<Cell>,
-    behind: Vec<Stmt>,
+    behind: Rest,
 }
 
-/// What a task has left, last statement first, in the innermost open group's body.
+/// What a task has left in the innermost open group's body, and the open groups, the innermost last.
 #[derive(Debug, Drop)]
 pub(crate) struct Place {
-    pub(crate) rest: Vec<Stmt>,
+    rest: Rest,
     pub(crate) groups: Vec<OpenGroup>,
 }
 
 impl Place {
-    ghost use Rattle.std.specs.Prelude.{if◌then◌else◌, ◌≡◌, ◌+◌, ◌≤◌, ◌<◌, [], ◌∷◌, vec_len, vec_capacity, OnOk, OnErr, IfOk, IsSome, MatchOption, map};
-    ghost use Rattle.ot_model.specs.Tree.{End, Next, Set, If, Task, Group, Wait, append};
+    ghost use Rattle.std.specs.Prelude.{if◌then◌else◌, ◌≡◌, ◌+◌, ◌<◌, [], ◌∷◌, vec_len, vec_capacity, OnOk, OnErr, IfOk, IsSome, MatchOption, map};
+    ghost use Rattle.ot_model.specs.Tree.{End, Next, If, Task, Group, append};
     ghost use Rattle.ot_model.specs.View.{stmt_of, stmts_of};
-    ghost use Rattle.ot_model.specs.Serial.{either};
-    ghost use Rattle.ot_task.specs.Place.{Open};
-    ghost use Rattle.ot_task.specs.PlaceView.{standing_of, rest_of};
-    ghost use Rattle.ot_task.specs.Pieces.{passed_end, test_of};
+    ghost use Rattle.ot_task.specs.PlaceView.{standing_of};
+    ghost use Rattle.ot_task.specs.Rest.{TakesBack, NoControl};
+    ghost use Rattle.ot_task.specs.Pieces.{passed_end, leading, behind, test_of};
     ghost use Rattle.std.specs.Prelude.{IsTrue, ◌↔◌, option_map};
     ghost use Rattle.ot_model.specs.View.{expr_of};
-    ghost use Rattle.ot_task.specs.Standing.{Standing, left_group, with_next};
+    ghost use Rattle.ot_task.specs.Standing.{left_group, with_next};
     ghost use Rattle.std.specs.Prelude.{◌^◌, None};
     ghost use Rattle.ot_task.specs.Regions.{next_task};
     ghost use Rattle.ot_task.specs.Weighing.{weight, weight_behind, weight_left};
@@ -40,19 +39,24 @@ impl Place {
     pub(crate) fn new(alloc: Global, body: Vec<Stmt>) -> Place
         ensures { standing_of result ≡ record { rest = stmts_of body.items; groups = [] } }
     {
-        let mut rest = body;
-        rest.reverse();
         Place {
-            rest,
+            rest: Rest::new(body),
             groups: Vec::new(alloc),
         }
     }
 
-    /// The statement that comes next in the innermost body.
-    pub(crate) fn next(&self) -> Option<&Stmt>
-        ensures { MatchOption result ((standing_of self.now).rest ≡ End) (λ x. (rest : _) × ((standing_of self.now).rest ≡ Next (stmt_of x.now) rest)) }
+    /// Whether nothing is left in the innermost body.
+    pub(crate) fn is_at_end(&self) -> bool
+        ensures { IsTrue result ↔ (standing_of self.now).rest ≡ End }
     {
-        self.rest.last()
+        self.rest.is_empty()
+    }
+
+    /// The statement that comes next in the innermost body, where no gathered sets and adds come before it.
+    pub(crate) fn next(&self) -> Option<&Stmt>
+        ensures { MatchOption result (NoControl (standing_of self.now).rest) (λ x. (rest : _) × ((standing_of self.now).rest ≡ Next (stmt_of x.now) rest)) }
+    {
+        self.rest.next()
     }
 
     /// The numbers of the groups that are open, the innermost first.
@@ -67,14 +71,13 @@ impl Place {
         Ok(numbers)
     }
 
-    /// Takes the next statement.
+    /// Takes the next statement, where no gathered sets and adds come before it.
     pub(crate) fn take(&mut self) -> Option<Stmt>
-        ensures room { vec_capacity self.new.rest ≡ vec_capacity self.old.rest }
-        ensures shorter { IsSome result → vec_len self.new.rest < vec_capacity self.new.rest }
-        ensures taken { MatchOption result (((standing_of self.old).rest ≡ End) × ((standing_of self.new).rest ≡ End)) (λ x. (standing_of self.old).rest ≡ Next (stmt_of x) (standing_of self.new).rest) }
+        ensures room { IsSome result → TakesBack self.new.rest }
+        ensures taken { MatchOption result ((standing_of self.new ≡ standing_of self.old) × NoControl (standing_of self.old).rest) (λ x. (standing_of self.old).rest ≡ Next (stmt_of x) (standing_of self.new).rest) }
         ensures groups { (standing_of self.new).groups ≡ (standing_of self.old).groups }
     {
-        self.rest.pop()
+        self.rest.take()
     }
 
     /// Takes the next statement where it is a task. It takes no memory.
@@ -83,23 +86,12 @@ impl Place {
             (λ p. (standing_of self.old).rest ≡ Next (Task p.0 (stmts_of p.1.items)) (standing_of self.new).rest) }
         ensures groups { (standing_of self.new).groups ≡ (standing_of self.old).groups }
     {
-        match self.rest.pop()? {
+        match self.rest.take()? {
             Stmt::Task(decl, body) => Some((decl, body)),
             other => {
                 self.put_back(other);
                 None
             }
-        }
-    }
-
-    /// Puts a body before what is left. It takes no memory.
-    pub(crate) fn splice(&mut self, body: Vec<Stmt>)
-        requires { vec_len self.old.rest + vec_len body ≤ vec_capacity self.old.rest }
-        ensures { standing_of self.new ≡ record { rest = append (stmts_of body.items) (standing_of self.old).rest; groups = (standing_of self.old).groups } }
-    {
-        let mut body = body;
-        while let Some(stmt) = body.pop() {
-            self.rest.push_reserved(stmt);
         }
     }
 
@@ -111,9 +103,7 @@ impl Place {
           groups = record { group = group; cells = cells.items; behind = (standing_of self.old).rest } ∷ (standing_of self.old).groups;
         } }
     {
-        let mut body = body;
-        body.reverse();
-        let behind = mem::replace(&mut self.rest, body);
+        let behind = self.rest.replace(body);
         self.groups.push_reserved(OpenGroup {
             group,
             cells,
@@ -123,10 +113,10 @@ impl Place {
 
     /// Puts a statement back that was taken off. It takes no memory.
     pub(crate) fn put_back(&mut self, stmt: Stmt)
-        requires { vec_len self.old.rest < vec_capacity self.old.rest }
+        requires { TakesBack self.old.rest }
         ensures { standing_of self.new ≡ with_next (stmt_of stmt) (standing_of self.old) }
     {
-        self.rest.push_reserved(stmt);
+        self.rest.put_back(stmt);
     }
 
     /// Goes into one body of an `if` that was taken off. Where memory is refused, the `if` is put back.
@@ -137,7 +127,7 @@ impl Place {
         two: Vec<Stmt>,
         taken: bool,
     ) -> Result<(), AllocError>
-        requires { vec_len self.old.rest < vec_capacity self.old.rest }
+        requires { TakesBack self.old.rest }
         ensures taken { OnOk result (standing_of self.new
             ≡ record (standing_of self.old) { rest = append (if taken then stmts_of one.items else stmts_of two.items) (standing_of self.old).rest }) }
         ensures refused { OnErr result (standing_of self.new ≡ with_next (If (expr_of test) (stmts_of one.items) (stmts_of two.items)) (standing_of self.old)) }
@@ -145,7 +135,7 @@ impl Place {
         let len = if taken { one.len() } else { two.len() };
         match self.rest.reserve(len) {
             Ok(()) => {
-                self.splice(if taken { one } else { two });
+                self.rest.splice(if taken { one } else { two });
                 Ok(())
             }
             Err(error) => {
@@ -162,7 +152,7 @@ impl Place {
         cells: Vec<Cell>,
         body: Vec<Stmt>,
     ) -> Result<(), AllocError>
-        requires { vec_len self.old.rest < vec_capacity self.old.rest }
+        requires { TakesBack self.old.rest }
         ensures entered { OnOk result (standing_of self.new ≡ record {
           rest = stmts_of body.items;
           groups = record { group = group; cells = cells.items; behind = (standing_of self.old).rest } ∷ (standing_of self.old).groups;
@@ -198,27 +188,39 @@ impl Place {
         }
     }
 
-    /// What comes next once the task goes on: where the end of the innermost open group is reached, what
-    /// stands behind it.
-    pub(crate) fn ahead(&self) -> &[Stmt]
-        ensures { rest_of result.now ≡ (passed_end (standing_of self.now)).rest }
+    /// What the next piece is made of: the sets and adds that come once the task goes on, behind the end
+    /// of the innermost open group where that is reached, and a copy of the condition of an `if` behind
+    /// them. The task stands where it stood.
+    pub(crate) fn piece(&mut self, alloc: Global) -> Result<(Assigns, Option<Expr>), AllocError>
+        ensures assigns { IfOk result (λ p. p.0 ≡ leading (passed_end (standing_of self.old)).rest) }
+        ensures test { IfOk result (λ p. option_map expr_of p.1 ≡ test_of (behind (passed_end (standing_of self.old)).rest)) }
+        ensures same { standing_of self.new ≡ standing_of self.old }
     {
-        match self.next() {
-            Some(_) => self.rest.as_slice(),
-            None => match self.groups.last() {
-                Some(group) => group.behind.as_slice(),
-                None => self.rest.as_slice(),
-            },
+        if self.is_at_end() {
+            if let Some(mut group) = self.groups.pop() {
+                let piece = group.behind.piece(alloc);
+                self.groups.push_reserved(group);
+                return piece;
+            }
         }
+        self.rest.piece(alloc)
+    }
+
+    /// Passes the end of the innermost open group where it is reached, and the sets and adds that come
+    /// then. It takes no memory.
+    pub(crate) fn go_on(&mut self)
+        ensures { standing_of self.new ≡ record (passed_end (standing_of self.old)) { rest = behind (passed_end (standing_of self.old)).rest } }
+    {
+        self.pass_end();
+        self.rest.pass();
     }
 
     /// Passes the end of the innermost open group where it is reached. It takes no memory.
-    pub(crate) fn go_on(&mut self)
+    fn pass_end(&mut self)
         ensures { standing_of self.new ≡ passed_end (standing_of self.old) }
     {
-        match self.next() {
-            Some(_) => {}
-            None => self.leave(),
+        if self.is_at_end() {
+            self.leave();
         }
     }
 
@@ -237,15 +239,13 @@ impl Place {
         ensures { result ≡ weight_left out (standing_of self.now).rest (standing_of self.now).groups }
     {
         let behind = self.weigh_behind();
-        match self.next() {
-            Some(_) => weigh_rest(&self.rest) + behind,
-            None => {
-                if out || self.groups.is_empty() {
-                    behind
-                } else {
-                    behind - 1
-                }
-            }
+        if !self.is_at_end() {
+            return self.rest.weigh() + behind;
+        }
+        if out || self.groups.is_empty() {
+            behind
+        } else {
+            behind - 1
         }
     }
 
@@ -256,7 +256,7 @@ impl Place {
     {
         let mut sum = 0;
         for group in &self.groups {
-            sum += 1 + weigh_rest(&group.behind);
+            sum += 1 + group.behind.weigh();
         }
         sum
     }

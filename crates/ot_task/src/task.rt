@@ -1,18 +1,18 @@
-ghost use Rattle.std.specs.Prelude.{◌≡◌, ◌<◌, vec_len, vec_capacity, OnOk, OnErr, IfOk, option_map};
+ghost use Rattle.std.specs.Prelude.{◌≡◌, ◌<◌, OnOk, OnErr, IfOk, option_map};
 ghost use Rattle.ot_model.specs.Tree.{Next};
 ghost use Rattle.ot_model.specs.View.{stmt_of, stmts_of};
 ghost use Rattle.ot_task.specs.PlaceView.{standing_of};
+ghost use Rattle.ot_task.specs.Rest.{TakesBack};
 ghost use Rattle.ot_task.specs.Standing.{with_next};
 ghost use Rattle.ot_task.specs.Regions.{Region, stepped, next_task};
 ghost use Rattle.ot_task.specs.RegionView.{stands_at};
 
-use crate::assign::Assign;
-use crate::leading::take_leading;
+use crate::assigns::Assigns;
 use crate::place::Place;
-use crate::same::same_assigns;
+use crate::running::Running;
 use ot_depend::Siblings;
 use ot_model::{Cell, Decl, Expr, Stmt};
-use ot_owner::{Lent, Right};
+use ot_owner::Lent;
 use std::alloc::{AllocError, Global};
 use std::marker::Model;
 
@@ -43,26 +43,18 @@ impl Model for Task {
     ghost view = { region_of };
 }
 
-/// A piece that is out: what it was taken from the body for, and what it holds.
-#[derive(Debug, Drop)]
-struct Running {
-    assigns: Vec<Assign>,
-    right: Right,
-}
-
 impl Task {
-    ghost use Rattle.std.specs.Prelude.{if◌then◌else◌, ◌≡◌, ◌+◌, ◌≤◌, ◌<◌, [], ◌∷◌, length, Some, vec_len, vec_capacity, OnOk, OnErr, IfOk, IsSome, MatchOption, option_map};
-    ghost use Rattle.ot_model.specs.Tree.{End, Next, Set, If, Task as Fork, Group, Wait, append};
+    ghost use Rattle.std.specs.Prelude.{if◌then◌else◌, ◌≡◌, ◌+◌, ◌≤◌, ◌<◌, length, Some, OnOk, OnErr, IfOk, option_map};
+    ghost use Rattle.ot_model.specs.Tree.{Next, If, Group, Wait};
     ghost use Rattle.ot_model.specs.View.{stmt_of, stmts_of, expr_of};
-    ghost use Rattle.ot_task.specs.Regions.{Region, new_region, child_of, with_rest, inside, stepped, next_task, with_noted};
+    ghost use Rattle.ot_task.specs.Regions.{Region, new_region, child_of, stepped, next_task, with_noted};
     ghost use Rattle.std.specs.Prelude.{None, Bool, ℕ, List};
     ghost use Rattle.ot_model.specs.Tree.{Body};
     ghost use Rattle.ot_model.specs.declared.stmt.Use.{Use};
     ghost use Rattle.ot_task.specs.Regions.{root_region};
-    ghost use Rattle.ot_task.specs.PlaceView.{rest_of};
     ghost use Rattle.std.specs.Prelude.{◌^◌};
     ghost use Rattle.ot_task.specs.Weighing.{region_weight};
-    ghost use Rattle.ot_task.specs.Pieces.{leading_len, awake, begun};
+    ghost use Rattle.ot_task.specs.Pieces.{leading, behind, test_of, awake, begun};
     ghost use Rattle.ot_task.specs.Pieces.{Runs};
     ghost use Rattle.ot_task.specs.Regions.{is_control, tasks_next, with_child, without, over, stopped};
     ghost use Rattle.ot_model.specs.Uses.{AreInOrder};
@@ -70,7 +62,6 @@ impl Task {
     ghost use Rattle.ot_depend.specs.Siblings.{IsReady, IsUnfinished, with_finished};
     ghost use Rattle.ot_depend.specs.Waiting.{LetsTheSame, WaitForLess};
     ghost use Rattle.std.specs.Prelude.{All};
-    ghost use Rattle.ot_task.specs.Assigns.{assigns_of};
     ghost use Rattle.std.specs.Prelude.{IsTrue, ◌↔◌};
     ghost use Rattle.ot_task.specs.Waits.{is_let_go, end_lets_go};
     ghost use Rattle.ot_depend.specs.Siblings.{is_ready};
@@ -159,12 +150,12 @@ impl Task {
     fn end_lets_go(&self) -> bool
         ensures { result ≡ end_lets_go self.now.rest self.now.groups self.now.children }
     {
-        match self.place.next() {
-            Some(_) => true,
-            None => match self.place.groups.last() {
-                Some(group) => self.children.unfinished_in(group.group) == 0,
-                None => true,
-            },
+        if !self.place.is_at_end() {
+            return true;
+        }
+        match self.place.groups.last() {
+            Some(group) => self.children.unfinished_in(group.group) == 0,
+            None => true,
         }
     }
 
@@ -175,11 +166,14 @@ impl Task {
         self.wait_lets_go() && self.end_lets_go()
     }
 
-    /// What comes next once it goes on.
-    pub(crate) fn ahead(&self) -> &[Stmt]
-        ensures { rest_of result.now ≡ (awake self.now).rest }
+    /// What its next piece is made of: the sets and adds that come once it goes on, and a copy of the
+    /// condition of an `if` behind them. It stays as it is.
+    pub(crate) fn piece(&mut self, alloc: Global) -> Result<(Assigns, Option<Expr>), AllocError>
+        ensures assigns { IfOk result (λ p. p.0 ≡ leading (awake self.old).rest) }
+        ensures test { IfOk result (λ p. option_map expr_of p.1 ≡ test_of (behind (awake self.old).rest)) }
+        ensures same { self.new ≡ self.old }
     {
-        self.place.ahead()
+        self.place.piece(alloc)
     }
 
     /// What it declares.
@@ -189,28 +183,24 @@ impl Task {
         self.decl.as_ref()
     }
 
-    /// Goes on with a piece that is out from now on and holds this. It takes no memory.
-    pub fn begin(&mut self, room: Vec<Assign>, right: Right)
-        requires empty { room.items ≡ [] }
-        requires room { leading_len (awake self.old).rest ≤ vec_capacity room }
-        ensures { self.new ≡ begun right self.old }
+    /// Goes on with a piece that is out from now on, of which it keeps this. It takes no memory.
+    pub fn begin(&mut self, running: Running)
+        requires { running.assigns ≡ leading (awake self.old).rest }
+        ensures { self.new ≡ begun running.lease self.old }
     {
         self.place.go_on();
         self.waiting = false;
-        let assigns = take_leading(&mut self.place.rest, room);
-        self.running = Some(Running { assigns, right });
+        self.running = Some(running);
     }
 
     /// Whether it runs these assigns with this condition on these inputs.
-    pub fn runs(&self, assigns: &[Assign], condition: Option<&Expr>, lent: &Lent) -> bool
-        ensures { IsTrue result ↔ Runs self.now (assigns_of assigns.now) (option_map (λ e. expr_of e.now) condition.entry) lent.now }
+    pub fn runs(&self, assigns: &Assigns, condition: Option<&Expr>, lent: &Lent) -> bool
+        ensures { IsTrue result ↔ Runs self.now assigns.now (option_map (λ e. expr_of e.now) condition.entry) lent.now }
     {
-        let Some(running) = &self.running else {
-            return false;
-        };
-        same_assigns(&running.assigns, assigns)
-            && running.right.is_behind(lent.cells())
-            && self.place.has_test(condition)
+        match &self.running {
+            Some(running) => running.is_of(assigns, lent) && self.place.has_test(condition),
+            None => false,
+        }
     }
 
     /// The unit of the control statement that comes next, if one does.
@@ -218,10 +208,7 @@ impl Task {
         ensures exact { result ≡ (if is_control self.now.rest then 1 else 0) }
         ensures one { result ≤ 1 }
     {
-        match self.place.next() {
-            Some(_) => 1,
-            None => 0,
-        }
+        if self.place.is_at_end() { 0 } else { 1 }
     }
 
     /// How many tasks the statement that comes next creates.
@@ -239,10 +226,7 @@ impl Task {
     pub fn is_at_end(&self) -> bool
         ensures { result ≡ is_at_end self.now.rest self.now.groups }
     {
-        match self.place.next() {
-            Some(_) => false,
-            None => self.place.groups.is_empty(),
-        }
+        self.place.is_at_end() && self.place.groups.is_empty()
     }
 
     /// Notes a child that is created where it stands. The answer is its number, counted from 0. Where
@@ -354,7 +338,7 @@ fn execute(
     taken: bool,
     group: u32,
 ) -> Result<Option<(Decl, Vec<Stmt>)>, AllocError>
-    requires { vec_len place.old.rest < vec_capacity place.old.rest }
+    requires { TakesBack place.old.rest }
     ensures stepped { OnOk result ((r : Region) → stands_at (standing_of place.new) waiting.new r
         ≡ stepped taken group (stands_at (with_next (stmt_of stmt) (standing_of place.old)) waiting.old r)) }
     ensures child { IfOk result (λ child. next_task (Next (stmt_of stmt) (standing_of place.old).rest) ≡ option_map (λ c. (c.0, stmts_of c.1.items)) child) }

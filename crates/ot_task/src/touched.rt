@@ -10,7 +10,8 @@ ghost use Rattle.ot_model.specs.Value.{cells_named};
 ghost use Rattle.ot_check.specs.Offences.{adds_to};
 ghost use Rattle.ot_task.specs.Assigns.{assign_of, assigns_of};
 ghost use Rattle.ot_task.specs.Held.{strongest};
-ghost use Rattle.ot_task.specs.Touched.{mode_held, noted, held, assign_touches, test_touches, piece_touches, PicksFit, AssignsFit};
+ghost use Rattle.ot_task.specs.Modes.{mode_held, noted, held, PicksFit, AssignsFit};
+ghost use Rattle.ot_task.specs.Touched.{test_touches, piece_touches};
 
 use crate::assign::Assign;
 use crate::held::Held;

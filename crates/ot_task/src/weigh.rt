@@ -1,6 +1,6 @@
 ghost use Rattle.std.specs.Prelude.{◌≡◌, ◌<◌, ◌^◌};
 ghost use Rattle.ot_model.specs.View.{stmt_of, stmts_of};
-ghost use Rattle.ot_task.specs.PlaceView.{rest_of};
+ghost use Rattle.ot_task.specs.Rest.{rest_of};
 ghost use Rattle.ot_task.specs.Weighing.{weight, weight_one};
 
 use ot_model::Stmt;

@@ -8,7 +8,7 @@ use Rattle.ot_model.specs.declared.stmt.Mode.{Mode}
 use Rattle.ot_model.specs.declared.stmt.Use.{Use}
 use Rattle.ot_model.proofs.EqualLemmas.{cell-decides}
 use Rattle.ot_model.proofs.DeclaredLemmas.{mode_in-at, nowhere}
-use Rattle.ot_task.specs.Touched.{with_mode}
+use Rattle.ot_task.specs.Modes.{with_mode}
 use Rattle.ot_task.proofs.UseLemmas.{before_place, behind_place, order-set, sees-set, order-insert, sees-insert, added-one}
 use Rattle.ot_task.proofs.held.put.Goals.{else-place-len-via-then-place-len+else-eq, else-place-len-via-else-place-len}
 use Rattle.ot_task.proofs.held.put.Goals as goal

@@ -1,23 +1,24 @@
-use Rattle.std.proofs.Common.{rules, ◌≡◌, ◌∙◌, ap, sym, subst}
+use Rattle.std.proofs.Common.{rules, ◌≡◌, ◌∙◌, sym, subst}
 use Rattle.ot_model.specs.Tree.{Body}
 use Rattle.ot_model.specs.View.{expr_of}
 use Rattle.ot_model.specs.Cells.{lengths}
 use Rattle.ot_task.specs.Assigns.{assigns_of}
 use Rattle.ot_task.specs.Pieces.{leading, behind, test_of, awake}
-use Rattle.ot_task.specs.Touched.{AssignsFit, piece_touches, AreHeld}
+use Rattle.ot_task.specs.Modes.{AssignsFit, AreHeld}
+use Rattle.ot_task.specs.Touched.{piece_touches}
 use Rattle.ot_task.proofs.HeldLemmas.{assigns-fit, test-fits, piece-in, held-there, test-at}
 use Rattle.ot_task.proofs.prepared.prepare.Goals as goal
 
 pub touched-requires-clause-fits : goal.touched-requires-clause-fits
 touched-requires-clause-fits c =
     let rest : Body = (awake c.args.task.now).rest in
-    let is : assigns_of c.deref.result.now ≡ leading rest = ap assigns_of c.deref.ensures.value ∙ c.in_ok-assigns.ensures.assigns ∙ ap leading c.ahead.ensures in
+    let is : assigns_of c.as_slice.result.now ≡ leading rest = c.as_slice.ensures ∙ c.in_ok-assigns.ensures.assigns in
     subst AssignsFit (sym is) (assigns-fit (lengths c.args.cells.now) rest c.requires.named)
 
 pub touched-requires-clause-test : goal.touched-requires-clause-test
 touched-requires-clause-test c =
     let rest : Body = (awake c.args.task.now).rest in
-    test-at (λ e. e.now) c.as_ref.result c.in_ok-assigns.condition expr_of (test_of (behind rest)) c.as_ref.ensures.value (c.in_ok-assigns.ensures.test ∙ ap (λ b. test_of (behind b)) c.ahead.ensures)
+    test-at (λ e. e.now) c.as_ref.result c.in_ok-assigns.condition expr_of (test_of (behind rest)) c.as_ref.ensures.value c.in_ok-assigns.ensures.test
     (test-fits (lengths c.args.cells.now) rest c.requires.named)
 
 pub right_to-requires : goal.right_to-requires

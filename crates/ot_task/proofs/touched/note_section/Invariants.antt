@@ -6,7 +6,7 @@ use Rattle.ot_model.specs.declared.expr.Cell.{Cell}
 use Rattle.ot_model.specs.declared.stmt.Mode.TheVariants.{Reads}
 use Rattle.ot_check.specs.Paths.{use_as}
 use Rattle.ot_task.specs.Held.{strongest}
-use Rattle.ot_task.specs.Touched.{noted}
+use Rattle.ot_task.specs.Modes.{noted}
 use Rattle.ot_task.proofs.touched.note_section.Given as goal
 
 -- what is held so far, with the cells that are left

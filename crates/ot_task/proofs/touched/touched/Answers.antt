@@ -8,7 +8,8 @@ use Rattle.ot_task.specs.Assigns.{assigns_of}
 use Rattle.ot_task.specs.declared.assign.Assign.{Assign}
 use Rattle.ot_model.specs.Uses.{mode_in}
 use Rattle.ot_task.specs.Held.{strongest}
-use Rattle.ot_task.specs.Touched.{noted, assign_touches, test_touches}
+use Rattle.ot_task.specs.Modes.{noted}
+use Rattle.ot_task.specs.Touched.{assign_touches, test_touches}
 use Rattle.ot_task.proofs.touched.touched.Goals as goal
 
 pub returns-clause-exact : goal.returns-clause-exact

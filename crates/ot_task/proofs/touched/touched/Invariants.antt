@@ -4,7 +4,8 @@ use Rattle.std.specs.List.{fold}
 use Rattle.ot_model.specs.declared.expr.Cell.{Cell}
 use Rattle.ot_task.specs.Assigns.{assigns_of}
 use Rattle.ot_task.specs.Held.{strongest}
-use Rattle.ot_task.specs.Touched.{noted, held, assign_touches, AssignsFit}
+use Rattle.ot_task.specs.Modes.{noted, held, AssignsFit}
+use Rattle.ot_task.specs.Touched.{assign_touches}
 use Rattle.ot_task.proofs.touched.touched.Given as goal
 
 -- what is held so far, with the touches that are left

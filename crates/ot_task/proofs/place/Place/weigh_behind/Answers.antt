@@ -1,14 +1,13 @@
 use Rattle.std.proofs.Common.{◌≡◌, ◌∙◌, ◌+◌, ◌<◌, ◌≤◌, sym, ap, arith, map, drop, length, get_or, List, ◌∷◌}
 use Rattle.std.proofs.lemmas.List.{drop_more, drop_all}
-use Rattle.ot_model.specs.declared.stmt.Stmt.{Stmt}
-use Rattle.ot_task.specs.PlaceView.{open_of, rest_of}
-use Rattle.ot_task.specs.Weighing.{weight, weight_behind}
+use Rattle.ot_task.specs.PlaceView.{open_of}
+use Rattle.ot_task.specs.Weighing.{weight_behind}
 use Rattle.ot_task.specs.declared.place.OpenGroup.{OpenGroup}
 use Rattle.ot_task.proofs.WeightLemmas.{behind-reverse}
 use Rattle.ot_task.proofs.place.Place.weigh_behind.Goals as goal
 
-pub weigh_rest-requires : goal.weigh_rest-requires
-weigh_rest-requires c =
+pub weigh-requires : goal.weigh-requires
+weigh-requires c =
     let items = c.args.self.now.groups.items in
     let i = c.loop-group.group-index in
     let item = c.group-item.result in
@@ -16,9 +15,8 @@ weigh_rest-requires c =
     let within : i < length items = omega (arith, c.loop-group-test.true, ap length same) in
     let split : drop i items ≡ item ∷ drop (i + 1) items = drop_more items i item within ∙ ap (λ (o : OpenGroup). o ∷ drop (i + 1) items) (sym (c.group-item.is ∙ ap (λ (xs : List OpenGroup). get_or xs i item) same)) in
     let parts = ap (λ (xs : List OpenGroup). weight_behind (map open_of xs)) split in
-    let one = ap (λ (xs : List Stmt). weight (rest_of xs)) c.deref.ensures.value in
     let all = behind-reverse (map open_of items) in
-    omega (arith, c.requires, c.loop-group.invariant, parts, one, all)
+    omega (arith, c.requires, c.loop-group.invariant, parts, all)
 
 pub overflow_add-sum : goal.overflow_add-sum
 overflow_add-sum c =
@@ -29,9 +27,8 @@ overflow_add-sum c =
     let within : i < length items = omega (arith, c.loop-group-test.true, ap length same) in
     let split : drop i items ≡ item ∷ drop (i + 1) items = drop_more items i item within ∙ ap (λ (o : OpenGroup). o ∷ drop (i + 1) items) (sym (c.group-item.is ∙ ap (λ (xs : List OpenGroup). get_or xs i item) same)) in
     let parts = ap (λ (xs : List OpenGroup). weight_behind (map open_of xs)) split in
-    let one = ap (λ (xs : List Stmt). weight (rest_of xs)) c.deref.ensures.value in
     let all = behind-reverse (map open_of items) in
-    omega (arith, c.requires, c.loop-group.invariant, parts, one, all, c.weigh_rest.ensures)
+    omega (arith, c.requires, c.loop-group.invariant, parts, all, c.weigh.ensures)
 
 pub overflow_add-sum-in-loop-group : goal.overflow_add-sum-in-loop-group
 overflow_add-sum-in-loop-group c =
@@ -42,9 +39,8 @@ overflow_add-sum-in-loop-group c =
     let within : i < length items = omega (arith, c.loop-group-test.true, ap length same) in
     let split : drop i items ≡ item ∷ drop (i + 1) items = drop_more items i item within ∙ ap (λ (o : OpenGroup). o ∷ drop (i + 1) items) (sym (c.group-item.is ∙ ap (λ (xs : List OpenGroup). get_or xs i item) same)) in
     let parts = ap (λ (xs : List OpenGroup). weight_behind (map open_of xs)) split in
-    let one = ap (λ (xs : List Stmt). weight (rest_of xs)) c.deref.ensures.value in
     let all = behind-reverse (map open_of items) in
-    omega (arith, c.requires, c.loop-group.invariant, parts, one, all, c.weigh_rest.ensures)
+    omega (arith, c.requires, c.loop-group.invariant, parts, all, c.weigh.ensures)
 
 pub returns : goal.returns
 returns c =

@@ -1,5 +1,5 @@
 use Rattle.ot_task.proofs.SameLemmas.{Decide}
-use Rattle.ot_task.proofs.same.same_assigns.Given as goal
+use Rattle.ot_task.proofs.assigns.same_assigns.Given as goal
 
 -- those that are left decide
 abbrev pub invariant-loop-i : goal.invariant-loop-i

@@ -1,6 +1,6 @@
 use Rattle.std.proofs.Common.{rules, ◌≡◌, arith, length, true≢false, sym}
 use Rattle.ot_task.proofs.SameLemmas.{same-len, decide-more, decide-not, told}
-use Rattle.ot_task.proofs.same.same_assigns.Goals as goal
+use Rattle.ot_task.proofs.assigns.same_assigns.Goals as goal
 
 pub returns-then-one-two : goal.returns-then-one-two
 returns-then-one-two c =
