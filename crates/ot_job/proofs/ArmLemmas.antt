@@ -10,7 +10,8 @@ use Rattle.ot_model.specs.Cells.{updated}
 use Rattle.ot_model.specs.declared.stmt.Use.{Use}
 use Rattle.ot_check.specs.Offences.{allows}
 use Rattle.ot_check.specs.Touches.{EachTouch, EachTask}
-use Rattle.ot_task.specs.Place.{todo, IsFineAt, AwaitsAll, unawaited}
+use Rattle.ot_task.specs.Place.{todo}
+use Rattle.ot_job.specs.Awaiting.{IsFineAt, AwaitsAll, unawaited}
 use Rattle.ot_job.proofs.PlaceLemmas.{at-one, at-two, at-wait, at-enter}
 use Rattle.ot_task.specs.Regions.{Region, with_rest, inside}
 use Rattle.ot_job.specs.Numbered.{at}

@@ -8,7 +8,8 @@ use Rattle.ot_check.specs.walk.Walk.{anyone}
 use Rattle.ot_check.specs.walk.Walk.{after, after_one, through}
 use Rattle.ot_check.proofs.Bits.{true_or, or_right, and_left, and_right, and_true}
 use Rattle.ot_check.specs.walk.Fine.{AreAssigns}
-use Rattle.ot_task.specs.Place.{Open, Kids, children_of, kids_behind, AwaitsAll}
+use Rattle.ot_task.specs.Place.{Open}
+use Rattle.ot_job.specs.Awaiting.{Kids, children_of, kids_behind, AwaitsAll}
 use Rattle.ot_check.proofs.FineLemmas.{after-more, through-append}
 use Rattle.ot_job.proofs.PlaceLemmas.{FewerKids, Monotone}
 

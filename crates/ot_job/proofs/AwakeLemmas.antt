@@ -8,7 +8,8 @@ use Rattle.ot_model.specs.Tree.{Body, End, Next}
 use Rattle.ot_model.specs.Cells.{updated}
 use Rattle.ot_depend.specs.Siblings.{Sibling, is_unfinished, is_unfinished_in, is_in}
 use Rattle.ot_check.proofs.Bits.{or_true, true_or, or_right, and_left, and_right}
-use Rattle.ot_task.specs.Place.{Open, IsFineAt, AwaitsAll, unawaited}
+use Rattle.ot_task.specs.Place.{Open}
+use Rattle.ot_job.specs.Awaiting.{IsFineAt, AwaitsAll, unawaited}
 use Rattle.ot_job.proofs.PlaceLemmas.{at-fewer, at-leave}
 use Rattle.ot_job.proofs.AwaitsLemmas.{awaits-fewer, awaits-leave}
 use Rattle.ot_task.specs.Regions.{Region}

@@ -18,7 +18,8 @@ use Rattle.ot_owner.specs.Lending.{is_at, first_at, value_at}
 use Rattle.ot_owner.specs.Worth.{AreJoined}
 use Rattle.ot_owner.specs.declared.lent.LentCell.{LentCell}
 use Rattle.ot_owner.proofs.LentLemmas.{same-from_is_at, found-lent}
-use Rattle.ot_task.specs.Copies.{assigned, IsGiven, Lets}
+use Rattle.ot_task.specs.Copies.{assigned}
+use Rattle.ot_job.proofs.Given.{IsGiven, Lets}
 use Rattle.ot_check.specs.walk.Fine.{AreAssigns}
 use Rattle.ot_job.proofs.CopiesLemmas.{given-serial, value-copies}
 

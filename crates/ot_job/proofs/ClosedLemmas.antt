@@ -15,7 +15,8 @@ use Rattle.ot_model.specs.declared.expr.Cell.{Cell}
 use Rattle.ot_model.specs.declared.stmt.Mode.TheVariants.{Reads}
 use Rattle.ot_check.specs.Paths.{use_as}
 use Rattle.ot_check.specs.Offences.{allows, adds_to, has_cell}
-use Rattle.ot_task.specs.Place.{Open, todo, AwaitsAll, unawaited}
+use Rattle.ot_task.specs.Place.{Open, todo}
+use Rattle.ot_job.specs.Awaiting.{AwaitsAll, unawaited}
 use Rattle.ot_task.specs.Regions.{Region, over, without}
 use Rattle.ot_job.specs.Settling.{told_parent, closed}
 use Rattle.ot_job.specs.Numbered.{at, parent_of, todo_at, ended_at, parents}

@@ -14,7 +14,8 @@ use Rattle.ot_check.specs.Paths.{use_as}
 use Rattle.ot_model.specs.Cells.{same_cell}
 use Rattle.ot_check.specs.Touches.{EachRead, EachTouch}
 use Rattle.ot_check.proofs.ApartLemmas.{read-weaker, value-same}
-use Rattle.ot_task.specs.Copies.{Look, with_copy, assigned, IsGiven, Lets, LetsMode}
+use Rattle.ot_task.specs.Copies.{Look, with_copy, assigned}
+use Rattle.ot_job.proofs.Given.{IsGiven, Lets, LetsMode}
 use Rattle.ot_check.specs.walk.Fine.{AreAssigns}
 use Rattle.ot_check.proofs.SameLemmas.{same_is}
 use Rattle.ot_task.proofs.CellLemmas.{same_self}

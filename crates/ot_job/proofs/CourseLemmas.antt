@@ -26,13 +26,16 @@ use Rattle.ot_owner.specs.Leases.{Lease, lease_of, lent_from}
 use Rattle.ot_owner.specs.Lending.{first_at, value_at}
 use Rattle.ot_owner.specs.Worth.{AreJoined, worths}
 use Rattle.ot_owner.proofs.OutLemmas.{permutation_rest}
-use Rattle.ot_task.specs.Copies.{assigned, Lets}
-use Rattle.ot_task.specs.Place.{todo, opened, children_of, unawaited, IsFineAt}
+use Rattle.ot_task.specs.Copies.{assigned}
+use Rattle.ot_job.proofs.Given.{Lets}
+use Rattle.ot_task.specs.Place.{todo}
+use Rattle.ot_job.specs.Awaiting.{opened, children_of, unawaited, IsFineAt}
 use Rattle.ot_task.specs.Regions.{Region, Run, with_rest, next_task}
 use Rattle.ot_job.specs.Numbered.{at, todo_at, parents, left_of}
 use Rattle.ot_job.specs.Sound.{IsBegun, IsSound}
 use Rattle.ot_task.specs.Pieces.{leading, test_of}
-use Rattle.ot_task.specs.Touched.{held, piece_touches}
+use Rattle.ot_task.specs.Modes.{held}
+use Rattle.ot_task.specs.Touched.{piece_touches}
 use Rattle.ot_job.specs.Whole.{assigns_out, whole, wholes, leases_out}
 use Rattle.ot_job.specs.Running.{RunsWell}
 use Rattle.ot_job.specs.Live.{Live}

@@ -21,7 +21,8 @@ use Rattle.ot_task.proofs.CellLemmas.{same_self}
 use Rattle.ot_check.specs.walk.Fine.{AreAssigns}
 use Rattle.ot_task.specs.Assigns.{CanAssign}
 use Rattle.ot_model.specs.Uses.{mode_in}
-use Rattle.ot_task.specs.Touched.{assign_touches, held, noted, with_mode, mode_held}
+use Rattle.ot_task.specs.Touched.{assign_touches}
+use Rattle.ot_task.specs.Modes.{held, noted, with_mode, mode_held}
 use Rattle.ot_task.proofs.HeldLemmas.{reads-append}
 use Rattle.ot_job.proofs.HoldsLemmas.{Among}
 

@@ -19,7 +19,8 @@ use Rattle.ot_check.proofs.OffenceLemmas.{is_offence-ChildBeyond, is_offence-Red
 use Rattle.ot_check.proofs.InsideLemmas.{child_fits}
 use Rattle.ot_check.proofs.SumLemmas.{fits-adds, fits-reads}
 use Rattle.ot_check.specs.walk.Fine.{IsClean}
-use Rattle.ot_task.specs.Place.{Open, todo, opened, children_of, IsFineAt, AwaitsAll, unawaited}
+use Rattle.ot_task.specs.Place.{Open, todo}
+use Rattle.ot_job.specs.Awaiting.{opened, children_of, IsFineAt, AwaitsAll, unawaited}
 use Rattle.ot_task.specs.Regions.{Region, with_rest, with_child}
 use Rattle.ot_job.specs.Sound.{DontMix, LetsAll, IsPlaced, sums_in}
 use Rattle.ot_job.proofs.KeptLemmas.{todo-next}

@@ -20,7 +20,8 @@ use Rattle.ot_check.specs.Touches.{Agree}
 use Rattle.ot_check.proofs.Bits.{or_true, true_or, or_right, and_left}
 use Rattle.ot_check.specs.walk.Fine.{IsFine}
 use Rattle.ot_job.specs.Rights.{IsRight}
-use Rattle.ot_task.specs.Place.{Open, todo, opened, children_of, IsFineAt, unawaited, Kids}
+use Rattle.ot_task.specs.Place.{Open, todo}
+use Rattle.ot_job.specs.Awaiting.{opened, children_of, IsFineAt, unawaited, Kids}
 use Rattle.ot_job.proofs.Order.{IsBefore, Each, Ordered, order, order-ordered}
 use Rattle.ot_job.proofs.Kept.{In}
 use Rattle.ot_check.specs.walk.Fine.{IsHarmless, AreAssigns}

@@ -16,7 +16,8 @@ use Rattle.ot_check.proofs.Bits.{or_true, true_or, or_right, or_false_left, or_f
 use Rattle.ot_check.proofs.OffenceLemmas.{is_offence-Group}
 use Rattle.ot_check.proofs.InsideLemmas.{groups_inside}
 use Rattle.ot_check.specs.walk.Fine.{IsClean}
-use Rattle.ot_task.specs.Place.{Open, todo, opened, children_of, IsFineAt, AwaitsAll, unawaited}
+use Rattle.ot_task.specs.Place.{Open, todo}
+use Rattle.ot_job.specs.Awaiting.{opened, children_of, IsFineAt, AwaitsAll, unawaited}
 use Rattle.ot_check.proofs.SameLemmas.{same_is}
 use Rattle.ot_check.proofs.TouchLemmas.{clash_free}
 use Rattle.ot_task.specs.Regions.{Region, with_rest, inside}

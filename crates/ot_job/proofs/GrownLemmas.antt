@@ -15,7 +15,8 @@ use Rattle.ot_check.specs.walk.Walk.{marks, may_break}
 use Rattle.ot_check.specs.Offences.{allows}
 use Rattle.ot_check.specs.declared.fault.Offence.TheVariants.{EndsWithChildren}
 use Rattle.ot_check.proofs.Bits.{or_false_right, true_or}
-use Rattle.ot_task.specs.Place.{Open, todo, opened, children_of, IsFineAt, AwaitsAll, unawaited}
+use Rattle.ot_task.specs.Place.{Open, todo}
+use Rattle.ot_job.specs.Awaiting.{opened, children_of, IsFineAt, AwaitsAll, unawaited}
 use Rattle.ot_task.specs.Regions.{Region, with_rest, with_child, new_region}
 use Rattle.ot_job.specs.Numbered.{at, gone, parent_of, ended_at}
 use Rattle.ot_job.specs.Sound.{LetsAll, IsBegun, IsPlaced, HasTask, IsSound}

@@ -11,7 +11,7 @@ use Rattle.ot_model.specs.declared.stmt.Use.{Use}
 use Rattle.ot_check.specs.Paths.{use_as}
 use Rattle.ot_check.specs.Offences.{Declared, allows, adds_to}
 use Rattle.ot_task.specs.Regions.{Region}
-use Rattle.ot_task.specs.Touched.{held, mode_held}
+use Rattle.ot_task.specs.Modes.{held, mode_held}
 use Rattle.ot_job.specs.Holding.{Touches, OnlyReads, Holds, touches_out, AllHold, AreApart}
 use Rattle.ot_job.specs.Live.{Live}
 use Rattle.ot_job.specs.Rights.{IsRight}

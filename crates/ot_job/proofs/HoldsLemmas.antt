@@ -18,7 +18,8 @@ use Rattle.ot_model.specs.Cells.{same_cell}
 use Rattle.ot_check.specs.Touches.{EachRead, EachTouch}
 use Rattle.ot_job.specs.Rights.{IsRight}
 use Rattle.ot_check.proofs.SameLemmas.{same_is}
-use Rattle.ot_task.specs.Touched.{assign_touches, test_touches, held, noted, with_mode, stronger, mode_held}
+use Rattle.ot_task.specs.Touched.{assign_touches, test_touches}
+use Rattle.ot_task.specs.Modes.{held, noted, with_mode, stronger, mode_held}
 use Rattle.ot_task.proofs.HeldLemmas.{reads-append}
 
 abbrev pub Among : Use → List Use → Type 0

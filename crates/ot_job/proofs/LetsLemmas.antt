@@ -22,10 +22,11 @@ use Rattle.ot_check.specs.declared.fault.Offence.TheVariants.{NotDeclared}
 use Rattle.ot_check.proofs.Bits.{or_true, true_or, or_right, and_left, and_right, and_true}
 use Rattle.ot_owner.specs.Lending.{is_at, uses_of}
 use Rattle.ot_owner.specs.declared.lent.LentCell.{LentCell}
-use Rattle.ot_task.specs.Copies.{Lets, LetsMode}
+use Rattle.ot_job.proofs.Given.{Lets, LetsMode}
 use Rattle.ot_job.specs.Rights.{IsRight}
 use Rattle.ot_task.specs.Pieces.{test_of}
-use Rattle.ot_task.specs.Touched.{assign_touches, test_touches, piece_touches, held, mode_held}
+use Rattle.ot_task.specs.Touched.{assign_touches, test_touches, piece_touches}
+use Rattle.ot_task.specs.Modes.{held, mode_held}
 use Rattle.ot_job.proofs.BackLemmas.{mode_at}
 use Rattle.ot_job.proofs.CoverLemmas.{Covers, covered, flip, in-section, among-left, among-right}
 use Rattle.ot_job.proofs.FreeLemmas.{piece-safe}

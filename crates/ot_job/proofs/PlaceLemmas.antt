@@ -8,7 +8,8 @@ use Rattle.ot_check.specs.Offences.{Declared}
 use Rattle.ot_check.specs.walk.Walk.{nothing_open, behind_one, behind, through}
 use Rattle.ot_check.proofs.Bits.{true_or, or_right, and_left, and_right, and_true}
 use Rattle.ot_check.specs.walk.Fine.{IsFine}
-use Rattle.ot_task.specs.Place.{Open, opened, Kids, children_of, kids_behind, IsFineAt}
+use Rattle.ot_task.specs.Place.{Open}
+use Rattle.ot_job.specs.Awaiting.{opened, Kids, children_of, kids_behind, IsFineAt}
 use Rattle.ot_check.proofs.FineLemmas.{fine-fewer, fine-append, through-append}
 
 -- each child of the one is among the other

@@ -1,5 +1,5 @@
 -- A piece that is out.
-use Rattle.std.proofs.Common.{false, true, sym, true≢false, ◌≡◌, ◌<◌, ℕ, zero, suc, List, [], ◌∷◌, length, refl, arith}
+use Rattle.std.proofs.Common.{false, true, sym, true≢false, ◌≡◌, ◌<◌, ℕ, zero, suc, List, [], ◌∷◌, length, arith}
 use Rattle.std.specs.Prelude.{All, Contains, IsSome, Some, Result, Ok, Err, OnOk, OnErr, is_err}
 use Rattle.std.proofs.lemmas.List.Elements.{All-nil, All-cons, All-head, All-tail}
 use Rattle.ot_model.specs.Tree.{Body, End, Next}
@@ -13,10 +13,6 @@ use Rattle.ot_owner.specs.declared.lent.LentCell.{LentCell}
 use Rattle.ot_task.specs.Regions.{Region, Run, next_task}
 use Rattle.ot_job.specs.Numbered.{at, parent_of}
 use Rattle.ot_job.specs.Live.{Live}
-use Rattle.ot_task.specs.Pieces.{leading_len}
-use Rattle.ot_task.specs.Assigns.{assigns_of}
-use Rattle.ot_task.specs.declared.assign.Assign.{Assign}
-use Rattle.ot_task.specs.declared.assign.Assign.TheVariants as v
 use Rattle.ot_job.specs.Taken.{Came, IsOut}
 use Rattle.ot_job.specs.Well.{MaySettle}
 use Rattle.ot_task.specs.Standing.{is_at_end}
@@ -59,11 +55,6 @@ module _ (j : Live) (d : Came) (may : MaySettle j) (out : IsOut j.regions d) whe
   pub child-unfinished : 0 < d.task → IsUnfinished (at j.regions (parent_of j.regions d.task)).children (at j.regions d.task).child
   unfolding run_of
   child-unfinished some = (may.kin d.task (run_of d) out.0 some).2
-
-pub assigns-len : (xs : List Assign) → leading_len (assigns_of xs) ≡ length xs
-assigns-len [] = refl
-assigns-len (v.Set c e ∷ xs) = let h = assigns-len xs in omega (arith, h)
-assigns-len (v.Add c e ∷ xs) = let h = assigns-len xs in omega (arith, h)
 
 -- at a body's end no task comes next
 pub none-next : {P : Type 0} (rest : Body) (gs : List Open) → is_at_end rest gs ≡ true → (child : List Use × Body) → next_task rest ≡ Some child → P

@@ -12,7 +12,8 @@ use Rattle.ot_check.specs.Offences.{Declared, allows, clashes}
 use Rattle.ot_check.specs.Touches.{EachTouch, EachTask, Agree}
 use Rattle.ot_check.specs.declared.fault.Offence.TheVariants.{ConflictsWithChild}
 use Rattle.ot_check.proofs.ApartLemmas.{touch-weaker}
-use Rattle.ot_task.specs.Place.{Open, todo, opened, children_of, IsFineAt, AwaitsAll, unawaited, Kids}
+use Rattle.ot_task.specs.Place.{Open, todo}
+use Rattle.ot_job.specs.Awaiting.{opened, children_of, IsFineAt, AwaitsAll, unawaited, Kids}
 use Rattle.ot_job.proofs.PlaceLemmas.{at-set, at-add}
 use Rattle.ot_job.proofs.AwaitsLemmas.{awaits-piece}
 use Rattle.ot_job.proofs.Kept.{MayRun}

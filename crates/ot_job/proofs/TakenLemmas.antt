@@ -14,7 +14,8 @@ use Rattle.ot_task.specs.Regions.{Region}
 use Rattle.ot_job.specs.Numbered.{at}
 use Rattle.ot_task.specs.Pieces.{leading, behind, test_of, awake}
 use Rattle.ot_model.specs.Uses.{mode_in}
-use Rattle.ot_task.specs.Touched.{held, piece_touches, test_touches, AreHeld}
+use Rattle.ot_task.specs.Modes.{held, AreHeld}
+use Rattle.ot_task.specs.Touched.{piece_touches, test_touches}
 use Rattle.ot_job.specs.Live.{Live}
 use Rattle.ot_job.specs.Well.{IsOnCourse}
 use Rattle.ot_job.proofs.WholeLemmas.{whole-again}

@@ -13,7 +13,7 @@ pub map-changed : {A B : Type 0} (g : A → B) (xs : List A) (i : ℕ) (x y : A)
 map-changed g xs i x y f is same =
     map-set g xs i y ∙ set-updated (map g xs) i (g y) (g x) f (same ∙ ap (λ z. f (g z)) is ∙ ap f (sym (get_or-map g xs i x)))
 
-set-same : {A : Type 0} (xs : List A) (i : ℕ) (x : A) → x ≡ get_or xs i x → set xs i x ≡ xs
+pub set-same : {A : Type 0} (xs : List A) (i : ℕ) (x : A) → x ≡ get_or xs i x → set xs i x ≡ xs
 set-same [] i x is = refl
 set-same (y ∷ xs) zero x is = ap (λ z. z ∷ xs) is
 set-same (y ∷ xs) (suc i) x is = ap (λ zs. y ∷ zs) (set-same xs i x is)

@@ -34,7 +34,8 @@ use Rattle.ot_owner.specs.Worth.{worths}
 use Rattle.ot_owner.proofs.WorthLemmas.{worths-combined}
 use Rattle.ot_model.specs.Runs.{state_of}
 use Rattle.ot_job.specs.Live.{Live}
-use Rattle.ot_task.specs.Touched.{AreHeld, piece_touches, assign_touches, test_touches}
+use Rattle.ot_task.specs.Modes.{AreHeld}
+use Rattle.ot_task.specs.Touched.{piece_touches, assign_touches, test_touches}
 use Rattle.ot_job.specs.Claiming.{is_claimable}
 use Rattle.ot_job.specs.Holding.{Holds, touches_out}
 use Rattle.ot_task.specs.Waits.{is_let_go}

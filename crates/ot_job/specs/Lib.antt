@@ -15,6 +15,7 @@ pub mod Dealings
 -- what only this crate knows
 pub mod JobView
 pub mod DoneView
+pub mod Awaiting
 pub mod Sound
 pub mod Running
 pub mod Well

@@ -9,7 +9,8 @@ use Rattle.ot_check.specs.Paths.{use_as}
 use Rattle.ot_check.specs.Offences.{allows, adds_to, has_cell}
 use Rattle.ot_check.specs.Touches.{EachTouch, EachTask}
 use Rattle.ot_job.specs.Numbered.{at, parent_of, ended_at}
-use Rattle.ot_task.specs.Place.{Open, todo, opened, IsFineAt, AwaitsAll, unawaited}
+use Rattle.ot_task.specs.Place.{Open, todo}
+use Rattle.ot_job.specs.Awaiting.{opened, IsFineAt, AwaitsAll, unawaited}
 use Rattle.ot_task.specs.Regions.{Region}
 
 abbrev pub may_at : List Region → ℕ → Use → Type 0

@@ -7,7 +7,7 @@ use crate::weigh::weigh_tasks;
 use ot_check::{JobSpec, Outcome};
 use ot_model::{Cells, Counts};
 use ot_owner::Owners;
-use ot_task::{Prepared, prepare};
+use ot_task::Prepared;
 use std::alloc::{AllocError, Global};
 use std::marker::Model;
 
@@ -144,14 +144,13 @@ impl Job {
             return Ok(None);
         };
         let Prepared {
-            room,
             assigns,
             condition,
             decl,
-            right,
-        } = prepare(alloc, self.tasks.get(task), &self.cells)?;
+            running,
+        } = self.tasks.prepare(alloc, task, &self.cells)?;
         let lent = self.owners.lease(alloc, &self.cells, decl)?;
-        self.tasks.begin(task, room, right);
+        self.tasks.begin(task, running);
         Ok(Some(Piece::new(task as u32, assigns, condition, lent)))
     }
 

@@ -20,6 +20,5 @@ mod tasks;
 mod weigh;
 
 pub use job::Job;
-pub use ot_task::Assign;
 pub use piece::{Done, Piece, Refused};
 pub use state::State;

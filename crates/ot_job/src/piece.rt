@@ -5,7 +5,7 @@ ghost use Rattle.ot_owner.specs.Lending.{value_at};
 
 use ot_model::{Cells, Expr, value};
 use ot_owner::{Lent, Owners};
-use ot_task::{Assign, Task, assign_all};
+use ot_task::{Assigns, Task, assign_all};
 use std::marker::Model;
 
 /// A piece of a task's body that was claimed: sets and adds, the condition of an `if` that comes
@@ -13,7 +13,7 @@ use std::marker::Model;
 #[derive(Debug)]
 pub struct Piece {
     task: u32,
-    assigns: Vec<Assign>,
+    assigns: Assigns,
     condition: Option<Expr>,
     lent: Lent,
 }
@@ -23,16 +23,16 @@ impl Model for Piece {
     ghost use Rattle.std.specs.Prelude.{option_map};
     ghost use Rattle.ot_model.specs.Code.{body_code, value_code};
     ghost use Rattle.ot_model.specs.View.{expr_of};
-    ghost use Rattle.ot_task.specs.Assigns.{assigns_of, CanRun};
+    ghost use Rattle.ot_task.specs.Assigns.{CanRun};
     ghost use Rattle.ot_job.specs.Taken.{Taken};
 
     ghost Value = { Taken };
 
     ghost coded = { Prim.hlevel (codes, body_code, value_code) };
 
-    ghost view = { λ p. record { task = p.task; assigns = assigns_of p.assigns.items; test = option_map expr_of p.condition; lent = p.lent } };
+    ghost view = { λ p. record { task = p.task; assigns = p.assigns; test = option_map expr_of p.condition; lent = p.lent } };
 
-    ghost invariant = { λ p. CanRun (assigns_of p.assigns.items) (option_map expr_of p.condition) p.lent };
+    ghost invariant = { λ p. CanRun p.assigns (option_map expr_of p.condition) p.lent };
 }
 
 /// A piece that was run: its copies have what its assigns make of the inputs, and the answer is its
@@ -40,7 +40,7 @@ impl Model for Piece {
 #[derive(Debug)]
 pub struct Done {
     task: u32,
-    assigns: Vec<Assign>,
+    assigns: Assigns,
     condition: Option<Expr>,
     lent: Lent,
     answer: Option<u64>,
@@ -66,14 +66,14 @@ impl Model for Done {
 impl Piece {
     ghost use Rattle.std.specs.Prelude.{◌≡◌, option_map};
     ghost use Rattle.ot_model.specs.View.{expr_of};
-    ghost use Rattle.ot_task.specs.Assigns.{assigns_of, CanRun};
+    ghost use Rattle.ot_task.specs.Assigns.{CanRun};
     ghost use Rattle.ot_job.specs.Taken.{IsRun};
     ghost use Rattle.ot_job.specs.Dealings.{brought, work_of};
 
     /// A piece that may be run on these copies.
-    pub(crate) fn new(task: u32, assigns: Vec<Assign>, condition: Option<Expr>, lent: Lent) -> Piece
-        requires { CanRun (assigns_of assigns.items) (option_map expr_of condition) lent }
-        ensures { result ≡ record { task = task; assigns = assigns_of assigns.items; test = option_map expr_of condition; lent = lent } }
+    pub(crate) fn new(task: u32, assigns: Assigns, condition: Option<Expr>, lent: Lent) -> Piece
+        requires { CanRun assigns (option_map expr_of condition) lent }
+        ensures { result ≡ record { task = task; assigns = assigns; test = option_map expr_of condition; lent = lent } }
     {
         Piece {
             task,
@@ -103,7 +103,7 @@ impl Piece {
             lent,
         } = self;
         let mut lent = lent;
-        assign_all(&assigns, &mut lent);
+        assign_all(assigns.as_slice(), &mut lent);
         let answer = answer(condition.as_ref(), &lent);
         Done {
             task,

@@ -5,14 +5,10 @@ use denote.Param.SendFields.{declared_send}
 use Rattle.std.specs.declared.sync.ledger.Ledger.{Ghosts}
 use Rattle.std.proofs.sync.ledger.Book.TheSendSync as ledger
 use Rattle.std.proofs.Crossing.{crosses}
-use Rattle.ot_depend.proofs.siblings.Siblings.TheSendSync as siblings
 use Rattle.ot_model.proofs.expr.Expr.TheLaws.TheKnot.{send-Expr}
 use Rattle.ot_model.proofs.stmt.Stmt.TheLaws.TheKnot.{send-Stmt}
 use Rattle.ot_check.specs.contracts.job.JobSpec as spec
-use Rattle.ot_task.specs.contracts.place.Place as place
-use Rattle.ot_task.specs.contracts.task.Running as running
-use Rattle.ot_task.specs.contracts.task.Task as task
-use Rattle.ot_task.specs.contracts.task.Task.TheInside as standing
+use Rattle.ot_task.proofs.SendLemmas.{task-send}
 use Rattle.ot_job.specs.contracts.job.Job as job
 use Rattle.ot_core.specs.contracts.hall.Hall as hall
 use Rattle.ot_pool.specs.contracts.hub.Hub as hub
@@ -21,18 +17,6 @@ use Rattle.ot_pool.specs.contracts.hub.Hub.TheInside as inside
 
 spec-send : IsSend spec.the_row
 spec-send = search (sendable, crosses, send-Expr, send-Stmt) depth 80 fits 20000
-
-place-send : IsSend place.the_row
-place-send = search (sendable, crosses, send-Expr, send-Stmt) depth 80 fits 20000
-
-running-send : IsSend running.the_row
-running-send = search (sendable, crosses, send-Expr) depth 80 fits 20000
-
-standing-send : IsSend standing.the_row
-standing-send = declared_send standing.the_type (search (sendable, crosses) depth 80 fits 20000, (search (sendable, crosses) depth 80 fits 20000, (search (sendable, crosses) depth 80 fits 20000, (search (sendable, crosses, place-send) depth 80 fits 20000, (search (siblings.the_send, sendable, crosses) depth 80, (search (sendable, crosses) depth 80 fits 20000, (search (sendable, crosses) depth 80 fits 20000, (search (sendable, crosses, running-send) depth 80 fits 20000, tt))))))))
-
-task-send : IsSend task.the_row
-task-send = record { owned = λ d vs x. (standing-send.owned x.0 vs, tt); leaving = λ k d w. tt }
 
 job-send : IsSend job.the_row
 job-send = search (sendable, crosses, spec-send, task-send) depth 80 fits 20000

@@ -2,7 +2,7 @@ use Rattle.std.proofs.Common.{◌∙◌, ap, refl, option_map}
 use Rattle.ot_model.specs.View.{expr_of}
 use Rattle.ot_model.specs.Value.{val}
 use Rattle.ot_owner.specs.Lending.{value_at}
-use Rattle.ot_task.specs.Assigns.{assigns_of}
+use Rattle.ot_model.specs.Tree.{Body}
 use Rattle.ot_task.specs.Copies.{assigned}
 use Rattle.ot_job.proofs.RunLemmas.{readable-still, through, made-of}
 use Rattle.ot_job.proofs.piece.Piece.run.Goals as goal
@@ -15,8 +15,8 @@ answer-answer-requires c =
 pub invariant_of-result : goal.invariant_of-result
 invariant_of-result c =
     record {
-      made = made-of (assigns_of c.self.inside.assigns.items) c.self.inside.lent c.assign_all.new.lent c.assign_all.ensures.lease c.self.invariant.fresh
-          (λ cell. c.assign_all.ensures.made cell ∙ ap (λ xs. assigned (assigns_of xs) (value_at c.self.inside.lent) cell) c.deref.ensures.value);
+      made = made-of c.self.inside.assigns c.self.inside.lent c.assign_all.new.lent c.assign_all.ensures.lease c.self.invariant.fresh
+          (λ cell. c.assign_all.ensures.made cell ∙ ap (λ (b : Body). assigned b (value_at c.self.inside.lent) cell) c.as_slice.ensures);
       told = c.answer-answer.ensures ∙ through (λ e. e.now) (λ e. val (value_at c.assign_all.new.lent) (expr_of e)) c.as_ref.result c.self.inside.condition c.as_ref.ensures.value
           ∙ through expr_of (λ x. val (value_at c.assign_all.new.lent) x) c.self.inside.condition (option_map expr_of c.self.inside.condition) refl;
     }
@@ -24,8 +24,8 @@ invariant_of-result c =
 pub returns-clause-made : goal.returns-clause-made
 returns-clause-made c =
     record {
-      made = made-of (assigns_of c.self.inside.assigns.items) c.self.inside.lent c.assign_all.new.lent c.assign_all.ensures.lease c.self.invariant.fresh
-          (λ cell. c.assign_all.ensures.made cell ∙ ap (λ xs. assigned (assigns_of xs) (value_at c.self.inside.lent) cell) c.deref.ensures.value);
+      made = made-of c.self.inside.assigns c.self.inside.lent c.assign_all.new.lent c.assign_all.ensures.lease c.self.invariant.fresh
+          (λ cell. c.assign_all.ensures.made cell ∙ ap (λ (b : Body). assigned b (value_at c.self.inside.lent) cell) c.as_slice.ensures);
       told = c.answer-answer.ensures ∙ through (λ e. e.now) (λ e. val (value_at c.assign_all.new.lent) (expr_of e)) c.as_ref.result c.self.inside.condition c.as_ref.ensures.value
           ∙ through expr_of (λ x. val (value_at c.assign_all.new.lent) x) c.self.inside.condition (option_map expr_of c.self.inside.condition) refl;
     }

@@ -3,7 +3,7 @@ use Rattle.std.specs.Prelude.{is_some}
 use Rattle.std.proofs.lemmas.List.Sums.{count_by-le-length}
 use Rattle.ot_model.specs.Cells.{updated}
 use Rattle.ot_task.specs.Regions.{Region}
-use Rattle.ot_task.specs.Pieces.{leading_len, awake, begun}
+use Rattle.ot_task.specs.Pieces.{leading, awake, begun}
 use Rattle.ot_job.specs.Numbered.{at}
 use Rattle.ot_job.specs.Listing.{numbers_of, AreKept}
 use Rattle.ot_job.proofs.PickLemmas.{at-here}
@@ -12,19 +12,19 @@ use Rattle.ot_job.proofs.KeepingLemmas.{kept-removed}
 use Rattle.ot_job.proofs.CountingLemmas.{counted-begun}
 use Rattle.ot_job.proofs.tasks.Tasks.begin.Goals as goal
 
-pub begin-requires-clause-room : goal.begin-requires-clause-room
-begin-requires-clause-room c =
+pub begin-requires : goal.begin-requires
+begin-requires c =
     let rs = c.self.inside.tasks.items in
     let i = c.args.i in
     let within : i < length rs = omega (arith, c.requires.known, ap length c.self.view_is) in
-    let here = at-here rs i c.index_mut.result.now within c.index_mut.ensures.value in
-    omega (arith, ap (λ r. leading_len (awake r).rest) here, ap (λ (l : List Region). leading_len (awake (at l i)).rest) c.self.view_is, c.requires.room)
+    c.requires.assigns ∙ sym (ap (λ (l : List Region). leading (awake (at l i)).rest) c.self.view_is)
+    ∙ ap (λ r. leading (awake r).rest) (at-here rs i c.index_mut.result.now within c.index_mut.ensures.value)
 
 pub invariant_of-self : goal.invariant_of-self
 invariant_of-self c =
     let rs = c.self.inside.tasks.items in
     let i = c.args.i in
-    let lease = c.args.right in
+    let lease = c.args.running.lease in
     let within : i < length rs = omega (arith, c.requires.known, ap length c.self.view_is) in
     let idle : (at rs i).running ≡ None = ap (λ (l : List Region). (at l i).running) c.self.view_is ∙ c.requires.idle in
     let now = set-changed rs i c.index_mut.result.now c.begin.new.self (begun lease) c.index_mut.ensures.value c.begin.ensures in
@@ -35,17 +35,14 @@ invariant_of-self c =
 
 pub returns : goal.returns
 returns c =
-    set-changed c.self.inside.tasks.items c.args.i c.index_mut.result.now c.begin.new.self (begun c.args.right) c.index_mut.ensures.value c.begin.ensures
-    ∙ ap (λ (l : List Region). updated l c.args.i (begun c.args.right)) c.self.view_is
+    set-changed c.self.inside.tasks.items c.args.i c.index_mut.result.now c.begin.new.self (begun c.args.running.lease) c.index_mut.ensures.value c.begin.ensures
+    ∙ ap (λ (l : List Region). updated l c.args.i (begun c.args.running.lease)) c.self.view_is
 
 pub index_mut-requires : goal.index_mut-requires
 index_mut-requires c = omega (arith, c.requires.known, ap length c.self.view_is, c.self.inside.tasks.ok.0)
 
 pub remove-requires : goal.remove-requires
 remove-requires c = omega (arith, c.requires.known, ap length c.self.view_is, c.self.invariant.room)
-
-pub begin-requires-clause-empty : goal.begin-requires-clause-empty
-begin-requires-clause-empty c = c.requires.empty
 
 pub overflow_add-self : goal.overflow_add-self
 overflow_add-self c =

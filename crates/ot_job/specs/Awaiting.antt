@@ -1,0 +1,41 @@
+-- That nothing that is left of a task is an offence, and that its body ends with no child unawaited.
+use Rattle.std.specs.Prelude.{◌≡◌, ℕ, Bool, false, not, ◌&&◌, List, [], ◌∷◌}
+use Rattle.std.specs.List.{list_any}
+use Rattle.ot_model.specs.Tree.{Body}
+use Rattle.ot_model.specs.declared.expr.Cell.{Cell}
+use Rattle.ot_depend.specs.Siblings.{Sibling, is_unfinished, is_in}
+use Rattle.ot_check.specs.Offences.{Declared}
+use Rattle.ot_check.specs.walk.Walk.{Children, anyone, nothing_open, with_group, through, after}
+use Rattle.ot_check.specs.walk.Fine.{IsFine}
+use Rattle.ot_task.specs.Place.{Open}
+
+-- whether an open group names the cell
+abbrev pub opened : List Open → Cell → Bool
+opened [] = nothing_open
+opened (o ∷ os) = with_group (opened os) o.cells
+
+-- children, with the groups that each was created in, told by what is true of some of them
+abbrev pub Kids : Type 0
+Kids = (Sibling → Bool) → Bool
+
+-- what they declare
+abbrev pub children_of : Kids → Children
+children_of kids test = kids (λ s. test s.uses)
+
+-- those that may be unawaited behind the end of a group of whose body this is left
+abbrev pub kids_behind : Kids → Body → ℕ → Kids
+kids_behind kids rest g test = through rest && kids (λ s. not (is_in g s) && test s)
+
+-- nothing that is left is an offence, where these children may be unawaited
+abbrev pub IsFineAt : Declared → Kids → Body → List Open → Type 0
+IsFineAt own kids rest [] = IsFine own nothing_open (children_of kids) rest
+IsFineAt own kids rest (o ∷ os) = IsFine own (opened (o ∷ os)) (children_of kids) rest × IsFineAt own (kids_behind kids rest o.group) o.behind os
+
+-- the children that have not finished; a task that has executed a wait goes on only once there is none
+abbrev pub unawaited : Bool → List Sibling → Kids
+unawaited waiting siblings test = not waiting && list_any (λ s. is_unfinished s && test s) siblings
+
+-- the body ends with no child unawaited, where these children may be unawaited now
+abbrev pub AwaitsAll : Kids → Body → List Open → Type 0
+AwaitsAll kids rest [] = after anyone (children_of kids anyone) rest ≡ false
+AwaitsAll kids rest (o ∷ os) = AwaitsAll (kids_behind kids rest o.group) o.behind os
