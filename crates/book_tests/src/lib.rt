@@ -3,6 +3,8 @@
 #![tactic(auto)]
 
 #[cfg(test)]
+mod awaiting;
+#[cfg(test)]
 mod books;
 #[cfg(test)]
 mod checkpoints;

@@ -1,4 +1,5 @@
 //! Tables of texts and of what is told of them, and the first row that is told something else.
+use super::awaiting::awaited;
 use super::checks::outcome;
 use super::children::finished;
 use super::declarations::met;
@@ -30,6 +31,8 @@ pub(crate) enum Asked {
     Outcome,
     /// Which children are ready once so many have finished.
     Finished,
+    /// Whether a wait has to wait, and for how many of its children at most.
+    Awaiting,
     /// What comes of a lease.
     Lent,
 }
@@ -85,6 +88,7 @@ fn told(alloc: Global, asked: Asked, text: &str, shape: &Shape) -> Result<String
         Asked::Pair => met(alloc, text, shape),
         Asked::Outcome => outcome(alloc, text),
         Asked::Finished => finished(alloc, text),
+        Asked::Awaiting => awaited(alloc, text, shape),
         Asked::Lent => lent(alloc, text),
     }
 }

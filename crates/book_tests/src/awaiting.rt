@@ -1,0 +1,99 @@
+//! Whom a wait that declares cells awaits.
+use super::table::{Asked, assert_rows};
+use ot_depend::Siblings;
+use ot_model::{Decl, Shape, Stmt};
+use std::alloc::{AllocError, Global};
+use test_reading::read;
+
+/// Tasks over `a` and `b` of 9 cells each, and before them a mark for each but the last: `x` where it
+/// has finished. The last declares what a wait behind the others does. Whether that wait has to wait,
+/// and how many of the others have not finished.
+const AWAITING: &str = r#"none of [],[["task",[["inout",["a",0,9]]],[]]] gives false 0
+- of [],[["task",[["in",["a",0,1]]],[]],["task",[["in",["a",0,1]]],[]]] gives false 1
+- of [],[["task",[["in",["a",0,1]]],[]],["task",[["out",["a",0,1]]],[]]] gives true 1
+- of [],[["task",[["in",["a",0,1]]],[]],["task",[["inout",["a",0,1]]],[]]] gives true 1
+- of [],[["task",[["out",["a",0,1]]],[]],["task",[["in",["a",0,1]]],[]]] gives true 1
+- of [],[["task",[["out",["a",0,1]]],[]],["task",[["out",["a",0,1]]],[]]] gives true 1
+- of [],[["task",[["inout",["a",0,1]]],[]],["task",[["in",["a",0,1]]],[]]] gives true 1
+- of [],[["task",[["inout",["a",0,1]]],[]],["task",[["inout",["a",0,1]]],[]]] gives true 1
+- of [],[["task",[["red",["a",0,1]]],[]],["task",[["in",["a",0,1]]],[]]] gives false 1
+- of [],[["task",[["red",["a",0,1]]],[]],["task",[["out",["a",0,1]]],[]]] gives true 1
+- of [],[["task",[["red",["a",0,1]]],[]],["task",[["inout",["a",0,1]]],[]]] gives true 1
+x of [],[["task",[["in",["a",0,1]]],[]],["task",[["out",["a",0,1]]],[]]] gives false 0
+x of [],[["task",[["out",["a",0,1]]],[]],["task",[["in",["a",0,1]]],[]]] gives false 0
+x of [],[["task",[["inout",["a",0,1]]],[]],["task",[["inout",["a",0,1]]],[]]] gives false 0
+x of [],[["task",[["red",["a",0,1]]],[]],["task",[["out",["a",0,1]]],[]]] gives false 0
+- of [],[["task",[],[]],["task",[["inout",["a",0,9]]],[]]] gives false 1
+- of [],[["task",[["inout",["a",0,9]]],[]],["task",[],[]]] gives false 1
+- of [],[["task",[["out",["a",0,1]]],[]],["task",[["out",["a",1,1]]],[]]] gives false 1
+- of [],[["task",[["out",["a",0,1]]],[]],["task",[["out",["b",0,1]]],[]]] gives false 1
+- of [],[["task",[["out",["a",0,4]]],[]],["task",[["in",["a",3,2]]],[]]] gives true 1
+- of [],[["task",[["out",["a",0,4]]],[]],["task",[["in",["a",4,2]]],[]]] gives false 1
+- of [],[["task",[["in",["a",0,1]],["out",["b",8,1]]],[]],["task",[["in",["a",0,1]],["in",["b",8,1]]],[]]] gives true 1
+- of [],[["task",[["in",["a",0,1]],["out",["b",8,1]]],[]],["task",[["in",["a",0,1]],["in",["b",7,1]]],[]]] gives false 1
+- of [],[["task",[["in",["a",0,9]]],[]],["task",[["in",["a",0,8]],["out",["a",8,1]]],[]]] gives true 1
+-- of [],[["task",[["in",["a",0,1]]],[]],["task",[["out",["a",0,1]]],[]],["task",[["in",["a",0,1]]],[]]] gives true 2
+x- of [],[["task",[["in",["a",0,1]]],[]],["task",[["out",["a",0,1]]],[]],["task",[["in",["a",0,1]]],[]]] gives true 1
+xx of [],[["task",[["in",["a",0,1]]],[]],["task",[["out",["a",0,1]]],[]],["task",[["out",["a",0,1]]],[]]] gives false 0
+-x of [],[["task",[["in",["a",0,1]]],[]],["task",[["in",["a",0,1]]],[]],["task",[["out",["a",0,1]]],[]]] gives true 1
+x- of [],[["task",[["in",["a",0,1]]],[]],["task",[["in",["a",0,1]]],[]],["task",[["out",["a",0,1]]],[]]] gives true 1
+xx of [],[["task",[["in",["a",0,1]]],[]],["task",[["in",["a",0,1]]],[]],["task",[["out",["a",0,1]]],[]]] gives false 0
+-x of [],[["task",[["in",["a",0,1]]],[]],["task",[["in",["a",0,1]]],[]],["task",[["in",["a",0,1]]],[]]] gives false 1
+-x of [],[["task",[["red",["a",0,1]]],[]],["task",[["red",["a",0,1]]],[]],["task",[["inout",["a",0,1]]],[]]] gives true 1
+xx of [],[["task",[["red",["a",0,1]]],[]],["task",[["red",["a",0,1]]],[]],["task",[["inout",["a",0,1]]],[]]] gives false 0
+x-- of [],[["task",[["out",["a",0,1]]],[]],["task",[["out",["a",0,1]]],[]],["task",[["in",["a",0,1]]],[]],["task",[["in",["a",0,1]]],[]]] gives true 2
+xx- of [],[["task",[["out",["a",0,1]]],[]],["task",[["out",["a",0,1]]],[]],["task",[["in",["a",0,1]]],[]],["task",[["in",["a",0,1]]],[]]] gives false 1
+xx- of [],[["task",[["out",["a",0,1]]],[]],["task",[["out",["a",0,1]]],[]],["task",[["in",["a",0,1]]],[]],["task",[["out",["a",0,1]]],[]]] gives true 1
+-x of [],[["task",[["out",["a",0,1]]],[]],["task",[["in",["b",0,1]]],[]],["task",[["out",["b",0,1]]],[]]] gives false 1
+--- of [],[["task",[["out",["a",0,1]]],[]],["task",[["in",["a",0,1]],["out",["a",1,1]]],[]],["task",[["in",["a",2,1]]],[]],["task",[["in",["a",2,1]]],[]]] gives false 3
+x-- of [],[["task",[["out",["a",0,1]]],[]],["task",[["in",["a",0,1]],["out",["a",1,1]]],[]],["task",[["in",["a",2,1]]],[]],["task",[["in",["a",1,1]]],[]]] gives true 2"#;
+
+/// Whether the wait has to wait, and how many children have not finished.
+pub(crate) fn awaited(alloc: Global, text: &str, shape: &Shape) -> Result<String, AllocError> {
+    let Some((marks, text)) = text.split_once(" of ") else {
+        return String::from_str(alloc, "no marks");
+    };
+    match read(alloc, text, shape) {
+        Ok(program) => said_of_last(alloc, marks, program.body.as_slice()),
+        Err(fault) => format!(in alloc; "{fault:?}"),
+    }
+}
+
+fn said_of_last(alloc: Global, marks: &str, body: &[Stmt]) -> Result<String, AllocError> {
+    let Some((Stmt::Task(wait, _), children)) = body.split_last() else {
+        return String::from_str(alloc, "no task");
+    };
+    let siblings = marked(alloc, marks, children)?;
+    let (waits, unfinished) = (siblings.waits_for(wait), siblings.unfinished());
+    format!(in alloc; "{waits} {unfinished}")
+}
+
+/// These children, each with its mark.
+fn marked(alloc: Global, marks: &str, children: &[Stmt]) -> Result<Siblings, AllocError> {
+    let mut siblings = Siblings::new(alloc);
+    for (mark, child) in marks.bytes().zip(children) {
+        if let Stmt::Task(decl, _) = child {
+            add(alloc, &mut siblings, decl, mark == b'x')?;
+        }
+    }
+    Ok(siblings)
+}
+
+/// Adds a child, and finishes it at once where it is to be so and is ready.
+fn add(
+    alloc: Global,
+    siblings: &mut Siblings,
+    decl: &Decl,
+    is_finished: bool,
+) -> Result<(), AllocError> {
+    let child = siblings.add(alloc, decl.copy(alloc)?, &[])?;
+    if is_finished && siblings.ready(child) {
+        siblings.finish(child);
+    }
+    Ok(())
+}
+
+#[test]
+fn a_wait_awaits_the_unfinished_that_it_depends_on(rt: HostRuntime) {
+    assert_rows(&rt, rt.alloc(), Asked::Awaiting, [9, 9, 4], AWAITING);
+}
