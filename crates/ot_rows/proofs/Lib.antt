@@ -1,0 +1,15 @@
+pub mod LentLemmas
+pub mod OrderLemmas
+pub mod PlaceLemmas
+pub mod JoinedLemmas
+pub mod RightsLemmas
+pub mod SlotLemmas
+pub mod OutLemmas
+pub mod ApartLemmas
+pub mod WorthLemmas
+pub mod CombineLemmas
+pub mod RowLemmas
+pub mod GroupLemmas
+pub mod GivingLemmas
+pub mod OpenLemmas
+pub mod NameLemmas

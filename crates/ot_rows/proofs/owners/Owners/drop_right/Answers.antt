@@ -1,0 +1,10 @@
+use Rattle.ot_rows.specs.Leases.{lease_of}
+use Rattle.ot_rows.specs.Kept.{loans_in, summeds_of}
+use Rattle.ot_rows.specs.Owning.{Loan}
+use Rattle.ot_rows.proofs.OpenLemmas.{ended-sound}
+use Rattle.ot_rows.proofs.owners.Owners.drop_right.Goals as goal
+
+pub invariant_of-self : goal.invariant_of-self
+invariant_of-self c =
+    let loan : Loan = record { worker = c.args.worker; lease = lease_of c.keyed.result.now.cells.items } in
+    ended-sound loan (loans_in c.self.inside.rights) (loans_in c.end.new.self) (summeds_of c.self.inside.groups.items) c.end.ensures.ended c.self.invariant
