@@ -8,17 +8,17 @@ use Rattle.clap.specs.declared.parser.matches.ArgMatches.TheViews.{out-ArgMatche
 use Rattle.clap.specs.declared.parser.matches.SubCommand.{SubCommand}
 use Rattle.clap.specs.declared.error.Error.{Error}
 use Rattle.clap.proofs.OnLiterals.{clap_on_literals}
-use Rattle.omptask.specs.Grammar.{program_words, explain_words, ask_words, code_rule, socket_rule, name_rule}
+use Rattle.omptask.specs.Grammar.{program_words, explain_words, ask_words, graph_words, c_words, code_rule, socket_rule, name_rule}
 
 -- ---- the program's command
 
 -- `clap` tells exactly when these words fail, and what it finds in them
 pub program_words-is_simple_and_free : is_simple_and_free program_words ≡ true
-unfolding program_words explain_words ask_words code_rule socket_rule name_rule clap_on_literals
+unfolding program_words explain_words ask_words graph_words c_words code_rule socket_rule name_rule clap_on_literals
 program_words-is_simple_and_free = refl
 
 pub program_words-is_simple : is_simple program_words ≡ true
-unfolding program_words explain_words ask_words code_rule socket_rule name_rule clap_on_literals
+unfolding program_words explain_words ask_words graph_words c_words code_rule socket_rule name_rule clap_on_literals
 program_words-is_simple = refl
 
 -- what is told of the kinds of the program's command is told of the program's words

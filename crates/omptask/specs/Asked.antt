@@ -33,6 +33,10 @@ entered_rows entered = option_map (λ s. s.1) entered
 abbrev pub AsksFor : Option (Text × List Row) → Words → Type 0
 AsksFor entered (asked.Explain code) =
     (entered_name entered ≢ Some (codes "ask"))
+    × (entered_name entered ≢ Some (codes "graph"))
+    × (entered_name entered ≢ Some (codes "c"))
     × (entered_name entered ≡ Some (codes "explain") → IfSome (entered_rows entered) (λ rows. IsRead 999 (one_of (codes "code") rows) code))
 AsksFor entered (asked.Ask ask) =
     (entered_name entered ≡ Some (codes "ask")) × IfSome (entered_rows entered) (λ rows. AsksServer rows ask)
+AsksFor entered asked.Graph = entered_name entered ≡ Some (codes "graph")
+AsksFor entered asked.C = entered_name entered ≡ Some (codes "c")

@@ -22,8 +22,14 @@ name_rule = record (new_rule (codes "name")) { value_names = 1; required = true 
 unfoldable pub ask_words : Shape
 ask_words = (with_rule (with_rule (new_app (codes "ask")) socket_rule) name_rule).top
 
+unfoldable pub graph_words : Shape
+graph_words = (new_app (codes "graph")).top
+
+unfoldable pub c_words : Shape
+c_words = (new_app (codes "c")).top
+
 -- one of the subcommands has to be given, but where the version is asked for
 unfoldable pub program_words : App
 program_words =
     let program = on_top (λ s. record s { has_version = true; subcommand_required = true }) (new_app (codes "omptask")) in
-    with_subcommand (with_subcommand program explain_words) ask_words
+    with_subcommand (with_subcommand (with_subcommand (with_subcommand program explain_words) ask_words) graph_words) c_words

@@ -7,6 +7,10 @@ pub enum Words {
     Explain(Option<u32>),
     /// A session with a server.
     Ask(Ask),
+    /// The last run of a session as a task graph.
+    Graph,
+    /// The last run of a session as a program in C.
+    C,
 }
 
 /// A session with a server, over its Unix socket.

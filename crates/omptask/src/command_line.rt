@@ -34,6 +34,12 @@ fn asked_for(alloc: Global, matches: &ArgMatches<'_>) -> Result<Words, AllocErro
     if let Some(found) = matches.subcommand_matches("explain") {
         return Ok(Words::Explain(number(found, "code", MAX_CODE)));
     }
+    if matches.subcommand_matches("graph").is_some() {
+        return Ok(Words::Graph);
+    }
+    if matches.subcommand_matches("c").is_some() {
+        return Ok(Words::C);
+    }
     Ok(Words::Explain(None))
 }
 

@@ -2,7 +2,7 @@
 ghost use Rattle.std.specs.Prelude.{◌≡◌, IfOk, false};
 ghost use Rattle.clap.specs.Words.{app_of, rule_of, shape_of};
 ghost use Rattle.clap.specs.declared.builder.command.Command.TheViews.{out-Command as fields_of};
-ghost use Rattle.omptask.specs.Grammar.{program_words, explain_words, ask_words, code_rule, socket_rule, name_rule};
+ghost use Rattle.omptask.specs.Grammar.{program_words, explain_words, ask_words, graph_words, c_words, code_rule, socket_rule, name_rule};
 
 use clap::{Arg, Command, value_parser};
 use std::alloc::{AllocError, Global};
@@ -25,6 +25,19 @@ It reads lines on standard input. Each is sent, and its reply is printed before 
 the end of the lines, or behind a line [\"bye\"], it waits until the server has ended the session.
 The status is 3 where a line was refused, and 1 where the session couldn't be held.";
 
+/// What `graph` writes.
+const GRAPH_HELP: &str = "\
+It reads a session of one tenant on standard input, as `omptaskd solo` reads it, and writes a text for dot
+of Graphviz. Each task is a node; a dashed edge leads from the task that created one to it, and a solid one
+from each task that it waits for by itself, with the cells. Above 200 tasks standard error tells how many
+there are. The status is 1 where a line before the last run is refused, or none runs a program.";
+
+/// What `c` writes.
+const C_HELP: &str = "\
+It reads a session of one tenant on standard input, as `omptaskd solo` reads it, and writes a program that
+compiles with -fopenmp, has the arrays as the run found them, and prints what the run shows.
+The status is 1 where a line before the last run is refused, or none runs a program.";
+
 /// The program's command.
 pub(crate) fn program_command<'a>(alloc: Global) -> Result<Command<'a>, AllocError>
     ensures { IfOk result (λ command. app_of command ≡ program_words) }
@@ -32,11 +45,15 @@ pub(crate) fn program_command<'a>(alloc: Global) -> Result<Command<'a>, AllocErr
     let explain = explain_command(alloc)?;
     let ask = ask_command(alloc)?;
     Command::new(alloc, "omptask")
-        .about("What omptaskd refuses, said in words, and a client for people")
+        .about(
+            "What omptaskd refuses, said in words, its runs as graphs and in C, and a client for people",
+        )
         .version(VERSION)
         .subcommand_required(true)
         .subcommand(explain)?
-        .subcommand(ask)
+        .subcommand(ask)?
+        .subcommand(graph_command(alloc))?
+        .subcommand(c_command(alloc))
 }
 
 fn explain_command<'a>(alloc: Global) -> Result<Command<'a>, AllocError>
@@ -58,6 +75,24 @@ fn ask_command<'a>(alloc: Global) -> Result<Command<'a>, AllocError>
         .after_help(ASK_HELP)
         .arg(socket_arg(alloc))?
         .arg(name_arg(alloc))
+}
+
+fn graph_command<'a>(alloc: Global) -> Command<'a>
+    ensures words { shape_of result ≡ graph_words }
+    ensures own { (fields_of result).has_globals ≡ false }
+{
+    Command::new(alloc, "graph")
+        .about("Draw the last run of a session as a task graph")
+        .after_help(GRAPH_HELP)
+}
+
+fn c_command<'a>(alloc: Global) -> Command<'a>
+    ensures words { shape_of result ≡ c_words }
+    ensures own { (fields_of result).has_globals ≡ false }
+{
+    Command::new(alloc, "c")
+        .about("Write the last run of a session as C with OpenMP")
+        .after_help(C_HELP)
 }
 
 fn code_arg<'a>(alloc: Global) -> Arg<'a>

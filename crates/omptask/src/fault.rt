@@ -1,9 +1,10 @@
 //! What the program tells of a fault.
 ghost use Rattle.std.specs.Prelude.{◌≡◌};
-ghost use Rattle.omptask.specs.Faults.{fault_of, fault_of_session, line_of};
+ghost use Rattle.omptask.specs.Faults.{fault_of, fault_of_last, fault_of_session, line_of};
 
 use ot_ask::AskFault;
 use ot_front::FrontFault;
+use ot_last::LastFault;
 
 /// What went wrong, one variant for each line that the program may print.
 #[derive(Clone, Copy, Debug, PartialEq, Eq)]
@@ -18,6 +19,10 @@ pub enum Fault {
     Closed,
     /// There is no such code.
     UnknownCode,
+    /// A line of the session isn't taken: the first one, counted from 1.
+    BadLine(u64),
+    /// The session runs no program.
+    NoRun,
     /// Nobody answers at the socket.
     SocketFailed,
     /// Standard input could not be read.
@@ -64,7 +69,22 @@ impl From<FrontFault> for Fault {
     }
 }
 
-/// The line that the program prints, without the line feed. Its status is 1.
+impl From<LastFault> for Fault {
+    ghost from_gives = { λ fault f. f ≡ fault_of_last fault };
+
+    fn from(fault: LastFault) -> Fault {
+        match fault {
+            LastFault::NoRun => Fault::NoRun,
+            LastFault::BadLine(number) => Fault::BadLine(number),
+            LastFault::ReadFailed => Fault::ReadFailed,
+            LastFault::TooManyReads => Fault::TooManyReads,
+            LastFault::Memory => Fault::Memory,
+        }
+    }
+}
+
+/// The line that the program prints, without the line feed; behind that of a bad line stands its number. Its
+/// status is 1.
 pub fn fault_line(fault: &Fault) -> &'static str
     ensures { result.now ≡ line_of fault.now }
 {
@@ -74,6 +94,8 @@ pub fn fault_line(fault: &Fault) -> &'static str
         Fault::StrangeGreeting => "omptask: strange greeting",
         Fault::Closed => "omptask: closed",
         Fault::UnknownCode => "omptask: unknown code",
+        Fault::BadLine(_) => "omptask: bad line",
+        Fault::NoRun => "omptask: no run",
         Fault::SocketFailed => "omptask: socket failed",
         Fault::ReadFailed => "omptask: read failed",
         Fault::WriteFailed => "omptask: write failed",

@@ -19,8 +19,11 @@ pub use command_line::words;
 pub use ended::Ended;
 pub use fault::{Fault, fault_line};
 use ot_ask::{Asked, ask};
+use ot_c::c_text;
 use ot_explain::{Explained, code_page, explain};
 use ot_front::{Reading, Writing, write_whole};
+use ot_graph::draw;
+use ot_last::last_run;
 use std::alloc::Global;
 use std::env::Env;
 use std::io::BufReader;
@@ -31,6 +34,9 @@ use std::{env, io};
 
 /// How many bytes of a server's replies are read at a time.
 const READ_SIZE: usize = 65_536;
+
+/// Above how many tasks their number is told.
+const MANY_TASKS: u32 = 200;
 
 fn main(rt: HostRuntime) -> ExitCode {
     let alloc = rt.alloc();
@@ -69,6 +75,8 @@ fn run<R: Input + Print + Eprint + Net>(rt: &R, alloc: Global, given: &[&str]) -
         Words::Ask(asked) => ask_server(rt, alloc, &asked),
         Words::Explain(None) => explain_session(rt, alloc),
         Words::Explain(Some(code)) => explain_code(rt, alloc, code),
+        Words::Graph => draw_run(rt, alloc),
+        Words::C => write_run(rt, alloc),
     };
     match ended {
         Ok(ended) => status_of(ended),
@@ -113,6 +121,41 @@ fn explain_code<R: Print>(rt: &R, alloc: Global, code: u32) -> Result<Ended, Fau
         Ok(None) => return Err(Fault::UnknownCode),
         Err(_) => return Err(Fault::Memory),
     };
+    print_text(rt, text.as_str())
+}
+
+/// Prints the last run of the session on standard input as a task graph, and tells how large a large one is.
+fn draw_run<R: Input + Print + Eprint>(rt: &R, alloc: Global) -> Result<Ended, Fault> {
+    let drawing = match draw(alloc, &mut Reading::new(rt.reader())) {
+        Ok(drawing) => drawing,
+        Err(fault) => return Err(Fault::from(fault)),
+    };
+    if drawing.tasks > MANY_TASKS {
+        let _ = eprintln!(rt; "omptask: {} tasks", drawing.tasks);
+    }
+    print_text(rt, drawing.text.as_str())
+}
+
+/// Prints the last run of the session on standard input as C with OpenMP.
+fn write_run<R: Input + Print>(rt: &R, alloc: Global) -> Result<Ended, Fault> {
+    let last = match last_run(alloc, &mut Reading::new(rt.reader())) {
+        Ok(last) => last,
+        Err(fault) => return Err(Fault::from(fault)),
+    };
+    let program = &last.spec.checked().program;
+    match c_text(
+        alloc,
+        program,
+        last.arrays.as_slice(),
+        last.spec.before().arrays(),
+    ) {
+        Ok(text) => print_text(rt, text.as_str()),
+        Err(_) => Err(Fault::Memory),
+    }
+}
+
+/// Prints a text.
+fn print_text<R: Print>(rt: &R, text: &str) -> Result<Ended, Fault> {
     match write_whole(&mut Writing::new(io::writer(rt)), text.as_bytes()) {
         Ok(()) => Ok(Ended::Well),
         Err(_) => Err(Fault::WriteFailed),
@@ -168,6 +211,9 @@ fn tell(rt: &impl Eprint, fault: &Fault) -> ExitCode
     ensures { exit_status result ≡ 1 }
 {
     let line = fault_line(fault);
-    let _ = eprintln!(rt; "{line}");
+    let _ = match fault {
+        Fault::BadLine(number) => eprintln!(rt; "{line} {number}"),
+        _ => eprintln!(rt; "{line}"),
+    };
     ExitCode::from(1)
 }

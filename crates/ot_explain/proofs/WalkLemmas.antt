@@ -1,9 +1,9 @@
 -- Steps of the walk: what it carries, and where it comes.
 use Rattle.std.proofs.Common.{◌≡◌, ℕ, ◌+◌, ◌++◌, true, false, not, ◌||◌, List, [], ◌∷◌, refl, sym, ap, subst, inl, inr, ◌∙◌, append_assoc, append-nil}
-use Rattle.std.specs.Prelude.{Some, None, Result, Ok, Err, IfErr}
+use Rattle.std.specs.Prelude.{⊤, Option, Some, None, Result, Ok, Err, IfSome, IfErr}
 use Rattle.std.specs.List.{list_any}
 use Rattle.std.proofs.lemmas.List.Folds.{list_any-append}
-use Rattle.ot_model.specs.Tree.{E, S, Set, Add, If, Task, Group, Body, End, Next}
+use Rattle.ot_model.specs.Tree.{E, S, Set, Add, If, Task, Wait, Group, Body, End, Next}
 use Rattle.ot_model.specs.Counts.{size, size_one}
 use Rattle.ot_model.specs.declared.expr.Cell.{Cell}
 use Rattle.ot_model.specs.declared.stmt.Use.{Use}
@@ -13,8 +13,9 @@ use Rattle.ot_check.specs.walk.Walk.{through}
 use Rattle.ot_check.proofs.Bits.{and_true, and_left, and_right, true_not, not_true, false_or, or_none}
 use Rattle.ot_check.proofs.Steps.{IsClosed, closed_of, within-closed, touched-balanced, touched-waits, passes_one-closed}
 use Rattle.ot_check.proofs.After.{some_path, some_path_one, after-to_one}
-use Rattle.ot_explain.specs.Races.{IsPending, Somewhere}
-use Rattle.ot_explain.specs.Walk.{Pending, Carried, Carries, Reaches, Comes, Arrives, ArrivesOne}
+use Rattle.ot_explain.specs.declared.child.Child.{Child}
+use Rattle.ot_explain.specs.Races.{IsPending, Stands, Somewhere, InTask, InTaskOne, IsAt}
+use Rattle.ot_explain.specs.Walk.{Pending, pending_of, Carried, Carries, Reaches, Comes, Arrives, ArrivesOne}
 
 -- ---- who stays pending
 
@@ -131,10 +132,9 @@ reaches-before Path Whole p place x now last whole reaches steps h =
     )
 
 comes_of : (place : ℕ) (x : S) (now : Pending) (k : ℕ) (b : Body) → Reaches (Passes k b) None place x now → Comes place x now k b
-comes_of place x None k b reaches = tt
-comes_of place x (Some child) k b reaches =
+comes_of place x now k b reaches =
     let (ahead, own, later, way, stands, held) = reaches [] tt in
-    record { before = ahead; own = own; later = later; passes = way; stands = stands; pending = held }
+    record { before = ahead; own = own; later = later; passes = way; stands = stands; holds = held }
 
 pub somewhere_of : (place : ℕ) (x : S) (now : Pending) (k : ℕ) (b : Body) → Arrives k b None place x now → Somewhere (Comes place x now) k b
 somewhere_of place x now k b (inl reaches) = inl (comes_of place x now k b reaches)
@@ -183,6 +183,38 @@ arrives-later k y rest p q place x now carries (inl reaches) =
     inl (reaches-behind (Passes (k + size_one y) rest) (Passes k (Next y rest)) p q place x now
     (λ steps h. let a = carries steps h in (a.0, a.2, λ path way. (a.0, path, refl, a.1, way))) reaches)
 arrives-later k y rest p q place x now carries (inr inside) = inr (inr inside)
+
+-- ---- that the statement stands there
+
+stands_at : (place : ℕ) (x : S) (now : Pending) (k : ℕ) (b : Body) → Comes place x now k b → Stands place x (λ steps. ⊤) k b
+stands_at place x now k b h = record { before = h.before; own = h.own; later = h.later; passes = h.passes; stands = h.stands; holds = tt }
+
+mutual
+  in_task_one : (P Q : ℕ → Body → Type 0) → ((k : ℕ) (b : Body) → P k b → Q k b) → (k : ℕ) (x : S) → InTaskOne P k x → InTaskOne Q k x
+  in_task_one P Q more k (Set c e) h = absurd h
+  in_task_one P Q more k (Add c e) h = absurd h
+  in_task_one P Q more k (If e a b) (inl h) = inl (in_task P Q more (k + 1) a h)
+  in_task_one P Q more k (If e a b) (inr h) = inr (in_task P Q more (k + 1 + size a) b h)
+  in_task_one P Q more k (Task d b) (inl h) = inl (more (k + 1) b h)
+  in_task_one P Q more k (Task d b) (inr h) = inr (in_task P Q more (k + 1) b h)
+  in_task_one P Q more k Wait h = absurd h
+  in_task_one P Q more k (Group cs b) h = in_task P Q more (k + 1) b h
+
+  in_task : (P Q : ℕ → Body → Type 0) → ((k : ℕ) (b : Body) → P k b → Q k b) → (k : ℕ) (b : Body) → InTask P k b → InTask Q k b
+  in_task P Q more k End h = absurd h
+  in_task P Q more k (Next x rest) (inl h) = inl (in_task_one P Q more k x h)
+  in_task P Q more k (Next x rest) (inr h) = inr (in_task P Q more (k + size_one x) rest h)
+
+-- the walk came to it
+pub is_at_of : (place : ℕ) (x : S) (now : Pending) (b : Body) → Arrives 1 b None place x now → IsAt place x b
+is_at_of place x now b (inl reaches) = inl (stands_at place x now 1 b (comes_of place x now 1 b reaches))
+is_at_of place x now b (inr inside) = inr (in_task (Comes place x now) (Stands place x (λ steps. ⊤)) (stands_at place x now) 1 b inside)
+
+-- a child that is carried to the end of a body
+pub pending_at_end : (k : ℕ) (b : Body) (child : Option Child) → Carries (Passes k b) None (pending_of child)
+    → IfSome child (λ c. (path : List Step) × Passes k b path × IsPending path c.place c.decl.now)
+pending_at_end k b None carries = tt
+pending_at_end k b (Some c) carries = carries [] tt
 
 pub if_err : {A E : Type 0} (r : Result A E) (P Q : E → Type 0) → ((x : E) → P x → Q x) → IfErr r P → IfErr r Q
 if_err (Ok x) P Q f h = h

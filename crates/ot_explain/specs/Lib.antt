@@ -1,2 +1,4 @@
 pub mod Races
 pub mod Walk
+pub mod Remarks
+pub mod Explaining

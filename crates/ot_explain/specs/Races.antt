@@ -1,5 +1,5 @@
--- Which child is pending where a statement stands, and where the two conflict.
-use Rattle.std.specs.Prelude.{◌≡◌, ℕ, ◌+◌, ◌++◌, ◌⊎◌, Bool, true, not, ◌&&◌, List, ◌∷◌, map}
+-- Which child is pending where a statement stands or a task ends, and where the two conflict.
+use Rattle.std.specs.Prelude.{◌≡◌, ℕ, ◌+◌, ◌++◌, ◌⊎◌, ⊤, Bool, true, not, ◌&&◌, List, ◌∷◌, map}
 use Rattle.std.specs.List.{list_any}
 use Rattle.ot_model.specs.Tree.{S, Set, Add, If, Task, Wait, Group, Body, End, Next}
 use Rattle.ot_model.specs.Cells.{same_cell}
@@ -23,14 +23,18 @@ pub record IsPending (steps : List Step) (child : ℕ) (declared : List Use) : T
   pub created : steps ≡ before ++ At child (Create declared) ∷ behind
   pub unawaited : awaits_none behind ≡ true
 
--- on some path of the body the statement stands at the place, and the child is unawaited before it
-pub record Meets (place : ℕ) (x : S) (child : ℕ) (declared : List Use) (k : ℕ) (body : Body) : Type 0 where
+-- on some path of the body the statement stands at the place, and this holds of the steps before it
+pub record Stands (place : ℕ) (x : S) (Before : List Step → Type 0) (k : ℕ) (body : Body) : Type 0 where
   pub before : List Step
   pub own : List Step
   pub later : List Step
   pub passes : Passes k body (before ++ (own ++ later))
   pub stands : PassesOne place x own
-  pub pending : IsPending before child declared
+  pub holds : Before before
+
+-- on some path of the body the statement stands at the place, and the child is unawaited before it
+abbrev pub Meets : ℕ → S → ℕ → List Use → ℕ → Body → Type 0
+Meets place x child declared = Stands place x (λ steps. IsPending steps child declared)
 
 -- P holds of the body of a task that stands in a body, however deep
 abbrev mutual
@@ -50,6 +54,10 @@ abbrev mutual
 abbrev pub Somewhere : (ℕ → Body → Type 0) → ℕ → Body → Type 0
 Somewhere P k body = P k body ⊎ InTask P k body
 
+-- the statement stands at the place in a body, or in that of a task in it
+abbrev pub IsAt : ℕ → S → Body → Type 0
+IsAt place x body = Somewhere (Stands place x (λ steps. ⊤)) 1 body
+
 -- ---- where they conflict
 
 -- what a statement itself uses; a group that names cells writes them
@@ -65,3 +73,14 @@ conflicts_at cell x declared = list_any (λ u. same_cell u.cell cell && clashes 
 pub record Races (body : Body) (place : ℕ) (x : S) (child : ℕ) (declared : List Use) (cell : Cell) : Type 0 where
   pub meets : Somewhere (Meets place x child declared) 1 body
   pub conflicts : conflicts_at cell x declared ≡ true
+
+-- ---- who is left
+
+-- In the program a task stands at the place, and some path through its body ends with the child unawaited.
+pub record Leaves (body : Body) (place : ℕ) (child : ℕ) (declared : List Use) : Type 0 where
+  pub uses : List Use
+  pub inside : Body
+  pub task : IsAt place (Task uses inside) body
+  pub path : List Step
+  pub passes : Passes (place + 1) inside path
+  pub pending : IsPending path child declared

@@ -7,7 +7,7 @@ use Rattle.ot_model.specs.declared.expr.Cell.{Cell}
 use Rattle.ot_model.specs.declared.stmt.Mode.{Mode}
 use Rattle.ot_model.specs.declared.stmt.Use.{Use}
 use Rattle.ot_check.specs.Paths.{Step, PassesOne, Passes}
-use Rattle.ot_explain.specs.Races.{IsPending, Meets, InTask, InTaskOne}
+use Rattle.ot_explain.specs.Races.{IsPending, Stands, InTask, InTaskOne}
 use Rattle.ot_explain.specs.declared.child.Child.{Child}
 
 -- the place and the declaration of a child, where there is one
@@ -32,10 +32,9 @@ Reaches Path before place x now =
     (steps : List Step) → Carried steps before
     → (ahead : List Step) × (own : List Step) × (later : List Step) × Path (ahead ++ (own ++ later)) × PassesOne place x own × Carried (steps ++ ahead) now
 
--- the same where no child need be pending
+-- some path of a body comes to the statement with the one pending
 abbrev pub Comes : ℕ → S → Pending → ℕ → Body → Type 0
-Comes place x None k body = Unit {0}
-Comes place x (Some child) k body = Meets place x child.0 child.1 k body
+Comes place x now = Stands place x (λ steps. Carried steps now)
 
 -- a walk from a body's first statement on comes to the statement, in the body or in a task in it
 abbrev pub Arrives : ℕ → Body → Pending → ℕ → S → Pending → Type 0

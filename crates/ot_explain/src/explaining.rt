@@ -1,12 +1,16 @@
 //! A session with remarks behind its refusals.
-ghost use Rattle.std.specs.Prelude.{◌≡◌, ◌<◌, None, length};
+ghost use Rattle.std.specs.Prelude.{◌≡◌, ◌<◌, ◌≤◌, ◌++◌, ◌∷◌, [], ℕ, List, Option, None, Ok, Err, length, OnOk, IfOk, IfErr};
+ghost use Rattle.ot_book.specs.Books.{Register, next_number};
+ghost use Rattle.ot_front.specs.Heard.{HasNoEnd};
+ghost use Rattle.ot_front.specs.declared.fault.End.{End};
+ghost use Rattle.ot_explain.specs.Explaining.{beginner, Explains, Explaining, GoesOn, Served, stop_of};
 
-use crate::remarks::remarks_on_last;
+use crate::telling::{tell_last, tell_long};
 use memchr::memchr;
 use ot_book::{Book, Solo};
-use ot_front::{End, FrontFault, Reading, Sink, Source, Writing, serve, write_whole};
+use ot_front::{End, FrontFault, Reading, Sink, Source, serve};
 use ot_store::{Limits, Store};
-use std::alloc::Global;
+use std::alloc::{AllocError, Global};
 
 /// How many bytes a line may have, without its LF.
 const MAX_LINE: usize = 65_536;
@@ -40,7 +44,12 @@ pub fn explain<R: Source, W: Sink>(
     alloc: Global,
     source: &mut R,
     sink: &mut W,
-) -> Result<Explained, FrontFault> {
+) -> Result<Explained, FrontFault>
+    ensures ended { IfOk result (λ said. (new : Register) × (end : End) × Explains beginner new
+        (R.ahead source.old) (R.ahead source.new) (R.latest source.new) (W.contents sink.old) (W.contents sink.new) (Ok end)) }
+    ensures failed { IfErr result (λ fault. (new : Register) × Explains beginner new
+        (R.ahead source.old) (R.ahead source.new) (R.latest source.new) (W.contents sink.old) (W.contents sink.new) (Err fault)) }
+{
     let Ok(book) = Book::new(alloc, "t1", Limits::usual(), Store::empty(alloc)) else {
         return Err(FrontFault::Memory);
     };
@@ -52,7 +61,10 @@ pub fn explain<R: Source, W: Sink>(
         partial: Vec::new(alloc),
         said: Explained::AllTaken,
     };
-    converse(alloc, &mut talk, source, sink, room.as_mut_slice())
+    match converse(alloc, &mut talk, source, sink, room.as_mut_slice()) {
+        Ok(_) => Ok(talk.said),
+        Err(fault) => Err(fault),
+    }
 }
 
 /// Serves a session that reads into `room`.
@@ -62,107 +74,142 @@ fn converse<R: Source, W: Sink>(
     source: &mut R,
     sink: &mut W,
     room: &mut [u8],
-) -> Result<Explained, FrontFault>
-    requires { 0 < length room.old }
+) -> Result<End, FrontFault>
+    requires room { 0 < length room.old }
+    requires begins { talk.old.partial.items ≡ [] }
+    ensures { Explains talk.old.book talk.new.book (R.ahead source.old) (R.ahead source.new) (R.latest source.new)
+        (W.contents sink.old) (W.contents sink.new) result }
 {
     for _ in 0..MAX_READS {
         let Ok(count) = source.read(room) else {
             return Err(FrontFault::ReadFailed);
         };
         if count == 0 {
-            return Ok(talk.said);
+            return Ok(End::EndOfInput);
         }
-        match take_chunk(alloc, talk, sink, &room[..count]) {
-            Ok(true) => {}
-            Ok(false) => return Ok(talk.said),
-            Err(fault) => return Err(fault),
+        if let Some(ended) = take_chunk(alloc, talk, sink, &room[..count]) {
+            return ended;
         }
     }
     Err(FrontFault::TooManyTurns)
 }
 
-/// The bytes of one read. It answers whether the session goes on.
+/// The bytes of one read. It answers how the session ends, where it ends in them.
 fn take_chunk<W: Sink>(
     alloc: Global,
     talk: &mut Talk,
     sink: &mut W,
     chunk: &[u8],
-) -> Result<bool, FrontFault> {
+) -> Option<Result<End, FrontFault>>
+    ensures goes { (first : Register) (start : Option (List ℕ)) (bytes : List ℕ) →
+        Explaining first start bytes talk.old.partial.items talk.old.book (W.contents sink.old) →
+        GoesOn first start (bytes ++ chunk.now) talk.new.partial.items talk.new.book (W.contents sink.new) result }
+    ensures grows { next_number talk.old.book ≤ next_number talk.new.book }
+{
     let mut rest = chunk;
     while let Some(at) = memchr(b'\n', rest) {
         let (piece, behind) = rest.split_at(at);
         let (_, after) = behind.split_at(1);
-        if talk.partial.extend_from_slice(piece).is_err() || talk.partial.push(b'\n').is_err() {
-            return Err(FrontFault::Memory);
-        }
-        match take_line(alloc, talk, sink) {
-            Ok(true) => {}
-            Ok(false) => return Ok(false),
-            Err(fault) => return Err(fault),
+        if let Some(ended) = take_line(alloc, talk, sink, piece) {
+            return Some(ended);
         }
         rest = after;
     }
-    if talk.partial.extend_from_slice(rest).is_err() {
-        return Err(FrontFault::Memory);
-    }
-    if talk.partial.len() <= MAX_LINE {
-        return Ok(true);
-    }
-    take_line(alloc, talk, sink)
+    take_rest(talk, sink, rest)
 }
 
-/// A line with its LF, or the beginning of a line that is too long.
-fn take_line<W: Sink>(alloc: Global, talk: &mut Talk, sink: &mut W) -> Result<bool, FrontFault> {
-    let mut source = Reading::new(talk.partial.as_slice());
-    let ended = serve(alloc, &mut talk.book, &mut Solo, &mut source, sink);
-    match ended {
-        Ok(End::EndOfInput) => {}
-        Ok(End::Closed) => return Err(FrontFault::Stranger),
-        Ok(_) => return Ok(false),
-        Err(fault) => return Err(fault),
+/// The last piece of a line, behind which its LF stands.
+fn take_line<W: Sink>(
+    alloc: Global,
+    talk: &mut Talk,
+    sink: &mut W,
+    piece: &[u8],
+) -> Option<Result<End, FrontFault>>
+    requires { HasNoEnd piece.now }
+    ensures goes { (first : Register) (start : Option (List ℕ)) (bytes : List ℕ) →
+        Explaining first start bytes talk.old.partial.items talk.old.book (W.contents sink.old) →
+        GoesOn first start (bytes ++ (piece.now ++ 10 ∷ [])) talk.new.partial.items talk.new.book (W.contents sink.new) result }
+    ensures grows { next_number talk.old.book ≤ next_number talk.new.book }
+{
+    if let Err(_) = put_end(&mut talk.partial, piece) {
+        return Some(Err(FrontFault::Memory));
+    }
+    if let Some(ended) = serve_line(alloc, &mut talk.book, sink, talk.partial.as_slice()) {
+        return Some(ended);
     }
     talk.partial.clear();
-    let Ok(remarks) = remarks_on_last(alloc, &talk.book) else {
-        return Err(FrontFault::Memory);
-    };
-    let Some(remarks) = remarks else {
-        return Ok(true);
-    };
-    talk.said = Explained::SomeRefused;
-    match write_remarks(alloc, sink, remarks.as_bytes()) {
-        Ok(()) => Ok(true),
-        Err(fault) => Err(fault),
+    match tell_last(alloc, &talk.book, sink) {
+        Ok(refused) => {
+            if refused {
+                talk.said = Explained::SomeRefused;
+            }
+            None
+        }
+        Err(fault) => Some(Err(fault)),
     }
 }
 
-/// Writes each line of a text behind `# `, and ends it by one LF.
-fn write_remarks<W: Sink>(alloc: Global, sink: &mut W, text: &[u8]) -> Result<(), FrontFault> {
-    let Ok(remarks) = remarked(alloc, text) else {
-        return Err(FrontFault::Memory);
-    };
-    match write_whole(sink, remarks.as_slice()) {
-        Ok(()) => Ok(()),
-        Err(_) => Err(FrontFault::WriteFailed),
-    }
-}
-
-/// Each line of a text behind `# `.
-fn remarked(alloc: Global, text: &[u8]) -> Result<Vec<u8>, std::alloc::AllocError> {
-    let mut out = Vec::new(alloc);
-    let mut rest = text;
-    while let Some(at) = memchr(b'\n', rest) {
-        let (line, behind) = rest.split_at(at);
-        let (_, after) = behind.split_at(1);
-        put_remark(&mut out, line)?;
-        rest = after;
-    }
-    put_remark(&mut out, rest)?;
-    Ok(out)
-}
-
-fn put_remark(out: &mut Vec<u8>, line: &[u8]) -> Result<(), std::alloc::AllocError> {
-    out.extend_from_slice(b"# ".as_slice())?;
-    out.extend_from_slice(line)?;
-    out.push(b'\n')?;
+/// Puts the last piece of a line and its LF behind what has begun.
+fn put_end(partial: &mut Vec<u8>, piece: &[u8]) -> Result<(), AllocError>
+    ensures { OnOk result (partial.new.items ≡ partial.old.items ++ (piece.now ++ 10 ∷ [])) }
+{
+    partial.extend_from_slice(piece)?;
+    partial.push(b'\n')?;
     Ok(())
+}
+
+/// A piece of a line, without its LF.
+fn take_rest<W: Sink>(
+    talk: &mut Talk,
+    sink: &mut W,
+    piece: &[u8],
+) -> Option<Result<End, FrontFault>>
+    requires { HasNoEnd piece.now }
+    ensures goes { (first : Register) (start : Option (List ℕ)) (bytes : List ℕ) →
+        Explaining first start bytes talk.old.partial.items talk.old.book (W.contents sink.old) →
+        GoesOn first start (bytes ++ piece.now) talk.new.partial.items talk.new.book (W.contents sink.new) result }
+    ensures grows { talk.new.book ≡ talk.old.book }
+{
+    if talk.partial.len() + piece.len() > MAX_LINE {
+        return Some(tell_long(sink));
+    }
+    match talk.partial.extend_from_slice(piece) {
+        Ok(()) => None,
+        Err(_) => Some(Err(FrontFault::Memory)),
+    }
+}
+
+/// Serves a line as a session of its own. It answers how that ends, where it ends the whole session.
+fn serve_line<W: Sink>(
+    alloc: Global,
+    book: &mut Book,
+    sink: &mut W,
+    line: &[u8],
+) -> Option<Result<End, FrontFault>>
+    requires { book.old.pending ≡ None }
+    ensures served { Served book.old book.new line.now (W.contents sink.old) (W.contents sink.new) result }
+    ensures closed { book.new.pending ≡ None }
+{
+    let mut source = Reading::new(line);
+    let ended = serve(alloc, book, &mut Solo, &mut source, sink);
+    stop_of(ended)
+}
+
+/// How a session over a line ends the whole one, where it does. A line in memory can be read, and in a few reads.
+fn stop_of(ended: Result<End, FrontFault>) -> Option<Result<End, FrontFault>>
+    ensures { result ≡ stop_of ended }
+{
+    match ended {
+        Ok(End::EndOfInput) => None,
+        Ok(End::Bye) => Some(Ok(End::Bye)),
+        Ok(End::Full) => Some(Ok(End::Full)),
+        Ok(End::LongLine) => Some(Ok(End::LongLine)),
+        Ok(End::Closed) => Some(Ok(End::Closed)),
+        Err(FrontFault::WriteFailed) => Some(Err(FrontFault::WriteFailed)),
+        Err(FrontFault::Stranger) => Some(Err(FrontFault::Stranger)),
+        Err(FrontFault::Memory)
+        | Err(FrontFault::ReadFailed)
+        | Err(FrontFault::TooManyTurns)
+        | Err(FrontFault::SocketFailed) => Some(Err(FrontFault::Memory)),
+    }
 }

@@ -1,66 +1,41 @@
 //! The child that a task's body leaves unawaited.
+ghost use Rattle.std.specs.Prelude.{◌≡◌, ◌+◌, ◌<◌, ◌^◌, List, IfSome};
+ghost use Rattle.ot_model.specs.Tree.{Task};
+ghost use Rattle.ot_model.specs.View.{stmt_of, stmts_of};
+ghost use Rattle.ot_model.specs.Counts.{size};
+ghost use Rattle.ot_check.specs.Paths.{Step, Passes};
+ghost use Rattle.ot_explain.specs.Races.{IsPending, Leaves};
+
 use crate::child::Child;
-use crate::through::through;
+use crate::race::statement_at;
+use crate::walk::{Search, walk};
+use crate::wanted::Wanted;
 use ot_model::Stmt;
 
-/// The next place, and a child that may be unawaited before it.
-#[derive(Clone, Copy, Debug)]
-struct After<'a> {
-    next: u32,
-    child: Option<Child<'a>>,
-}
-
-/// A child that may be unawaited where the body of the task at this place ends.
-pub(crate) fn find_left<'a>(place: u32, body: &'a Vec<Stmt>) -> Option<Child<'a>> {
-    let begin = After {
-        next: place.saturating_add(1),
-        child: None,
-    };
-    pass(body, begin).child
-}
-
-/// What is so behind a body.
-#[cycle(pass)]
-fn pass<'a>(body: &'a Vec<Stmt>, before: After<'a>) -> After<'a> {
-    let mut after = before;
-    for stmt in body {
-        after = pass_one(stmt, after);
+/// A child that the task at a place of a program may leave: it is unawaited at the end of some path through
+/// the task's body.
+pub(crate) fn find_left<'a>(body: &'a Vec<Stmt>, place: u32) -> Option<Child<'a>>
+    requires short { 1 + size (stmts_of body.now.items) < 2 ^ 32 }
+    ensures { IfSome result (λ child. Leaves (stmts_of body.now.items) place child.place child.decl.now) }
+{
+    match statement_at(body, place) {
+        Some(Stmt::Task(_, inside)) => find_pending(inside, place + 1),
+        _ => None,
     }
-    after
 }
 
-#[cycle(pass)]
-fn pass_one<'a>(stmt: &'a Stmt, before: After<'a>) -> After<'a> {
-    let place = before.next;
-    let inside = After {
-        next: place.saturating_add(1),
-        child: before.child,
+/// A child that is unawaited at the end of some path through a body whose first statement has this place.
+fn find_pending<'a>(body: &'a Vec<Stmt>, place: u32) -> Option<Child<'a>>
+    requires short { place + size (stmts_of body.now.items) < 2 ^ 32 }
+    ensures { IfSome result (λ child. (path : List Step) × Passes place (stmts_of body.now.items) path × IsPending path child.place child.decl.now) }
+{
+    // A walk to a place that no statement has goes through the whole body.
+    let search = Search {
+        place: 0,
+        wanted: Wanted::Each,
     };
-    match stmt {
-        Stmt::Set(_, _) | Stmt::Add(_, _) => inside,
-        Stmt::If(_, one, two) => {
-            let first = pass(one, inside);
-            let other = After {
-                next: first.next,
-                child: before.child,
-            };
-            let second = pass(two, other);
-            After {
-                next: second.next,
-                child: second.child.or(first.child),
-            }
-        }
-        Stmt::Task(decl, body) => After {
-            next: pass(body, inside).next,
-            child: Some(Child { place, decl }),
-        },
-        Stmt::Wait => After {
-            next: inside.next,
-            child: None,
-        },
-        Stmt::Group(_, body) => After {
-            next: pass(body, inside).next,
-            child: if through(body) { before.child } else { None },
-        },
+    match walk(body, &search, place, None) {
+        Ok(behind) => behind.child,
+        Err(_) => None,
     }
 }

@@ -1,8 +1,8 @@
 //! The child with which a statement conflicts.
-ghost use Rattle.std.specs.Prelude.{◌≡◌, ◌+◌, ◌<◌, ◌^◌, IfSome, true};
+ghost use Rattle.std.specs.Prelude.{◌≡◌, ◌+◌, ◌<◌, ◌≤◌, ◌^◌, IfSome, true};
 ghost use Rattle.ot_model.specs.View.{stmt_of, stmts_of};
-ghost use Rattle.ot_model.specs.Counts.{size};
-ghost use Rattle.ot_explain.specs.Races.{Races, conflicts_at};
+ghost use Rattle.ot_model.specs.Counts.{size, size_one};
+ghost use Rattle.ot_explain.specs.Races.{IsAt, Races, conflicts_at};
 
 use crate::child::Child;
 use crate::touch::conflicts_at;
@@ -21,6 +21,8 @@ pub(crate) struct Race<'a> {
 /// The statement at a place of a program.
 pub(crate) fn statement_at<'a>(body: &'a Vec<Stmt>, place: u32) -> Option<&'a Stmt>
     requires short { 1 + size (stmts_of body.now.items) < 2 ^ 32 }
+    ensures stands { IfSome result (λ stmt. IsAt place (stmt_of stmt.now) (stmts_of body.now.items)) }
+    ensures within { IfSome result (λ stmt. place + size_one (stmt_of stmt.now) ≤ 1 + size (stmts_of body.now.items)) }
 {
     let search = Search {
         place,

@@ -1,12 +1,12 @@
 //! What is said of a refusal, line by line.
 use crate::left::find_left;
-use crate::print::Printer;
 use crate::race::{find_race, statement_at};
 use crate::sentences::{page_of, wrong_in_program};
 use crate::wanted::{Touched, Wanted};
 use ot_book::{Book, Code, Entry, Told};
 use ot_check::Offence;
-use ot_model::{Program, Shape, Stmt};
+use ot_model::{Program, Shape};
+use ot_print::Printer;
 use ot_program::read_program;
 use serde_json::Value;
 use std::alloc::{AllocError, Global};
@@ -96,7 +96,7 @@ fn explained(
             let touched = Touched::by(alloc, shape.arrays(), stmt)?;
             conflict(&mut printer, program, place, Wanted::Touching(touched))?;
         }
-        Offence::EndsWithChildren => left(&mut printer, stmt, place)?,
+        Offence::EndsWithChildren => left(&mut printer, program, place)?,
         _ => printer.words(wrong_by(offence))?,
     }
     Ok(printer.into_text())
@@ -138,14 +138,12 @@ fn conflict(
     printer.task(race.child.decl)
 }
 
-fn left(printer: &mut Printer<'_>, stmt: &Stmt, place: u32) -> Result<(), AllocError> {
-    if let Stmt::Task(_, body) = stmt {
-        if let Some(child) = find_left(place, body) {
-            printer.words("can end before its child, statement ")?;
-            printer.number(u64::from(child.place))?;
-            printer.words(": ")?;
-            return printer.task(child.decl);
-        }
-    }
-    printer.words(wrong_by(Offence::EndsWithChildren))
+fn left(printer: &mut Printer<'_>, program: &Program, place: u32) -> Result<(), AllocError> {
+    let Some(child) = find_left(&program.body, place) else {
+        return printer.words(wrong_by(Offence::EndsWithChildren));
+    };
+    printer.words("can end before its child, statement ")?;
+    printer.number(u64::from(child.place))?;
+    printer.words(": ")?;
+    printer.task(child.decl)
 }

@@ -1,5 +1,5 @@
 //! A walk through a body to a statement of it, with a child that may be unawaited there.
-ghost use Rattle.std.specs.Prelude.{◌≡◌, ◌+◌, ◌<◌, ◌^◌, ◌⊎◌, IfOk, IfErr, List, Some, None, true};
+ghost use Rattle.std.specs.Prelude.{◌≡◌, ◌+◌, ◌<◌, ◌≤◌, ◌^◌, ◌⊎◌, IfOk, IfErr, List, Some, None, true};
 ghost use Rattle.ot_model.specs.Tree.{Task, Group};
 ghost use Rattle.ot_model.specs.declared.expr.Cell.{Cell};
 ghost use Rattle.ot_check.specs.walk.Walk.{through};
@@ -48,6 +48,7 @@ pub(crate) fn walk<'a>(
     ensures place { IfOk result (λ behind. behind.next ≡ place + size (stmts_of body.now.items)) }
     ensures carries { IfOk result (λ behind. Carries (Passes place (stmts_of body.now.items)) (pending_of child.entry) (pending_of behind.child)) }
     ensures arrives { IfErr result (λ at. Arrives place (stmts_of body.now.items) (pending_of child.entry) search.now.place (stmt_of at.stmt.now) (pending_of at.child)) }
+    ensures within { IfErr result (λ at. search.now.place + size_one (stmt_of at.stmt.now) ≤ place + size (stmts_of body.now.items)) }
 {
     let mut behind = Behind { next: place, child };
     for stmt in body {
@@ -70,6 +71,7 @@ fn walk_one<'a>(
     ensures place { IfOk result (λ behind. behind.next ≡ place + size_one (stmt_of stmt.now)) }
     ensures carries { IfOk result (λ behind. Carries (PassesOne place (stmt_of stmt.now)) (pending_of child.entry) (pending_of behind.child)) }
     ensures arrives { IfErr result (λ at. ArrivesOne place (stmt_of stmt.now) (pending_of child.entry) search.now.place (stmt_of at.stmt.now) (pending_of at.child)) }
+    ensures within { IfErr result (λ at. search.now.place + size_one (stmt_of at.stmt.now) ≤ place + size_one (stmt_of stmt.now)) }
 {
     if place == search.place {
         return Err(Arrived { stmt, child });
@@ -100,6 +102,7 @@ fn walk_other<'a>(
     ensures carries { IfOk result (λ behind. (pending_of behind.child ≡ pending_of first.entry.child)
         ⊎ Carries (Passes first.entry.next (stmts_of body.now.items)) (pending_of child.entry) (pending_of behind.child)) }
     ensures arrives { IfErr result (λ at. Arrives first.entry.next (stmts_of body.now.items) (pending_of child.entry) search.now.place (stmt_of at.stmt.now) (pending_of at.child)) }
+    ensures within { IfErr result (λ at. search.now.place + size_one (stmt_of at.stmt.now) ≤ first.entry.next + size (stmts_of body.now.items)) }
 {
     match walk(body, search, first.next, child) {
         Ok(second) => Ok(Behind {
@@ -133,6 +136,7 @@ fn walk_task<'a>(
     ensures place { IfOk result (λ behind. behind.next ≡ place + (1 + size (stmts_of body.now.items))) }
     ensures carries { IfOk result (λ behind. Carries (PassesOne place (Task decl.now (stmts_of body.now.items))) (pending_of child.entry) (pending_of behind.child)) }
     ensures arrives { IfErr result (λ at. ArrivesOne place (Task decl.now (stmts_of body.now.items)) (pending_of child.entry) search.now.place (stmt_of at.stmt.now) (pending_of at.child)) }
+    ensures within { IfErr result (λ at. search.now.place + size_one (stmt_of at.stmt.now) ≤ place + (1 + size (stmts_of body.now.items))) }
 {
     match walk(body, search, place + 1, None) {
         Ok(inside) => Ok(Behind {
@@ -171,6 +175,7 @@ fn walk_group<'a>(
     ensures place { IfOk result (λ behind. behind.next ≡ place + (1 + size (stmts_of body.now.items))) }
     ensures carries { (cells : List Cell) → IfOk result (λ behind. Carries (PassesOne place (Group cells (stmts_of body.now.items))) (pending_of child.entry) (pending_of behind.child)) }
     ensures arrives { (cells : List Cell) → IfErr result (λ at. ArrivesOne place (Group cells (stmts_of body.now.items)) (pending_of child.entry) search.now.place (stmt_of at.stmt.now) (pending_of at.child)) }
+    ensures within { IfErr result (λ at. search.now.place + size_one (stmt_of at.stmt.now) ≤ place + (1 + size (stmts_of body.now.items))) }
 {
     match walk(body, search, place + 1, child) {
         Ok(inside) => Ok(Behind {

@@ -7,6 +7,7 @@ pub mod RunLemmas
 pub mod SessionLemmas
 pub mod ChunkLemmas
 pub mod ServingLemmas
+pub mod StopLemmas
 pub mod DeskLemmas
 pub mod FirstLineLemmas
 pub mod GreetingLemmas

@@ -15,6 +15,8 @@ returns c =
     let required = ap app_of_fields {y = record (out-Command c.version.result) { subcommand_required = true }} c.subcommand_required.ensures in
     let top = required ∙ ap (on_top (λ (s : Shape). record s { subcommand_required = true })) versioned in
     let with_explain = c.in_ok-subcommand.ensures.shape c.in_ok-explain.ensures.own ∙ ap₂ with_subcommand top c.in_ok-explain.ensures.words in
-    IfOk-weaker c.subcommand-2.result _ _
-    (λ command added. added.shape c.in_ok-ask.ensures.own ∙ ap₂ with_subcommand with_explain c.in_ok-ask.ensures.words)
-    c.subcommand-2.ensures
+    let with_ask = c.in_ok-subcommand-2.ensures.shape c.in_ok-ask.ensures.own ∙ ap₂ with_subcommand with_explain c.in_ok-ask.ensures.words in
+    let with_graph = c.in_ok-subcommand-3.ensures.shape c.graph_command.ensures.own ∙ ap₂ with_subcommand with_ask c.graph_command.ensures.words in
+    IfOk-weaker c.subcommand-4.result _ _
+    (λ command added. added.shape c.c_command.ensures.own ∙ ap₂ with_subcommand with_graph c.c_command.ensures.words)
+    c.subcommand-4.ensures

@@ -22,6 +22,12 @@ walk-returns-in-Err-clause-arrives t c =
     (subst (λ body. Arrives c.loop-stmt.behind.next body p place here now) (sym rest)
     (arrives-next c.loop-stmt.behind.next x more p place here now c.in-Err.ensures.arrives))
 
+pub walk-returns-in-Err-clause-within : goal.walk-returns-in-Err-clause-within
+walk-returns-in-Err-clause-within t c =
+    let b = c.args.body.now.items in
+    let rest = rest_is c.deref-stmt-items.result.now b c.loop-stmt.stmt-index c.stmt-item.result c.deref-stmt-items.ensures.value c.loop-stmt-test.true c.stmt-item.is in
+    omega (arith, ap size rest, c.loop-stmt.invariant.0, c.in-Err.ensures.within)
+
 pub walk-loop-stmt-preserved : goal.walk-loop-stmt-preserved
 walk-loop-stmt-preserved t c =
     let b = c.args.body.now.items in

@@ -4,14 +4,15 @@ use std::alloc::{AllocError, Global};
 
 /// A text that is being written, with the arrays whose names it uses.
 #[derive(Drop)]
-pub(crate) struct Printer<'a> {
+pub struct Printer<'a> {
     alloc: Global,
     arrays: &'a [ArrayShape],
     text: String,
 }
 
 impl<'a> Printer<'a> {
-    pub(crate) fn new(alloc: Global, arrays: &'a [ArrayShape]) -> Printer<'a> {
+    /// No text yet. It takes no memory.
+    pub fn new(alloc: Global, arrays: &'a [ArrayShape]) -> Printer<'a> {
         Printer {
             alloc,
             arrays,
@@ -20,15 +21,17 @@ impl<'a> Printer<'a> {
     }
 
     /// The text so far.
-    pub(crate) fn into_text(self) -> String {
+    pub fn into_text(self) -> String {
         self.text
     }
 
-    pub(crate) fn words(&mut self, words: &str) -> Result<(), AllocError> {
+    /// These words as they are.
+    pub fn words(&mut self, words: &str) -> Result<(), AllocError> {
         self.text.push_str(words)
     }
 
-    pub(crate) fn number(&mut self, number: u64) -> Result<(), AllocError> {
+    /// A number in decimal.
+    pub fn number(&mut self, number: u64) -> Result<(), AllocError> {
         let digits = format!(in self.alloc; "{number}")?;
         self.text.push_str(digits.as_str())
     }
@@ -41,7 +44,7 @@ impl<'a> Printer<'a> {
     }
 
     /// `a[0]`.
-    pub(crate) fn cell(&mut self, cell: Cell) -> Result<(), AllocError> {
+    pub fn cell(&mut self, cell: Cell) -> Result<(), AllocError> {
         self.name(cell.array)?;
         self.words("[")?;
         self.number(u64::from(cell.index))?;
@@ -60,6 +63,12 @@ impl<'a> Printer<'a> {
         self.words("]")
     }
 
+    /// Cells with commas between them: those that stand in a row as one section, as `a[0:2], b[1]`.
+    pub fn cells(&mut self, cells: &[Cell]) -> Result<(), AllocError> {
+        let sections = sections_of(self.alloc, cells)?;
+        self.sections(&sections)
+    }
+
     fn sections(&mut self, sections: &[Section]) -> Result<(), AllocError> {
         let mut first = true;
         for section in sections {
@@ -73,7 +82,7 @@ impl<'a> Printer<'a> {
     }
 
     /// The statement itself, without its bodies.
-    pub(crate) fn statement(&mut self, stmt: &Stmt) -> Result<(), AllocError> {
+    pub fn statement(&mut self, stmt: &Stmt) -> Result<(), AllocError> {
         match stmt {
             Stmt::Set(cell, expr) => self.assignment(*cell, " = ", expr),
             Stmt::Add(cell, expr) => self.assignment(*cell, " += ", expr),
@@ -94,8 +103,8 @@ impl<'a> Printer<'a> {
         self.value(expr)
     }
 
-    /// A task with what it declares.
-    pub(crate) fn task(&mut self, decl: &Decl) -> Result<(), AllocError> {
+    /// A task with what it declares: `task in(a[0]) out(a[1])`.
+    pub fn task(&mut self, decl: &Decl) -> Result<(), AllocError> {
         self.words("task")?;
         self.clause(" in(", decl, Mode::Reads)?;
         self.clause(" out(", decl, Mode::Writes)?;
@@ -113,11 +122,9 @@ impl<'a> Printer<'a> {
         self.list(words, &sections)
     }
 
-    fn group(&mut self, cells: &[Cell]) -> Result<(), AllocError> {
-        let mut sections = Vec::new(self.alloc);
-        for cell in cells {
-            put_cell(&mut sections, *cell)?;
-        }
+    /// The beginning of a group: `taskgroup task_reduction(+: a[0])`.
+    pub fn group(&mut self, cells: &[Cell]) -> Result<(), AllocError> {
+        let sections = sections_of(self.alloc, cells)?;
         self.words("taskgroup")?;
         self.list(" task_reduction(+: ", &sections)
     }
@@ -131,8 +138,9 @@ impl<'a> Printer<'a> {
         self.words(")")
     }
 
+    /// A value: `a[0] + 2`.
     #[cycle(value)]
-    fn value(&mut self, expr: &Expr) -> Result<(), AllocError> {
+    pub fn value(&mut self, expr: &Expr) -> Result<(), AllocError> {
         match expr {
             Expr::Number(number) => self.number(*number),
             Expr::Cell(cell) => self.cell(*cell),
@@ -195,6 +203,15 @@ fn sign(op: Op) -> Result<&'static str, &'static str> {
         Op::Min => Err("min("),
         Op::Max => Err("max("),
     }
+}
+
+/// The cells as sections, those in a row as one.
+fn sections_of(alloc: Global, cells: &[Cell]) -> Result<Vec<Section>, AllocError> {
+    let mut sections = Vec::new(alloc);
+    for cell in cells {
+        put_cell(&mut sections, *cell)?;
+    }
+    Ok(sections)
 }
 
 /// Puts a cell behind the last section, or begins a new one with it.

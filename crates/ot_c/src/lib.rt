@@ -1,0 +1,11 @@
+//! A program over arrays as C with OpenMP, which prints what the program shows.
+#![tactic(auto)]
+
+mod array;
+mod clause;
+mod page;
+mod statement;
+mod value;
+mod whole;
+
+pub use whole::c_text;

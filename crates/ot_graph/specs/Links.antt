@@ -1,0 +1,31 @@
+-- Who of the children of one body waits for whom by itself.
+use Rattle.std.specs.Prelude.{◌≡◌, ℕ, suc, ◌==◌, ◌&&◌, Bool, false, cond, List, [], map, take, drop, slice_get, count_by, option_map, unwrap_or}
+use Rattle.ot_model.specs.declared.stmt.Use.{Use}
+use Rattle.ot_depend.specs.Siblings.{Sibling, created}
+use Rattle.ot_depend.specs.Direct.{is_direct, waiting_for}
+use Rattle.ot_graph.specs.declared.link.Link.{Link}
+
+-- children with these declarations, none of which has finished
+abbrev pub siblings_with : List (List Use) → List Sibling
+siblings_with decls = map (λ uses. created uses []) decls
+
+-- whether the later of two siblings depends on the earlier one at a cell that none between the two writes
+abbrev pub waits_itself : List Sibling → ℕ → ℕ → Bool
+waits_itself siblings earlier later =
+    unwrap_or (option_map (λ one.
+    unwrap_or (option_map (λ other. is_direct one.uses (drop (suc earlier) (take later siblings)) other.uses) (slice_get siblings later)) false)
+    (slice_get (take later siblings) earlier)) false
+
+-- whether the link is that of these two
+abbrev pub is_link : ℕ → ℕ → Link → Bool
+is_link earlier later link = (link.earlier == earlier) && (link.later == later)
+
+-- the link from the one to the other
+abbrev pub link_from : ℕ → ℕ → Link
+link_from earlier later = record { earlier = earlier; later = later }
+
+-- The links of children with these declarations: of two there is one link where the later waits for the earlier by itself,
+-- and else none. So into each child there are as many as it waits for.
+pub record AreLinks (decls : List (List Use)) (links : List Link) : Type 0 where
+  pub exact : (earlier later : ℕ) → count_by (is_link earlier later) links ≡ cond (waits_itself (siblings_with decls) earlier later) 1 0
+  pub counted : (child : ℕ) → count_by (λ l. l.later == child) links ≡ waiting_for (siblings_with decls) child

@@ -1,0 +1,39 @@
+//! The task graph of the last run of a session.
+use crate::dot::dot_text;
+use crate::graph::graph_of;
+use ot_front::Source;
+use ot_last::{LastFault, LastRun, last_run};
+use std::alloc::{AllocError, Global};
+
+/// A task graph as text.
+#[derive(Debug, Drop)]
+pub struct Drawing {
+    /// A digraph in the language of `dot`.
+    pub text: String,
+    /// How many tasks it has.
+    pub tasks: u32,
+}
+
+/// The task graph of the last program that a session runs.
+pub fn draw<R: Source>(alloc: Global, source: &mut R) -> Result<Drawing, LastFault> {
+    match last_run(alloc, source) {
+        Ok(last) => drawing_of(alloc, &last),
+        Err(fault) => Err(fault),
+    }
+}
+
+fn drawing_of(alloc: Global, last: &LastRun) -> Result<Drawing, LastFault> {
+    match drawn(alloc, last) {
+        Ok(drawing) => Ok(drawing),
+        Err(_) => Err(LastFault::Memory),
+    }
+}
+
+fn drawn(alloc: Global, last: &LastRun) -> Result<Drawing, AllocError> {
+    let graph = graph_of(alloc, &last.spec)?;
+    let text = dot_text(alloc, &graph, last.arrays.as_slice())?;
+    Ok(Drawing {
+        text,
+        tasks: graph.tasks,
+    })
+}

@@ -1,0 +1,89 @@
+-- A session in the middle: between two bytes, and where it stops.
+use Rattle.std.specs.Prelude.{◌≡◌, ◌≤◌, ◌-◌, ◌++◌, ℕ, List, map, length, false, Option, Some, None, option_map, Result, Ok, Err, ⊤}
+use Rattle.std.specs.Io.KnownBytes.{Consumes}
+use Rattle.ot_book.specs.Replies as r
+use Rattle.ot_book.specs.Books.{Register, reply_at}
+use Rattle.ot_front.specs.Heard.{max_line}
+use Rattle.ot_front.specs.Told.{Lines, after}
+use Rattle.ot_front.specs.Session.{heard_in}
+use Rattle.ot_front.specs.declared.fault.End.TheVariants as end
+use Rattle.ot_last.specs.LastRuns.{Run, Taken, BadAt, found, found_in, beginner, run_of}
+use Rattle.ot_last.specs.Finding.{IsOver}
+use Rattle.ot_last.specs.declared.found.LastRun.{LastRun}
+use Rattle.ot_last.specs.declared.fault.LastFault.{LastFault}
+use Rattle.ot_last.specs.declared.fault.LastFault.TheVariants as fault
+use Rattle.ot_last.specs.declared.stop.Stop.{Stop}
+use Rattle.ot_last.specs.declared.stop.Stop.TheVariants.{Bye, Bad, Memory}
+
+-- the last run so far
+abbrev pub run_in : Option LastRun → Option Run
+run_in last = option_map run_of last
+
+-- lines none of which is answered for want of memory
+abbrev pub kept : List (List ℕ) → Lines
+kept lines = map (λ line. (line, false)) lines
+
+-- The session goes on: the lines that were heard are all taken, and this is the last run among them.
+pub record Going (bytes partial : List ℕ) (book : Register) (last : Option Run) : Type 0 where
+  pub lines : List (List ℕ)
+  pub hears : heard_in beginner bytes ≡ record { lines = lines; partial = partial; end = None }
+  pub short : length partial ≤ max_line
+  pub logs : book ≡ after beginner (kept lines)
+  pub taken : found beginner None lines ≡ Taken last
+
+-- what is so of these bytes where the session stopped
+abbrev pub Says : List ℕ → Option Run → Stop → Type 0
+Says bytes last Bye = ((heard_in beginner bytes).end ≡ Some end.Bye) × (found_in beginner bytes ≡ Taken last)
+Says bytes last (Bad number) = found_in beginner bytes ≡ BadAt number
+Says bytes last Memory = Unit {0}
+
+-- it goes on, or it has stopped in these bytes, whatever follows
+abbrev pub Goes : List ℕ → List ℕ → Register → Option Run → Result ⊤ Stop → Type 0
+Goes bytes partial book last (Ok done) = Going bytes partial book last
+Goes bytes partial book last (Err stop) = (more : List ℕ) → Says (bytes ++ more) last stop
+
+-- what was told last
+abbrev pub last_told : Register → Option r.Told
+last_told book = option_map (λ reply. reply.1) (reply_at book (length book.log - 1))
+
+-- what a line comes to that was told this, as the request of this number
+abbrev pub judged : r.Told → ℕ → Result ⊤ Stop
+judged r.Accepted number = Ok tt
+judged (r.Cells values) number = Ok tt
+judged (r.Arrays arrays) number = Ok tt
+judged (r.Used units) number = Ok tt
+judged (r.Done tasks units shows) number = Ok tt
+judged (r.Refused code) number = Err (Bad number)
+judged (r.Offends code place) number = Err (Bad number)
+judged r.Lost number = Err Memory
+
+-- what is told where the session stopped
+abbrev pub result_of : Stop → Result ⊤ LastFault
+result_of Bye = Ok tt
+result_of (Bad number) = Err (fault.BadLine number)
+result_of Memory = Err fault.Memory
+
+-- the last run, where all was read
+abbrev pub told_by : Result ⊤ LastFault → Option LastRun → Result LastRun LastFault
+told_by (Ok done) (Some last) = Ok last
+told_by (Ok done) None = Err fault.NoRun
+told_by (Err why) last = Err why
+
+-- what is so of a session that was read so far
+abbrev pub SaysAfter : Option (List ℕ) → List ℕ → Option Run → Result ⊤ LastFault → Type 0
+SaysAfter left bytes last (Ok done) = IsOver left bytes × (found_in beginner bytes ≡ Taken last)
+SaysAfter left bytes last (Err fault.NoRun) = ⊥
+SaysAfter left bytes last (Err (fault.BadLine number)) = found_in beginner bytes ≡ BadAt number
+SaysAfter left bytes last (Err other) = Unit {0}
+
+-- the bytes that were read, and what is so of them
+pub record Hears (ahead left : Option (List ℕ)) (last : Option Run) (result : Result ⊤ LastFault) : Type 0 where
+  pub bytes : List ℕ
+  pub reads : Consumes ahead left bytes
+  pub says : SaysAfter left bytes last result
+
+-- the bytes that were read, and the session that goes on over them
+pub record Reading (ahead left : Option (List ℕ)) (partial : List ℕ) (book : Register) (last : Option Run) : Type 0 where
+  pub bytes : List ℕ
+  pub reads : Consumes ahead left bytes
+  pub going : Going bytes partial book last

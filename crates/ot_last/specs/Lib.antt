@@ -1,0 +1,3 @@
+pub mod LastRuns
+pub mod Finding
+pub mod Going

@@ -1,0 +1,13 @@
+//! The last program that a session runs, with the arrays and cells before it.
+#![tactic(auto)]
+
+mod fault;
+mod found;
+mod line;
+mod reading;
+mod request;
+mod stop;
+
+pub use fault::LastFault;
+pub use found::LastRun;
+pub use reading::last_run;

@@ -1,0 +1,29 @@
+//! Why a session stops in the middle of what was read.
+ghost use Rattle.std.specs.Prelude.{◌≡◌};
+ghost use Rattle.ot_last.specs.Going.{result_of};
+
+use crate::fault::LastFault;
+
+/// Why no further line is taken.
+#[derive(Clone, Copy, Debug)]
+pub(crate) enum Stop {
+    /// The client said goodbye.
+    Bye,
+    /// The line with this number isn't taken.
+    Bad(u64),
+    /// There was no memory.
+    Memory,
+}
+
+impl Stop {
+    /// What is told then.
+    pub(crate) fn result(self) -> Result<(), LastFault>
+        ensures { result ≡ result_of self }
+    {
+        match self {
+            Stop::Bye => Ok(()),
+            Stop::Bad(number) => Err(LastFault::BadLine(number)),
+            Stop::Memory => Err(LastFault::Memory),
+        }
+    }
+}
