@@ -1,20 +1,29 @@
-/* An array, and one program over it, without tasks. Look at how the loop of first.jsonl names a cell by its
-   variable, `["c","a","i"]` for a[i]: a program is what one thread begins with in a parallel region. */
+/* The last run of a session, as C with OpenMP: it prints what the run shows. */
 #include <inttypes.h>
 #include <stdint.h>
 #include <stdio.h>
 
+static void show(const uint64_t *cells, size_t count)
+{
+    for (size_t i = 0; i < count; i++)
+        printf("%c%" PRIu64, i == 0 ? '[' : ',', cells[i]);
+    printf("]");
+}
+
 int main(void)
 {
-    uint64_t a[3] = {1, 2, 3};
+    static uint64_t a[3] = {1, 2, 3};
 
     #pragma omp parallel
     #pragma omp single
     {
-        for (int i = 0; i < 3; i++)
-            a[i] = a[i] * 10;
+        a[0] = a[0] * 10;
+        a[1] = a[1] * 10;
+        a[2] = a[2] * 10;
     }
 
-    printf("[%" PRIu64 ",%" PRIu64 ",%" PRIu64 "]\n", a[0], a[1], a[2]);
+    printf("[");
+    show(&a[0], 3);
+    printf("]\n");
     return 0;
 }

@@ -1,29 +1,39 @@
-/* A task that creates two tasks and reads what they write. Look at the wait inside: without it the
-   parent would add too early. Nothing waits for the parent itself but the end of the whole program. */
+/* The last run of a session, as C with OpenMP: it prints what the run shows. */
 #include <inttypes.h>
 #include <stdint.h>
 #include <stdio.h>
 
+static void show(const uint64_t *cells, size_t count)
+{
+    for (size_t i = 0; i < count; i++)
+        printf("%c%" PRIu64, i == 0 ? '[' : ',', cells[i]);
+    printf("]");
+}
+
 int main(void)
 {
-    uint64_t a[3] = {1, 2, 3};
+    static uint64_t a[3] = {1, 2, 3};
 
     #pragma omp parallel
     #pragma omp single
     {
-        #pragma omp task depend(inout: a[0:3])
+        #pragma omp task depend(out: a[0], a[1], a[2])
         {
             #pragma omp task depend(out: a[0])
-            a[0] = 4;
-
+            {
+                a[0] = 4;
+            }
             #pragma omp task depend(out: a[1])
-            a[1] = 5;
-
+            {
+                a[1] = 5;
+            }
             #pragma omp taskwait
             a[2] = a[0] + a[1];
         }
     }
 
-    printf("[%" PRIu64 ",%" PRIu64 ",%" PRIu64 "]\n", a[0], a[1], a[2]);
+    printf("[");
+    show(&a[0], 3);
+    printf("]\n");
     return 0;
 }

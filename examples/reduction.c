@@ -1,29 +1,44 @@
-/* Three tasks add to one cell, perhaps at the same time, each to a private copy that begins at 0. Look at
-   the end of the group: behind it a[0] holds all sums, modulo 2^64, and 1 - 1 + 1 + 5 is 6. */
+/* The last run of a session, as C with OpenMP: it prints what the run shows. */
 #include <inttypes.h>
 #include <stdint.h>
 #include <stdio.h>
 
+static void show(const uint64_t *cells, size_t count)
+{
+    for (size_t i = 0; i < count; i++)
+        printf("%c%" PRIu64, i == 0 ? '[' : ',', cells[i]);
+    printf("]");
+}
+
 int main(void)
 {
-    uint64_t a[3] = {1, 2, 3};
+    static uint64_t a[3] = {1, 2, 3};
 
     #pragma omp parallel
     #pragma omp single
     {
-        #pragma omp taskgroup task_reduction(+: a[0:1])
         {
-            #pragma omp task in_reduction(+: a[0:1])
-            a[0] += UINT64_MAX;
-
-            #pragma omp task in_reduction(+: a[0:1])
-            a[0] += 1;
-
-            #pragma omp task in_reduction(+: a[0:1])
-            a[0] += 5;
+            uint64_t *Sum_a_0 = &a[0];
+            #pragma omp taskgroup task_reduction(+: Sum_a_0[0:1])
+            {
+                #pragma omp task in_reduction(+: Sum_a_0[0:1])
+                {
+                    Sum_a_0[0] += 18446744073709551615ULL;
+                }
+                #pragma omp task in_reduction(+: Sum_a_0[0:1])
+                {
+                    Sum_a_0[0] += 1;
+                }
+                #pragma omp task in_reduction(+: Sum_a_0[0:1])
+                {
+                    Sum_a_0[0] += 5;
+                }
+            }
         }
     }
 
-    printf("[%" PRIu64 ",%" PRIu64 ",%" PRIu64 "]\n", a[0], a[1], a[2]);
+    printf("[");
+    show(&a[0], 3);
+    printf("]\n");
     return 0;
 }
