@@ -8,7 +8,7 @@ ghost use Rattle.ot_explain.specs.Explaining.{beginner, Explains, Explaining, Go
 use crate::telling::{tell_last, tell_long};
 use memchr::memchr;
 use ot_book::{Book, Solo};
-use ot_front::{End, FrontFault, Reading, Sink, Source, serve};
+use ot_front::{End, FrontFault, Reading, Sink, Source, serve_into};
 use ot_store::{Limits, Store};
 use std::alloc::{AllocError, Global};
 
@@ -17,6 +17,9 @@ const MAX_LINE: usize = 65_536;
 
 /// How many bytes a read has room for.
 const READ_SIZE: usize = 65_536;
+
+/// How many bytes a read of one line has room for: most lines are short, and the room is made for each.
+const PIECE_SIZE: usize = 1_024;
 
 /// How often a session reads at most.
 const MAX_READS: u32 = 1_000_000;
@@ -191,7 +194,8 @@ fn serve_line<W: Sink>(
     ensures closed { book.new.pending ≡ None }
 {
     let mut source = Reading::new(line);
-    let ended = serve(alloc, book, &mut Solo, &mut source, sink);
+    let mut room = [0u8; PIECE_SIZE];
+    let ended = serve_into(alloc, book, &mut Solo, &mut source, sink, room.as_mut_slice());
     stop_of(ended)
 }
 

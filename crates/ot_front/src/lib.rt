@@ -26,6 +26,6 @@ pub use device::{Failed, Sink, Source};
 pub use fault::{End, FrontFault};
 pub use greeting::greet;
 pub use reader::Reading;
-pub use session::serve;
+pub use session::{serve, serve_into};
 pub use whole::write_whole;
 pub use writer::Writing;

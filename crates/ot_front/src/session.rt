@@ -54,12 +54,14 @@ pub fn serve<E: Executor, R: Source, W: Sink>(
     let Ok(mut room) = vec![in alloc; 0u8; READ_SIZE] else {
         return Err(FrontFault::Memory);
     };
-    converse(alloc, book, executor, source, sink, room.as_mut_slice())
+    serve_into(alloc, book, executor, source, sink, room.as_mut_slice())
 }
 
-/// Serves a session that reads into `room`.
+/// Serves one session as `serve` does, by reads into `room`, which has at least one byte: where a caller serves many
+/// short sessions, it makes that room once. It takes no memory for the reads, so that `serve`'s own refusal of
+/// their room isn't there.
 #[tactic(auto, using(crate::proofs::Counting::counting))]
-fn converse<E: Executor, R: Source, W: Sink>(
+pub fn serve_into<E: Executor, R: Source, W: Sink>(
     alloc: Global,
     book: &mut Book,
     executor: &mut E,

@@ -2,7 +2,7 @@ use Rattle.std.proofs.Common.{take, ap, ◌∙◌}
 use Rattle.ot_front.specs.Device.{next_count}
 use Rattle.ot_front.proofs.Counting.{next_count-count_after, not_zero}
 use Rattle.ot_front.proofs.ServingLemmas.{closed_serving, closed_after, serving_on, serves_idle, consumes_none, consumes_kept, serves_chunk}
-use Rattle.ot_front.proofs.session.converse.Goals as goal
+use Rattle.ot_front.proofs.session.serve_into.Goals as goal
 
 -- ---- the read failed
 

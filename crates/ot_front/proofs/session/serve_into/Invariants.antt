@@ -1,7 +1,7 @@
 use Rattle.std.proofs.Common.{◌≡◌}
 use Rattle.ot_front.specs.Device.{count_after}
 use Rattle.ot_front.specs.Serving.{Serving}
-use Rattle.ot_front.proofs.session.converse.Given as goal
+use Rattle.ot_front.proofs.session.serve_into.Given as goal
 
 abbrev pub invariant-loop : goal.invariant-loop
 invariant-loop g l =
