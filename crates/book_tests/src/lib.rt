@@ -29,4 +29,6 @@ mod reading;
 #[cfg(test)]
 mod rights;
 #[cfg(test)]
+mod rows;
+#[cfg(test)]
 mod table;

@@ -1,7 +1,8 @@
 //! Leases over 1, 2, 3: what comes back, what stays out, and want of memory.
-ghost use Rattle.std.specs.Prelude.{◌≡◌, ◌≢◌, ◌<◌, ◌∷◌, [], IfOk, IsPermutation};
+ghost use Rattle.std.specs.Prelude.{◌≡◌, ◌≢◌, ◌≤◌, ◌<◌, ◌∷◌, [], IfOk, IsPermutation};
 ghost use Rattle.ot_model.specs.declared.stmt.Mode.TheVariants.{Adds};
-ghost use Rattle.ot_owner.specs.Leases.{lease_of, lent_from};
+ghost use Rattle.ot_owner.specs.Leases.{lent_from};
+ghost use Rattle.ot_owner.specs.Owning.{loan_of};
 
 use super::table::{Asked, assert_rows};
 use ot_model::{Cell, Cells, Decl, Look, Mode, Use};
@@ -9,20 +10,20 @@ use ot_owner::{Lent, Owners};
 use std::alloc::{AllocError, Global};
 
 /// One array of the numbers 1, 2, 3.
-fn one_two_three(alloc: Global) -> Result<Cells, AllocError>
+pub(crate) fn one_two_three(alloc: Global) -> Result<Cells, AllocError>
     ensures { IfOk result (λ cells. cells ≡ (1 ∷ 2 ∷ 3 ∷ []) ∷ []) }
 {
     let array = vec![in alloc; 1, 2, 3]?;
     Ok(Cells::new(vec![in alloc; array]?))
 }
 
-fn cell(index: u32) -> Cell
+pub(crate) fn cell(index: u32) -> Cell
     ensures { result ≡ record { array = 0; index = index } }
 {
     Cell { array: 0, index }
 }
 
-fn declared(alloc: Global, mode: Mode, index: u32) -> Result<Decl, AllocError>
+pub(crate) fn declared(alloc: Global, mode: Mode, index: u32) -> Result<Decl, AllocError>
     ensures { IfOk result (λ decl. decl ≡ record { cell = record { array = 0; index = index }; mode = mode } ∷ []) }
 {
     let only = Use {
@@ -32,26 +33,29 @@ fn declared(alloc: Global, mode: Mode, index: u32) -> Result<Decl, AllocError>
     Ok(Decl::new(vec![in alloc; only]?))
 }
 
-/// Lends one cell of 1, 2, 3, where it is free.
+/// Lends one cell of 1, 2, 3 to a worker, where it is free.
 fn lend(
     alloc: Global,
     owners: &mut Owners,
     cells: &Cells,
     mode: Mode,
     index: u32,
+    worker: u32,
 ) -> Result<Lent, AllocError>
     requires cells { cells.now ≡ (1 ∷ 2 ∷ 3 ∷ []) ∷ [] }
     requires within { index < 3 }
     requires no_adds { mode ≢ Adds }
+    requires worker { (1 ≤ worker) × (worker ≤ 16) }
     ensures lent { IfOk result (λ lent. lent
         ≡ lent_from cells.now (record { cell = record { array = 0; index = index }; mode = mode } ∷ [])) }
-    ensures out { IfOk result (λ lent. IsPermutation (lease_of lent ∷ owners.old.out) owners.new.out) }
+    ensures out { IfOk result (λ lent. IsPermutation (loan_of worker lent ∷ owners.old.owned.out) owners.new.owned.out) }
 {
     let decl = declared(alloc, mode, index)?;
     if !owners.free_for(&decl) {
         return Err(AllocError);
     }
-    owners.lease(alloc, cells, decl)
+    let slip = owners.prepare(alloc, decl, worker)?;
+    Ok(owners.lease(cells, slip))
 }
 
 /// Writes 9 to the second cell by a lease: its value before and after, the value that it was lent
@@ -59,7 +63,7 @@ fn lend(
 fn written(alloc: Global, owners: &mut Owners, cells: &mut Cells) -> Result<String, AllocError>
     requires { cells.old ≡ (1 ∷ 2 ∷ 3 ∷ []) ∷ [] }
 {
-    let mut lent = lend(alloc, owners, cells, Mode::Writes, 1)?;
+    let mut lent = lend(alloc, owners, cells, Mode::Writes, 1, 1)?;
     let before = lent.at(cell(1));
     lent.set(cell(1), 9);
     let after = lent.at(cell(1));
@@ -68,27 +72,27 @@ fn written(alloc: Global, owners: &mut Owners, cells: &mut Cells) -> Result<Stri
         lent.value(cell(1)),
         lent.value(cell(0)),
     ];
-    owners.give_back(cells, lent);
+    owners.give_back(cells, lent, 1);
     format!(in alloc; "{before} {after} {told:?} {:?}", cells.arrays())
 }
 
-/// Lends the second cell to two readers: whether a writer is free to it once the first has given it
+/// Lends the second cell to two workers that read it: whether a writer is free to it once the first has given it
 /// back, and once the second's right has ended too.
 fn read_twice(alloc: Global, owners: &mut Owners, cells: &mut Cells) -> Result<String, AllocError>
     requires { cells.old ≡ (1 ∷ 2 ∷ 3 ∷ []) ∷ [] }
 {
     let writer = declared(alloc, Mode::Writes, 1)?;
-    let one = lend(alloc, owners, cells, Mode::Reads, 1)?;
-    let two = match lend(alloc, owners, cells, Mode::Reads, 1) {
+    let one = lend(alloc, owners, cells, Mode::Reads, 1, 1)?;
+    let two = match lend(alloc, owners, cells, Mode::Reads, 1, 2) {
         Ok(two) => two,
         Err(error) => {
             one.discard();
             return Err(error);
         }
     };
-    owners.give_back(cells, one);
+    owners.give_back(cells, one, 1);
     let free_beside_one = owners.free_for(&writer);
-    owners.drop_right(two);
+    owners.drop_right(two, 2);
     format!(in alloc; "{free_beside_one} {}", owners.free_for(&writer))
 }
 
@@ -97,7 +101,7 @@ fn discarded(alloc: Global, owners: &mut Owners, cells: &Cells) -> Result<String
     requires { cells.now ≡ (1 ∷ 2 ∷ 3 ∷ []) ∷ [] }
 {
     let reader = declared(alloc, Mode::Reads, 1)?;
-    lend(alloc, owners, cells, Mode::Writes, 1)?.discard();
+    lend(alloc, owners, cells, Mode::Writes, 1, 1)?.discard();
     format!(in alloc; "{}", owners.free_for(&reader))
 }
 
@@ -124,8 +128,8 @@ fn what_comes_of_leases(rt: HostRuntime) {
 /// Lends the second cell to a reader and ends its right.
 fn lend_and_end(alloc: Global, owners: &mut Owners) -> Result<(), AllocError> {
     let cells = one_two_three(alloc)?;
-    let lent = lend(alloc, owners, &cells, Mode::Reads, 1)?;
-    owners.drop_right(lent);
+    let lent = lend(alloc, owners, &cells, Mode::Reads, 1, 1)?;
+    owners.drop_right(lent, 1);
     Ok(())
 }
 

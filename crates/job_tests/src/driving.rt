@@ -46,7 +46,7 @@ pub(crate) fn next_move<C: Choose>(
     }
 }
 
-/// Claims a piece, which is out from now on.
+/// Claims a piece, which is out from now on. So many are out, and the next worker takes it, of 16 in turn.
 fn claim(
     alloc: Global,
     job: &mut Job,
@@ -54,7 +54,8 @@ fn claim(
     pick: usize,
 ) -> Result<(), AllocError> {
     out.reserve(1)?;
-    if let Some(piece) = job.claim(alloc, pick)? {
+    let worker = (out.len() % 16) as u32 + 1;
+    if let Some(piece) = job.claim(alloc, pick, worker)? {
         out.push_reserved(piece);
     }
     Ok(())

@@ -41,7 +41,7 @@ fn begun(alloc: Global, first: u64, body: &str, pieces: u32) -> Result<Job, Prog
         Err(_) => return Err(ProgramFault::Memory),
     };
     for _ in 0..pieces {
-        if let Some(piece) = job.claim(alloc, 0)? {
+        if let Some(piece) = job.claim(alloc, 0, 1)? {
             let _ = offer(alloc, &mut job, piece.run());
         }
     }
@@ -50,7 +50,7 @@ fn begun(alloc: Global, first: u64, body: &str, pieces: u32) -> Result<Job, Prog
 
 /// The piece of the first claimable task.
 fn first_piece(alloc: Global, job: &mut Job) -> Result<Piece, AllocError> {
-    match job.claim(alloc, 0)? {
+    match job.claim(alloc, 0, 1)? {
         Some(piece) => Ok(piece),
         None => Err(AllocError),
     }

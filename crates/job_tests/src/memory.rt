@@ -54,14 +54,14 @@ impl Watched {
     ) -> Result<bool, AllocError> {
         self.make_room(out)?;
         let before = self.shown(alloc)?;
-        let piece = match self.job.claim(alloc, pick) {
+        let piece = match self.job.claim(alloc, pick, 1) {
             Ok(piece) => piece,
             Err(_) => {
                 self.refused = true;
                 if !self.is_still(alloc, before.as_str()) {
                     return Ok(false);
                 }
-                self.job.claim(alloc, pick)?
+                self.job.claim(alloc, pick, 1)?
             }
         };
         match piece {

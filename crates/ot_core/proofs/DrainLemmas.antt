@@ -179,7 +179,7 @@ none-left (Some j) jobs t is more none = absurd (omega (arith, more, ap length (
 falls-start : (old new : Scene) (x : ℕ) (o : Option ℕ) (t pick : ℕ) (stepped : Stepped) → seat_of x ≡ o → IsScene old → MayStart old o t → Starts old o t pick stepped new → toil new < toil old
 falls-start old new x None t pick stepped seat scene may did = absurd may.0
 falls-start old new x (Some w) t pick (Started k) seat scene may did =
-    let takes = (claimed-gives did.claims.job _ (Some did.piece) did.claims.next did.claims.claimed).1 in
+    let takes = (claimed-gives did.claims.job _ _ (Some did.piece) did.claims.next did.claims.claimed).1 in
     let j = did.claims.job in
     let n = did.claims.next in
     let same : toil_of (Some did.claims.next) ≡ toil_of (job_of old.floor.jobs t) =

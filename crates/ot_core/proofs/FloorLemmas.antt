@@ -38,19 +38,19 @@ pub nothing-at : (f now : Floor) (t : ℕ) (job : Live) → f ≡ now → job_of
 nothing-at f now t job is at none =
     subst (λ (o : Floor). NothingAt o.jobs t) is (λ j here. subst (λ (y : Live). claimable_in y ≡ []) (same_Some job j (sym at ∙ here)) none)
 
-pub claims-of : {E : Type 0} (f now : Floor) (t pick : ℕ) (job next : Live) (r : Result (Option Piece) E) → f ≡ now → job_of f.jobs t ≡ Some job
-    → IfOk r (λ p. Claimed job pick p next) → IfOk r (λ p. ClaimsOf now t pick p (with_job f t (Some next)))
-claims-of f now t pick job next (Ok None) is at claimed =
-    let gives = claimed-gives job pick None next claimed in
+pub claims-of : {E : Type 0} (f now : Floor) (t pick worker : ℕ) (job next : Live) (r : Result (Option Piece) E) → f ≡ now → job_of f.jobs t ≡ Some job
+    → IfOk r (λ p. Claimed job pick worker p next) → IfOk r (λ p. ClaimsOf now t pick worker p (with_job f t (Some next)))
+claims-of f now t pick worker job next (Ok None) is at claimed =
+    let gives = claimed-gives job pick worker None next claimed in
     (nothing-at f now t job is at gives.0, written-again f now t job next is at gives.1)
-claims-of f now t pick job next (Ok (Some p)) is at claimed = subst (λ o. Claims o t pick p (with_job f t (Some next))) is (record {
+claims-of f now t pick worker job next (Ok (Some p)) is at claimed = subst (λ o. Claims o t pick worker p (with_job f t (Some next))) is (record {
   job = job;
   is = at;
   next = next;
   claimed = claimed;
   new_is = refl;
 })
-claims-of f now t pick job next (Err e) is at claimed = tt
+claims-of f now t pick worker job next (Err e) is at claimed = tt
 
 pub runs-short : {T E : Type 0} (f now : Floor) (t : ℕ) (job next : Live) (r : Result T E) → f ≡ now → job_of f.jobs t ≡ Some job
     → OnErr r (state_of job ≡ Working) → OnErr r (0 < length (claimable_in job)) → OnErr r (next ≡ job)

@@ -73,13 +73,13 @@ was s t j a scene job at = subst (λ o. Agrees a o (units_of s.floor t)) job (sc
 
 -- ---- a worker takes a piece
 
-scene-taken : (s : Scene) (w t pick : ℕ) (piece : Piece) (floor : Floor) → IsScene s → w < 16 → hand_of s.hands w ≡ None → Claims s.floor t pick piece floor
+scene-taken : (s : Scene) (w t pick : ℕ) (piece : Piece) (floor : Floor) → IsScene s → w < 16 → hand_of s.hands w ≡ None → Claims s.floor t pick (w + 1) piece floor
     → IsScene (handed s floor w (Some (record { tenant = t; piece = piece })))
 scene-taken s w t pick piece floor scene below free claims =
     let h : Held = record { tenant = t; piece = piece } in
     let j = claims.job in
     let k = claims.next in
-    let takes = (claimed-gives j pick (Some piece) k claims.claimed).1 in
+    let takes = (claimed-gives j pick (w + 1) (Some piece) k claims.claimed).1 in
     let mine = job-set s.floor.jobs t (Some k) (job-within s.floor.jobs t j claims.is) in
     subst (λ f. IsScene (handed s f w (Some h))) (sym claims.new_is)
     (scene-handed s t (with_job s.floor t (Some k)) (set s.hands w (Some h)) scene (but-set s.floor.jobs t (Some k)) (but-none s.floor.units t)
@@ -88,7 +88,7 @@ scene-taken s w t pick piece floor scene below free claims =
     (held-taken s.floor.jobs (set s.floor.jobs t (Some k)) s.hands w h scene.held (omega (arith, below, scene.hands_many)) free
     (ap (λ o. out_at o piece.task) claims.is ∙ takes.free) (ap (λ o. out_at o piece.task) mine ∙ takes.taken) (others-out s.floor.jobs t piece.task j k claims.is takes.others)))
 
-pub taken : (s now : Scene) (w t pick task : ℕ) (piece : Piece) (floor : Floor) (hand : Option Held) → s ≡ now → IsScene s → w < 16 → hand_of s.hands w ≡ None → Claims s.floor t pick piece floor
+pub taken : (s now : Scene) (w t pick task : ℕ) (piece : Piece) (floor : Floor) (hand : Option Held) → s ≡ now → IsScene s → w < 16 → hand_of s.hands w ≡ None → Claims s.floor t pick (w + 1) piece floor
     → task ≡ piece.task → hand ≡ Some (record { tenant = t; piece = piece }) → IsScene (handed s floor w hand) × Takes now w t pick task (handed s floor w hand)
 taken s now w t pick task piece floor hand is scene below free claims task_is hand_is =
     let h : Held = record { tenant = t; piece = piece } in

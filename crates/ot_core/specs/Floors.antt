@@ -55,17 +55,17 @@ pub record Submits (old : Floor) (t : ℕ) (spec : Spec) (new : Floor) : Type 0 
 abbrev pub NothingAt : List (Option Live) → ℕ → Type 0
 NothingAt jobs t = (j : Live) → job_of jobs t ≡ Some j → claimable_in j ≡ []
 
--- a piece of the tenant's job is claimed
-pub record Claims (old : Floor) (t pick : ℕ) (piece : Piece) (new : Floor) : Type 0 where
+-- a piece of the tenant's job is claimed by the worker
+pub record Claims (old : Floor) (t pick worker : ℕ) (piece : Piece) (new : Floor) : Type 0 where
   pub job : Live
   pub is : job_of old.jobs t ≡ Some job
   pub next : Live
-  pub claimed : Claimed job pick (Some piece) next
+  pub claimed : Claimed job pick worker (Some piece) next
   pub new_is : new ≡ with_job old t (Some next)
 
-abbrev pub ClaimsOf : Floor → ℕ → ℕ → Option Piece → Floor → Type 0
-ClaimsOf old t pick None new = NothingAt old.jobs t × (new ≡ old)
-ClaimsOf old t pick (Some piece) new = Claims old t pick piece new
+abbrev pub ClaimsOf : Floor → ℕ → ℕ → ℕ → Option Piece → Floor → Type 0
+ClaimsOf old t pick worker None new = NothingAt old.jobs t × (new ≡ old)
+ClaimsOf old t pick worker (Some piece) new = Claims old t pick worker piece new
 
 -- the tenant's job works
 pub record IsWorking (f : Floor) (t : ℕ) : Type 0 where

@@ -1,5 +1,5 @@
 -- What each event does.
-use Rattle.std.specs.Prelude.{◌≡◌, ◌≢◌, ◌==◌, if◌then◌else◌, ◌⊎◌, ℕ, List, option_map, IsSome, Bool, true, false, Option, Some, None, slice_get, slice_set}
+use Rattle.std.specs.Prelude.{◌≡◌, ◌≢◌, ◌+◌, ◌==◌, if◌then◌else◌, ◌⊎◌, ℕ, List, option_map, IsSome, Bool, true, false, Option, Some, None, slice_get, slice_set}
 use Rattle.ot_check.specs.Jobs.{Spec}
 use Rattle.ot_job.specs.Live.{Live}
 use Rattle.ot_job.specs.States.{FailsBy}
@@ -76,7 +76,7 @@ pub record Takes (old : Scene) (w t pick task : ℕ) (new : Scene) : Type 0 wher
   pub free : hand_of old.hands w ≡ None
   pub piece : Piece
   pub floor : Floor
-  pub claims : Claims old.floor t pick piece floor
+  pub claims : Claims old.floor t pick (w + 1) piece floor
   pub task_is : task ≡ piece.task
   pub new_is : new ≡ handed old floor w (Some (record { tenant = t; piece = piece }))
 

@@ -18,9 +18,9 @@ IsNext jobs first None = NothingAnywhere jobs
 IsNext jobs first (Some t) = ¬ (NothingAt jobs t) × (((first ≤ t) × NothingIn jobs first t) ⊎ (NothingIn jobs first (length jobs) × NothingIn jobs 0 t))
 
 -- a piece of some tenant, where a tenant has a claimable task
-abbrev pub ClaimsSome : Floor → ℕ → Option (ℕ × Piece) → Floor → Type 0
-ClaimsSome old turn None new = NothingAnywhere old.jobs × (new ≡ old)
-ClaimsSome old turn (Some p) new = Claims old p.0 turn p.1 new
+abbrev pub ClaimsSome : Floor → ℕ → ℕ → Option (ℕ × Piece) → Floor → Type 0
+ClaimsSome old turn worker None new = NothingAnywhere old.jobs × (new ≡ old)
+ClaimsSome old turn worker (Some p) new = Claims old p.0 turn worker p.1 new
 
 -- memory ran out at a claim of this tenant, whose job works and has a claimable task, and nothing has changed
 pub record RunsShort (old : Floor) (t : ℕ) (new : Floor) : Type 0 where

@@ -110,27 +110,35 @@ impl Hall {
         Ok(())
     }
 
-    /// A claimable piece of the tenant's job.
+    /// A claimable piece of the tenant's job, to worker `worker`, 1 to 16.
     pub fn claim_of(
         &mut self,
         alloc: Global,
         tenant: u32,
         pick: usize,
+        worker: u32,
     ) -> Result<Option<Piece>, AllocError>
-        ensures claimed { IfOk result (λ piece. ClaimsOf self.old tenant pick piece self.new) }
+        requires worker { (1 ≤ worker) × (worker ≤ 16) }
+        ensures claimed { IfOk result (λ piece. ClaimsOf self.old tenant pick worker piece self.new) }
         ensures refused { OnErr result (RunsShort self.old tenant self.new) }
     {
         if self.jobs.get(tenant).is_none() {
             return Ok(None);
         }
-        let claimed = self.jobs.get_mut(tenant).claim(alloc, pick);
+        let claimed = self.jobs.get_mut(tenant).claim(alloc, pick, worker);
         self.marks.put(tenant, self.jobs.has_claimable(tenant));
         claimed
     }
 
-    /// A claimable piece of some tenant, by the turn, where a tenant has one.
-    pub fn claim(&mut self, alloc: Global, turn: u64) -> Result<Option<(u32, Piece)>, NoMemory>
-        ensures claimed { IfOk result (λ claimed. ClaimsSome self.old turn claimed self.new) }
+    /// A claimable piece of some tenant, by the turn, where a tenant has one, to worker `worker`, 1 to 16.
+    pub fn claim(
+        &mut self,
+        alloc: Global,
+        turn: u64,
+        worker: u32,
+    ) -> Result<Option<(u32, Piece)>, NoMemory>
+        requires worker { (1 ≤ worker) × (worker ≤ 16) }
+        ensures claimed { IfOk result (λ claimed. ClaimsSome self.old turn worker claimed self.new) }
         ensures refused { IfErr result (λ e. RunsShort self.old e.tenant self.new) }
     {
         let tenants = self.jobs.tenants() as u64;
@@ -140,7 +148,7 @@ impl Hall {
         let Some(tenant) = self.next_from((turn % tenants) as u32) else {
             return Ok(None);
         };
-        match self.claim_of(alloc, tenant, turn as usize) {
+        match self.claim_of(alloc, tenant, turn as usize, worker) {
             Ok(Some(piece)) => Ok(Some((tenant, piece))),
             Ok(None) => unreachable!(),
             Err(_) => Err(NoMemory { tenant }),

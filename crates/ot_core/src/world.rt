@@ -385,7 +385,8 @@ impl World {
         if self.hands[hand].is_some() {
             return Ok(Stepped::NotNow);
         }
-        let Some(piece) = self.hall.claim_of(alloc, tenant, pick as usize)? else {
+        let worker = hand as u32 + 1;
+        let Some(piece) = self.hall.claim_of(alloc, tenant, pick as usize, worker)? else {
             return Ok(Stepped::NotNow);
         };
         let task = piece.task();

@@ -15,7 +15,7 @@ use Rattle.ot_job.specs.Awaiting.{IsFineAt, AwaitsAll, unawaited}
 use Rattle.ot_job.proofs.PlaceLemmas.{at-one, at-two, at-wait, at-enter}
 use Rattle.ot_task.specs.Regions.{Region, with_rest, inside}
 use Rattle.ot_job.specs.Numbered.{at}
-use Rattle.ot_job.specs.Sound.{LetsAll, IsPlaced, IsSound}
+use Rattle.ot_job.specs.Sound.{LetsAll, IsBegun, IsPlaced, IsSound}
 use Rattle.ot_job.proofs.KeptLemmas.{todo-append, todo-next}
 use Rattle.ot_job.proofs.GroupLemmas.{touch-append, task-append, placed-enter}
 use Rattle.ot_job.proofs.AwaitsLemmas.{awaits-one, awaits-two, awaits-wait, awaits-enter}
@@ -36,6 +36,8 @@ module _ (r : Region) (p : IsPlaced r) (alive : r.ended ≡ false) where
     within = p.within;
     apart = p.apart;
     over = λ e. absurd (true≢false (sym e ∙ alive));
+    shut = p.shut;
+    once = p.once;
     writes = p.writes;
     sums = p.sums;
     reduced = p.reduced;
@@ -80,6 +82,8 @@ module _ (r : Region) (p : IsPlaced r) (alive : r.ended ≡ false) where
         within = p.within;
         apart = p.apart;
         over = λ e. absurd (true≢false (sym e ∙ alive));
+        shut = p.shut;
+        once = p.once;
         writes = p.writes;
         sums = p.sums;
         reduced = p.reduced;
@@ -90,11 +94,11 @@ module _ (ws : List Region) (s : IsSound ws) (i : ℕ) (h : i < length ws) (aliv
   pub sound-branch : (taken : Bool) (e : E) (a b rest : Body) → (at ws i).rest ≡ Next (If e a b) rest → IsSound (updated ws i (with_rest (append (if taken then a else b) rest)))
   sound-branch taken e a b rest was =
       sound-changed ws i (with_rest (append (if taken then a else b) rest)) h (record { parent = λ r. refl; child = λ r. refl; own = λ r. refl; children = λ r. refl; ended = λ r. refl }) s
-      (placed-branch (at ws i) (s.placed i) alive taken e a b rest was)
+      (placed-branch (at ws i) (s.placed i) alive taken e a b rest was) (s.entered i)
 
   pub sound-wait : (rest : Body) → (at ws i).rest ≡ Next Wait rest → IsSound (updated ws i (waits rest))
   sound-wait rest was =
-      sound-changed ws i (waits rest) h (record { parent = λ r. refl; child = λ r. refl; own = λ r. refl; children = λ r. refl; ended = λ r. refl }) s (placed-wait (at ws i) (s.placed i) alive rest was)
+      sound-changed ws i (waits rest) h (record { parent = λ r. refl; child = λ r. refl; own = λ r. refl; children = λ r. refl; ended = λ r. refl }) s (placed-wait (at ws i) (s.placed i) alive rest was) (s.entered i)
 
 weaker-any : (kids : List Sibling) (f g : Sibling → Bool) → ((s : Sibling) → f s ≡ true → g s ≡ true) → list_any (λ s. is_unfinished s && f s) kids ≡ true → list_any (λ s. is_unfinished s && g s) kids ≡ true
 weaker-any [] f g w h = h
@@ -108,7 +112,7 @@ monotone : (waiting : Bool) (kids : List Sibling) (f g : Sibling → Bool) → (
 monotone true kids f g w h = h
 monotone false kids f g w h = weaker-any kids f g w h
 
-module _ (ws : List Region) (s : IsSound ws) (i : ℕ) (h : i < length ws) (calm : (at ws i).waiting ≡ false) where
+module _ (ws : List Region) (s : IsSound ws) (i : ℕ) (h : i < length ws) (calm : (at ws i).waiting ≡ false) (started : IsBegun ws i) where
   pub sound-enter : (g : ℕ) (cs : List Cell) (b rest : Body) → (at ws i).rest ≡ Next (Group cs b) rest → IsSound (updated ws i (λ r. inside g cs b (with_rest rest r)))
   sound-enter g cs b rest was =
       let r = at ws i in
@@ -117,4 +121,4 @@ module _ (ws : List Region) (s : IsSound ws) (i : ℕ) (h : i < length ws) (calm
       (placed-enter r (s.placed i) g cs b rest was calm (fine-innermost r.own (unawaited r.waiting r.children) (Next (Group cs b) rest) r.groups fine).0
       (at-enter r.own (unawaited r.waiting r.children) cs b rest g r.groups (λ f k w u. monotone r.waiting r.children f k w u) fine)
       (λ uses own. awaits-enter (unawaited r.waiting r.children) cs b rest g r.groups (λ f k w u. monotone r.waiting r.children f k w u)
-      (subst (λ x. AwaitsAll (unawaited r.waiting r.children) x r.groups) was ((s.placed i).awaits uses own))))
+      (subst (λ x. AwaitsAll (unawaited r.waiting r.children) x r.groups) was ((s.placed i).awaits uses own)))) (λ o os is. started)

@@ -14,7 +14,7 @@ use Rattle.ot_job.proofs.PlaceLemmas.{at-fewer, at-leave}
 use Rattle.ot_job.proofs.AwaitsLemmas.{awaits-fewer, awaits-leave}
 use Rattle.ot_task.specs.Regions.{Region}
 use Rattle.ot_job.specs.Numbered.{at}
-use Rattle.ot_job.specs.Sound.{IsPlaced, IsSound}
+use Rattle.ot_job.specs.Sound.{IsBegun, IsPlaced, IsSound}
 use Rattle.ot_task.specs.Pieces.{passed, awake}
 use Rattle.ot_task.specs.Waits.{is_let_go, end_lets_go}
 use Rattle.ot_job.proofs.GroupLemmas.{placed-leave}
@@ -53,6 +53,8 @@ module _ (r : Region) (p : IsPlaced r) where
     within = p.within;
     apart = p.apart;
     over = p.over;
+    shut = p.shut;
+    once = p.once;
     writes = p.writes;
     sums = p.sums;
     reduced = p.reduced;
@@ -96,6 +98,15 @@ elsewhere g (x ∷ kids) none test h =
     bits true false false n l m a b f = f a b
     bits false i t n l m a b f = f a b
 
+-- at a group's end that lets the task go on, none of its unfinished children was created in the group
+pub none-in-group : (r : Region) (o : Open) (os : List Open) → is_let_go r ≡ true → r.rest ≡ End → r.groups ≡ o ∷ os
+    → (k : ℕ) (s : Sibling) → slice_get r.children k ≡ Some s → s.finished ≡ false → is_in o.group s ≡ false
+none-in-group r o os go was here = not-in o.group r.children (none-counted (is_unfinished_in o.group) r.children (is-zero _ ends))
+  where
+    ends : (count_by (is_unfinished_in o.group) r.children == 0) ≡ true
+    ends = sym (ap (λ b. end_lets_go b r.groups r.children) was ∙ ap (λ gs. end_lets_go End gs r.children) here)
+        ∙ and_right (not r.waiting || (count_by is_unfinished r.children == 0)) (end_lets_go r.rest r.groups r.children) go
+
 module _ (r : Region) (p : IsPlaced r) (calm : r.waiting ≡ false) where
   pub placed-passed : (rest : Body) (gs : List Open) → r.rest ≡ rest → r.groups ≡ gs → end_lets_go rest gs r.children ≡ true
       → IsPlaced (record r { rest = (passed rest gs).rest; groups = (passed rest gs).groups })
@@ -126,7 +137,14 @@ placed-awake r p go =
     by true b e h = h
     by false b e h = absurd (true≢false (sym e))
 
+-- who has a group open behind the end of another had one open before it
+open-before : (P : Type 0) (rest : Body) (gs : List Open) → ((o : Open) (os : List Open) → gs ≡ o ∷ os → P) → (o : Open) (os : List Open) → (passed rest gs).groups ≡ o ∷ os → P
+open-before P End [] f o os is = f o os is
+open-before P End (p ∷ ps) f o os is = f p ps refl
+open-before P (Next x b) gs f o os is = f o os is
+
 -- a claim leaves a job sound
 pub sound-awake : (rs : List Region) (i : ℕ) → i < length rs → IsSound rs → is_let_go (at rs i) ≡ true → IsSound (updated rs i awake)
 sound-awake rs i h s go =
     sound-changed rs i awake h (record { parent = λ r. refl; child = λ r. refl; own = λ r. refl; children = λ r. refl; ended = λ r. refl }) s (placed-awake (at rs i) (s.placed i) go)
+    (open-before (IsBegun rs i) (at rs i).rest (at rs i).groups (s.entered i))

@@ -1,10 +1,11 @@
 -- One region moves on, and who is whose child stays.
-use Rattle.std.proofs.Common.{◌≡◌, ℕ, ◌<◌, List, length, sym, ap, subst, ◌∙◌, ◌⊎◌, inl, inr, arith}
+use Rattle.std.proofs.Common.{◌≡◌, ℕ, ◌<◌, List, ◌∷◌, length, sym, ap, subst, ◌∙◌, ◌⊎◌, inl, inr, arith}
 use Rattle.std.specs.Prelude.{slice_get}
 use Rattle.std.proofs.lemmas.Bool.{cases_eq}
 use Rattle.ot_model.specs.Cells.{updated}
 use Rattle.ot_model.proofs.CellsLemmas.{length-updated}
 use Rattle.ot_depend.specs.Siblings.{IsReady}
+use Rattle.ot_task.specs.Place.{Open}
 use Rattle.ot_task.specs.Regions.{Region}
 use Rattle.ot_job.specs.Numbered.{at, parent_of}
 use Rattle.ot_job.specs.Sound.{IsBegun, IsPlaced, IsSound}
@@ -39,8 +40,8 @@ module _ (rs : List Region) (i : ℕ) (f : Region → Region) (h : i < length rs
         subst (λ c. IsReady (at (updated rs i f) (parent_of (updated rs i f) j)).children c) (sym (field (λ r. r.child) k.child j)) (subst (λ t. IsReady t (at rs j).child) (sym (table j)) r.1),
       )
 
-  pub sound-changed : IsSound rs → IsPlaced (f (at rs i)) → IsSound (updated rs i f)
-  sound-changed s placed = record {
+  pub sound-changed : IsSound rs → IsPlaced (f (at rs i)) → ((o : Open) (os : List Open) → (f (at rs i)).groups ≡ o ∷ os → IsBegun rs i) → IsSound (updated rs i f)
+  sound-changed s placed opens = record {
     root = field (λ r. r.own) k.own 0 ∙ s.root;
     top = parents-same 0 ∙ s.top;
     down = λ j pos. subst (λ n. n < j) (sym (parents-same j)) (s.down j pos);
@@ -65,11 +66,17 @@ module _ (rs : List Region) (i : ℕ) (f : Region → Region) (h : i < length rs
         let o = s.older a b pos lt (omega (arith, below, length-updated rs i f)) (sym (parents-same b) ∙ same ∙ parents-same a) in
         omega (arith, o, field (λ r. r.child) k.child a, field (λ r. r.child) k.child b);
     begun = λ j pos below. subst (IsBegun (updated rs i f)) (sym (parents-same j)) (begun-changed (parent_of rs j) (s.begun j pos (omega (arith, below, length-updated rs i f))));
+    entered = λ j o os is. begun-changed j (opened-at j o os is (cases_eq j i));
     placed = λ j. at-place j (cases_eq j i);
     done = λ j pos over l x there.
         s.done j pos (sym (field (λ r. r.ended) k.ended j) ∙ over) l x (ap (λ t. slice_get t l) (sym (field (λ r. r.children) k.children j)) ∙ there);
   }
     where
+      opened-at : (j : ℕ) (o : Open) (os : List Open) → (at (updated rs i f) j).groups ≡ o ∷ os → (j ≡ i) ⊎ (j ≡ i → ⊥) → IsBegun rs j
+      opened-at j o os is (inl e) =
+          subst (IsBegun rs) (sym e) (opens o os (ap (λ (r : Region). r.groups) (sym (at-updated rs i f h)) ∙ ap (λ n. (at (updated rs i f) n).groups) (sym e) ∙ is))
+      opened-at j o os is (inr e) = s.entered j o os (ap (λ (r : Region). r.groups) (sym (at-updated-other rs i j f e)) ∙ is)
+
       at-place : (j : ℕ) → (j ≡ i) ⊎ (j ≡ i → ⊥) → IsPlaced (at (updated rs i f) j)
       at-place j (inl e) = subst (λ n. IsPlaced (at (updated rs i f) n)) (sym e) (subst IsPlaced (sym (at-updated rs i f h)) placed)
       at-place j (inr e) = subst IsPlaced (sym (at-updated-other rs i j f e)) (s.placed j)

@@ -102,6 +102,8 @@ placed-without c r p = record {
       let b = before r.children c k s hs in let d = before r.children c l t ht in
       subst (λ us. DontMix us t.uses) (sym b.uses) (subst (DontMix b.entry.uses) (sym d.uses) (p.apart k l b.entry d.entry b.there d.there (b.unfinished fs) (d.unfinished ft)));
   over = p.over;
+  shut = p.shut;
+  once = p.once;
   writes = p.writes;
   sums = λ k s there alive cell adds.
       let b = before r.children c k s there in
@@ -128,6 +130,8 @@ placed-over r p was none = record {
   within = p.within;
   apart = p.apart;
   over = λ e. ap (λ b. todo b r.groups) was ∙ ap (todo End) none;
+  shut = λ e. none;
+  once = p.once;
   writes = p.writes;
   sums = p.sums;
   reduced = p.reduced;
@@ -348,6 +352,7 @@ module _ (ws : List Region) (s : IsSound ws) (i : ℕ) (h : i < length ws) (was 
         let o = s.older a b pos lt (omega (arith, below, long-closed)) (sym (parent-same b) ∙ even ∙ parent-same a) in
         omega (arith, o, child-same a, child-same b);
     begun = λ j pos below. subst (IsBegun now) (sym (parent-same j)) (begun-closed (parent_of ws j) (s.begun j pos (omega (arith, below, long-closed))));
+    entered = λ j o os is. begun-closed j (s.entered j o os (sym (same (λ r. r.groups) (λ r. refl) (λ r. refl) j) ∙ is));
     placed = λ j. placed j (at-now j);
     done = done-now;
   }

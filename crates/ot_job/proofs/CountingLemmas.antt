@@ -89,14 +89,14 @@ unended-few rs = count_by-le-length goes rs
 
 -- ---- a piece goes out and comes back
 
-pub counted-begun : (lease : Lease) (rs : List Region) (i out unended : ℕ) → i < length rs → (at rs i).running ≡ None → AreCounted rs out unended
-    → AreCounted (updated rs i (begun lease)) (out + 1) unended
-counted-begun lease rs i out unended h idle c =
-    let u = count-updated runs (begun lease) rs i h in
+pub counted-begun : (worker : ℕ) (lease : Lease) (rs : List Region) (i out unended : ℕ) → i < length rs → (at rs i).running ≡ None → AreCounted rs out unended
+    → AreCounted (updated rs i (begun worker lease)) (out + 1) unended
+counted-begun worker lease rs i out unended h idle c =
+    let u = count-updated runs (begun worker lease) rs i h in
     let was : one (runs (at rs i)) ≡ 0 = ap (λ o. one (is_some o)) idle in
     record {
       out = omega (arith, u, was, c.out);
-      unended = c.unended ∙ sym (count-kept goes (begun lease) (λ r. refl) rs i);
+      unended = c.unended ∙ sym (count-kept goes (begun worker lease) (λ r. refl) rs i);
     }
 
 pub one-is-out : (rs : List Region) (i : ℕ) → i < length rs → is_some (at rs i).running ≡ true → 1 ≤ out_in rs

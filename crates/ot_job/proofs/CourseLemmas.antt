@@ -1,13 +1,14 @@
 -- A settle leaves a job on its course.
-use Rattle.std.proofs.Common.{◌≡◌, ℕ, zero, suc, ◌<◌, ◌≤◌, true, false, List, [], ◌∷◌, length, refl, sym, ap, subst, ◌∙◌, ◌⊎◌, inl, inr, arith}
-use Rattle.std.specs.Prelude.{Some, option_map, nat_lt, IsSome, IsPermutation}
+use Rattle.std.proofs.Common.{◌≡◌, ℕ, zero, suc, ◌<◌, ◌≤◌, true, false, List, [], ◌∷◌, length, refl, sym, ap, subst, ◌∙◌, ◌⊎◌, inl, inr, arith, ◌+◌}
+use Rattle.std.specs.Prelude.{Option, Some, None, option_map, nat_lt, IsSome, IsPermutation}
 use Rattle.std.specs.List.{All}
 use Rattle.std.proofs.lemmas.Bool.{cases_eq}
 use Rattle.std.proofs.lemmas.List.{length-map}
+use Rattle.std.proofs.lemmas.List.Elements.{All-weaker}
 use Rattle.std.proofs.lemmas.List.Sorted.{IsPermutation-sym, IsPermutation-trans}
 use Rattle.ot_model.specs.Tree.{E, Body, append}
 use Rattle.ot_model.specs.Value.{val}
-use Rattle.ot_model.specs.Names.{NamedIn}
+use Rattle.ot_model.specs.Names.{NamedIn, AreInShape}
 use Rattle.ot_model.specs.Counts.{size, tasks_in}
 use Rattle.ot_model.specs.Cells.{cell_of, updated, lengths}
 use Rattle.ot_model.specs.Uses.{AreInOrder}
@@ -21,42 +22,49 @@ use Rattle.ot_check.specs.Offences.{adds_to, allows}
 use Rattle.ot_model.specs.declared.stmt.Mode.TheVariants.{Reads}
 use Rattle.ot_check.specs.Touches.{EachTouch}
 use Rattle.ot_check.specs.walk.Fine.{IsFine}
-use Rattle.ot_owner.specs.Owning.{Owned}
+use Rattle.ot_owner.specs.Back.{all_back}
+use Rattle.ot_owner.specs.Owning.{Owned, loan_of}
+use Rattle.ot_owner.specs.declared.lent.LentCell.{LentCell}
 use Rattle.ot_owner.specs.Leases.{Lease, lease_of, lent_from}
 use Rattle.ot_owner.specs.Lending.{first_at, value_at}
-use Rattle.ot_owner.specs.Worth.{AreJoined, worths}
+use Rattle.ot_owner.specs.Worth.{AreJoined, worth, worth_over, worths}
+use Rattle.ot_owner.proofs.OpenLemmas.{joined-same}
+use Rattle.ot_owner.proofs.WorthLemmas.{cell_of-worths, lengths-worths}
 use Rattle.ot_owner.proofs.OutLemmas.{permutation_rest}
 use Rattle.ot_task.specs.Copies.{assigned}
 use Rattle.ot_job.proofs.Given.{Lets}
 use Rattle.ot_task.specs.Place.{todo}
 use Rattle.ot_job.specs.Awaiting.{opened, children_of, unawaited, IsFineAt}
-use Rattle.ot_task.specs.Regions.{Region, Run, with_rest, next_task}
+use Rattle.ot_task.specs.Regions.{Region, Run, with_rest, next_task, cells_next}
 use Rattle.ot_job.specs.Numbered.{at, todo_at, parents, left_of}
 use Rattle.ot_job.specs.Sound.{IsBegun, IsSound}
-use Rattle.ot_task.specs.Pieces.{leading, test_of}
+use Rattle.ot_task.specs.Pieces.{leading, leading_len, test_of}
 use Rattle.ot_task.specs.Modes.{held}
 use Rattle.ot_task.specs.Touched.{piece_touches}
-use Rattle.ot_job.specs.Whole.{assigns_out, whole, wholes, leases_out}
+use Rattle.ot_job.specs.Whole.{assigns_out, whole, wholes, loans_out}
+use Rattle.ot_job.specs.Opening.{Opens}
 use Rattle.ot_job.specs.Running.{RunsWell}
 use Rattle.ot_job.specs.Live.{Live}
 use Rattle.ot_task.specs.Weighing.{weight_of}
 use Rattle.ot_job.proofs.WeighingLemmas.{weight-settled}
 use Rattle.ot_job.specs.Well.{IsOnCourse, IsWell}
 use Rattle.ot_job.specs.Taken.{Came, IsOut, taken_by}
-use Rattle.ot_job.specs.Settling.{moved_on, settled, counted, counts_after}
+use Rattle.ot_job.specs.Settling.{moved_on, settled, counted, counts_after, units_of}
 use Rattle.ot_job.proofs.BackLemmas.{mode_at, back-serial, test-serial, HasInputs}
 use Rattle.ot_job.proofs.KeptLemmas.{at-updated, at-updated-other, todo-append, kept-piece}
 use Rattle.ot_job.proofs.ChangedLemmas.{begun-changed}
 use Rattle.ot_job.proofs.FreeLemmas.{at-whole, fine-innermost, named-front, named-back}
+use Rattle.ot_job.proofs.EnteredLemmas.{each-settled}
 use Rattle.ot_job.proofs.HoldingLemmas.{course-holds, course-apart}
 use Rattle.ot_job.proofs.StopLemmas.{sound-piece, may-run}
-use Rattle.ot_job.proofs.SettleLemmas.{is-known, cells-there}
-use Rattle.ot_job.proofs.WellLemmas.{worths-stored, settle-may}
+use Rattle.ot_job.proofs.OpeningLemmas.{open-settled, open-back}
+use Rattle.ot_job.proofs.SettleLemmas.{run_of, is-known, cells-there}
+use Rattle.ot_job.proofs.WellLemmas.{settle-may}
 use Rattle.ot_job.proofs.LetsLemmas.{lets-piece, lets-test}
 use Rattle.ot_job.proofs.InputsLemmas.{has-inputs, inputs-kept}
 use Rattle.ot_job.proofs.CountLemmas.{left-grows, serial-few, piece-cells, piece-lengths, settled-state}
 use Rattle.ot_job.proofs.MovedLemmas.{Goes, goes-on}
-use Rattle.ot_job.proofs.MovesLemmas.{wholes-settled, still-out, leases-settled, length-settled}
+use Rattle.ot_job.proofs.MovesLemmas.{wholes-settled, still-out, loans-settled, length-settled}
 
 -- a job on its course has counted at most what its program has
 pub counts-few : (j : Live) → IsOnCourse j → (j.counts.tasks ≤ tasks_in j.program.body) × (j.counts.units ≤ size j.program.body)
@@ -70,8 +78,9 @@ counts-few j o =
 
 module _ (j : Live) (w : IsWell j) (working : j.failing ≡ false) (d : Came) (out : IsOut j.regions d)
     (made : (c : Cell) → value_at d.lent c ≡ assigned d.assigns (first_at d.lent) c) (told : d.answer ≡ option_map (λ e. val (value_at d.lent) e) d.test)
-    (cells : List (List ℕ)) (owned : Owned) (back : AreJoined d.lent (cell_of j.cells) (cell_of cells)) (long : lengths cells ≡ lengths j.cells)
-    (ended : IsPermutation j.owned.out (lease_of d.lent ∷ owned.out))
+    (cells : List (List ℕ)) (owned : Owned) (back : AreJoined d.lent (worth j.owned j.cells) (worth owned cells)) (long : lengths cells ≡ lengths j.cells)
+    (ended : IsPermutation j.owned.out (loan_of out.0.0 d.lent ∷ owned.out))
+    (groups : Opens (cells_next (at j.regions d.task).rest) j.counts.units (all_back out.0.0 d.lent j.owned.groups) owned.groups)
     (ordered : (child : List Use × Body) → next_task (at j.regions d.task).rest ≡ Some child → AreInOrder child.0) where
   abbrev i : ℕ
   i = d.task
@@ -80,7 +89,7 @@ module _ (j : Live) (w : IsWell j) (working : j.failing ≡ false) (d : Came) (o
   r = at j.regions i
 
   abbrev run : Run
-  run = record { assigns = d.assigns; lease = lease_of d.lent }
+  run = run_of out.0.0 d
 
   abbrev pub settles : Live
   settles = record j {
@@ -94,7 +103,7 @@ module _ (j : Live) (w : IsWell j) (working : j.failing ≡ false) (d : Came) (o
   o = w.course working
 
   well : RunsWell r run
-  well = o.runs i run out.0
+  well = o.runs i run out.0.1
 
   known : i < length j.regions
   known = is-known j d (settle-may j w o) out
@@ -111,7 +120,7 @@ module _ (j : Live) (w : IsWell j) (working : j.failing ≡ false) (d : Came) (o
   h = omega (arith, known, length-map j.regions whole)
 
   rest-was : (at ws i).rest ≡ append d.assigns r.rest
-  rest-was = ap (λ (x : Region). x.rest) (at-whole j.regions i) ∙ ap (λ p. append (assigns_out p) r.rest) out.0
+  rest-was = ap (λ (x : Region). x.rest) (at-whole j.regions i) ∙ ap (λ p. append (assigns_out p) r.rest) out.0.1
 
   alive : (at ws i).ended ≡ false
   alive = ap (λ (x : Region). x.ended) (at-whole j.regions i) ∙ well.alive
@@ -122,16 +131,33 @@ module _ (j : Live) (w : IsWell j) (working : j.failing ≡ false) (d : Came) (o
   named-all : NamedIn lens (append d.assigns r.rest)
   named-all = subst (NamedIn lens) rest-was (named-front lens (at ws i).rest (at ws i).groups (o.named i))
 
-  there : All (λ l. IsSome (cell_of j.cells l.cell)) d.lent
-  there = cells-there j d (settle-may j w o) out
+  -- the cells as they are worth
+  abbrev before : List (List ℕ)
+  before = worths j.owned j.cells
 
-  inputs : All (HasInputs j.cells) d.lent
-  inputs = has-inputs j.cells d.lent (ap (λ (l : Lease). l.firsts) (w.present i run out.0)) there
+  abbrev after : List (List ℕ)
+  after = worths owned cells
+
+  backed : AreJoined d.lent (cell_of before) (cell_of after)
+  backed = joined-same d.lent (worth j.owned j.cells) (cell_of before) (worth owned cells) (cell_of after) (cell_of-worths j.owned j.cells) (cell_of-worths owned cells) back
+
+  there : All (λ l. IsSome (cell_of before l.cell)) d.lent
+  there = All-weaker (λ l. IsSome (cell_of j.cells l.cell)) (λ l. IsSome (cell_of before l.cell)) some d.lent (cells-there j d (settle-may j w o) out)
+    where
+      by : (f : ℕ → ℕ) (n : Option ℕ) → IsSome n → IsSome (option_map f n)
+      by f None h = h
+      by f (Some n) h = refl
+
+      some : (l : LentCell) → IsSome (cell_of j.cells l.cell) → IsSome (cell_of before l.cell)
+      some l h = subst IsSome (sym (cell_of-worths j.owned j.cells l.cell)) (by (worth_over j.owned.groups l.cell) (cell_of j.cells l.cell) h)
+
+  inputs : All (HasInputs before) d.lent
+  inputs = has-inputs before d.lent (ap (λ (l : Lease). l.firsts) (w.present i run out.0.1)) there
 
   fine-here : IsFine r.own (opened r.groups) (children_of (unawaited r.waiting r.children)) (append d.assigns r.rest)
   fine-here =
       let f = subst (λ (x : Region). IsFineAt x.own (unawaited x.waiting x.children) x.rest x.groups) (at-whole j.regions i) (o.sound.placed i).fine in
-      subst (IsFine r.own (opened r.groups) (children_of (unawaited r.waiting r.children))) (ap (λ p. append (assigns_out p) r.rest) out.0)
+      subst (IsFine r.own (opened r.groups) (children_of (unawaited r.waiting r.children))) (ap (λ p. append (assigns_out p) r.rest) out.0.1)
       (fine-innermost r.own (unawaited r.waiting r.children) (whole r).rest r.groups f)
 
   exclusive : (c : Cell) → adds_to r.own c ≡ true → allows r.own (use_as Reads c) ≡ false
@@ -141,20 +167,20 @@ module _ (j : Live) (w : IsWell j) (working : j.failing ≡ false) (d : Came) (o
   may = lets-piece lens r.own (opened r.groups) (children_of (unawaited r.waiting r.children)) d.assigns r.rest well.assigns named-all fine-here exclusive d.lent well.modes
 
   -- what came back is what the assigns make of the cells
-  cells-now : cells ≡ (serial_run d.assigns j.cells).cells
+  cells-now : after ≡ (serial_run d.assigns before).cells
   cells-now =
-      back-serial d.lent d.lent j.cells cells d.assigns (λ c. refl) inputs made well.assigns may back there
-      (long ∙ sym (piece-lengths d.assigns (record { cells = j.cells; tasks = 0; units = 0 }) well.assigns))
+      back-serial d.lent d.lent before after d.assigns (λ c. refl) inputs made well.assigns may backed there
+      (lengths-worths owned cells ∙ long ∙ sym (lengths-worths j.owned j.cells) ∙ sym (piece-lengths d.assigns (record { cells = before; tasks = 0; units = 0 }) well.assigns))
 
-  test-now : (e : E) → test_of r.rest ≡ Some e → taken_by d.answer ≡ nat_lt 0 (val (cell_of cells) e)
+  test-now : (e : E) → test_of r.rest ≡ Some e → taken_by d.answer ≡ nat_lt 0 (val (cell_of after) e)
   test-now e is =
       ap taken_by (told ∙ ap (option_map (λ x. val (value_at d.lent) x)) (out.1 ∙ is))
-      ∙ ap (nat_lt 0) (test-serial d.lent d.lent j.cells cells d.assigns (λ c. refl) inputs made well.assigns may back there e
+      ∙ ap (nat_lt 0) (test-serial d.lent d.lent before after d.assigns (λ c. refl) inputs made well.assigns may backed there e
       (lets-test lens r.own (opened r.groups) (children_of (unawaited r.waiting r.children)) d.assigns r.rest well.assigns named-all fine-here exclusive d.lent well.modes e is)
       ∙ ap (λ c. val (cell_of c) e) (sym cells-now))
 
   abbrev t : State
-  t = state_of j.cells j.counts
+  t = state_of before j.counts
 
   abbrev t1 : State
   t1 = serial d.assigns t
@@ -172,7 +198,7 @@ module _ (j : Live) (w : IsWell j) (working : j.failing ≡ false) (d : Came) (o
   rest1 = ap (λ (x : Region). x.rest) here1
 
   begun : IsBegun ws i
-  begun = o.begun i run out.0
+  begun = o.begun i run out.0.1
 
   begun1 : (k : ℕ) → IsBegun ws k → IsBegun ws1 k
   begun1 = begun-changed ws i (with_rest r.rest) h (record { parent = λ r. refl; child = λ r. refl; own = λ r. refl; children = λ r. refl; ended = λ r. refl })
@@ -188,7 +214,7 @@ module _ (j : Live) (w : IsWell j) (working : j.failing ≡ false) (d : Came) (o
       pick (inl e) = subst (λ (x : Region). NamedIn lens (todo x.rest x.groups)) (sym (ap (at ws1) e ∙ here1)) mine
       pick (inr e) = subst (λ (x : Region). NamedIn lens (todo x.rest x.groups)) (sym (at-updated-other ws i k (with_rest r.rest) e)) (o.named k)
 
-  cells1 : t1.cells ≡ cells
+  cells1 : t1.cells ≡ after
   cells1 = piece-cells d.assigns t ∙ sym cells-now
 
   -- ---- the statement behind it
@@ -204,19 +230,19 @@ module _ (j : Live) (w : IsWell j) (working : j.failing ≡ false) (d : Came) (o
   now-is : wholes settles.regions ≡ moved_on (taken_by d.answer) j.counts.units i ws1
   now-is = wholes-settled (taken_by d.answer) j.counts.units i j.regions known
 
-  state-now : state_of (worths owned cells) (counts_after j.counts d.assigns r.rest) ≡ counted (at ws1 i).rest t1
+  state-now : state_of after (counts_after j.counts d.assigns r.rest) ≡ counted (at ws1 i).rest t1
   state-now =
-      ap (λ c. state_of c (counts_after j.counts d.assigns r.rest)) (worths-stored owned cells ∙ cells-now)
-      ∙ sym (settled-state d.assigns r.rest j.cells j.counts well.assigns) ∙ ap (λ b. counted b t1) (sym rest1)
+      ap (λ c. state_of c (counts_after j.counts d.assigns r.rest)) cells-now
+      ∙ sym (settled-state d.assigns r.rest before j.counts well.assigns) ∙ ap (λ b. counted b t1) (sym rest1)
 
-  kept-now : left_of (wholes settles.regions) (state_of (worths owned cells) (counts_after j.counts d.assigns r.rest)) ≡ serial_run j.program.body j.before
+  kept-now : left_of (wholes settles.regions) (state_of after (counts_after j.counts d.assigns r.rest)) ≡ serial_run j.program.body j.before
   kept-now =
-      ap (λ l. left_of l (state_of (worths owned cells) (counts_after j.counts d.assigns r.rest))) now-is
+      ap (λ l. left_of l (state_of after (counts_after j.counts d.assigns r.rest))) now-is
       ∙ ap (left_of (moved_on (taken_by d.answer) j.counts.units i ws1)) state-now
       ∙ goes.same
       ∙ kept-piece ws o.sound i h d.assigns r.rest t rest-was
       (may-run ws o.sound i h d.assigns r.rest rest-was well.assigns alive lens (named-front lens (at ws i).rest (at ws i).groups (o.named i)) calm begun)
-      ∙ ap (λ c. left_of ws (state_of c j.counts)) (sym (worths-stored j.owned j.cells)) ∙ o.kept
+      ∙ o.kept
 
   -- ---- the pieces of others
 
@@ -249,12 +275,26 @@ module _ (j : Live) (w : IsWell j) (working : j.failing ≡ false) (d : Came) (o
       subst (λ l. IsBegun l k) (sym now-is)
       (goes.begun k (omega (arith, runs-known j.regions k x was, length-map j.regions whole, length-updated ws i (with_rest r.rest))) (begun1 k (o.begun k x was)))
 
-  inputs-now : (k : ℕ) (x : Run) → (at settles.regions k).running ≡ Some x → x.lease ≡ lease_of (lent_from cells x.lease.uses)
+  inputs-now : (k : ℕ) (x : Run) → (at settles.regions k).running ≡ Some x → x.lease ≡ lease_of (lent_from after x.lease.uses)
   inputs-now k x is =
       let was = other-out k x is in
       w.present k x was
-      ∙ ap lease_of (sym (inputs-kept d.lent j.cells cells back x.lease.uses
-      (w.apart i k run x (λ e. (still-out (taken_by d.answer) j.counts.units i j.regions k x is).0 (sym e)) out.0 was)))
+      ∙ ap lease_of (sym (inputs-kept d.lent before after backed x.lease.uses
+      (w.apart i k run x (λ e. (still-out (taken_by d.answer) j.counts.units i j.regions k x is).0 (sym e)) out.0.1 was)))
+
+  -- ---- the open groups
+
+  older-now : (k : ℕ) → All (λ g. g.group < settles.counts.units) (at settles.regions k).groups
+  older-now =
+      each-settled (λ g. g.group < settles.counts.units) (taken_by d.answer) j.counts.units i j.regions
+      (λ k. All-weaker (λ g. g.group < j.counts.units) (λ g. g.group < settles.counts.units) (λ g lt. omega (arith, lt)) (at j.regions k).groups (o.older k))
+      (λ cs b rest was. let more : units_of d.assigns r.rest ≡ leading_len d.assigns + 1 = ap (units_of d.assigns) was in omega (arith, more))
+
+  there-now : (k : ℕ) → All (λ g. AreInShape (lengths cells) g.cells) (at settles.regions k).groups
+  there-now =
+      each-settled (λ g. AreInShape (lengths cells) g.cells) (taken_by d.answer) j.counts.units i j.regions
+      (λ k. subst (λ l. All (λ g. AreInShape l g.cells) (at j.regions k).groups) (sym long) (o.there k))
+      (λ cs b rest was. subst (λ l. AreInShape l cs) (sym long) (subst (NamedIn lens) was (named-back lens d.assigns r.rest named-all)).0.0)
 
   pub settle-course : IsOnCourse settles
   settle-course = record {
@@ -263,22 +303,27 @@ module _ (j : Live) (w : IsWell j) (working : j.failing ≡ false) (d : Came) (o
     named = λ k. subst (λ l. NamedIn l (todo_at (wholes settles.regions) k)) (sym long) (subst (λ l. NamedIn lens (todo_at l k)) (sym now-is) (goes.named k));
     runs = runs-now;
     begun = begun-now;
+    copies =
+        open-settled (taken_by d.answer) j.counts.units i j.regions (all_back out.0.0 d.lent j.owned.groups) owned.groups known o.older
+        (open-back j.regions j.owned.groups out.0.0 d.lent o.copies) groups;
+    older = older-now;
+    there = there-now;
     kept = kept-now;
   }
 
   pub settle-lighter : weight_of settles.regions < weight_of j.regions
-  settle-lighter = weight-settled (taken_by d.answer) j.counts.units i j.regions run known out.0 well.alive well.stops
+  settle-lighter = weight-settled (taken_by d.answer) j.counts.units i j.regions run known out.0.1 well.alive well.stops
 
   pub settle-well : IsWell settles
   settle-well = record {
     rights =
-        permutation_rest (lease_of d.lent) owned.out (leases_out settles.regions)
-        (IsPermutation-trans (lease_of d.lent ∷ owned.out) j.owned.out (lease_of d.lent ∷ leases_out settles.regions) (IsPermutation-sym j.owned.out (lease_of d.lent ∷ owned.out) ended)
-        (IsPermutation-trans j.owned.out (leases_out j.regions) (lease_of d.lent ∷ leases_out settles.regions) w.rights
-        (leases-settled (taken_by d.answer) j.counts.units i j.regions run known out.0)));
+        permutation_rest (loan_of out.0.0 d.lent) owned.out (loans_out settles.regions)
+        (IsPermutation-trans (loan_of out.0.0 d.lent ∷ owned.out) j.owned.out (loan_of out.0.0 d.lent ∷ loans_out settles.regions) (IsPermutation-sym j.owned.out (loan_of out.0.0 d.lent ∷ owned.out) ended)
+        (IsPermutation-trans j.owned.out (loans_out j.regions) (loan_of out.0.0 d.lent ∷ loans_out settles.regions) w.rights
+        (loans-settled (taken_by d.answer) j.counts.units i j.regions run known out.0.1)));
     few = (counts-few settles settle-course).1;
     created = omega (arith, length-settled (taken_by d.answer) j.counts.units i j.regions known, w.created);
-    light = omega (arith, w.light, weight-settled (taken_by d.answer) j.counts.units i j.regions run known out.0 well.alive well.stops);
+    light = omega (arith, w.light, weight-settled (taken_by d.answer) j.counts.units i j.regions run known out.0.1 well.alive well.stops);
     holds = course-holds settles settle-course;
     present = inputs-now;
     apart = course-apart settles settle-course;

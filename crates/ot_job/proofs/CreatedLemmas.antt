@@ -123,6 +123,8 @@ module _ (r : Region) (p : IsPlaced r) (d : List Use) (b rest : Body) (was : r.r
       within = more-place (λ k s. (u : Use) → allows (Some s.uses) u ≡ true → allows r.own u ≡ true) r.children new p.within may;
       apart = λ k l s t. pairs k s l t;
       over = λ e. absurd (never (sym (sym (ap (λ x. todo x r.groups) was ∙ todo-next (Task d b) rest r.groups) ∙ p.over e)));
+      shut = p.shut;
+      once = p.once;
       writes = p.writes;
       sums = more-place (λ k s. s.finished ≡ false → (c : Cell) → adds_to (Some s.uses) c ≡ true → (adds_to r.own c ≡ true) ⊎ (sums_in r.groups s c ≡ true)) r.children new p.sums (λ alive. sum_new);
       reduced = more-place (λ k s. s.finished ≡ false → (c : Cell) → opened r.groups c ≡ true → allows (Some s.uses) (use_as Reads c) ≡ false) r.children new p.reduced

@@ -16,12 +16,14 @@ use Rattle.ot_model.proofs.CellsLemmas.{length-updated}
 use Rattle.ot_check.specs.Jobs.{Spec}
 use Rattle.ot_check.proofs.Bits.{and_left, not_true}
 use Rattle.ot_owner.specs.Leases.{Lease, lease_of}
+use Rattle.ot_owner.specs.Owning.{loan_of}
 use Rattle.ot_task.specs.Regions.{Region, Run, with_child, new_region, with_created, stepped, executed, next_task, rest_at, children_at, over, stopped, root_region}
 use Rattle.ot_job.specs.Numbered.{at, parent_of}
 use Rattle.ot_job.specs.Live.{Live}
 use Rattle.ot_job.specs.Taken.{Taken}
 use Rattle.ot_task.specs.Pieces.{behind, test_of, begun}
-use Rattle.ot_job.specs.Whole.{with_lease, leases_out}
+use Rattle.ot_job.specs.Whole.{with_loan, loans_out}
+use Rattle.ot_job.proofs.SettleLemmas.{run_of}
 use Rattle.ot_job.specs.Claiming.{is_claimable, claimable_of, picked}
 use Rattle.ot_task.specs.Waits.{is_let_go}
 use Rattle.ot_depend.specs.Siblings.{is_ready}
@@ -41,18 +43,15 @@ use Rattle.ot_job.proofs.SoundLemmas.{at-past}
 use Rattle.ot_job.proofs.WellLemmas.{claimable-idle}
 use Rattle.ot_job.proofs.PickLemmas.{picked-claimable}
 use Rattle.ot_job.proofs.StartLemmas.{runs-within, each-ended, one-out, root-light}
-use Rattle.ot_job.proofs.MovesLemmas.{Alike, tell, tell-field, others-moved, still-out, leases-settled}
+use Rattle.ot_job.proofs.MovesLemmas.{Alike, tell, tell-field, others-moved, still-out, loans-settled}
 use Rattle.ot_job.proofs.WeighingLemmas.{weight-begun}
 
 -- ---- the piece that is out
 
-abbrev run_of : Came → Run
-run_of d = record { assigns = d.assigns; lease = lease_of d.lent }
-
 pub out-work : (j : Live) (d : Came) → IsOut j.regions d → work_at j d.task ≡ Some (brought d)
 out-work j d out =
-    ap (option_map (run_with (test_of (at j.regions d.task).rest))) out.0
-    ∙ ap (λ (t : Option E). Some (run_with t (record { assigns = d.assigns; lease = lease_of d.lent }))) (sym out.1)
+    ap (option_map (run_with (test_of (at j.regions d.task).rest))) out.0.1
+    ∙ ap (λ (t : Option E). Some (run_with t (run_of out.0.0 d))) (sym out.1)
 
 pub work-out : (j : Live) (d : Came) → work_at j d.task ≡ Some (brought d) → IsOut j.regions d
 work-out j d h = by (at j.regions d.task).running refl h
@@ -61,7 +60,7 @@ work-out j d h = by (at j.regions d.task).running refl h
     by None e same = absurd (none-some (brought d) same)
     by (Some run) e same =
         let one : run_with (test_of (at j.regions d.task).rest) run ≡ brought d = same_Some (run_with (test_of (at j.regions d.task).rest) run) (brought d) same in
-        (e ∙ ap (λ (w : Work). Some (let r : Run = record { assigns = w.assigns; lease = w.lease } in r)) one, sym (ap (λ (w : Work). w.test) one))
+        ((run.worker, e ∙ ap (λ (w : Work). Some (let r : Run = record { worker = run.worker; assigns = w.assigns; lease = w.lease } in r)) one), sym (ap (λ (w : Work). w.test) one))
 
 work-same : (a b : Region) → a.running ≡ b.running → a.rest ≡ b.rest → work_in a ≡ work_in b
 work-same a b running rest = ap (option_map (run_with (test_of a.rest))) running ∙ ap (λ (x : Body). option_map (run_with (test_of x)) b.running) rest
@@ -78,11 +77,11 @@ runs r = is_some r.running
 out-cons : (r : Region) (rs : List Region) → out_in (r ∷ rs) ≡ one (runs r) + out_in rs
 out-cons r rs = count-cons runs r rs
 
-pub out-leases : (rs : List Region) → out_in rs ≡ length (leases_out rs)
-out-leases [] = refl
-out-leases (r ∷ rs) = out-cons r rs ∙ by r.running (out-leases rs)
+pub out-loans : (rs : List Region) → out_in rs ≡ length (loans_out rs)
+out-loans [] = refl
+out-loans (r ∷ rs) = out-cons r rs ∙ by r.running (out-loans rs)
   where
-    by : (o : Option Run) → out_in rs ≡ length (leases_out rs) → one (is_some o) + out_in rs ≡ length (with_lease o (leases_out rs))
+    by : (o : Option Run) → out_in rs ≡ length (loans_out rs) → one (is_some o) + out_in rs ≡ length (with_loan o (loans_out rs))
     by None h = omega (arith, h)
     by (Some run) h = omega (arith, h)
 
@@ -206,16 +205,16 @@ picked-some j pick i working h =
 pub picked-working : (j : Live) (pick i : ℕ) → j.failing ≡ false → picked (claimable_of j.regions) pick ≡ Some i → state_of j ≡ Working
 picked-working j pick i working h = working-is j working (one-alive j.regions i (claimable-alive j.regions i (picked-claimable j.regions pick i h).1))
 
-pub claims-takes : (old : Live) (pick : ℕ) (p : Taken) (new : Live) → Claims old pick p new → Takes old p.task (work_of p) new
-claims-takes old pick p new c = subst (λ (n : Live). Takes old p.task (work_of p) n) (sym c.now) (record {
+pub claims-takes : (old : Live) (pick worker : ℕ) (p : Taken) (new : Live) → Claims old pick worker p new → Takes old p.task (work_of p) new
+claims-takes old pick worker p new c = subst (λ (n : Live). Takes old p.task (work_of p) n) (sym c.now) (record {
   free = work-none (at rs i) idle;
   taken =
       ap work_in here
-      ∙ ap (λ (b : Body). Some (run_with (test_of (behind (ahead old i))) (let r : Run = record { assigns = b; lease = lease } in r))) (sym c.assigns)
-      ∙ ap (λ (t : Option E). Some (run_with t (let r : Run = record { assigns = p.assigns; lease = lease } in r))) (sym c.test);
-  others = λ k other. ap work_in (at-updated-other rs i k (begun lease) other);
+      ∙ ap (λ (b : Body). Some (run_with (test_of (behind (ahead old i))) (let r : Run = record { worker = worker; assigns = b; lease = lease } in r))) (sym c.assigns)
+      ∙ ap (λ (t : Option E). Some (run_with t (let r : Run = record { worker = worker; assigns = p.assigns; lease = lease } in r))) (sym c.test);
+  others = λ k other. ap work_in (at-updated-other rs i k (begun worker lease) other);
   out = counts;
-  weight = weight-begun lease rs i both.0 idle;
+  weight = weight-begun worker lease rs i both.0 idle;
   units = refl;
   working = working-is old working left;
   state = working-is now working left-now ∙ sym (working-is old working left);
@@ -232,7 +231,7 @@ claims-takes old pick p new c = subst (λ (n : Live). Takes old p.task (work_of 
     lease = lease_of p.lent
 
     now : Live
-    now = record old { regions = updated old.regions p.task (begun (lease_of p.lent)); owned = new.owned }
+    now = record old { regions = updated old.regions p.task (begun worker (lease_of p.lent)); cells = new.cells; owned = new.owned }
 
     working : old.failing ≡ false
     working = not-failing old pick i c.task
@@ -243,24 +242,24 @@ claims-takes old pick p new c = subst (λ (n : Live). Takes old p.task (work_of 
     idle : (at rs i).running ≡ None
     idle = claimable-idle rs i both.1
 
-    here : at (updated rs i (begun lease)) i ≡ begun lease (at rs i)
-    here = at-updated rs i (begun lease) both.0
+    here : at (updated rs i (begun worker lease)) i ≡ begun worker lease (at rs i)
+    here = at-updated rs i (begun worker lease) both.0
 
     left : all_ended rs ≡ false
     left = one-alive rs i (claimable-alive rs i both.1)
 
-    left-now : all_ended (updated rs i (begun lease)) ≡ false
-    left-now = one-alive (updated rs i (begun lease)) i (ap (λ (r : Region). r.ended) here ∙ claimable-alive rs i both.1)
+    left-now : all_ended (updated rs i (begun worker lease)) ≡ false
+    left-now = one-alive (updated rs i (begun worker lease)) i (ap (λ (r : Region). r.ended) here ∙ claimable-alive rs i both.1)
 
-    counts : out_in (updated rs i (begun lease)) ≡ out_in rs + 1
+    counts : out_in (updated rs i (begun worker lease)) ≡ out_in rs + 1
     counts =
         let none : one (runs (at rs i)) ≡ 0 = ap (λ (o : Option Run). one (is_some o)) idle in
-        let w = count-updated runs (begun lease) rs i both.0 in
+        let w = count-updated runs (begun worker lease) rs i both.0 in
         omega (arith, w, none)
 
-pub claimed-gives : (old : Live) (pick : ℕ) (p : Option Taken) (new : Live) → Claimed old pick p new → Gives old p new
-claimed-gives old pick None new c = (none-picked (claimable_in old) pick c.0, c.1)
-claimed-gives old pick (Some p) new c = (some-picked (claimable_in old) pick p.task c.task, claims-takes old pick p new c)
+pub claimed-gives : (old : Live) (pick worker : ℕ) (p : Option Taken) (new : Live) → Claimed old pick worker p new → Gives old p new
+claimed-gives old pick worker None new c = (none-picked (claimable_in old) pick c.0, c.1)
+claimed-gives old pick worker (Some p) new c = (some-picked (claimable_in old) pick p.task c.task, claims-takes old pick worker p new c)
 
 pub claimable-few : (rs : List Region) → length (claimable_of rs) ≤ length rs
 claimable-few rs =
@@ -331,9 +330,9 @@ settles-returns old d n new s = record {
 
     counts : out_in new.regions + 1 ≡ out_in old.regions
     counts =
-        let same = length_permutation (leases_out old.regions) (lease_of d.lent ∷ leases_out (settled (taken_by d.answer) old.counts.units i old.regions))
-        (leases-settled (taken_by d.answer) old.counts.units i old.regions (run_of d) (runs-within old.regions i (run_of d) s.out.0) s.out.0) in
-        omega (arith, same, ap out_in regions, out-leases old.regions, out-leases (settled (taken_by d.answer) old.counts.units i old.regions))
+        let same = length_permutation (loans_out old.regions) (loan_of s.out.0.0 d.lent ∷ loans_out (settled (taken_by d.answer) old.counts.units i old.regions))
+        (loans-settled (taken_by d.answer) old.counts.units i old.regions (run_of s.out.0.0 d) (runs-within old.regions i (run_of s.out.0.0 d) s.out.0.1) s.out.0.1) in
+        omega (arith, same, ap out_in regions, out-loans old.regions, out-loans (settled (taken_by d.answer) old.counts.units i old.regions))
 
 working-goes : (j : Live) → state_of j ≡ Working → j.failing ≡ false
 working-goes j is = by j.failing (any_out j.regions) refl is
@@ -365,14 +364,14 @@ settles-pays old d n new s = record {
 -- a job that goes well works while a piece of it is out
 pub works : (j : Live) (d : Came) → IsWell j → IsOut j.regions d → j.failing ≡ false → state_of j ≡ Working
 works j d w out going =
-    working-is j going (one-alive j.regions d.task ((w.course going).runs d.task (run_of d) out.0).alive)
+    working-is j going (one-alive j.regions d.task ((w.course going).runs d.task (run_of out.0.0 d) out.0.1).alive)
 
 -- ---- a piece comes back without results
 
 pub state-by-out : (old : Live) (d : Came) → IsOut old.regions d → old.failing ≡ true → state_of old ≡ Failing
 state-by-out old d out e =
     ap (λ (x : Bool). if x then (if any_out old.regions then Failing else Failed) else if all_ended old.regions then Ended else Working) e
-    ∙ ap (λ (x : Bool). if x then Failing else Failed) (any-at old.regions d.task (record { assigns = d.assigns; lease = lease_of d.lent }) out.0)
+    ∙ ap (λ (x : Bool). if x then Failing else Failed) (any-at old.regions d.task (run_of out.0.0 d) out.0.1)
 
 pub fails-breaks : (old : Live) (d : Came) (new : Live) → FailsBy old d new → Breaks old d new
 fails-breaks old d new f = subst (λ (n : Live). Breaks old d n) (sym f.now) (record {
@@ -395,14 +394,14 @@ fails-breaks old d new f = subst (λ (n : Live). Breaks old d n) (sym f.now) (re
     i = d.task
 
     run : Run
-    run = record { assigns = d.assigns; lease = lease_of d.lent }
+    run = run_of f.out.0.0 d
 
     within : i < length rs
-    within = runs-within rs i run f.out.0
+    within = runs-within rs i run f.out.0.1
 
     counts : out_in (updated rs i stopped) + 1 ≡ out_in rs
     counts =
-        let some : one (runs (at rs i)) ≡ 1 = ap (λ (o : Option Run). one (is_some o)) f.out.0 in
+        let some : one (runs (at rs i)) ≡ 1 = ap (λ (o : Option Run). one (is_some o)) f.out.0.1 in
         let w = count-updated runs stopped rs i within in
         omega (arith, w, some)
 

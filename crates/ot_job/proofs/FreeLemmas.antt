@@ -95,7 +95,7 @@ mode-once (v ∷ us) o u (inr h) = by (same_cell u.cell v.cell) refl (mode-once 
     by true e m = absurd (precedes-other v.cell u.cell (in-order-later v us o u h) e)
     by false e m = rw e m
 
-any-among : (us : List Use) (P : Use → Type 0) → Any P us → (u : Use) × Among u us × P u
+pub any-among : (us : List Use) (P : Use → Type 0) → Any P us → (u : Use) × Among u us × P u
 any-among us P (k, u, within, is, p) = (u, at-k us k within is, p)
   where
     at-k : (us : List Use) (k : ℕ) → k < length us → get_or us k u ≡ u → Among u us
@@ -156,7 +156,7 @@ module _ (lens : List ℕ) (own : Declared) (op : Cell → Bool) (ch : Children)
   test-safe (Next Wait rest) n f u k = absurd k
   test-safe (Next (Group cs b) rest) n f u k = absurd k
 
-  fine-behind : (piece rest : Body) → AreAssigns piece → IsFine own op ch (append piece rest) → IsFine own op ch rest
+  pub fine-behind : (piece rest : Body) → AreAssigns piece → IsFine own op ch (append piece rest) → IsFine own op ch rest
   fine-behind End rest only f = f
   fine-behind (Next (Set c e) more) rest only f = fine-behind more rest only f.2
   fine-behind (Next (Add c e) more) rest only f = fine-behind more rest only f.2
@@ -206,7 +206,7 @@ module _ (lens : List ℕ) (r : Region) (p : IsPlaced (whole r)) (named : NamedI
   rest-is : (whole r).rest ≡ append run.assigns r.rest
   rest-is = ap (λ o. append (assigns_out o) r.rest) is
 
-  safe : (u : Use) → Touched u → IsHarmless r.own (opened r.groups) (children_of (unawaited r.waiting r.children)) u
+  pub safe : (u : Use) → Touched u → IsHarmless r.own (opened r.groups) (children_of (unawaited r.waiting r.children)) u
   safe = piece-safe lens r.own (opened r.groups) (children_of (unawaited r.waiting r.children)) run.assigns r.rest w.assigns
       (subst (NamedIn lens) rest-is named)
       (subst (IsFine r.own (opened r.groups) (children_of (unawaited r.waiting r.children))) rest-is (fine-innermost r.own (unawaited r.waiting r.children) (whole r).rest r.groups p.fine))
@@ -218,7 +218,7 @@ module _ (lens : List ℕ) (r : Region) (p : IsPlaced (whole r)) (named : NamedI
       by true h = refl
       by false h = absurd (true≢false h)
 
-  right-of : (u : Use) → mode_in run.lease.uses u.cell ≡ Some u.mode → IsRight r.own Touched u
+  pub right-of : (u : Use) → mode_in run.lease.uses u.cell ≡ Some u.mode → IsRight r.own Touched u
   right-of u h = held-right r.own u.cell (piece_touches run.assigns (test_of r.rest)) u.mode (sym (w.modes u.cell) ∙ h)
 
   pub piece-may : (u : Use) → mode_in run.lease.uses u.cell ≡ Some u.mode → allows r.own u ≡ true

@@ -4,12 +4,14 @@ use Rattle.std.specs.Prelude.{Some, slice_get}
 use Rattle.std.specs.List.{list_any}
 use Rattle.ot_model.specs.Tree.{S, Body, End, Next, Group, append}
 use Rattle.ot_model.specs.declared.expr.Cell.{Cell}
-use Rattle.ot_model.specs.declared.stmt.Mode.TheVariants.{Reads, Writes}
+use Rattle.ot_model.specs.Uses.{conflicts}
+use Rattle.ot_model.specs.declared.stmt.Mode.{Mode}
+use Rattle.ot_model.specs.declared.stmt.Mode.TheVariants.{Reads, Writes, Adds}
 use Rattle.ot_model.specs.declared.stmt.Use.{Use}
 use Rattle.ot_depend.specs.Siblings.{Sibling, is_unfinished, is_in}
 use Rattle.ot_check.specs.Paths.{use_as}
 use Rattle.ot_check.specs.Touches.{EachTouch, EachTask}
-use Rattle.ot_check.specs.Offences.{allows, clashes, has_cell}
+use Rattle.ot_check.specs.Offences.{Declared, allows, clashes, has_cell}
 use Rattle.ot_model.specs.Cells.{same_cell}
 use Rattle.ot_check.specs.declared.fault.Offence.TheVariants.{ReductionMisuse, ConflictsWithChild}
 use Rattle.ot_check.proofs.Bits.{or_true, true_or, or_right, or_false_left, or_false_right}
@@ -21,7 +23,7 @@ use Rattle.ot_job.specs.Awaiting.{opened, children_of, IsFineAt, AwaitsAll, unaw
 use Rattle.ot_check.proofs.SameLemmas.{same_is}
 use Rattle.ot_check.proofs.TouchLemmas.{clash_free}
 use Rattle.ot_task.specs.Regions.{Region, with_rest, inside}
-use Rattle.ot_job.specs.Sound.{LetsAll, IsPlaced, sums_in}
+use Rattle.ot_job.specs.Sound.{LetsAll, NamedOnce, IsPlaced, sums_in}
 use Rattle.ot_job.proofs.KeptLemmas.{todo-next}
 
 pub touch-append : (P : Use → Type 0) (a b : Body) → EachTouch P a → EachTouch P b → EachTouch P (append a b)
@@ -44,21 +46,37 @@ kid-none (x ∷ kids) test zero s free there alive =
     bits false t h g = absurd (true≢false (sym h))
 kid-none (x ∷ kids) test (suc k) s free there alive = kid-none kids test k s (or_false_right (is_unfinished x && test x) (list_any (λ s. is_unfinished s && test s) kids) free) there alive
 
--- a group names no cell that an unfinished child reads
-unread : (cs : List Cell) (kids : List Sibling) (k : ℕ) (s : Sibling) (c : Cell) → list_any (λ c. unawaited false kids (λ s. clashes (use_as Writes c) s.uses)) cs ≡ false
-    → slice_get kids k ≡ Some s → s.finished ≡ false → has_cell cs c ≡ true → allows (Some s.uses) (use_as Reads c) ≡ false
-unread [] kids k s c free there alive named = absurd (true≢false (sym named))
-unread (d ∷ cs) kids k s c free there alive named =
+pub writes-agree : (m : Mode) → conflicts Writes m ≡ false → ⊥
+writes-agree Reads h = true≢false h
+writes-agree Writes h = true≢false h
+writes-agree Adds h = true≢false h
+
+-- a group names no cell that an unfinished child may use
+pub unused : (cs : List Cell) (kids : List Sibling) (k : ℕ) (s : Sibling) (c : Cell) → list_any (λ c. unawaited false kids (λ s. clashes (use_as Writes c) s.uses)) cs ≡ false
+    → slice_get kids k ≡ Some s → s.finished ≡ false → has_cell cs c ≡ true
+    → (m : Mode) → allows (Some s.uses) (use_as m c) ≡ false
+unused [] kids k s c free there alive named m = absurd (true≢false (sym named))
+unused (d ∷ cs) kids k s c free there alive named m =
     elim (or_true (same_cell d c) (has_cell cs c) named) [
       | inl here ↦
           let none = kid-none kids (λ s. clashes (use_as Writes d) s.uses) k s (or_false_left (unawaited false kids (λ s. clashes (use_as Writes d) s.uses)) (list_any (λ c. unawaited false kids (λ s. clashes (use_as Writes c) s.uses)) cs) free) there alive in
-          never (allows (Some s.uses) (use_as Reads c)) (λ reads. true≢false (clash_free (use_as Writes d) (use_as Reads c) s.uses none reads (same_is d c here)))
-      | inr later ↦ unread cs kids k s c (or_false_right (unawaited false kids (λ s. clashes (use_as Writes d) s.uses)) (list_any (λ c. unawaited false kids (λ s. clashes (use_as Writes c) s.uses)) cs) free) there alive later
+          never (allows (Some s.uses) (use_as m c)) (λ may. writes-agree m (clash_free (use_as Writes d) (use_as m c) s.uses none may (same_is d c here)))
+      | inr later ↦ unused cs kids k s c (or_false_right (unawaited false kids (λ s. clashes (use_as Writes d) s.uses)) (list_any (λ c. unawaited false kids (λ s. clashes (use_as Writes c) s.uses)) cs) free) there alive later m
     ]
   where
     never : (b : Bool) → (b ≡ true → ⊥) → b ≡ false
     never true h = absurd (h refl)
     never false h = refl
+
+-- a group names no cell that an open one names
+pub unopened : (own : Declared) (op : Cell → Bool) (cs : List Cell) (c : Cell) → list_any (λ d. not (allows own (use_as Writes d)) || op d) cs ≡ false → has_cell cs c ≡ true → op c ≡ false
+unopened own op [] c free named = absurd (true≢false (sym named))
+unopened own op (d ∷ cs) c free named =
+    elim (or_true (same_cell d c) (has_cell cs c) named) [
+      | inl here ↦ subst (λ (e : Cell). op e ≡ false) (same_is d c here)
+          (or_false_right (not (allows own (use_as Writes d))) (op d) (or_false_left (not (allows own (use_as Writes d)) || op d) (list_any (λ d. not (allows own (use_as Writes d)) || op d) cs) free))
+      | inr later ↦ unopened own op cs c (or_false_right (not (allows own (use_as Writes d)) || op d) (list_any (λ d. not (allows own (use_as Writes d)) || op d) cs) free) later
+    ]
 
 module _ (r : Region) (p : IsPlaced r) where
   pub placed-enter : (g : ℕ) (cs : List Cell) (b rest : Body) → r.rest ≡ Next (Group cs b) rest → r.waiting ≡ false
@@ -76,14 +94,19 @@ module _ (r : Region) (p : IsPlaced r) where
     within = p.within;
     apart = p.apart;
     over = λ e. absurd (never (sym (sym (ap (λ x. todo x r.groups) was ∙ todo-next (Group cs b) rest r.groups) ∙ p.over e)));
-    writes = groups_inside r.own (opened r.groups) cs p.writes (sym (is_offence-Group r.own (opened r.groups) (children_of (unawaited r.waiting r.children)) cs b ReductionMisuse) ∙ clean ReductionMisuse);
+    shut = λ e. absurd (never (sym (sym (ap (λ x. todo x r.groups) was ∙ todo-next (Group cs b) rest r.groups) ∙ p.over e)));
+    once = ((λ c. unopened r.own (opened r.groups) cs c fits), p.once);
+    writes = groups_inside r.own (opened r.groups) cs p.writes fits;
     sums = λ k s there alive c adds. ⊎_elim (λ e. inl e) (λ e. inr (or_right (has_cell cs c && is_in g s) (sums_in r.groups s c) e)) (p.sums k s there alive c adds);
-    reduced = λ k s there alive c here. ⊎_elim (λ e. p.reduced k s there alive c e) (λ e. unread cs r.children k s c awaited there alive e) (or_true (opened r.groups c) (has_cell cs c) here);
+    reduced = λ k s there alive c here. ⊎_elim (λ e. p.reduced k s there alive c e) (λ e. unused cs r.children k s c awaited there alive e Reads) (or_true (opened r.groups c) (has_cell cs c) here);
     exclusive = p.exclusive;
   }
     where
       never : {x : S} {y : Body} → End ≡ Next x y → ⊥
       never e = cc
+
+      fits : list_any (λ c. not (allows r.own (use_as Writes c)) || opened r.groups c) cs ≡ false
+      fits = sym (is_offence-Group r.own (opened r.groups) (children_of (unawaited r.waiting r.children)) cs b ReductionMisuse) ∙ clean ReductionMisuse
 
       awaited : list_any (λ c. unawaited false r.children (λ s. clashes (use_as Writes c) s.uses)) cs ≡ false
       awaited = ap (λ w. list_any (λ c. unawaited w r.children (λ s. clashes (use_as Writes c) s.uses)) cs) (sym calm)
@@ -101,6 +124,8 @@ module _ (r : Region) (p : IsPlaced r) where
     within = p.within;
     apart = p.apart;
     over = λ e. sym same ∙ p.over e;
+    shut = λ e. absurd (some-groups (sym here ∙ p.shut e));
+    once = (subst NamedOnce here p.once).1;
     writes = λ c h. p.writes c (ap (λ gs. opened gs c) here ∙ true_or (opened os c) (has_cell o.cells c) h);
     sums = λ k s there alive c adds. ⊎_elim (λ e. inl e)
         (λ e. inr (outer (has_cell o.cells c) (is_in o.group s) (sums_in os s c) (none k s there alive) (sym (ap (λ gs. sums_in gs s c) here) ∙ e))) (p.sums k s there alive c adds);
@@ -110,6 +135,9 @@ module _ (r : Region) (p : IsPlaced r) where
     where
       same : todo r.rest r.groups ≡ todo o.behind os
       same = ap (λ x. todo x r.groups) was ∙ ap (todo End) here
+
+      some-groups : o ∷ os ≡ [] → ⊥
+      some-groups e = cc
 
       outer : (a i b : Bool) → i ≡ false → ((a && i) || b) ≡ true → b ≡ true
       outer true true b h g = absurd (true≢false h)

@@ -64,6 +64,8 @@ module _ (r : Region) (p : IsPlaced r) (alive : r.ended ≡ false) (uses : List 
     within = p.within;
     apart = p.apart;
     over = λ e. absurd (true≢false (sym e ∙ alive));
+    shut = p.shut;
+    once = p.once;
     writes = p.writes;
     sums = p.sums;
     reduced = p.reduced;
@@ -87,6 +89,8 @@ module _ (r : Region) (p : IsPlaced r) (alive : r.ended ≡ false) (uses : List 
     within = λ k s h. cc;
     apart = λ k l s t h. cc;
     over = λ e. absurd (true≢false (sym e));
+    shut = λ e. refl;
+    once = tt;
     writes = λ c h. absurd (true≢false (sym h));
     sums = λ k s h. cc;
     reduced = λ k s h. cc;
@@ -209,6 +213,7 @@ module _ (rs : List Region) (s : IsSound rs) (i : ℕ) (h : i < length rs) (aliv
     entries = entries-now;
     older = older-now;
     begun = λ j pos below. begun j pos below (place j);
+    entered = λ j o os is. entered j o os is (place j);
     placed = λ j. placed j (place j);
     done = λ j pos over k x there. done j pos over k x there (place j);
   }
@@ -222,6 +227,17 @@ module _ (rs : List Region) (s : IsSound rs) (i : ℕ) (h : i < length rs) (aliv
       begun j pos below (inl old) = subst (IsBegun now) (sym (parent-old j old)) (begun-now (parent_of rs j) (omega (arith, s.down j pos, old)) (s.begun j pos old))
       begun j pos below (inr (inl e)) = subst (IsBegun now) (sym (ap (λ (r : Region). r.parent) (fresh-at j e))) (begun-now i h started)
       begun j pos below (inr (inr past)) = absurd (omega (arith, past, below))
+
+      entered : (j : ℕ) (o : Open) (os : List Open) → (at now j).groups ≡ o ∷ os → (j < length rs) ⊎ ((j ≡ length rs) ⊎ (length now ≤ j)) → IsBegun now j
+      entered j o os is (inl old) = begun-now j old (s.entered j o os (sym (same-field rs i h uses body (λ r. r.groups) (λ r. refl) j old) ∙ is))
+      entered j o os is (inr (inl e)) = absurd (never (ap (λ (r : Region). r.groups) (sym (fresh-at j e)) ∙ is))
+        where
+          never : [] ≡ o ∷ os → ⊥
+          never e = cc
+      entered j o os is (inr (inr past)) = absurd (never (ap (λ (r : Region). r.groups) (sym (gone-at j past)) ∙ is))
+        where
+          never : [] ≡ o ∷ os → ⊥
+          never e = cc
 
       placed : (j : ℕ) → (j < length rs) ⊎ ((j ≡ length rs) ⊎ (length now ≤ j)) → IsPlaced (at now j)
       placed j (inl old) = pick (cases_eq j i)
@@ -251,7 +267,7 @@ module _ (ws : List Region) (s : IsSound ws) (i : ℕ) (h : i < length ws) (aliv
     (uses : List Use) (body rest : Body) (was : (at ws i).rest ≡ Next (Task uses body) rest) (ordered : AreInOrder uses) where
   off : IsSound (updated ws i (with_rest rest))
   off = sound-changed ws i (with_rest rest) h (record { parent = λ r. refl; child = λ r. refl; own = λ r. refl; children = λ r. refl; ended = λ r. refl }) s
-      (placed-off (at ws i) (s.placed i) alive uses body rest was ordered)
+      (placed-off (at ws i) (s.placed i) alive uses body rest was ordered) (s.entered i)
 
   pub hr : i < length (updated ws i (with_rest rest))
   hr = omega (arith, h, length-updated ws i (with_rest rest))

@@ -1,26 +1,30 @@
 -- A job's fields as its invariant sees them, and what a settle makes of them.
-use Rattle.std.proofs.Common.{◌≡◌, ℕ, ◌+◌, ◌<◌, ◌≤◌, ◌∙◌, ap, sym, subst, arith, List, ◌∷◌, Bool, true, false, true≢false, length}
-use Rattle.std.specs.Prelude.{◌↔◌, IsTrue, if◌then◌else◌, Option, Some, get_or, IsPermutation}
-use Rattle.ot_model.specs.Cells.{cell_of, lengths}
+use Rattle.std.proofs.Common.{◌≡◌, ℕ, ◌+◌, ◌<◌, ◌≤◌, ◌∙◌, ap, sym, subst, arith, List, ◌∷◌, ◌++◌, Bor, Bool, true, false, true≢false, length}
+use Rattle.std.specs.Prelude.{◌↔◌, IsTrue, if◌then◌else◌, Option, Some, option_map, get_or, IsPermutation}
+use Rattle.ot_model.specs.Cells.{lengths}
 use Rattle.ot_model.specs.Counts.{size}
 use Rattle.ot_model.specs.Programs.{expanded_of}
 use Rattle.ot_model.proofs.CountsLemmas.{tasks_in-≤-size}
-use Rattle.ot_owner.specs.Owning.{Owned}
-use Rattle.ot_owner.specs.Leases.{lease_of}
-use Rattle.ot_owner.specs.Worth.{AreJoined}
-use Rattle.ot_task.specs.Regions.{Region, is_control, tasks_next}
+use Rattle.ot_owner.specs.Back.{all_back}
+use Rattle.ot_owner.specs.Owning.{Owned, loan_of}
+use Rattle.ot_owner.specs.Worth.{AreJoined, worth}
+use Rattle.ot_task.specs.Regions.{Region, cells_next, is_control, tasks_next}
 use Rattle.ot_task.specs.Weighing.{weight_of}
 use Rattle.ot_job.specs.Numbered.{at}
 use Rattle.ot_job.specs.Live.{Live}
 use Rattle.ot_job.specs.JobView.{live_of}
 use Rattle.ot_task.specs.Pieces.{leading_len}
 use Rattle.ot_job.specs.Taken.{Came, IsOut, IsRun, taken_by}
+use Rattle.ot_job.specs.Opening.{Opens, IsRoomFor, opened_under}
+use Rattle.ot_model.specs.declared.expr.Cell.{Cell}
+use Rattle.ot_model.specs.declared.stmt.Use.{Use}
 use Rattle.ot_job.specs.Well.{MaySettle}
 use Rattle.ot_job.specs.Settling.{CreatesInOrder, settled, units_of}
 use Rattle.ot_job.specs.Well.{IsWell}
 use Rattle.ot_job.specs.declared.job.Job.TheInside.{Inside}
+use Rattle.ot_job.proofs.LendingLemmas.{opens}
 use Rattle.ot_job.proofs.PickLemmas.{at-here}
-use Rattle.ot_job.proofs.SettleLemmas.{is-known}
+use Rattle.ot_job.proofs.SettleLemmas.{is-known, out-to}
 use Rattle.ot_job.proofs.WellLemmas.{settle-may}
 use Rattle.ot_job.specs.Claiming.{claimable_of, picked}
 use Rattle.ot_job.specs.States.{claimable_in}
@@ -51,7 +55,11 @@ module _ (s : Inside) (w : IsWell (live_of s)) (working : s.failing ≡ false) (
   pub task-within : d.task < length s.tasks
   task-within = omega (arith, is-known (live_of s) d may out)
 
-  -- what the code counts, told of the task's region
+  -- the task's region, as the code looks at it
+  pub here-is : (t : Region) → t ≡ get_or s.tasks d.task t → r ≡ t
+  here-is t here = at-here s.tasks d.task t task-within here
+
+  -- what the code counts, told of it
   module _ (t : Region) (here : t ≡ get_or s.tasks d.task t) where
     pub units-more : (len next : ℕ) → len ≡ leading_len d.assigns → next ≡ (if is_control t.rest then 1 else 0) → units_of d.assigns r.rest ≡ len + next
     units-more len next is control =
@@ -61,23 +69,56 @@ module _ (s : Inside) (w : IsWell (live_of s)) (working : s.failing ≡ false) (
     pub tasks-more : (next : ℕ) → next ≡ tasks_next t.rest → next ≡ tasks_next r.rest
     tasks-more next is = is ∙ ap (λ (x : Region). tasks_next x.rest) (sym (at-here s.tasks d.task t task-within here))
 
-  module _ (cells : List (List ℕ)) (owned : Owned) (back : AreJoined d.lent (cell_of s.cells) (cell_of cells)) (long : lengths cells ≡ lengths s.cells)
-      (ended : IsPermutation s.owners.out (lease_of d.lent ∷ owned.out)) (ordered : CreatesInOrder r) (ran : IsRun d) where
+  -- the piece is out to the worker that the record tells
+  module _ (t : Region) (here : t ≡ get_or s.tasks d.task t) (worker : ℕ) (told : option_map (λ run. run.worker) t.running ≡ Some worker) where
+    pub told-here : option_map (λ run. run.worker) r.running ≡ Some worker
+    told-here = ap (λ (x : Region). option_map (λ run. run.worker) x.running) (at-here s.tasks d.task t task-within here) ∙ told
+
+    abbrev pub out-here : IsOut s.tasks d
+    out-here = ((worker, out-to s.tasks d worker out told-here), out.1)
+
+-- what a settle has made of the cells, and of what is out and open
+pub record CameBack (s : Inside) (d : Came) (worker : ℕ) (cells : List (List ℕ)) (owned : Owned) : Type 0 where
+  pub back : AreJoined d.lent (worth s.owners.owned s.cells) (worth owned cells)
+  pub long : lengths cells ≡ lengths s.cells
+  pub ended : IsPermutation s.owners.owned.out (loan_of worker d.lent ∷ owned.out)
+  pub groups : Opens (cells_next (at s.tasks d.task).rest) s.counts.units (all_back worker d.lent s.owners.owned.groups) owned.groups
+
+-- by what its calls tell
+pub came-back : (s : Inside) (d : Came) (worker : ℕ) (before : Owned) → before ≡ s.owners.owned → (t : Region) (next : Option (Bor (List Cell))) → at s.tasks d.task ≡ t
+    → option_map (λ cells. cells.now) next ≡ cells_next t.rest → (room : Option (List Use)) → IsRoomFor (option_map (λ cells. cells.now) next) room → (cells : List (List ℕ)) (owned : Owned)
+    → AreJoined d.lent (worth before s.cells) (worth owned cells) → lengths cells ≡ lengths s.cells → IsPermutation before.out (loan_of worker d.lent ∷ owned.out)
+    → owned.groups ≡ all_back worker d.lent before.groups ++ opened_under s.counts.units room → CameBack s d worker cells owned
+came-back s d worker before is t next here told room names cells owned back long ended groups = record {
+  back = subst (λ (b : Owned). AreJoined d.lent (worth b s.cells) (worth owned cells)) is back;
+  long = long;
+  ended = subst (λ (b : Owned). IsPermutation b.out (loan_of worker d.lent ∷ owned.out)) is ended;
+  groups =
+      opens (cells_next (at s.tasks d.task).rest) room s.counts.units (all_back worker d.lent s.owners.owned.groups) owned.groups
+      (subst (λ (n : Option (List Cell)). IsRoomFor n room) (told ∙ ap (λ (r : Region). cells_next r.rest) (sym here)) names)
+      (groups ∙ ap (λ (b : Owned). all_back worker d.lent b.groups ++ opened_under s.counts.units room) is);
+}
+
+module _ (s : Inside) (w : IsWell (live_of s)) (working : s.failing ≡ false) (d : Came) (out : IsOut s.tasks d) where
+  abbrev region : Region
+  region = at s.tasks d.task
+
+  module _ (cells : List (List ℕ)) (owned : Owned) (b : CameBack s d out.0.0 cells owned) (ordered : CreatesInOrder region) (ran : IsRun d) where
     small : size (expanded_of s.spec.checked.program).body ≤ 20000
     small = omega (arith, s.spec.checked.program.few, s.spec.checked.program.statements_are)
 
-    pub units-few : s.counts.units + units_of d.assigns r.rest ≤ 20000
-    units-few = omega (arith, (counts-few _ (settle-course (live_of s) w working d out ran.made ran.told cells owned back long ended ordered)).1, small)
+    pub units-few : s.counts.units + units_of d.assigns region.rest ≤ 20000
+    units-few = omega (arith, (counts-few _ (settle-course (live_of s) w working d out ran.made ran.told cells owned b.back b.long b.ended b.groups ordered)).1, small)
 
-    pub tasks-few : s.counts.tasks + tasks_next r.rest ≤ 20000
+    pub tasks-few : s.counts.tasks + tasks_next region.rest ≤ 20000
     tasks-few =
-        omega (arith, (counts-few _ (settle-course (live_of s) w working d out ran.made ran.told cells owned back long ended ordered)).0, small, tasks_in-≤-size (expanded_of s.spec.checked.program).body)
+        omega (arith, (counts-few _ (settle-course (live_of s) w working d out ran.made ran.told cells owned b.back b.long b.ended b.groups ordered)).0, small, tasks_in-≤-size (expanded_of s.spec.checked.program).body)
 
     abbrev pub regions_now : List Region
     regions_now = settled (taken_by d.answer) s.counts.units d.task s.tasks
 
     pub lighter : weight_of regions_now < weight_of s.tasks
-    lighter = settle-lighter (live_of s) w working d out ran.made ran.told cells owned back long ended ordered
+    lighter = settle-lighter (live_of s) w working d out ran.made ran.told cells owned b.back b.long b.ended b.groups ordered
 
     -- the job once it is settled, by its parts
     abbrev pub now : List Region → ℕ → ℕ → Live
@@ -91,12 +132,12 @@ module _ (s : Inside) (w : IsWell (live_of s)) (working : s.failing ≡ false) (
       failing = s.failing;
     }
 
-    module _ (regions : List Region) (tasks units : ℕ) (regions-are : regions ≡ regions_now) (tasks-are : tasks ≡ tasks_next r.rest) (units-are : units_of d.assigns r.rest ≡ units) where
-      pub now-is : now regions tasks units ≡ now regions_now (tasks_next r.rest) (units_of d.assigns r.rest)
+    module _ (regions : List Region) (tasks units : ℕ) (regions-are : regions ≡ regions_now) (tasks-are : tasks ≡ tasks_next region.rest) (units-are : units_of d.assigns region.rest ≡ units) where
+      pub now-is : now regions tasks units ≡ now regions_now (tasks_next region.rest) (units_of d.assigns region.rest)
       now-is =
           ap (λ (l : List Region). now l tasks units) regions-are
           ∙ ap (λ (n : ℕ). now regions_now n units) tasks-are
-          ∙ ap (λ (n : ℕ). now regions_now (tasks_next r.rest) n) (sym units-are)
+          ∙ ap (λ (n : ℕ). now regions_now (tasks_next region.rest) n) (sym units-are)
 
       pub well-now : IsWell (now regions tasks units)
-      well-now = subst IsWell (sym now-is) (settle-well (live_of s) w working d out ran.made ran.told cells owned back long ended ordered)
+      well-now = subst IsWell (sym now-is) (settle-well (live_of s) w working d out ran.made ran.told cells owned b.back b.long b.ended b.groups ordered)

@@ -20,6 +20,9 @@ pub mod ChangedLemmas
 pub mod WholeLemmas
 pub mod AwakeLemmas
 pub mod FreeLemmas
+pub mod OpenLemmas
+pub mod EnteredLemmas
+pub mod OpeningLemmas
 pub mod WellLemmas
 pub mod StopLemmas
 pub mod SettledLemmas
@@ -39,6 +42,9 @@ pub mod TakenLemmas
 pub mod RunLemmas
 mod InsideLemmas
 pub mod StartLemmas
+pub mod OpenedLemmas
+pub mod LendingLemmas
+pub mod ClaimedLemmas
 pub mod FreeTaskLemmas
 pub mod WeighingLemmas
 pub mod DealingsLemmas

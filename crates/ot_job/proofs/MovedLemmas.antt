@@ -106,7 +106,7 @@ module _ (lens : List ℕ) (ws : List Region) (s : IsSound ws) (i : ℕ) (h : i 
   goes-group taken g cs b rest was =
       let n = named-next (Group cs b) rest was in
       subst (λ now. Goes lens ws now t (bump 0 1 t)) (sym (stepped-is taken g (Next (Group cs b) rest) (λ r. inside g cs b (with_rest rest r)) was refl refl)) (record {
-        sound = sound-enter ws s i h calm g cs b rest was;
+        sound = sound-enter ws s i h calm started g cs b rest was;
         same = kept-group ws s i h g cs b rest t was;
         named = named-changed (λ r. inside g cs b (with_rest rest r)) (NamedIn-append lens b (todo rest (at ws i).groups) n.0.1 n.1);
         begun = λ k below w. begun-changed ws i (λ r. inside g cs b (with_rest rest r)) h (record { parent = λ r. refl; child = λ r. refl; own = λ r. refl; children = λ r. refl; ended = λ r. refl }) k w;

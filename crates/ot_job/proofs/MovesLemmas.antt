@@ -13,7 +13,7 @@ use Rattle.ot_task.specs.Regions.{Region, Run, with_rest, with_child, new_region
 use Rattle.ot_job.specs.Settling.{told_parent, closed, moved_on, settled}
 use Rattle.ot_task.specs.Standing.{is_at_end}
 use Rattle.ot_job.specs.Numbered.{at, parent_of}
-use Rattle.ot_job.specs.Whole.{whole, wholes, with_lease, leases_out}
+use Rattle.ot_job.specs.Whole.{whole, wholes, loan_in, with_loan, loans_out}
 use Rattle.ot_job.proofs.KeptLemmas.{at-updated, at-updated-other, at-more, at-new}
 use Rattle.ot_job.proofs.SoundLemmas.{at-past}
 use Rattle.ot_job.proofs.FreeLemmas.{at-whole}
@@ -182,14 +182,14 @@ still-out taken g i rs k run is = (other, pick (others-moved taken g i rs k othe
 
 -- ---- the leases that are out
 
-leases-same : (rs : List Region) (i : ℕ) (f : Region → Region) → ((r : Region) → (f r).running ≡ r.running) → leases_out (updated rs i f) ≡ leases_out rs
-leases-same [] i f keeps = refl
-leases-same (r ∷ rs) zero f keeps = ap (λ o. with_lease o (leases_out rs)) (keeps r)
-leases-same (r ∷ rs) (suc i) f keeps = ap (with_lease r.running) (leases-same rs i f keeps)
+loans-same : (rs : List Region) (i : ℕ) (f : Region → Region) → ((r : Region) → (f r).running ≡ r.running) → loans_out (updated rs i f) ≡ loans_out rs
+loans-same [] i f keeps = refl
+loans-same (r ∷ rs) zero f keeps = ap (λ o. with_loan o (loans_out rs)) (keeps r)
+loans-same (r ∷ rs) (suc i) f keeps = ap (with_loan r.running) (loans-same rs i f keeps)
 
-leases-more : (rs : List Region) (new : Region) → new.running ≡ None → leases_out (rs ++ new ∷ []) ≡ leases_out rs
-leases-more [] new none = ap (λ o. with_lease o []) none
-leases-more (r ∷ rs) new none = ap (with_lease r.running) (leases-more rs new none)
+loans-more : (rs : List Region) (new : Region) → new.running ≡ None → loans_out (rs ++ new ∷ []) ≡ loans_out rs
+loans-more [] new none = ap (λ o. with_loan o []) none
+loans-more (r ∷ rs) new none = ap (with_loan r.running) (loans-more rs new none)
 
 steps-run : (taken : Bool) (g : ℕ) (b : Body) (r : Region) → (stepped_from taken g b r).running ≡ r.running
 steps-run taken g End r = refl
@@ -200,38 +200,38 @@ steps-run taken g (Next (Task d b) rest) r = refl
 steps-run taken g (Next Wait rest) r = refl
 steps-run taken g (Next (Group cs b) rest) r = refl
 
-leases-created : (i : ℕ) (child : Option (List Use × Body)) (rs : List Region) → leases_out (with_created i child rs) ≡ leases_out rs
-leases-created i None rs = refl
-leases-created i (Some child) rs =
-    leases-more (updated rs i (with_child child.0)) (new_region i (children_at rs i) child.0 child.1) refl ∙ leases-same rs i (with_child child.0) (λ r. refl)
+loans-created : (i : ℕ) (child : Option (List Use × Body)) (rs : List Region) → loans_out (with_created i child rs) ≡ loans_out rs
+loans-created i None rs = refl
+loans-created i (Some child) rs =
+    loans-more (updated rs i (with_child child.0)) (new_region i (children_at rs i) child.0 child.1) refl ∙ loans-same rs i (with_child child.0) (λ r. refl)
 
-leases-moved : (taken : Bool) (g i : ℕ) (rs : List Region) → leases_out (moved_on taken g i rs) ≡ leases_out rs
-leases-moved taken g i rs = by (is_at_end (at rs i).rest (at rs i).groups)
+loans-moved : (taken : Bool) (g i : ℕ) (rs : List Region) → loans_out (moved_on taken g i rs) ≡ loans_out rs
+loans-moved taken g i rs = by (is_at_end (at rs i).rest (at rs i).groups)
   where
-    tells : (some : Bool) → leases_out (tell some (parent_of rs i) (at rs i).child rs) ≡ leases_out rs
+    tells : (some : Bool) → loans_out (tell some (parent_of rs i) (at rs i).child rs) ≡ loans_out rs
     tells false = refl
-    tells true = leases-same rs (parent_of rs i) (without (at rs i).child) (λ r. refl)
+    tells true = loans-same rs (parent_of rs i) (without (at rs i).child) (λ r. refl)
 
-    by : (b : Bool) → leases_out (if b then closed i rs else executed taken g i rs) ≡ leases_out rs
-    by true = leases-same (told_parent i rs) i over (λ r. refl) ∙ tells (nat_lt 0 i)
-    by false = leases-created i (next_task (rest_at rs i)) (updated rs i (stepped taken g)) ∙ leases-same rs i (stepped taken g) (λ r. steps-run taken g r.rest r)
+    by : (b : Bool) → loans_out (if b then closed i rs else executed taken g i rs) ≡ loans_out rs
+    by true = loans-same (told_parent i rs) i over (λ r. refl) ∙ tells (nat_lt 0 i)
+    by false = loans-created i (next_task (rest_at rs i)) (updated rs i (stepped taken g)) ∙ loans-same rs i (stepped taken g) (λ r. steps-run taken g r.rest r)
 
-pub one-less : (rs : List Region) (i : ℕ) (run : Run) → (at rs i).running ≡ Some run → IsPermutation (leases_out rs) (run.lease ∷ leases_out (updated rs i stopped))
+pub one-less : (rs : List Region) (i : ℕ) (run : Run) → (at rs i).running ≡ Some run → IsPermutation (loans_out rs) (loan_in run ∷ loans_out (updated rs i stopped))
 one-less [] i run is = cc
-one-less (r ∷ rs) zero run is = subst (λ o. IsPermutation (with_lease o (leases_out rs)) (run.lease ∷ leases_out rs)) (sym is) (IsPermutation-refl (run.lease ∷ leases_out rs))
+one-less (r ∷ rs) zero run is = subst (λ o. IsPermutation (with_loan o (loans_out rs)) (loan_in run ∷ loans_out rs)) (sym is) (IsPermutation-refl (loan_in run ∷ loans_out rs))
 one-less (r ∷ rs) (suc i) run is = by (one-less rs i run is) r.running
   where
-    by : IsPermutation (leases_out rs) (run.lease ∷ leases_out (updated rs i stopped)) → (o : Option Run) → IsPermutation (with_lease o (leases_out rs)) (run.lease ∷ with_lease o (leases_out (updated rs i stopped)))
+    by : IsPermutation (loans_out rs) (loan_in run ∷ loans_out (updated rs i stopped)) → (o : Option Run) → IsPermutation (with_loan o (loans_out rs)) (loan_in run ∷ with_loan o (loans_out (updated rs i stopped)))
     by rest None = rest
     by rest (Some x) =
-        IsPermutation-trans (x.lease ∷ leases_out rs) (x.lease ∷ run.lease ∷ leases_out (updated rs i stopped)) (run.lease ∷ x.lease ∷ leases_out (updated rs i stopped))
-        (IsPermutation-cons x.lease (leases_out rs) (run.lease ∷ leases_out (updated rs i stopped)) rest)
-        (IsPermutation-swap (x.lease ∷ run.lease ∷ leases_out (updated rs i stopped)) (run.lease ∷ x.lease ∷ leases_out (updated rs i stopped)) 0 1 (omega arith) (omega arith) refl)
+        IsPermutation-trans (loan_in x ∷ loans_out rs) (loan_in x ∷ loan_in run ∷ loans_out (updated rs i stopped)) (loan_in run ∷ loan_in x ∷ loans_out (updated rs i stopped))
+        (IsPermutation-cons (loan_in x) (loans_out rs) (loan_in run ∷ loans_out (updated rs i stopped)) rest)
+        (IsPermutation-swap (loan_in x ∷ loan_in run ∷ loans_out (updated rs i stopped)) (loan_in run ∷ loan_in x ∷ loans_out (updated rs i stopped)) 0 1 (omega arith) (omega arith) refl)
 
 -- the task's own lease is out no more
-pub leases-settled : (taken : Bool) (g i : ℕ) (rs : List Region) (run : Run) → i < length rs → (at rs i).running ≡ Some run → IsPermutation (leases_out rs) (run.lease ∷ leases_out (settled taken g i rs))
-leases-settled taken g i rs run h is =
-    subst (λ l. IsPermutation l (run.lease ∷ leases_out (settled taken g i rs))) (leases-moved taken g i rs) (one-less (moved_on taken g i rs) i run (runs-here (is_at_end (at rs i).rest (at rs i).groups) ∙ is))
+pub loans-settled : (taken : Bool) (g i : ℕ) (rs : List Region) (run : Run) → i < length rs → (at rs i).running ≡ Some run → IsPermutation (loans_out rs) (loan_in run ∷ loans_out (settled taken g i rs))
+loans-settled taken g i rs run h is =
+    subst (λ l. IsPermutation l (loan_in run ∷ loans_out (settled taken g i rs))) (loans-moved taken g i rs) (one-less (moved_on taken g i rs) i run (runs-here (is_at_end (at rs i).rest (at rs i).groups) ∙ is))
   where
     runs-created : (child : Option (List Use × Body)) (xs : List Region) → i < length xs → (at (with_created i child xs) i).running ≡ (at xs i).running
     runs-created None xs l = refl

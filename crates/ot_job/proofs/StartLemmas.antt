@@ -1,14 +1,15 @@
 -- A job begins well, and where it has ended its cells and counts are the serial meaning of its program.
 use Rattle.std.proofs.Common.{◌≡◌, ℕ, zero, suc, ◌+◌, ◌*◌, ◌<◌, ◌≤◌, Bool, true, false, List, [], ◌∷◌, length, refl, sym, ap, subst, ◌∙◌, ◌⊎◌, inl, inr, arith, true≢false, ◌==◌}
-use Rattle.std.specs.Prelude.{Option, is_some, ◌||◌, Some, None, slice_get, if◌then◌else◌, IsPermutation, Contains}
+use Rattle.std.specs.Prelude.{Option, option_map, is_some, ◌||◌, Some, None, slice_get, if◌then◌else◌, IsPermutation, Contains, All}
 use Rattle.std.proofs.lemmas.Bool.{cases_eq}
+use Rattle.std.proofs.lemmas.List.Elements.{All-nil}
 use Rattle.std.proofs.lemmas.List.Sorted.{IsPermutation-refl, IsPermutation-sym, IsPermutation-trans, Contains-permutation}
 use Rattle.ot_model.specs.Tree.{Body, End, Next}
 use Rattle.ot_model.specs.Counts.{size}
 use Rattle.ot_task.specs.Weighing.{weight_of}
 use Rattle.ot_job.proofs.WeighingLemmas.{weight-few, weight-stopped}
-use Rattle.ot_model.specs.Cells.{lengths, updated}
-use Rattle.ot_model.specs.Names.{NamedIn}
+use Rattle.ot_model.specs.Cells.{cell_of, lengths, updated}
+use Rattle.ot_model.specs.Names.{NamedIn, AreInShape}
 use Rattle.ot_model.specs.Programs.{Expanded}
 use Rattle.ot_model.specs.Serial.{State, serial, serial_run}
 use Rattle.ot_model.specs.Runs.{state_of}
@@ -19,16 +20,20 @@ use Rattle.ot_check.specs.Offences.{allows}
 use Rattle.ot_check.proofs.Bits.{and_left, and_right}
 use Rattle.ot_check.proofs.FineLemmas.{disciplined-fine}
 use Rattle.ot_check.proofs.InsideLemmas.{inside}
-use Rattle.ot_owner.specs.Owning.{Owned}
-use Rattle.ot_owner.specs.Leases.{lease_of}
-use Rattle.ot_owner.specs.Worth.{worths}
+use Rattle.ot_owner.specs.Owning.{Owned, loan_of}
+use Rattle.ot_owner.specs.Leases.{lease_of, lent_from}
+use Rattle.ot_owner.specs.Worth.{worths, worth_over}
+use Rattle.ot_owner.proofs.WorthLemmas.{worths-combined, worths-same}
 use Rattle.ot_owner.proofs.OutLemmas.{permutation_rest}
 use Rattle.ot_job.specs.Holding.{Holds, touches_out}
 use Rattle.ot_job.specs.Left.{left, children_left}
+use Rattle.ot_task.specs.Place.{Open}
 use Rattle.ot_task.specs.Regions.{Region, Run, root_region, stopped}
 use Rattle.ot_job.specs.Numbered.{at, gone, parent_of, todo_at, parents, left_of}
 use Rattle.ot_job.specs.Sound.{IsPlaced, IsSound}
-use Rattle.ot_job.specs.Whole.{wholes, leases_out}
+use Rattle.ot_job.specs.Whole.{wholes, loans_out}
+use Rattle.ot_job.specs.Opening.{AreOpen}
+use Rattle.ot_task.specs.Place.{Open}
 use Rattle.ot_job.specs.Live.{Live}
 use Rattle.ot_job.specs.Well.{IsWell}
 use Rattle.ot_job.specs.States.{all_ended, any_out, state_in}
@@ -37,7 +42,9 @@ use Rattle.ot_job.specs.Taken.{Came, IsOut}
 use Rattle.ot_job.proofs.Kept.{touch-all}
 use Rattle.ot_job.proofs.KeptLemmas.{at-updated, at-updated-other}
 use Rattle.ot_job.proofs.FreeLemmas.{at-whole}
-use Rattle.ot_job.proofs.WellLemmas.{worths-stored, out-contained}
+use Rattle.ot_job.proofs.OpeningLemmas.{none-open, open-none, none-combined}
+use Rattle.ot_job.proofs.SettleLemmas.{run_of}
+use Rattle.ot_job.proofs.WellLemmas.{out-contained}
 use Rattle.ot_job.proofs.MovesLemmas.{one-less}
 
 -- ---- the root alone
@@ -51,6 +58,8 @@ placed-gone = record {
   within = λ k s h. cc;
   apart = λ k l s t h. cc;
   over = λ e. refl;
+  shut = λ e. refl;
+  once = tt;
   writes = λ c h. absurd (true≢false (sym h));
   sums = λ k s h. cc;
   reduced = λ k s h. cc;
@@ -70,6 +79,8 @@ module _ (program : Expanded) (disciplined : IsDisciplined program) (lens : List
     within = λ k s h. cc;
     apart = λ k l s t h. cc;
     over = λ e. absurd (true≢false (sym e));
+    shut = λ e. refl;
+    once = tt;
     writes = λ c h. absurd (true≢false (sym h));
     sums = λ k s h. cc;
     reduced = λ k s h. cc;
@@ -84,6 +95,10 @@ module _ (program : Expanded) (disciplined : IsDisciplined program) (lens : List
   no-entry zero k s there = cc
   no-entry (suc p) k s there = cc
 
+  no-group : {P : Type 0} (i : ℕ) (o : Open) (os : List Open) → (at root i).groups ≡ o ∷ os → P
+  no-group zero o os is = cc
+  no-group (suc i) o os is = cc
+
   down : (i : ℕ) → 0 < i → parent_of root i < i
   down zero pos = absurd (omega (arith, pos))
   down (suc i) pos = pos
@@ -97,6 +112,7 @@ module _ (program : Expanded) (disciplined : IsDisciplined program) (lens : List
     entries = λ p k s there. no-entry p k s there;
     older = λ a b pos lt below same. absurd (omega (arith, pos, lt, below));
     begun = λ i pos below. absurd (omega (arith, pos, below));
+    entered = λ i o os is. no-group i o os is;
     placed = placed-each;
     done = λ i pos over k s there. no-entry i k s there;
   }
@@ -104,6 +120,14 @@ module _ (program : Expanded) (disciplined : IsDisciplined program) (lens : List
   named-each : (i : ℕ) → NamedIn lens (todo_at root i)
   named-each zero = named
   named-each (suc i) = tt
+
+  none-yet : (i : ℕ) → (at root i).groups ≡ []
+  none-yet zero = refl
+  none-yet (suc i) = refl
+
+  each-open : (P : Open → Type 0) (i : ℕ) → All P (at root i).groups
+  each-open P zero = All-nil P
+  each-open P (suc i) = All-nil P
 
   idle : {P : Type 0} (i : ℕ) (run : Run) → (at root i).running ≡ Some run → P
   idle zero run is = cc
@@ -114,10 +138,10 @@ root-light End = omega arith
 root-light (Next x rest) = omega (arith, weight-few (Next x rest))
 
 -- a job begins well
-pub starts-well : (j : Live) → IsDisciplined j.program → NamedIn (lengths j.cells) j.program.body → j.owned.out ≡ [] → j.regions ≡ root_region j.program.body ∷ []
+pub starts-well : (j : Live) → IsDisciplined j.program → NamedIn (lengths j.cells) j.program.body → j.owned.out ≡ [] → j.owned.groups ≡ [] → j.regions ≡ root_region j.program.body ∷ []
     → j.cells ≡ j.before → j.counts.tasks ≡ 0 → j.counts.units ≡ 0 → IsWell j
-starts-well j disciplined named out regions cells tasks units = record {
-  rights = subst (λ rs. IsPermutation j.owned.out (leases_out rs)) (sym regions) (subst (λ o. IsPermutation o []) (sym out) (IsPermutation-refl []));
+starts-well j disciplined named out groups regions cells tasks units = record {
+  rights = subst (λ rs. IsPermutation j.owned.out (loans_out rs)) (sym regions) (subst (λ o. IsPermutation o []) (sym out) (IsPermutation-refl []));
   few = omega (arith, units);
   created = subst (λ rs. length rs ≡ 1 + j.counts.tasks) (sym regions) (omega (arith, tasks));
   light = subst (λ rs. weight_of rs ≤ 2 * size j.program.body + 1) (sym regions) (root-light j.program.body);
@@ -130,13 +154,16 @@ starts-well j disciplined named out regions cells tasks units = record {
     named = subst (λ rs. (i : ℕ) → NamedIn (lengths j.cells) (todo_at (wholes rs) i)) (sym regions) (named-each j.program disciplined (lengths j.cells) named);
     runs = λ i run is. idle j.program disciplined (lengths j.cells) named i run (ap (λ rs. (at rs i).running) (sym regions) ∙ is);
     begun = λ i run is. idle j.program disciplined (lengths j.cells) named i run (ap (λ rs. (at rs i).running) (sym regions) ∙ is);
+    copies = subst (λ rs. AreOpen rs j.owned.groups) (sym regions) (subst (AreOpen (root_region j.program.body ∷ [])) (sym groups) (open-none (root_region j.program.body ∷ []) (none-yet j.program disciplined (lengths j.cells) named)));
+    older = λ i. subst (λ rs. All (λ g. g.group < j.counts.units) (at rs i).groups) (sym regions) (each-open j.program disciplined (lengths j.cells) named (λ g. g.group < j.counts.units) i);
+    there = λ i. subst (λ rs. All (λ g. AreInShape (lengths j.cells) g.cells) (at rs i).groups) (sym regions) (each-open j.program disciplined (lengths j.cells) named (λ g. AreInShape (lengths j.cells) g.cells) i);
     kept = ap (λ rs. left_of (wholes rs) (state_of (worths j.owned j.cells) j.counts)) regions ∙ ap (serial j.program.body) begins;
   };
 }
   where
     begins : state_of (worths j.owned j.cells) j.counts ≡ record { cells = j.before; tasks = 0; units = 0 }
     begins =
-        ap (λ c. let s : State = record { cells = c; tasks = j.counts.tasks; units = j.counts.units } in s) (worths-stored j.owned j.cells ∙ cells)
+        ap (λ c. let s : State = record { cells = c; tasks = j.counts.tasks; units = j.counts.units } in s) (worths-combined j.owned j.cells (none-combined j.owned groups) ∙ cells)
         ∙ ap (λ n. let s : State = record { cells = j.before; tasks = n; units = j.counts.units } in s) tasks
         ∙ ap (λ n. let s : State = record { cells = j.before; tasks = 0; units = n } in s) units
 
@@ -161,8 +188,9 @@ pub ended-meaning : (j : Live) → IsWell j → j.failing ≡ false → all_ende
 ended-meaning j w working ended =
     let o = w.course working in
     let s = state_of (worths j.owned j.cells) j.counts in
+    let closed : (i : ℕ) → (at j.regions i).groups ≡ [] = λ i. ap (λ (r : Region). r.groups) (sym (at-whole j.regions i)) ∙ (o.sound.placed i).shut (ap (λ (r : Region). r.ended) (at-whole j.regions i) ∙ each-ended j.regions ended i) in
     let over : (i : ℕ) → todo_at (wholes j.regions) i ≡ End = λ i. (o.sound.placed i).over (ap (λ (r : Region). r.ended) (at-whole j.regions i) ∙ each-ended j.regions ended i) in
-    ap (λ c. state_of c j.counts) (sym (worths-stored j.owned j.cells))
+    ap (λ c. state_of c j.counts) (sym (worths-combined j.owned j.cells (none-combined j.owned (none-open j.regions j.owned.groups closed o.copies))))
     ∙ sym (ap (λ (f : ℕ → Body). left f (parents (wholes j.regions)) s) (λ z i. over i z) ∙ nothing-left 0 1 (parents (wholes j.regions)) s)
     ∙ o.kept
 
@@ -173,30 +201,33 @@ runs-within [] i run is = cc
 runs-within (r ∷ rs) zero run is = omega arith
 runs-within (r ∷ rs) (suc i) run is = omega (arith, runs-within rs i run is)
 
-pub fails-out : (j : Live) (d : Came) → IsWell j → IsOut j.regions d → Contains j.owned.out (lease_of d.lent)
+pub fails-out : (j : Live) (d : Came) → IsWell j → (out : IsOut j.regions d) → Contains j.owned.out (loan_of out.0.0 d.lent)
 fails-out j d w out =
-    Contains-permutation (leases_out j.regions) j.owned.out (lease_of d.lent) (IsPermutation-sym j.owned.out (leases_out j.regions) w.rights)
-    (out-contained j.regions d.task (record { assigns = d.assigns; lease = lease_of d.lent }) out.0)
+    Contains-permutation (loans_out j.regions) j.owned.out (loan_of out.0.0 d.lent) (IsPermutation-sym j.owned.out (loans_out j.regions) w.rights)
+    (out-contained j.regions d.task (run_of out.0.0 d) out.0.1)
 
-pub fails-well : (j : Live) (d : Came) (owned : Owned) → IsWell j → IsOut j.regions d → IsPermutation j.owned.out (lease_of d.lent ∷ owned.out)
+pub fails-well : (j : Live) (d : Came) (owned : Owned) → IsWell j → (out : IsOut j.regions d) → IsPermutation j.owned.out (loan_of out.0.0 d.lent ∷ owned.out) → owned.groups ≡ j.owned.groups
     → IsWell (record j { regions = updated j.regions d.task stopped; owned = owned; failing = true })
-fails-well j d owned w out ended = record {
+fails-well j d owned w out ended groups = record {
   rights =
-      permutation_rest (lease_of d.lent) owned.out (leases_out (updated j.regions d.task stopped))
-      (IsPermutation-trans (lease_of d.lent ∷ owned.out) j.owned.out (lease_of d.lent ∷ leases_out (updated j.regions d.task stopped)) (IsPermutation-sym j.owned.out (lease_of d.lent ∷ owned.out) ended)
-      (IsPermutation-trans j.owned.out (leases_out j.regions) (lease_of d.lent ∷ leases_out (updated j.regions d.task stopped)) w.rights
-      (one-less j.regions d.task (record { assigns = d.assigns; lease = lease_of d.lent }) out.0)));
+      permutation_rest (loan_of out.0.0 d.lent) owned.out (loans_out (updated j.regions d.task stopped))
+      (IsPermutation-trans (loan_of out.0.0 d.lent ∷ owned.out) j.owned.out (loan_of out.0.0 d.lent ∷ loans_out (updated j.regions d.task stopped)) (IsPermutation-sym j.owned.out (loan_of out.0.0 d.lent ∷ owned.out) ended)
+      (IsPermutation-trans j.owned.out (loans_out j.regions) (loan_of out.0.0 d.lent ∷ loans_out (updated j.regions d.task stopped)) w.rights
+      (one-less j.regions d.task (run_of out.0.0 d) out.0.1)));
   few = w.few;
   created = length-updated j.regions d.task stopped ∙ w.created;
   light = omega (arith, w.light, weight-stopped j.regions d.task known);
   holds = λ k run is. let r = still k run is in subst (λ x. Holds x.own (touches_out x run) run.lease.uses) (sym r) (w.holds k run (was k run is));
-  present = λ k run is. w.present k run (was k run is);
+  present = λ k run is. subst (λ cells. run.lease ≡ lease_of (lent_from cells run.lease.uses)) (sym worths-now) (w.present k run (was k run is));
   apart = λ k l one two other is also. w.apart k l one two other (was k one is) (was l two also);
   course = λ working. absurd (true≢false working);
 }
   where
+    worths-now : worths owned j.cells ≡ worths j.owned j.cells
+    worths-now = worths-same j.owned owned j.cells j.cells refl (λ cell. ap (λ gs. option_map (worth_over gs cell) (cell_of j.cells cell)) groups)
+
     known : d.task < length j.regions
-    known = runs-within j.regions d.task (record { assigns = d.assigns; lease = lease_of d.lent }) out.0
+    known = runs-within j.regions d.task (run_of out.0.0 d) out.0.1
 
     -- who has a piece out still has it, and nothing else of it changed
     still : (k : ℕ) (run : Run) → (at (updated j.regions d.task stopped) k).running ≡ Some run → at (updated j.regions d.task stopped) k ≡ at j.regions k

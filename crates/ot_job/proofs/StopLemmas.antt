@@ -62,6 +62,8 @@ module _ (r : Region) (p : IsPlaced r) (piece rest : Body) (was : r.rest ≡ app
     within = p.within;
     apart = p.apart;
     over = λ e. absurd (true≢false (sym e ∙ alive));
+    shut = p.shut;
+    once = p.once;
     writes = p.writes;
     sums = p.sums;
     reduced = p.reduced;
@@ -110,7 +112,7 @@ module _ (ws : List Region) (s : IsSound ws) (i : ℕ) (h : i < length ws) (piec
   -- the regions once the piece is behind
   pub sound-piece : IsSound (updated ws i (with_rest rest))
   sound-piece = sound-changed ws i (with_rest rest) h (record { parent = λ r. refl; child = λ r. refl; own = λ r. refl; children = λ r. refl; ended = λ r. refl }) s
-      (placed-piece (at ws i) (s.placed i) piece rest was only alive)
+      (placed-piece (at ws i) (s.placed i) piece rest was only alive) (s.entered i)
 
   -- the piece may run out of order
   pub may-run : (lens : List ℕ) → NamedIn lens (at ws i).rest → (at ws i).waiting ≡ false → IsBegun ws i → MayRun (parent_of ws) (may_at ws) (ended_at ws) (IsBegun ws) i piece

@@ -30,7 +30,7 @@ back : (lens : List ℕ) (a b : Body) → NamedIn lens (append a b) → NamedIn 
 back lens End b n = n
 back lens (Next x a) b n = back lens a b n.1
 
-module _ (j : Live) (o : IsOnCourse j) (i : ℕ) (lent : List LentCell) (are : AreHeld (at j.regions i) (uses_of lent)) (inputs : lent ≡ lent_from j.cells (uses_of lent)) where
+module _ (j : Live) (o : IsOnCourse j) (i : ℕ) (lent : List LentCell) (are : AreHeld (at j.regions i) (uses_of lent)) (cells : List (List ℕ)) (inputs : lent ≡ lent_from cells (uses_of lent)) where
   abbrev r : Region
   r = at j.regions i
 
@@ -41,11 +41,11 @@ module _ (j : Live) (o : IsOnCourse j) (i : ℕ) (lent : List LentCell) (are : A
   named = subst (NamedIn (lengths j.cells)) (sym (whole-again ahead)) (named-awake j o i)
 
   readable : (b : Body) → NamedIn (lengths j.cells) b → ((c : Cell) → mode_in (uses_of lent) c ≡ held r.own (piece_touches (leading ahead) (test_of b)) c)
-      → IfSome (test_of b) (λ e. HasAll (value_at (lent_from j.cells (uses_of lent))) e)
+      → IfSome (test_of b) (λ e. HasAll (value_at (lent_from cells (uses_of lent))) e)
   readable End n modes = tt
   readable (Next (Set c e) rest) n modes = tt
   readable (Next (Add c e) rest) n modes = tt
-  readable (Next (If e a b) rest) n modes = piece-reads (lengths j.cells) r.own j.cells (uses_of lent) (leading ahead) e n.0.0 modes
+  readable (Next (If e a b) rest) n modes = piece-reads (lengths j.cells) r.own cells (uses_of lent) (leading ahead) e n.0.0 modes
   readable (Next (Task d b) rest) n modes = tt
   readable (Next Wait rest) n modes = tt
   readable (Next (Group cs b) rest) n modes = tt
@@ -53,8 +53,8 @@ module _ (j : Live) (o : IsOnCourse j) (i : ℕ) (lent : List LentCell) (are : A
   pub claim-can : CanRun (leading ahead) (test_of (behind ahead)) lent
   claim-can = record {
     assignable = subst (CanAssign (leading ahead)) (sym inputs)
-        (piece-can (lengths j.cells) r.own j.cells (uses_of lent) (leading ahead) (test_touches (test_of (behind ahead))) (leading-assigns ahead) (front (lengths j.cells) (leading ahead) (behind ahead) named) are);
+        (piece-can (lengths j.cells) r.own cells (uses_of lent) (leading ahead) (test_touches (test_of (behind ahead))) (leading-assigns ahead) (front (lengths j.cells) (leading ahead) (behind ahead) named) are);
     readable = subst (λ (l : List LentCell). IfSome (test_of (behind ahead)) (λ e. HasAll (value_at l) e)) (sym inputs)
         (readable (behind ahead) (back (lengths j.cells) (leading ahead) (behind ahead) named) are);
-    fresh = λ c. subst (λ (l : List LentCell). value_at l c ≡ first_at l c) (sym inputs) (lent-fresh j.cells (uses_of lent) c);
+    fresh = λ c. subst (λ (l : List LentCell). value_at l c ≡ first_at l c) (sym inputs) (lent-fresh cells (uses_of lent) c);
   }

@@ -75,10 +75,10 @@ begun-left lease End [] = refl
 begun-left lease End (o ∷ os) = ap (λ n. n + weight_behind os) (weight-after o.behind)
 begun-left lease (Next x rest) os = ap (λ n. n + weight_behind os) (weight-after (Next x rest))
 
-pub weight-begun : (lease : Lease) (rs : List Region) (i : ℕ) → i < length rs → (at rs i).running ≡ None → weight_of (updated rs i (begun lease)) ≡ weight_of rs
-weight-begun lease rs i h idle =
-    let w = weight-updated rs i (begun lease) h in
-    let same : region_weight (begun lease (at rs i)) ≡ region_weight (at rs i) =
+pub weight-begun : (worker : ℕ) (lease : Lease) (rs : List Region) (i : ℕ) → i < length rs → (at rs i).running ≡ None → weight_of (updated rs i (begun worker lease)) ≡ weight_of rs
+weight-begun worker lease rs i h idle =
+    let w = weight-updated rs i (begun worker lease) h in
+    let same : region_weight (begun worker lease (at rs i)) ≡ region_weight (at rs i) =
     ap (λ n. if (at rs i).ended then 0 else 1 + n) (begun-left lease (at rs i).rest (at rs i).groups ∙ ap (λ o. weight_left (is_some o) (at rs i).rest (at rs i).groups) (sym idle)) in
     omega (arith, w, same)
 

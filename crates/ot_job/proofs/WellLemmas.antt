@@ -1,14 +1,13 @@
 -- A claim is free to be made, and leaves a job well.
 use Rattle.std.proofs.Common.{◌≡◌, ◌≢◌, ℕ, zero, suc, ◌<◌, true, false, not, ◌&&◌, ◌||◌, List, [], ◌∷◌, length, refl, sym, ap, subst, ◌∙◌, ◌⊎◌, inl, inr, ⊎_elim, arith, true≢false}
-use Rattle.std.specs.Prelude.{Option, Some, None, is_some, option_map, slice_get, ◌==◌, All, Contains, IsSome, IsPermutation}
+use Rattle.std.specs.Prelude.{Option, Some, None, is_some, slice_get, ◌==◌, All, Contains, IsSome, IsPermutation}
 use Rattle.std.proofs.lemmas.Bool.{cases_eq}
 use Rattle.std.proofs.lemmas.Bool.Decides.{nat_tests}
 use Rattle.std.proofs.lemmas.Option.{same_Some}
 use Rattle.std.proofs.lemmas.List.{length-map}
-use Rattle.std.proofs.lemmas.List.Elements.{All-nil, All-cons}
 use Rattle.std.proofs.lemmas.List.Sorted.{Contains-permutation, All-permutation, IsPermutation-sym, IsPermutation-trans, IsPermutation-cons}
 use Rattle.ot_model.specs.Tree.{Set, Add, If, Task, Wait, Group, Body, End, Next, append}
-use Rattle.ot_model.specs.Names.{NamedIn}
+use Rattle.ot_model.specs.Names.{NamedIn, AreInShape}
 use Rattle.ot_model.specs.Cells.{updated, lengths, cell_of}
 use Rattle.ot_model.specs.Uses.{AreInOrder, Conflict}
 use Rattle.ot_model.specs.declared.stmt.Use.{Use}
@@ -16,7 +15,8 @@ use Rattle.ot_model.specs.Serial.{State}
 use Rattle.ot_depend.specs.Siblings.{IsReady, IsUnfinished}
 use Rattle.ot_check.proofs.Bits.{and_left, and_right, or_true, not_true}
 use Rattle.ot_owner.specs.Leases.{Lease, lease_of, lent_from}
-use Rattle.ot_owner.specs.Owning.{IsFreeFor}
+use Rattle.ot_owner.specs.Owning.{Owned, IsFreeFor}
+use Rattle.ot_owner.specs.Rows.{begun_for}
 use Rattle.ot_job.specs.Left.{left}
 use Rattle.ot_task.specs.Place.{Open, todo}
 use Rattle.ot_check.specs.walk.Fine.{AreAssigns}
@@ -24,14 +24,14 @@ use Rattle.ot_task.specs.Regions.{Region, Run}
 use Rattle.ot_job.specs.Numbered.{at, parent_of, todo_at, parents, left_of}
 use Rattle.ot_job.specs.Sound.{IsBegun, IsSound}
 use Rattle.ot_model.proofs.CellsLemmas.{length-updated}
-use Rattle.ot_task.specs.Pieces.{leading, behind, test_of, passed, awake, begun}
-use Rattle.ot_job.specs.Whole.{assigns_out, whole, wholes, with_lease, leases_out}
+use Rattle.ot_task.specs.Pieces.{leading, behind, test_of, passed, awake, begun, group_passed}
+use Rattle.ot_job.specs.Whole.{assigns_out, whole, wholes, loan_in, with_loan, loans_out}
+use Rattle.ot_job.specs.Opening.{AreOpen, left_open}
 use Rattle.ot_job.specs.Running.{RunsWell}
 use Rattle.ot_job.proofs.WeighingLemmas.{weight-begun}
 use Rattle.ot_job.specs.Well.{IsWell, IsOnCourse}
-use Rattle.ot_owner.specs.Owning.{Owned}
-use Rattle.ot_owner.specs.Worth.{worths}
-use Rattle.ot_owner.proofs.WorthLemmas.{worths-combined}
+use Rattle.ot_owner.specs.Worth.{worths, AreWorthSame}
+use Rattle.ot_owner.proofs.WorthLemmas.{worths-same}
 use Rattle.ot_model.specs.Runs.{state_of}
 use Rattle.ot_job.specs.Live.{Live}
 use Rattle.ot_task.specs.Modes.{AreHeld}
@@ -42,9 +42,11 @@ use Rattle.ot_task.specs.Waits.{is_let_go}
 use Rattle.ot_depend.specs.Siblings.{is_ready}
 use Rattle.ot_job.proofs.KeptLemmas.{parents-updated, at-updated, at-updated-other, todo-append}
 use Rattle.ot_job.proofs.ChangedLemmas.{begun-changed}
-use Rattle.ot_job.proofs.WholeLemmas.{wholes-begun, one-more}
+use Rattle.ot_job.proofs.WholeLemmas.{loan, wholes-begun, one-more, loans-each}
+use Rattle.ot_job.proofs.OpeningLemmas.{open-passed, open-grown}
 use Rattle.ot_job.proofs.AwakeLemmas.{sound-awake}
 use Rattle.ot_job.proofs.FreeLemmas.{pieces_apart, at-whole, named-front, named-back}
+use Rattle.ot_job.proofs.EnteredLemmas.{each-begun}
 use Rattle.ot_job.proofs.HoldingLemmas.{course-holds, course-apart}
 use Rattle.ot_job.proofs.PickLemmas.{ready-from}
 use Rattle.ot_job.specs.Well.{MaySettle}
@@ -89,17 +91,23 @@ claimable-idle rs i can =
     by None e = refl
     by (Some x) e = absurd (true≢false e)
 
+-- and neither a wait nor a group's end holds it
+pub claimable-goes : (rs : List Region) (i : ℕ) → is_claimable rs i ≡ true → is_let_go (at rs i) ≡ true
+claimable-goes rs i can =
+    and_right ((i == 0) || is_ready (at rs (at rs i).parent).children (at rs i).child) (is_let_go (at rs i))
+    (and_right (not (at rs i).ended && not (is_some (at rs i).running)) (((i == 0) || is_ready (at rs (at rs i).parent).children (at rs i).child) && is_let_go (at rs i)) can)
+
 -- ---- one claim
 
 module _ (lens : List ℕ) (rs : List Region) (s : IsSound (wholes rs)) (named : (i : ℕ) → NamedIn lens (todo_at (wholes rs) i))
     (runs : (i : ℕ) (run : Run) → (at rs i).running ≡ Some run → RunsWell (at rs i) run)
     (started : (i : ℕ) (run : Run) → (at rs i).running ≡ Some run → IsBegun (wholes rs) i)
-    (i : ℕ) (h : i < length rs) (can : is_claimable rs i ≡ true) (lease : Lease) (are : AreHeld (at rs i) lease.uses) (ordered : AreInOrder lease.uses) where
+    (i : ℕ) (h : i < length rs) (can : is_claimable rs i ≡ true) (worker : ℕ) (lease : Lease) (are : AreHeld (at rs i) lease.uses) (ordered : AreInOrder lease.uses) where
   abbrev r : Region
   r = at rs i
 
   abbrev rs' : List Region
-  rs' = updated rs i (begun lease)
+  rs' = updated rs i (begun worker lease)
 
   first-half : (not r.ended && not (is_some r.running)) ≡ true
   first-half = and_left (not r.ended && not (is_some r.running)) (((i == 0) || is_ready (at rs r.parent).children r.child) && is_let_go r) can
@@ -124,7 +132,7 @@ module _ (lens : List ℕ) (rs : List Region) (s : IsSound (wholes rs)) (named :
   let-go = ap is_let_go (at-whole rs i ∙ idle-whole r idle) ∙ and_right ((i == 0) || is_ready (at rs r.parent).children r.child) (is_let_go r) second-half
 
   wholes-now : wholes rs' ≡ updated (wholes rs) i awake
-  wholes-now = wholes-begun lease rs i idle
+  wholes-now = wholes-begun worker lease rs i idle
 
   pub sound-now : IsSound (wholes rs')
   sound-now = subst IsSound (sym wholes-now) (sound-awake (wholes rs) i hw s let-go)
@@ -144,17 +152,17 @@ module _ (lens : List ℕ) (rs : List Region) (s : IsSound (wholes rs)) (named :
   pub well-now : (k : ℕ) (run : Run) → (at rs' k).running ≡ Some run → RunsWell (at rs' k) run
   well-now k run is = pick (cases_eq k i)
     where
-      at-i : (run : Run) → (begun lease r).running ≡ Some run → RunsWell (begun lease r) run
+      at-i : (run : Run) → (begun worker lease r).running ≡ Some run → RunsWell (begun worker lease r) run
       at-i run e =
-          subst (RunsWell (begun lease r)) (same_Some (record { assigns = leading (awake r).rest; lease = lease }) run e)
+          subst (RunsWell (begun worker lease r)) (same_Some (record { worker = worker; assigns = leading (awake r).rest; lease = lease }) run e)
           (record { modes = are; ordered = ordered; assigns = leading-assigns (awake r).rest; stops = leading-behind (awake r).rest; calm = refl; alive = awake-alive })
 
       pick : (k ≡ i) ⊎ (k ≡ i → ⊥) → RunsWell (at rs' k) run
       pick (inl e) =
-          let here : at rs' k ≡ begun lease r = ap (at rs') e ∙ at-updated rs i (begun lease) h in
+          let here : at rs' k ≡ begun worker lease r = ap (at rs') e ∙ at-updated rs i (begun worker lease) h in
           subst (λ x. RunsWell x run) (sym here) (at-i run (sym (ap (λ (x : Region). x.running) here) ∙ is))
       pick (inr e) =
-          let other = at-updated-other rs i k (begun lease) e in
+          let other = at-updated-other rs i k (begun worker lease) e in
           subst (λ x. RunsWell x run) (sym other) (runs k run (sym (ap (λ (x : Region). x.running) other) ∙ is))
 
   begun-here : IsBegun (wholes rs) i
@@ -174,7 +182,7 @@ module _ (lens : List ℕ) (rs : List Region) (s : IsSound (wholes rs)) (named :
     where
       pick : (k ≡ i) ⊎ (k ≡ i → ⊥) → IsBegun (wholes rs') k
       pick (inl e) = kept-begun k (subst (IsBegun (wholes rs)) (sym e) begun-here)
-      pick (inr e) = kept-begun k (started k run (sym (ap (λ (x : Region). x.running) (at-updated-other rs i k (begun lease) e)) ∙ is))
+      pick (inr e) = kept-begun k (started k run (sym (ap (λ (x : Region). x.running) (at-updated-other rs i k (begun worker lease) e)) ∙ is))
 
   -- what is left of the job stays
   pub kept-now : (t : State) → left_of (wholes rs') t ≡ left_of (wholes rs) t
@@ -187,20 +195,12 @@ module _ (lens : List ℕ) (rs : List Region) (s : IsSound (wholes rs)) (named :
   apart-from : (k : ℕ) (run : Run) → (at rs k).running ≡ Some run → Conflict run.lease.uses lease.uses → ⊥
   apart-from k run is =
       let differs : k ≢ i = λ e. (let none : None ≡ Some run = sym idle ∙ ap (λ n. (at rs n).running) (sym e) ∙ is in cc) in
-      pieces_apart rs' sound-now lens (λ j. named-front lens (at (wholes rs') j).rest (at (wholes rs') j).groups (named-now j)) well-now started-now k i run (record { assigns = leading (awake r).rest; lease = lease })
-      (ap (λ (x : Region). x.running) (at-updated-other rs i k (begun lease) differs) ∙ is)
-      (ap (λ (x : Region). x.running) (at-updated rs i (begun lease) h)) differs
+      pieces_apart rs' sound-now lens (λ j. named-front lens (at (wholes rs') j).rest (at (wholes rs') j).groups (named-now j)) well-now started-now k i run (record { worker = worker; assigns = leading (awake r).rest; lease = lease })
+      (ap (λ (x : Region). x.running) (at-updated-other rs i k (begun worker lease) differs) ∙ is)
+      (ap (λ (x : Region). x.running) (at-updated rs i (begun worker lease) h)) differs
 
-  pub free-now : IsFreeFor (leases_out rs) lease.uses
-  free-now = each rs (λ k run is. apart-from k run is)
-    where
-      each : (xs : List Region) → ((k : ℕ) (run : Run) → (at xs k).running ≡ Some run → Conflict run.lease.uses lease.uses → ⊥) → All (λ l. Conflict l.uses lease.uses → ⊥) (leases_out xs)
-      each [] f = All-nil (λ l. Conflict l.uses lease.uses → ⊥)
-      each (x ∷ xs) f = by x.running (λ run e. f 0 run e) (each xs (λ k run e. f (suc k) run e))
-        where
-          by : (o : Option Run) → ((run : Run) → o ≡ Some run → Conflict run.lease.uses lease.uses → ⊥) → All (λ l. Conflict l.uses lease.uses → ⊥) (leases_out xs) → All (λ l. Conflict l.uses lease.uses → ⊥) (with_lease o (leases_out xs))
-          by None g rest = rest
-          by (Some run) g rest = All-cons (λ l. Conflict l.uses lease.uses → ⊥) run.lease (leases_out xs) (g run refl) rest
+  pub free-now : IsFreeFor (loans_out rs) lease.uses
+  free-now = loans-each (λ l. Conflict l.lease.uses lease.uses → ⊥) rs apart-from
 
 -- ---- a job on its course
 
@@ -216,84 +216,84 @@ named-awake j w i =
 -- what its piece holds is free
 pub claim-free : (j : Live) → IsWell j → IsOnCourse j → (i : ℕ) → i < length j.regions → is_claimable j.regions i ≡ true → (d : List Use) → AreHeld (at j.regions i) d → AreInOrder d → IsFreeFor j.owned.out d
 claim-free j w o i h can d are ordered =
-    All-permutation (λ l. Conflict l.uses d → ⊥) (leases_out j.regions) j.owned.out (IsPermutation-sym j.owned.out (leases_out j.regions) w.rights)
-    (free-now (lengths j.cells) j.regions o.sound o.named o.runs o.begun i h can (record { uses = d; firsts = [] }) are ordered)
-
--- what cells are worth is what is stored, as long as no private copy is kept
-pub worths-stored : (owned : Owned) (cells : List (List ℕ)) → worths owned cells ≡ cells
-worths-stored owned cells = worths-combined owned cells (λ cells cell. by (cell_of cells cell))
-  where
-    by : (o : Option ℕ) → option_map (λ (stored : ℕ). stored) o ≡ o
-    by None = refl
-    by (Some n) = refl
+    All-permutation (λ l. Conflict l.lease.uses d → ⊥) (loans_out j.regions) j.owned.out (IsPermutation-sym j.owned.out (loans_out j.regions) w.rights)
+    (free-now (lengths j.cells) j.regions o.sound o.named o.runs o.begun i h can 0 (record { uses = d; firsts = [] }) are ordered)
 
 -- the inputs of all pieces, where one begins
-inputs-begun : (cells : List (List ℕ)) (rs : List Region) (i : ℕ) (lease : Lease) → i < length rs → lease ≡ lease_of (lent_from cells lease.uses)
-    → ((k : ℕ) (run : Run) → (at rs k).running ≡ Some run → run.lease ≡ lease_of (lent_from cells run.lease.uses))
-    → (k : ℕ) (run : Run) → (at (updated rs i (begun lease)) k).running ≡ Some run → run.lease ≡ lease_of (lent_from cells run.lease.uses)
-inputs-begun cells rs i lease h fresh old k run is = pick (cases_eq k i)
+inputs-begun : (before after : List (List ℕ)) (rs : List Region) (i worker : ℕ) (lease : Lease) → i < length rs → after ≡ before → lease ≡ lease_of (lent_from before lease.uses)
+    → ((k : ℕ) (run : Run) → (at rs k).running ≡ Some run → run.lease ≡ lease_of (lent_from before run.lease.uses))
+    → (k : ℕ) (run : Run) → (at (updated rs i (begun worker lease)) k).running ≡ Some run → run.lease ≡ lease_of (lent_from after run.lease.uses)
+inputs-begun before after rs i worker lease h same fresh old k run is = subst (λ cells. run.lease ≡ lease_of (lent_from cells run.lease.uses)) (sym same) (pick (cases_eq k i))
   where
-    pick : (k ≡ i) ⊎ (k ≡ i → ⊥) → run.lease ≡ lease_of (lent_from cells run.lease.uses)
+    pick : (k ≡ i) ⊎ (k ≡ i → ⊥) → run.lease ≡ lease_of (lent_from before run.lease.uses)
     pick (inl e) =
-        let same : record { assigns = leading (awake (at rs i)).rest; lease = lease } ≡ run =
-        same_Some (record { assigns = leading (awake (at rs i)).rest; lease = lease }) run
-        (sym (ap (λ (x : Region). x.running) (ap (at (updated rs i (begun lease))) e ∙ at-updated rs i (begun lease) h)) ∙ is) in
-        subst (λ (r : Run). r.lease ≡ lease_of (lent_from cells r.lease.uses)) same fresh
-    pick (inr e) = old k run (sym (ap (λ (x : Region). x.running) (at-updated-other rs i k (begun lease) e)) ∙ is)
+        let same : record { worker = worker; assigns = leading (awake (at rs i)).rest; lease = lease } ≡ run =
+        same_Some (record { worker = worker; assigns = leading (awake (at rs i)).rest; lease = lease }) run
+        (sym (ap (λ (x : Region). x.running) (ap (at (updated rs i (begun worker lease))) e ∙ at-updated rs i (begun worker lease) h)) ∙ is) in
+        subst (λ (r : Run). r.lease ≡ lease_of (lent_from before r.lease.uses)) same fresh
+    pick (inr e) = old k run (sym (ap (λ (x : Region). x.running) (at-updated-other rs i k (begun worker lease) e)) ∙ is)
 
-module _ (j : Live) (w : IsWell j) (working : j.failing ≡ false) (i : ℕ) (h : i < length j.regions) (can : is_claimable j.regions i ≡ true) (lease : Lease)
-    (are : AreHeld (at j.regions i) lease.uses) (ordered : AreInOrder lease.uses) (fresh : lease ≡ lease_of (lent_from j.cells lease.uses))
-    (owned : Owned) (out : IsPermutation (lease ∷ j.owned.out) owned.out) where
+module _ (j : Live) (w : IsWell j) (working : j.failing ≡ false) (i : ℕ) (h : i < length j.regions) (can : is_claimable j.regions i ≡ true) (worker : ℕ) (lease : Lease)
+    (are : AreHeld (at j.regions i) lease.uses) (ordered : AreInOrder lease.uses) (fresh : lease ≡ lease_of (lent_from (worths j.owned j.cells) lease.uses))
+    (cells : List (List ℕ)) (owned : Owned) (long : lengths cells ≡ lengths j.cells) (same : AreWorthSame j.owned owned j.cells cells)
+    (out : IsPermutation (loan worker lease ∷ j.owned.out) owned.out)
+    (groups : owned.groups ≡ begun_for worker lease.uses (left_open (group_passed (at j.regions i)) j.owned.groups)) where
   abbrev pub claimed : Live
-  claimed = record j { regions = updated j.regions i (begun lease); owned = owned }
+  claimed = record j { regions = updated j.regions i (begun worker lease); cells = cells; owned = owned }
 
   o : IsOnCourse j
   o = w.course working
 
+  worths-now : worths owned cells ≡ worths j.owned j.cells
+  worths-now = worths-same j.owned owned j.cells cells long same
+
   claim-course : IsOnCourse claimed
   claim-course = record {
-    some = omega (arith, o.some, length-updated j.regions i (begun lease));
-    sound = sound-now (lengths j.cells) j.regions o.sound o.named o.runs o.begun i h can lease are ordered;
-    named = named-now (lengths j.cells) j.regions o.sound o.named o.runs o.begun i h can lease are ordered;
-    runs = well-now (lengths j.cells) j.regions o.sound o.named o.runs o.begun i h can lease are ordered;
-    begun = started-now (lengths j.cells) j.regions o.sound o.named o.runs o.begun i h can lease are ordered;
+    some = omega (arith, o.some, length-updated j.regions i (begun worker lease));
+    sound = sound-now (lengths j.cells) j.regions o.sound o.named o.runs o.begun i h can worker lease are ordered;
+    named = λ k. subst (λ lens. NamedIn lens (todo_at (wholes claimed.regions) k)) (sym long) (named-now (lengths j.cells) j.regions o.sound o.named o.runs o.begun i h can worker lease are ordered k);
+    runs = well-now (lengths j.cells) j.regions o.sound o.named o.runs o.begun i h can worker lease are ordered;
+    begun = started-now (lengths j.cells) j.regions o.sound o.named o.runs o.begun i h can worker lease are ordered;
+    copies = subst (AreOpen claimed.regions) (sym groups) (open-grown claimed.regions (left_open (group_passed (at j.regions i)) j.owned.groups) worker lease.uses (open-passed j.regions j.owned.groups i (begun worker lease) h (λ r. refl) o.copies));
+    older = each-begun (λ g. g.group < j.counts.units) worker lease j.regions i o.older;
+    there = λ k. subst (λ lens. All (λ g. AreInShape lens g.cells) (at claimed.regions k).groups) (sym long) (each-begun (λ g. AreInShape (lengths j.cells) g.cells) worker lease j.regions i o.there k);
     kept =
-        ap (λ c. left_of (wholes (updated j.regions i (begun lease))) (state_of c j.counts)) (worths-stored owned j.cells ∙ sym (worths-stored j.owned j.cells))
-        ∙ kept-now (lengths j.cells) j.regions o.sound o.named o.runs o.begun i h can lease are ordered (state_of (worths j.owned j.cells) j.counts) ∙ o.kept;
+        ap (λ c. left_of (wholes claimed.regions) (state_of c j.counts)) worths-now
+        ∙ kept-now (lengths j.cells) j.regions o.sound o.named o.runs o.begun i h can worker lease are ordered (state_of (worths j.owned j.cells) j.counts) ∙ o.kept;
   }
 
   -- what was taken is held as its touches ask
   pub claim-holds : Holds (at j.regions i).own (piece_touches (leading (awake (at j.regions i)).rest) (test_of (behind (awake (at j.regions i)).rest))) lease.uses
   claim-holds =
-      let here : at claimed.regions i ≡ begun lease (at j.regions i) = at-updated j.regions i (begun lease) h in
-      let run : Run = record { assigns = leading (awake (at j.regions i)).rest; lease = lease } in
+      let here : at claimed.regions i ≡ begun worker lease (at j.regions i) = at-updated j.regions i (begun worker lease) h in
+      let run : Run = record { worker = worker; assigns = leading (awake (at j.regions i)).rest; lease = lease } in
       subst (λ (r : Region). Holds r.own (touches_out r run) lease.uses) here (course-holds claimed claim-course i run (ap (λ (r : Region). r.running) here))
 
   -- a claim leaves it well
   pub claim-well : IsWell claimed
   claim-well = record {
     rights =
-        IsPermutation-trans owned.out (lease ∷ j.owned.out) (leases_out (updated j.regions i (begun lease))) (IsPermutation-sym (lease ∷ j.owned.out) owned.out out)
-        (IsPermutation-trans (lease ∷ j.owned.out) (lease ∷ leases_out j.regions) (leases_out (updated j.regions i (begun lease))) (IsPermutation-cons lease j.owned.out (leases_out j.regions) w.rights)
-        (IsPermutation-sym (leases_out (updated j.regions i (begun lease))) (lease ∷ leases_out j.regions)
-        (one-more lease j.regions i h (idle (lengths j.cells) j.regions o.sound o.named o.runs o.begun i h can lease are ordered))));
+        IsPermutation-trans owned.out (loan worker lease ∷ j.owned.out) (loans_out claimed.regions) (IsPermutation-sym (loan worker lease ∷ j.owned.out) owned.out out)
+        (IsPermutation-trans (loan worker lease ∷ j.owned.out) (loan worker lease ∷ loans_out j.regions) (loans_out claimed.regions) (IsPermutation-cons (loan worker lease) j.owned.out (loans_out j.regions) w.rights)
+        (IsPermutation-sym (loans_out claimed.regions) (loan worker lease ∷ loans_out j.regions)
+        (one-more worker lease j.regions i h (idle (lengths j.cells) j.regions o.sound o.named o.runs o.begun i h can worker lease are ordered))));
     few = w.few;
-    created = length-updated j.regions i (begun lease) ∙ w.created;
-    light = omega (arith, w.light, weight-begun lease j.regions i h (idle (lengths j.cells) j.regions o.sound o.named o.runs o.begun i h can lease are ordered));
+    created = length-updated j.regions i (begun worker lease) ∙ w.created;
+    light = omega (arith, w.light, weight-begun worker lease j.regions i h (idle (lengths j.cells) j.regions o.sound o.named o.runs o.begun i h can worker lease are ordered));
     holds = course-holds claimed claim-course;
-    present = inputs-begun j.cells j.regions i lease h fresh w.present;
+    present = inputs-begun (worths j.owned j.cells) (worths owned cells) j.regions i worker lease h worths-now fresh w.present;
     apart = course-apart claimed claim-course;
     course = λ z. claim-course;
   }
 
 -- ---- a settle may be made
 
-pub out-contained : (rs : List Region) (i : ℕ) (run : Run) → (at rs i).running ≡ Some run → Contains (leases_out rs) run.lease
+pub out-contained : (rs : List Region) (i : ℕ) (run : Run) → (at rs i).running ≡ Some run → Contains (loans_out rs) (loan_in run)
 out-contained [] i run h = cc
-out-contained (r ∷ rs) zero run h = subst (λ o. Contains (with_lease o (leases_out rs)) run.lease) (sym h) (0, omega arith, refl)
+out-contained (r ∷ rs) zero run h = subst (λ o. Contains (with_loan o (loans_out rs)) (loan_in run)) (sym h) (0, omega arith, refl)
 out-contained (r ∷ rs) (suc i) run h = by r.running (out-contained rs i run h)
   where
-    by : (o : Option Run) → Contains (leases_out rs) run.lease → Contains (with_lease o (leases_out rs)) run.lease
+    by : (o : Option Run) → Contains (loans_out rs) (loan_in run) → Contains (with_loan o (loans_out rs)) (loan_in run)
     by None c = c
     by (Some x) (k, within, is) = (suc k, omega (arith, within), is)
 
@@ -318,14 +318,14 @@ test-named lens (Next (Group cs b) rest) n = tt
 pub settle-may : (j : Live) → IsWell j → IsOnCourse j → MaySettle j
 settle-may j v w = record { out = out; kin = kin }
   where
-    out : (i : ℕ) (run : Run) → (at j.regions i).running ≡ Some run → Contains j.owned.out run.lease × All (λ u. IsSome (cell_of j.cells u.cell)) run.lease.uses
+    out : (i : ℕ) (run : Run) → (at j.regions i).running ≡ Some run → Contains j.owned.out (loan_in run) × All (λ u. IsSome (cell_of j.cells u.cell)) run.lease.uses
     out i run is =
         let lens = lengths j.cells in
         let r = at j.regions i in
         let well = w.runs i run is in
         let whole-named = subst (λ (x : Region). NamedIn lens x.rest) (at-whole j.regions i) (named-front lens (at (wholes j.regions) i).rest (at (wholes j.regions) i).groups (w.named i)) in
         let both = subst (NamedIn lens) (ap (λ o. append (assigns_out o) r.rest) is) whole-named in (
-          Contains-permutation (leases_out j.regions) j.owned.out run.lease (IsPermutation-sym j.owned.out (leases_out j.regions) v.rights) (out-contained j.regions i run is),
+          Contains-permutation (loans_out j.regions) j.owned.out (loan_in run) (IsPermutation-sym j.owned.out (loans_out j.regions) v.rights) (out-contained j.regions i run is),
           held-there j.cells r.own (piece_touches run.assigns (test_of r.rest)) run.lease.uses
               (all-append lens (assign_touches run.assigns) (test_touches (test_of r.rest)) (piece-named lens run.assigns well.assigns (named-front lens run.assigns (record { group = 0; cells = []; behind = r.rest } ∷ []) both)) (test-named lens r.rest (named-back lens run.assigns r.rest both)))
               well.modes,

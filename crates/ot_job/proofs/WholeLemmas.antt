@@ -1,14 +1,16 @@
 -- A claim leaves the regions as they are where pieces that are out count as not begun, but that the task goes on.
 use Rattle.std.proofs.Common.{◌≡◌, ℕ, zero, suc, ◌<◌, false, List, [], ◌∷◌, length, refl, sym, ap, subst, ◌∙◌, arith}
-use Rattle.std.specs.Prelude.{Option, Some, None, IsPermutation}
+use Rattle.std.specs.Prelude.{Option, Some, None, All, IsPermutation}
+use Rattle.std.proofs.lemmas.List.Elements.{All-nil, All-cons}
 use Rattle.std.proofs.lemmas.List.Sorted.{IsPermutation-refl, IsPermutation-trans, IsPermutation-cons, IsPermutation-swap}
 use Rattle.ot_model.specs.Tree.{Set, Add, If, Task, Wait, Group, Body, End, Next, append}
 use Rattle.ot_model.specs.Cells.{updated}
 use Rattle.ot_owner.specs.Leases.{Lease}
+use Rattle.ot_owner.specs.Owning.{Loan}
 use Rattle.ot_task.specs.Regions.{Region, Run}
 use Rattle.ot_job.specs.Numbered.{at}
 use Rattle.ot_task.specs.Pieces.{leading, behind, passed, awake, begun}
-use Rattle.ot_job.specs.Whole.{assigns_out, whole, wholes, with_lease, leases_out}
+use Rattle.ot_job.specs.Whole.{assigns_out, whole, wholes, loan_in, with_loan, loans_out}
 
 pub whole-again : (b : Body) → append (leading b) (behind b) ≡ b
 whole-again End = refl
@@ -20,26 +22,39 @@ whole-again (Next Wait rest) = refl
 whole-again (Next (Group cs b) rest) = refl
 
 -- the region that begins a piece goes on as a whole
-whole-begun : (lease : Lease) (r : Region) → r.running ≡ None → whole (begun lease r) ≡ awake (whole r)
-whole-begun lease r idle =
+whole-begun : (worker : ℕ) (lease : Lease) (r : Region) → r.running ≡ None → whole (begun worker lease r) ≡ awake (whole r)
+whole-begun worker lease r idle =
     let s = passed r.rest r.groups in
     ap (λ b. record r { rest = b; groups = s.groups; waiting = false; running = None }) (whole-again s.rest)
     ∙ ap (λ o. awake (record r { rest = append (assigns_out o) r.rest; running = None })) (sym idle)
 
-pub wholes-begun : (lease : Lease) (rs : List Region) (i : ℕ) → (at rs i).running ≡ None → wholes (updated rs i (begun lease)) ≡ updated (wholes rs) i awake
-wholes-begun lease [] i idle = refl
-wholes-begun lease (r ∷ rs) zero idle = ap (λ x. x ∷ wholes rs) (whole-begun lease r idle)
-wholes-begun lease (r ∷ rs) (suc i) idle = ap (λ xs. whole r ∷ xs) (wholes-begun lease rs i idle)
+pub wholes-begun : (worker : ℕ) (lease : Lease) (rs : List Region) (i : ℕ) → (at rs i).running ≡ None → wholes (updated rs i (begun worker lease)) ≡ updated (wholes rs) i awake
+wholes-begun worker lease [] i idle = refl
+wholes-begun worker lease (r ∷ rs) zero idle = ap (λ x. x ∷ wholes rs) (whole-begun worker lease r idle)
+wholes-begun worker lease (r ∷ rs) (suc i) idle = ap (λ xs. whole r ∷ xs) (wholes-begun worker lease rs i idle)
 
--- the lease is one more
-pub one-more : (lease : Lease) (rs : List Region) (i : ℕ) → i < length rs → (at rs i).running ≡ None → IsPermutation (leases_out (updated rs i (begun lease))) (lease ∷ leases_out rs)
-one-more lease [] i within idle = absurd (omega (arith, within))
-one-more lease (r ∷ rs) zero within idle = subst (λ o. IsPermutation (lease ∷ leases_out rs) (lease ∷ with_lease o (leases_out rs))) (sym idle) (IsPermutation-refl (lease ∷ leases_out rs))
-one-more lease (r ∷ rs) (suc i) within idle = by (one-more lease rs i (omega (arith, within)) idle) r.running
+-- what is true of each piece as it is out is true of the loans that are out
+pub loans-each : (P : Loan → Type 0) (rs : List Region) → ((k : ℕ) (run : Run) → (at rs k).running ≡ Some run → P (loan_in run)) → All P (loans_out rs)
+loans-each P [] f = All-nil P
+loans-each P (r ∷ rs) f = by r.running (λ run e. f 0 run e) (loans-each P rs (λ k run e. f (suc k) run e))
   where
-    by : IsPermutation (leases_out (updated rs i (begun lease))) (lease ∷ leases_out rs) → (o : Option Run) → IsPermutation (with_lease o (leases_out (updated rs i (begun lease)))) (lease ∷ with_lease o (leases_out rs))
+    by : (o : Option Run) → ((run : Run) → o ≡ Some run → P (loan_in run)) → All P (loans_out rs) → All P (with_loan o (loans_out rs))
+    by None g rest = rest
+    by (Some run) g rest = All-cons P (loan_in run) (loans_out rs) (g run refl) rest
+
+-- a lease as it is out to the worker
+abbrev pub loan : ℕ → Lease → Loan
+loan worker lease = record { worker = worker; lease = lease }
+
+-- the loan is one more
+pub one-more : (worker : ℕ) (lease : Lease) (rs : List Region) (i : ℕ) → i < length rs → (at rs i).running ≡ None → IsPermutation (loans_out (updated rs i (begun worker lease))) (loan worker lease ∷ loans_out rs)
+one-more worker lease [] i within idle = absurd (omega (arith, within))
+one-more worker lease (r ∷ rs) zero within idle = subst (λ o. IsPermutation (loan worker lease ∷ loans_out rs) (loan worker lease ∷ with_loan o (loans_out rs))) (sym idle) (IsPermutation-refl (loan worker lease ∷ loans_out rs))
+one-more worker lease (r ∷ rs) (suc i) within idle = by (one-more worker lease rs i (omega (arith, within)) idle) r.running
+  where
+    by : IsPermutation (loans_out (updated rs i (begun worker lease))) (loan worker lease ∷ loans_out rs) → (o : Option Run) → IsPermutation (with_loan o (loans_out (updated rs i (begun worker lease)))) (loan worker lease ∷ with_loan o (loans_out rs))
     by rest None = rest
     by rest (Some run) =
-        IsPermutation-trans (run.lease ∷ leases_out (updated rs i (begun lease))) (run.lease ∷ lease ∷ leases_out rs) (lease ∷ run.lease ∷ leases_out rs)
-        (IsPermutation-cons run.lease (leases_out (updated rs i (begun lease))) (lease ∷ leases_out rs) rest)
-        (IsPermutation-swap (run.lease ∷ lease ∷ leases_out rs) (lease ∷ run.lease ∷ leases_out rs) 0 1 (omega arith) (omega arith) refl)
+        IsPermutation-trans (loan_in run ∷ loans_out (updated rs i (begun worker lease))) (loan_in run ∷ loan worker lease ∷ loans_out rs) (loan worker lease ∷ loan_in run ∷ loans_out rs)
+        (IsPermutation-cons (loan_in run) (loans_out (updated rs i (begun worker lease))) (loan worker lease ∷ loans_out rs) rest)
+        (IsPermutation-swap (loan_in run ∷ loan worker lease ∷ loans_out rs) (loan worker lease ∷ loan_in run ∷ loans_out rs) 0 1 (omega arith) (omega arith) refl)

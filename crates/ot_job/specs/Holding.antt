@@ -6,6 +6,7 @@ use Rattle.ot_model.specs.declared.stmt.Mode.TheVariants.{Reads, Writes, Adds}
 use Rattle.ot_model.specs.declared.stmt.Use.{Use}
 use Rattle.ot_check.specs.Offences.{Declared, adds_to}
 use Rattle.ot_owner.specs.Leases.{lease_of, lent_from}
+use Rattle.ot_owner.specs.Worth.{worths}
 use Rattle.ot_task.specs.Pieces.{test_of}
 use Rattle.ot_task.specs.Regions.{Region, Run}
 use Rattle.ot_task.specs.Touched.{piece_touches}
@@ -36,9 +37,9 @@ touches_out r run = piece_touches run.assigns (test_of r.rest)
 abbrev pub AllHold : Live → Type 0
 AllHold j = (i : ℕ) (run : Run) → (at j.regions i).running ≡ Some run → Holds (at j.regions i).own (touches_out (at j.regions i) run) run.lease.uses
 
--- what it was lent are the cells as they are now, and 0 under Adds
+-- what it was lent are the cells as they are worth now, and 0 under Adds
 abbrev pub HavePresent : Live → Type 0
-HavePresent j = (i : ℕ) (run : Run) → (at j.regions i).running ≡ Some run → run.lease ≡ lease_of (lent_from j.cells run.lease.uses)
+HavePresent j = (i : ℕ) (run : Run) → (at j.regions i).running ≡ Some run → run.lease ≡ lease_of (lent_from (worths j.owned j.cells) run.lease.uses)
 
 -- no two pieces that are out hold what conflicts
 abbrev pub AreApart : Live → Type 0

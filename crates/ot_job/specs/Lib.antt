@@ -8,6 +8,7 @@ pub mod Claiming
 pub mod Taken
 pub mod States
 pub mod Holding
+pub mod Opening
 pub mod Claims
 pub mod Settling
 pub mod Kept

@@ -36,6 +36,11 @@ abbrev pub sums_in : List Open → Sibling → Cell → Bool
 sums_in [] s c = false
 sums_in (o ∷ os) s c = (has_cell o.cells c && is_in o.group s) || sums_in os s c
 
+-- no cell is named by two of the groups
+abbrev pub NamedOnce : List Open → Type 0
+NamedOnce [] = Unit {0}
+NamedOnce (o ∷ os) = ((c : Cell) → has_cell o.cells c ≡ true → opened os c ≡ false) × NamedOnce os
+
 -- the declaration lets the body make each of its touches
 abbrev pub LetsAll : List Use → Body → Type 0
 LetsAll uses body = EachTouch (λ u. allows (Some uses) u ≡ true) body
@@ -49,6 +54,8 @@ pub record IsPlaced (r : Region) : Type 0 where
   pub within : (k : ℕ) (s : Sibling) → slice_get r.children k ≡ Some s → (u : Use) → allows (Some s.uses) u ≡ true → allows r.own u ≡ true
   pub apart : (k l : ℕ) (s t : Sibling) → slice_get r.children k ≡ Some s → slice_get r.children l ≡ Some t → s.finished ≡ false → t.finished ≡ false → DontMix s.uses t.uses
   pub over : r.ended ≡ true → todo r.rest r.groups ≡ End
+  pub shut : r.ended ≡ true → r.groups ≡ []
+  pub once : NamedOnce r.groups
   pub writes : (c : Cell) → opened r.groups c ≡ true → allows r.own (use_as Writes c) ≡ true
   pub sums : (k : ℕ) (s : Sibling) → slice_get r.children k ≡ Some s → s.finished ≡ false → (c : Cell) → adds_to (Some s.uses) c ≡ true → (adds_to r.own c ≡ true) ⊎ (sums_in r.groups s c ≡ true)
   pub reduced : (k : ℕ) (s : Sibling) → slice_get r.children k ≡ Some s → s.finished ≡ false → (c : Cell) → opened r.groups c ≡ true → allows (Some s.uses) (use_as Reads c) ≡ false
@@ -70,5 +77,6 @@ pub record IsSound (rs : List Region) : Type 0 where
   pub entries : (p k : ℕ) (s : Sibling) → slice_get (at rs p).children k ≡ Some s → HasTask rs p k
   pub older : (a b : ℕ) → 0 < b → b < a → a < length rs → parent_of rs b ≡ parent_of rs a → (at rs b).child < (at rs a).child
   pub begun : (i : ℕ) → 0 < i → i < length rs → IsBegun rs (parent_of rs i)
+  pub entered : (i : ℕ) (o : Open) (os : List Open) → (at rs i).groups ≡ o ∷ os → IsBegun rs i
   pub placed : (i : ℕ) → IsPlaced (at rs i)
   pub done : (i : ℕ) → 0 < i → ended_at rs i ≡ true → (k : ℕ) (s : Sibling) → slice_get (at rs i).children k ≡ Some s → s.finished ≡ true

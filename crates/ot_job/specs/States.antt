@@ -4,23 +4,24 @@ use Rattle.std.specs.List.{list_any, list_all}
 use Rattle.ot_model.specs.Cells.{updated}
 use Rattle.ot_model.specs.Programs.{expanded_of}
 use Rattle.ot_check.specs.Jobs.{Spec}
-use Rattle.ot_owner.specs.Leases.{lease_of}
-use Rattle.ot_owner.specs.Worth.{KeepsWorth}
+use Rattle.ot_owner.specs.Owning.{loan_of}
 use Rattle.ot_task.specs.Regions.{Region, root_region, stopped}
+use Rattle.ot_job.specs.Numbered.{at}
 use Rattle.ot_task.specs.Weighing.{weight_of}
 use Rattle.ot_job.specs.Counting.{out_in}
 use Rattle.ot_job.specs.Live.{Live}
 use Rattle.ot_job.specs.Claiming.{claimable_of}
-use Rattle.ot_job.specs.Taken.{Came, IsOut}
+use Rattle.ot_job.specs.Taken.{Came, IsOut, worker_in}
 use Rattle.ot_job.specs.declared.state.State.{State}
 use Rattle.ot_job.specs.declared.state.State.TheVariants.{Working, Failing, Ended, Failed}
 
--- a job that has the whole program left, its cells as they were handed in, and no piece out
+-- a job that has the whole program left, its cells as they were handed in, no piece out, and no group open
 pub record Starts (spec : Spec) (j : Live) : Type 0 where
   pub program : j.program ≡ expanded_of spec.checked.program
   pub before : j.before ≡ spec.before
   pub cells : j.cells ≡ spec.before
   pub out : j.owned.out ≡ []
+  pub groups : j.owned.groups ≡ []
   pub regions : j.regions ≡ root_region (expanded_of spec.checked.program).body ∷ []
   pub tasks : j.counts.tasks ≡ 0
   pub units : j.counts.units ≡ 0
@@ -47,11 +48,11 @@ claimable_in j = if j.failing then [] else claimable_of j.regions
 abbrev pub aborted : Live → Live
 aborted j = record j { failing = true }
 
--- a piece comes back without results: its rights end, and the job fails
+-- a piece comes back without results: its rights end, no copy changes, and the job fails
 pub record FailsBy (old : Live) (d : Came) (new : Live) : Type 0 where
   pub out : IsOut old.regions d
-  pub ended : IsPermutation old.owned.out (lease_of d.lent ∷ new.owned.out)
-  pub worth : KeepsWorth old.owned new.owned
+  pub ended : IsPermutation old.owned.out (loan_of (worker_in (at old.regions d.task)) d.lent ∷ new.owned.out)
+  pub groups : new.owned.groups ≡ old.owned.groups
   pub going : ((state_in old ≡ Working) × (out_in old.regions ≤ weight_of old.regions)) ⊎ (state_in old ≡ Failing)
   pub now : new ≡ record old { regions = updated old.regions d.task stopped; owned = new.owned; failing = true }
 

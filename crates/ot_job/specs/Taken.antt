@@ -30,6 +30,10 @@ pub record IsRun (d : Came) : Type 0 where
   pub made : (cell : Cell) → value_at d.lent cell ≡ assigned d.assigns (first_at d.lent) cell
   pub told : d.answer ≡ option_map (λ e. val (value_at d.lent) e) d.test
 
+-- the worker that has a region's piece
+abbrev pub worker_in : Region → ℕ
+worker_in r = unwrap_or (option_map (λ run. run.worker) r.running) 0
+
 -- its task runs it
 abbrev pub IsOut : List Region → Came → Type 0
 IsOut rs d = Runs (at rs d.task) d.assigns d.test d.lent

@@ -1,6 +1,6 @@
 -- What holds of a job between its calls.
 use Rattle.std.specs.Prelude.{◌≡◌, ◌<◌, ◌≤◌, ◌+◌, ◌*◌, ℕ, false, Some, All, Contains, IsSome, length, IsPermutation}
-use Rattle.ot_model.specs.Names.{NamedIn}
+use Rattle.ot_model.specs.Names.{NamedIn, AreInShape}
 use Rattle.ot_model.specs.Cells.{cell_of, lengths}
 use Rattle.ot_model.specs.Counts.{size}
 use Rattle.ot_task.specs.Regions.{Run}
@@ -9,7 +9,8 @@ use Rattle.ot_job.specs.Sound.{IsBegun, IsSound}
 use Rattle.ot_job.specs.Kept.{IsKept}
 use Rattle.ot_depend.specs.Siblings.{IsReady, IsUnfinished}
 use Rattle.ot_job.specs.Live.{Live}
-use Rattle.ot_job.specs.Whole.{wholes, leases_out}
+use Rattle.ot_job.specs.Whole.{wholes, loan_in, loans_out}
+use Rattle.ot_job.specs.Opening.{AreOpen}
 use Rattle.ot_job.specs.Holding.{AllHold, HavePresent, AreApart}
 use Rattle.ot_job.specs.Running.{RunsWell}
 use Rattle.ot_task.specs.Weighing.{weight_of}
@@ -21,13 +22,16 @@ pub record IsOnCourse (j : Live) : Type 0 where
   pub named : (i : ℕ) → NamedIn (lengths j.cells) (todo_at (wholes j.regions) i)
   pub runs : (i : ℕ) (run : Run) → (at j.regions i).running ≡ Some run → RunsWell (at j.regions i) run
   pub begun : (i : ℕ) (run : Run) → (at j.regions i).running ≡ Some run → IsBegun (wholes j.regions) i
+  pub copies : AreOpen j.regions j.owned.groups
+  pub older : (i : ℕ) → All (λ o. o.group < j.counts.units) (at j.regions i).groups
+  pub there : (i : ℕ) → All (λ o. AreInShape (lengths j.cells) o.cells) (at j.regions i).groups
   pub kept : IsKept j
 
--- The leases that are out are those of its tasks' pieces, of which each holds what it touches, as the cells are now, and no
--- two conflict. It has the root and each task that was created, has executed at most its statements, and weighs no more
+-- The loans that are out are those of its tasks' pieces, of which each holds what it touches, as the cells are worth now, and
+-- no two conflict. It has the root and each task that was created, has executed at most its statements, and weighs no more
 -- than when it began.
 pub record IsWell (j : Live) : Type 0 where
-  pub rights : IsPermutation j.owned.out (leases_out j.regions)
+  pub rights : IsPermutation j.owned.out (loans_out j.regions)
   pub holds : AllHold j
   pub present : HavePresent j
   pub apart : AreApart j
@@ -36,9 +40,9 @@ pub record IsWell (j : Live) : Type 0 where
   pub light : weight_of j.regions ≤ 2 * size j.program.body + 1
   pub course : j.failing ≡ false → IsOnCourse j
 
--- what holds of a job for each piece that is out: its lease is out, its cells are there, and its parent's table lets it finish
+-- what holds of a job for each piece that is out: its loan is out, its cells are there, and its parent's table lets it finish
 pub record MaySettle (j : Live) : Type 0 where
-  pub out : (i : ℕ) (run : Run) → (at j.regions i).running ≡ Some run → Contains j.owned.out run.lease × All (λ u. IsSome (cell_of j.cells u.cell)) run.lease.uses
+  pub out : (i : ℕ) (run : Run) → (at j.regions i).running ≡ Some run → Contains j.owned.out (loan_in run) × All (λ u. IsSome (cell_of j.cells u.cell)) run.lease.uses
   pub kin : (i : ℕ) (run : Run) → (at j.regions i).running ≡ Some run → 0 < i
       → (parent_of j.regions i < length j.regions) × IsReady (at j.regions (parent_of j.regions i)).children (at j.regions i).child
       × IsUnfinished (at j.regions (parent_of j.regions i)).children (at j.regions i).child

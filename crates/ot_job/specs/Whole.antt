@@ -1,7 +1,7 @@
--- A job's regions where each piece that is out counts as not begun, and the leases that are out.
+-- A job's regions where each piece that is out counts as not begun, and the loans that are out.
 use Rattle.std.specs.Prelude.{List, [], ◌∷◌, Option, Some, None, map}
 use Rattle.ot_model.specs.Tree.{Body, End, append}
-use Rattle.ot_owner.specs.Leases.{Lease}
+use Rattle.ot_owner.specs.Owning.{Loan}
 use Rattle.ot_task.specs.Regions.{Region, Run}
 
 abbrev pub assigns_out : Option Run → Body
@@ -14,10 +14,14 @@ whole r = record r { rest = append (assigns_out r.running) r.rest; running = Non
 abbrev pub wholes : List Region → List Region
 wholes rs = map whole rs
 
-abbrev pub with_lease : Option Run → List Lease → List Lease
-with_lease None out = out
-with_lease (Some run) out = run.lease ∷ out
+-- what a piece holds, as it is out to its worker
+abbrev pub loan_in : Run → Loan
+loan_in run = record { worker = run.worker; lease = run.lease }
 
-abbrev pub leases_out : List Region → List Lease
-leases_out [] = []
-leases_out (r ∷ rs) = with_lease r.running (leases_out rs)
+abbrev pub with_loan : Option Run → List Loan → List Loan
+with_loan None out = out
+with_loan (Some run) out = loan_in run ∷ out
+
+abbrev pub loans_out : List Region → List Loan
+loans_out [] = []
+loans_out (r ∷ rs) = with_loan r.running (loans_out rs)

@@ -1,3 +1,4 @@
+use crate::lending::{lend, room_for, take_back};
 use crate::piece::{Done, Piece, Refused};
 use crate::settle::is_out;
 use crate::start::beginning;
@@ -5,9 +6,9 @@ use crate::state::State;
 use crate::tasks::Tasks;
 use crate::weigh::weigh_tasks;
 use ot_check::{JobSpec, Outcome};
-use ot_model::{Cells, Counts};
+use ot_model::{Cell, Cells, Counts, Look};
 use ot_owner::Owners;
-use ot_task::Prepared;
+use ot_task::{Prepared, Running};
 use std::alloc::{AllocError, Global};
 use std::marker::Model;
 
@@ -42,7 +43,9 @@ impl Model for Job {
 }
 
 impl Job {
-    ghost use Rattle.std.specs.Prelude.{◌≡◌, ◌<◌, ◌≤◌, ◌↔◌, IsTrue, length, OnErr, IfOk, IfErr};
+    ghost use Rattle.std.specs.Prelude.{◌≡◌, ◌<◌, ◌≤◌, ◌↔◌, Some, IsSome, IsTrue, length, OnErr, IfOk, IfErr};
+    ghost use Rattle.ot_model.specs.Cells.{cell_of};
+    ghost use Rattle.ot_owner.specs.Worth.{worth};
     ghost use Rattle.ot_job.specs.Settling.{Settles, Refuses};
     ghost use Rattle.ot_job.specs.Claiming.{picked};
     ghost use Rattle.ot_job.specs.Claims.{Claimed};
@@ -132,10 +135,18 @@ impl Job {
         self.tasks.pick(pick)
     }
 
-    /// Hands out the next piece of the claimable task at `pick` modulo their count. Memory is refused
-    /// only where a task is claimable, and then nothing changes.
-    pub fn claim(&mut self, alloc: Global, pick: usize) -> Result<Option<Piece>, AllocError>
-        ensures claimed { IfOk result (λ p. Claimed self.old pick p self.new) }
+    /// Hands out the next piece of the claimable task at `pick` modulo their count to a worker, 1 to 16.
+    /// Where the task passes a group's end, what was added in the group goes to the stored numbers first
+    /// (OpenMP API 5.2, section 5.5). Memory is refused only where a task is claimable, and then nothing
+    /// changes.
+    pub fn claim(
+        &mut self,
+        alloc: Global,
+        pick: usize,
+        worker: u32,
+    ) -> Result<Option<Piece>, AllocError>
+        requires { (1 ≤ worker) × (worker ≤ 16) }
+        ensures claimed { IfOk result (λ p. Claimed self.old pick worker p self.new) }
         ensures working { OnErr result (state_of self.old ≡ Working) }
         ensures some { OnErr result (0 < length (claimable_in self.old)) }
         ensures refused { OnErr result (self.new ≡ self.old) }
@@ -145,17 +156,21 @@ impl Job {
         };
         let Prepared {
             assigns,
+            shared,
             condition,
             decl,
-            running,
-        } = self.tasks.prepare(alloc, task, &self.cells)?;
-        let lent = self.owners.lease(alloc, &self.cells, decl)?;
-        self.tasks.begin(task, running);
+            room,
+        } = self.tasks.prepare(alloc, task)?;
+        let slip = self.owners.prepare(alloc, decl, worker)?;
+        let passed = self.tasks.get(task).group_passed();
+        let lent = lend(&mut self.owners, &mut self.cells, passed, slip);
+        self.tasks.begin(task, Running::new(worker, shared, room, &lent));
         Ok(Some(Piece::new(task as u32, assigns, condition, lent)))
     }
 
-    /// Takes a piece back: its cells have their present values from now on, and the control statement
-    /// that ended it takes effect. The answer is the units. Where it is refused, nothing changes.
+    /// Takes a piece back: its cells have their present values from now on, what it added is in the row of
+    /// the worker to whom it was handed out, and the control statement that ended it takes effect. The answer
+    /// is the units. Where it is refused, nothing changes.
     pub fn settle(&mut self, alloc: Global, done: Done) -> Result<u32, (Done, Refused)>
         ensures settled { IfOk result (λ units. Settles self.old done units self.new) }
         ensures same { IfErr result (λ r. r.0 ≡ done) }
@@ -170,16 +185,29 @@ impl Job {
         }
         let task = done.task() as usize;
         let assigns = done.assigns();
+        let worker = self.tasks.get(task).worker();
         let control = self.tasks.get(task).units_next();
         let created = self.tasks.get(task).tasks_next();
+        let number = self.counts.units;
+        let next = self.tasks.get(task).group_next();
+        let Ok(room) = room_for(&mut self.owners, alloc, next) else {
+            return Err((done, Refused::Memory));
+        };
         if self
             .tasks
-            .settle(alloc, task, done.is_taken(), self.counts.units)
+            .settle(alloc, task, done.is_taken(), number)
             .is_err()
         {
             return Err((done, Refused::Memory));
         }
-        done.give_back(&mut self.owners, &mut self.cells);
+        take_back(
+            &mut self.owners,
+            &mut self.cells,
+            done,
+            worker,
+            room,
+            number,
+        );
         let units = assigns as u32 + control;
         self.counts = Counts {
             tasks: self.counts.tasks + created,
@@ -199,9 +227,27 @@ impl Job {
             return;
         }
         let task = done.task() as usize;
-        done.drop_right(&mut self.owners);
+        let worker = self.tasks.get(task).worker();
+        done.drop_right(&mut self.owners, worker);
         self.tasks.stop(task);
         self.failing = true;
+    }
+
+    /// The stored number of a cell that is there. It takes no memory.
+    pub fn stored(&self, cell: Cell) -> u64
+        requires { IsSome (cell_of self.now.cells cell) }
+        ensures { cell_of self.now.cells cell ≡ Some result }
+    {
+        self.cells.at(cell)
+    }
+
+    /// What a cell that is there is worth: its stored number combined with all copies of it. It goes over
+    /// the open groups, and takes no memory.
+    pub fn worth(&self, cell: Cell) -> u64
+        requires { IsSome (cell_of self.now.cells cell) }
+        ensures { worth self.now.owned self.now.cells cell ≡ Some result }
+    {
+        self.owners.worth(&self.cells, cell)
     }
 
     /// Makes a working job fail. It takes no memory.

@@ -140,8 +140,12 @@ fn answer(condition: Option<&Expr>, lent: &Lent) -> Option<u64>
 impl Done {
     ghost use Rattle.std.specs.Prelude.{◌≡◌, ◌∷◌, ◌↔◌, IsTrue, All, Contains, IsSome, IsPermutation};
     ghost use Rattle.ot_model.specs.Cells.{cell_of, lengths};
-    ghost use Rattle.ot_owner.specs.Leases.{lease_of};
-    ghost use Rattle.ot_owner.specs.Worth.{AreJoined, KeepsWorth, worth};
+    ghost use Rattle.ot_model.specs.declared.stmt.Mode.TheVariants.{Writes};
+    ghost use Rattle.ot_owner.specs.Back.{AreStored, all_back};
+    ghost use Rattle.ot_owner.specs.Keeping.{IsOpenable};
+    ghost use Rattle.ot_owner.specs.Owning.{loan_of};
+    ghost use Rattle.ot_owner.specs.Rows.{IsSummed};
+    ghost use Rattle.ot_owner.specs.Worth.{AreJoined, worth};
     ghost use Rattle.ot_task.specs.Pieces.{Runs, leading_len};
     ghost use Rattle.ot_job.specs.Taken.{IsRun, taken_by};
 
@@ -176,14 +180,17 @@ impl Done {
         }
     }
 
-    /// Gives back its copies: its cells have their present values from now on, and its right ends.
-    pub(crate) fn give_back(self, owners: &mut Owners, cells: &mut Cells)
-        requires out { Contains owners.old.out (lease_of self.lent) }
+    /// Gives back its copies, which are out to the worker: its cells have their present values from now on,
+    /// what was added is in the worker's row, and its right ends.
+    pub(crate) fn give_back(self, owners: &mut Owners, cells: &mut Cells, worker: u32)
+        requires out { Contains owners.old.owned.out (loan_of worker self.lent) }
         requires there { All (λ l. IsSome (cell_of cells.old l.cell)) self.lent }
-        ensures stored { AreJoined self.lent (cell_of cells.old) (cell_of cells.new) }
-        ensures worth { AreJoined self.lent (worth owners.old cells.old) (worth owners.new cells.new) }
+        ensures stored { AreStored self.lent (cell_of cells.old) (cell_of cells.new) }
+        ensures groups { owners.new.owned.groups ≡ all_back worker self.lent owners.old.owned.groups }
+        ensures worth { All (λ l. l.mode ≡ Writes → ¬ IsSummed owners.old.owned.groups l.cell) self.lent → AreJoined self.lent (worth owners.old.owned cells.old) (worth owners.new.owned cells.new) }
         ensures lengths { lengths cells.new ≡ lengths cells.old }
-        ensures ended { IsPermutation owners.old.out (lease_of self.lent ∷ owners.new.out) }
+        ensures ended { IsPermutation owners.old.owned.out (loan_of worker self.lent ∷ owners.new.owned.out) }
+        ensures rooms { IsOpenable owners.old → IsOpenable owners.new }
         ensures run { IsRun self }
     {
         let Done {
@@ -193,14 +200,14 @@ impl Done {
             lent,
             answer: _,
         } = self;
-        owners.give_back(cells, lent);
+        owners.give_back(cells, lent, worker);
     }
 
-    /// Ends its right. No cell changes.
-    pub(crate) fn drop_right(self, owners: &mut Owners)
-        requires { Contains owners.old.out (lease_of self.lent) }
-        ensures ended { IsPermutation owners.old.out (lease_of self.lent ∷ owners.new.out) }
-        ensures worth { KeepsWorth owners.old owners.new }
+    /// Ends its right, which is out to the worker. No cell and no copy changes.
+    pub(crate) fn drop_right(self, owners: &mut Owners, worker: u32)
+        requires { Contains owners.old.owned.out (loan_of worker self.lent) }
+        ensures ended { IsPermutation owners.old.owned.out (loan_of worker self.lent ∷ owners.new.owned.out) }
+        ensures groups { owners.new.owned.groups ≡ owners.old.owned.groups }
     {
         let Done {
             task: _,
@@ -209,7 +216,7 @@ impl Done {
             lent,
             answer: _,
         } = self;
-        owners.drop_right(lent);
+        owners.drop_right(lent, worker);
     }
 
     /// Gives it up. No right ends by it.

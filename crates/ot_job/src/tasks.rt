@@ -1,7 +1,7 @@
 use crate::arena::execute;
 use crate::listed::Listed;
 use crate::listing::{refresh, refresh_children};
-use ot_model::{Cells, Stmt};
+use ot_model::Stmt;
 use ot_task::{Prepared, Running, Task, prepare};
 use std::alloc::{AllocError, Global};
 use std::marker::Model;
@@ -38,11 +38,10 @@ impl Model for Tasks {
 }
 
 impl Tasks {
-    ghost use Rattle.std.specs.Prelude.{◌≡◌, ◌<◌, [], ◌∷◌, None, true, false, length, is_some, slice_index_or, option_map, All, IsSome, OnOk, OnErr, IfOk};
+    ghost use Rattle.std.specs.Prelude.{◌≡◌, ◌<◌, ℕ, List, [], ◌∷◌, None, true, false, length, is_some, slice_index_or, option_map, All, IsSome, OnOk, OnErr, IfOk};
     ghost use Rattle.ot_model.specs.Cells.{cell_of, lengths, updated};
     ghost use Rattle.ot_model.specs.Names.{NamedIn};
     ghost use Rattle.ot_model.specs.Uses.{AreInOrder};
-    ghost use Rattle.ot_owner.specs.Leases.{lease_of, lent_from};
     ghost use Rattle.ot_task.specs.Modes.{AreHeld};
     ghost use Rattle.ot_model.specs.View.{expr_of, stmts_of};
     ghost use Rattle.ot_depend.specs.Siblings.{IsReady, IsUnfinished};
@@ -123,23 +122,19 @@ impl Tasks {
     }
 
     /// What the next piece of a task is made of. No task changes.
-    pub fn prepare(
-        &mut self,
-        alloc: Global,
-        i: usize,
-        cells: &Cells,
-    ) -> Result<Prepared, AllocError>
+    pub fn prepare(&mut self, alloc: Global, i: usize) -> Result<Prepared, AllocError>
         requires known { i < length self.old }
-        requires named { NamedIn (lengths cells.now) (awake (at self.old i)).rest }
+        requires named { (lens : List ℕ) × NamedIn lens (awake (at self.old i)).rest }
         ensures assigns { IfOk result (λ p. p.assigns ≡ leading (awake (at self.old i)).rest) }
         ensures test { IfOk result (λ p. option_map expr_of p.condition ≡ test_of (behind (awake (at self.old i)).rest)) }
         ensures held { IfOk result (λ p. AreHeld (at self.old i) p.decl) }
         ensures ordered { IfOk result (λ p. AreInOrder p.decl) }
-        ensures there { IfOk result (λ p. All (λ u. IsSome (cell_of cells.now u.cell)) p.decl) }
-        ensures running { IfOk result (λ p. p.running ≡ record { assigns = p.assigns; lease = lease_of (lent_from cells.now p.decl) }) }
+        ensures shared { IfOk result (λ p. p.shared ≡ p.assigns) }
+        ensures there { (cells : List (List ℕ)) → NamedIn (lengths cells) (awake (at self.old i)).rest → IfOk result (λ p. All (λ u. IsSome (cell_of cells u.cell)) p.decl) }
+        ensures room { IfOk result (λ p. p.room ≡ p.decl) }
         ensures same { self.new ≡ self.old }
     {
-        prepare(alloc, &mut self.tasks[i], cells)
+        prepare(alloc, &mut self.tasks[i])
     }
 
     /// A task goes on with a piece that is out from now on, of which it keeps this. It takes no memory.
@@ -147,7 +142,7 @@ impl Tasks {
         requires known { i < length self.old }
         requires idle { (at self.old i).running ≡ None }
         requires assigns { running.assigns ≡ leading (awake (at self.old i)).rest }
-        ensures { self.new ≡ updated self.old i (begun running.lease) }
+        ensures { self.new ≡ updated self.old i (begun running.worker running.lease) }
     {
         self.tasks[i].begin(running);
         self.out += 1;

@@ -7,3 +7,9 @@ pub mod SlotLemmas
 pub mod OutLemmas
 pub mod ApartLemmas
 pub mod WorthLemmas
+pub mod CombineLemmas
+pub mod RowLemmas
+pub mod GroupLemmas
+pub mod GivingLemmas
+pub mod OpenLemmas
+pub mod NameLemmas

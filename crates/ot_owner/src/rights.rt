@@ -1,101 +1,141 @@
 //! The rights that are out.
 ghost use Rattle.std.specs.Prelude.{◌≡◌, ◌↔◌, Contains, IsTrue, Some};
 ghost use Rattle.slab.specs.Slab.{get, values};
-ghost use Rattle.ot_owner.specs.Leases.{lease_of};
+ghost use Rattle.ot_owner.specs.Owning.{loan_of};
 
 use crate::lent::{Keyed, LentCell};
 use crate::right::Right;
 use ot_model::Decl;
 use slab::Slab;
 use std::alloc::{AllocError, Global};
+use std::marker::Model;
+
+/// A right with the worker to whom it is out.
+#[derive(Debug, Drop)]
+pub(crate) struct Loan {
+    pub(crate) worker: u32,
+    pub(crate) right: Right,
+}
+
+impl Model for Loan {
+    ghost use Rattle.ot_owner.specs.Owning.{Loan};
+
+    ghost Value = { Loan };
+
+    ghost view = { λ l. record { worker = l.worker; lease = l.right } };
+}
+
+impl Loan {
+    ghost use Rattle.std.specs.Prelude.{◌↔◌, IsTrue};
+    ghost use Rattle.ot_model.specs.Uses.{Conflict};
+
+    /// Whether what may be done by it conflicts with the declaration.
+    fn conflicts(&self, decl: &Decl) -> bool
+        ensures { IsTrue result ↔ Conflict self.now.lease.uses decl.now }
+    {
+        self.right.conflicts(decl)
+    }
+}
 
 /// The rights that are out, each under a key. What is lent with a right knows its key: so no right
 /// passes over the others where it comes or ends.
 #[derive(Debug, Drop)]
 pub(crate) struct Rights {
-    rights: Slab<Right>,
+    loans: Slab<Loan>,
 }
 
 impl Rights {
-    ghost use Rattle.std.specs.Prelude.{◌≡◌, ◌↔◌, ◌∷◌, [], IsTrue, IfOk, OnErr, Some, None, Contains, IsPermutation};
-    ghost use Rattle.ot_owner.specs.Leases.{lease_of};
-    ghost use Rattle.ot_owner.specs.Owning.{IsFreeFor};
-    ghost use Rattle.ot_owner.specs.Rights.{leases_in, lease_at};
+    ghost use Rattle.std.specs.Prelude.{◌≡◌, ◌↔◌, ◌≤◌, ◌+◌, ◌∷◌, [], IsTrue, OnOk, Some, None, Contains, IsPermutation};
+    ghost use Rattle.ot_owner.specs.Owning.{loan_of, IsFreeFor};
+    ghost use Rattle.ot_owner.specs.Kept.{loans_in, loan_at, spare_in};
 
     /// No right is out. It takes no memory.
     pub(crate) fn new(alloc: Global) -> Rights
-        ensures { leases_in result ≡ [] }
+        ensures { loans_in result ≡ [] }
     {
         Rights {
-            rights: Slab::new(alloc),
+            loans: Slab::new(alloc),
         }
     }
 
     /// Whether no right conflicts with the declaration. It looks at each right.
     pub(crate) fn is_free_for(&self, decl: &Decl) -> bool
-        ensures { IsTrue result ↔ IsFreeFor (leases_in self.now) decl.now }
+        ensures { IsTrue result ↔ IsFreeFor (loans_in self.now) decl.now }
     {
-        for (_key, right) in self.rights.iter() {
-            if right.conflicts(decl) {
+        for (_key, loan) in self.loans.iter() {
+            if loan.conflicts(decl) {
                 return false;
             }
         }
         true
     }
 
-    /// One right more. The answer is what is lent with it, which has its key.
-    pub(crate) fn put(&mut self, right: Right, cells: Vec<LentCell>) -> Result<Keyed, AllocError>
-        ensures put { IfOk result (λ keyed. IsPermutation (right ∷ leases_in self.old) (leases_in self.new)) }
-        ensures key { IfOk result (λ keyed. lease_at self.new keyed.key ≡ Some right) }
-        ensures cells { IfOk result (λ keyed. keyed.cells.items ≡ cells.items) }
-        ensures memory { OnErr result (leases_in self.new ≡ leases_in self.old) }
+    /// Makes a place for one right more.
+    pub(crate) fn make(&mut self) -> Result<(), AllocError>
+        ensures same { loans_in self.new ≡ loans_in self.old }
+        ensures made { OnOk result (1 ≤ spare_in self.new) }
     {
-        self.rights.reserve(1)?;
-        let key = self.rights.insert_reserved(right);
-        Ok(Keyed { cells, key })
+        self.loans.reserve(1)
     }
 
-    /// Ends one right to these cells: their own one, where it is out.
-    pub(crate) fn end(&mut self, lent: &Keyed)
-        requires { Contains (leases_in self.old) (lease_of lent.now.cells.items) }
-        ensures ended { IsPermutation (leases_in self.old) (lease_of lent.now.cells.items ∷ leases_in self.new) }
-        ensures own { lease_at self.old lent.now.key ≡ Some (lease_of lent.now.cells.items) → lease_at self.new lent.now.key ≡ None }
+    /// One right more, and its key. It takes no memory.
+    pub(crate) fn put(&mut self, loan: Loan) -> usize
+        requires { 1 ≤ spare_in self.old }
+        ensures put { IsPermutation (loan ∷ loans_in self.old) (loans_in self.new) }
+        ensures key { loan_at self.new result ≡ Some loan }
     {
-        let key = key_of(&self.rights, lent);
-        self.rights.remove(key);
+        self.loans.insert_reserved(loan)
+    }
+
+    /// Ends one right to these cells that is out to the worker: their own one, where it is out.
+    pub(crate) fn end(&mut self, lent: &Keyed, worker: u32)
+        requires { Contains (loans_in self.old) (loan_of worker lent.now.cells.items) }
+        ensures ended { IsPermutation (loans_in self.old) (loan_of worker lent.now.cells.items ∷ loans_in self.new) }
+        ensures own { loan_at self.old lent.now.key ≡ Some (loan_of worker lent.now.cells.items) → loan_at self.new lent.now.key ≡ None }
+        ensures spare { spare_in self.new ≡ spare_in self.old + 1 }
+    {
+        let key = key_of(&self.loans, lent, worker);
+        self.loans.remove(key);
     }
 }
 
-/// The key of a right to these cells: their own one, and where another right lies there, as it may where
-/// other owners lent them, the first that is found.
-fn key_of(rights: &Slab<Right>, lent: &Keyed) -> usize
-    requires { Contains (values rights.now) (lease_of lent.now.cells.items) }
-    ensures there { get rights.now result ≡ Some (lease_of lent.now.cells.items) }
-    ensures own { get rights.now lent.now.key ≡ Some (lease_of lent.now.cells.items) → result ≡ lent.now.key }
+/// The key of a right to these cells that is out to the worker: their own one, and where another right
+/// lies there, as it may where other owners lent them, the first that is found.
+fn key_of(loans: &Slab<Loan>, lent: &Keyed, worker: u32) -> usize
+    requires { Contains (values loans.now) (loan_of worker lent.now.cells.items) }
+    ensures there { get loans.now result ≡ Some (loan_of worker lent.now.cells.items) }
+    ensures own { get loans.now lent.now.key ≡ Some (loan_of worker lent.now.cells.items) → result ≡ lent.now.key }
 {
-    if is_at(rights, lent.key, lent.cells.as_slice()) {
+    if is_at(loans, lent.key, lent.cells.as_slice(), worker) {
         return lent.key;
     }
-    find(rights, lent.cells.as_slice())
+    find(loans, lent.cells.as_slice(), worker)
 }
 
-/// Whether a right to these cells lies under the key.
-fn is_at(rights: &Slab<Right>, key: usize, lent: &[LentCell]) -> bool
-    ensures { IsTrue result ↔ get rights.now key ≡ Some (lease_of lent.now) }
+/// Whether a right to these cells that is out to the worker lies under the key.
+fn is_at(loans: &Slab<Loan>, key: usize, lent: &[LentCell], worker: u32) -> bool
+    ensures { IsTrue result ↔ get loans.now key ≡ Some (loan_of worker lent.now) }
 {
-    match rights.get(key) {
-        Some(right) => right.is_behind(lent),
+    match loans.get(key) {
+        Some(loan) => is_behind(loan, lent, worker),
         None => false,
     }
 }
 
-/// The first key under which a right to these cells lies.
-fn find(rights: &Slab<Right>, lent: &[LentCell]) -> usize
-    requires { Contains (values rights.now) (lease_of lent.now) }
-    ensures { get rights.now result ≡ Some (lease_of lent.now) }
+/// Whether it is the loan of these lent cells to the worker.
+fn is_behind(loan: &Loan, lent: &[LentCell], worker: u32) -> bool
+    ensures { IsTrue result ↔ loan.now ≡ loan_of worker lent.now }
 {
-    for (key, right) in rights.iter() {
-        if right.is_behind(lent) {
+    loan.worker == worker && loan.right.is_behind(lent)
+}
+
+/// The first key under which a right to these cells lies that is out to the worker.
+fn find(loans: &Slab<Loan>, lent: &[LentCell], worker: u32) -> usize
+    requires { Contains (values loans.now) (loan_of worker lent.now) }
+    ensures { get loans.now result ≡ Some (loan_of worker lent.now) }
+{
+    for (key, loan) in loans.iter() {
+        if is_behind(loan, lent, worker) {
             return key;
         }
     }

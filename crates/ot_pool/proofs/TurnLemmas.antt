@@ -55,9 +55,9 @@ turns P s now g is unset does = subst (λ o. Turns P o (record { floor = g; clos
 pub finds-closed : (s now : Shared) → s ≡ now → s.closed ≡ true → FindsClosed now s
 finds-closed s now is set = subst (λ o. FindsClosed o s) is (record { closed = set; same = refl })
 
-pub aborts : (s now : Shared) (turn t : ℕ) (mid g : Floor) → s ≡ now → s.closed ≡ false → RunsShort s.floor t mid → AbortsJob mid t g
-    → Claims now turn (claimed.Aborted t) (record { floor = g; closed = s.closed })
-aborts s now turn t mid g is unset short fails =
+pub aborts : (s now : Shared) (turn worker t : ℕ) (mid g : Floor) → s ≡ now → s.closed ≡ false → RunsShort s.floor t mid → AbortsJob mid t g
+    → Claims now turn worker (claimed.Aborted t) (record { floor = g; closed = s.closed })
+aborts s now turn worker t mid g is unset short fails =
     turns (Aborts t) s now g is unset (record { working = short.working; some = short.some; aborts = subst (λ f. AbortsJob f t g) short.same fails })
 
 pub counts : (s now : Shared) (t n : ℕ) (done : Done) (g : Floor) (closed : Bool) → s ≡ now → s.closed ≡ false → floors.Settles s.floor t done n g → closed ≡ false ↔ HasRoom g

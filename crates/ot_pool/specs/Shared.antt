@@ -70,11 +70,11 @@ pub record Aborts (t : ℕ) (old new : Floor) : Type 0 where
   pub aborts : AbortsJob old t new
 
 -- a piece of some tenant, where a tenant has a claimable task
-abbrev pub Claims : Shared → ℕ → Claimed → Shared → Type 0
-Claims old turn (claimed.Got t piece) new = Turns (λ f g. ClaimsSome f turn (Some (t, piece)) g) old new
-Claims old turn claimed.Idle new = Turns (λ f g. ClaimsSome f turn None g) old new
-Claims old turn (claimed.Aborted t) new = Turns (Aborts t) old new
-Claims old turn claimed.Closed new = FindsClosed old new
+abbrev pub Claims : Shared → ℕ → ℕ → Claimed → Shared → Type 0
+Claims old turn worker (claimed.Got t piece) new = Turns (λ f g. ClaimsSome f turn worker (Some (t, piece)) g) old new
+Claims old turn worker claimed.Idle new = Turns (λ f g. ClaimsSome f turn worker None g) old new
+Claims old turn worker (claimed.Aborted t) new = Turns (Aborts t) old new
+Claims old turn worker claimed.Closed new = FindsClosed old new
 
 -- ---- settle
 

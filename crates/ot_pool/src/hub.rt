@@ -54,7 +54,7 @@ impl<L: Ledger> Model for Hub<L> {
 }
 
 impl<L: Ledger> Hub<L> {
-    ghost use Rattle.std.specs.Prelude.{true, false, IfOk, IfErr, IfSome, IfNone, IsTrue, sum};
+    ghost use Rattle.std.specs.Prelude.{◌≤◌, true, false, IfOk, IfErr, IfSome, IfNone, IsTrue, sum};
     ghost use Rattle.ot_check.specs.Jobs.{IsMeaning};
     ghost use Rattle.ot_pool.specs.Shared.{new_shared, Submits, Refuses, Claims, Takes, Collects, is_pending};
     ghost use Rattle.ot_core.specs.Turns.{NothingAnywhere};
@@ -94,14 +94,16 @@ impl<L: Ledger> Hub<L> {
         }
     }
 
-    /// A claimable piece of some tenant, by the turn. A job whose claim is refused for memory fails at once.
-    pub fn claim(&mut self, alloc: Global, turn: u64) -> Claimed
-        ensures { Claims self.old turn result self.new }
+    /// A claimable piece of some tenant, by the turn, to worker `worker`, 1 to 16. A job whose claim is refused for
+    /// memory fails at once.
+    pub fn claim(&mut self, alloc: Global, turn: u64, worker: u32) -> Claimed
+        requires worker { (1 ≤ worker) × (worker ≤ 16) }
+        ensures { Claims self.old turn worker result self.new }
     {
         if self.is_closed {
             return Claimed::Closed;
         }
-        match self.hall.claim(alloc, turn) {
+        match self.hall.claim(alloc, turn, worker) {
             Ok(Some((tenant, piece))) => Claimed::Got(tenant, piece),
             Ok(None) => Claimed::Idle,
             Err(NoMemory { tenant }) => {

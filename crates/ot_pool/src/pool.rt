@@ -61,9 +61,9 @@ impl<L: Ledger> Pool<L> {
         Ok((pool, shares))
     }
 
-    /// Hands back the piece that was run before, where there is one, and waits for a claimable one: both in one
-    /// hold of the lock, if a task is claimable then. None comes once the pool is closed. What comes back is
-    /// counted in the share.
+    /// Hands back the piece that was run before, where there is one, and waits for a claimable one, which goes to
+    /// worker `worker`, 1 to 16: both in one hold of the lock, if a task is claimable then. None comes once the pool
+    /// is closed. What comes back is counted in the share.
     pub(crate) fn next<R: Wait>(
         &self,
         rt: &R,
@@ -71,8 +71,10 @@ impl<L: Ledger> Pool<L> {
         turn: u64,
         back: Option<(u32, Done)>,
         share: &mut Share<L>,
+        worker: u32,
     ) -> Option<(u32, Piece)>
-        requires { 0 < share.old.parts }
+        requires parts { 0 < share.old.parts }
+        requires worker { (1 ≤ worker) × (worker ≤ 16) }
         ensures { share.new.parts ≡ share.old.parts }
     {
         let mut locked = self.locked.lock(rt);
@@ -80,7 +82,7 @@ impl<L: Ledger> Pool<L> {
         let mut is_over = locked.take_back(alloc, back, share);
         let mut looks = 0u32;
         for _ in rt.forever() {
-            match locked.hub.claim(alloc, turn) {
+            match locked.hub.claim(alloc, turn, worker) {
                 Claimed::Got(tenant, piece) => {
                     let calls = locked.calls_workers();
                     drop(locked);

@@ -24,7 +24,7 @@ pub fn work<G: Gate + Drop, L: Ledger, R: Wait>(
     let mut turn = u64::from(worker);
     let mut back = None;
     for _ in rt.forever() {
-        let Some((tenant, piece)) = pool.next(rt, alloc, turn, back, &mut share) else {
+        let Some((tenant, piece)) = pool.next(rt, alloc, turn, back, &mut share, worker) else {
             return share;
         };
         turn = turn.wrapping_add(1);

@@ -10,5 +10,4 @@ pub mod SameLemmas
 pub mod WeightLemmas
 pub mod ExecuteLemmas
 pub mod GatherLemmas
-pub mod WaitsLemmas
 pub mod SendLemmas

@@ -1,11 +1,15 @@
 -- What comes first, and what is left behind it.
-use Rattle.std.proofs.Common.{◌≡◌, ◌+◌, List, [], ◌∷◌, ◌++◌, refl, sym, ap, ◌∙◌, length, arith}
+use Rattle.std.proofs.Common.{◌≡◌, ◌+◌, ℕ, List, [], ◌∷◌, ◌++◌, refl, sym, ap, ◌∙◌, length, arith}
+use Rattle.std.specs.Prelude.{false, Option, Some, None}
+use Rattle.std.proofs.lemmas.Option.{same_Some, none-some}
+use Rattle.ot_owner.specs.Leases.{Lease}
 use Rattle.ot_model.specs.Tree.{S, Set, Add, If, Task, Wait, Group, Body, End, Next, append}
 use Rattle.ot_model.proofs.TreeLemmas as tree
 use Rattle.ot_task.specs.Place.{Open}
 use Rattle.ot_task.specs.Standing.{Standing, left_group}
 use Rattle.ot_task.specs.Assigns.{assign_of, assigns_of}
-use Rattle.ot_task.specs.Pieces.{leading, behind, leading_len, test_of, passed, passed_end}
+use Rattle.ot_task.specs.Pieces.{leading, behind, leading_len, test_of, passed, passed_end, ended_group, group_passed, awake, IsWith}
+use Rattle.ot_task.specs.Regions.{Region, Run}
 use Rattle.ot_task.specs.declared.assign.Assign.{Assign}
 use Rattle.ot_task.specs.declared.assign.Assign.TheVariants as v
 use Rattle.ot_task.proofs.AssignLemmas.{assigns-push}
@@ -79,6 +83,34 @@ passed-here s h = ap (λ b. passed b s.groups) h ∙ at s.groups ∙ ap (λ b. l
     at : (os : List Open) → passed End os ≡ left_group (record { rest = End; groups = os })
     at [] = refl
     at (o ∷ os) = refl
+
+-- the group whose end is passed is the innermost, and what goes on stands behind it
+pub passed-some : (r : Region) (g : ℕ) → group_passed r ≡ Some g → (o : Open) × (os : List Open) × (r.rest ≡ End) × (r.groups ≡ o ∷ os) × (o.group ≡ g) × (awake r ≡ record r { rest = o.behind; groups = os; waiting = false })
+passed-some r g is = by r.rest r.groups refl refl is
+  where
+    at : Body → List Open → Region
+    at b gs = let s = passed b gs in record r { rest = s.rest; groups = s.groups; waiting = false }
+
+    by : (b : Body) (gs : List Open) → r.rest ≡ b → r.groups ≡ gs → ended_group b gs ≡ Some g
+        → (o : Open) × (os : List Open) × (r.rest ≡ End) × (r.groups ≡ o ∷ os) × (o.group ≡ g) × (awake r ≡ record r { rest = o.behind; groups = os; waiting = false })
+    by End [] rest groups is = absurd (none-some g is)
+    by End (o ∷ os) rest groups is = (o, os, rest, groups, same_Some o.group g is, ap (λ b. at b r.groups) rest ∙ ap (at End) groups)
+    by (Next x b) gs rest groups is = absurd (none-some g is)
+
+-- where no end is passed, the place stays
+pub passed-none : (r : Region) → group_passed r ≡ None → awake r ≡ record r { waiting = false }
+passed-none r is = by r.rest r.groups is
+  where
+    by : (b : Body) (gs : List Open) → ended_group b gs ≡ None → (let s = passed b gs in record r { rest = s.rest; groups = s.groups; waiting = false }) ≡ record r { rest = b; groups = gs; waiting = false }
+    by End [] is = refl
+    by End (o ∷ os) is = absurd (none-some o.group (sym is))
+    by (Next x b) gs is = refl
+
+-- ---- a piece that is out
+
+pub with-run : (running : Option Run) (run : Run) (assigns : Body) (lease : Lease) → running ≡ Some run → run.assigns ≡ assigns → run.lease ≡ lease → IsWith running assigns lease
+with-run running run assigns lease is same held =
+    (run.worker, is ∙ ap (λ a. Some (let one : Run = record run { assigns = a } in one)) same ∙ ap (λ l. Some (let one : Run = record { worker = run.worker; assigns = assigns; lease = l } in one)) held)
 
 pub no_length : {A : Type 0} (xs : List A) → length xs ≡ 0 → xs ≡ []
 no_length [] h = refl

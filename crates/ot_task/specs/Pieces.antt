@@ -1,11 +1,11 @@
 -- What a piece is taken from, and what is left behind it.
 use Rattle.std.specs.Prelude.{◌≡◌, ℕ, ◌+◌, false, List, ◌∷◌, Option, Some, None}
 use Rattle.ot_model.specs.Tree.{E, Set, Add, If, Body, End, Next}
-use Rattle.ot_task.specs.Place.{Open}
+use Rattle.ot_task.specs.Place.{Open, innermost}
 use Rattle.ot_owner.specs.Leases.{Lease, lease_of}
 use Rattle.ot_owner.specs.declared.lent.LentCell.{LentCell}
 use Rattle.ot_task.specs.Standing.{Standing}
-use Rattle.ot_task.specs.Regions.{Region}
+use Rattle.ot_task.specs.Regions.{Region, Run}
 
 -- the sets and adds that come first
 abbrev pub leading : Body → Body
@@ -38,14 +38,27 @@ passed rest os = record { rest = rest; groups = os }
 abbrev pub passed_end : Standing → Standing
 passed_end s = passed s.rest s.groups
 
+-- the number of the innermost open group, where its end is reached
+abbrev pub ended_group : Body → List Open → Option ℕ
+ended_group End os = innermost os
+ended_group rest os = None
+
+-- the group whose end the task passes as it goes on
+abbrev pub group_passed : Region → Option ℕ
+group_passed r = ended_group r.rest r.groups
+
 -- the region as its task goes on
 abbrev pub awake : Region → Region
 awake r = let s = passed r.rest r.groups in record r { rest = s.rest; groups = s.groups; waiting = false }
 
--- the region once a piece of it is out, which holds this
-abbrev pub begun : Lease → Region → Region
-begun lease r = let s = awake r in record s { rest = behind s.rest; running = Some (record { assigns = leading s.rest; lease = lease }) }
+-- the region once the worker has a piece of it, which holds this
+abbrev pub begun : ℕ → Lease → Region → Region
+begun worker lease r = let s = awake r in record s { rest = behind s.rest; running = Some (record { worker = worker; assigns = leading s.rest; lease = lease }) }
+
+-- some worker has a piece of these assigns, which holds this
+abbrev pub IsWith : Option Run → Body → Lease → Type 0
+IsWith running assigns lease = (worker : ℕ) × (running ≡ Some (record { worker = worker; assigns = assigns; lease = lease }))
 
 -- the region runs these assigns with this condition on these inputs
 abbrev pub Runs : Region → Body → Option E → List LentCell → Type 0
-Runs r assigns test lent = (r.running ≡ Some (record { assigns = assigns; lease = lease_of lent })) × (test ≡ test_of r.rest)
+Runs r assigns test lent = IsWith r.running assigns (lease_of lent) × (test ≡ test_of r.rest)

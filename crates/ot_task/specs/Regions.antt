@@ -9,8 +9,9 @@ use Rattle.ot_check.specs.Offences.{Declared}
 use Rattle.ot_task.specs.Place.{Open}
 use Rattle.ot_owner.specs.Leases.{Lease}
 
--- a piece that is out: its assigns, and what it holds
+-- a piece that is out: the worker that has it, its assigns, and what it holds
 pub record Run : Type 0 where
+  pub worker : ℕ
   pub assigns : Body
   pub lease : Lease
 
@@ -87,6 +88,11 @@ stepped taken g r = stepped_from taken g r.rest r
 abbrev pub next_task : Body → Option (List Use × Body)
 next_task (Next (Task d b) rest) = Some (d, b)
 next_task rest = None
+
+-- the cells of the group that comes next
+abbrev pub cells_next : Body → Option (List Cell)
+cells_next (Next (Group cs b) rest) = Some cs
+cells_next rest = None
 
 -- the child that this creates of a task, whose own number is i
 abbrev pub child_of : ℕ → Region → List Use × Body → Region

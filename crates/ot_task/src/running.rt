@@ -1,11 +1,12 @@
 use crate::assigns::Assigns;
-use ot_owner::{Lent, Right};
+use ot_owner::{Lent, Right, RightRoom};
 use std::marker::Model;
 
-/// What a task keeps of its piece that is out: the sets and adds, which the piece shares, and what it
-/// holds.
+/// What a task keeps of its piece that is out: the worker that has it, the sets and adds, which the piece
+/// shares, and what it holds.
 #[derive(Debug, Drop)]
 pub struct Running {
+    worker: u32,
     assigns: Assigns,
     right: Right,
 }
@@ -19,22 +20,37 @@ impl Model for Running {
 
     ghost coded = { Prim.hlevel (codes, body_code) };
 
-    ghost view = { λ r. record { assigns = r.assigns; lease = r.right } };
+    ghost view = { λ r. record { worker = r.worker; assigns = r.assigns; lease = r.right } };
 }
 
 impl Running {
     ghost use Rattle.std.specs.Prelude.{◌≡◌, ◌↔◌, IsTrue};
     ghost use Rattle.ot_owner.specs.Leases.{lease_of};
+    ghost use Rattle.ot_owner.specs.Lending.{uses_of};
 
-    pub(crate) fn new(assigns: Assigns, right: Right) -> Running
-        ensures { result ≡ record { assigns = assigns; lease = right } }
+    /// The record of a piece with these sets and adds, for which this was lent to the worker. It takes no
+    /// memory.
+    pub fn new(worker: u32, assigns: Assigns, room: RightRoom, lent: &Lent) -> Running
+        requires { uses_of lent.now ≡ room }
+        ensures { result ≡ record { worker = worker; assigns = assigns; lease = lease_of lent.now } }
     {
-        Running { assigns, right }
+        Running {
+            worker,
+            assigns,
+            right: room.fill(lent.cells()),
+        }
+    }
+
+    /// The worker that has the piece.
+    pub(crate) fn worker(&self) -> u32
+        ensures { result ≡ self.now.worker }
+    {
+        self.worker
     }
 
     /// Whether it is of these sets and adds, on these inputs.
     pub(crate) fn is_of(&self, assigns: &Assigns, lent: &Lent) -> bool
-        ensures { IsTrue result ↔ self.now ≡ record { assigns = assigns.now; lease = lease_of lent.now } }
+        ensures { IsTrue result ↔ (self.now.assigns ≡ assigns.now) × (self.now.lease ≡ lease_of lent.now) }
     {
         self.assigns.same_as(assigns) && self.right.is_behind(lent.cells())
     }

@@ -54,9 +54,8 @@ impl Task {
     ghost use Rattle.ot_task.specs.Regions.{root_region};
     ghost use Rattle.std.specs.Prelude.{◌^◌};
     ghost use Rattle.ot_task.specs.Weighing.{region_weight};
-    ghost use Rattle.ot_task.specs.Pieces.{leading, behind, test_of, awake, begun};
-    ghost use Rattle.ot_task.specs.Pieces.{Runs};
-    ghost use Rattle.ot_task.specs.Regions.{is_control, tasks_next, with_child, without, over, stopped};
+    ghost use Rattle.ot_task.specs.Pieces.{leading, behind, test_of, awake, begun, Runs, group_passed};
+    ghost use Rattle.ot_task.specs.Regions.{is_control, tasks_next, cells_next, with_child, without, over, stopped};
     ghost use Rattle.ot_model.specs.Uses.{AreInOrder};
     ghost use Rattle.ot_task.specs.Standing.{is_at_end};
     ghost use Rattle.ot_depend.specs.Siblings.{IsReady, IsUnfinished, with_finished};
@@ -65,8 +64,7 @@ impl Task {
     ghost use Rattle.std.specs.Prelude.{IsTrue, ◌↔◌};
     ghost use Rattle.ot_task.specs.Waits.{is_let_go, end_lets_go};
     ghost use Rattle.ot_depend.specs.Siblings.{is_ready};
-    ghost use Rattle.std.specs.Prelude.{not, ◌&&◌, ◌||◌, ◌==◌, is_some, count_by};
-    ghost use Rattle.ot_depend.specs.Siblings.{is_unfinished};
+    ghost use Rattle.std.specs.Prelude.{true, not, ◌&&◌, is_some};
 
     /// The root task at the beginning of the program's body. It takes no memory.
     pub fn root(alloc: Global, body: Vec<Stmt>) -> Task
@@ -139,22 +137,12 @@ impl Task {
         1 + self.place.weigh(self.is_out())
     }
 
-    /// Whether no wait holds it.
-    fn wait_lets_go(&self) -> bool
-        ensures { result ≡ (not self.now.waiting || (count_by is_unfinished self.now.children == 0)) }
-    {
-        !self.waiting || self.children.unfinished() == 0
-    }
-
     /// Whether no group's end holds it.
     fn end_lets_go(&self) -> bool
         ensures { result ≡ end_lets_go self.now.rest self.now.groups self.now.children }
     {
-        if !self.place.is_at_end() {
-            return true;
-        }
-        match self.place.groups.last() {
-            Some(group) => self.children.unfinished_in(group.group) == 0,
+        match self.group_passed() {
+            Some(group) => self.children.unfinished_in(group) == 0,
             None => true,
         }
     }
@@ -163,7 +151,7 @@ impl Task {
     pub fn is_let_go(&self) -> bool
         ensures { result ≡ is_let_go self.now }
     {
-        self.wait_lets_go() && self.end_lets_go()
+        (!self.waiting || self.children.unfinished() == 0) && self.end_lets_go()
     }
 
     /// What its next piece is made of: the sets and adds that come once it goes on, and a copy of the
@@ -176,6 +164,26 @@ impl Task {
         self.place.piece(alloc)
     }
 
+    /// The number of the innermost open group, where its end is reached: as it goes on it passes that end.
+    pub fn group_passed(&self) -> Option<u32>
+        ensures { result ≡ group_passed self.now }
+    {
+        if !self.place.is_at_end() {
+            return None;
+        }
+        Some(self.place.groups.last()?.group)
+    }
+
+    /// The cells of the group that the control statement which comes next enters, if it does.
+    pub fn group_next(&self) -> Option<&[Cell]>
+        ensures { option_map (λ cells. cells.now) result ≡ cells_next self.now.rest }
+    {
+        match self.place.next() {
+            Some(Stmt::Group(cells, _)) => Some(cells.as_slice()),
+            _ => None,
+        }
+    }
+
     /// What it declares.
     pub(crate) fn own(&self) -> Option<&Decl>
         ensures { option_map (λ d. d.now) result ≡ self.now.own }
@@ -186,11 +194,22 @@ impl Task {
     /// Goes on with a piece that is out from now on, of which it keeps this. It takes no memory.
     pub fn begin(&mut self, running: Running)
         requires { running.assigns ≡ leading (awake self.old).rest }
-        ensures { self.new ≡ begun running.lease self.old }
+        ensures { self.new ≡ begun running.worker running.lease self.old }
     {
         self.place.go_on();
         self.waiting = false;
         self.running = Some(running);
+    }
+
+    /// The worker that has its piece. One is to be out.
+    pub fn worker(&self) -> u32
+        requires { is_some self.now.running ≡ true }
+        ensures { option_map (λ run. run.worker) self.now.running ≡ Some result }
+    {
+        let Some(running) = &self.running else {
+            unreachable!()
+        };
+        running.worker()
     }
 
     /// Whether it runs these assigns with this condition on these inputs.

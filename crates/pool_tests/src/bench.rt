@@ -59,7 +59,7 @@ fn drive_on<L: Ledger, R: Clock>(
     let begun = Instant::now(rt).ok()?;
     hub.submit(alloc, 0, copied).ok()?;
     for _ in 0..100_000_u32 {
-        let (tenant, piece) = match hub.claim(alloc, u64::from(pieces)) {
+        let (tenant, piece) = match hub.claim(alloc, u64::from(pieces), 1) {
             Claimed::Got(tenant, piece) => (tenant, piece),
             Claimed::Idle | Claimed::Aborted(_) | Claimed::Closed => break,
         };

@@ -23,7 +23,7 @@ struct Taken {
 /// Runs a job to its end: whether it has ended.
 fn run(alloc: Global, job: &mut Job) -> bool {
     for _ in 0..100_000_u32 {
-        let Ok(Some(piece)) = job.claim(alloc, 0) else {
+        let Ok(Some(piece)) = job.claim(alloc, 0, 1) else {
             break;
         };
         if let Err((done, _)) = job.settle(alloc, piece.run()) {

@@ -36,7 +36,7 @@ fn claimed<L: Ledger>(
     requires { 0 < share.old.parts }
     ensures { share.new.parts ≡ share.old.parts }
 {
-    match hub.claim(alloc, turn) {
+    match hub.claim(alloc, turn, 1) {
         Claimed::Got(tenant, piece) => {
             let _ = hub.settle(alloc, tenant, piece.run(), share);
             Some(tenant)
@@ -94,7 +94,7 @@ fn run_all<L: Ledger>(alloc: Global, hub: &mut Hub<L>, mut share: Share<L>) -> O
 {
     let mut aborted = None;
     for turn in 0..100_u64 {
-        match hub.claim(alloc, turn) {
+        match hub.claim(alloc, turn, 1) {
             Claimed::Got(tenant, piece) => {
                 let _ = hub.settle(alloc, tenant, piece.run(), &mut share);
             }

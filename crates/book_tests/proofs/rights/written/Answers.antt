@@ -2,7 +2,8 @@ use Rattle.std.proofs.Common.{◌≡◌, ◌≢◌, sym, subst, List, [], ◌∷
 use Rattle.ot_model.specs.declared.expr.Cell.{Cell}
 use Rattle.ot_model.specs.declared.stmt.Mode.TheVariants.{Reads, Writes}
 use Rattle.ot_owner.specs.declared.lent.LentCell.{LentCell}
-use Rattle.ot_owner.specs.Leases.{lease_of, copy_of}
+use Rattle.ot_owner.specs.Leases.{Lease, copy_of}
+use Rattle.ot_owner.specs.Owning.{Loan, loan_of}
 use Rattle.ot_owner.specs.Lending.{MayChange}
 use Rattle.ot_owner.proofs.OutLemmas.{contains_begun}
 use Rattle.book_tests.proofs.rights.written.Goals as goal
@@ -18,5 +19,5 @@ set-requires c =
 
 pub give_back-requires-clause-out : goal.give_back-requires-clause-out
 give_back-requires-clause-out c =
-    subst (Contains c.lend.new.owners.out) (sym c.set.ensures.lease)
-    (contains_begun (lease_of c.in_ok-lent.lent) c.args.owners.now.out c.lend.new.owners.out c.in_ok-lent.ensures.out)
+    subst (λ (l : Lease). Contains c.lend.new.owners.owned.out (let loan : Loan = record { worker = 1; lease = l } in loan)) (sym c.set.ensures.lease)
+    (contains_begun (loan_of 1 c.in_ok-lent.lent) c.args.owners.now.owned.out c.lend.new.owners.owned.out c.in_ok-lent.ensures.out)

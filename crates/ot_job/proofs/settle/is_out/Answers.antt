@@ -9,7 +9,7 @@ use Rattle.ot_job.proofs.settle.is_out.Goals as goal
 pub returns-then-task-tasks : goal.returns-then-task-tasks
 returns-then-task-tasks c =
     let gone = at-past c.args.tasks.now c.args.done.now.task (omega (arith, c.if-task-tasks.true, c.task-task.ensures)) in
-    ((λ h. cc), λ out. (let none : _ ≡ _ = sym (ap (λ (r : Region). r.running) gone) ∙ out.0 in cc))
+    ((λ h. cc), λ out. (let none : _ ≡ _ = sym (ap (λ (r : Region). r.running) gone) ∙ out.0.1 in cc))
 
 pub returns : goal.returns
 returns c =

@@ -13,24 +13,16 @@ pub touched-requires-clause-fits : goal.touched-requires-clause-fits
 touched-requires-clause-fits c =
     let rest : Body = (awake c.args.task.now).rest in
     let is : assigns_of c.as_slice.result.now ≡ leading rest = c.as_slice.ensures ∙ c.in_ok-assigns.ensures.assigns in
-    subst AssignsFit (sym is) (assigns-fit (lengths c.args.cells.now) rest c.requires.named)
+    subst AssignsFit (sym is) (assigns-fit c.requires.named.0 rest c.requires.named.1)
 
 pub touched-requires-clause-test : goal.touched-requires-clause-test
 touched-requires-clause-test c =
     let rest : Body = (awake c.args.task.now).rest in
     test-at (λ e. e.now) c.as_ref.result c.in_ok-assigns.condition expr_of (test_of (behind rest)) c.as_ref.ensures.value c.in_ok-assigns.ensures.test
-    (test-fits (lengths c.args.cells.now) rest c.requires.named)
-
-pub right_to-requires : goal.right_to-requires
-right_to-requires c =
-    let r = c.args.task.now in
-    let is : AreHeld r c.in_ok-decl.decl = search rules in
-    record {
-      there = held-there c.args.cells.now r.own (piece_touches (leading (awake r).rest) (test_of (behind (awake r).rest))) c.in_ok-decl.decl (piece-in (lengths c.args.cells.now) (awake r).rest c.requires.named) is;
-    }
+    (test-fits c.requires.named.0 rest c.requires.named.1)
 
 pub returns-clause-there : goal.returns-clause-there
-returns-clause-there c =
-    let r = c.args.task.now in
+returns-clause-there c = λ cells named.
+    (let r = c.args.task.now in
     let is : AreHeld r c.in_ok-decl.decl = search rules in
-    held-there c.args.cells.now r.own (piece_touches (leading (awake r).rest) (test_of (behind (awake r).rest))) c.in_ok-decl.decl (piece-in (lengths c.args.cells.now) (awake r).rest c.requires.named) is
+    held-there cells r.own (piece_touches (leading (awake r).rest) (test_of (behind (awake r).rest))) c.in_ok-decl.decl (piece-in (lengths cells) (awake r).rest named) is)

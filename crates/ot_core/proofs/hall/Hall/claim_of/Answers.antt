@@ -7,7 +7,7 @@ use Rattle.ot_core.proofs.TurnLemmas.{hall-noted}
 use Rattle.ot_core.proofs.hall.Hall.claim_of.Goals as goal
 
 pub returns-clause-claimed : goal.returns-clause-claimed
-returns-clause-claimed c = claims-of (floor_of c.self.inside) _ c.args.tenant c.args.pick c.get_mut.result.now c.claim-claimed.new.self c.claim-claimed.result c.self.view_is c.get_mut.ensures.value c.claim-claimed.ensures.claimed
+returns-clause-claimed c = claims-of (floor_of c.self.inside) _ c.args.tenant c.args.pick c.args.worker c.get_mut.result.now c.claim-claimed.new.self c.claim-claimed.result c.self.view_is c.get_mut.ensures.value c.claim-claimed.ensures.claimed
 
 pub returns-clause-refused : goal.returns-clause-refused
 returns-clause-refused c = runs-short (floor_of c.self.inside) _ c.args.tenant c.get_mut.result.now c.claim-claimed.new.self c.claim-claimed.result c.self.view_is c.get_mut.ensures.value c.claim-claimed.ensures.working c.claim-claimed.ensures.some c.claim-claimed.ensures.refused

@@ -1,7 +1,8 @@
-use Rattle.std.proofs.Common.{rules, refl, ◌≡◌, ◌∷◌, [], sym, subst, ℕ, List, false}
+use Rattle.std.proofs.Common.{rules, ap, refl, ◌≡◌, ◌∷◌, [], sym, subst, ℕ, List, false}
 use Rattle.ot_model.specs.Cells.{lengths}
 use Rattle.ot_model.specs.Names.{NamedIn}
 use Rattle.ot_model.specs.Programs.{expanded_of}
+use Rattle.ot_owner.specs.Owning.{Owned}
 use Rattle.ot_job.specs.Live.{Live}
 use Rattle.ot_task.specs.Regions.{root_region}
 use Rattle.ot_job.proofs.StartLemmas.{starts-well}
@@ -16,12 +17,12 @@ invariant_of-result c =
       program = expanded_of c.args.spec.checked.program;
       before = c.args.spec.before;
       cells = c.in-Ok.cells;
-      owned = c.new.result;
+      owned = c.new.result.owned;
       regions = c.in-Ok.tasks;
       counts = record { tasks = 0; units = 0 };
       failing = false;
     } in
-    starts-well j c.args.spec.checked.disciplined (subst (λ (x : List (List ℕ)). NamedIn (lengths x) j.program.body) (sym cells) named) c.new.ensures.out regions cells refl refl
+    starts-well j c.args.spec.checked.disciplined (subst (λ (x : List (List ℕ)). NamedIn (lengths x) j.program.body) (sym cells) named) (ap (λ (o : Owned). o.out) c.new.ensures.owned) (ap (λ (o : Owned). o.groups) c.new.ensures.owned) regions cells refl refl
 
 pub returns-in-Ok-clause-starts : goal.returns-in-Ok-clause-starts
 returns-in-Ok-clause-starts c = search rules

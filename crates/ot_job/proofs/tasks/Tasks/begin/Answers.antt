@@ -24,19 +24,20 @@ pub invariant_of-self : goal.invariant_of-self
 invariant_of-self c =
     let rs = c.self.inside.tasks.items in
     let i = c.args.i in
+    let worker = c.args.running.worker in
     let lease = c.args.running.lease in
     let within : i < length rs = omega (arith, c.requires.known, ap length c.self.view_is) in
     let idle : (at rs i).running ≡ None = ap (λ (l : List Region). (at l i).running) c.self.view_is ∙ c.requires.idle in
-    let now = set-changed rs i c.index_mut.result.now c.begin.new.self (begun lease) c.index_mut.ensures.value c.begin.ensures in
+    let now = set-changed rs i c.index_mut.result.now c.begin.new.self (begun worker lease) c.index_mut.ensures.value c.begin.ensures in
     subst (λ (l : List Region). AreKept l (numbers_of c.self.inside.children.items) c.remove.new.self.listed c.remove.new.self.room (c.self.inside.out + 1) c.self.inside.unended) (sym now)
-    (kept-removed (begun lease) (λ r. refl) (λ r. refl) (λ r. refl) rs i (numbers_of c.self.inside.children.items) c.self.inside.claimable.listed _ _ _ c.self.invariant within refl
-    c.remove.new.self.listed c.remove.new.self.room (c.self.inside.out + 1) c.self.inside.unended (counted-begun lease rs i c.self.inside.out c.self.inside.unended within idle c.self.invariant.counted)
+    (kept-removed (begun worker lease) (λ r. refl) (λ r. refl) (λ r. refl) rs i (numbers_of c.self.inside.children.items) c.self.inside.claimable.listed _ _ _ c.self.invariant within refl
+    c.remove.new.self.listed c.remove.new.self.room (c.self.inside.out + 1) c.self.inside.unended (counted-begun worker lease rs i c.self.inside.out c.self.inside.unended within idle c.self.invariant.counted)
     c.remove.ensures.room c.remove.ensures.ordered c.remove.ensures.noted c.remove.ensures.others)
 
 pub returns : goal.returns
 returns c =
-    set-changed c.self.inside.tasks.items c.args.i c.index_mut.result.now c.begin.new.self (begun c.args.running.lease) c.index_mut.ensures.value c.begin.ensures
-    ∙ ap (λ (l : List Region). updated l c.args.i (begun c.args.running.lease)) c.self.view_is
+    set-changed c.self.inside.tasks.items c.args.i c.index_mut.result.now c.begin.new.self (begun c.args.running.worker c.args.running.lease) c.index_mut.ensures.value c.begin.ensures
+    ∙ ap (λ (l : List Region). updated l c.args.i (begun c.args.running.worker c.args.running.lease)) c.self.view_is
 
 pub index_mut-requires : goal.index_mut-requires
 index_mut-requires c = omega (arith, c.requires.known, ap length c.self.view_is, c.self.inside.tasks.ok.0)

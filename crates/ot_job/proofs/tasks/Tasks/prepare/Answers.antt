@@ -20,7 +20,7 @@ prepare-requires c =
     let rs = c.self.inside.tasks.items in
     let within : c.args.i < length rs = omega (arith, c.requires.known, ap length c.self.view_is) in
     let here = at-here rs c.args.i c.index_mut.result.now within c.index_mut.ensures.value in
-    record { named = subst (λ (r : Region). NamedIn (lengths c.args.cells.now) (awake r).rest) (sym (ap (λ (l : List Region). at l c.args.i) c.self.view_is) ∙ here) c.requires.named }
+    record { named = (c.requires.named.0, subst (λ (r : Region). NamedIn c.requires.named.0 (awake r).rest) (sym (ap (λ (l : List Region). at l c.args.i) c.self.view_is) ∙ here) c.requires.named.1) }
 
 pub invariant_of-self : goal.invariant_of-self
 invariant_of-self c =
@@ -53,3 +53,10 @@ returns-clause-held c =
     let within : c.args.i < length rs = omega (arith, c.requires.known, ap length c.self.view_is) in
     let here = sym (at-here rs c.args.i c.index_mut.result.now within c.index_mut.ensures.value) ∙ ap (λ (l : List Region). at l c.args.i) c.self.view_is in
     subst (λ (r : Region). IfOk c.prepare.result (λ p. AreHeld r p.decl)) here c.prepare.ensures.held
+
+pub returns-clause-there : goal.returns-clause-there
+returns-clause-there c =
+    let rs = c.self.inside.tasks.items in
+    let within : c.args.i < length rs = omega (arith, c.requires.known, ap length c.self.view_is) in
+    let here = sym (at-here rs c.args.i c.index_mut.result.now within c.index_mut.ensures.value) ∙ ap (λ (l : List Region). at l c.args.i) c.self.view_is in
+    λ cells named. c.prepare.ensures.there cells (subst (λ (r : Region). NamedIn (lengths cells) (awake r).rest) (sym here) named)

@@ -1,33 +1,37 @@
-use Rattle.std.proofs.Common.{◌≡◌, ap, sym, ◌∙◌, subst, IsPermutation, ◌∷◌}
-use Rattle.ot_model.specs.Uses.{AreInOrder}
-use Rattle.ot_owner.specs.Leases.{lease_of, lent_from}
-use Rattle.ot_owner.specs.Lending.{uses_of}
-use Rattle.ot_owner.specs.Owning.{IsFreeFor, NoTwoConflict}
-use Rattle.ot_owner.specs.Rights.{leases_in}
-use Rattle.ot_owner.proofs.ApartLemmas.{no_two-begun}
-use Rattle.ot_owner.proofs.RightsLemmas.{lent_uses, uses_of-lent_from}
+use Rattle.std.proofs.Common.{◌≡◌, ◌∙◌, ap, sym, subst}
+use Rattle.std.specs.Prelude.{All, ◌<◌}
+use Rattle.ot_model.specs.Cells.{cell_of}
+use Rattle.ot_model.specs.declared.stmt.Mode.TheVariants.{Adds}
+use Rattle.ot_owner.specs.Keeping.{IsSound}
+use Rattle.ot_owner.specs.Owning.{Loan, Owned, IsFreeFor}
+use Rattle.ot_owner.specs.Rows.{IsSummed, begun_for}
+use Rattle.ot_owner.specs.Kept.{loans_in, summeds_of}
+use Rattle.ot_owner.specs.Worth.{worth_over}
+use Rattle.ot_owner.proofs.OpenLemmas.{begun-worth, leased-sound, same_small}
+use Rattle.ot_owner.proofs.RightsLemmas.{uses_of-lent_from}
 use Rattle.ot_owner.proofs.owners.Owners.lease.Goals as goal
 
 pub invariant_of-self : goal.invariant_of-self
-invariant_of-self c = subst NoTwoConflict (sym c.in_err-keyed.ensures.memory) c.self.invariant
+invariant_of-self c =
+    let out = loans_in c.self.inside.rights in
+    let before = summeds_of c.self.inside.groups.items in
+    let loan : Loan = c.fill-lent.result.1 in
+    let uses : loan.lease.uses ≡ c.args.slip.uses = ap (λ (l : Loan). l.lease.uses) c.fill-lent.ensures.loan ∙ uses_of-lent_from c.args.cells.now c.args.slip.uses in
+    let begun : summeds_of c.begin_rows.new.groups.items ≡ begun_for loan.worker loan.lease.uses before =
+    c.begin_rows.ensures.begun ∙ ap (λ us. begun_for c.worker.result us before) (c.uses.ensures.uses ∙ sym uses)
+    ∙ ap (λ w. begun_for w loan.lease.uses before) (c.worker.ensures.worker ∙ sym (ap (λ (l : Loan). l.worker) c.fill-lent.ensures.loan)) in
+    let owned : record { out = out; groups = before } ≡ c.args.self.now.owned = ap (λ k. k.owned) c.self.view_is in
+    let free : IsFreeFor out loan.lease.uses = subst (IsFreeFor out) (sym uses) (subst (λ (o : Owned). IsFreeFor o.out c.args.slip.uses) (sym owned) c.requires.free) in
+    let summed : All (λ u. u.mode ≡ Adds → IsSummed before u.cell) loan.lease.uses =
+    subst (All (λ u. u.mode ≡ Adds → IsSummed before u.cell)) (sym uses) (subst (λ (o : Owned). All (λ u. u.mode ≡ Adds → IsSummed o.groups u.cell) c.args.slip.uses) (sym owned) c.requires.summed) in
+    let known : loan.worker < 17 = subst (λ w. w < 17) (c.worker.ensures.worker ∙ sym (ap (λ (l : Loan). l.worker) c.fill-lent.ensures.loan)) c.worker.ensures.known in
+    subst (λ gs. IsSound (record { out = loans_in c.put-key.new.self; groups = gs })) (sym begun)
+    (leased-sound loan out (loans_in c.put-key.new.self) before known c.put-key.ensures.put free summed c.self.invariant)
 
-pub new-requires : goal.new-requires
-new-requires c =
-    let is : uses_of c.in_ok-keyed.keyed.cells.items ≡ c.uses.result.now =
-    lent_uses c.args.cells.now c.uses.result.now c.in_ok-keyed.keyed.cells.items (c.in_ok-keyed.ensures.cells ∙ c.in_ok-lent.ensures) in
-    subst AreInOrder (sym (is ∙ c.uses.ensures.uses)) c.uses.ensures.ordered
-
-pub invariant_of-self-2 : goal.invariant_of-self-2
-invariant_of-self-2 c =
-    let out : leases_in c.self.inside.rights ≡ c.args.self.now.out = ap (λ o. o.out) c.self.view_is in
-    let uses : c.in_ok-right.right.uses ≡ c.args.decl = ap (λ l. l.uses) c.in_ok-right.ensures ∙ uses_of-lent_from c.args.cells.now c.args.decl in
-    let free : IsFreeFor (leases_in c.self.inside.rights) c.args.decl = subst (λ xs. IsFreeFor xs c.args.decl) (sym out) c.requires.free in
-    no_two-begun c.in_ok-right.right (leases_in c.self.inside.rights) (leases_in c.put.new.self) c.in_ok-keyed.ensures.put c.self.invariant
-    (subst (IsFreeFor (leases_in c.self.inside.rights)) (sym uses) free)
-
-pub returns-clause-out : goal.returns-clause-out
-returns-clause-out c =
-    let out : leases_in c.self.inside.rights ≡ c.args.self.now.out = ap (λ o. o.out) c.self.view_is in
-    let lent : c.new.result ≡ lent_from c.args.cells.now c.args.decl = c.new.ensures ∙ c.in_ok-keyed.ensures.cells ∙ c.in_ok-lent.ensures ∙ ap (lent_from c.args.cells.now) c.uses.ensures.uses in
-    subst (λ l. IsPermutation (l ∷ c.args.self.now.out) (leases_in c.put.new.self)) (c.in_ok-right.ensures ∙ ap lease_of (sym lent))
-    (subst (λ xs. IsPermutation (c.in_ok-right.right ∷ xs) (leases_in c.put.new.self)) out c.in_ok-keyed.ensures.put)
+pub returns-clause-worth : goal.returns-clause-worth
+returns-clause-worth c = λ cell.
+    let before = summeds_of c.self.inside.groups.items in
+    let gs = c.args.self.now.owned.groups in
+    let was : before ≡ gs = ap (λ k. k.owned.groups) c.self.view_is in
+    same_small (worth_over (summeds_of c.begin_rows.new.groups.items) cell) (worth_over gs cell) (cell_of c.args.cells.now cell) (c.numbers.ensures cell)
+    (λ n small. ap (λ hs. worth_over hs cell n) c.begin_rows.ensures.begun ∙ begun-worth c.worker.result c.uses.result.now before cell n small ∙ ap (λ hs. worth_over hs cell n) was)

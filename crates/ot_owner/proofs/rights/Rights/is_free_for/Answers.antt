@@ -3,7 +3,7 @@ use Rattle.std.proofs.lemmas.List.{get_or_default}
 use Rattle.slab.specs.Slab.{values}
 use Rattle.slab.proofs.SlabLemmas.{Contains-cons, Contains-cons_cases, Contains-entries}
 use Rattle.ot_model.specs.Uses.{Conflict}
-use Rattle.ot_owner.specs.Leases.{Lease}
+use Rattle.ot_owner.specs.Owning.{Loan}
 use Rattle.ot_owner.proofs.SlotLemmas.{at-held, held-at}
 use Rattle.ot_owner.proofs.rights.Rights.is_free_for.Goals as goal
 
@@ -12,8 +12,8 @@ loop-key-init c =
     let left = c.into_iter-key-iterator.ensures.into_iter_gives ∙ c.iter-key-items.ensures.rest in (
       tt,
       tt,
-      λ key right there. inr (rw left ((Contains-entries c.args.self.now.rights key right).1 there)),
-      λ key right listed. (Contains-entries c.args.self.now.rights key right).0 (rw left at listed),
+      λ key right there. inr (rw left ((Contains-entries c.args.self.now.loans key right).1 there)),
+      λ key right listed. (Contains-entries c.args.self.now.loans key right).0 (rw left at listed),
     )
 
 pub loop-key-preserved : goal.loop-key-preserved
@@ -24,7 +24,7 @@ loop-key-preserved c =
       λ key right there. elim (c.loop-key.invariant.2 key right there) [
         | inl free ↦ inl free
         | inr listed ↦ elim (Contains-cons_cases _ _ _ (rw at at listed)) [
-          | inl same ↦ inl (λ conflict. true≢false (sym (c.conflicts.ensures.1 (subst (λ (r : Lease). Conflict r.uses c.args.decl.now) (sym (ap (λ e. e.1) same)) conflict)) ∙ c.if-conflicts.false))
+          | inl same ↦ inl (λ conflict. true≢false (sym (c.conflicts.ensures.1 (subst (λ (r : Loan). Conflict r.lease.uses c.args.decl.now) (sym (ap (λ e. e.1) same)) conflict)) ∙ c.if-conflicts.false))
           | inr rest ↦ inr rest
         ]
       ],
@@ -33,22 +33,22 @@ loop-key-preserved c =
 
 pub returns-then-conflicts : goal.returns-then-conflicts
 returns-then-conflicts c =
-    let there = c.loop-key.invariant.3 c.in-Some._key c.in-Some.right.now (rw c.in-Some.ensures.steps (0, omega arith, refl)) in
-    let (k, within, at) = at-held c.args.self.now.rights.slots c.in-Some.right.now c.in-Some._key there in (
+    let there = c.loop-key.invariant.3 c.in-Some._key c.in-Some.loan.now (rw c.in-Some.ensures.steps (0, omega arith, refl)) in
+    let (k, within, at) = at-held c.args.self.now.loans.slots c.in-Some.loan.now c.in-Some._key there in (
       λ no. absurd (true≢false (sym no)),
-      λ free. absurd (free k c.in-Some.right.now within (subst (λ (r : Lease). Conflict r.uses c.args.decl.now) (sym at) (c.conflicts.ensures.0 c.if-conflicts.true))),
+      λ free. absurd (free k c.in-Some.loan.now within (subst (λ (r : Loan). Conflict r.lease.uses c.args.decl.now) (sym at) (c.conflicts.ensures.0 c.if-conflicts.true))),
     )
 
 pub returns : goal.returns
 returns c = (λ yes. free, λ all. refl)
   where
-    out : List Lease
-    out = values c.args.self.now.rights
+    out : List Loan
+    out = values c.args.self.now.loans
 
-    free : (k : ℕ) (d : Lease) → k < length out → ¬ Conflict (get_or out k d).uses c.args.decl.now
+    free : (k : ℕ) (d : Loan) → k < length out → ¬ Conflict (get_or out k d).lease.uses c.args.decl.now
     free k d within =
         let it = get_or out k d in
-        let held = held-at c.args.self.now.rights.slots it (k, within, get_or_default out k it d within) in
+        let held = held-at c.args.self.now.loans.slots it (k, within, get_or_default out k it d within) in
         elim (c.loop-key.invariant.2 held.0 it held.1) [
           | inl none ↦ none
           | inr listed ↦ let there = rw c.in-None.ensures.steps.0 at listed in λ _. omega (arith, there.1)

@@ -1,0 +1,142 @@
+-- What a job asks of its owners, where a piece is lent and where it comes back.
+use Rattle.std.proofs.Common.{◌≡◌, ◌≢◌, ℕ, zero, suc, ◌<◌, true, inl, inr, List, [], ◌∷◌, ◌++◌, get_or, length, refl, sym, ap, subst, ◌∙◌, arith}
+use Rattle.std.specs.Prelude.{Option, Some, None, All, Any, Contains, IsSome, IfSome}
+use Rattle.std.proofs.lemmas.List.{append-nil}
+use Rattle.std.proofs.lemmas.List.Elements.{All-contains}
+use Rattle.std.proofs.lemmas.List.Sorted.{All-permutation, IsPermutation-sym}
+use Rattle.ot_model.specs.Cells.{cell_of, lengths, updated}
+use Rattle.ot_model.specs.Tree.{End}
+use Rattle.ot_model.specs.Uses.{AreInOrder, mode_in}
+use Rattle.ot_model.specs.declared.expr.Cell.{Cell}
+use Rattle.ot_model.specs.declared.stmt.Mode.{Mode}
+use Rattle.ot_model.specs.declared.stmt.Mode.TheVariants.{Writes, Adds}
+use Rattle.ot_model.specs.declared.stmt.Use.{Use}
+use Rattle.ot_check.specs.Offences.{has_cell}
+use Rattle.ot_owner.specs.Leases.{Lease, lease_of, lent_from}
+use Rattle.ot_owner.specs.Lending.{use_of, uses_of}
+use Rattle.ot_owner.specs.Owning.{Loan, Owned, IsFreeFor}
+use Rattle.ot_owner.specs.Rows.{Summed, IsSummed, begun_for}
+use Rattle.ot_owner.specs.Worth.{AreWorthSame, worths}
+use Rattle.ot_owner.specs.declared.lent.LentCell.{LentCell}
+use Rattle.ot_owner.proofs.WorthLemmas.{worths-same}
+use Rattle.ot_task.specs.Modes.{AreHeld}
+use Rattle.ot_task.specs.Pieces.{begun, group_passed}
+use Rattle.ot_task.specs.Place.{Open}
+use Rattle.ot_task.specs.Regions.{Region, Run}
+use Rattle.ot_job.specs.Claiming.{is_claimable}
+use Rattle.ot_job.specs.Live.{Live}
+use Rattle.ot_job.specs.Numbered.{at}
+use Rattle.ot_job.specs.Opening.{AreOpen, Opens, IsRoomFor, left_open, opened_under}
+use Rattle.ot_job.specs.Well.{IsWell, IsOnCourse}
+use Rattle.ot_job.specs.Whole.{loans_out}
+use Rattle.ot_job.proofs.FreeLemmas.{mode-once}
+use Rattle.ot_job.proofs.HoldsLemmas.{Among}
+use Rattle.ot_job.proofs.OpenedLemmas.{claim-unopened, claim-summed, group_free, groups-there, held-unopened}
+use Rattle.ot_job.proofs.OpeningLemmas.{innermost, is-open, lent-worths, not_summed, free-out, open-grown, open-passed, open-summed, passed-open, there as there-of}
+use Rattle.ot_job.proofs.WholeLemmas.{loans-each}
+
+among-at : (uses : List Use) (k : ℕ) (d : Use) → k < length uses → Among (get_or uses k d) uses
+among-at [] k d within = absurd (omega (arith, within))
+among-at (u ∷ us) zero d within = inl refl
+among-at (u ∷ us) (suc k) d within = inr (among-at us k d (omega (arith, within)))
+
+-- ---- a piece is lent
+
+module _ (j : Live) (w : IsWell j) (o : IsOnCourse j) (i : ℕ) (h : i < length j.regions) (can : is_claimable j.regions i ≡ true) where
+  abbrev gs : List Summed
+  gs = j.owned.groups
+
+  -- the group whose end is passed
+  module _ (group : ℕ) (is : group_passed (at j.regions i) ≡ Some group) where
+    passed : (g : Open) × (os : List Open) × ((at j.regions i).rest ≡ End) × ((at j.regions i).groups ≡ g ∷ os) × (g.group ≡ group)
+    passed = passed-open (at j.regions i) group is
+
+    among : Contains (at j.regions i).groups passed.0
+    among = innermost (at j.regions i) passed.0 passed.1 passed.3
+
+    passed-is-open : Any (λ g. g.group ≡ group) gs
+    passed-is-open = subst (λ n. Any (λ (g : Summed). g.group ≡ n) gs) passed.4 (is-open j.regions gs i passed.0 among o.copies)
+
+    passed-free : All (λ g. g.group ≡ group → IsFreeFor j.owned.out g.uses) gs
+    passed-free = subst (λ n. All (λ (g : Summed). g.group ≡ n → IsFreeFor j.owned.out g.uses) gs) passed.4
+        (free-out j.regions gs i passed.0 among o.copies j.owned.out
+        (All-permutation (λ (l : Loan). (c : Cell) (m : Mode) → mode_in l.lease.uses c ≡ Some m → has_cell passed.0.cells c ≡ true → ⊥) (loans_out j.regions) j.owned.out
+        (IsPermutation-sym j.owned.out (loans_out j.regions) w.rights)
+        (loans-each (λ l. (c : Cell) (m : Mode) → mode_in l.lease.uses c ≡ Some m → has_cell passed.0.cells c ≡ true → ⊥) j.regions
+        (λ k run out c m held named. none (sym held ∙ group_free j.regions o.sound (lengths j.cells) o.named o.runs o.begun i can passed.2 passed.0 passed.1 passed.3 k run out c named)))))
+      where
+        none : {m : Mode} → Some m ≡ None → ⊥
+        none e = cc
+
+    passed-there : All (λ g. g.group ≡ group → All (λ u. IsSome (cell_of j.cells u.cell)) g.uses) gs
+    passed-there = subst (λ n. All (λ (g : Summed). g.group ≡ n → All (λ u. IsSome (cell_of j.cells u.cell)) g.uses) gs) passed.4
+        (there-of j.regions gs i passed.0 among o.copies j.cells
+        (All-contains (λ (g : Open). All (λ c. IsSome (cell_of j.cells c)) g.cells) (at j.regions i).groups passed.0 (groups-there j o i) among))
+
+  some-passed : {P : ℕ → Type 0} (told : Option ℕ) → told ≡ group_passed (at j.regions i) → ((group : ℕ) → group_passed (at j.regions i) ≡ Some group → P group) → IfSome told P
+  some-passed None is f = tt
+  some-passed (Some group) is f = f group (sym is)
+
+  pub claim-open : (told : Option ℕ) → told ≡ group_passed (at j.regions i) → IfSome told (λ group. Any (λ g. g.group ≡ group) gs)
+  claim-open told is = some-passed told is passed-is-open
+
+  pub claim-unused : (told : Option ℕ) → told ≡ group_passed (at j.regions i) → IfSome told (λ group. All (λ g. g.group ≡ group → IsFreeFor j.owned.out g.uses) gs)
+  claim-unused told is = some-passed told is passed-free
+
+  pub claim-known : (told : Option ℕ) → told ≡ group_passed (at j.regions i) → IfSome told (λ group. All (λ g. g.group ≡ group → All (λ u. IsSome (cell_of j.cells u.cell)) g.uses) gs)
+  claim-known told is = some-passed told is passed-there
+
+  module _ (worker : ℕ) (lease : Lease) (are : AreHeld (at j.regions i) lease.uses) (ordered : AreInOrder lease.uses) where
+    abbrev now : List Region
+    now = updated j.regions i (begun worker lease)
+
+    open-now : AreOpen now (left_open (group_passed (at j.regions i)) gs)
+    open-now = open-passed j.regions gs i (begun worker lease) h (λ r. refl) o.copies
+
+    -- copies are kept of the cells to which it adds
+    pub claim-sums : All (λ u. u.mode ≡ Adds → IsSummed (left_open (group_passed (at j.regions i)) gs) u.cell) lease.uses
+    claim-sums k d within adds =
+        let u = get_or lease.uses k d in
+        let held = mode-once lease.uses ordered u (among-at lease.uses k d within) ∙ ap Some adds in
+        let (n, g, there, named) = claim-summed j o i h can worker lease are ordered u.cell held in
+        open-summed now (left_open (group_passed (at j.regions i)) gs) n g u.cell open-now there named
+
+    -- and of those that it reads or writes there are none, so that it is lent what they are worth
+    pub claim-fresh : (cells : List (List ℕ)) (owned : Owned) → lengths cells ≡ lengths j.cells → AreWorthSame j.owned owned j.cells cells
+        → owned.groups ≡ begun_for worker lease.uses (left_open (group_passed (at j.regions i)) gs) → lent_from cells lease.uses ≡ lent_from (worths j.owned j.cells) lease.uses
+    claim-fresh cells owned long same groups =
+        lent-worths owned cells lease.uses (λ k d within other. none k d within other) ∙ ap (λ c. lent_from c lease.uses) (worths-same j.owned owned j.cells cells long same)
+      where
+        none : (k : ℕ) (d : Use) → k < length lease.uses → (get_or lease.uses k d).mode ≢ Adds → ¬ IsSummed owned.groups (get_or lease.uses k d).cell
+        none k d within other =
+            let u = get_or lease.uses k d in
+            not_summed now owned.groups u.cell
+            (subst (AreOpen now) (sym groups) (open-grown now (left_open (group_passed (at j.regions i)) gs) worker lease.uses open-now))
+            (claim-unopened j o i h can worker lease are ordered u.cell u.mode (mode-once lease.uses ordered u (among-at lease.uses k d within)) other)
+
+-- ---- a piece comes back
+
+-- of no cell that it wrote a copy is kept
+pub back-unsummed : (j : Live) → IsOnCourse j → (i : ℕ) (run : Run) → (at j.regions i).running ≡ Some run → (lent : List LentCell) → run.lease ≡ lease_of lent
+    → All (λ l. l.mode ≡ Writes → ¬ IsSummed j.owned.groups l.cell) lent
+back-unsummed j o i run out lent is k d within writes =
+    let l = get_or lent k d in
+    let ordered = subst AreInOrder (ap (λ (x : Lease). x.uses) is) (o.runs i run out).ordered in
+    let held = ap (λ (x : Lease). mode_in x.uses l.cell) is ∙ mode-once (uses_of lent) ordered (use_of l) (lent-among lent k d within) ∙ ap Some writes in
+    not_summed j.regions j.owned.groups l.cell o.copies
+    (held-unopened j.regions o.sound (lengths j.cells) o.named o.runs o.begun i run out l.cell Writes held differ)
+  where
+    differ : Writes ≢ Adds
+    differ e = cc
+
+    lent-among : (lent : List LentCell) (k : ℕ) (d : LentCell) → k < length lent → Among (use_of (get_or lent k d)) (uses_of lent)
+    lent-among [] k d within = absurd (omega (arith, within))
+    lent-among (x ∷ xs) zero d within = inl refl
+    lent-among (x ∷ xs) (suc k) d within = inr (lent-among xs k d (omega (arith, within)))
+
+-- a group is opened where one comes next
+pub opens : (next : Option (List Cell)) (room : Option (List Use)) (number : ℕ) (before after : List Summed) → IsRoomFor next room → after ≡ before ++ opened_under number room → Opens next number before after
+opens None None number before after names is = is ∙ append-nil before
+opens None (Some room) number before after names is = absurd names
+opens (Some cells) None number before after names is = absurd names
+opens (Some cells) (Some room) number before after names is = (room, names, is)

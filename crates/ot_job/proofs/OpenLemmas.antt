@@ -1,0 +1,239 @@
+-- What pieces hold of the cells of open groups: nothing of their own task's, and of another task's they only add to.
+use Rattle.std.proofs.Common.{◌≡◌, ◌≢◌, ℕ, ◌<◌, ◌≤◌, Bool, true, false, List, [], ◌∷◌, length, refl, sym, ap, subst, ◌∙◌, ◌⊎◌, inl, inr, true≢false, ◌&&◌}
+use Rattle.std.specs.Prelude.{Some, None, slice_get}
+use Rattle.std.proofs.lemmas.Bool.{cases_lt}
+use Rattle.ot_model.specs.Names.{NamedIn}
+use Rattle.ot_model.specs.Uses.{conflicts, is_adds, mode_in}
+use Rattle.ot_model.specs.Cells.{same_cell}
+use Rattle.ot_model.specs.declared.expr.Cell.{Cell}
+use Rattle.ot_model.specs.declared.stmt.Mode.{Mode}
+use Rattle.ot_model.specs.declared.stmt.Mode.TheVariants.{Reads, Writes, Adds}
+use Rattle.ot_model.specs.declared.stmt.Use.{Use}
+use Rattle.ot_depend.specs.Siblings.{Sibling, is_in}
+use Rattle.ot_check.specs.Paths.{use_as}
+use Rattle.ot_check.specs.Offences.{Declared, allows, covers, adds_to, has_cell}
+use Rattle.ot_check.specs.Touches.{Agree}
+use Rattle.ot_check.specs.declared.fault.Offence.TheVariants.{ReductionMisuse}
+use Rattle.ot_check.proofs.Bits.{or_true, true_or, or_right, or_false_left, or_false_right}
+use Rattle.ot_task.specs.Place.{Open}
+use Rattle.ot_task.specs.Regions.{Region, Run}
+use Rattle.ot_task.specs.Pieces.{test_of}
+use Rattle.ot_task.specs.Touched.{piece_touches}
+use Rattle.ot_job.specs.Rights.{IsRight}
+use Rattle.ot_job.specs.Awaiting.{opened}
+use Rattle.ot_job.specs.Numbered.{at, parent_of, todo_at, ended_at}
+use Rattle.ot_job.specs.Sound.{may_at, sums_in, NamedOnce, IsBegun, IsPlaced, IsSound}
+use Rattle.ot_job.specs.Running.{RunsWell}
+use Rattle.ot_job.specs.Whole.{whole, wholes}
+use Rattle.ot_job.proofs.HoldsLemmas.{Among}
+use Rattle.ot_job.proofs.SoundLemmas.{sound, at-past}
+use Rattle.ot_job.proofs.RightsLemmas.{rights_apart}
+use Rattle.ot_job.proofs.GroupLemmas.{writes-agree}
+use Rattle.ot_job.proofs.CreatedLemmas.{sums-opened}
+use Rattle.ot_job.proofs.FreeLemmas.{total, at-whole, named-front, piece-may, piece-meets, safe, right-of}
+
+-- ---- what a declaration lets a body do
+
+-- who may write a cell may do anything with it
+writes-all : (uses : List Use) (c : Cell) (m : Mode) → allows (Some uses) (use_as Writes c) ≡ true → allows (Some uses) (use_as m c) ≡ true
+writes-all [] c m may = may
+writes-all (d ∷ uses) c m may =
+    elim (or_true (same_cell d.cell c && covers d.mode Writes) (allows (Some uses) (use_as Writes c)) may) [
+      | inl here ↦ true_or (same_cell d.cell c && covers d.mode m) (allows (Some uses) (use_as m c)) (one (same_cell d.cell c) d.mode here)
+      | inr later ↦ or_right (same_cell d.cell c && covers d.mode m) (allows (Some uses) (use_as m c)) (writes-all uses c m later)
+    ]
+  where
+    one : (b : Bool) (n : Mode) → (b && covers n Writes) ≡ true → (b && covers n m) ≡ true
+    one true Reads h = absurd (true≢false (sym h))
+    one true Writes h = refl
+    one true Adds h = absurd (true≢false (sym h))
+    one false n h = absurd (true≢false (sym h))
+
+own-all : (own : Declared) (c : Cell) (m : Mode) → allows own (use_as Writes c) ≡ true → allows own (use_as m c) ≡ true
+own-all None c m may = refl
+own-all (Some uses) c m may = writes-all uses c m may
+
+-- a body that doesn't read a cell may only add to it
+only-sums : (uses : List Use) (c : Cell) (m : Mode) → allows (Some uses) (use_as m c) ≡ true → allows (Some uses) (use_as Reads c) ≡ false → conflicts Adds m ≡ false
+only-sums uses c Reads may none = absurd (true≢false (sym may ∙ none))
+only-sums uses c Writes may none = absurd (true≢false (sym (writes-all uses c Reads may) ∙ none))
+only-sums uses c Adds may none = refl
+
+-- and declares the sum, where it may add to it
+declares-sum : (uses : List Use) (c : Cell) → allows (Some uses) (use_as Adds c) ≡ true → allows (Some uses) (use_as Reads c) ≡ false → adds_to (Some uses) c ≡ true
+declares-sum [] c may none = may
+declares-sum (d ∷ uses) c may none =
+    elim (or_true (same_cell d.cell c && covers d.mode Adds) (allows (Some uses) (use_as Adds c)) may) [
+      | inl here ↦ true_or (same_cell d.cell c && is_adds d.mode) (adds_to (Some uses) c)
+          (one (same_cell d.cell c) d.mode here (or_false_left (same_cell d.cell c && covers d.mode Reads) (allows (Some uses) (use_as Reads c)) none))
+      | inr later ↦ or_right (same_cell d.cell c && is_adds d.mode) (adds_to (Some uses) c)
+          (declares-sum uses c later (or_false_right (same_cell d.cell c && covers d.mode Reads) (allows (Some uses) (use_as Reads c)) none))
+    ]
+  where
+    one : (b : Bool) (m : Mode) → (b && covers m Adds) ≡ true → (b && covers m Reads) ≡ false → (b && is_adds m) ≡ true
+    one true Reads h g = absurd (true≢false (sym h))
+    one true Writes h g = absurd (true≢false g)
+    one true Adds h g = refl
+    one false m h g = absurd (true≢false (sym h))
+
+sum-of : (uses : List Use) (c : Cell) (m : Mode) → allows (Some uses) (use_as m c) ≡ true → allows (Some uses) (use_as Reads c) ≡ false → adds_to (Some uses) c ≡ true
+sum-of uses c Reads may none = absurd (true≢false (sym may ∙ none))
+sum-of uses c Writes may none = absurd (true≢false (sym (writes-all uses c Reads may) ∙ none))
+sum-of uses c Adds may none = declares-sum uses c may none
+
+adds-agree : (m : Mode) → conflicts m Adds ≡ false → m ≡ Adds
+adds-agree Reads h = absurd (true≢false h)
+adds-agree Writes h = absurd (true≢false h)
+adds-agree Adds h = refl
+
+-- ---- who may hold a cell
+
+-- A task that has begun and not ended may hold a cell in this mode: its body may use it so, and what an unfinished child of
+-- it may do with it doesn't conflict.
+pub record MayHold (rs : List Region) (i : ℕ) (u : Use) : Type 0 where
+  pub begun : IsBegun (wholes rs) i
+  pub alive : (at rs i).ended ≡ false
+  pub may : allows (at rs i).own u ≡ true
+  pub alone : (k : ℕ) (s : Sibling) → slice_get (at rs i).children k ≡ Some s → s.finished ≡ false → (m : Mode) → allows (Some s.uses) (use_as m u.cell) ≡ true → conflicts u.mode m ≡ false
+
+module _ (rs : List Region) (s : IsSound (wholes rs)) where
+  abbrev ws : List Region
+  ws = wholes rs
+
+  pub known : (i : ℕ) → (at rs i).ended ≡ false → i < length ws
+  known i alive = by (cases_lt i (length ws))
+    where
+      by : (i < length ws) ⊎ (length ws ≤ i) → i < length ws
+      by (inl below) = below
+      by (inr past) = absurd (true≢false (sym (ap (λ (r : Region). r.ended) (at-past ws i past)) ∙ ap (λ (r : Region). r.ended) (at-whole rs i) ∙ alive))
+
+  -- two tasks may hold no cell in modes that conflict
+  pub holders-agree : (i j : ℕ) (u v : Use) → MayHold rs i u → MayHold rs j v → i ≢ j → Agree u v
+  holders-agree i j u v one two other =
+      rights_apart (parent_of ws) (may_at ws) (todo_at ws) (ended_at ws) (IsBegun ws) (sound ws s) (MayHold rs) (λ k. (w : Use) × MayHold rs k w)
+      (λ k r. r.1.begun)
+      (λ k r. ap (λ (x : Region). x.ended) (at-whole rs k) ∙ r.1.alive)
+      (λ k r w h. ap (λ (x : Region). allows x.own w) (at-whole rs k) ∙ h.may)
+      meets i j (u, one) (v, two)
+      (total ws s i j (known i one.alive) (known j two.alive) other) u v one two
+    where
+      meets : (k : ℕ) → (w : Use) × MayHold rs k w → (c : ℕ) → parent_of ws c ≡ k → 0 < c → ended_at ws c ≡ false → (u v : Use) → MayHold rs k u → may_at ws c v → Agree u v
+      meets k r c up pos unended u v h may = by (cases_lt c (length ws))
+        where
+          by : (c < length ws) ⊎ (length ws ≤ c) → Agree u v
+          by (inr past) = absurd (true≢false (sym (ap (λ (x : Region). x.ended) (at-past ws c past)) ∙ unended))
+          by (inl below) = λ same.
+              let kin = s.kin c pos below in
+              let there : slice_get (at rs k).children (at ws c).child ≡ Some kin.entry = sym (ap (λ (x : Region). slice_get x.children (at ws c).child) (ap (at ws) up ∙ at-whole rs k)) ∙ kin.there in
+              h.alone (at ws c).child kin.entry there (kin.finished ∙ unended) v.mode
+              (subst (λ (x : Cell). allows (Some kin.entry.uses) (use_as v.mode x) ≡ true) (sym same) (ap (λ (o : Declared). allows o v) (sym kin.uses) ∙ may))
+
+  pub placed : (i : ℕ) → IsPlaced (whole (at rs i))
+  placed i = subst IsPlaced (at-whole rs i) (s.placed i)
+
+  -- who has an open group has begun, and has not ended
+  pub opened-begun : (i : ℕ) (c : Cell) → opened (at rs i).groups c ≡ true → IsBegun ws i
+  opened-begun i c is = by (at rs i).groups refl
+    where
+      by : (gs : List Open) → (at rs i).groups ≡ gs → IsBegun ws i
+      by [] none = absurd (true≢false (sym is ∙ ap (λ (gs : List Open). opened gs c) none))
+      by (o ∷ os) some = s.entered i o os (ap (λ (r : Region). r.groups) (at-whole rs i) ∙ some)
+
+  pub opened-alive : (i : ℕ) (c : Cell) → opened (at rs i).groups c ≡ true → (at rs i).ended ≡ false
+  opened-alive i c is = by (at rs i).ended refl
+    where
+      by : (b : Bool) → (at rs i).ended ≡ b → b ≡ false
+      by true over = absurd (true≢false (sym is ∙ ap (λ (gs : List Open). opened gs c) ((placed i).shut over)))
+      by false alive = refl
+
+  -- the cells of an open group are its task's to add to
+  pub group-holds : (i : ℕ) (c : Cell) → opened (at rs i).groups c ≡ true → MayHold rs i (use_as Adds c)
+  group-holds i c is = record {
+    begun = opened-begun i c is;
+    alive = opened-alive i c is;
+    may = own-all (at rs i).own c Adds ((placed i).writes c is);
+    alone = λ k x there unfinished m may. only-sums x.uses c m may ((placed i).reduced k x there unfinished c is);
+  }
+
+  -- those of the innermost are its to write, where none of the children created in it is unfinished
+  module _ (i : ℕ) (o : Open) (os : List Open) (innermost : (at rs i).groups ≡ o ∷ os)
+      (none_in : (k : ℕ) (x : Sibling) → slice_get (at rs i).children k ≡ Some x → x.finished ≡ false → is_in o.group x ≡ false)
+      (c : Cell) (named : has_cell o.cells c ≡ true) where
+    is_open : opened (at rs i).groups c ≡ true
+    is_open = ap (λ (gs : List Open). opened gs c) innermost ∙ or_right (opened os c) (has_cell o.cells c) named
+
+    may_write : allows (at rs i).own (use_as Writes c) ≡ true
+    may_write = (placed i).writes c is_open
+
+    -- an unfinished child has nothing to do with the cell: its sum would be the task's own, or of an outer group
+    child_free : (k : ℕ) (x : Sibling) → slice_get (at rs i).children k ≡ Some x → x.finished ≡ false → (m : Mode) → allows (Some x.uses) (use_as m c) ≡ true → ⊥
+    child_free k x there unfinished m may =
+        let p = placed i in
+        let sum = sum-of x.uses c m may (p.reduced k x there unfinished c is_open) in
+        elim (p.sums k x there unfinished c sum) [
+          | inl own ↦ true≢false (sym (own-all (at rs i).own c Reads may_write) ∙ p.exclusive c own)
+          | inr in_one ↦ elim (or_true (has_cell o.cells c && is_in o.group x) (sums_in os x c) (sym (ap (λ (gs : List Open). sums_in gs x c) innermost) ∙ in_one)) [
+            | inl here ↦ both (has_cell o.cells c) (is_in o.group x) here (none_in k x there unfinished)
+            | inr outer ↦ true≢false (sym (sums-opened os x c outer) ∙ (subst NamedOnce innermost p.once).0 c named)
+          ]
+        ]
+      where
+        both : (a b : Bool) → (a && b) ≡ true → b ≡ false → ⊥
+        both true b h g = true≢false (sym h ∙ g)
+        both false b h g = true≢false (sym h)
+
+    pub end-holds : MayHold rs i (use_as Writes c)
+    end-holds = record {
+      begun = opened-begun i c is_open;
+      alive = opened-alive i c is_open;
+      may = may_write;
+      alone = λ k x there unfinished m may. absurd (child_free k x there unfinished m may);
+    }
+
+module _ (rs : List Region) (s : IsSound (wholes rs)) (lens : List ℕ) (named : (i : ℕ) → NamedIn lens (todo_at (wholes rs) i))
+    (well : (i : ℕ) (run : Run) → (at rs i).running ≡ Some run → RunsWell (at rs i) run)
+    (started : (i : ℕ) (run : Run) → (at rs i).running ≡ Some run → IsBegun (wholes rs) i)
+  where
+    pub named-at : (i : ℕ) → NamedIn lens (whole (at rs i)).rest
+    named-at i = subst (λ (r : Region). NamedIn lens r.rest) (at-whole rs i) (named-front lens (at (wholes rs) i).rest (at (wholes rs) i).groups (named i))
+
+    -- what a piece holds
+    pub piece-holds : (i : ℕ) (run : Run) (c : Cell) (m : Mode) → (at rs i).running ≡ Some run → mode_in run.lease.uses c ≡ Some m → MayHold rs i (use_as m c)
+    piece-holds i run c m out held = record {
+      begun = started i run out;
+      alive = (well i run out).alive;
+      may = piece-may lens (at rs i) (placed rs s i) (named-at i) run out (well i run out) (use_as m c) held;
+      alone = λ k x there unfinished n may. piece-meets lens (at rs i) (placed rs s i) (named-at i) run out (well i run out) k x there unfinished (use_as m c) (use_as n c) held may refl;
+    }
+
+    -- where it holds the sum, its body declares it
+    pub piece-adds : (i : ℕ) (run : Run) (c : Cell) → (at rs i).running ≡ Some run → mode_in run.lease.uses c ≡ Some Adds → adds_to (at rs i).own c ≡ true
+    piece-adds i run c out held = (right-of lens (at rs i) (placed rs s i) (named-at i) run out (well i run out) (use_as Adds c) held).1
+
+    -- of a cell that another task's open group names, a piece holds the sum alone
+    pub adds_alone : (i j : ℕ) (c : Cell) (m : Mode) (run : Run) → (at rs i).running ≡ Some run → mode_in run.lease.uses c ≡ Some m → opened (at rs j).groups c ≡ true → i ≢ j → m ≡ Adds
+    adds_alone i j c m run out held is other =
+        adds-agree m (holders-agree rs s i j (use_as m c) (use_as Adds c) (piece-holds i run c m out held) (group-holds rs s j c is) other refl)
+
+    -- of a cell that an open group of its own task names, a piece holds nothing
+    pub own_untouched : (i : ℕ) (c : Cell) (m : Mode) (run : Run) → (at rs i).running ≡ Some run → mode_in run.lease.uses c ≡ Some m → opened (at rs i).groups c ≡ false
+    own_untouched i c m run out held = by m (right-of lens (at rs i) (placed rs s i) (named-at i) run out (well i run out) (use_as m c) held)
+      where
+        Touched : Use → Type 0
+        Touched u = Among u (piece_touches run.assigns (test_of (at rs i).rest))
+
+        touch : (u : Use) → Touched u → opened (at rs i).groups u.cell ≡ false
+        touch u t = safe lens (at rs i) (placed rs s i) (named-at i) run out (well i run out) u t ReductionMisuse
+
+        by : (m : Mode) → IsRight (at rs i).own Touched (use_as m c) → opened (at rs i).groups c ≡ false
+        by Reads right = touch (use_as Reads c) right
+        by Writes (inl right) = touch (use_as Writes c) right
+        by Writes (inr right) = touch (use_as Adds c) right.0
+        by Adds right = touch (use_as Adds c) right.0
+
+    -- at the end of an innermost group of which no child is unfinished, no piece of another task holds a cell of the group
+    pub none_out : (i j : ℕ) (o : Open) (os : List Open) → (at rs i).groups ≡ o ∷ os
+        → ((k : ℕ) (x : Sibling) → slice_get (at rs i).children k ≡ Some x → x.finished ≡ false → is_in o.group x ≡ false)
+        → (c : Cell) (m : Mode) (run : Run) → (at rs j).running ≡ Some run → mode_in run.lease.uses c ≡ Some m → i ≢ j → has_cell o.cells c ≡ true → ⊥
+    none_out i j o os innermost none_in c m run out held other is =
+        writes-agree m (holders-agree rs s i j (use_as Writes c) (use_as m c) (end-holds rs s i o os innermost none_in c is) (piece-holds j run c m out held) other refl)

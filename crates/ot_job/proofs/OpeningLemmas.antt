@@ -1,0 +1,588 @@
+-- Copies are kept of the cells of the open groups and of no others, as tasks go on and as pieces come back.
+use Rattle.std.proofs.Common.{◌≡◌, ◌≢◌, ◌<◌, ◌+◌, ◌↔◌, ◌⊎◌, ℕ, zero, suc, Bool, true, false, true≢false, cond, List, [], ◌∷◌, ◌++◌, map, length, get_or, refl, sym, ap, subst, ◌∙◌, inl, inr, arith, Contains, IsPermutation}
+use Rattle.std.specs.Prelude.{Option, Some, None, IsSome, is_some, option_map, unwrap_or, replicate, nat_lt, if◌then◌else◌, ◌==◌}
+use Rattle.std.specs.List.{All, Any, position_from}
+use Rattle.std.proofs.lemmas.Bool.{cases_eq, eqb-true, eq-eqb}
+use Rattle.std.proofs.lemmas.Iterator.Adapters.{position_from-zero}
+use Rattle.std.proofs.lemmas.List.{map-append, get_or_default}
+use Rattle.std.proofs.lemmas.List.Elements.{All-contains, Contains-get_or, Contains-append_left, Contains-append_right, Contains-append_cases, Contains-push_cases}
+use Rattle.std.proofs.lemmas.List.Folds.{Any-from_list_any, list_any-from_Any}
+use Rattle.std.proofs.lemmas.List.Quantifiers.{position-Some}
+use Rattle.std.proofs.lemmas.List.Sorted.{Contains-permutation, IsPermutation-refl, IsPermutation-sym, IsPermutation-trans, IsPermutation-cons, IsPermutation-middle, IsPermutation-to_front, IsPermutation-append_right}
+use Rattle.std.proofs.lemmas.Option.{same_Some, none-some}
+use Rattle.ot_model.specs.Cells.{cell_of, same_cell, updated}
+use Rattle.ot_model.specs.Tree.{Set, Add, If, Task, Wait, Group, Body, End, Next}
+use Rattle.ot_model.specs.Uses.{Conflict, is_adds, mode_in, first_of}
+use Rattle.ot_model.specs.declared.expr.Cell.{Cell}
+use Rattle.ot_model.specs.declared.stmt.Mode.{Mode}
+use Rattle.ot_model.specs.declared.stmt.Mode.TheVariants.{Reads, Writes, Adds}
+use Rattle.ot_model.specs.declared.stmt.Use.{Use}
+use Rattle.ot_model.proofs.EqualLemmas.{cell-decides}
+use Rattle.ot_check.specs.Offences.{has_cell}
+use Rattle.ot_check.proofs.Bits.{or_true, true_or, or_right}
+use Rattle.ot_owner.specs.Back.{taken_back, all_back}
+use Rattle.ot_owner.specs.Leases.{copy_of, lent_from}
+use Rattle.ot_owner.specs.Owning.{Loan, Owned, IsFreeFor}
+use Rattle.ot_owner.specs.Rows.{Summed, is_of, place_in, names, IsNamed, IsSummed, adds_in, added_in, added, begun_in, begun_for, without as without_group}
+use Rattle.ot_owner.specs.Worth.{combined, worth_over, worth, worths, IsCombined}
+use Rattle.ot_owner.specs.declared.lent.LentCell.{LentCell}
+use Rattle.ot_owner.proofs.OpenLemmas.{unsummed, worth-with}
+use Rattle.ot_owner.proofs.OutLemmas.{permutation_rest}
+use Rattle.ot_owner.proofs.WorthLemmas.{cell_of-worths}
+use Rattle.ot_task.specs.Pieces.{passed, awake, ended_group, group_passed}
+use Rattle.ot_task.specs.Place.{Open}
+use Rattle.ot_task.specs.Regions.{Region, cells_next, with_child, new_region, with_created, stepped, stepped_from, executed, next_task, rest_at, children_at, over, stopped}
+use Rattle.ot_task.specs.Standing.{is_at_end}
+use Rattle.ot_job.specs.Awaiting.{opened}
+use Rattle.ot_job.specs.Numbered.{at, parent_of}
+use Rattle.ot_job.specs.Opening.{numbers_in, AreOpen, left_open, Opens}
+use Rattle.ot_job.specs.Settling.{told_parent, closed, moved_on, settled}
+use Rattle.ot_job.proofs.KeptLemmas.{at-updated, at-updated-other}
+use Rattle.ot_job.proofs.MovesLemmas.{tell-field}
+
+-- ---- what is among the elements
+
+here : {A : Type 0} (x : A) (xs : List A) → Contains (x ∷ xs) x
+here x xs = (0, omega arith, refl)
+
+later : {A : Type 0} (x y : A) (xs : List A) → Contains xs y → Contains (x ∷ xs) y
+later x y xs (k, within, is) = (suc k, omega (arith, within), is)
+
+one_of : {A : Type 0} (x y : A) (xs : List A) → Contains (x ∷ xs) y → (x ≡ y) ⊎ Contains xs y
+one_of x y xs (zero, within, is) = inl is
+one_of x y xs (suc k, within, is) = inr (k, omega (arith, within), is)
+
+mapped : {A B : Type 0} (f : A → B) (xs : List A) (x : A) → Contains xs x → Contains (map f xs) (f x)
+mapped f [] x (k, within, is) = absurd (omega (arith, within))
+mapped f (y ∷ xs) x (zero, within, is) = subst (λ z. Contains (map f (y ∷ xs)) (f z)) is (here (f y) (map f xs))
+mapped f (y ∷ xs) x (suc k, within, is) = later (f y) (f x) (map f xs) (mapped f xs x (k, omega (arith, within), is))
+
+-- it is what f gives of an element
+abbrev IsOf : {A B : Type 0} → (A → B) → List A → B → Type 0
+IsOf {A} f xs y = (x : A) × Contains xs x × (f x ≡ y)
+
+mapped-of : {A B : Type 0} (f : A → B) (xs : List A) (y : B) → Contains (map f xs) y → IsOf f xs y
+mapped-of f [] y (k, within, is) = absurd (omega (arith, within))
+mapped-of f (x ∷ xs) y (zero, within, is) = (x, here x xs, is)
+mapped-of f (x ∷ xs) y (suc k, within, is) = let (z, there, same) = mapped-of f xs y (k, omega (arith, within), is) in (z, later x z xs there, same)
+
+any-of : {A : Type 0} (P : A → Type 0) (xs : List A) (x : A) → Contains xs x → P x → Any P xs
+any-of P xs x (k, within, is) holds = (k, x, within, is, holds)
+
+all-of : {A : Type 0} (P : A → Type 0) (xs : List A) → ((x : A) → Contains xs x → P x) → All P xs
+all-of P xs each k d within = each (get_or xs k d) (Contains-get_or xs k d within)
+
+same_bits : (a b : Bool) → (a ≡ true → b ≡ true) → (b ≡ true → a ≡ true) → a ≡ b
+same_bits true b one two = sym (one refl)
+same_bits false true one two = two refl
+same_bits false false one two = refl
+
+-- ---- which cells are named
+
+place-named : (c : Cell) (k : ℕ) (uses : List Use) → IsNamed uses c → is_some (position_from (is_of c) k uses) ≡ true
+place-named c k [] (j, u, within, is, same) = absurd (omega (arith, within))
+place-named c k (v ∷ uses) named = by (is_of c v) refl (λ earlier. place-named c (k + 1) uses earlier)
+  where
+    behind : is_of c v ≡ false → IsNamed (v ∷ uses) c → IsNamed uses c
+    behind other (zero, u, within, is, same) = absurd (true≢false (sym ((cell-decides v.cell c).1 (ap (λ (u : Use). u.cell) is ∙ same)) ∙ other))
+    behind other (suc j, u, within, is, same) = (j, u, omega (arith, within), is, same)
+
+    by : (b : Bool) → is_of c v ≡ b → (IsNamed uses c → is_some (position_from (is_of c) (k + 1) uses) ≡ true) → is_some (position_from (is_of c) k (v ∷ uses)) ≡ true
+    by true e rest = ap (λ b. is_some (cond b (Some k) (position_from (is_of c) (k + 1) uses))) e
+    by false e rest = ap (λ b. is_some (cond b (Some k) (position_from (is_of c) (k + 1) uses))) e ∙ rest (behind e named)
+
+-- a group names the cells of its uses
+place-of : (uses : List Use) (c : Cell) → IsNamed uses c → is_some (place_in uses c) ≡ true
+place-of uses c named = ap is_some (position_from-zero (is_of c) uses) ∙ place-named c 0 uses named
+
+nothing : Use
+nothing = record { cell = record { array = 0; index = 0 }; mode = Reads }
+
+of-place : (uses : List Use) (c : Cell) → is_some (place_in uses c) ≡ true → IsNamed uses c
+of-place uses c there = by (place_in uses c) refl there
+  where
+    by : (o : Option ℕ) → place_in uses c ≡ o → is_some o ≡ true → IsNamed uses c
+    by None at some = absurd (true≢false (sym some))
+    by (Some p) at some =
+        let found = position-Some (is_of c) uses p nothing at in
+        let u = get_or uses p nothing in
+        (p, u, found.0, get_or_default uses p u nothing found.0, (cell-decides u.cell c).0 found.1)
+
+has-cell : (cells : List Cell) (c : Cell) → Contains cells c → has_cell cells c ≡ true
+has-cell cells c (k, within, is) = list_any-from_Any (λ (d : Cell). same_cell d c) cells (k, c, within, is, (cell-decides c c).1 refl)
+
+of-cells : (cells : List Cell) (c : Cell) → has_cell cells c ≡ true → Contains cells c
+of-cells cells c has =
+    let (k, d, within, is, same) = Any-from_list_any (λ (d : Cell). same_cell d c) cells has in
+    subst (Contains cells) ((cell-decides d c).0 same) (k, within, is)
+
+opened-one : (os : List Open) (c : Cell) → opened os c ≡ true → (o : Open) × Contains os o × (has_cell o.cells c ≡ true)
+opened-one [] c is = absurd (true≢false (sym is))
+opened-one (o ∷ os) c is = by (or_true (opened os c) (has_cell o.cells c) is) (λ outer. opened-one os c outer)
+  where
+    by : (opened os c ≡ true) ⊎ (has_cell o.cells c ≡ true) → (opened os c ≡ true → (o : Open) × Contains os o × (has_cell o.cells c ≡ true)) → (p : Open) × Contains (o ∷ os) p × (has_cell p.cells c ≡ true)
+    by (inl outer) rest = let (p, there, has) = rest outer in (p, later o p os there, has)
+    by (inr own) rest = (o, here o os, own)
+
+one-opened : (os : List Open) (o : Open) (c : Cell) → Contains os o → has_cell o.cells c ≡ true → opened os c ≡ true
+one-opened [] o c (k, within, is) has = absurd (omega (arith, within))
+one-opened (p ∷ os) o c there has = by (one_of p o os there) (λ outer. one-opened os o c outer has)
+  where
+    by : (p ≡ o) ⊎ Contains os o → (Contains os o → opened os c ≡ true) → opened (p ∷ os) c ≡ true
+    by (inl is) rest = or_right (opened os c) (has_cell p.cells c) (ap (λ (q : Open). has_cell q.cells c) is ∙ has)
+    by (inr outer) rest = true_or (opened os c) (has_cell p.cells c) (rest outer)
+
+-- a use tells the mode of its cell, or an earlier one does
+mode-there : (uses : List Use) (u : Use) → Contains uses u → (m : Mode) × (mode_in uses u.cell ≡ Some m)
+mode-there [] u (k, within, is) = absurd (omega (arith, within))
+mode-there (v ∷ uses) u there = by (same_cell u.cell v.cell) refl (λ rest. mode-there uses u rest)
+  where
+    behind : same_cell u.cell v.cell ≡ false → (v ≡ u) ⊎ Contains uses u → Contains uses u
+    behind other (inl is) = absurd (true≢false (sym ((cell-decides u.cell v.cell).1 (ap (λ (w : Use). w.cell) (sym is))) ∙ other))
+    behind other (inr rest) = rest
+
+    by : (b : Bool) → same_cell u.cell v.cell ≡ b → (Contains uses u → (m : Mode) × (mode_in uses u.cell ≡ Some m)) → (m : Mode) × (mode_in (v ∷ uses) u.cell ≡ Some m)
+    by true e rest = (v.mode, ap (λ b. if b then Some v.mode else mode_in uses u.cell) e)
+    by false e rest = let (m, is) = rest (behind e (one_of v u uses there)) in (m, ap (λ b. if b then Some v.mode else mode_in uses u.cell) e ∙ is)
+
+-- ---- the numbers of open groups
+
+abbrev numbers_of : List Open → List ℕ
+numbers_of os = map (λ o. o.group) os
+
+abbrev groups_of : List Summed → List ℕ
+groups_of gs = map (λ g. g.group) gs
+
+-- a region has an open group of this number
+abbrev HasOpen : List Region → ℕ → Type 0
+HasOpen rs n = (i : ℕ) × (o : Open) × Contains (at rs i).groups o × (o.group ≡ n)
+
+open-number : (rs : List Region) (n : ℕ) → Contains (numbers_in rs) n → HasOpen rs n
+open-number [] n (k, within, is) = absurd (omega (arith, within))
+open-number (r ∷ rs) n there = by (Contains-append_cases (numbers_of r.groups) (numbers_in rs) n there) (λ rest. open-number rs n rest)
+  where
+    by : Contains (numbers_of r.groups) n ⊎ Contains (numbers_in rs) n → (Contains (numbers_in rs) n → HasOpen rs n) → HasOpen (r ∷ rs) n
+    by (inl own) deeper = let (o, among, same) = mapped-of (λ (o : Open). o.group) r.groups n own in (0, o, among, same)
+    by (inr rest) deeper = let (i, o, among, same) = deeper rest in (suc i, o, among, same)
+
+number-open : (rs : List Region) (i : ℕ) (o : Open) → Contains (at rs i).groups o → Contains (numbers_in rs) o.group
+number-open [] i o (k, within, is) = absurd (omega (arith, within))
+number-open (r ∷ rs) zero o among = Contains-append_left (numbers_of r.groups) (numbers_in rs) o.group (mapped (λ (o : Open). o.group) r.groups o among)
+number-open (r ∷ rs) (suc i) o among = Contains-append_right (numbers_of r.groups) (numbers_in rs) o.group (number-open rs i o among)
+
+-- of each group that copies are kept for there is an open group, and the other way round
+open-kept : (rs : List Region) (gs : List Summed) (g : Summed) → AreOpen rs gs → Contains gs g → HasOpen rs g.group
+open-kept rs gs g are among =
+    open-number rs g.group (Contains-permutation (groups_of gs) (numbers_in rs) g.group are.numbers (mapped (λ (g : Summed). g.group) gs g among))
+
+kept-open : (rs : List Region) (gs : List Summed) (i : ℕ) (o : Open) → AreOpen rs gs → Contains (at rs i).groups o → IsOf (λ (g : Summed). g.group) gs o.group
+kept-open rs gs i o are among =
+    mapped-of (λ (g : Summed). g.group) gs o.group
+    (Contains-permutation (numbers_in rs) (groups_of gs) o.group (IsPermutation-sym (groups_of gs) (numbers_in rs) are.numbers) (number-open rs i o among))
+
+-- ---- which cells copies are kept of
+
+-- a cell that copies are kept of is named by an open group
+pub summed-opened : (rs : List Region) (gs : List Summed) (c : Cell) → AreOpen rs gs → IsSummed gs c → (i : ℕ) × (opened (at rs i).groups c ≡ true)
+summed-opened rs gs c are (k, g, within, is, named) =
+    let (i, o, among, same) = open-kept rs gs g are (k, within, is) in
+    (i, one-opened (at rs i).groups o c among (sym (are.cells i o g among (k, within, is) (sym same) c) ∙ named))
+
+pub open-summed : (rs : List Region) (gs : List Summed) (i : ℕ) (o : Open) (c : Cell) → AreOpen rs gs → Contains (at rs i).groups o → has_cell o.cells c ≡ true → IsSummed gs c
+open-summed rs gs i o c are among has =
+    let (g, there, same) = kept-open rs gs i o are among in
+    any-of (λ g. names c g ≡ true) gs g there (are.cells i o g among there same c ∙ has)
+
+-- copies are kept of each cell that an open group names
+pub opened-summed : (rs : List Region) (gs : List Summed) (i : ℕ) (c : Cell) → AreOpen rs gs → opened (at rs i).groups c ≡ true → IsSummed gs c
+opened-summed rs gs i c are is =
+    let (o, among, has) = opened-one (at rs i).groups c is in
+    open-summed rs gs i o c are among has
+
+-- and of none that no open group names
+pub not_summed : (rs : List Region) (gs : List Summed) (c : Cell) → AreOpen rs gs → ((i : ℕ) → opened (at rs i).groups c ≡ false) → ¬ IsSummed gs c
+not_summed rs gs c are none there = let (i, is) = summed-opened rs gs c are there in true≢false (sym is ∙ none i)
+
+-- ---- where the open groups are the same
+
+groups-at : (rs : List Region) (i : ℕ) (f : Region → Region) → (f (at rs i)).groups ≡ (at rs i).groups → (k : ℕ) → (at (updated rs i f) k).groups ≡ (at rs k).groups
+groups-at [] i f same k = refl
+groups-at (r ∷ rs) zero f same zero = same
+groups-at (r ∷ rs) zero f same (suc k) = refl
+groups-at (r ∷ rs) (suc i) f same zero = refl
+groups-at (r ∷ rs) (suc i) f same (suc k) = groups-at rs i f same k
+
+groups-more : (rs : List Region) (new : Region) → new.groups ≡ [] → (k : ℕ) → (at (rs ++ new ∷ []) k).groups ≡ (at rs k).groups
+groups-more [] new none zero = none
+groups-more [] new none (suc k) = refl
+groups-more (r ∷ rs) new none zero = refl
+groups-more (r ∷ rs) new none (suc k) = groups-more rs new none k
+
+no-numbers : (rs : List Region) → ((k : ℕ) → (at rs k).groups ≡ []) → numbers_in rs ≡ []
+no-numbers [] none = refl
+no-numbers (r ∷ rs) none = ap (λ os. numbers_of os ++ numbers_in rs) (none 0) ∙ no-numbers rs (λ k. none (suc k))
+
+numbers-same : (rs new : List Region) → ((k : ℕ) → (at new k).groups ≡ (at rs k).groups) → numbers_in new ≡ numbers_in rs
+numbers-same [] new same = no-numbers new same
+numbers-same (r ∷ rs) [] same = sym (no-numbers (r ∷ rs) (λ k. sym (same k)))
+numbers-same (r ∷ rs) (n ∷ new) same =
+    ap (λ os. numbers_of os ++ numbers_in new) (same 0) ∙ ap (λ ns. numbers_of r.groups ++ ns) (numbers-same rs new (λ k. same (suc k)))
+
+-- where no group is open that wasn't, and copies are kept for no group for which none were
+open-fewer : (rs now : List Region) (gs new : List Summed) → IsPermutation (groups_of new) (numbers_in now) → ((k : ℕ) (o : Open) → Contains (at now k).groups o → Contains (at rs k).groups o)
+    → ((g : Summed) → Contains new g → Contains gs g) → AreOpen rs gs → AreOpen now new
+open-fewer rs now gs new numbers fewer less are = record {
+  numbers = numbers;
+  cells = λ i o g among there same c. are.cells i o g (fewer i o among) (less g there) same c;
+}
+
+pub open-same : (rs now : List Region) (gs : List Summed) → ((k : ℕ) → (at now k).groups ≡ (at rs k).groups) → AreOpen rs gs → AreOpen now gs
+open-same rs now gs same are =
+    open-fewer rs now gs gs (subst (IsPermutation (groups_of gs)) (sym (numbers-same rs now same)) are.numbers)
+    (λ k o among. subst (λ os. Contains os o) (same k) among) (λ g there. there) are
+
+-- ---- a group's end is passed
+
+numbers-left : (rs : List Region) (i : ℕ) (f : Region → Region) (o : Open) (os : List Open) → i < length rs → (at rs i).groups ≡ o ∷ os → (f (at rs i)).groups ≡ os
+    → IsPermutation (numbers_in rs) (o.group ∷ numbers_in (updated rs i f))
+numbers-left [] i f o os within was now = absurd (omega (arith, within))
+numbers-left (r ∷ rs) zero f o os within was now =
+    let is : numbers_in (r ∷ rs) ≡ o.group ∷ (numbers_of (f r).groups ++ numbers_in rs) = ap (λ ps. numbers_of ps ++ numbers_in rs) (was ∙ ap (λ ps. o ∷ ps) (sym now)) in
+    subst (IsPermutation (numbers_in (r ∷ rs))) is (IsPermutation-refl (numbers_in (r ∷ rs)))
+numbers-left (r ∷ rs) (suc i) f o os within was now =
+    let mine = numbers_of r.groups in
+    let rest = numbers_in (updated rs i f) in
+    IsPermutation-trans (numbers_in (r ∷ rs)) (mine ++ o.group ∷ rest) (o.group ∷ (mine ++ rest))
+    (IsPermutation-append_right mine (numbers_in rs) (o.group ∷ rest) (numbers-left rs i f o os (omega (arith, within)) was now)) (IsPermutation-middle mine o.group rest)
+
+one-without : (n : ℕ) (gs : List Summed) → Contains (groups_of gs) n → IsPermutation (groups_of gs) (n ∷ groups_of (without_group n gs))
+one-without n [] (k, within, is) = absurd (omega (arith, within))
+one-without n (g ∷ gs) there = by (g.group == n) refl (λ rest. one-without n gs rest)
+  where
+    rest_of : (g.group == n) ≡ false → (g.group ≡ n) ⊎ Contains (groups_of gs) n → Contains (groups_of gs) n
+    rest_of other (inl same) = absurd (true≢false (sym (eq-eqb g.group n same) ∙ other))
+    rest_of other (inr rest) = rest
+
+    by : (b : Bool) → (g.group == n) ≡ b → (Contains (groups_of gs) n → IsPermutation (groups_of gs) (n ∷ groups_of (without_group n gs)))
+        → IsPermutation (groups_of (g ∷ gs)) (n ∷ groups_of (if b then gs else g ∷ without_group n gs))
+    by true met rest = subst (λ m. IsPermutation (groups_of (g ∷ gs)) (m ∷ groups_of gs)) (eqb-true g.group n met) (IsPermutation-refl (groups_of (g ∷ gs)))
+    by false other rest =
+        let left = groups_of (without_group n gs) in
+        IsPermutation-trans (groups_of (g ∷ gs)) (g.group ∷ n ∷ left) (n ∷ g.group ∷ left)
+        (IsPermutation-cons g.group (groups_of gs) (n ∷ left) (rest (rest_of other (one_of g.group n (groups_of gs) there)))) (IsPermutation-middle (g.group ∷ []) n left)
+
+without-fewer : (n : ℕ) (gs : List Summed) (g : Summed) → Contains (without_group n gs) g → Contains gs g
+without-fewer n [] g there = there
+without-fewer n (h ∷ gs) g there = by (h.group == n) (λ rest. without-fewer n gs g rest) there
+  where
+    by : (b : Bool) → (Contains (without_group n gs) g → Contains gs g) → Contains (if b then gs else h ∷ without_group n gs) g → Contains (h ∷ gs) g
+    by true rest kept = later h g gs kept
+    by false rest kept = pick (one_of h g (without_group n gs) kept)
+      where
+        pick : (h ≡ g) ⊎ Contains (without_group n gs) g → Contains (h ∷ gs) g
+        pick (inl is) = subst (Contains (h ∷ gs)) is (here h gs)
+        pick (inr left) = later h g gs (rest left)
+
+open-left : (rs : List Region) (gs : List Summed) (i : ℕ) (f : Region → Region) (o : Open) (os : List Open) → i < length rs → (at rs i).groups ≡ o ∷ os → (f (at rs i)).groups ≡ os
+    → AreOpen rs gs → AreOpen (updated rs i f) (without_group o.group gs)
+open-left rs gs i f o os within was now are =
+    open-fewer rs (updated rs i f) gs (without_group o.group gs) numbers fewer (without-fewer o.group gs) are
+  where
+    left : List ℕ
+    left = groups_of (without_group o.group gs)
+
+    among : Contains (groups_of gs) o.group
+    among = Contains-permutation (numbers_in rs) (groups_of gs) o.group (IsPermutation-sym (groups_of gs) (numbers_in rs) are.numbers)
+        (number-open rs i o (subst (λ ps. Contains ps o) (sym was) (here o os)))
+
+    numbers : IsPermutation left (numbers_in (updated rs i f))
+    numbers = permutation_rest o.group left (numbers_in (updated rs i f))
+        (IsPermutation-trans (o.group ∷ left) (groups_of gs) (o.group ∷ numbers_in (updated rs i f))
+        (IsPermutation-sym (groups_of gs) (o.group ∷ left) (one-without o.group gs among))
+        (IsPermutation-trans (groups_of gs) (numbers_in rs) (o.group ∷ numbers_in (updated rs i f)) are.numbers (numbers-left rs i f o os within was now)))
+
+    fewer : (k : ℕ) (p : Open) → Contains (at (updated rs i f) k).groups p → Contains (at rs k).groups p
+    fewer k p there = pick (cases_eq k i)
+      where
+        pick : (k ≡ i) ⊎ (k ≡ i → ⊥) → Contains (at rs k).groups p
+        pick (inl is) =
+            let inner : Contains os p = subst (λ ps. Contains ps p) (ap (λ n. (at (updated rs i f) n).groups) is ∙ ap (λ (r : Region). r.groups) (at-updated rs i f within) ∙ now) there in
+            subst (λ ps. Contains ps p) (sym (ap (λ n. (at rs n).groups) is ∙ was)) (later o p os inner)
+        pick (inr apart) = subst (λ (r : Region). Contains r.groups p) (at-updated-other rs i k f apart) there
+
+-- a task goes on, past the end of its innermost open group or not
+pub open-passed : (rs : List Region) (gs : List Summed) (i : ℕ) (f : Region → Region) → i < length rs → ((r : Region) → (f r).groups ≡ (awake r).groups)
+    → AreOpen rs gs → AreOpen (updated rs i f) (left_open (group_passed (at rs i)) gs)
+open-passed rs gs i f within goes are = by (at rs i).rest (at rs i).groups refl (goes (at rs i))
+  where
+    by : (b : Body) (os : List Open) → (at rs i).groups ≡ os → (f (at rs i)).groups ≡ (passed b os).groups → AreOpen (updated rs i f) (left_open (ended_group b os) gs)
+    by End [] was now = open-same rs (updated rs i f) gs (groups-at rs i f (now ∙ sym was)) are
+    by End (o ∷ os) was now = open-left rs gs i f o os within was now are
+    by (Next x rest) os was now = open-same rs (updated rs i f) gs (groups-at rs i f (now ∙ sym was)) are
+
+-- ---- rows begin and grow
+
+abbrev pub head_of : Summed → ℕ × List Use
+head_of g = (g.group, g.uses)
+
+abbrev pub heads : List Summed → List (ℕ × List Use)
+heads gs = map head_of gs
+
+groups-heads : (gs : List Summed) → groups_of gs ≡ map (λ (h : ℕ × List Use). h.0) (heads gs)
+groups-heads [] = refl
+groups-heads (g ∷ gs) = ap (λ ns. g.group ∷ ns) (groups-heads gs)
+
+-- where the groups are the same but for their rows
+pub open-alike : (rs : List Region) (gs new : List Summed) → heads new ≡ heads gs → AreOpen rs gs → AreOpen rs new
+open-alike rs gs new same are = record {
+  numbers = subst (λ ns. IsPermutation ns (numbers_in rs)) (groups-heads gs ∙ ap (map (λ (h : ℕ × List Use). h.0)) (sym same) ∙ sym (groups-heads new)) are.numbers;
+  cells = cells;
+}
+  where
+    cells : (i : ℕ) (o : Open) (g : Summed) → Contains (at rs i).groups o → Contains new g → g.group ≡ o.group → (c : Cell) → names c g ≡ has_cell o.cells c
+    cells i o g among there number c =
+        let (before, old, is) = mapped-of head_of gs (head_of g) (subst (λ hs. Contains hs (head_of g)) same (mapped head_of new g there)) in
+        sym (ap (λ (h : ℕ × List Use). is_some (place_in h.1 c)) is) ∙ are.cells i o before among old (ap (λ (h : ℕ × List Use). h.0) is ∙ number) c
+
+heads-begun : (worker : ℕ) (uses : List Use) (gs : List Summed) → heads (begun_for worker uses gs) ≡ heads gs
+heads-begun worker uses [] = refl
+heads-begun worker uses (g ∷ gs) = ap (λ h. h ∷ heads (begun_for worker uses gs)) (by (adds_in g.uses uses)) ∙ ap (λ hs. head_of g ∷ hs) (heads-begun worker uses gs)
+  where
+    by : (b : Bool) → head_of (if b then begun_in worker g else g) ≡ head_of g
+    by true = refl
+    by false = refl
+
+heads-added : (worker : ℕ) (c : Cell) (number : ℕ) (gs : List Summed) → heads (added worker c number gs) ≡ heads gs
+heads-added worker c number [] = refl
+heads-added worker c number (g ∷ gs) = by (place_in g.uses c) (heads-added worker c number gs)
+  where
+    by : (o : Option ℕ) → heads (added worker c number gs) ≡ heads gs → heads (if is_some o then added_in worker number g o ∷ gs else g ∷ added worker c number gs) ≡ heads (g ∷ gs)
+    by None rest = ap (λ hs. head_of g ∷ hs) rest
+    by (Some p) rest = refl
+
+heads-taken : (worker : ℕ) (l : LentCell) (gs : List Summed) → heads (taken_back worker l gs) ≡ heads gs
+heads-taken worker l gs = by (is_adds l.mode)
+  where
+    by : (b : Bool) → heads (if b then added worker l.cell l.value gs else gs) ≡ heads gs
+    by true = heads-added worker l.cell l.value gs
+    by false = refl
+
+heads-back : (worker : ℕ) (lent : List LentCell) (gs : List Summed) → heads (all_back worker lent gs) ≡ heads gs
+heads-back worker [] gs = refl
+heads-back worker (l ∷ lent) gs = heads-back worker lent (taken_back worker l gs) ∙ heads-taken worker l gs
+
+pub open-grown : (rs : List Region) (gs : List Summed) (worker : ℕ) (uses : List Use) → AreOpen rs gs → AreOpen rs (begun_for worker uses gs)
+open-grown rs gs worker uses are = open-alike rs gs (begun_for worker uses gs) (heads-begun worker uses gs) are
+
+pub open-back : (rs : List Region) (gs : List Summed) (worker : ℕ) (lent : List LentCell) → AreOpen rs gs → AreOpen rs (all_back worker lent gs)
+open-back rs gs worker lent are = open-alike rs gs (all_back worker lent gs) (heads-back worker lent gs) are
+
+-- ---- a group is entered
+
+-- all open groups have numbers below this one
+abbrev pub AreBelow : List Region → ℕ → Type 0
+AreBelow rs number = (k : ℕ) → All (λ o. o.group < number) (at rs k).groups
+
+-- a group as it is opened, with no row
+abbrev pub summed_new : ℕ → List Use → Summed
+summed_new number uses = record { group = number; uses = uses; rows = replicate 17 None }
+
+numbers-entered : (rs : List Region) (i : ℕ) (f : Region → Region) (o : Open) → i < length rs → (f (at rs i)).groups ≡ o ∷ (at rs i).groups
+    → IsPermutation (o.group ∷ numbers_in rs) (numbers_in (updated rs i f))
+numbers-entered [] i f o within now = absurd (omega (arith, within))
+numbers-entered (r ∷ rs) zero f o within now =
+    subst (IsPermutation (o.group ∷ numbers_in (r ∷ rs))) (ap (λ ps. numbers_of ps ++ numbers_in rs) (sym now)) (IsPermutation-refl (o.group ∷ numbers_in (r ∷ rs)))
+numbers-entered (r ∷ rs) (suc i) f o within now =
+    let mine = numbers_of r.groups in
+    IsPermutation-trans (o.group ∷ (mine ++ numbers_in rs)) (mine ++ o.group ∷ numbers_in rs) (mine ++ numbers_in (updated rs i f))
+    (IsPermutation-sym (mine ++ o.group ∷ numbers_in rs) (o.group ∷ (mine ++ numbers_in rs)) (IsPermutation-middle mine o.group (numbers_in rs)))
+    (IsPermutation-append_right mine (o.group ∷ numbers_in rs) (numbers_in (updated rs i f)) (numbers-entered rs i f o (omega (arith, within)) now))
+
+module _ (rs : List Region) (gs : List Summed) (i : ℕ) (f : Region → Region) (o : Open) (uses : List Use) (within : i < length rs)
+    (now : (f (at rs i)).groups ≡ o ∷ (at rs i).groups) (below : AreBelow rs o.group) (named : (c : Cell) → IsNamed uses c ↔ Contains o.cells c) (are : AreOpen rs gs) where
+  numbers-opened : IsPermutation (groups_of (gs ++ summed_new o.group uses ∷ [])) (numbers_in (updated rs i f))
+  numbers-opened =
+      let all = numbers_in (updated rs i f) in
+      subst (λ ns. IsPermutation ns all) (sym (map-append (λ (g : Summed). g.group) gs (summed_new o.group uses ∷ [])))
+      (IsPermutation-trans (groups_of gs ++ o.group ∷ []) (o.group ∷ groups_of gs) all (IsPermutation-to_front (groups_of gs) o.group)
+      (IsPermutation-trans (o.group ∷ groups_of gs) (o.group ∷ numbers_in rs) all (IsPermutation-cons o.group (groups_of gs) (numbers_in rs) are.numbers) (numbers-entered rs i f o within now)))
+
+  open-now : (k : ℕ) (p : Open) → Contains (at (updated rs i f) k).groups p → Contains (at rs k).groups p ⊎ (o ≡ p)
+  open-now k p there = pick (cases_eq k i)
+    where
+      back : k ≡ i → (o ≡ p) ⊎ Contains (at rs i).groups p → Contains (at rs k).groups p ⊎ (o ≡ p)
+      back is (inl new) = inr new
+      back is (inr old) = inl (subst (λ n. Contains (at rs n).groups p) (sym is) old)
+
+      pick : (k ≡ i) ⊎ (k ≡ i → ⊥) → Contains (at rs k).groups p ⊎ (o ≡ p)
+      pick (inl is) =
+          back is (one_of o p (at rs i).groups (subst (λ ps. Contains ps p) (ap (λ n. (at (updated rs i f) n).groups) is ∙ ap (λ (r : Region). r.groups) (at-updated rs i f within) ∙ now) there))
+      pick (inr apart) = inl (subst (λ (r : Region). Contains r.groups p) (at-updated-other rs i k f apart) there)
+
+  old-below : (k : ℕ) (p : Open) → Contains (at rs k).groups p → p.group < o.group
+  old-below k p there = All-contains (λ (q : Open). q.group < o.group) (at rs k).groups p (below k) there
+
+  kept-below : (g : Summed) → Contains gs g → g.group < o.group
+  kept-below g there = let (k, p, among, same) = open-kept rs gs g are there in let less = old-below k p among in omega (arith, less, same)
+
+  -- the new group's number is no other's
+  pub open-entered : AreOpen (updated rs i f) (gs ++ summed_new o.group uses ∷ [])
+  open-entered = record { numbers = numbers-opened; cells = λ k p g among there same c. by k p g (open-now k p among) (Contains-push_cases gs (summed_new o.group uses) g there) same c }
+    where
+      by : (k : ℕ) (p : Open) (g : Summed) → Contains (at rs k).groups p ⊎ (o ≡ p) → Contains gs g ⊎ (summed_new o.group uses ≡ g) → g.group ≡ p.group → (c : Cell) → names c g ≡ has_cell p.cells c
+      by k p g (inl old) (inl kept) same c = are.cells k p g old kept same c
+      by k p g (inl old) (inr fresh) same c = let less = old-below k p old in let number = ap (λ (g : Summed). g.group) fresh in absurd (omega (arith, less, same, number))
+      by k p g (inr entered) (inl kept) same c = let less = kept-below g kept in let number = ap (λ (p : Open). p.group) entered in absurd (omega (arith, less, same, number))
+      by k p g (inr entered) (inr fresh) same c =
+          sym (ap (names c) fresh)
+          ∙ same_bits (is_some (place_in uses c)) (has_cell o.cells c) (λ there. has-cell o.cells c ((named c).0 (of-place uses c there))) (λ has. place-of uses c ((named c).1 (of-cells o.cells c has)))
+          ∙ ap (λ (p : Open). has_cell p.cells c) entered
+
+-- ---- a piece comes back
+
+groups-created : (i : ℕ) (child : Option (List Use × Body)) (rs : List Region) (k : ℕ) → (at (with_created i child rs) k).groups ≡ (at rs k).groups
+groups-created i None rs k = refl
+groups-created i (Some child) rs k =
+    groups-more (updated rs i (with_child child.0)) (new_region i (children_at rs i) child.0 child.1) refl k ∙ groups-at rs i (with_child child.0) refl k
+
+groups-closed : (i : ℕ) (rs : List Region) (k : ℕ) → (at (closed i rs) k).groups ≡ (at rs k).groups
+groups-closed i rs k = groups-at (told_parent i rs) i over refl k ∙ tell-field (λ r. r.groups) (λ c r. refl) (nat_lt 0 i) (parent_of rs i) (at rs i).child rs k
+
+module _ (taken : Bool) (number i : ℕ) (rs : List Region) (gs new : List Summed) (within : i < length rs) (below : AreBelow rs number) (are : AreOpen rs gs) where
+  same-stepped : (b : Body) → (at rs i).rest ≡ b → (stepped_from taken number b (at rs i)).groups ≡ (at rs i).groups → new ≡ gs → AreOpen (updated rs i (stepped taken number)) new
+  same-stepped b was same is =
+      subst (AreOpen (updated rs i (stepped taken number))) (sym is)
+      (open-same rs (updated rs i (stepped taken number)) gs (groups-at rs i (stepped taken number) (ap (λ b. (stepped_from taken number b (at rs i)).groups) was ∙ same)) are)
+
+  open-stepped : (b : Body) → (at rs i).rest ≡ b → Opens (cells_next b) number gs new → AreOpen (updated rs i (stepped taken number)) new
+  open-stepped End was opens = same-stepped End was refl opens
+  open-stepped (Next (Set c e) rest) was opens = same-stepped (Next (Set c e) rest) was refl opens
+  open-stepped (Next (Add c e) rest) was opens = same-stepped (Next (Add c e) rest) was refl opens
+  open-stepped (Next (If e a b) rest) was opens = same-stepped (Next (If e a b) rest) was refl opens
+  open-stepped (Next (Task d b) rest) was opens = same-stepped (Next (Task d b) rest) was refl opens
+  open-stepped (Next Wait rest) was opens = same-stepped (Next Wait rest) was refl opens
+  open-stepped (Next (Group cs b) rest) was (uses, named, is) =
+      subst (AreOpen (updated rs i (stepped taken number))) (sym is)
+      (open-entered rs gs i (stepped taken number) (record { group = number; cells = cs; behind = rest }) uses within (ap (λ b. (stepped_from taken number b (at rs i)).groups) was) below named are)
+
+  open-executed : Opens (cells_next (at rs i).rest) number gs new → AreOpen (executed taken number i rs) new
+  open-executed opens =
+      open-same (updated rs i (stepped taken number)) (executed taken number i rs) new (groups-created i (next_task (rest_at rs i)) (updated rs i (stepped taken number)))
+      (open-stepped (at rs i).rest refl opens)
+
+  open-moved : Opens (cells_next (at rs i).rest) number gs new → AreOpen (moved_on taken number i rs) new
+  open-moved opens = by (at rs i).rest (at rs i).groups refl refl
+    where
+      goes : is_at_end (at rs i).rest (at rs i).groups ≡ false → AreOpen (moved_on taken number i rs) new
+      goes on = subst (λ b. AreOpen (if b then closed i rs else executed taken number i rs) new) (sym on) (open-executed opens)
+
+      ends : (at rs i).rest ≡ End → is_at_end (at rs i).rest (at rs i).groups ≡ true → AreOpen (moved_on taken number i rs) new
+      ends was over =
+          let is : new ≡ gs = subst (λ b. Opens (cells_next b) number gs new) was opens in
+          subst (λ b. AreOpen (if b then closed i rs else executed taken number i rs) new) (sym over) (open-same rs (closed i rs) new (groups-closed i rs) (subst (AreOpen rs) (sym is) are))
+
+      by : (b : Body) (os : List Open) → (at rs i).rest ≡ b → (at rs i).groups ≡ os → AreOpen (moved_on taken number i rs) new
+      by End [] was none = ends was (ap (λ b. is_at_end b (at rs i).groups) was ∙ ap (is_at_end End) none)
+      by End (o ∷ os) was some = goes (ap (λ b. is_at_end b (at rs i).groups) was ∙ ap (is_at_end End) some)
+      by (Next x rest) os was some = goes (ap (λ b. is_at_end b (at rs i).groups) was)
+
+  -- what becomes of the open groups as a piece comes back
+  pub open-settled : Opens (cells_next (at rs i).rest) number gs new → AreOpen (settled taken number i rs) new
+  open-settled opens =
+      open-same (moved_on taken number i rs) (settled taken number i rs) new (groups-at (moved_on taken number i rs) i stopped refl) (open-moved opens)
+
+-- ---- where no group is open
+
+pub none-open : (rs : List Region) (gs : List Summed) → ((i : ℕ) → (at rs i).groups ≡ []) → AreOpen rs gs → gs ≡ []
+none-open rs [] none are = refl
+none-open rs (g ∷ gs) none are =
+    let (i, o, among, same) = open-kept rs (g ∷ gs) g are (here g gs) in
+    absurd (never o (subst (λ os. Contains os o) (none i) among))
+  where
+    never : (o : Open) → Contains [] o → ⊥
+    never o (k, within, is) = omega (arith, within)
+
+pub open-none : (rs : List Region) → ((i : ℕ) → (at rs i).groups ≡ []) → AreOpen rs []
+open-none rs none = record {
+  numbers = subst (IsPermutation []) (sym (no-numbers rs none)) (IsPermutation-refl []);
+  cells = λ i o g among (k, within, is). absurd (omega (arith, within));
+}
+
+option-same : (o : Option ℕ) → option_map (λ (n : ℕ). n) o ≡ o
+option-same None = refl
+option-same (Some n) = refl
+
+-- no copy is kept
+pub none-combined : (owned : Owned) → owned.groups ≡ [] → IsCombined owned
+none-combined owned none cells cell = ap (λ gs. option_map (worth_over gs cell) (cell_of cells cell)) none ∙ option-same (cell_of cells cell)
+
+-- ---- a group that a task closes
+
+pub innermost : (r : Region) (o : Open) (os : List Open) → r.groups ≡ o ∷ os → Contains r.groups o
+innermost r o os is = subst (λ ps. Contains ps o) (sym is) (here o os)
+
+-- the group whose end a task passes is its innermost
+pub passed-open : (r : Region) (n : ℕ) → group_passed r ≡ Some n → (o : Open) × (os : List Open) × (r.rest ≡ End) × (r.groups ≡ o ∷ os) × (o.group ≡ n)
+passed-open r n is = by r.rest r.groups refl refl is
+  where
+    by : (b : Body) (os : List Open) → r.rest ≡ b → r.groups ≡ os → ended_group b os ≡ Some n → (o : Open) × (os : List Open) × (r.rest ≡ End) × (r.groups ≡ o ∷ os) × (o.group ≡ n)
+    by End [] was groups some = absurd (none-some n some)
+    by End (o ∷ os) was groups some = (o, os, was, groups, same_Some o.group n some)
+    by (Next x rest) os was groups some = absurd (none-some n some)
+
+module _ (rs : List Region) (gs : List Summed) (i : ℕ) (o : Open) (among : Contains (at rs i).groups o) (are : AreOpen rs gs) where
+  pub is-open : Any (λ g. g.group ≡ o.group) gs
+  is-open = let (g, there, same) = kept-open rs gs i o are among in any-of (λ g. g.group ≡ o.group) gs g there same
+
+  -- where uses name none of its cells
+  pub unused : (uses : List Use) → ((c : Cell) (m : Mode) → mode_in uses c ≡ Some m → has_cell o.cells c ≡ true → ⊥) → All (λ g. g.group ≡ o.group → ¬ Conflict uses g.uses) gs
+  unused uses apart = all-of (λ g. g.group ≡ o.group → ¬ Conflict uses g.uses) gs (λ g there same meet. never g there same meet)
+    where
+      never : (g : Summed) → Contains gs g → g.group ≡ o.group → Conflict uses g.uses → ⊥
+      never g there same (k, u, within, is, (l, v, inside, at, (one, both))) =
+          let (m, mode) = mode-there uses u (k, within, is) in
+          apart u.cell m mode (sym (are.cells i o g among there same u.cell) ∙ place-of g.uses u.cell (l, v, inside, at, sym one))
+
+  -- where no loan is out of one
+  pub free-out : (out : List Loan) → All (λ loan. (c : Cell) (m : Mode) → mode_in loan.lease.uses c ≡ Some m → has_cell o.cells c ≡ true → ⊥) out → All (λ g. g.group ≡ o.group → IsFreeFor out g.uses) gs
+  free-out out apart l d within same k e inside = unused (get_or out k e).lease.uses (apart k e inside) l d within same
+
+  pub there : (cells : List (List ℕ)) → All (λ c. IsSome (cell_of cells c)) o.cells → All (λ g. g.group ≡ o.group → All (λ u. IsSome (cell_of cells u.cell)) g.uses) gs
+  there cells all = all-of (λ g. g.group ≡ o.group → All (λ u. IsSome (cell_of cells u.cell)) g.uses) gs each
+    where
+      each : (g : Summed) → Contains gs g → g.group ≡ o.group → All (λ u. IsSome (cell_of cells u.cell)) g.uses
+      each g kept same = all-of (λ u. IsSome (cell_of cells u.cell)) g.uses (λ u (k, within, is).
+          All-contains (λ c. IsSome (cell_of cells c)) o.cells u.cell all
+          (of-cells o.cells u.cell (sym (are.cells i o g among kept same u.cell) ∙ place-of g.uses u.cell (k, u, within, is, refl))))
+
+-- ---- what cells are worth
+
+-- a cell that no copies are kept of is worth its stored number
+pub worth-unsummed : (owned : Owned) (cells : List (List ℕ)) (c : Cell) → ¬ IsSummed owned.groups c → worth owned cells c ≡ cell_of cells c
+worth-unsummed owned cells c none =
+    worth-with owned cells c ∙ ap (λ copies. option_map (λ n. combined n copies) (cell_of cells c)) (unsummed owned.groups c none) ∙ option-same (cell_of cells c)
+
+-- what is lent is as it was from the cells as they are worth, where only those who add meet copies
+pub lent-worths : (owned : Owned) (cells : List (List ℕ)) (uses : List Use) → All (λ u. u.mode ≢ Adds → ¬ IsSummed owned.groups u.cell) uses → lent_from cells uses ≡ lent_from (worths owned cells) uses
+lent-worths owned cells [] apart = refl
+lent-worths owned cells (u ∷ uses) apart =
+    ap (λ l. l ∷ lent_from cells uses) (by u.mode refl) ∙ ap (λ ls. copy_of (worths owned cells) u ∷ ls) (lent-worths owned cells uses (λ k d within. apart (suc k) d (omega (arith, within))))
+  where
+    lends : ℕ → LentCell
+    lends first = record { cell = u.cell; mode = u.mode; first = first; value = first }
+
+    now : u.mode ≢ Adds → cell_of cells u.cell ≡ cell_of (worths owned cells) u.cell
+    now other = sym (worth-unsummed owned cells u.cell (apart 0 u (omega arith) other)) ∙ sym (cell_of-worths owned cells u.cell)
+
+    reads : Reads ≢ Adds
+    reads e = cc
+
+    writes : Writes ≢ Adds
+    writes e = cc
+
+    by : (m : Mode) → u.mode ≡ m → copy_of cells u ≡ copy_of (worths owned cells) u
+    by Reads is = ap (λ o. lends (first_of u.mode (unwrap_or o 0))) (now (λ adds. reads (sym is ∙ adds)))
+    by Writes is = ap (λ o. lends (first_of u.mode (unwrap_or o 0))) (now (λ adds. writes (sym is ∙ adds)))
+    by Adds is =
+        ap (λ m. lends (first_of m (unwrap_or (cell_of cells u.cell) 0))) is
+        ∙ sym (ap (λ m. lends (first_of m (unwrap_or (cell_of (worths owned cells) u.cell) 0))) is)

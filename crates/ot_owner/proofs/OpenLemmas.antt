@@ -1,0 +1,466 @@
+-- Open groups as rows begin, as a group is opened and as one is closed.
+use Rattle.std.proofs.Common.{◌≡◌, ℕ, zero, suc, ◌<◌, ◌^◌, List, [], ◌∷◌, ◌++◌, length, get_or, refl, sym, ap, ◌∙◌, subst, arith, true≢false, Bool, true, false, cond, take, ◌+◌, Contains, IsPermutation}
+use Rattle.std.specs.Prelude.{Option, Some, None, is_some, IsSome, IfSome, slice_get, option_map, option_and_then, replicate, if◌then◌else◌, ◌==◌}
+use Rattle.std.specs.List.{All, Any, remove, position, position_from}
+use Rattle.std.proofs.lemmas.Iterator.Adapters.{position_from-zero}
+use Rattle.std.proofs.lemmas.List.Elements.{All-nil, All-cons, All-push}
+use Rattle.std.proofs.lemmas.List.Folds.{list_any-from_Any}
+use Rattle.std.proofs.lemmas.List.Quantifiers.{position-Some}
+use Rattle.std.proofs.lemmas.Bool.{eqb-true, eq-eqb}
+use Rattle.std.proofs.lemmas.List.{length-map, length-replicate, get_or_default, take_more}
+use Rattle.std.proofs.lemmas.List.Sorted.{All-permutation}
+use Rattle.std.proofs.lemmas.Option.{same_Some}
+use Rattle.std.proofs.Math.ListN.{get_or-map}
+use Rattle.ot_model.specs.Cells.{cell_of, updated}
+use Rattle.ot_model.specs.Uses.{joined as join, is_adds, conflicts, Conflict}
+use Rattle.ot_model.specs.declared.expr.Cell.{Cell}
+use Rattle.ot_model.specs.declared.stmt.Mode.{Mode}
+use Rattle.ot_model.specs.declared.stmt.Mode.TheVariants.{Reads, Writes, Adds}
+use Rattle.ot_model.specs.declared.stmt.Use.{Use}
+use Rattle.ot_model.proofs.EqualLemmas.{cell-decides}
+use Rattle.ot_owner.specs.declared.lent.LentCell.{LentCell}
+use Rattle.ot_owner.specs.Back.{taken_back, all_back}
+use Rattle.ot_owner.specs.Growing.{worth_with}
+use Rattle.ot_owner.specs.Keeping.{IsRegular, HasCopies, IsSound}
+use Rattle.ot_owner.specs.Lending.{use_of, uses_of}
+use Rattle.ot_owner.specs.Kept.{copies_among, summed_of, summeds_of}
+use Rattle.ot_owner.specs.Owning.{Loan, Owned, IsFreeFor}
+use Rattle.ot_owner.specs.Rows.{Summed, is_of, place_in, names, IsSummed, adds_in, copy_in, row_in, copies_at, copies_where, copies_in, copy_among, added_in, added, begun_row, begun_in, begun_for, copies_closed, without}
+use Rattle.ot_owner.specs.Worth.{combined, worth_over, worth, AreJoined}
+use Rattle.ot_owner.specs.declared.rows.Group.{Group}
+use Rattle.ot_owner.proofs.ApartLemmas.{no_two-begun, no_two-ended}
+use Rattle.ot_owner.proofs.CombineLemmas.{combined-append, combined-small, combined-swap}
+use Rattle.ot_owner.proofs.RowLemmas.{combined-begun, all-updated, length-updated}
+use Rattle.ot_owner.proofs.GroupLemmas.{still-some}
+
+abbrev Rows : Type 0
+Rows = List (Option (List ℕ))
+
+-- ---- what a cell is worth
+
+pub worth-among : (gs : List Summed) (c : Cell) (n : ℕ) → worth_over gs c n ≡ combined n (copies_among gs c)
+worth-among [] c n = refl
+worth-among (g ∷ gs) c n = worth-among gs c (combined n (copies_in c g)) ∙ sym (combined-append n (copies_in c g) (copies_among gs c))
+
+pub worth-with : (owned : Owned) (cells : List (List ℕ)) (c : Cell) → worth owned cells c ≡ worth_with (copies_among owned.groups) (cell_of cells) c
+worth-with owned cells c = by (cell_of cells c)
+  where
+    by : (o : Option ℕ) → option_map (worth_over owned.groups c) o ≡ option_map (λ n. combined n (copies_among owned.groups c)) o
+    by None = refl
+    by (Some n) = ap Some (worth-among owned.groups c n)
+
+-- what doesn't name a cell has no copies of it
+pub unnamed : (c : Cell) (g : Summed) → names c g ≡ false → copies_in c g ≡ []
+unnamed c g not = by (place_in g.uses c) not
+  where
+    by : (o : Option ℕ) → is_some o ≡ false → copies_where g.rows o ≡ []
+    by None is = refl
+    by (Some p) is = absurd (true≢false is)
+
+pub unsummed : (gs : List Summed) (c : Cell) → ¬ IsSummed gs c → copies_among gs c ≡ []
+unsummed [] c none = refl
+unsummed (g ∷ gs) c none = by (names c g) refl (unsummed gs c (λ (k, h, within, is, named). none (suc k, h, omega (arith, within), is, named)))
+  where
+    by : (b : Bool) → names c g ≡ b → copies_among gs c ≡ [] → copies_in c g ++ copies_among gs c ≡ []
+    by true named rest = absurd (none (0, g, omega arith, refl, named))
+    by false not rest = ap (λ xs. xs ++ copies_among gs c) (unnamed c g not) ∙ rest
+
+-- one group more
+pub worth-push : (gs : List Summed) (g : Summed) (c : Cell) (n : ℕ) → worth_over (gs ++ g ∷ []) c n ≡ combined (worth_over gs c n) (copies_in c g)
+worth-push [] g c n = refl
+worth-push (h ∷ gs) g c n = worth-push gs g c (combined n (copies_in c h))
+
+-- where each number is worth the same
+pub same_worth : (one two : ℕ → ℕ) (o : Option ℕ) → ((n : ℕ) → one n ≡ two n) → option_map one o ≡ option_map two o
+same_worth one two None same = refl
+same_worth one two (Some n) same = ap Some (same n)
+
+pub same_small : (one two : ℕ → ℕ) (o : Option ℕ) → IfSome o (λ n. n < 2 ^ 64) → ((n : ℕ) → n < 2 ^ 64 → one n ≡ two n) → option_map one o ≡ option_map two o
+same_small one two None small same = refl
+same_small one two (Some n) small same = ap Some (same n small)
+
+-- ---- rows begin
+
+abbrev begun_if : ℕ → Bool → Summed → Summed
+begun_if w b g = if b then begun_in w g else g
+
+begun-uses : (w : ℕ) (b : Bool) (g : Summed) → (begun_if w b g).uses ≡ g.uses
+begun-uses w true g = refl
+begun-uses w false g = refl
+
+begun-combined : (w : ℕ) (c : Cell) (g : Summed) (b : Bool) (n : ℕ) → n < 2 ^ 64 → combined n (copies_in c (begun_if w b g)) ≡ combined n (copies_in c g)
+begun-combined w c g false n small = refl
+begun-combined w c g true n small = by (place_in g.uses c)
+  where
+    by : (o : Option ℕ) → combined n (copies_where (updated g.rows w (begun_row (length g.uses))) o) ≡ combined n (copies_where g.rows o)
+    by None = refl
+    by (Some place) = combined-begun n small g.rows w (length g.uses) place
+
+pub begun-worth : (w : ℕ) (uses : List Use) (gs : List Summed) (c : Cell) (n : ℕ) → n < 2 ^ 64 → worth_over (begun_for w uses gs) c n ≡ worth_over gs c n
+begun-worth w uses [] c n small = refl
+begun-worth w uses (g ∷ gs) c n small =
+    ap (worth_over (begun_for w uses gs) c) (begun-combined w c g (adds_in g.uses uses) n small)
+    ∙ begun-worth w uses gs c (combined n (copies_in c g)) (combined-small n (copies_in c g) small)
+
+row-begun : (rows : Rows) (w x q len : ℕ) → IsSome (copy_in q (row_in rows x)) → IsSome (copy_in q (row_in (updated rows w (begun_row len)) x))
+row-begun [] w x q len there = there
+row-begun (None ∷ rows) zero zero q len there = absurd (true≢false (sym there))
+row-begun (Some copies ∷ rows) zero zero q len there = there
+row-begun (row ∷ rows) zero (suc x) q len there = there
+row-begun (row ∷ rows) (suc w) zero q len there = there
+row-begun (row ∷ rows) (suc w) (suc x) q len there = row-begun rows w x q len there
+
+-- whoever had a copy has one still
+pub begun-still : (w : ℕ) (uses : List Use) (gs : List Summed) (x : ℕ) (c : Cell) → IsSome (copy_among gs x c) → IsSome (copy_among (begun_for w uses gs) x c)
+begun-still w uses [] x c there = there
+begun-still w uses (g ∷ gs) x c there = by (begun-still w uses gs x c) (adds_in g.uses uses)
+  where
+    rest : (IsSome (copy_among gs x c) → IsSome (copy_among (begun_for w uses gs) x c)) → (o : Option ℕ) → IsSome (if is_some o then option_and_then (λ place. copy_in place (row_in g.rows x)) o else copy_among gs x c)
+        → IsSome (if is_some o then option_and_then (λ place. copy_in place (row_in g.rows x)) o else copy_among (begun_for w uses gs) x c)
+    rest later None some = later some
+    rest later (Some p) some = some
+
+    own : (IsSome (copy_among gs x c) → IsSome (copy_among (begun_for w uses gs) x c)) → (o : Option ℕ) → IsSome (if is_some o then option_and_then (λ place. copy_in place (row_in g.rows x)) o else copy_among gs x c)
+        → IsSome (if is_some o then option_and_then (λ place. copy_in place (row_in (updated g.rows w (begun_row (length g.uses))) x)) o else copy_among (begun_for w uses gs) x c)
+    own later None some = later some
+    own later (Some p) some = row-begun g.rows w x p (length g.uses) some
+
+    by : (IsSome (copy_among gs x c) → IsSome (copy_among (begun_for w uses gs) x c)) → (b : Bool) → IsSome (copy_among (begun_if w b g ∷ begun_for w uses gs) x c)
+    by later true = own later (place_in g.uses c) there
+    by later false = rest later (place_in g.uses c) there
+
+zero-there : (len p : ℕ) → p < len → IsSome (slice_get {X = ℕ} (replicate len 0) p)
+zero-there zero p within = absurd (omega (arith, within))
+zero-there (suc len) zero within = refl
+zero-there (suc len) (suc p) within = zero-there len p (omega (arith, within))
+
+number-there : (copies : List ℕ) (p : ℕ) → p < length copies → IsSome (slice_get copies p)
+number-there [] p within = absurd (omega (arith, within))
+number-there (x ∷ copies) zero within = refl
+number-there (x ∷ copies) (suc p) within = number-there copies p (omega (arith, within))
+
+-- a row that has begun has a copy at each place
+row-there : (rows : Rows) (w p len : ℕ) → w < length rows → p < len → All (λ row. IfSome row (λ copies. length copies ≡ len)) rows → IsSome (copy_in p (row_in (updated rows w (begun_row len)) w))
+row-there [] w p len known within long = absurd (omega (arith, known))
+row-there (None ∷ rows) zero p len known within long = zero-there len p within
+row-there (Some copies ∷ rows) zero p len known within long =
+    let is : length copies ≡ len = long 0 None (omega arith) in
+    number-there copies p (omega (arith, within, is))
+row-there (row ∷ rows) (suc w) p len known within long = row-there rows w p len (omega (arith, known)) within (λ k d inside. long (suc k) d (omega (arith, inside)))
+
+nothing : Use
+nothing = record { cell = record { array = 0; index = 0 }; mode = Reads }
+
+-- the worker has a copy of each cell that is added to
+pub begun-there : (w : ℕ) (uses : List Use) (u : Use) (gs : List Summed) → w < 17 → Contains uses u → u.mode ≡ Adds → All IsRegular gs → IsSummed gs u.cell → IsSome (copy_among (begun_for w uses gs) w u.cell)
+begun-there w uses u [] known there adds regular (k, g, within, is, named) = absurd (omega (arith, within))
+begun-there w uses u (g ∷ gs) known there adds regular summed =
+    by (begun-there w uses u gs known there adds (λ k d within. regular (suc k) d (omega (arith, within)))) (place_in g.uses u.cell) refl
+  where
+    tested : (p : ℕ) → place_in g.uses u.cell ≡ Some p → adds_in g.uses uses ≡ true
+    tested p at = list_any-from_Any (λ v. if is_adds v.mode then is_some (place_in g.uses v.cell) else false) uses
+        (let (k, within, is) = there in (k, u, within, is, ap (λ m. if is_adds m then is_some (place_in g.uses u.cell) else false) adds ∙ ap is_some at))
+
+    by : (IsSummed gs u.cell → IsSome (copy_among (begun_for w uses gs) w u.cell)) → (o : Option ℕ) → place_in g.uses u.cell ≡ o → IsSome (copy_among (begun_for w uses (g ∷ gs)) w u.cell)
+    by rest None at = subst IsSome (sym (ap (λ o. if is_some o then option_and_then (λ place. copy_in place (row_in (begun_if w (adds_in g.uses uses) g).rows w)) o else copy_among (begun_for w uses gs) w u.cell)
+        (ap (λ us. place_in us u.cell) (begun-uses w (adds_in g.uses uses) g) ∙ at))) (rest (later summed))
+      where
+        later : IsSummed (g ∷ gs) u.cell → IsSummed gs u.cell
+        later (zero, h, within, is, named) = absurd (true≢false (sym named ∙ ap (names u.cell) (sym is) ∙ ap is_some at))
+        later (suc k, h, within, is, named) = (k, h, omega (arith, within), is, named)
+    by rest (Some p) at =
+        let one = regular 0 g (omega arith) in
+        let inside : p < length g.uses = (position-Some (is_of u.cell) g.uses p nothing at).0 in
+        let mine : IsSome (copy_in p (row_in (updated g.rows w (begun_row (length g.uses))) w)) = row-there g.rows w p (length g.uses) (omega (arith, known, one.numbers)) inside one.long in
+        subst (λ b. IsSome (copy_among (begun_if w b g ∷ begun_for w uses gs) w u.cell)) (sym (tested p at))
+        (subst IsSome (sym (ap (λ o. if is_some o then option_and_then (λ place. copy_in place (row_in (updated g.rows w (begun_row (length g.uses))) w)) o else copy_among (begun_for w uses gs) w u.cell) at)) mine)
+
+long-begun : (len : ℕ) (row : Option (List ℕ)) → IfSome row (λ copies. length copies ≡ len) → IfSome (begun_row len row) (λ copies. length copies ≡ len)
+long-begun len None long = length-replicate len 0
+long-begun len (Some copies) long = long
+
+begun-regular-one : (w : ℕ) (b : Bool) (g : Summed) → IsRegular g → IsRegular (begun_if w b g)
+begun-regular-one w false g regular = regular
+begun-regular-one w true g regular = record {
+  written = regular.written;
+  numbers = length-updated g.rows w (begun_row (length g.uses)) ∙ regular.numbers;
+  long = all-updated (λ row. IfSome row (λ copies. length copies ≡ length g.uses)) g.rows w (begun_row (length g.uses)) (long-begun (length g.uses)) regular.long;
+}
+
+pub begun-regular : (w : ℕ) (uses : List Use) (gs : List Summed) → All IsRegular gs → All IsRegular (begun_for w uses gs)
+begun-regular w uses [] all = all
+begun-regular w uses (g ∷ gs) all =
+    All-cons IsRegular (begun_if w (adds_in g.uses uses) g) (begun_for w uses gs) (begun-regular-one w (adds_in g.uses uses) g (all 0 g (omega arith)))
+    (begun-regular w uses gs (λ k d within. all (suc k) d (omega (arith, within))))
+
+-- ---- a group is opened
+
+no_copies : (n p : ℕ) → copies_at (replicate n None) p ≡ []
+no_copies zero p = refl
+no_copies (suc n) p = no_copies n p
+
+pub opened-worth : (gs : List Summed) (g : Summed) (c : Cell) (n : ℕ) → g.rows ≡ replicate 17 None → worth_over (gs ++ g ∷ []) c n ≡ worth_over gs c n
+opened-worth [] g c n none = by (place_in g.uses c)
+  where
+    by : (o : Option ℕ) → combined n (copies_where g.rows o) ≡ n
+    by None = refl
+    by (Some p) = ap (combined n) (ap (λ rows. copies_at rows p) none ∙ no_copies 17 p)
+opened-worth (h ∷ gs) g c n none = opened-worth gs g c (combined n (copies_in c h)) none
+
+pub opened-still : (gs : List Summed) (g : Summed) (x : ℕ) (c : Cell) → IsSome (copy_among gs x c) → IsSome (copy_among (gs ++ g ∷ []) x c)
+opened-still [] g x c there = absurd (true≢false (sym there))
+opened-still (h ∷ gs) g x c there = by (opened-still gs g x c) (place_in h.uses c) there
+  where
+    by : (IsSome (copy_among gs x c) → IsSome (copy_among (gs ++ g ∷ []) x c)) → (o : Option ℕ) → IsSome (if is_some o then option_and_then (λ place. copy_in place (row_in h.rows x)) o else copy_among gs x c)
+        → IsSome (if is_some o then option_and_then (λ place. copy_in place (row_in h.rows x)) o else copy_among (gs ++ g ∷ []) x c)
+    by later None some = later some
+    by later (Some p) some = some
+
+abbrev IsLong : ℕ → Option (List ℕ) → Type 0
+IsLong len row = IfSome row (λ (copies : List ℕ). length copies ≡ len)
+
+no-rows-long : (n len : ℕ) → All (IsLong len) (replicate n None)
+no-rows-long zero len = All-nil (IsLong len)
+no-rows-long (suc n) len = All-cons (IsLong len) None (replicate n None) tt (no-rows-long n len)
+
+pub opened-regular : (group : ℕ) (uses : List Use) → All (λ u. u.mode ≡ Writes) uses → IsRegular (record { group = group; uses = uses; rows = replicate 17 None })
+opened-regular group uses written = record { written = written; numbers = length-replicate {A = Option (List ℕ)} 17 None; long = no-rows-long 17 (length uses) }
+
+-- ---- a group is closed
+
+pub closed-worth : (n : ℕ) (gs : List Summed) (c : Cell) (s : ℕ) → worth_over (without n gs) c (combined s (copies_closed n gs c)) ≡ worth_over gs c s
+closed-worth n [] c s = refl
+closed-worth n (g ∷ gs) c s = by (closed-worth n gs c) (g.group == n)
+  where
+    by : ((t : ℕ) → worth_over (without n gs) c (combined t (copies_closed n gs c)) ≡ worth_over gs c t) → (b : Bool) → worth_over (if b then gs else g ∷ without n gs) c (combined s (if b then copies_in c g else copies_closed n gs c)) ≡ worth_over (g ∷ gs) c s
+    by rest true = refl
+    by rest false = ap (worth_over (without n gs) c) (combined-swap s (copies_closed n gs c) (copies_in c g)) ∙ rest (combined s (copies_in c g))
+
+pub worth-combined : (n : ℕ) (gs : List Summed) (c : Cell) (before after : Option ℕ) → after ≡ option_map (λ s. combined s (copies_closed n gs c)) before →
+    option_map (worth_over (without n gs) c) after ≡ option_map (worth_over gs c) before
+worth-combined n gs c None after is = ap (option_map (worth_over (without n gs) c)) is
+worth-combined n gs c (Some s) after is = ap (option_map (worth_over (without n gs) c)) is ∙ ap Some (closed-worth n gs c s)
+
+pub closed-regular : (n : ℕ) (gs : List Summed) → All IsRegular gs → All IsRegular (without n gs)
+closed-regular n [] all = all
+closed-regular n (g ∷ gs) all = by (λ k d within. all (suc k) d (omega (arith, within))) (closed-regular n gs (λ k d within. all (suc k) d (omega (arith, within)))) (g.group == n)
+  where
+    by : All IsRegular gs → All IsRegular (without n gs) → (b : Bool) → All IsRegular (if b then gs else g ∷ without n gs)
+    by rest left true = rest
+    by rest left false = All-cons IsRegular g (without n gs) (all 0 g (omega arith)) left
+
+pub is_number : (m n : ℕ) → (m == n) ≡ true → m ≡ n
+is_number m n same = eqb-true m n same
+
+-- a copy stays, where the group that is closed doesn't name its cell
+pub closed-still : (n : ℕ) (gs : List Summed) (x : ℕ) (c : Cell) → All (λ g. g.group ≡ n → names c g ≡ false) gs → IsSome (copy_among gs x c) → IsSome (copy_among (without n gs) x c)
+closed-still n [] x c apart there = there
+closed-still n (g ∷ gs) x c apart there = by (closed-still n gs x c (λ k d within. apart (suc k) d (omega (arith, within)))) (g.group == n) refl
+  where
+    kept : (IsSome (copy_among gs x c) → IsSome (copy_among (without n gs) x c)) → (o : Option ℕ) → IsSome (if is_some o then option_and_then (λ place. copy_in place (row_in g.rows x)) o else copy_among gs x c)
+        → IsSome (if is_some o then option_and_then (λ place. copy_in place (row_in g.rows x)) o else copy_among (without n gs) x c)
+    kept later None some = later some
+    kept later (Some p) some = some
+
+    by : (IsSome (copy_among gs x c) → IsSome (copy_among (without n gs) x c)) → (b : Bool) → (g.group == n) ≡ b → IsSome (copy_among (if b then gs else g ∷ without n gs) x c)
+    by later true is = subst (λ t. IsSome (if t then option_and_then (λ place. copy_in place (row_in g.rows x)) (place_in g.uses c) else copy_among gs x c)) (apart 0 g (omega arith) (is_number g.group n is)) there
+    by later false is = kept later (place_in g.uses c) there
+
+adds_writes : (m v : Mode) → m ≡ Adds → v ≡ Writes → conflicts m v ≡ true
+adds_writes m v adds writes = ap (λ x. conflicts x v) adds ∙ ap (conflicts Adds) writes
+
+-- what is out to be added to isn't named by a group of which nothing is out
+pub unused : (uses : List Use) (g : Summed) (u : Use) → IsRegular g → ¬ Conflict uses g.uses → Contains uses u → u.mode ≡ Adds → names u.cell g ≡ false
+unused uses g u regular free (k, within, is) adds = by (place_in g.uses u.cell) refl
+  where
+    by : (o : Option ℕ) → place_in g.uses u.cell ≡ o → is_some o ≡ false
+    by None at = refl
+    by (Some p) at =
+        let found = position-Some (is_of u.cell) g.uses p nothing at in
+        let v = get_or g.uses p nothing in
+        let same : v.cell ≡ u.cell = (cell-decides v.cell u.cell).0 found.1 in
+        absurd (free (k, u, within, is, (p, v, found.0, sym (get_or_default g.uses p nothing v found.0), (sym same, adds_writes u.mode v.mode adds (regular.written p nothing found.0)))))
+
+-- ---- a lease comes back
+
+pub back-push : (w : ℕ) (lent : List LentCell) (x : LentCell) (gs : List Summed) → all_back w (lent ++ x ∷ []) gs ≡ taken_back w x (all_back w lent gs)
+back-push w [] x gs = refl
+back-push w (l ∷ lent) x gs = back-push w lent x (taken_back w l gs)
+
+taken-still : (w : ℕ) (l : LentCell) (gs : List Summed) (x : ℕ) (c : Cell) → IsSome (copy_among gs x c) → IsSome (copy_among (taken_back w l gs) x c)
+taken-still w l gs x c there = by (is_adds l.mode)
+  where
+    by : (b : Bool) → IsSome (copy_among (if b then added w l.cell l.value gs else gs) x c)
+    by true = still-some w l.value x l.cell c gs there
+    by false = there
+
+pub back-still : (w : ℕ) (lent : List LentCell) (gs : List Summed) (x : ℕ) (c : Cell) → IsSome (copy_among gs x c) → IsSome (copy_among (all_back w lent gs) x c)
+back-still w [] gs x c there = there
+back-still w (l ∷ lent) gs x c there = back-still w lent (taken_back w l gs) x c (taken-still w l gs x c there)
+
+added-regular-one : (w v p : ℕ) (g : Summed) → IsRegular g → IsRegular (added_in w v g (Some p))
+added-regular-one w v p g regular = record {
+  written = regular.written;
+  numbers = length-updated g.rows w (option_map (λ copies. updated copies p (λ copy. join Adds copy v))) ∙ regular.numbers;
+  long = all-updated (λ row. IfSome row (λ copies. length copies ≡ length g.uses)) g.rows w (option_map (λ copies. updated copies p (λ copy. join Adds copy v))) keeps regular.long;
+}
+  where
+    keeps : (row : Option (List ℕ)) → IfSome row (λ copies. length copies ≡ length g.uses) → IfSome (option_map (λ copies. updated copies p (λ copy. join Adds copy v)) row) (λ copies. length copies ≡ length g.uses)
+    keeps None long = long
+    keeps (Some copies) long = length-updated copies p (λ copy. join Adds copy v) ∙ long
+
+added-regular : (w v : ℕ) (c : Cell) (gs : List Summed) → All IsRegular gs → All IsRegular (added w c v gs)
+added-regular w v c [] all = all
+added-regular w v c (g ∷ gs) all = by (λ k d within. all (suc k) d (omega (arith, within))) (added-regular w v c gs (λ k d within. all (suc k) d (omega (arith, within)))) (place_in g.uses c)
+  where
+    first : IsRegular g
+    first = all 0 g (omega arith)
+
+    by : All IsRegular gs → All IsRegular (added w c v gs) → (o : Option ℕ) → All IsRegular (if is_some o then added_in w v g o ∷ gs else g ∷ added w c v gs)
+    by rest more None = All-cons IsRegular g (added w c v gs) first more
+    by rest more (Some p) = All-cons IsRegular (added_in w v g (Some p)) gs (added-regular-one w v p g first) rest
+
+taken-regular : (w : ℕ) (l : LentCell) (gs : List Summed) → All IsRegular gs → All IsRegular (taken_back w l gs)
+taken-regular w l gs all = by (is_adds l.mode)
+  where
+    by : (b : Bool) → All IsRegular (if b then added w l.cell l.value gs else gs)
+    by true = added-regular w l.value l.cell gs all
+    by false = all
+
+pub back-regular : (w : ℕ) (lent : List LentCell) (gs : List Summed) → All IsRegular gs → All IsRegular (all_back w lent gs)
+back-regular w [] gs all = all
+back-regular w (l ∷ lent) gs all = back-regular w lent (taken_back w l gs) (taken-regular w l gs all)
+
+pub back-more : (w : ℕ) (lent : List LentCell) (k : ℕ) (x : LentCell) (gs : List Summed) → k < length lent → x ≡ get_or lent k x →
+    all_back w (take (k + 1) lent) gs ≡ taken_back w x (all_back w (take k lent) gs)
+back-more w lent k x gs within is =
+    ap (λ ls. all_back w ls gs) (take_more lent k x within ∙ ap (λ y. take k lent ++ y ∷ []) (sym is)) ∙ back-push w (take k lent) x gs
+
+-- ---- what is kept of groups, as it is read from outside
+
+-- the first of this number
+pub closing : (n k i : ℕ) (gs : List Group) → position_from (λ g. g.group == n) k gs ≡ Some i →
+    (j : ℕ) × (i ≡ k + j) × (j < length gs) × (without n (summeds_of gs) ≡ summeds_of (remove gs j))
+    × ((c : Cell) (d : Group) → copies_closed n (summeds_of gs) c ≡ copies_in c (summed_of (get_or gs j d))) × ((d : Group) → (get_or gs j d).group ≡ n)
+closing n k i [] is = absurd (true≢false (sym (ap is_some is)))
+closing n k i (g ∷ gs) is = by (closing n (k + 1) i gs) (g.group == n) refl
+  where
+    by : (position_from (λ (h : Group). h.group == n) (k + 1) gs ≡ Some i → (j : ℕ) × (i ≡ k + 1 + j) × (j < length gs) × (without n (summeds_of gs) ≡ summeds_of (remove gs j)) × ((c : Cell) (d : Group) → copies_closed n (summeds_of gs) c ≡ copies_in c (summed_of (get_or gs j d))) × ((d : Group) → (get_or gs j d).group ≡ n)) → (b : Bool) → (g.group == n) ≡ b → (j : ℕ) × (i ≡ k + j) × (j < suc (length gs)) × (without n (summeds_of (g ∷ gs)) ≡ summeds_of (remove (g ∷ gs) j))
+        × ((c : Cell) (d : Group) → copies_closed n (summeds_of (g ∷ gs)) c ≡ copies_in c (summed_of (get_or (g ∷ gs) j d))) × ((d : Group) → (get_or (g ∷ gs) j d).group ≡ n)
+    by later true met =
+        let here : k ≡ i = same_Some k i (sym (ap (λ b. cond b (Some k) (position_from (λ (g : Group). g.group == n) (k + 1) gs)) met) ∙ is) in (
+          0,
+          omega (arith, here),
+          omega arith,
+          ap (λ b. if b then summeds_of gs else summed_of g ∷ without n (summeds_of gs)) met,
+          (λ c d. ap (λ b. if b then copies_in c (summed_of g) else copies_closed n (summeds_of gs) c) met),
+          (λ d. is_number g.group n met),
+        )
+    by later false not =
+        let (j, at, within, rest, copies, number) = later (sym (ap (λ b. cond b (Some k) (position_from (λ (g : Group). g.group == n) (k + 1) gs)) not) ∙ is) in (
+          suc j,
+          omega (arith, at),
+          omega (arith, within),
+          ap (λ b. if b then summeds_of gs else summed_of g ∷ without n (summeds_of gs)) not ∙ ap (λ hs. summed_of g ∷ hs) rest,
+          (λ c d. ap (λ b. if b then copies_in c (summed_of g) else copies_closed n (summeds_of gs) c) not ∙ copies c d),
+          number,
+        )
+
+-- the group at a place is the first of its number
+pub record Closes (n : ℕ) (gs : List Group) (i : ℕ) : Type 0 where
+  pub within : i < length gs
+  pub rest : without n (summeds_of gs) ≡ summeds_of (remove gs i)
+  pub copies : (c : Cell) (d : Group) → copies_closed n (summeds_of gs) c ≡ copies_in c (summed_of (get_or gs i d))
+  pub number : (d : Group) → (get_or gs i d).group ≡ n
+
+pub closing-at : (n i : ℕ) (gs xs : List Group) (o : Option ℕ) → xs ≡ gs → o ≡ position (λ (g : Group). g.group == n) xs → o ≡ Some i → Closes n gs i
+closing-at n i gs xs o same first is =
+    let here : position_from (λ (g : Group). g.group == n) 0 gs ≡ Some i =
+    sym (ap (position (λ (g : Group). g.group == n)) same ∙ position_from-zero (λ (g : Group). g.group == n) gs) ∙ sym first ∙ is in
+    let (j, at, within, rest, copies, number) = closing n 0 i gs here in
+    let e : j ≡ i = omega (arith, at) in
+    subst (Closes n gs) e (record { within = within; rest = rest; copies = copies; number = number })
+
+pub not_open : (n k : ℕ) (gs : List Group) → position_from (λ g. g.group == n) k gs ≡ None → ¬ Any (λ (g : Summed). g.group ≡ n) (summeds_of gs)
+not_open n k [] none (i, h, within, is, same) = omega (arith, within)
+not_open n k (g ∷ gs) none there = by (not_open n (k + 1) gs) (g.group == n) refl there
+  where
+    by : (position_from (λ (h : Group). h.group == n) (k + 1) gs ≡ None → ¬ Any (λ (h : Summed). h.group ≡ n) (summeds_of gs)) → (b : Bool) → (g.group == n) ≡ b → Any (λ (h : Summed). h.group ≡ n) (summeds_of (g ∷ gs)) → ⊥
+    by later true met there = true≢false (sym (ap is_some (ap (λ b. cond b (Some k) (position_from (λ (g : Group). g.group == n) (k + 1) gs)) met)) ∙ ap is_some none)
+    by later false not (zero, h, within, is, same) = true≢false (sym (eq-eqb g.group n (ap (λ (x : Summed). x.group) is ∙ same)) ∙ not)
+    by later false not (suc i, h, within, is, same) =
+        later (sym (ap (λ b. cond b (Some k) (position_from (λ (g : Group). g.group == n) (k + 1) gs)) not) ∙ none) (i, h, omega (arith, within), is, same)
+
+-- ---- what always holds
+
+pub all-at : {A : Type 0} (P : A → Type 0) (xs : List A) (x : A) → All P xs → Contains xs x → P x
+all-at P xs x all (k, within, is) = subst P is (all k x within)
+
+pub copies-lent : (gs : List Summed) (w : ℕ) (lent : List LentCell) → HasCopies gs w (uses_of lent) → All (λ l. l.mode ≡ Adds → IsSome (copy_among gs w l.cell)) lent
+copies-lent gs w lent all k d within =
+    subst (λ (u : Use). u.mode ≡ Adds → IsSome (copy_among gs w u.cell)) (get_or-map use_of lent k d) (all k (use_of d) (omega (arith, within, length-map lent use_of)))
+
+abbrev pub Copies : List Summed → Loan → Type 0
+Copies gs loan = HasCopies gs loan.worker loan.lease.uses
+
+pub ended-sound : (loan : Loan) (out left : List Loan) (gs : List Summed) → IsPermutation out (loan ∷ left) → IsSound (record { out = out; groups = gs }) → IsSound (record { out = left; groups = gs })
+ended-sound loan out left gs ended sound = record {
+  apart = no_two-ended loan out left ended sound.apart;
+  regular = sound.regular;
+  copies = λ k d within. All-permutation (Copies gs) out (loan ∷ left) ended sound.copies (suc k) d (omega (arith, within));
+}
+
+pub begun-sound : (loan : Loan) (out more : List Loan) (gs : List Summed) → IsPermutation (loan ∷ out) more → IsFreeFor out loan.lease.uses → HasCopies gs loan.worker loan.lease.uses →
+    IsSound (record { out = out; groups = gs }) → IsSound (record { out = more; groups = gs })
+begun-sound loan out more gs begun free mine sound = record {
+  apart = no_two-begun loan out more begun sound.apart free;
+  regular = sound.regular;
+  copies = All-permutation (Copies gs) (loan ∷ out) more begun (All-cons (Copies gs) loan out mine sound.copies);
+}
+
+-- other groups in which all copies are still there
+groups-sound : (out : List Loan) (gs hs : List Summed) → All IsRegular hs → ((x : ℕ) (c : Cell) → IsSome (copy_among gs x c) → IsSome (copy_among hs x c)) →
+    IsSound (record { out = out; groups = gs }) → IsSound (record { out = out; groups = hs })
+groups-sound out gs hs regular still sound = record {
+  apart = sound.apart;
+  regular = regular;
+  copies = λ k d within i u inside adds. still (get_or out k d).worker (get_or (get_or out k d).lease.uses i u).cell (sound.copies k d within i u inside adds);
+}
+
+pub rows-sound : (out : List Loan) (gs : List Summed) (w : ℕ) (uses : List Use) → IsSound (record { out = out; groups = gs }) → IsSound (record { out = out; groups = begun_for w uses gs })
+rows-sound out gs w uses sound = groups-sound out gs (begun_for w uses gs) (begun-regular w uses gs sound.regular) (begun-still w uses gs) sound
+
+pub leased-sound : (loan : Loan) (out more : List Loan) (gs : List Summed) → loan.worker < 17 → IsPermutation (loan ∷ out) more → IsFreeFor out loan.lease.uses →
+    All (λ u. u.mode ≡ Adds → IsSummed gs u.cell) loan.lease.uses → IsSound (record { out = out; groups = gs }) → IsSound (record { out = more; groups = begun_for loan.worker loan.lease.uses gs })
+leased-sound loan out more gs known begun free summed sound =
+    begun-sound loan out more (begun_for loan.worker loan.lease.uses gs) begun free
+    (λ i u inside adds. let used = get_or loan.lease.uses i u in
+    begun-there loan.worker loan.lease.uses used gs known (i, inside, sym (get_or_default loan.lease.uses i u used inside)) adds sound.regular (summed i u inside adds))
+    (rows-sound out gs loan.worker loan.lease.uses sound)
+
+pub opened-sound : (out : List Loan) (gs : List Summed) (g : Summed) → IsRegular g → IsSound (record { out = out; groups = gs }) → IsSound (record { out = out; groups = gs ++ g ∷ [] })
+opened-sound out gs g regular sound = groups-sound out gs (gs ++ g ∷ []) (All-push IsRegular gs g sound.regular regular) (opened-still gs g) sound
+
+pub back-sound : (out : List Loan) (gs : List Summed) (w : ℕ) (lent : List LentCell) → IsSound (record { out = out; groups = gs }) → IsSound (record { out = out; groups = all_back w lent gs })
+back-sound out gs w lent sound = groups-sound out gs (all_back w lent gs) (back-regular w lent gs sound.regular) (back-still w lent gs) sound
+
+pub closed-sound : (out : List Loan) (gs : List Summed) (n : ℕ) → All (λ g. g.group ≡ n → IsFreeFor out g.uses) gs → IsSound (record { out = out; groups = gs }) → IsSound (record { out = out; groups = without n gs })
+closed-sound out gs n free sound = record {
+  apart = sound.apart;
+  regular = closed-regular n gs sound.regular;
+  copies = λ k d within i u inside adds.
+      let loan = get_or out k d in
+      let used = get_or loan.lease.uses i u in
+      closed-still n gs loan.worker used.cell
+      (λ j g known same. unused loan.lease.uses (get_or gs j g) used (sound.regular j g known) (free j g known same k d within) (i, inside, sym (get_or_default loan.lease.uses i u used inside)) adds)
+      (sound.copies k d within i u inside adds);
+}
+
+-- ---- joined one way or the other
+
+pub joined-same : (lent : List LentCell) (b b' a a' : Cell → Option ℕ) → ((c : Cell) → b' c ≡ b c) → ((c : Cell) → a' c ≡ a c) → AreJoined lent b a → AreJoined lent b' a'
+joined-same lent b b' a a' sb sa joined = record {
+  lent_cells = λ k d within. let l = get_or lent k d in sa l.cell ∙ joined.lent_cells k d within ∙ sym (ap (option_map (λ n. join l.mode n l.value)) (sb l.cell));
+  untouched = λ k d within adds none. let l = get_or lent k d in sa l.cell ∙ joined.untouched k d within adds none ∙ sym (sb l.cell);
+  others = λ other away. sa other ∙ joined.others other away ∙ sym (sb other);
+}

@@ -1,0 +1,14 @@
+use Rattle.std.proofs.Common.{◌≡◌, take}
+use Rattle.std.specs.Prelude.{option_map, position}
+use Rattle.ot_model.specs.Cells.{cell_of, lengths}
+use Rattle.ot_model.specs.declared.expr.Cell.{Cell}
+use Rattle.ot_owner.specs.Rows.{copies_where, is_of}
+use Rattle.ot_owner.specs.Kept.{rows_of}
+use Rattle.ot_owner.specs.Worth.{combined}
+use Rattle.ot_owner.proofs.rows.combine_all.Given as goal
+
+abbrev pub invariant-loop-place : goal.invariant-loop-place
+invariant-loop-place l = record {
+  combined : (cell : Cell) → cell_of l.cells cell ≡ option_map (λ stored. combined stored (copies_where (rows_of l.rows) (position (is_of cell) (take l.place l.uses)))) (cell_of l.initial.cells cell);
+  lengths : lengths l.cells ≡ lengths l.initial.cells;
+}

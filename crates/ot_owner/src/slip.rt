@@ -1,0 +1,85 @@
+use crate::lent::LentCell;
+use crate::right::{Right, RightRoom};
+use crate::rights::Loan;
+use ot_model::{Cells, Decl, Look, Use};
+use std::alloc::{AllocError, Global};
+use std::marker::Model;
+
+/// All memory of a lease that is to come, of these uses and for this worker. No cell is read before the
+/// lease.
+#[derive(Debug, Drop)]
+pub struct Slip {
+    room: RightRoom,
+    lent: Vec<LentCell>,
+    worker: u32,
+}
+
+impl Model for Slip {
+    ghost use Rattle.std.specs.Prelude.{◌≡◌, ◌≤◌, ◌<◌, [], length, vec_capacity};
+    ghost use Rattle.ot_owner.specs.Keeping.{Prepared};
+
+    ghost Value = { Prepared };
+
+    ghost view = { λ s. record { uses = s.room; worker = s.worker } };
+
+    ghost invariant = { λ s. (s.lent.items ≡ []) × (length s.room ≤ vec_capacity s.lent) × (s.worker < 17) };
+}
+
+impl Slip {
+    ghost use Rattle.std.specs.Prelude.{◌≡◌, ◌<◌, IfOk, IsSome, All};
+    ghost use Rattle.ot_model.specs.Cells.{cell_of};
+    ghost use Rattle.ot_model.specs.Uses.{AreInOrder};
+    ghost use Rattle.ot_owner.specs.Leases.{lent_from};
+    ghost use Rattle.ot_owner.specs.Owning.{loan_of};
+
+    /// Room for a lease of these uses to this worker, which is at most 16.
+    pub(crate) fn of(alloc: Global, decl: Decl, worker: u32) -> Result<Slip, AllocError>
+        requires { worker < 17 }
+        ensures { IfOk result (λ slip. slip ≡ record { uses = decl; worker = worker }) }
+    {
+        let room = Right::room(alloc, decl)?;
+        let lent = Vec::with_capacity(alloc, room.uses().len())?;
+        Ok(Slip { room, lent, worker })
+    }
+
+    /// The worker to whom is lent.
+    pub(crate) fn worker(&self) -> u32
+        ensures worker { result ≡ self.now.worker }
+        ensures known { result < 17 }
+    {
+        self.worker
+    }
+
+    /// What is to be lent, in order of the cells.
+    pub(crate) fn uses(&self) -> &[Use]
+        ensures uses { result.now ≡ self.now.uses }
+        ensures ordered { AreInOrder self.now.uses }
+    {
+        self.room.uses()
+    }
+
+    /// The lent cells and the loan of them, from the cells as they are. Each is to be there. It takes no
+    /// memory.
+    pub(crate) fn fill(self, cells: &Cells) -> (Vec<LentCell>, Loan)
+        requires { All (λ u. IsSome (cell_of cells.now u.cell)) self.uses }
+        ensures lent { result.0.items ≡ lent_from cells.now self.uses }
+        ensures loan { result.1 ≡ loan_of self.worker (lent_from cells.now self.uses) }
+    {
+        let Slip {
+            room,
+            mut lent,
+            worker,
+        } = self;
+        for used in room.uses() {
+            let first = used.mode.first(cells.at(used.cell));
+            lent.push_reserved(LentCell {
+                cell: used.cell,
+                mode: used.mode,
+                first,
+                value: first,
+            });
+        }
+        let right = room.fill(&lent);
+        (lent, Loan { worker, right })
+    }
+}
