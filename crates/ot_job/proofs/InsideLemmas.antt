@@ -15,7 +15,8 @@ use Rattle.ot_job.specs.Live.{Live}
 use Rattle.ot_job.specs.JobView.{live_of}
 use Rattle.ot_task.specs.Pieces.{leading_len}
 use Rattle.ot_job.specs.Taken.{Came, IsOut, IsRun, taken_by}
-use Rattle.ot_job.specs.Opening.{Opens, IsRoomFor, opened_under}
+use Rattle.ot_job.specs.Opened.{IsRoomFor, opened_under}
+use Rattle.ot_job.specs.Opening.{Opens}
 use Rattle.ot_model.specs.declared.expr.Cell.{Cell}
 use Rattle.ot_model.specs.declared.stmt.Use.{Use}
 use Rattle.ot_job.specs.Well.{MaySettle}

@@ -26,7 +26,8 @@ use Rattle.ot_task.specs.Regions.{Region, Run}
 use Rattle.ot_job.specs.Claiming.{is_claimable}
 use Rattle.ot_job.specs.Live.{Live}
 use Rattle.ot_job.specs.Numbered.{at}
-use Rattle.ot_job.specs.Opening.{AreOpen, Opens, IsRoomFor, left_open, opened_under}
+use Rattle.ot_job.specs.Opened.{AreOpen, IsRoomFor, opened_under}
+use Rattle.ot_job.specs.Opening.{Opens, left_open}
 use Rattle.ot_job.specs.Well.{IsWell, IsOnCourse}
 use Rattle.ot_job.specs.Whole.{loans_out}
 use Rattle.ot_job.proofs.FreeLemmas.{mode-once}

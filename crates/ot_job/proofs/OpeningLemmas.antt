@@ -35,7 +35,8 @@ use Rattle.ot_task.specs.Regions.{Region, cells_next, with_child, new_region, wi
 use Rattle.ot_task.specs.Standing.{is_at_end}
 use Rattle.ot_job.specs.Awaiting.{opened}
 use Rattle.ot_job.specs.Numbered.{at, parent_of}
-use Rattle.ot_job.specs.Opening.{numbers_in, AreOpen, left_open, Opens}
+use Rattle.ot_job.specs.Opened.{numbers_in, AreOpen}
+use Rattle.ot_job.specs.Opening.{left_open, Opens}
 use Rattle.ot_job.specs.Settling.{told_parent, closed, moved_on, settled}
 use Rattle.ot_job.proofs.KeptLemmas.{at-updated, at-updated-other}
 use Rattle.ot_job.proofs.MovesLemmas.{tell-field}

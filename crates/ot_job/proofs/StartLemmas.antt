@@ -32,7 +32,7 @@ use Rattle.ot_task.specs.Regions.{Region, Run, root_region, stopped}
 use Rattle.ot_job.specs.Numbered.{at, gone, parent_of, todo_at, parents, left_of}
 use Rattle.ot_job.specs.Sound.{IsPlaced, IsSound}
 use Rattle.ot_job.specs.Whole.{wholes, loans_out}
-use Rattle.ot_job.specs.Opening.{AreOpen}
+use Rattle.ot_job.specs.Opened.{AreOpen}
 use Rattle.ot_task.specs.Place.{Open}
 use Rattle.ot_job.specs.Live.{Live}
 use Rattle.ot_job.specs.Well.{IsWell}

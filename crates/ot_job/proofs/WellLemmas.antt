@@ -26,7 +26,8 @@ use Rattle.ot_job.specs.Sound.{IsBegun, IsSound}
 use Rattle.ot_model.proofs.CellsLemmas.{length-updated}
 use Rattle.ot_task.specs.Pieces.{leading, behind, test_of, passed, awake, begun, group_passed}
 use Rattle.ot_job.specs.Whole.{assigns_out, whole, wholes, loan_in, with_loan, loans_out}
-use Rattle.ot_job.specs.Opening.{AreOpen, left_open}
+use Rattle.ot_job.specs.Opened.{AreOpen}
+use Rattle.ot_job.specs.Opening.{left_open}
 use Rattle.ot_job.specs.Running.{RunsWell}
 use Rattle.ot_job.proofs.WeighingLemmas.{weight-begun}
 use Rattle.ot_job.specs.Well.{IsWell, IsOnCourse}

@@ -19,6 +19,7 @@ pub mod DoneView
 pub mod Awaiting
 pub mod Sound
 pub mod Running
+pub mod Opened
 pub mod Well
 pub mod Rights
 pub mod Listed

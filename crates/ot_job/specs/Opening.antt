@@ -1,22 +1,8 @@
--- The open groups of a job's tasks, and the copies that are kept of their cells.
-use Rattle.std.specs.Prelude.{◌≡◌, ◌↔◌, ℕ, List, [], ◌∷◌, ◌++◌, map, replicate, Option, Some, None, Contains, IsPermutation}
+-- Where a group of a job's tasks ends and where one begins, as the copies of their cells go by it.
+use Rattle.std.specs.Prelude.{◌≡◌, ◌↔◌, ℕ, List, [], ◌∷◌, ◌++◌, replicate, Option, Some, None, Contains}
 use Rattle.ot_model.specs.declared.expr.Cell.{Cell}
 use Rattle.ot_model.specs.declared.stmt.Use.{Use}
-use Rattle.ot_check.specs.Offences.{has_cell}
-use Rattle.ot_owner.specs.Rows.{Summed, names, without, copies_closed, IsNamed}
-use Rattle.ot_task.specs.Place.{Open}
-use Rattle.ot_task.specs.Regions.{Region}
-use Rattle.ot_job.specs.Numbered.{at}
-
--- the numbers of all open groups
-abbrev pub numbers_in : List Region → List ℕ
-numbers_in [] = []
-numbers_in (r ∷ rs) = map (λ o. o.group) r.groups ++ numbers_in rs
-
--- copies are kept for each open group of a task and for no other, of the cells that it names
-pub record AreOpen (rs : List Region) (gs : List Summed) : Type 0 where
-  pub numbers : IsPermutation (map (λ g. g.group) gs) (numbers_in rs)
-  pub cells : (i : ℕ) (o : Open) (g : Summed) → Contains (at rs i).groups o → Contains gs g → g.group ≡ o.group → (c : Cell) → names c g ≡ has_cell o.cells c
+use Rattle.ot_owner.specs.Rows.{Summed, without, copies_closed, IsNamed}
 
 -- the groups that stay open where this one's end is passed
 abbrev pub left_open : Option ℕ → List Summed → List Summed
@@ -33,17 +19,3 @@ abbrev pub Opens : Option (List Cell) → ℕ → (before after : List Summed) �
 Opens None number before after = after ≡ before
 Opens (Some cells) number before after =
     (uses : List Use) × ((c : Cell) → IsNamed uses c ↔ Contains cells c) × (after ≡ before ++ record { group = number; uses = uses; rows = replicate 17 None } ∷ [])
-
--- ---- what only this crate knows
-
--- the room names the cells of the group that comes next, and there is one where one does
-abbrev pub IsRoomFor : Option (List Cell) → Option (List Use) → Type 0
-IsRoomFor None None = Unit {0}
-IsRoomFor None (Some room) = ⊥
-IsRoomFor (Some cells) None = ⊥
-IsRoomFor (Some cells) (Some room) = (c : Cell) → IsNamed room c ↔ Contains cells c
-
--- the group that is opened under this number, if there is room for one
-abbrev pub opened_under : ℕ → Option (List Use) → List Summed
-opened_under number None = []
-opened_under number (Some room) = record { group = number; uses = room; rows = replicate 17 None } ∷ []

@@ -10,7 +10,7 @@ use Rattle.ot_job.specs.Kept.{IsKept}
 use Rattle.ot_depend.specs.Siblings.{IsReady, IsUnfinished}
 use Rattle.ot_job.specs.Live.{Live}
 use Rattle.ot_job.specs.Whole.{wholes, loan_in, loans_out}
-use Rattle.ot_job.specs.Opening.{AreOpen}
+use Rattle.ot_job.specs.Opened.{AreOpen}
 use Rattle.ot_job.specs.Holding.{AllHold, HavePresent, AreApart}
 use Rattle.ot_job.specs.Running.{RunsWell}
 use Rattle.ot_task.specs.Weighing.{weight_of}

@@ -9,7 +9,8 @@ ghost use Rattle.ot_owner.specs.Leases.{lent_from};
 ghost use Rattle.ot_owner.specs.Owning.{loan_of, IsFreeFor};
 ghost use Rattle.ot_owner.specs.Rows.{begun_for, IsNamed, IsSummed};
 ghost use Rattle.ot_owner.specs.Worth.{combined, worth, AreJoined, AreWorthSame};
-ghost use Rattle.ot_job.specs.Opening.{left_open, copies_passed, opened_under, IsRoomFor};
+ghost use Rattle.ot_job.specs.Opened.{opened_under, IsRoomFor};
+ghost use Rattle.ot_job.specs.Opening.{left_open, copies_passed};
 ghost use Rattle.ot_job.specs.Taken.{IsRun};
 
 use crate::piece::Done;
