@@ -3,7 +3,7 @@
 use Rattle.std.proofs.Common.{inl, inr, ◌∙◌, ap}
 use Rattle.std.specs.Prelude.{◌≡◌, ◌⊎◌, ℕ, Bool, true, false, List, [], ◌∷◌, slice_index_or, refl}
 use Rattle.std.specs.Coded.{Coded, code_by, coded×, coded⊎, coded_ℕ, coded_bool, coded_list}
-use Rattle.ot_model.specs.Tree.{E, Literal, CellAt, Apply, PickFrom, S, Set, Add, If, Task, Wait, Group, Body, End, Next}
+use Rattle.ot_model.specs.Tree.{E, Literal, CellAt, Apply, PickFrom, Set, Add, If, Task, Wait, Group, Body, End, Next}
 use Rattle.ot_model.specs.declared.expr.Cell.{Cell}
 use Rattle.ot_model.specs.declared.expr.Section.{Section}
 use Rattle.ot_model.specs.declared.expr.Op.{Op}

@@ -2,6 +2,8 @@ pub mod Tree
 pub mod View
 pub mod Cells
 pub mod Value
+pub mod Joining
+pub mod Monoids
 pub mod Uses
 pub mod Meeting
 pub mod Shapes

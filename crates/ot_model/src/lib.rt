@@ -5,6 +5,7 @@
 pub mod cells;
 mod declared;
 pub mod expr;
+pub mod fold;
 mod meeting;
 pub mod plain;
 pub mod program;
@@ -13,6 +14,7 @@ pub mod stmt;
 
 pub use cells::Cells;
 pub use expr::{Cell, Expr, Look, Op, Section, value};
+pub use fold::{Fold, Monoid};
 pub use plain::{Counts, plain_run};
 pub use program::Program;
 pub use shape::{ArrayShape, Shape};
