@@ -1,9 +1,12 @@
 //! Who chooses among moves.
 use std::alloc::AllocError;
 
-/// Chooses one of so many moves, which stand in order from 0.
+/// Chooses one of so many moves, which stand in order from 0, and who takes a piece that is claimed.
 pub(crate) trait Choose {
     fn choose(&mut self, count: usize) -> Result<usize, AllocError>;
+
+    /// Which of 16 workers takes a piece beside so many that are out: the number, counted from 0, modulo 16.
+    fn taker(&mut self, out: usize) -> Result<usize, AllocError>;
 }
 
 /// The first, the last, or the two in turn.
@@ -33,6 +36,23 @@ impl Choose for Ends {
             }
         }
     }
+
+    fn taker(&mut self, out: usize) -> Result<usize, AllocError> {
+        Ok(out)
+    }
+}
+
+/// Who takes the pieces that are claimed.
+#[derive(Clone, Copy, Debug)]
+pub(crate) enum Takers {
+    /// One worker takes all.
+    One,
+    /// Two take them in turn, this one the next.
+    InTurn(usize),
+    /// Each that is out at a time is in the hands of another.
+    Each,
+    /// Each way once, of three workers of whom those that have not taken one yet are alike.
+    AnyOfThree,
 }
 
 /// The choices of one run: what was chosen, and among how many. Run after run it goes each way once.
@@ -40,20 +60,26 @@ impl Choose for Ends {
 pub(crate) struct Script {
     choices: Vec<(usize, usize)>,
     made: usize,
+    takers: Takers,
+    /// How many workers have taken a piece in this run, where any may.
+    known: usize,
 }
 
 impl Script {
     /// The first way: always the first move.
-    pub(crate) fn new(none: Vec<(usize, usize)>) -> Script {
+    pub(crate) fn new(none: Vec<(usize, usize)>, takers: Takers) -> Script {
         Script {
             choices: none,
             made: 0,
+            takers,
+            known: 0,
         }
     }
 
     /// Goes over to the next way, if there is one.
     pub(crate) fn turn(&mut self) -> Result<bool, AllocError> {
         self.made = 0;
+        self.known = 0;
         for _ in 0..self.choices.len() {
             let Some((chosen, count)) = self.choices.pop() else {
                 break;
@@ -78,6 +104,22 @@ impl Choose for Script {
         self.choices.push((0, count))?;
         Ok(0)
     }
+
+    fn taker(&mut self, out: usize) -> Result<usize, AllocError> {
+        match self.takers {
+            Takers::One => Ok(0),
+            Takers::InTurn(next) => {
+                self.takers = Takers::InTurn(usize::from(next == 0));
+                Ok(next)
+            }
+            Takers::Each => Ok(out),
+            Takers::AnyOfThree => {
+                let taker = self.choose(self.known.saturating_add(1).min(3))?;
+                self.known = self.known.max(taker.saturating_add(1));
+                Ok(taker)
+            }
+        }
+    }
 }
 
 /// Choices that come of a number, by xorshift.
@@ -93,5 +135,9 @@ impl Choose for Random {
         self.number ^= self.number << 17;
         let high = (self.number >> 33) as usize;
         Ok(high.checked_rem(count).unwrap_or(0))
+    }
+
+    fn taker(&mut self, _out: usize) -> Result<usize, AllocError> {
+        self.choose(16)
     }
 }

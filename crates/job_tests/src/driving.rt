@@ -15,10 +15,10 @@ pub(crate) enum Width {
     Any,
 }
 
-/// A claim of the task at this place among the claimable ones, or a settle of the piece at this place
-/// among those that are out.
+/// A claim of the task at this place among the claimable ones by one of 16 workers, whose number counts from
+/// 0, or a settle of the piece at this place among those that are out.
 pub(crate) enum Move {
-    Claim(usize),
+    Claim(usize, usize),
     Settle(usize),
 }
 
@@ -29,32 +29,33 @@ pub(crate) fn next_move<C: Choose>(
     claimable: usize,
     out: usize,
 ) -> Result<Option<Move>, AllocError> {
-    let (claimable, out) = match width {
+    let (claims, settles) = match width {
         Width::One if out > 0 => (0, out),
         Width::All if claimable > 0 => (claimable, 0),
         _ => (claimable, out),
     };
-    let moves = claimable.saturating_add(out);
+    let moves = claims.saturating_add(settles);
     if moves == 0 {
         return Ok(None);
     }
     let chosen = chooser.choose(moves)?;
-    if chosen < claimable {
-        Ok(Some(Move::Claim(chosen)))
+    if chosen < claims {
+        Ok(Some(Move::Claim(chosen, chooser.taker(out)?)))
     } else {
-        Ok(Some(Move::Settle(chosen - claimable)))
+        Ok(Some(Move::Settle(chosen - claims)))
     }
 }
 
-/// Claims a piece, which is out from now on. So many are out, and the next worker takes it, of 16 in turn.
+/// Claims a piece, which is out from now on.
 fn claim(
     alloc: Global,
     job: &mut Job,
     out: &mut Vec<Piece>,
     pick: usize,
+    taker: usize,
 ) -> Result<(), AllocError> {
     out.reserve(1)?;
-    let worker = (out.len() % 16) as u32 + 1;
+    let worker = (taker % 16) as u32 + 1;
     if let Some(piece) = job.claim(alloc, pick, worker)? {
         out.push_reserved(piece);
     }
@@ -96,7 +97,7 @@ fn drive<C: Choose>(
     for _ in 0..1_000_000_u32 {
         match next_move(chooser, width, job.claimable(), out.len())? {
             None => return Ok(units),
-            Some(Move::Claim(pick)) => claim(alloc, job, out, pick)?,
+            Some(Move::Claim(pick, taker)) => claim(alloc, job, out, pick, taker)?,
             Some(Move::Settle(place)) => {
                 units = units.saturating_add(settle(alloc, job, out, place)?);
             }

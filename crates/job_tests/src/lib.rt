@@ -1,5 +1,5 @@
-//! Tests of live jobs: bodies that are run in many orders, pieces of another job, want of memory, and
-//! programs at their limits.
+//! Tests of live jobs: bodies that are run in many orders by many workers, pieces of another job, want of
+//! memory, and programs at their limits.
 #![tactic(auto)]
 
 #[cfg(test)]
@@ -18,6 +18,10 @@ mod random;
 mod rows;
 #[cfg(test)]
 mod sizes;
+#[cfg(test)]
+mod sums;
+#[cfg(test)]
+mod three;
 #[cfg(test)]
 mod unchanged;
 #[cfg(test)]

@@ -1,6 +1,7 @@
 //! Jobs for which memory is refused once.
 use super::choosers::Ends;
 use super::driving::{Move, Width, give_up, next_move, told};
+use super::three::ThreeCells;
 use super::unchanged::are_alike;
 use ot_job::{Job, Piece, Refused, State};
 use ot_program::ProgramFault;
@@ -10,19 +11,25 @@ use test_reading::job_of;
 /// A job, and whether memory was refused for it.
 #[derive(Drop)]
 struct Watched {
-    job: Job,
+    job: ThreeCells,
     refused: bool,
 }
 
 impl Watched {
-    /// How many tasks are claimable, the weight and the whole job, printed.
-    fn shown(&mut self, alloc: Global) -> Result<String, AllocError> {
+    /// How many tasks are claimable, the weight, what the cells hold and are worth, and the whole job.
+    fn show(&self, alloc: Global) -> Result<String, AllocError> {
         let (claimable, weight) = (self.job.claimable(), self.job.weight());
-        match format!(in alloc; "{claimable} {weight} {:?}", self.job) {
+        let (stored, worth) = (self.job.stored(), self.job.worth());
+        format!(in alloc; "{claimable} {weight} {stored:?} {worth:?} {:?}", self.job)
+    }
+
+    /// The same, asked for once more where memory is refused.
+    fn shown(&mut self, alloc: Global) -> Result<String, AllocError> {
+        match self.show(alloc) {
             Ok(text) => Ok(text),
             Err(_) => {
                 self.refused = true;
-                format!(in alloc; "{claimable} {weight} {:?}", self.job)
+                self.show(alloc)
             }
         }
     }
@@ -51,17 +58,19 @@ impl Watched {
         alloc: Global,
         out: &mut Vec<Piece>,
         pick: usize,
+        taker: usize,
     ) -> Result<bool, AllocError> {
+        let worker = (taker % 16) as u32 + 1;
         self.make_room(out)?;
         let before = self.shown(alloc)?;
-        let piece = match self.job.claim(alloc, pick, 1) {
+        let piece = match self.job.claim(alloc, pick, worker) {
             Ok(piece) => piece,
             Err(_) => {
                 self.refused = true;
                 if !self.is_still(alloc, before.as_str()) {
                     return Ok(false);
                 }
-                self.job.claim(alloc, pick, 1)?
+                self.job.claim(alloc, pick, worker)?
             }
         };
         match piece {
@@ -114,7 +123,7 @@ impl Watched {
             let (claimable, out_now) = (self.job.claimable(), out.len());
             let right = match next_move(&mut Ends::Last, Width::All, claimable, out_now)? {
                 None => return Ok(true),
-                Some(Move::Claim(pick)) => self.claim(alloc, out, pick)?,
+                Some(Move::Claim(pick, taker)) => self.claim(alloc, out, pick, taker)?,
                 Some(Move::Settle(place)) => self.settle(alloc, out, place)?,
             };
             if !right {
@@ -127,12 +136,12 @@ impl Watched {
 
 /// A job that begins. Where memory is refused, it begins by the same call again.
 fn started(alloc: Global, body: &str) -> Result<Watched, ProgramFault> {
-    match Job::start(alloc, job_of(alloc, 1, body)?) {
+    match ThreeCells::start(alloc, job_of(alloc, 1, body)?) {
         Ok(job) => Ok(Watched {
             job,
             refused: false,
         }),
-        Err((spec, _)) => match Job::start(alloc, spec) {
+        Err((spec, _)) => match ThreeCells::start(alloc, spec) {
             Ok(job) => Ok(Watched { job, refused: true }),
             Err(_) => Err(ProgramFault::Memory),
         },
@@ -156,7 +165,8 @@ fn run_watched(alloc: Global, body: &str) -> Result<(Option<String>, bool), Prog
     let mut watched = started(alloc, body)?;
     let mut out = Vec::new(alloc);
     let driven = watched.drive(alloc, &mut out);
-    let Watched { mut job, refused } = watched;
+    let Watched { job, refused } = watched;
+    let mut job = job.into_job();
     give_up(&mut job, out);
     match driven {
         Ok(true) => Ok((left(alloc, job).ok(), refused)),
@@ -164,8 +174,8 @@ fn run_watched(alloc: Global, body: &str) -> Result<(Option<String>, bool), Prog
     }
 }
 
-/// A reduction, and tasks in a task: what they leave.
-const BODIES: [(&str, &str); 2] = [
+/// A reduction, tasks in a task, a task that adds to the cells of two groups, and adders in an adder: what they leave.
+const BODIES: [(&str, &str); 4] = [
     (
         r#"[["group",[["a",0,1]],[["task",[["red",["a",0,1]]],[["add",["c","a",0],18446744073709551615]]],["task",[["red",["a",0,1]]],[["add",["c","a",0],1]]],["task",[["red",["a",0,1]]],[["add",["c","a",0],5]]]]]]"#,
         "3 7 [6, 2, 3]",
@@ -173,6 +183,14 @@ const BODIES: [(&str, &str); 2] = [
     (
         r#"[["task",[["inout",["a",0,3]]],[["task",[["out",["a",0,1]]],[["set",["c","a",0],4]]],["task",[["out",["a",1,1]]],[["set",["c","a",1],5]]],["wait"],["set",["c","a",2],["+",["c","a",0],["c","a",1]]]]]]"#,
         "3 7 [4, 5, 9]",
+    ),
+    (
+        r#"[["group",[["a",0,1]],[["group",[["a",1,1]],[["task",[["red",["a",0,2]]],[["add",["c","a",0],4],["add",["c","a",1],5]]]]]]]]"#,
+        "1 5 [5, 7, 3]",
+    ),
+    (
+        r#"[["group",[["a",0,1]],[["task",[["red",["a",0,1]]],[["task",[["red",["a",0,1]]],[["add",["c","a",0],4]]],["add",["c","a",0],3],["wait"]]]]]]"#,
+        "2 6 [8, 2, 3]",
     ),
 ];
 

@@ -1,5 +1,5 @@
-//! Each order in which pieces can be claimed and settled.
-use super::choosers::Script;
+//! Each order in which pieces can be claimed and settled, by many workers.
+use super::choosers::{Script, Takers};
 use super::driving::{Width, run};
 use ot_check::JobSpec;
 use ot_program::ProgramFault;
@@ -15,10 +15,18 @@ an adder in an adder: [["group",[["a",0,1]],[["task",[["red",["a",0,1]]],[["task
 a group in a body of an if, in a task that adds beside another: [["group",[["a",0,1]],[["task",[["red",["a",0,1]],["inout",["a",1,1]]],[["if",["<",["c","a",1],3],[["group",[["a",1,1]],[["task",[["red",["a",1,1]]],[["add",["c","a",1],40]]],["add",["c","a",0],5]]]],[["set",["c","a",1],9]]],["add",["c","a",0],6]]],["task",[["red",["a",0,1]],["in",["a",2,1]]],[["add",["c","a",0],["c","a",2]]]]]],["set",["c","a",2],["+",["c","a",0],["c","a",1]]]] gives 10920 orders to 3 11 [15, 42, 57]
 a reader with a group in a body of an if, a writer behind it, and an if behind both: [["task",[["in",["a",0,1]],["inout",["a",2,1]]],[["if",["=",["c","a",2],["+",["c","a",0],1]],[["set",["c","a",2],8]],[["group",[],[["task",[["in",["a",0,1]],["inout",["a",2,1]]],[["set",["c","a",2],["*",["c","a",0],7]]]]]],["add",["c","a",2],1]]]]],["task",[["out",["a",0,1]]],[["set",["c","a",0],50]]],["wait"],["if",["<",["c","a",0],["c","a",2]],[],[["set",["c","a",1],["-",["c","a",0],["c","a",2]]]]]] gives 1771 orders to 3 11 [50, 42, 8]"#;
 
+/// Bodies in each order, of which each piece is taken by any of three workers. Those that have taken none yet are
+/// alike, so that n pieces are taken in (3^(n-1) + 1) / 2 ways: the 8 of the first body in 1094 ways in each of 675
+/// orders, the 7 of the second in 365 ways in each of 6, the 4 of the third in 14 ways in one.
+const BY_THREE: &str =
+    r#"a reduction past the modulus: [["group",[["a",0,1]],[["task",[["red",["a",0,1]]],[["add",["c","a",0],18446744073709551615]]],["task",[["red",["a",0,1]]],[["add",["c","a",0],1]]],["task",[["red",["a",0,1]]],[["add",["c","a",0],5]]]]]] gives 738450 orders to 3 7 [6, 2, 3]
+an adder in an adder: [["group",[["a",0,1]],[["task",[["red",["a",0,1]]],[["task",[["red",["a",0,1]]],[["add",["c","a",0],4]]],["add",["c","a",0],3],["wait"]]]]]] gives 2190 orders to 2 6 [8, 2, 3]
+a read behind a group: [["group",[["a",0,1]],[["task",[["red",["a",0,1]]],[["add",["c","a",0],5]]]]],["set",["c","a",1],["c","a",0]]] gives 14 orders to 1 4 [6, 6, 3]"#;
+
 /// How many orders there are and what each leaves, or the first that leaves something else than the
 /// first of all.
-fn orders(alloc: Global, spec: &JobSpec) -> Result<String, AllocError> {
-    let mut script = Script::new(Vec::new(alloc));
+fn orders(alloc: Global, spec: &JobSpec, takers: Takers) -> Result<String, AllocError> {
+    let mut script = Script::new(Vec::new(alloc), takers);
     let first = run(alloc, spec.copy(alloc)?, &mut script, Width::Any)?;
     for count in 1..1_000_000_u32 {
         if !script.turn()? {
@@ -32,26 +40,26 @@ fn orders(alloc: Global, spec: &JobSpec) -> Result<String, AllocError> {
     String::from_str(alloc, "more orders")
 }
 
-fn orders_of(alloc: Global, body: &str) -> Result<String, ProgramFault> {
+fn orders_of(alloc: Global, body: &str, takers: Takers) -> Result<String, ProgramFault> {
     let spec = job_of(alloc, 1, body)?;
-    Ok(orders(alloc, &spec)?)
+    Ok(orders(alloc, &spec, takers)?)
 }
 
-fn is_right(alloc: Global, row: &str) -> bool {
+fn is_right(alloc: Global, row: &str, takers: Takers) -> bool {
     let Some((named, gives)) = row.split_once(" gives ") else {
         return false;
     };
     let (_, body) = named.split_once(": ").unwrap_or(("", ""));
-    match orders_of(alloc, body) {
+    match orders_of(alloc, body, takers) {
         Ok(said) => said.as_str() == gives,
         Err(_) => false,
     }
 }
 
 /// The first row that gives something else.
-fn first_other(alloc: Global) -> Option<&'static str> {
-    for row in BODIES.lines() {
-        if !is_right(alloc, row) {
+fn first_other(alloc: Global, rows: &'static str, takers: Takers) -> Option<&'static str> {
+    for row in rows.lines() {
+        if !is_right(alloc, row, takers) {
             return Some(row);
         }
     }
@@ -60,5 +68,12 @@ fn first_other(alloc: Global) -> Option<&'static str> {
 
 #[test]
 fn each_order_leaves_the_same(rt: HostRuntime) {
-    assert_eq!(rt; first_other(rt.alloc()), None);
+    for takers in [Takers::One, Takers::InTurn(0), Takers::Each] {
+        assert_eq!(rt; first_other(rt.alloc(), BODIES, takers), None, "by {takers:?}");
+    }
+}
+
+#[test]
+fn each_order_by_each_worker_leaves_the_same(rt: HostRuntime) {
+    assert_eq!(rt; first_other(rt.alloc(), BY_THREE, Takers::AnyOfThree), None);
 }

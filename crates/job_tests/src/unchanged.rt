@@ -1,8 +1,15 @@
 //! What is printed of a job, without the tables that are kept beside its tasks.
 
-/// What a table begins with, or a list that is kept to work with. A call that is refused may have left lines in a
-/// table of cells or groups that nobody uses, and in a list what it had looked up.
-const TABLES: [&str; 4] = [": Table {", ": Groups {", "spots: [", "earlier: ["];
+/// What a table begins with, or a list that is kept to work with, or the copies of a row that has not begun. A call
+/// that is refused may have left lines in a table of cells or groups that nobody uses, in a list what it had looked
+/// up, and in such a row room for its copies.
+const TABLES: [&str; 5] = [
+    ": Table {",
+    ": Groups {",
+    "spots: [",
+    "earlier: [",
+    "begun: false, copies: [",
+];
 
 /// Whether two jobs are printed alike, but for their tables.
 pub(crate) fn are_alike(one: &str, other: &str) -> bool {
