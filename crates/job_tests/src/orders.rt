@@ -69,7 +69,11 @@ fn first_other(alloc: Global, rows: &'static str, takers: Takers) -> Option<&'st
 #[test]
 fn each_order_leaves_the_same(rt: HostRuntime) {
     for takers in [Takers::One, Takers::InTurn(0), Takers::Each] {
-        assert_eq!(rt; first_other(rt.alloc(), BODIES, takers), None, "by {takers:?}");
+        assert_eq!(rt;
+            first_other(rt.alloc(), BODIES, takers),
+            None,
+            "by {takers:?}"
+        );
     }
 }
 
