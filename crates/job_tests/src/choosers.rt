@@ -49,19 +49,20 @@ pub(crate) enum Takers {
     One,
     /// Two take them in turn, this one the next.
     InTurn(usize),
-    /// Each that is out at a time is in the hands of another.
-    Each,
-    /// Each way once, of three workers of whom those that have not taken one yet are alike.
+    /// As many workers as pieces are out at a time: the next one beside those that are out.
+    Beside,
+    /// Any of three, where those that have taken none yet are alike.
     AnyOfThree,
 }
 
-/// The choices of one run: what was chosen, and among how many. Run after run it goes each way once.
+/// The choices of one run, of moves and of workers: what was chosen, and among how many. Run after run it goes each way
+/// once.
 #[derive(Drop)]
 pub(crate) struct Script {
     choices: Vec<(usize, usize)>,
     made: usize,
     takers: Takers,
-    /// How many workers have taken a piece in this run, where any may.
+    /// How many workers have taken a piece in this run, where it is any of three.
     known: usize,
 }
 
@@ -112,7 +113,7 @@ impl Choose for Script {
                 self.takers = Takers::InTurn(usize::from(next == 0));
                 Ok(next)
             }
-            Takers::Each => Ok(out),
+            Takers::Beside => Ok(out),
             Takers::AnyOfThree => {
                 let taker = self.choose(self.known.saturating_add(1).min(3))?;
                 self.known = self.known.max(taker.saturating_add(1));

@@ -7,7 +7,8 @@ use std::alloc::{AllocError, Global};
 use test_reading::job_of;
 
 /// Bodies by what they are, over 1, 2, 3: how many orders there are, and the executed task statements,
-/// the units and the cells that each leaves.
+/// the units and the cells that each leaves. In each order the pieces are taken by one worker, by two in turn, and by
+/// as many as pieces are out.
 const BODIES: &str =
     r#"a reduction past the modulus: [["group",[["a",0,1]],[["task",[["red",["a",0,1]]],[["add",["c","a",0],18446744073709551615]]],["task",[["red",["a",0,1]]],[["add",["c","a",0],1]]],["task",[["red",["a",0,1]]],[["add",["c","a",0],5]]]]]] gives 675 orders to 3 7 [6, 2, 3]
 tasks in a task, and the end of the job: [["task",[["inout",["a",0,3]]],[["task",[["out",["a",0,1]]],[["set",["c","a",0],4]]],["task",[["out",["a",1,1]]],[["set",["c","a",1],5]]],["wait"],["set",["c","a",2],["+",["c","a",0],["c","a",1]]]]]] gives 15288 orders to 3 7 [4, 5, 9]
@@ -68,7 +69,7 @@ fn first_other(alloc: Global, rows: &'static str, takers: Takers) -> Option<&'st
 
 #[test]
 fn each_order_leaves_the_same(rt: HostRuntime) {
-    for takers in [Takers::One, Takers::InTurn(0), Takers::Each] {
+    for takers in [Takers::One, Takers::InTurn(0), Takers::Beside] {
         assert_eq!(rt;
             first_other(rt.alloc(), BODIES, takers),
             None,
