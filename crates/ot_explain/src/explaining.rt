@@ -195,7 +195,14 @@ fn serve_line<W: Sink>(
 {
     let mut source = Reading::new(line);
     let mut room = [0u8; PIECE_SIZE];
-    let ended = serve_into(alloc, book, &mut Solo, &mut source, sink, room.as_mut_slice());
+    let ended = serve_into(
+        alloc,
+        book,
+        &mut Solo,
+        &mut source,
+        sink,
+        room.as_mut_slice(),
+    );
     stop_of(ended)
 }
 

@@ -164,7 +164,8 @@ impl Job {
         let slip = self.owners.prepare(alloc, decl, worker)?;
         let passed = self.tasks.get(task).group_passed();
         let lent = lend(&mut self.owners, &mut self.cells, passed, slip);
-        self.tasks.begin(task, Running::new(worker, shared, room, &lent));
+        self.tasks
+            .begin(task, Running::new(worker, shared, room, &lent));
         Ok(Some(Piece::new(task as u32, assigns, condition, lent)))
     }
 

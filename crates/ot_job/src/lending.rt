@@ -20,12 +20,7 @@ use std::alloc::{AllocError, Global};
 
 /// Closes the group whose end is passed, if one is, and lends what the slip says: so that the piece has
 /// the sums among its inputs. It takes no memory.
-pub(crate) fn lend(
-    owners: &mut Owners,
-    cells: &mut Cells,
-    passed: Option<u32>,
-    slip: Slip,
-) -> Lent
+pub(crate) fn lend(owners: &mut Owners, cells: &mut Cells, passed: Option<u32>, slip: Slip) -> Lent
     requires last { IsLast owners.old slip }
     requires is_open { IfSome passed (λ group. Any (λ g. g.group ≡ group) owners.old.owned.groups) }
     requires unused { IfSome passed (λ group. All (λ g. g.group ≡ group → IsFreeFor owners.old.owned.out g.uses) owners.old.owned.groups) }
