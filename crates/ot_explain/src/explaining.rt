@@ -24,7 +24,7 @@ const PIECE_SIZE: usize = 1_024;
 /// How often a session reads at most.
 const MAX_READS: u32 = 1_000_000;
 
-/// Whether a session refused a request.
+/// Whether a session refused a request, or a line that it didn't take.
 #[derive(Clone, Copy, Debug, PartialEq, Eq)]
 pub enum Explained {
     AllTaken,
@@ -65,6 +65,7 @@ pub fn explain<R: Source, W: Sink>(
         said: Explained::AllTaken,
     };
     match converse(alloc, &mut talk, source, sink, room.as_mut_slice()) {
+        Ok(End::Full | End::LongLine) => Ok(Explained::SomeRefused),
         Ok(_) => Ok(talk.said),
         Err(fault) => Err(fault),
     }
