@@ -74,19 +74,22 @@ fn requests_are_explained(rt: HostRuntime) -> Result<(), Fail> {
     Ok(())
 }
 
-/// How many spaces stand behind a list request, and what is written. With its 8 bytes the first line is as
-/// long as a line may be.
-const LONG: [(usize, &str); 2] = [(65_528, "[\"arrays\",1,[]]\n"), (65_529, "[\"long\"]\n")];
+/// How many spaces stand behind a list request, whether the line is refused, and what is written. With its 8
+/// bytes the first line is as long as a line may be.
+const LONG: [(usize, Explained, &str); 2] = [
+    (65_528, Explained::AllTaken, "[\"arrays\",1,[]]\n"),
+    (65_529, Explained::SomeRefused, "[\"long\"]\n"),
+];
 
 fn first_other_long(alloc: Global) -> Result<Option<usize>, Fail> {
-    for (spaces, text) in &LONG {
+    for (spaces, said, text) in &LONG {
         let mut lines = String::from_str(alloc, "[\"list\"]")?;
         for _ in 0..*spaces {
             lines.push(' ')?;
         }
         lines.push('\n')?;
         let told = session(alloc, lines.as_str());
-        if told.ended != Ok(Explained::AllTaken) || told.written.as_slice() != text.as_bytes() {
+        if told.ended != Ok(*said) || told.written.as_slice() != text.as_bytes() {
             return Ok(Some(*spaces));
         }
     }
