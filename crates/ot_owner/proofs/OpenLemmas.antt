@@ -96,6 +96,13 @@ begun-combined w c g true n small = by (place_in g.uses c)
     by None = refl
     by (Some place) = combined-begun n small g.rows w (length g.uses) place
 
+-- rows begin alike for uses that add to the same cells
+pub begun-alike : (w : ℕ) (us vs : List Use) (gs : List Summed) → ((named : List Use) → adds_in named us ≡ adds_in named vs) → begun_for w us gs ≡ begun_for w vs gs
+begun-alike w us vs [] same = refl
+begun-alike w us vs (g ∷ gs) same =
+    ap (λ b. (if b then begun_in w g else g) ∷ begun_for w us gs) (same g.uses)
+    ∙ ap (λ hs. (if adds_in g.uses vs then begun_in w g else g) ∷ hs) (begun-alike w us vs gs same)
+
 pub begun-worth : (w : ℕ) (uses : List Use) (gs : List Summed) (c : Cell) (n : ℕ) → n < 2 ^ 64 → worth_over (begun_for w uses gs) c n ≡ worth_over gs c n
 begun-worth w uses [] c n small = refl
 begun-worth w uses (g ∷ gs) c n small =

@@ -107,7 +107,7 @@ impl Owners {
         ensures rooms { IsOpenable self.old → IsOpenable self.new }
     {
         let slip = Slip::of(alloc, decl, worker)?;
-        make_rows(&mut self.groups, slip.uses(), worker as usize)?;
+        make_rows(&mut self.groups, slip.adds(), worker as usize)?;
         self.rights.make()?;
         Ok(slip)
     }
@@ -138,7 +138,7 @@ impl Owners {
         ensures worth { AreWorthSame self.old.owned self.new.owned cells.now cells.now }
         ensures rooms { IsOpenable self.old → IsOpenable self.new }
     {
-        begin_rows(&mut self.groups, slip.uses(), slip.worker() as usize);
+        begin_rows(&mut self.groups, slip.adds(), slip.worker() as usize);
         numbers(cells);
         let (lent, loan) = slip.fill(cells);
         let key = self.rights.put(loan);

@@ -1,7 +1,11 @@
+ghost use Rattle.std.specs.Prelude.{◌≡◌, List, IfOk};
+ghost use Rattle.ot_model.specs.declared.stmt.Use.{Use};
+ghost use Rattle.ot_owner.specs.Rows.{adds_in};
+
 use crate::lent::LentCell;
 use crate::right::{Right, RightRoom};
 use crate::rights::Loan;
-use ot_model::{Cells, Decl, Look, Use};
+use ot_model::{Cells, Decl, Look, Mode, Use};
 use std::alloc::{AllocError, Global};
 use std::marker::Model;
 
@@ -11,22 +15,28 @@ use std::marker::Model;
 pub struct Slip {
     room: RightRoom,
     lent: Vec<LentCell>,
+    /// Those of the uses that add, so that the others aren't gone over for each group.
+    adds: Vec<Use>,
     worker: u32,
 }
 
 impl Model for Slip {
-    ghost use Rattle.std.specs.Prelude.{◌≡◌, ◌≤◌, ◌<◌, [], length, vec_capacity};
+    ghost use Rattle.std.specs.Prelude.{◌≡◌, ◌≤◌, ◌<◌, [], List, length, vec_capacity};
+    ghost use Rattle.ot_model.specs.declared.stmt.Use.{Use};
     ghost use Rattle.ot_owner.specs.Keeping.{Prepared};
+    ghost use Rattle.ot_owner.specs.Rows.{adds_in};
 
     ghost Value = { Prepared };
 
     ghost view = { λ s. record { uses = s.room; worker = s.worker } };
 
-    ghost invariant = { λ s. (s.lent.items ≡ []) × (length s.room ≤ vec_capacity s.lent) × (s.worker < 17) };
+    ghost invariant = { λ s. (s.lent.items ≡ []) × (length s.room ≤ vec_capacity s.lent) × (s.worker < 17) × ((named : List Use) → adds_in named s.adds.items ≡ adds_in named s.room) };
 }
 
 impl Slip {
-    ghost use Rattle.std.specs.Prelude.{◌≡◌, ◌<◌, IfOk, IsSome, All};
+    ghost use Rattle.std.specs.Prelude.{◌≡◌, ◌<◌, List, IfOk, IsSome, All};
+    ghost use Rattle.ot_model.specs.declared.stmt.Use.{Use};
+    ghost use Rattle.ot_owner.specs.Rows.{adds_in};
     ghost use Rattle.ot_model.specs.Cells.{cell_of};
     ghost use Rattle.ot_model.specs.Uses.{AreInOrder};
     ghost use Rattle.ot_owner.specs.Leases.{lent_from};
@@ -39,7 +49,13 @@ impl Slip {
     {
         let room = Right::room(alloc, decl)?;
         let lent = Vec::with_capacity(alloc, room.uses().len())?;
-        Ok(Slip { room, lent, worker })
+        let adds = adding(alloc, room.uses())?;
+        Ok(Slip {
+            room,
+            lent,
+            adds,
+            worker,
+        })
     }
 
     /// The worker to whom is lent.
@@ -58,6 +74,13 @@ impl Slip {
         self.room.uses()
     }
 
+    /// Those of the uses that add.
+    pub(crate) fn adds(&self) -> &[Use]
+        ensures { (named : List Use) → adds_in named result.now ≡ adds_in named self.now.uses }
+    {
+        &self.adds
+    }
+
     /// The lent cells and the loan of them, from the cells as they are. Each is to be there. It takes no
     /// memory.
     pub(crate) fn fill(self, cells: &Cells) -> (Vec<LentCell>, Loan)
@@ -68,6 +91,7 @@ impl Slip {
         let Slip {
             room,
             mut lent,
+            adds: _,
             worker,
         } = self;
         for used in room.uses() {
@@ -82,4 +106,17 @@ impl Slip {
         let right = room.fill(&lent);
         (lent, Loan { worker, right })
     }
+}
+
+/// Those of the uses that add.
+fn adding(alloc: Global, uses: &[Use]) -> Result<Vec<Use>, AllocError>
+    ensures { IfOk result (λ adds. (named : List Use) → adds_in named adds.items ≡ adds_in named uses.now) }
+{
+    let mut adds = Vec::new(alloc);
+    for used in uses {
+        if used.mode == Mode::Adds {
+            adds.push(*used)?;
+        }
+    }
+    Ok(adds)
 }
