@@ -9,7 +9,7 @@ use Rattle.ot_model.specs.Cells.{same_cell}
 use Rattle.ot_model.specs.Uses.{DependsOn, one_writes}
 use Rattle.ot_model.specs.declared.expr.Cell.{Cell}
 use Rattle.ot_model.specs.declared.stmt.Mode.{Mode}
-use Rattle.ot_model.specs.declared.stmt.Mode.TheVariants.{Reads, Writes, Adds}
+use Rattle.ot_model.specs.declared.stmt.Mode.TheVariants.{Reads, Writes, Folds}
 use Rattle.ot_model.specs.declared.stmt.Use.{Use}
 use Rattle.ot_depend.specs.Siblings.{Sibling, IsReady, FinishedAreReady}
 use Rattle.ot_depend.specs.Direct.{is_write, uses_cell, writes_cell}
@@ -20,11 +20,11 @@ use Rattle.ot_depend.proofs.ReadyLemmas.{any_tested, any_found, one_cell, cell_i
 one_writes-cases : (a b : Mode) → one_writes a b ≡ (is_write a || is_write b)
 one_writes-cases Reads Reads = refl
 one_writes-cases Reads Writes = refl
-one_writes-cases Reads Adds = refl
+one_writes-cases Reads (Folds o) = refl
 one_writes-cases Writes b = refl
-one_writes-cases Adds Reads = refl
-one_writes-cases Adds Writes = refl
-one_writes-cases Adds Adds = refl
+one_writes-cases (Folds o) Reads = refl
+one_writes-cases (Folds o) Writes = refl
+one_writes-cases (Folds o) (Folds p) = refl
 
 -- the use of a cell in a declaration that has it
 pub use_found : (c : Cell) (us : List Use) → uses_cell c us ≡ true → Any (λ u. u.cell ≡ c) us

@@ -9,7 +9,8 @@ use Rattle.ot_model.specs.Cells.{same_cell}
 use Rattle.ot_model.specs.Uses.{DependsOn, one_writes}
 use Rattle.ot_model.specs.declared.expr.Cell.{Cell}
 use Rattle.ot_model.specs.declared.stmt.Use.{Use}
-use Rattle.ot_depend.specs.Siblings.{Sibling, IsReady, depends_on, is_ready}
+use Rattle.ot_depend.specs.Siblings.{Sibling, IsReady, is_ready}
+use Rattle.ot_model.specs.Uses.{depends_on}
 use Rattle.ot_depend.proofs.SiblingsLemmas.{LetsRun, IsReady-from_All, All-from_IsReady}
 
 -- a test of some element finds one that passes, and one that passes is found

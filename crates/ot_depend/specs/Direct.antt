@@ -4,7 +4,7 @@ use Rattle.std.specs.List.{list_any}
 use Rattle.ot_model.specs.Cells.{same_cell}
 use Rattle.ot_model.specs.declared.expr.Cell.{Cell}
 use Rattle.ot_model.specs.declared.stmt.Mode.{Mode}
-use Rattle.ot_model.specs.declared.stmt.Mode.TheVariants.{Reads, Writes, Adds}
+use Rattle.ot_model.specs.declared.stmt.Mode.TheVariants.{Reads, Writes, Folds}
 use Rattle.ot_model.specs.declared.stmt.Use.{Use}
 use Rattle.ot_depend.specs.Siblings.{Sibling}
 
@@ -12,7 +12,7 @@ use Rattle.ot_depend.specs.Siblings.{Sibling}
 abbrev pub is_write : Mode → Bool
 is_write Reads = false
 is_write Writes = true
-is_write Adds = false
+is_write (Folds op) = false
 
 -- whether the cell is declared
 abbrev pub uses_cell : Cell → List Use → Bool

@@ -1,8 +1,8 @@
 -- The children of one body in order of their creation, and which of them may run.
 use Rattle.std.specs.Prelude.{◌≡◌, ◌<◌, ◌==◌, ◌&&◌, ◌||◌, ℕ, Bool, true, false, not, IsTrue, List, Some, take, option_map, unwrap_or, slice_get}
 use Rattle.std.specs.List.{list_any, list_all}
-use Rattle.ot_model.specs.Cells.{updated, same_cell}
-use Rattle.ot_model.specs.Uses.{DependsOn, one_writes}
+use Rattle.ot_model.specs.Cells.{updated}
+use Rattle.ot_model.specs.Uses.{DependsOn, depends_on}
 use Rattle.ot_model.specs.declared.stmt.Use.{Use}
 
 -- a child: what it declares, the groups that were open where it was created, and whether it has finished
@@ -25,10 +25,6 @@ pub record IsReady (siblings : List Sibling) (child : ℕ) : Type 0 where
   pub known : slice_get siblings child ≡ Some itself
   pub awaited : (place : ℕ) (earlier : Sibling) → place < child → slice_get siblings place ≡ Some earlier →
       DependsOn earlier.uses itself.uses → IsTrue earlier.finished
-
--- whether a later sibling depends on an earlier one
-abbrev pub depends_on : (earlier later : List Use) → Bool
-depends_on earlier later = list_any (λ u. list_any (λ v. same_cell u.cell v.cell && one_writes u.mode v.mode) later) earlier
 
 -- whether the child is ready
 abbrev pub is_ready : List Sibling → ℕ → Bool

@@ -7,7 +7,8 @@ use Rattle.std.proofs.lemmas.List.{take-append-le}
 use Rattle.ot_model.specs.Cells.{updated}
 use Rattle.ot_model.proofs.CellsLemmas.{length-updated}
 use Rattle.ot_model.specs.declared.stmt.Use.{Use}
-use Rattle.ot_depend.specs.Siblings.{Sibling, is_ready, with_finished, depends_on}
+use Rattle.ot_depend.specs.Siblings.{Sibling, is_ready, with_finished}
+use Rattle.ot_model.specs.Uses.{depends_on}
 use Rattle.ot_task.specs.Regions.{Region, with_child, without}
 use Rattle.ot_job.specs.Numbered.{at}
 use Rattle.ot_job.specs.Claiming.{is_claimable}

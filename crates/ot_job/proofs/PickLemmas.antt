@@ -5,7 +5,8 @@ use Rattle.std.specs.List.{range_with_len}
 use Rattle.std.proofs.lemmas.Option.{same_Some}
 use Rattle.std.proofs.lemmas.Bool.Decides.{nat_tests}
 use Rattle.ot_model.specs.declared.stmt.Use.{Use}
-use Rattle.ot_depend.specs.Siblings.{Sibling, IsReady, depends_on, is_ready}
+use Rattle.ot_depend.specs.Siblings.{Sibling, IsReady, is_ready}
+use Rattle.ot_model.specs.Uses.{depends_on}
 use Rattle.ot_depend.proofs.ReadyLemmas.{depends_on-from_DependsOn}
 use Rattle.ot_depend.proofs.SiblingsLemmas.{IsReady-from_All}
 use Rattle.std.specs.List.{list_all}

@@ -1,9 +1,10 @@
 -- The serial meaning: bodies in parts, and counts.
-use Rattle.std.proofs.Common.{◌≡◌, ◌≤◌, ◌+◌, ◌%◌, ◌^◌, ℕ, true, false, List, refl, sym, ap, ◌∙◌, zero-add, arith}
+use Rattle.std.proofs.Common.{◌≡◌, ◌≤◌, ◌+◌, ℕ, true, false, List, refl, sym, ap, ◌∙◌, zero-add, arith}
 use Rattle.std.specs.Prelude.{◌==◌, if◌then◌else◌, Bool}
-use Rattle.ot_model.specs.Tree.{Set, Add, If, Task, Wait, Group, Body, End, Next, append}
+use Rattle.ot_model.specs.Tree.{Set, Fold, If, Task, Wait, Group, Body, End, Next, append}
 use Rattle.ot_model.specs.Cells.{cell_of}
 use Rattle.ot_model.specs.Value.{val}
+use Rattle.ot_model.specs.Joining.{join_by}
 use Rattle.ot_model.specs.Counts.{size, tasks_in}
 use Rattle.ot_model.specs.Serial.{State, bump, change, either, serial, serial_run}
 
@@ -37,7 +38,7 @@ bump-bump t u tasks units s =
 pub serial-bump : (b : Body) (tasks units : ℕ) (s : State) → serial b (bump tasks units s) ≡ bump tasks units (serial b s)
 serial-bump End t u s = refl
 serial-bump (Next (Set c e) rest) t u s = ap (serial rest) (bump-bump 0 1 t u (change s c (λ _. val (cell_of s.cells) e))) ∙ serial-bump rest t u _
-serial-bump (Next (Add c e) rest) t u s = ap (serial rest) (bump-bump 0 1 t u (change s c _)) ∙ serial-bump rest t u _
+serial-bump (Next (Fold o c e) rest) t u s = ap (serial rest) (bump-bump 0 1 t u (change s c _)) ∙ serial-bump rest t u _
 serial-bump (Next (If e a b) rest) t u s =
     let n = val (cell_of s.cells) e in
     let one : serial a (bump 0 1 (bump t u s)) ≡ bump t u (serial a (bump 0 1 s)) = ap (serial a) (bump-bump 0 1 t u s) ∙ serial-bump a t u (bump 0 1 s) in
@@ -49,7 +50,7 @@ serial-bump (Next (If e a b) rest) t u s =
 serial-bump (Next (Task d b) rest) t u s =
     ap (λ x. serial rest (serial b x)) (bump-bump 1 1 t u s) ∙ ap (serial rest) (serial-bump b t u (bump 1 1 s)) ∙ serial-bump rest t u _
 serial-bump (Next Wait rest) t u s = ap (serial rest) (bump-bump 0 1 t u s) ∙ serial-bump rest t u _
-serial-bump (Next (Group cs b) rest) t u s =
+serial-bump (Next (Group o cs b) rest) t u s =
     ap (λ x. serial rest (serial b x)) (bump-bump 0 1 t u s) ∙ ap (serial rest) (serial-bump b t u (bump 0 1 s)) ∙ serial-bump rest t u _
 
 -- a body from these counts: the same cells, and its own counts on top
@@ -63,7 +64,7 @@ serial-from b s =
 pub serial-tasks-≤ : (b : Body) (s : State) → (serial b s).tasks ≤ s.tasks + tasks_in b
 serial-tasks-≤ End s = omega arith
 serial-tasks-≤ (Next (Set c e) rest) s = omega (arith, serial-tasks-≤ rest (bump 0 1 (change s c (λ _. val (cell_of s.cells) e))))
-serial-tasks-≤ (Next (Add c e) rest) s = omega (arith, serial-tasks-≤ rest (bump 0 1 (change s c (λ n. (n + val (cell_of s.cells) e) % 2 ^ 64))))
+serial-tasks-≤ (Next (Fold o c e) rest) s = omega (arith, serial-tasks-≤ rest (bump 0 1 (change s c (λ n. join_by o n (val (cell_of s.cells) e)))))
 serial-tasks-≤ (Next (If e a b) rest) s =
     let n = val (cell_of s.cells) e in
     let one = serial a (bump 0 1 s) in
@@ -74,13 +75,13 @@ serial-tasks-≤ (Next (If e a b) rest) s =
     omega (arith, serial-tasks-≤ rest (either n one two))
 serial-tasks-≤ (Next (Task d b) rest) s = omega (arith, serial-tasks-≤ b (bump 1 1 s), serial-tasks-≤ rest (serial b (bump 1 1 s)))
 serial-tasks-≤ (Next Wait rest) s = omega (arith, serial-tasks-≤ rest (bump 0 1 s))
-serial-tasks-≤ (Next (Group cs b) rest) s = omega (arith, serial-tasks-≤ b (bump 0 1 s), serial-tasks-≤ rest (serial b (bump 0 1 s)))
+serial-tasks-≤ (Next (Group o cs b) rest) s = omega (arith, serial-tasks-≤ b (bump 0 1 s), serial-tasks-≤ rest (serial b (bump 0 1 s)))
 
 -- no more units are executed than the body has statements
 pub serial-units-≤ : (b : Body) (s : State) → (serial b s).units ≤ s.units + size b
 serial-units-≤ End s = omega arith
 serial-units-≤ (Next (Set c e) rest) s = omega (arith, serial-units-≤ rest (bump 0 1 (change s c (λ _. val (cell_of s.cells) e))))
-serial-units-≤ (Next (Add c e) rest) s = omega (arith, serial-units-≤ rest (bump 0 1 (change s c (λ n. (n + val (cell_of s.cells) e) % 2 ^ 64))))
+serial-units-≤ (Next (Fold o c e) rest) s = omega (arith, serial-units-≤ rest (bump 0 1 (change s c (λ n. join_by o n (val (cell_of s.cells) e)))))
 serial-units-≤ (Next (If e a b) rest) s =
     let n = val (cell_of s.cells) e in
     let one = serial a (bump 0 1 s) in
@@ -91,7 +92,7 @@ serial-units-≤ (Next (If e a b) rest) s =
     omega (arith, serial-units-≤ rest (either n one two))
 serial-units-≤ (Next (Task d b) rest) s = omega (arith, serial-units-≤ b (bump 1 1 s), serial-units-≤ rest (serial b (bump 1 1 s)))
 serial-units-≤ (Next Wait rest) s = omega (arith, serial-units-≤ rest (bump 0 1 s))
-serial-units-≤ (Next (Group cs b) rest) s = omega (arith, serial-units-≤ b (bump 0 1 s), serial-units-≤ rest (serial b (bump 0 1 s)))
+serial-units-≤ (Next (Group o cs b) rest) s = omega (arith, serial-units-≤ b (bump 0 1 s), serial-units-≤ rest (serial b (bump 0 1 s)))
 
 -- the same from no counts
 pub serial_run-≤ : (b : Body) (cells : List (List ℕ)) → ((serial_run b cells).tasks ≤ tasks_in b) × ((serial_run b cells).units ≤ size b)

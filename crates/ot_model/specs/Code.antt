@@ -3,13 +3,16 @@
 use Rattle.std.proofs.Common.{inl, inr, ◌∙◌, ap}
 use Rattle.std.specs.Prelude.{◌≡◌, ◌⊎◌, ℕ, Bool, true, false, List, [], ◌∷◌, slice_index_or, refl}
 use Rattle.std.specs.Coded.{Coded, code_by, coded×, coded⊎, coded_ℕ, coded_bool, coded_list}
-use Rattle.ot_model.specs.Tree.{E, Literal, CellAt, Apply, PickFrom, Set, Add, If, Task, Wait, Group, Body, End, Next}
+use Rattle.ot_model.specs.Tree.{E, Literal, CellAt, Apply, PickFrom, Set, Fold, If, Task, Wait, Group, Body, End, Next}
 use Rattle.ot_model.specs.declared.expr.Cell.{Cell}
 use Rattle.ot_model.specs.declared.expr.Section.{Section}
 use Rattle.ot_model.specs.declared.expr.Op.{Op}
 use Rattle.ot_model.specs.declared.expr.Op.TheVariants.{Plus, Minus, Times, And, Or, Xor, Less, Equal, Min, Max}
+use Rattle.ot_model.specs.declared.fold.Fold.{Fold as Operation}
+use Rattle.ot_model.specs.declared.fold.Fold.TheVariants as f
+use Rattle.ot_model.specs.Uses.{number_of}
 use Rattle.ot_model.specs.declared.stmt.Mode.{Mode}
-use Rattle.ot_model.specs.declared.stmt.Mode.TheVariants.{Reads, Writes, Adds}
+use Rattle.ot_model.specs.declared.stmt.Mode.TheVariants.{Reads, Writes, Folds}
 use Rattle.ot_model.specs.declared.stmt.Use.{Use}
 
 abbrev pub cell_code : Coded Cell
@@ -49,21 +52,38 @@ op-back Max = refl
 abbrev pub op_code : Coded Op
 op_code = code_by ℕ coded_ℕ op_number op_at op-back
 
-abbrev pub mode_number : Mode → ℕ
-mode_number Reads = 0
-mode_number Writes = 1
-mode_number Adds = 2
+abbrev pub operation_at : ℕ → Operation
+operation_at n = slice_index_or (f.Plus ∷ f.Times ∷ f.And ∷ f.Or ∷ f.Xor ∷ f.Min ∷ f.Max ∷ []) n f.Plus
 
-abbrev pub mode_at : ℕ → Mode
-mode_at n = slice_index_or (Reads ∷ Writes ∷ Adds ∷ []) n Reads
+pub operation-back : (o : Operation) → operation_at (number_of o) ≡ o
+operation-back f.Plus = refl
+operation-back f.Times = refl
+operation-back f.And = refl
+operation-back f.Or = refl
+operation-back f.Xor = refl
+operation-back f.Min = refl
+operation-back f.Max = refl
 
-pub mode-back : (m : Mode) → mode_at (mode_number m) ≡ m
+abbrev pub fold_code : Coded Operation
+fold_code = code_by ℕ coded_ℕ number_of operation_at operation-back
+
+abbrev pub mode_sum : Mode → Bool ⊎ Operation
+mode_sum Reads = inl false
+mode_sum Writes = inl true
+mode_sum (Folds o) = inr o
+
+abbrev pub mode_at : Bool ⊎ Operation → Mode
+mode_at (inl false) = Reads
+mode_at (inl true) = Writes
+mode_at (inr o) = Folds o
+
+pub mode-back : (m : Mode) → mode_at (mode_sum m) ≡ m
 mode-back Reads = refl
 mode-back Writes = refl
-mode-back Adds = refl
+mode-back (Folds o) = refl
 
 abbrev pub mode_code : Coded Mode
-mode_code = code_by ℕ coded_ℕ mode_number mode_at mode-back
+mode_code = code_by (Bool ⊎ Operation) (coded⊎ coded_bool fold_code) mode_sum mode_at mode-back
 
 abbrev pub use_code : Coded Use
 use_code = code_by (Cell × Mode) (coded× cell_code mode_code) (λ u. (u.cell, u.mode)) (λ p. record { cell = p.0; mode = p.1 }) (λ _. refl)
@@ -132,23 +152,23 @@ value_code = code_by (List ValuePart) (coded_list value_part_code) (λ e. value_
 
 pub data Part : Type 0 where
   OfSet : Cell × E → Part
-  OfAdd : Cell × E → Part
+  OfFold : Operation × (Cell × E) → Part
   OfIf : E → Part
   OfTask : List Use → Part
-  OfGroup : List Cell → Part
+  OfGroup : Operation × List Cell → Part
   OfOther : Bool → Part
 
-abbrev pub part_sum : Part → (Cell × E) ⊎ ((Cell × E) ⊎ (E ⊎ (List Use ⊎ (List Cell ⊎ (Bool)))))
+abbrev pub part_sum : Part → (Cell × E) ⊎ ((Operation × (Cell × E)) ⊎ (E ⊎ (List Use ⊎ ((Operation × List Cell) ⊎ Bool))))
 part_sum (OfSet x) = inl x
-part_sum (OfAdd x) = inr (inl x)
+part_sum (OfFold x) = inr (inl x)
 part_sum (OfIf x) = inr (inr (inl x))
 part_sum (OfTask x) = inr (inr (inr (inl x)))
 part_sum (OfGroup x) = inr (inr (inr (inr (inl x))))
 part_sum (OfOther x) = inr (inr (inr (inr (inr x))))
 
-abbrev pub part_at : (Cell × E) ⊎ ((Cell × E) ⊎ (E ⊎ (List Use ⊎ (List Cell ⊎ (Bool))))) → Part
+abbrev pub part_at : (Cell × E) ⊎ ((Operation × (Cell × E)) ⊎ (E ⊎ (List Use ⊎ ((Operation × List Cell) ⊎ Bool)))) → Part
 part_at (inl x) = OfSet x
-part_at (inr (inl x)) = OfAdd x
+part_at (inr (inl x)) = OfFold x
 part_at (inr (inr (inl x))) = OfIf x
 part_at (inr (inr (inr (inl x)))) = OfTask x
 part_at (inr (inr (inr (inr (inl x))))) = OfGroup x
@@ -156,34 +176,34 @@ part_at (inr (inr (inr (inr (inr x))))) = OfOther x
 
 pub part-back : (p : Part) → part_at (part_sum p) ≡ p
 part-back (OfSet x) = refl
-part-back (OfAdd x) = refl
+part-back (OfFold x) = refl
 part-back (OfIf x) = refl
 part-back (OfTask x) = refl
 part-back (OfGroup x) = refl
 part-back (OfOther x) = refl
 
 abbrev pub part_code : Coded Part
-part_code = code_by ((Cell × E) ⊎ ((Cell × E) ⊎ (E ⊎ (List Use ⊎ (List Cell ⊎ (Bool)))))) (coded⊎ (coded× cell_code value_code) (coded⊎ (coded× cell_code value_code) (coded⊎ value_code (coded⊎ (coded_list use_code) (coded⊎ (coded_list cell_code) (coded_bool)))))) part_sum part_at part-back
+part_code = code_by ((Cell × E) ⊎ ((Operation × (Cell × E)) ⊎ (E ⊎ (List Use ⊎ ((Operation × List Cell) ⊎ Bool))))) (coded⊎ (coded× cell_code value_code) (coded⊎ (coded× fold_code (coded× cell_code value_code)) (coded⊎ value_code (coded⊎ (coded_list use_code) (coded⊎ (coded× fold_code (coded_list cell_code)) coded_bool))))) part_sum part_at part-back
 
 -- the parts of a body, before those of what follows
 abbrev pub parts : Body → List Part → List Part
 parts End k = OfOther false ∷ k
 parts (Next Wait b) k = parts b (OfOther true ∷ k)
 parts (Next (Set c e) b) k = parts b (OfSet (c, e) ∷ k)
-parts (Next (Add c e) b) k = parts b (OfAdd (c, e) ∷ k)
+parts (Next (Fold o c e) b) k = parts b (OfFold (o, (c, e)) ∷ k)
 parts (Next (If e x y) b) k = parts b (parts y (parts x (OfIf e ∷ k)))
 parts (Next (Task d x) b) k = parts b (parts x (OfTask d ∷ k))
-parts (Next (Group cs x) b) k = parts b (parts x (OfGroup cs ∷ k))
+parts (Next (Group o cs x) b) k = parts b (parts x (OfGroup (o, cs) ∷ k))
 
 -- one part more
 abbrev pub with_part : Part → List Body → List Body
 with_part (OfOther false) bs = End ∷ bs
 with_part (OfOther true) (b ∷ bs) = Next Wait b ∷ bs
 with_part (OfSet p) (b ∷ bs) = Next (Set p.0 p.1) b ∷ bs
-with_part (OfAdd p) (b ∷ bs) = Next (Add p.0 p.1) b ∷ bs
+with_part (OfFold p) (b ∷ bs) = Next (Fold p.0 p.1.0 p.1.1) b ∷ bs
 with_part (OfIf e) (x ∷ y ∷ b ∷ bs) = Next (If e x y) b ∷ bs
 with_part (OfTask d) (x ∷ b ∷ bs) = Next (Task d x) b ∷ bs
-with_part (OfGroup cs) (x ∷ b ∷ bs) = Next (Group cs x) b ∷ bs
+with_part (OfGroup p) (x ∷ b ∷ bs) = Next (Group p.0 p.1 x) b ∷ bs
 with_part p bs = bs
 
 abbrev pub bodies_of : List Part → List Body → List Body
@@ -194,11 +214,11 @@ pub bodies-back : (b : Body) (k : List Part) (bs : List Body) → bodies_of (par
 bodies-back End k bs = refl
 bodies-back (Next Wait b) k bs = bodies-back b (OfOther true ∷ k) bs
 bodies-back (Next (Set c e) b) k bs = bodies-back b (OfSet (c, e) ∷ k) bs
-bodies-back (Next (Add c e) b) k bs = bodies-back b (OfAdd (c, e) ∷ k) bs
+bodies-back (Next (Fold o c e) b) k bs = bodies-back b (OfFold (o, (c, e)) ∷ k) bs
 bodies-back (Next (If e x y) b) k bs =
     bodies-back b (parts y (parts x (OfIf e ∷ k))) bs ∙ (bodies-back y (parts x (OfIf e ∷ k)) (b ∷ bs) ∙ bodies-back x (OfIf e ∷ k) (y ∷ b ∷ bs))
 bodies-back (Next (Task d x) b) k bs = bodies-back b (parts x (OfTask d ∷ k)) bs ∙ bodies-back x (OfTask d ∷ k) (b ∷ bs)
-bodies-back (Next (Group cs x) b) k bs = bodies-back b (parts x (OfGroup cs ∷ k)) bs ∙ bodies-back x (OfGroup cs ∷ k) (b ∷ bs)
+bodies-back (Next (Group o cs x) b) k bs = bodies-back b (parts x (OfGroup (o, cs) ∷ k)) bs ∙ bodies-back x (OfGroup (o, cs) ∷ k) (b ∷ bs)
 
 abbrev pub top_body : List Body → Body
 top_body bs = slice_index_or bs 0 End

@@ -1,6 +1,6 @@
 -- Whether each cell that a program names is in a shape, told by the lengths of its arrays.
 use Rattle.std.specs.Prelude.{◌≡◌, ℕ, ◌+◌, ◌<◌, ◌≤◌, ◌^◌, List, Some, slice_get, All}
-use Rattle.ot_model.specs.Tree.{E, Literal, CellAt, Apply, PickFrom, S, Set, Add, If, Task, Wait, Group, Body, End, Next}
+use Rattle.ot_model.specs.Tree.{E, Literal, CellAt, Apply, PickFrom, S, Set, Fold, If, Task, Wait, Group, Body, End, Next}
 use Rattle.ot_model.specs.declared.expr.Cell.{Cell}
 use Rattle.ot_model.specs.declared.expr.Section.{Section}
 use Rattle.ot_model.specs.declared.stmt.Use.{Use}
@@ -36,11 +36,11 @@ ValueNamedIn lens (PickFrom s e) = FitsShape lens s × ValueNamedIn lens e
 abbrev mutual
   pub OneNamedIn : List ℕ → S → Type 0
   OneNamedIn lens (Set c e) = IsInShape lens c × ValueNamedIn lens e
-  OneNamedIn lens (Add c e) = IsInShape lens c × ValueNamedIn lens e
+  OneNamedIn lens (Fold o c e) = IsInShape lens c × ValueNamedIn lens e
   OneNamedIn lens (If e a b) = ValueNamedIn lens e × NamedIn lens a × NamedIn lens b
   OneNamedIn lens (Task d b) = AreDeclaredIn lens d × NamedIn lens b
   OneNamedIn lens Wait = Unit {0}
-  OneNamedIn lens (Group cs b) = AreInShape lens cs × NamedIn lens b
+  OneNamedIn lens (Group o cs b) = AreInShape lens cs × NamedIn lens b
 
   pub NamedIn : List ℕ → Body → Type 0
   NamedIn lens End = Unit {0}

@@ -1,8 +1,9 @@
 -- The serial meaning of a body: each task is executed where it is created.
-use Rattle.std.specs.Prelude.{ℕ, ◌+◌, ◌%◌, ◌^◌, ◌==◌, if◌then◌else◌, List}
-use Rattle.ot_model.specs.Tree.{S, Set, Add, If, Task, Wait, Group, Body, End, Next}
+use Rattle.std.specs.Prelude.{ℕ, ◌+◌, ◌==◌, if◌then◌else◌, List}
+use Rattle.ot_model.specs.Tree.{S, Set, Fold, If, Task, Wait, Group, Body, End, Next}
 use Rattle.ot_model.specs.Cells.{cell_of, with_cell}
 use Rattle.ot_model.specs.Value.{val}
+use Rattle.ot_model.specs.Joining.{join_by}
 use Rattle.ot_model.specs.declared.expr.Cell.{Cell}
 
 -- the cells, and what was executed so far: task statements, and units
@@ -26,11 +27,11 @@ either n one two = if n == 0 then two else one
 abbrev mutual
   pub serial_one : S → State → State
   serial_one (Set c e) s = bump 0 1 (change s c (λ _. val (cell_of s.cells) e))
-  serial_one (Add c e) s = bump 0 1 (change s c (λ n. (n + val (cell_of s.cells) e) % 2 ^ 64))
+  serial_one (Fold o c e) s = bump 0 1 (change s c (λ n. join_by o n (val (cell_of s.cells) e)))
   serial_one (If e a b) s = either (val (cell_of s.cells) e) (serial a (bump 0 1 s)) (serial b (bump 0 1 s))
   serial_one (Task d b) s = serial b (bump 1 1 s)
   serial_one Wait s = bump 0 1 s
-  serial_one (Group cs b) s = serial b (bump 0 1 s)
+  serial_one (Group o cs b) s = serial b (bump 0 1 s)
 
   pub serial : Body → State → State
   serial End s = s

@@ -3,6 +3,7 @@ use Rattle.std.specs.Prelude.{ℕ, List, [], ◌∷◌}
 use Rattle.ot_model.specs.declared.expr.Cell.{Cell}
 use Rattle.ot_model.specs.declared.expr.Section.{Section}
 use Rattle.ot_model.specs.declared.expr.Op.{Op}
+use Rattle.ot_model.specs.declared.fold.Fold.{Fold as Operation}
 use Rattle.ot_model.specs.declared.stmt.Use.{Use}
 
 -- a value: a number, a cell's number, an operation on two values, or the cell of a section at a value
@@ -16,11 +17,11 @@ mutual
   -- a statement
   pub data S : Type 0 where
     Set : Cell → E → S
-    Add : Cell → E → S
+    Fold : Operation → Cell → E → S
     If : E → Body → Body → S
     Task : List Use → Body → S
     Wait : S
-    Group : List Cell → Body → S
+    Group : Operation → List Cell → Body → S
 
   -- statements in their order
   pub data Body : Type 0 where

@@ -1,9 +1,13 @@
 -- Declarations: cells in order, each once, with one mode. What conflicts, who depends on whom, and what a lent copy does.
-use Rattle.std.specs.Prelude.{◌≡◌, ◌<◌, ◌+◌, ◌%◌, ◌^◌, ◌⊎◌, ℕ, Bool, true, false, IsTrue, if◌then◌else◌, List, [], ◌∷◌, Option, Some, None, Any}
+use Rattle.std.specs.Prelude.{◌≡◌, ◌<◌, ◌==◌, ◌⊎◌, ℕ, Bool, true, false, not, IsTrue, if◌then◌else◌, List, [], ◌∷◌, ◌&&◌, Option, Some, None, Any}
+use Rattle.std.specs.List.{list_any}
 use Rattle.ot_model.specs.Cells.{same_cell}
 use Rattle.ot_model.specs.declared.expr.Cell.{Cell}
 use Rattle.ot_model.specs.declared.stmt.Mode.{Mode}
-use Rattle.ot_model.specs.declared.stmt.Mode.TheVariants.{Reads, Writes, Adds}
+use Rattle.ot_model.specs.declared.stmt.Mode.TheVariants.{Reads, Writes, Folds}
+use Rattle.ot_model.specs.declared.fold.Fold.{Fold}
+use Rattle.ot_model.specs.declared.fold.Fold.TheVariants.{Plus, Times, And, Or, Xor, Min, Max}
+use Rattle.ot_model.specs.Joining.{join_by, unit_of}
 use Rattle.ot_model.specs.declared.stmt.Use.{Use}
 
 -- by array, then by index
@@ -21,21 +25,35 @@ abbrev pub mode_in : List Use → Cell → Option Mode
 mode_in [] c = None
 mode_in (u ∷ us) c = if same_cell c u.cell then Some u.mode else mode_in us c
 
-abbrev pub is_adds : Mode → Bool
-is_adds Adds = true
-is_adds _ = false
+abbrev pub is_fold : Mode → Bool
+is_fold (Folds op) = true
+is_fold _ = false
+
+-- operations by numbers
+abbrev pub number_of : Fold → ℕ
+number_of Plus = 0
+number_of Times = 1
+number_of And = 2
+number_of Or = 3
+number_of Xor = 4
+number_of Min = 5
+number_of Max = 6
+
+-- whether two operations are one
+abbrev pub same_fold : Fold → Fold → Bool
+same_fold one two = number_of one == number_of two
 
 -- whether two modes are one
 abbrev pub same_mode : Mode → Mode → Bool
 same_mode Reads Reads = true
 same_mode Writes Writes = true
-same_mode Adds Adds = true
+same_mode (Folds one) (Folds two) = same_fold one two
 same_mode one two = false
 
--- whether two uses of one cell conflict: they do unless both read or both add
+-- whether two uses of one cell conflict: they do unless both read or both fold by one operation
 abbrev pub conflicts : Mode → Mode → Bool
 conflicts Reads Reads = false
-conflicts Adds Adds = false
+conflicts (Folds one) (Folds two) = not (same_fold one two)
 conflicts one two = true
 
 -- whether at least one of two uses of a cell is a write
@@ -57,16 +75,20 @@ Conflict us vs = MeetAtACell conflicts us vs
 abbrev pub DependsOn : List Use → List Use → Type 0
 DependsOn earlier later = MeetAtACell one_writes earlier later
 
--- what a lent copy of a stored number starts at: the number itself, but under Adds the identity of the sum
+-- the same as a test
+abbrev pub depends_on : (earlier later : List Use) → Bool
+depends_on earlier later = list_any (λ u. list_any (λ v. same_cell u.cell v.cell && one_writes u.mode v.mode) later) earlier
+
+-- what a lent copy of a stored number starts at: the number itself, but under Folds the unit of its operation
 -- (OpenMP API 5.2, section 5.5)
 abbrev pub first_of : Mode → ℕ → ℕ
 first_of Reads stored = stored
 first_of Writes stored = stored
-first_of Adds stored = 0
+first_of (Folds op) stored = unit_of op
 
--- the stored number once a copy has come back: under Writes replaced, under Adds their sum modulo 2^64
+-- the stored number once a copy has come back: under Writes replaced, under Folds the two joined
 -- (OpenMP API 5.2, section 5.5)
 abbrev pub joined : Mode → ℕ → ℕ → ℕ
 joined Reads stored copy = stored
 joined Writes stored copy = copy
-joined Adds stored copy = (stored + copy) % 2 ^ 64
+joined (Folds op) stored copy = join_by op stored copy

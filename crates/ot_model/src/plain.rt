@@ -8,6 +8,7 @@ ghost use Rattle.ot_model.specs.Runs.{state_of};
 
 use crate::cells::Cells;
 use crate::expr::{Look, value};
+use crate::fold::Monoid;
 use crate::program::Program;
 use crate::stmt::Stmt;
 use std::alloc::{AllocError, Global};
@@ -65,10 +66,10 @@ fn run_one(stmt: &Stmt, cells: &mut Cells, counts: &mut Counts)
             let number = value(expr, &*cells);
             cells.set(*cell, number);
         }
-        Stmt::Add(cell, expr) => {
+        Stmt::Fold(op, cell, expr) => {
             let number = value(expr, &*cells);
             let before = cells.at(*cell);
-            cells.set(*cell, before.wrapping_add(number));
+            cells.set(*cell, op.join(before, number));
         }
         Stmt::If(expr, one, two) => {
             if value(expr, &*cells) == 0 {
@@ -82,6 +83,6 @@ fn run_one(stmt: &Stmt, cells: &mut Cells, counts: &mut Counts)
             run_all(body, cells, counts);
         }
         Stmt::Wait => {}
-        Stmt::Group(_, body) => run_all(body, cells, counts),
+        Stmt::Group(_, _, body) => run_all(body, cells, counts),
     }
 }

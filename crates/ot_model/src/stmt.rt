@@ -3,6 +3,7 @@ ghost use Rattle.ot_model.specs.View.{stmt_of, stmts_of};
 
 use crate::declared::mode_in;
 use crate::expr::{Cell, Expr};
+use crate::fold::{Fold, Monoid};
 use crate::meeting::{Question, meet};
 use std::alloc::{AllocError, Global};
 use std::marker::Model;
@@ -15,21 +16,23 @@ pub enum Mode {
     Reads,
     /// `out` or `inout`: it may read and write the cell.
     Writes,
-    /// `red`: it only adds to the cell, in the reduction of an open group.
-    Adds,
+    /// `red`: it only folds values into the cell by this operation, in the reduction of an open group.
+    Folds(Fold),
 }
 
 impl Mode {
     ghost use Rattle.ot_model.specs.Uses.{conflicts, one_writes, first_of, joined};
 
-    /// Whether uses of one cell in these modes conflict: they do unless both read or both add.
+    /// Whether uses of one cell in these modes conflict: they do unless both read or both fold by one
+    /// operation.
     pub fn conflicts(self, other: Mode) -> bool
         ensures { result ≡ conflicts self other }
     {
-        !matches!(
-            (self, other),
-            (Mode::Reads, Mode::Reads) | (Mode::Adds, Mode::Adds)
-        )
+        match (self, other) {
+            (Mode::Reads, Mode::Reads) => false,
+            (Mode::Folds(one), Mode::Folds(two)) => one != two,
+            (_, _) => true,
+        }
     }
 
     /// Whether at least one of two uses of a cell is a write. Then the later sibling depends on the
@@ -40,14 +43,14 @@ impl Mode {
         matches!(self, Mode::Writes) || matches!(other, Mode::Writes)
     }
 
-    /// What a copy that is lent in this mode starts at: the stored number, but the identity of the
-    /// sum under `Adds`.
+    /// What a copy that is lent in this mode starts at: the stored number, but the unit of the
+    /// operation under `Folds`.
     pub fn first(self, stored: u64) -> u64
         ensures { result ≡ first_of self stored }
     {
         match self {
             Mode::Reads | Mode::Writes => stored,
-            Mode::Adds => 0,
+            Mode::Folds(op) => op.unit(),
         }
     }
 
@@ -59,7 +62,7 @@ impl Mode {
         match self {
             Mode::Reads => stored,
             Mode::Writes => copy,
-            Mode::Adds => stored.wrapping_add(copy),
+            Mode::Folds(op) => op.join(stored, copy),
         }
     }
 }
@@ -154,17 +157,17 @@ impl Decl {
 pub enum Stmt {
     /// Writes the value to the cell.
     Set(Cell, Expr),
-    /// Adds the value to the cell, modulo 2^64.
-    Add(Cell, Expr),
+    /// Joins the cell with the value by the operation.
+    Fold(Fold, Cell, Expr),
     /// Takes the first body where the value isn't 0, else the second.
     If(Expr, Vec<Stmt>, Vec<Stmt>),
     /// Creates a child task (OpenMP API 5.2, section 12.5).
     Task(Decl, Vec<Stmt>),
     /// Waits for the children created before (`taskwait`, OpenMP API 5.2, section 15.5).
     Wait,
-    /// A region whose end waits for all tasks created in it, with a reduction over these cells
-    /// (`taskgroup` with `task_reduction`, OpenMP API 5.2, section 15.4).
-    Group(Vec<Cell>, Vec<Stmt>),
+    /// A region whose end waits for all tasks created in it, with a reduction of these cells by
+    /// the operation (`taskgroup` with `task_reduction`, OpenMP API 5.2, section 15.4).
+    Group(Fold, Vec<Cell>, Vec<Stmt>),
 }
 
 impl Stmt {
@@ -175,7 +178,7 @@ impl Stmt {
     {
         match self {
             Stmt::Set(cell, expr) => Ok(Stmt::Set(*cell, expr.copy(alloc)?)),
-            Stmt::Add(cell, expr) => Ok(Stmt::Add(*cell, expr.copy(alloc)?)),
+            Stmt::Fold(op, cell, expr) => Ok(Stmt::Fold(*op, *cell, expr.copy(alloc)?)),
             Stmt::If(expr, one, two) => {
                 let expr = expr.copy(alloc)?;
                 let one = copy_stmts(alloc, one)?;
@@ -187,9 +190,9 @@ impl Stmt {
                 Ok(Stmt::Task(decl, copy_stmts(alloc, body)?))
             }
             Stmt::Wait => Ok(Stmt::Wait),
-            Stmt::Group(cells, body) => {
+            Stmt::Group(op, cells, body) => {
                 let cells = cells.as_slice().to_vec(alloc)?;
-                Ok(Stmt::Group(cells, copy_stmts(alloc, body)?))
+                Ok(Stmt::Group(*op, cells, copy_stmts(alloc, body)?))
             }
         }
     }
@@ -201,14 +204,14 @@ impl Stmt {
     {
         match (self, other) {
             (Stmt::Set(c, a), Stmt::Set(d, x)) => c == d && a.same_as(x),
-            (Stmt::Add(c, a), Stmt::Add(d, x)) => c == d && a.same_as(x),
+            (Stmt::Fold(o, c, a), Stmt::Fold(p, d, x)) => o == p && c == d && a.same_as(x),
             (Stmt::If(a, one, two), Stmt::If(x, three, four)) => {
                 a.same_as(x) && same_stmts(one, three) && same_stmts(two, four)
             }
             (Stmt::Task(d, one), Stmt::Task(e, two)) => d.same_as(e) && same_stmts(one, two),
             (Stmt::Wait, Stmt::Wait) => true,
-            (Stmt::Group(c, one), Stmt::Group(d, two)) => {
-                same_cells(c, d) && same_stmts(one, two)
+            (Stmt::Group(o, c, one), Stmt::Group(p, d, two)) => {
+                o == p && same_cells(c, d) && same_stmts(one, two)
             }
             (_, _) => false,
         }
