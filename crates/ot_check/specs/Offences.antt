@@ -1,13 +1,15 @@
 -- What is an offence on a path, and which offence of a body is the first.
 use Rattle.std.specs.Prelude.{◌≡◌, ◌≢◌, ℕ, zero, suc, ◌+◌, ◌<◌, ◌≤◌, ◌++◌, ◌⊎◌, Bool, true, false, not, ◌&&◌, ◌||◌, if◌then◌else◌, List, [], ◌∷◌, Option, Some, None}
 use Rattle.std.specs.List.{list_any}
-use Rattle.ot_model.specs.Tree.{S, Set, Add, If, Task, Wait, Group, Body, End, Next}
+use Rattle.ot_model.specs.Tree.{S, Set, Fold, If, Task, Wait, Group, Body, End, Next}
 use Rattle.ot_model.specs.Cells.{same_cell}
 use Rattle.ot_model.specs.Counts.{size, size_one}
-use Rattle.ot_model.specs.Uses.{conflicts, is_adds}
+use Rattle.ot_model.specs.Uses.{conflicts, is_fold, same_fold}
 use Rattle.ot_model.specs.declared.expr.Cell.{Cell}
+use Rattle.ot_model.specs.declared.fold.Fold.{Fold as Operation}
+use Rattle.ot_model.specs.declared.fold.Fold.TheVariants.{Plus, Times, And, Or, Xor, Min, Max}
 use Rattle.ot_model.specs.declared.stmt.Mode.{Mode}
-use Rattle.ot_model.specs.declared.stmt.Mode.TheVariants.{Reads, Writes, Adds}
+use Rattle.ot_model.specs.declared.stmt.Mode.TheVariants.{Reads, Writes, Folds}
 use Rattle.ot_model.specs.declared.stmt.Use.{Use}
 use Rattle.ot_check.specs.Paths.{Mark, Touch, Create, Await, Enter, Leave, Step, At, use_as, Passes}
 use Rattle.ot_check.specs.declared.fault.Offence.{Offence}
@@ -23,8 +25,13 @@ has_cell cells c = list_any (λ d. same_cell d c) cells
 abbrev pub covers : Mode → Mode → Bool
 covers Writes wanted = true
 covers Reads Reads = true
-covers Adds Adds = true
+covers (Folds one) (Folds other) = same_fold one other
 covers declared wanted = false
+
+-- whether the mode is Folds of this operation
+abbrev pub folds_by : Operation → Mode → Bool
+folds_by o (Folds other) = same_fold other o
+folds_by o mode = false
 
 -- what a body declares: the root's has no list and every cell as Writes
 abbrev pub Declared : Type 0
@@ -35,19 +42,31 @@ abbrev pub allows : Declared → Use → Bool
 allows None u = true
 allows (Some uses) u = list_any (λ d. same_cell d.cell u.cell && covers d.mode u.mode) uses
 
--- whether the body declares the cell as Adds
-abbrev pub adds_to : Declared → Cell → Bool
-adds_to None c = false
-adds_to (Some uses) c = list_any (λ d. same_cell d.cell c && is_adds d.mode) uses
+-- whether the body declares the cell as Folds of this operation
+abbrev pub folds_to : Declared → Operation → Cell → Bool
+folds_to None o c = false
+folds_to (Some uses) o c = list_any (λ d. same_cell d.cell c && folds_by o d.mode) uses
 
 -- whether a child's use goes beyond what the body declares
 abbrev pub exceeds : Declared → Use → Bool
-exceeds own u = not (is_adds u.mode) && not (allows own u)
+exceeds own u = not (is_fold u.mode) && not (allows own u)
 
--- whether a child's use doesn't fit the reductions that are open in the body: it adds where there is
--- none, or does something else where there is one
-abbrev pub misfits : Declared → (Cell → Bool) → Use → Bool
-misfits own opened u = if is_adds u.mode then not (adds_to own u.cell) && not (opened u.cell) else opened u.cell
+-- the cells that open groups name, by their operations
+abbrev pub Openings : Type 0
+Openings = Operation → Cell → Bool
+
+-- whether an open group names the cell, whatever its operation
+unfoldable pub opened_by_any : Openings → Cell → Bool
+opened_by_any opened c = list_any (λ o. opened o c) (Plus ∷ Times ∷ And ∷ Or ∷ Xor ∷ Min ∷ Max ∷ [])
+
+abbrev pub misfits_as : Mode → Declared → Openings → Cell → Bool
+misfits_as (Folds o) own opened c = not (folds_to own o c) && not (opened o c)
+misfits_as mode own opened c = opened_by_any opened c
+
+-- whether a child's use doesn't fit the reductions that are open in the body: it folds where there is none by
+-- its operation, or does something else where there is one
+abbrev pub misfits : Declared → Openings → Use → Bool
+misfits own opened u = misfits_as u.mode own opened u.cell
 
 -- whether a use conflicts with one that a child declares
 abbrev pub clashes : Use → List Use → Bool
@@ -62,7 +81,7 @@ stays_within n [] = true
 stays_within n (At k (Touch u) ∷ path) = stays_within n path
 stays_within n (At k (Create d) ∷ path) = stays_within n path
 stays_within n (At k Await ∷ path) = stays_within n path
-stays_within n (At k (Enter cs) ∷ path) = stays_within (suc n) path
+stays_within n (At k (Enter o cs) ∷ path) = stays_within (suc n) path
 stays_within zero (At k Leave ∷ path) = false
 stays_within (suc n) (At k Leave ∷ path) = stays_within n path
 
@@ -80,30 +99,30 @@ unawaited [] = []
 unawaited (At k (Touch u) ∷ path) = unawaited path
 unawaited (At k (Create d) ∷ path) = if stays_within 0 path && not (has_wait path) then d ∷ unawaited path else unawaited path
 unawaited (At k Await ∷ path) = unawaited path
-unawaited (At k (Enter cs) ∷ path) = unawaited path
+unawaited (At k (Enter o cs) ∷ path) = unawaited path
 unawaited (At k Leave ∷ path) = unawaited path
 
--- whether a group that names the cell is open behind these steps
-abbrev pub is_open : List Step → Cell → Bool
-is_open [] c = false
-is_open (At k (Touch u) ∷ path) c = is_open path c
-is_open (At k (Create d) ∷ path) c = is_open path c
-is_open (At k Await ∷ path) c = is_open path c
-is_open (At k (Enter cs) ∷ path) c = (has_cell cs c && stays_within 0 path) || is_open path c
-is_open (At k Leave ∷ path) c = is_open path c
+-- whether a group by this operation that names the cell is open behind these steps
+abbrev pub is_open : List Step → Openings
+is_open [] o c = false
+is_open (At k (Touch u) ∷ path) o c = is_open path o c
+is_open (At k (Create d) ∷ path) o c = is_open path o c
+is_open (At k Await ∷ path) o c = is_open path o c
+is_open (At k (Enter by cs) ∷ path) o c = (same_fold by o && has_cell cs c && stays_within 0 path) || is_open path o c
+is_open (At k Leave ∷ path) o c = is_open path o c
 
 -- ---- offences
 
 -- Whether a mark is this offence, in a body that declares this, where these groups are open and these
 -- children unawaited.
-abbrev pub breaks : Declared → (Cell → Bool) → List (List Use) → Mark → Offence → Bool
+abbrev pub breaks : Declared → Openings → List (List Use) → Mark → Offence → Bool
 breaks own opened children (Touch u) NotDeclared = not (allows own u)
-breaks own opened children (Touch u) ReductionMisuse = opened u.cell
+breaks own opened children (Touch u) ReductionMisuse = opened_by_any opened u.cell
 breaks own opened children (Touch u) ConflictsWithChild = list_any (clashes u) children
 breaks own opened children (Create d) ChildBeyond = list_any (exceeds own) d
 breaks own opened children (Create d) ReductionMisuse = list_any (misfits own opened) d
-breaks own opened children (Enter cs) ReductionMisuse = list_any (λ c. not (allows own (use_as Writes c)) || opened c) cs
-breaks own opened children (Enter cs) ConflictsWithChild = list_any (λ c. list_any (clashes (use_as Writes c)) children) cs
+breaks own opened children (Enter o cs) ReductionMisuse = list_any (λ c. not (allows own (use_as Writes c)) || opened_by_any opened c) cs
+breaks own opened children (Enter o cs) ConflictsWithChild = list_any (λ c. list_any (clashes (use_as Writes c)) children) cs
 breaks own opened children mark offence = false
 
 -- on some path of the body a statement of this place is this offence
@@ -120,13 +139,13 @@ CanEndWithChildren k body = (path : List Step) × Passes k body path × (unawait
 abbrev mutual
   pub InTasksOfOne : ℕ → S → ℕ → Offence → Type 0
   InTasksOfOne k (Set c e) place offence = ⊥
-  InTasksOfOne k (Add c e) place offence = ⊥
+  InTasksOfOne k (Fold o c e) place offence = ⊥
   InTasksOfOne k (If e a b) place offence = InTasks (k + 1) a place offence ⊎ InTasks (k + 1 + size a) b place offence
   InTasksOfOne k (Task d b) place offence =
       ((place ≡ k) × (offence ≡ EndsWithChildren) × CanEndWithChildren (k + 1) b)
       ⊎ (OnPath (k + 1) b (Some d) place offence ⊎ InTasks (k + 1) b place offence)
   InTasksOfOne k Wait place offence = ⊥
-  InTasksOfOne k (Group cs b) place offence = InTasks (k + 1) b place offence
+  InTasksOfOne k (Group o cs b) place offence = InTasks (k + 1) b place offence
 
   pub InTasks : ℕ → Body → ℕ → Offence → Type 0
   InTasks k End place offence = ⊥

@@ -1,11 +1,12 @@
 -- The paths of a body: runs through it that take either body of each `if`, whatever the values.
 use Rattle.std.specs.Prelude.{◌≡◌, ℕ, ◌+◌, ◌++◌, ◌⊎◌, List, [], ◌∷◌, map}
-use Rattle.ot_model.specs.Tree.{S, Set, Add, If, Task, Wait, Group, Body, End, Next}
+use Rattle.ot_model.specs.Tree.{S, Set, Fold, If, Task, Wait, Group, Body, End, Next}
 use Rattle.ot_model.specs.Value.{cells_named}
 use Rattle.ot_model.specs.Counts.{size, size_one}
 use Rattle.ot_model.specs.declared.expr.Cell.{Cell}
+use Rattle.ot_model.specs.declared.fold.Fold.{Fold as Operation}
 use Rattle.ot_model.specs.declared.stmt.Mode.{Mode}
-use Rattle.ot_model.specs.declared.stmt.Mode.TheVariants.{Reads, Writes, Adds}
+use Rattle.ot_model.specs.declared.stmt.Mode.TheVariants.{Reads, Writes, Folds}
 use Rattle.ot_model.specs.declared.stmt.Use.{Use}
 
 -- what a path passes: a use of a cell, a child's creation, a wait, the beginning and the end of a group
@@ -13,7 +14,7 @@ pub data Mark : Type 0 where
   Touch : Use → Mark
   Create : List Use → Mark
   Await : Mark
-  Enter : List Cell → Mark
+  Enter : Operation → List Cell → Mark
   Leave : Mark
 
 -- a mark, and the place of its statement
@@ -27,7 +28,7 @@ use_as mode cell = record { cell = cell; mode = mode }
 -- what a statement itself does with cells
 abbrev pub touches : S → List Use
 touches (Set c e) = map (use_as Reads) (cells_named e) ++ use_as Writes c ∷ []
-touches (Add c e) = map (use_as Reads) (cells_named e) ++ use_as Adds c ∷ []
+touches (Fold o c e) = map (use_as Reads) (cells_named e) ++ use_as (Folds o) c ∷ []
 touches (If e a b) = map (use_as Reads) (cells_named e)
 touches _ = []
 
@@ -40,12 +41,12 @@ touched k uses = map (λ u. At k (Touch u)) uses
 abbrev mutual
   pub PassesOne : ℕ → S → List Step → Type 0
   PassesOne k (Set c e) path = path ≡ touched k (touches (Set c e))
-  PassesOne k (Add c e) path = path ≡ touched k (touches (Add c e))
+  PassesOne k (Fold o c e) path = path ≡ touched k (touches (Fold o c e))
   PassesOne k (If e a b) path =
       (inside : List Step) × (path ≡ touched k (touches (If e a b)) ++ inside) × (Passes (k + 1) a inside ⊎ Passes (k + 1 + size a) b inside)
   PassesOne k (Task d b) path = path ≡ At k (Create d) ∷ []
   PassesOne k Wait path = path ≡ At k Await ∷ []
-  PassesOne k (Group cs b) path = (inside : List Step) × (path ≡ At k (Enter cs) ∷ (inside ++ At k Leave ∷ [])) × Passes (k + 1) b inside
+  PassesOne k (Group o cs b) path = (inside : List Step) × (path ≡ At k (Enter o cs) ∷ (inside ++ At k Leave ∷ [])) × Passes (k + 1) b inside
 
   pub Passes : ℕ → Body → List Step → Type 0
   Passes k End path = path ≡ []

@@ -1,10 +1,10 @@
 -- What a body does with cells, in its tasks too.
 use Rattle.std.specs.Prelude.{◌≡◌, ℕ, ◌%◌, false, List}
-use Rattle.ot_model.specs.Tree.{E, Literal, CellAt, Apply, PickFrom, S, Set, Add, If, Task, Wait, Group, Body, End, Next}
+use Rattle.ot_model.specs.Tree.{E, Literal, CellAt, Apply, PickFrom, S, Set, Fold, If, Task, Wait, Group, Body, End, Next}
 use Rattle.ot_model.specs.Value.{cell_at}
 use Rattle.ot_model.specs.Uses.{conflicts}
 use Rattle.ot_model.specs.declared.expr.Cell.{Cell}
-use Rattle.ot_model.specs.declared.stmt.Mode.TheVariants.{Reads, Writes, Adds}
+use Rattle.ot_model.specs.declared.stmt.Mode.TheVariants.{Reads, Writes, Folds}
 use Rattle.ot_model.specs.declared.stmt.Use.{Use}
 use Rattle.ot_check.specs.Paths.{use_as}
 
@@ -19,11 +19,11 @@ EachRead P (PickFrom s e) = ((k : ℕ) → P (cell_at s (k % s.len))) × EachRea
 abbrev mutual
   pub EachTouchOne : (Use → Type 0) → S → Type 0
   EachTouchOne P (Set c e) = EachRead (λ d. P (use_as Reads d)) e × P (use_as Writes c)
-  EachTouchOne P (Add c e) = EachRead (λ d. P (use_as Reads d)) e × P (use_as Adds c)
+  EachTouchOne P (Fold o c e) = EachRead (λ d. P (use_as Reads d)) e × P (use_as (Folds o) c)
   EachTouchOne P (If e a b) = EachRead (λ d. P (use_as Reads d)) e × EachTouch P a × EachTouch P b
   EachTouchOne P (Task d b) = EachTouch P b
   EachTouchOne P Wait = Unit {0}
-  EachTouchOne P (Group cs b) = EachTouch P b
+  EachTouchOne P (Group o cs b) = EachTouch P b
 
   pub EachTouch : (Use → Type 0) → Body → Type 0
   EachTouch P End = Unit {0}
@@ -33,11 +33,11 @@ abbrev mutual
 abbrev mutual
   pub EachTaskOne : (List Use → Body → Type 0) → S → Type 0
   EachTaskOne P (Set c e) = Unit {0}
-  EachTaskOne P (Add c e) = Unit {0}
+  EachTaskOne P (Fold o c e) = Unit {0}
   EachTaskOne P (If e a b) = EachTask P a × EachTask P b
   EachTaskOne P (Task d b) = P d b × EachTask P b
   EachTaskOne P Wait = Unit {0}
-  EachTaskOne P (Group cs b) = EachTask P b
+  EachTaskOne P (Group o cs b) = EachTask P b
 
   pub EachTask : (List Use → Body → Type 0) → Body → Type 0
   EachTask P End = Unit {0}
