@@ -9,7 +9,7 @@ use Rattle.ot_model.specs.one.Serial.{serial1, serial_one1}
 use Rattle.ot_model.specs.one.Upward.{up, up_one}
 
 mutual
-  size_one-up : (x : S1) → size_one (up_one x) ≡ size_one1 x
+  pub size_one-up : (x : S1) → size_one (up_one x) ≡ size_one1 x
   size_one-up (Set1 c e) = refl
   size_one-up (Add1 c e) = refl
   size_one-up (If1 e a b) = ap (λ n. 1 + n + size (up b)) (size-up a) ∙ ap (λ n. 1 + size1 a + n) (size-up b)
