@@ -10,7 +10,7 @@ tasks_in-≤-size (Next (Set c e) rest) = omega (arith, tasks_in-≤-size rest)
 tasks_in-≤-size (Next (Fold o c e) rest) = omega (arith, tasks_in-≤-size rest)
 tasks_in-≤-size (Next (If e a b) rest) = omega (arith, tasks_in-≤-size a, tasks_in-≤-size b, tasks_in-≤-size rest)
 tasks_in-≤-size (Next (Task d b) rest) = omega (arith, tasks_in-≤-size b, tasks_in-≤-size rest)
-tasks_in-≤-size (Next Wait rest) = omega (arith, tasks_in-≤-size rest)
+tasks_in-≤-size (Next (Wait w) rest) = omega (arith, tasks_in-≤-size rest)
 tasks_in-≤-size (Next (Group o cs b) rest) = omega (arith, tasks_in-≤-size b, tasks_in-≤-size rest)
 
 pub size-append : (a b : Body) → size (append a b) ≡ size a + size b

@@ -1,5 +1,5 @@
 -- Lists of statements that stand for the same body.
-use Rattle.std.proofs.Common.{◌≡◌, ◌<◌, ◌≤◌, ℕ, suc, ◌+◌, List, [], ◌∷◌, length, get_or, drop, refl, sym, ap, ◌∙◌, Bool, true≢false, false}
+use Rattle.std.proofs.Common.{◌≡◌, ◌<◌, ◌≤◌, ℕ, suc, ◌+◌, List, [], ◌∷◌, length, get_or, drop, refl, sym, ap, ◌∙◌, Bool, true≢false, false, None}
 use Rattle.std.specs.Prelude.{◌↔◌, IsTrue}
 use Rattle.std.proofs.lemmas.List.{drop_more, drop_all}
 use Rattle.ot_model.specs.Tree.{S, Wait, Body, End, Next}
@@ -16,7 +16,7 @@ how_many-stmts [] = refl
 how_many-stmts (x ∷ xs) = ap suc (how_many-stmts xs)
 
 first : Body → S
-first End = Wait
+first End = Wait None
 first (Next x b) = x
 
 rest : Body → Body

@@ -49,7 +49,7 @@ serial-bump (Next (If e a b) rest) t u s =
     ∙ serial-bump rest t u _
 serial-bump (Next (Task d b) rest) t u s =
     ap (λ x. serial rest (serial b x)) (bump-bump 1 1 t u s) ∙ ap (serial rest) (serial-bump b t u (bump 1 1 s)) ∙ serial-bump rest t u _
-serial-bump (Next Wait rest) t u s = ap (serial rest) (bump-bump 0 1 t u s) ∙ serial-bump rest t u _
+serial-bump (Next (Wait w) rest) t u s = ap (serial rest) (bump-bump 0 1 t u s) ∙ serial-bump rest t u _
 serial-bump (Next (Group o cs b) rest) t u s =
     ap (λ x. serial rest (serial b x)) (bump-bump 0 1 t u s) ∙ ap (serial rest) (serial-bump b t u (bump 0 1 s)) ∙ serial-bump rest t u _
 
@@ -74,7 +74,7 @@ serial-tasks-≤ (Next (If e a b) rest) s =
     (omega (arith, serial-tasks-≤ a (bump 0 1 s))) (omega (arith, serial-tasks-≤ b (bump 0 1 s))) in
     omega (arith, serial-tasks-≤ rest (either n one two))
 serial-tasks-≤ (Next (Task d b) rest) s = omega (arith, serial-tasks-≤ b (bump 1 1 s), serial-tasks-≤ rest (serial b (bump 1 1 s)))
-serial-tasks-≤ (Next Wait rest) s = omega (arith, serial-tasks-≤ rest (bump 0 1 s))
+serial-tasks-≤ (Next (Wait w) rest) s = omega (arith, serial-tasks-≤ rest (bump 0 1 s))
 serial-tasks-≤ (Next (Group o cs b) rest) s = omega (arith, serial-tasks-≤ b (bump 0 1 s), serial-tasks-≤ rest (serial b (bump 0 1 s)))
 
 -- no more units are executed than the body has statements
@@ -91,7 +91,7 @@ serial-units-≤ (Next (If e a b) rest) s =
     (omega (arith, serial-units-≤ a (bump 0 1 s))) (omega (arith, serial-units-≤ b (bump 0 1 s))) in
     omega (arith, serial-units-≤ rest (either n one two))
 serial-units-≤ (Next (Task d b) rest) s = omega (arith, serial-units-≤ b (bump 1 1 s), serial-units-≤ rest (serial b (bump 1 1 s)))
-serial-units-≤ (Next Wait rest) s = omega (arith, serial-units-≤ rest (bump 0 1 s))
+serial-units-≤ (Next (Wait w) rest) s = omega (arith, serial-units-≤ rest (bump 0 1 s))
 serial-units-≤ (Next (Group o cs b) rest) s = omega (arith, serial-units-≤ b (bump 0 1 s), serial-units-≤ rest (serial b (bump 0 1 s)))
 
 -- the same from no counts

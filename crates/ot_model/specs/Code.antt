@@ -1,7 +1,7 @@
 -- Codes of values, statements and bodies, so that a type's value may hold them: the list of the parts of one, inner parts
 -- first, which a stack puts together again.
 use Rattle.std.proofs.Common.{inl, inr, ◌∙◌, ap}
-use Rattle.std.specs.Prelude.{◌≡◌, ◌⊎◌, ℕ, Bool, true, false, List, [], ◌∷◌, slice_index_or, refl}
+use Rattle.std.specs.Prelude.{◌≡◌, ◌⊎◌, ℕ, Bool, true, false, List, [], ◌∷◌, slice_index_or, refl, None, Some}
 use Rattle.std.specs.Coded.{Coded, code_by, coded×, coded⊎, coded_ℕ, coded_bool, coded_list}
 use Rattle.ot_model.specs.Tree.{E, Literal, CellAt, Apply, PickFrom, Set, Fold, If, Task, Wait, Group, Body, End, Next}
 use Rattle.ot_model.specs.declared.expr.Cell.{Cell}
@@ -148,7 +148,7 @@ top_value es = slice_index_or es 0 (Literal 0)
 abbrev pub value_code : Coded E
 value_code = code_by (List ValuePart) (coded_list value_part_code) (λ e. value_parts e []) (λ k. top_value (values_of k [])) (λ e. ap top_value (values-back e [] []))
 
--- ---- a body: its end and a wait are the other parts
+-- ---- a body: its end, a wait for all children and a wait with a declaration are the other parts
 
 pub data Part : Type 0 where
   OfSet : Cell × E → Part
@@ -156,9 +156,9 @@ pub data Part : Type 0 where
   OfIf : E → Part
   OfTask : List Use → Part
   OfGroup : Operation × List Cell → Part
-  OfOther : Bool → Part
+  OfOther : Bool ⊎ List Use → Part
 
-abbrev pub part_sum : Part → (Cell × E) ⊎ ((Operation × (Cell × E)) ⊎ (E ⊎ (List Use ⊎ ((Operation × List Cell) ⊎ Bool))))
+abbrev pub part_sum : Part → (Cell × E) ⊎ ((Operation × (Cell × E)) ⊎ (E ⊎ (List Use ⊎ ((Operation × List Cell) ⊎ (Bool ⊎ List Use)))))
 part_sum (OfSet x) = inl x
 part_sum (OfFold x) = inr (inl x)
 part_sum (OfIf x) = inr (inr (inl x))
@@ -166,7 +166,7 @@ part_sum (OfTask x) = inr (inr (inr (inl x)))
 part_sum (OfGroup x) = inr (inr (inr (inr (inl x))))
 part_sum (OfOther x) = inr (inr (inr (inr (inr x))))
 
-abbrev pub part_at : (Cell × E) ⊎ ((Operation × (Cell × E)) ⊎ (E ⊎ (List Use ⊎ ((Operation × List Cell) ⊎ Bool)))) → Part
+abbrev pub part_at : (Cell × E) ⊎ ((Operation × (Cell × E)) ⊎ (E ⊎ (List Use ⊎ ((Operation × List Cell) ⊎ (Bool ⊎ List Use))))) → Part
 part_at (inl x) = OfSet x
 part_at (inr (inl x)) = OfFold x
 part_at (inr (inr (inl x))) = OfIf x
@@ -183,12 +183,13 @@ part-back (OfGroup x) = refl
 part-back (OfOther x) = refl
 
 abbrev pub part_code : Coded Part
-part_code = code_by ((Cell × E) ⊎ ((Operation × (Cell × E)) ⊎ (E ⊎ (List Use ⊎ ((Operation × List Cell) ⊎ Bool))))) (coded⊎ (coded× cell_code value_code) (coded⊎ (coded× fold_code (coded× cell_code value_code)) (coded⊎ value_code (coded⊎ (coded_list use_code) (coded⊎ (coded× fold_code (coded_list cell_code)) coded_bool))))) part_sum part_at part-back
+part_code = code_by ((Cell × E) ⊎ ((Operation × (Cell × E)) ⊎ (E ⊎ (List Use ⊎ ((Operation × List Cell) ⊎ (Bool ⊎ List Use)))))) (coded⊎ (coded× cell_code value_code) (coded⊎ (coded× fold_code (coded× cell_code value_code)) (coded⊎ value_code (coded⊎ (coded_list use_code) (coded⊎ (coded× fold_code (coded_list cell_code)) (coded⊎ coded_bool (coded_list use_code))))))) part_sum part_at part-back
 
 -- the parts of a body, before those of what follows
 abbrev pub parts : Body → List Part → List Part
-parts End k = OfOther false ∷ k
-parts (Next Wait b) k = parts b (OfOther true ∷ k)
+parts End k = OfOther (inl false) ∷ k
+parts (Next (Wait None) b) k = parts b (OfOther (inl true) ∷ k)
+parts (Next (Wait (Some d)) b) k = parts b (OfOther (inr d) ∷ k)
 parts (Next (Set c e) b) k = parts b (OfSet (c, e) ∷ k)
 parts (Next (Fold o c e) b) k = parts b (OfFold (o, (c, e)) ∷ k)
 parts (Next (If e x y) b) k = parts b (parts y (parts x (OfIf e ∷ k)))
@@ -197,8 +198,9 @@ parts (Next (Group o cs x) b) k = parts b (parts x (OfGroup (o, cs) ∷ k))
 
 -- one part more
 abbrev pub with_part : Part → List Body → List Body
-with_part (OfOther false) bs = End ∷ bs
-with_part (OfOther true) (b ∷ bs) = Next Wait b ∷ bs
+with_part (OfOther (inl false)) bs = End ∷ bs
+with_part (OfOther (inl true)) (b ∷ bs) = Next (Wait None) b ∷ bs
+with_part (OfOther (inr d)) (b ∷ bs) = Next (Wait (Some d)) b ∷ bs
 with_part (OfSet p) (b ∷ bs) = Next (Set p.0 p.1) b ∷ bs
 with_part (OfFold p) (b ∷ bs) = Next (Fold p.0 p.1.0 p.1.1) b ∷ bs
 with_part (OfIf e) (x ∷ y ∷ b ∷ bs) = Next (If e x y) b ∷ bs
@@ -212,7 +214,8 @@ bodies_of (p ∷ k) bs = bodies_of k (with_part p bs)
 
 pub bodies-back : (b : Body) (k : List Part) (bs : List Body) → bodies_of (parts b k) bs ≡ bodies_of k (b ∷ bs)
 bodies-back End k bs = refl
-bodies-back (Next Wait b) k bs = bodies-back b (OfOther true ∷ k) bs
+bodies-back (Next (Wait None) b) k bs = bodies-back b (OfOther (inl true) ∷ k) bs
+bodies-back (Next (Wait (Some d)) b) k bs = bodies-back b (OfOther (inr d) ∷ k) bs
 bodies-back (Next (Set c e) b) k bs = bodies-back b (OfSet (c, e) ∷ k) bs
 bodies-back (Next (Fold o c e) b) k bs = bodies-back b (OfFold (o, (c, e)) ∷ k) bs
 bodies-back (Next (If e x y) b) k bs =

@@ -8,7 +8,7 @@ abbrev mutual
   size_one (Fold o c e) = 1
   size_one (If e a b) = 1 + size a + size b
   size_one (Task d b) = 1 + size b
-  size_one Wait = 1
+  size_one (Wait w) = 1
   size_one (Group o cs b) = 1 + size b
 
   pub size : Body → ℕ
@@ -21,7 +21,7 @@ abbrev mutual
   tasks_in_one (Fold o c e) = 0
   tasks_in_one (If e a b) = tasks_in a + tasks_in b
   tasks_in_one (Task d b) = 1 + tasks_in b
-  tasks_in_one Wait = 0
+  tasks_in_one (Wait w) = 0
   tasks_in_one (Group o cs b) = tasks_in b
 
   pub tasks_in : Body → ℕ

@@ -1,5 +1,5 @@
 -- Whether each cell that a program names is in a shape, told by the lengths of its arrays.
-use Rattle.std.specs.Prelude.{◌≡◌, ℕ, ◌+◌, ◌<◌, ◌≤◌, ◌^◌, List, Some, slice_get, All}
+use Rattle.std.specs.Prelude.{◌≡◌, ℕ, ◌+◌, ◌<◌, ◌≤◌, ◌^◌, List, Some, slice_get, All, None}
 use Rattle.ot_model.specs.Tree.{E, Literal, CellAt, Apply, PickFrom, S, Set, Fold, If, Task, Wait, Group, Body, End, Next}
 use Rattle.ot_model.specs.declared.expr.Cell.{Cell}
 use Rattle.ot_model.specs.declared.expr.Section.{Section}
@@ -39,7 +39,8 @@ abbrev mutual
   OneNamedIn lens (Fold o c e) = IsInShape lens c × ValueNamedIn lens e
   OneNamedIn lens (If e a b) = ValueNamedIn lens e × NamedIn lens a × NamedIn lens b
   OneNamedIn lens (Task d b) = AreDeclaredIn lens d × NamedIn lens b
-  OneNamedIn lens Wait = Unit {0}
+  OneNamedIn lens (Wait None) = Unit {0}
+  OneNamedIn lens (Wait (Some d)) = AreDeclaredIn lens d
   OneNamedIn lens (Group o cs b) = AreInShape lens cs × NamedIn lens b
 
   pub NamedIn : List ℕ → Body → Type 0

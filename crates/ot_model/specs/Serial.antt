@@ -30,7 +30,7 @@ abbrev mutual
   serial_one (Fold o c e) s = bump 0 1 (change s c (λ n. join_by o n (val (cell_of s.cells) e)))
   serial_one (If e a b) s = either (val (cell_of s.cells) e) (serial a (bump 0 1 s)) (serial b (bump 0 1 s))
   serial_one (Task d b) s = serial b (bump 1 1 s)
-  serial_one Wait s = bump 0 1 s
+  serial_one (Wait w) s = bump 0 1 s
   serial_one (Group o cs b) s = serial b (bump 0 1 s)
 
   pub serial : Body → State → State

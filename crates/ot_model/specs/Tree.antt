@@ -1,5 +1,5 @@
 -- What a program is, apart from memory: values, statements and bodies.
-use Rattle.std.specs.Prelude.{ℕ, List, [], ◌∷◌}
+use Rattle.std.specs.Prelude.{ℕ, List, [], ◌∷◌, Option}
 use Rattle.ot_model.specs.declared.expr.Cell.{Cell}
 use Rattle.ot_model.specs.declared.expr.Section.{Section}
 use Rattle.ot_model.specs.declared.expr.Op.{Op}
@@ -20,7 +20,7 @@ mutual
     Fold : Operation → Cell → E → S
     If : E → Body → Body → S
     Task : List Use → Body → S
-    Wait : S
+    Wait : Option (List Use) → S
     Group : Operation → List Cell → Body → S
 
   -- statements in their order

@@ -18,7 +18,7 @@ stmt_step (Stmt-F.Set c e) = Set c (expr_of e)
 stmt_step (Stmt-F.Fold o c e) = Fold o c (expr_of e)
 stmt_step (Stmt-F.If e a b) = If (expr_of e) (body_of a.items) (body_of b.items)
 stmt_step (Stmt-F.Task d b) = Task d (body_of b.items)
-stmt_step Stmt-F.Wait = Wait
+stmt_step (Stmt-F.Wait w) = Wait w
 stmt_step (Stmt-F.Group o cs b) = Group o cs.items (body_of b.items)
 
 abbrev pub stmt_of : Stmt → S

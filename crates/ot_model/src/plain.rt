@@ -82,7 +82,7 @@ fn run_one(stmt: &Stmt, cells: &mut Cells, counts: &mut Counts)
             counts.tasks += 1;
             run_all(body, cells, counts);
         }
-        Stmt::Wait => {}
+        Stmt::Wait(_) => {}
         Stmt::Group(_, _, body) => run_all(body, cells, counts),
     }
 }

@@ -163,8 +163,9 @@ pub enum Stmt {
     If(Expr, Vec<Stmt>, Vec<Stmt>),
     /// Creates a child task (OpenMP API 5.2, section 12.5).
     Task(Decl, Vec<Stmt>),
-    /// Waits for the children created before (`taskwait`, OpenMP API 5.2, section 15.5).
-    Wait,
+    /// Waits for the children created before, or where it declares cells for those of them on which an
+    /// empty task that declares them would depend (`taskwait`, OpenMP API 5.2, section 15.5).
+    Wait(Option<Decl>),
     /// A region whose end waits for all tasks created in it, with a reduction of these cells by
     /// the operation (`taskgroup` with `task_reduction`, OpenMP API 5.2, section 15.4).
     Group(Fold, Vec<Cell>, Vec<Stmt>),
@@ -189,7 +190,8 @@ impl Stmt {
                 let decl = decl.copy(alloc)?;
                 Ok(Stmt::Task(decl, copy_stmts(alloc, body)?))
             }
-            Stmt::Wait => Ok(Stmt::Wait),
+            Stmt::Wait(None) => Ok(Stmt::Wait(None)),
+            Stmt::Wait(Some(decl)) => Ok(Stmt::Wait(Some(decl.copy(alloc)?))),
             Stmt::Group(op, cells, body) => {
                 let cells = cells.as_slice().to_vec(alloc)?;
                 Ok(Stmt::Group(*op, cells, copy_stmts(alloc, body)?))
@@ -209,7 +211,8 @@ impl Stmt {
                 a.same_as(x) && same_stmts(one, three) && same_stmts(two, four)
             }
             (Stmt::Task(d, one), Stmt::Task(e, two)) => d.same_as(e) && same_stmts(one, two),
-            (Stmt::Wait, Stmt::Wait) => true,
+            (Stmt::Wait(None), Stmt::Wait(None)) => true,
+            (Stmt::Wait(Some(d)), Stmt::Wait(Some(e))) => d.same_as(e),
             (Stmt::Group(o, c, one), Stmt::Group(p, d, two)) => {
                 o == p && same_cells(c, d) && same_stmts(one, two)
             }

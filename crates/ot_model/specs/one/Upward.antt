@@ -1,5 +1,5 @@
 -- A program of the first profile as one of the second, whose folds and groups are all by `+`; and what is kept of its meaning.
-use Rattle.std.specs.Prelude.{◌≡◌, List, map}
+use Rattle.std.specs.Prelude.{◌≡◌, List, map, None}
 use Rattle.ot_model.specs.Tree.{S, Set, Fold, If, Task, Wait, Group, Body, End, Next}
 use Rattle.ot_model.specs.Counts.{size, tasks_in}
 use Rattle.ot_model.specs.Serial.{State, serial}
@@ -29,7 +29,7 @@ abbrev mutual
   up_one (Add1 c e) = Fold Plus c e
   up_one (If1 e a b) = If e (up a) (up b)
   up_one (Task1 d b) = Task (up_uses d) (up b)
-  up_one Wait1 = Wait
+  up_one Wait1 = Wait None
   up_one (Group1 cs b) = Group Plus cs (up b)
 
   pub up : Body1 → Body
