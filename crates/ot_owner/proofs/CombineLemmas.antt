@@ -6,7 +6,7 @@ use Rattle.ot_model.specs.declared.stmt.Mode.TheVariants.{Adds}
 use Rattle.ot_owner.specs.Worth.{combined}
 use Rattle.ot_owner.specs.Growing.{Grew}
 
--- two numbers are added in either order
+-- two numbers are folded in either order
 join-swap : (s v x : ℕ) → joined Adds (joined Adds s v) x ≡ joined Adds (joined Adds s x) v
 join-swap s v x =
     let e : s + v + x ≡ s + x + v = omega arith in

@@ -17,7 +17,7 @@ use Rattle.std.proofs.lemmas.List.Elements.{All-push}
 use Rattle.std.proofs.lemmas.List.Quantifiers.{Any-push}
 use Rattle.ot_model.specs.Uses.{AreInOrder}
 use Rattle.ot_owner.specs.Lending.{uses_of}
-use Rattle.ot_owner.specs.Rows.{Summed, added, copy_among}
+use Rattle.ot_owner.specs.Rows.{Summed, folded, copy_among}
 use Rattle.ot_owner.specs.Kept.{copies_among}
 use Rattle.ot_owner.proofs.JoinedLemmas.{not_lent, lent_push, others_before}
 use Rattle.ot_owner.proofs.GroupLemmas.{among-grew, among-other, still-some}
@@ -49,12 +49,12 @@ by_idle Adds v (Some n) after old new is adds same = ap (option_map (λ n. combi
 -- where no written cell has copies, what cells are worth is joined as stored numbers were when each copy was combined at once
 pub joined-worth : (lent : List LentCell) (st st' : Cell → Option ℕ) (cp cp' : Cell → List ℕ) → AreStored lent st st' → AreAdded lent cp cp'
     → All (λ l. l.mode ≡ Writes → cp l.cell ≡ []) lent → AreJoined lent (worth_with cp st) (worth_with cp' st')
-joined-worth lent st st' cp cp' stored added none = record {
+joined-worth lent st st' cp cp' stored folded none = record {
   lent_cells = λ k d within. let l = get_or lent k d in
-      by_mode l.mode l.value (st l.cell) (st' l.cell) (cp l.cell) (cp' l.cell) (stored.lent_cells k d within) (added.grew k d within) (added.kept_copies k d within) (none k d within);
+      by_mode l.mode l.value (st l.cell) (st' l.cell) (cp l.cell) (cp' l.cell) (stored.lent_cells k d within) (folded.grew k d within) (folded.kept_copies k d within) (none k d within);
   untouched = λ k d within adds nought. let l = get_or lent k d in
-      by_idle l.mode l.value (st l.cell) (st' l.cell) (cp l.cell) (cp' l.cell) (stored.lent_cells k d within) adds (added.idle k d within adds nought);
-  others = λ other away. ap (λ o. option_map (λ n. combined n (cp' other)) o) (stored.others other away) ∙ ap (λ l. option_map (λ n. combined n l) (st other)) (added.others other away);
+      by_idle l.mode l.value (st l.cell) (st' l.cell) (cp l.cell) (cp' l.cell) (stored.lent_cells k d within) adds (folded.idle k d within adds nought);
+  others = λ other away. ap (λ o. option_map (λ n. combined n (cp' other)) o) (stored.others other away) ∙ ap (λ l. option_map (λ n. combined n l) (st other)) (folded.others other away);
 }
 
 stored-push : (lent : List LentCell) (x : LentCell) (before mid after : Cell → Option ℕ) → AreStored lent before mid → All (λ l. l.cell ≢ x.cell) lent
@@ -66,10 +66,10 @@ stored-push lent x before mid after soon apart now others = record {
   others = λ other away. others other (λ same. away (Any-push (λ l. l.cell ≡ other) lent x same)) ∙ soon.others other (λ here. away (lent_push lent x other here));
 }
 
-added-push : (lent : List LentCell) (x : LentCell) (before mid after : Cell → List ℕ) → AreAdded lent before mid → All (λ l. l.cell ≢ x.cell) lent
+folded-push : (lent : List LentCell) (x : LentCell) (before mid after : Cell → List ℕ) → AreAdded lent before mid → All (λ l. l.cell ≢ x.cell) lent
     → (x.mode ≡ Adds → Grew x.value (mid x.cell) (after x.cell)) → (x.mode ≡ Adds → x.value ≡ 0 → after x.cell ≡ mid x.cell) → (x.mode ≢ Adds → after x.cell ≡ mid x.cell)
     → ((other : Cell) → x.cell ≢ other → after other ≡ mid other) → AreAdded (lent ++ x ∷ []) before after
-added-push lent x before mid after soon apart grew idle same others =
+folded-push lent x before mid after soon apart grew idle same others =
     let was : mid x.cell ≡ before x.cell = soon.others x.cell (not_lent lent x.cell apart) in
     record {
       grew = All-push (λ l. l.mode ≡ Adds → Grew l.value (before l.cell) (after l.cell)) lent x
@@ -95,14 +95,14 @@ some-is None there = absurd (cc)
 some-is (Some n) there = (n, refl)
 
 -- one lent cell more, told by what becomes of the groups
-pub added-more : (lent : List LentCell) (k w : ℕ) (x : LentCell) (first mid after : List Summed) → AreInOrder (uses_of lent) → k < length lent → x ≡ get_or lent k x
+pub folded-more : (lent : List LentCell) (k w : ℕ) (x : LentCell) (first mid after : List Summed) → AreInOrder (uses_of lent) → k < length lent → x ≡ get_or lent k x
     → AreAdded (take k lent) (copies_among first) (copies_among mid) → (x.mode ≡ Adds → IsSome (copy_among mid w x.cell))
-    → (x.mode ≡ Adds → after ≡ added w x.cell x.value mid) → (x.mode ≡ Adds → x.value ≡ 0 → after ≡ mid) → (x.mode ≢ Adds → after ≡ mid)
+    → (x.mode ≡ Adds → after ≡ folded w x.cell x.value mid) → (x.mode ≡ Adds → x.value ≡ 0 → after ≡ mid) → (x.mode ≢ Adds → after ≡ mid)
     → AreAdded (take (k + 1) lent) (copies_among first) (copies_among after)
-added-more lent k w x first mid after order within is soon row rows idle same =
+folded-more lent k w x first mid after order within is soon row rows idle same =
     let more : take k lent ++ x ∷ [] ≡ take (k + 1) lent = ap (λ y. take k lent ++ y ∷ []) is ∙ sym (take_more lent k x within) in
     subst (λ ls. AreAdded ls (copies_among first) (copies_among after)) more
-    (added-push (take k lent) x (copies_among first) (copies_among mid) (copies_among after) soon (others_before lent k x order within is)
+    (folded-push (take k lent) x (copies_among first) (copies_among mid) (copies_among after) soon (others_before lent k x order within is)
     (λ adds. let some = some-is (copy_among mid w x.cell) (row adds) in
     subst (λ gs. Grew x.value (copies_among mid x.cell) (copies_among gs x.cell)) (sym (rows adds)) (among-grew w x.value some.0 x.cell mid some.1))
     (λ adds none. ap (λ gs. copies_among gs x.cell) (idle adds none))
@@ -114,7 +114,7 @@ added-more lent k w x first mid after order within is soon row rows idle same =
     by Writes e other apart = ap (λ gs. copies_among gs other) (same (λ adds. no_adds2 (sym e ∙ adds)))
     by Adds e other apart = ap (λ gs. copies_among gs other) (rows e) ∙ among-other w x.value x.cell other mid apart
 
-pub rows-still : (w : ℕ) (x : LentCell) (c : Cell) (mid after : List Summed) → (x.mode ≡ Adds → after ≡ added w x.cell x.value mid) → (x.mode ≢ Adds → after ≡ mid)
+pub rows-still : (w : ℕ) (x : LentCell) (c : Cell) (mid after : List Summed) → (x.mode ≡ Adds → after ≡ folded w x.cell x.value mid) → (x.mode ≢ Adds → after ≡ mid)
     → IsSome (copy_among mid w c) → IsSome (copy_among after w c)
 rows-still w x c mid after rows same there = by x.mode refl
   where

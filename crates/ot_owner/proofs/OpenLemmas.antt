@@ -25,7 +25,7 @@ use Rattle.ot_owner.specs.Keeping.{IsRegular, HasCopies, IsSound}
 use Rattle.ot_owner.specs.Lending.{use_of, uses_of}
 use Rattle.ot_owner.specs.Kept.{copies_among, summed_of, summeds_of}
 use Rattle.ot_owner.specs.Owning.{Loan, Owned, IsFreeFor}
-use Rattle.ot_owner.specs.Rows.{Summed, is_of, place_in, names, IsSummed, adds_in, copy_in, row_in, copies_at, copies_where, copies_in, copy_among, added_in, added, begun_row, begun_in, begun_for, copies_closed, without}
+use Rattle.ot_owner.specs.Rows.{Summed, is_of, place_in, names, IsSummed, folds_in, copy_in, row_in, copies_at, copies_where, copies_in, copy_among, folded_in, folded, begun_row, begun_in, begun_for, copies_closed, without}
 use Rattle.ot_owner.specs.Worth.{combined, worth_over, worth, AreJoined}
 use Rattle.ot_owner.specs.declared.rows.Group.{Group}
 use Rattle.ot_owner.proofs.ApartLemmas.{no_two-begun, no_two-ended}
@@ -97,16 +97,16 @@ begun-combined w c g true n small = by (place_in g.uses c)
     by (Some place) = combined-begun n small g.rows w (length g.uses) place
 
 -- rows begin alike for uses that add to the same cells
-pub begun-alike : (w : ℕ) (us vs : List Use) (gs : List Summed) → ((named : List Use) → adds_in named us ≡ adds_in named vs) → begun_for w us gs ≡ begun_for w vs gs
+pub begun-alike : (w : ℕ) (us vs : List Use) (gs : List Summed) → ((named : List Use) → folds_in named us ≡ folds_in named vs) → begun_for w us gs ≡ begun_for w vs gs
 begun-alike w us vs [] same = refl
 begun-alike w us vs (g ∷ gs) same =
     ap (λ b. (if b then begun_in w g else g) ∷ begun_for w us gs) (same g.uses)
-    ∙ ap (λ hs. (if adds_in g.uses vs then begun_in w g else g) ∷ hs) (begun-alike w us vs gs same)
+    ∙ ap (λ hs. (if folds_in g.uses vs then begun_in w g else g) ∷ hs) (begun-alike w us vs gs same)
 
 pub begun-worth : (w : ℕ) (uses : List Use) (gs : List Summed) (c : Cell) (n : ℕ) → n < 2 ^ 64 → worth_over (begun_for w uses gs) c n ≡ worth_over gs c n
 begun-worth w uses [] c n small = refl
 begun-worth w uses (g ∷ gs) c n small =
-    ap (worth_over (begun_for w uses gs) c) (begun-combined w c g (adds_in g.uses uses) n small)
+    ap (worth_over (begun_for w uses gs) c) (begun-combined w c g (folds_in g.uses uses) n small)
     ∙ begun-worth w uses gs c (combined n (copies_in c g)) (combined-small n (copies_in c g) small)
 
 row-begun : (rows : Rows) (w x q len : ℕ) → IsSome (copy_in q (row_in rows x)) → IsSome (copy_in q (row_in (updated rows w (begun_row len)) x))
@@ -120,7 +120,7 @@ row-begun (row ∷ rows) (suc w) (suc x) q len there = row-begun rows w x q len 
 -- whoever had a copy has one still
 pub begun-still : (w : ℕ) (uses : List Use) (gs : List Summed) (x : ℕ) (c : Cell) → IsSome (copy_among gs x c) → IsSome (copy_among (begun_for w uses gs) x c)
 begun-still w uses [] x c there = there
-begun-still w uses (g ∷ gs) x c there = by (begun-still w uses gs x c) (adds_in g.uses uses)
+begun-still w uses (g ∷ gs) x c there = by (begun-still w uses gs x c) (folds_in g.uses uses)
   where
     rest : (IsSome (copy_among gs x c) → IsSome (copy_among (begun_for w uses gs) x c)) → (o : Option ℕ) → IsSome (if is_some o then option_and_then (λ place. copy_in place (row_in g.rows x)) o else copy_among gs x c)
         → IsSome (if is_some o then option_and_then (λ place. copy_in place (row_in g.rows x)) o else copy_among (begun_for w uses gs) x c)
@@ -158,19 +158,19 @@ row-there (row ∷ rows) (suc w) p len known within long = row-there rows w p le
 nothing : Use
 nothing = record { cell = record { array = 0; index = 0 }; mode = Reads }
 
--- the worker has a copy of each cell that is added to
+-- the worker has a copy of each cell that is folded to
 pub begun-there : (w : ℕ) (uses : List Use) (u : Use) (gs : List Summed) → w < 17 → Contains uses u → u.mode ≡ Adds → All IsRegular gs → IsSummed gs u.cell → IsSome (copy_among (begun_for w uses gs) w u.cell)
 begun-there w uses u [] known there adds regular (k, g, within, is, named) = absurd (omega (arith, within))
 begun-there w uses u (g ∷ gs) known there adds regular summed =
     by (begun-there w uses u gs known there adds (λ k d within. regular (suc k) d (omega (arith, within)))) (place_in g.uses u.cell) refl
   where
-    tested : (p : ℕ) → place_in g.uses u.cell ≡ Some p → adds_in g.uses uses ≡ true
+    tested : (p : ℕ) → place_in g.uses u.cell ≡ Some p → folds_in g.uses uses ≡ true
     tested p at = list_any-from_Any (λ v. if is_adds v.mode then is_some (place_in g.uses v.cell) else false) uses
         (let (k, within, is) = there in (k, u, within, is, ap (λ m. if is_adds m then is_some (place_in g.uses u.cell) else false) adds ∙ ap is_some at))
 
     by : (IsSummed gs u.cell → IsSome (copy_among (begun_for w uses gs) w u.cell)) → (o : Option ℕ) → place_in g.uses u.cell ≡ o → IsSome (copy_among (begun_for w uses (g ∷ gs)) w u.cell)
-    by rest None at = subst IsSome (sym (ap (λ o. if is_some o then option_and_then (λ place. copy_in place (row_in (begun_if w (adds_in g.uses uses) g).rows w)) o else copy_among (begun_for w uses gs) w u.cell)
-        (ap (λ us. place_in us u.cell) (begun-uses w (adds_in g.uses uses) g) ∙ at))) (rest (later summed))
+    by rest None at = subst IsSome (sym (ap (λ o. if is_some o then option_and_then (λ place. copy_in place (row_in (begun_if w (folds_in g.uses uses) g).rows w)) o else copy_among (begun_for w uses gs) w u.cell)
+        (ap (λ us. place_in us u.cell) (begun-uses w (folds_in g.uses uses) g) ∙ at))) (rest (later summed))
       where
         later : IsSummed (g ∷ gs) u.cell → IsSummed gs u.cell
         later (zero, h, within, is, named) = absurd (true≢false (sym named ∙ ap (names u.cell) (sym is) ∙ ap is_some at))
@@ -197,7 +197,7 @@ begun-regular-one w true g regular = record {
 pub begun-regular : (w : ℕ) (uses : List Use) (gs : List Summed) → All IsRegular gs → All IsRegular (begun_for w uses gs)
 begun-regular w uses [] all = all
 begun-regular w uses (g ∷ gs) all =
-    All-cons IsRegular (begun_if w (adds_in g.uses uses) g) (begun_for w uses gs) (begun-regular-one w (adds_in g.uses uses) g (all 0 g (omega arith)))
+    All-cons IsRegular (begun_if w (folds_in g.uses uses) g) (begun_for w uses gs) (begun-regular-one w (folds_in g.uses uses) g (all 0 g (omega arith)))
     (begun-regular w uses gs (λ k d within. all (suc k) d (omega (arith, within))))
 
 -- ---- a group is opened
@@ -273,10 +273,10 @@ closed-still n (g ∷ gs) x c apart there = by (closed-still n gs x c (λ k d wi
     by later true is = subst (λ t. IsSome (if t then option_and_then (λ place. copy_in place (row_in g.rows x)) (place_in g.uses c) else copy_among gs x c)) (apart 0 g (omega arith) (is_number g.group n is)) there
     by later false is = kept later (place_in g.uses c) there
 
-adds_writes : (m v : Mode) → m ≡ Adds → v ≡ Writes → conflicts m v ≡ true
-adds_writes m v adds writes = ap (λ x. conflicts x v) adds ∙ ap (conflicts Adds) writes
+folds_writes : (m v : Mode) → m ≡ Adds → v ≡ Writes → conflicts m v ≡ true
+folds_writes m v adds writes = ap (λ x. conflicts x v) adds ∙ ap (conflicts Adds) writes
 
--- what is out to be added to isn't named by a group of which nothing is out
+-- what is out to be folded to isn't named by a group of which nothing is out
 pub unused : (uses : List Use) (g : Summed) (u : Use) → IsRegular g → ¬ Conflict uses g.uses → Contains uses u → u.mode ≡ Adds → names u.cell g ≡ false
 unused uses g u regular free (k, within, is) adds = by (place_in g.uses u.cell) refl
   where
@@ -286,7 +286,7 @@ unused uses g u regular free (k, within, is) adds = by (place_in g.uses u.cell) 
         let found = position-Some (is_of u.cell) g.uses p nothing at in
         let v = get_or g.uses p nothing in
         let same : v.cell ≡ u.cell = (cell-decides v.cell u.cell).0 found.1 in
-        absurd (free (k, u, within, is, (p, v, found.0, sym (get_or_default g.uses p nothing v found.0), (sym same, adds_writes u.mode v.mode adds (regular.written p nothing found.0)))))
+        absurd (free (k, u, within, is, (p, v, found.0, sym (get_or_default g.uses p nothing v found.0), (sym same, folds_writes u.mode v.mode adds (regular.written p nothing found.0)))))
 
 -- ---- a lease comes back
 
@@ -297,7 +297,7 @@ back-push w (l ∷ lent) x gs = back-push w lent x (taken_back w l gs)
 taken-still : (w : ℕ) (l : LentCell) (gs : List Summed) (x : ℕ) (c : Cell) → IsSome (copy_among gs x c) → IsSome (copy_among (taken_back w l gs) x c)
 taken-still w l gs x c there = by (is_adds l.mode)
   where
-    by : (b : Bool) → IsSome (copy_among (if b then added w l.cell l.value gs else gs) x c)
+    by : (b : Bool) → IsSome (copy_among (if b then folded w l.cell l.value gs else gs) x c)
     by true = still-some w l.value x l.cell c gs there
     by false = there
 
@@ -305,8 +305,8 @@ pub back-still : (w : ℕ) (lent : List LentCell) (gs : List Summed) (x : ℕ) (
 back-still w [] gs x c there = there
 back-still w (l ∷ lent) gs x c there = back-still w lent (taken_back w l gs) x c (taken-still w l gs x c there)
 
-added-regular-one : (w v p : ℕ) (g : Summed) → IsRegular g → IsRegular (added_in w v g (Some p))
-added-regular-one w v p g regular = record {
+folded-regular-one : (w v p : ℕ) (g : Summed) → IsRegular g → IsRegular (folded_in w v g (Some p))
+folded-regular-one w v p g regular = record {
   written = regular.written;
   numbers = length-updated g.rows w (option_map (λ copies. updated copies p (λ copy. join Adds copy v))) ∙ regular.numbers;
   long = all-updated (λ row. IfSome row (λ copies. length copies ≡ length g.uses)) g.rows w (option_map (λ copies. updated copies p (λ copy. join Adds copy v))) keeps regular.long;
@@ -316,22 +316,22 @@ added-regular-one w v p g regular = record {
     keeps None long = long
     keeps (Some copies) long = length-updated copies p (λ copy. join Adds copy v) ∙ long
 
-added-regular : (w v : ℕ) (c : Cell) (gs : List Summed) → All IsRegular gs → All IsRegular (added w c v gs)
-added-regular w v c [] all = all
-added-regular w v c (g ∷ gs) all = by (λ k d within. all (suc k) d (omega (arith, within))) (added-regular w v c gs (λ k d within. all (suc k) d (omega (arith, within)))) (place_in g.uses c)
+folded-regular : (w v : ℕ) (c : Cell) (gs : List Summed) → All IsRegular gs → All IsRegular (folded w c v gs)
+folded-regular w v c [] all = all
+folded-regular w v c (g ∷ gs) all = by (λ k d within. all (suc k) d (omega (arith, within))) (folded-regular w v c gs (λ k d within. all (suc k) d (omega (arith, within)))) (place_in g.uses c)
   where
     first : IsRegular g
     first = all 0 g (omega arith)
 
-    by : All IsRegular gs → All IsRegular (added w c v gs) → (o : Option ℕ) → All IsRegular (if is_some o then added_in w v g o ∷ gs else g ∷ added w c v gs)
-    by rest more None = All-cons IsRegular g (added w c v gs) first more
-    by rest more (Some p) = All-cons IsRegular (added_in w v g (Some p)) gs (added-regular-one w v p g first) rest
+    by : All IsRegular gs → All IsRegular (folded w c v gs) → (o : Option ℕ) → All IsRegular (if is_some o then folded_in w v g o ∷ gs else g ∷ folded w c v gs)
+    by rest more None = All-cons IsRegular g (folded w c v gs) first more
+    by rest more (Some p) = All-cons IsRegular (folded_in w v g (Some p)) gs (folded-regular-one w v p g first) rest
 
 taken-regular : (w : ℕ) (l : LentCell) (gs : List Summed) → All IsRegular gs → All IsRegular (taken_back w l gs)
 taken-regular w l gs all = by (is_adds l.mode)
   where
-    by : (b : Bool) → All IsRegular (if b then added w l.cell l.value gs else gs)
-    by true = added-regular w l.value l.cell gs all
+    by : (b : Bool) → All IsRegular (if b then folded w l.cell l.value gs else gs)
+    by true = folded-regular w l.value l.cell gs all
     by false = all
 
 pub back-regular : (w : ℕ) (lent : List LentCell) (gs : List Summed) → All IsRegular gs → All IsRegular (all_back w lent gs)

@@ -1,4 +1,4 @@
--- How the copies of a cell change as a number is added to a worker's copy, and as a row begins.
+-- How the copies of a cell change as a number is folded to a worker's copy, and as a row begins.
 use Rattle.std.proofs.Common.{◌≡◌, ◌≢◌, ℕ, zero, suc, take, cond, get_or, set, map, ◌+◌, ◌^◌, ◌<◌, ◌≤◌, ◌⊎◌, List, [], ◌∷◌, ◌++◌, length, refl, sym, ap, ◌∙◌, subst, inl, inr, arith, true≢false, Bool, true, false, Vec, Global}
 use Rattle.std.specs.Prelude.{position, Option, Some, None, is_some, IfSome, slice_get, option_map, option_and_then, replicate, if◌then◌else◌}
 use Rattle.ot_model.specs.Cells.{updated, cell_of}
@@ -20,7 +20,7 @@ use Rattle.ot_model.proofs.EqualLemmas.{cell-decides}
 use Rattle.ot_model.proofs.OrderLemmas as uses
 use Rattle.ot_model.proofs.CellsLemmas.{set-updated, slice_get-updated, slice_get-updated-other}
 use Rattle.ot_owner.specs.Worth.{combined}
-use Rattle.ot_owner.specs.Rows.{is_of, copy_in, row_in, with_copy, copies_at, copies_where, added_at, begun_row}
+use Rattle.ot_owner.specs.Rows.{is_of, copy_in, row_in, with_copy, copies_at, copies_where, folded_at, begun_row}
 use Rattle.ot_owner.specs.Growing.{Grew}
 use Rattle.ot_owner.specs.Kept.{row_of}
 use Rattle.ot_owner.specs.declared.rows.Row.{Row}
@@ -39,24 +39,24 @@ grew-copy v (Some x) xs ys grew = inr (refl, grew)
 plus : ℕ → ℕ → ℕ
 plus v n = joined Adds n v
 
-pub grew-added : (rows : Rows) (worker place v n : ℕ) → copy_in place (row_in rows worker) ≡ Some n → Grew v (copies_at rows place) (copies_at (added_at worker place v rows) place)
-grew-added [] worker place v n is = absurd (none≢some n is)
-grew-added (None ∷ rows) zero place v n is = absurd (none≢some n is)
-grew-added (Some copies ∷ rows) zero place v n is =
+pub grew-folded : (rows : Rows) (worker place v n : ℕ) → copy_in place (row_in rows worker) ≡ Some n → Grew v (copies_at rows place) (copies_at (folded_at worker place v rows) place)
+grew-folded [] worker place v n is = absurd (none≢some n is)
+grew-folded (None ∷ rows) zero place v n is = absurd (none≢some n is)
+grew-folded (Some copies ∷ rows) zero place v n is =
     let now : slice_get (updated copies place (λ copy. joined Adds copy v)) place ≡ Some (joined Adds n v) =
     slice_get-updated copies place (λ copy. joined Adds copy v) ∙ ap (option_map (λ copy. joined Adds copy v)) is in
     let rest = copies_at rows place in
     subst (λ o. Grew v (with_copy o rest) (with_copy (slice_get (updated copies place (λ copy. joined Adds copy v)) place) rest)) (sym is)
     (subst (λ o. Grew v (n ∷ rest) (with_copy o rest)) (sym now) (inl (refl, refl)))
-grew-added (row ∷ rows) (suc worker) place v n is =
-    grew-copy v (copy_in place row) (copies_at rows place) (copies_at (added_at worker place v rows) place) (grew-added rows worker place v n is)
+grew-folded (row ∷ rows) (suc worker) place v n is =
+    grew-copy v (copy_in place row) (copies_at rows place) (copies_at (folded_at worker place v rows) place) (grew-folded rows worker place v n is)
 
-pub added-other : (rows : Rows) (worker place v p : ℕ) → place ≢ p → copies_at (added_at worker place v rows) p ≡ copies_at rows p
-added-other [] worker place v p apart = refl
-added-other (None ∷ rows) zero place v p apart = refl
-added-other (Some copies ∷ rows) zero place v p apart =
+pub folded-other : (rows : Rows) (worker place v p : ℕ) → place ≢ p → copies_at (folded_at worker place v rows) p ≡ copies_at rows p
+folded-other [] worker place v p apart = refl
+folded-other (None ∷ rows) zero place v p apart = refl
+folded-other (Some copies ∷ rows) zero place v p apart =
     ap (λ o. with_copy o (copies_at rows p)) (slice_get-updated-other copies place p (λ copy. joined Adds copy v) apart)
-added-other (row ∷ rows) (suc worker) place v p apart = ap (with_copy (copy_in p row)) (added-other rows worker place v p apart)
+folded-other (row ∷ rows) (suc worker) place v p apart = ap (with_copy (copy_in p row)) (folded-other rows worker place v p apart)
 
 -- a list of zeros has a zero at each of its places
 zeros-at : (len place : ℕ) → (slice_get {X = ℕ} (replicate len 0) place ≡ None) ⊎ (slice_get {X = ℕ} (replicate len 0) place ≡ Some 0)

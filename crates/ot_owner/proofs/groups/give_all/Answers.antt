@@ -6,7 +6,7 @@ use Rattle.ot_owner.specs.declared.lent.LentCell.{LentCell}
 use Rattle.ot_owner.specs.Kept.{summeds_of}
 use Rattle.ot_owner.specs.Back.{taken_back}
 use Rattle.ot_owner.proofs.OpenLemmas.{back-more}
-use Rattle.ot_owner.proofs.GivingLemmas.{stored-more, added-more, rows-still}
+use Rattle.ot_owner.proofs.GivingLemmas.{stored-more, folded-more, rows-still}
 use Rattle.ot_owner.proofs.groups.give_all.Goals as goal
 
 pub loop-copy-preserved : goal.loop-copy-preserved
@@ -21,7 +21,7 @@ loop-copy-preserved c =
     record {
       stored = stored-more lent k x (cell_of c.args.cells.now) (cell_of c.loop-copy.cells) (cell_of c.give_one.new.cells) c.requires.ordered c.loop-copy-test.true is c.loop-copy.invariant.stored
           c.give_one.ensures.stored c.give_one.ensures.others;
-      copies = added-more lent k c.args.worker x (summeds_of c.args.groups.now.items) mid after c.requires.ordered c.loop-copy-test.true is c.loop-copy.invariant.copies
+      copies = folded-more lent k c.args.worker x (summeds_of c.args.groups.now.items) mid after c.requires.ordered c.loop-copy-test.true is c.loop-copy.invariant.copies
           (c.loop-copy.invariant.rows k nothing c.loop-copy-test.true) c.give_one.ensures.rows c.give_one.ensures.idle c.give_one.ensures.kept_rows;
       rows = λ i d within adds. rows-still c.args.worker x (get_or lent i d).cell mid after c.give_one.ensures.rows c.give_one.ensures.kept_rows (c.loop-copy.invariant.rows i d within adds);
       back = c.give_one.ensures.back ∙ ap (taken_back c.args.worker x) c.loop-copy.invariant.back

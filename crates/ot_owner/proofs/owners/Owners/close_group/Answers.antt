@@ -6,7 +6,7 @@ use Rattle.ot_model.specs.Cells.{cell_of}
 use Rattle.ot_owner.specs.Keeping.{IsSound, IsLast, Made, HasRow, Prepared}
 use Rattle.ot_owner.specs.Kept.{loans_in, spare_in, summed_of, summeds_of, made_of, mades_of}
 use Rattle.ot_owner.specs.Owning.{Owned, IsFreeFor}
-use Rattle.ot_owner.specs.Rows.{Summed, copies_in, copies_closed, without, adds_in}
+use Rattle.ot_owner.specs.Rows.{Summed, copies_in, copies_closed, without, folds_in}
 use Rattle.ot_owner.specs.Worth.{combined, worth_over}
 use Rattle.ot_owner.specs.declared.rows.Group.{Group}
 use Rattle.ot_owner.proofs.OpenLemmas.{closing-at, not_open, closed-sound, worth-combined}
@@ -73,6 +73,6 @@ returns-clause-slips c = λ (s : Prepared) last.
     }) s = subst (λ k. IsLast k s) (sym c.self.view_is) last in
     record {
       place = was.place;
-      rows = subst (λ (gs : List Group). All (λ (m : Made). adds_in m.uses s.uses ≡ true → HasRow s.worker m) (mades_of gs)) (sym c.remove.ensures.items)
-          (all-removed made_of (λ (m : Made). adds_in m.uses s.uses ≡ true → HasRow s.worker m) c.self.inside.groups.items c.in-Some.place was.rows);
+      rows = subst (λ (gs : List Group). All (λ (m : Made). folds_in m.uses s.uses ≡ true → HasRow s.worker m) (mades_of gs)) (sym c.remove.ensures.items)
+          (all-removed made_of (λ (m : Made). folds_in m.uses s.uses ≡ true → HasRow s.worker m) c.self.inside.groups.items c.in-Some.place was.rows);
     }

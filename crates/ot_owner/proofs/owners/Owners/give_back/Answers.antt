@@ -9,7 +9,7 @@ use Rattle.ot_owner.specs.Keeping.{IsSound, IsLast, Made, HasRow, Prepared}
 use Rattle.ot_owner.specs.Kept.{loans_in, spare_in, summeds_of, mades_of, copies_among}
 use Rattle.ot_owner.specs.Leases.{lease_of}
 use Rattle.ot_owner.specs.Owning.{Loan}
-use Rattle.ot_owner.specs.Rows.{Summed, copy_among, adds_in}
+use Rattle.ot_owner.specs.Rows.{Summed, copy_among, folds_in}
 use Rattle.ot_owner.specs.Worth.{worth}
 use Rattle.ot_owner.proofs.GivingLemmas.{joined-worth}
 use Rattle.ot_owner.proofs.OpenLemmas.{Copies, all-at, copies-lent, back-sound, joined-same, unsummed, worth-with}
@@ -54,5 +54,5 @@ returns-clause-slips c = λ (s : Prepared) last.
     }) s = subst (λ k. IsLast k s) (sym c.self.view_is) last in
     c.drop_right.ensures.slips s (record {
       place = was.place;
-      rows = subst (λ (ms : List Made). All (λ m. adds_in m.uses s.uses ≡ true → HasRow s.worker m) ms) (sym c.give_all.ensures.made) was.rows;
+      rows = subst (λ (ms : List Made). All (λ m. folds_in m.uses s.uses ≡ true → HasRow s.worker m) ms) (sym c.give_all.ensures.made) was.rows;
     })

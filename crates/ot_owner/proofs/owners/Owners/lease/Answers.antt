@@ -18,7 +18,7 @@ invariant_of-self c =
     let loan : Loan = c.fill-lent.result.1 in
     let uses : loan.lease.uses ≡ c.args.slip.uses = ap (λ (l : Loan). l.lease.uses) c.fill-lent.ensures.loan ∙ uses_of-lent_from c.args.cells.now c.args.slip.uses in
     let begun : summeds_of c.begin_rows.new.groups.items ≡ begun_for loan.worker loan.lease.uses before =
-    c.begin_rows.ensures.begun ∙ begun-alike c.worker.result c.adds.result.now c.args.slip.uses before c.adds.ensures
+    c.begin_rows.ensures.begun ∙ begun-alike c.worker.result c.folds.result.now c.args.slip.uses before c.folds.ensures
     ∙ ap (λ us. begun_for c.worker.result us before) (sym uses)
     ∙ ap (λ w. begun_for w loan.lease.uses before) (c.worker.ensures.worker ∙ sym (ap (λ (l : Loan). l.worker) c.fill-lent.ensures.loan)) in
     let owned : record { out = out; groups = before } ≡ c.args.self.now.owned = ap (λ k. k.owned) c.self.view_is in
@@ -35,4 +35,4 @@ returns-clause-worth c = λ cell.
     let gs = c.args.self.now.owned.groups in
     let was : before ≡ gs = ap (λ k. k.owned.groups) c.self.view_is in
     same_small (worth_over (summeds_of c.begin_rows.new.groups.items) cell) (worth_over gs cell) (cell_of c.args.cells.now cell) (c.numbers.ensures cell)
-    (λ n small. ap (λ hs. worth_over hs cell n) c.begin_rows.ensures.begun ∙ begun-worth c.worker.result c.adds.result.now before cell n small ∙ ap (λ hs. worth_over hs cell n) was)
+    (λ n small. ap (λ hs. worth_over hs cell n) c.begin_rows.ensures.begun ∙ begun-worth c.worker.result c.folds.result.now before cell n small ∙ ap (λ hs. worth_over hs cell n) was)

@@ -8,20 +8,20 @@ use Rattle.ot_model.specs.declared.stmt.Mode.TheVariants.{Adds}
 use Rattle.ot_owner.specs.Rows.{Summed}
 use Rattle.ot_owner.specs.Kept.{row_of}
 use Rattle.ot_owner.proofs.RowLemmas.{map-changed, map-kept}
-use Rattle.ot_owner.proofs.rows.Group.add.Goals as goal
+use Rattle.ot_owner.proofs.rows.Group.fold.Goals as goal
 
-pub returns-clause-added : goal.returns-clause-added
-returns-clause-added c =
+pub returns-clause-folded : goal.returns-clause-folded
+returns-clause-folded c =
     ap (λ (rows : List (Option (List ℕ))). let g : Summed = record { group = c.args.self.now.group; uses = c.args.self.now.decl; rows = rows } in g)
-    (map-changed row_of c.args.self.now.rows.items c.args.worker c.index_mut.result.now c.add.new.self
-    (option_map (λ copies. updated copies c.args.place (λ copy. joined Adds copy c.args.number))) c.index_mut.ensures.value c.add.ensures.added)
+    (map-changed row_of c.args.self.now.rows.items c.args.worker c.index_mut.result.now c.fold.new.self
+    (option_map (λ copies. updated copies c.args.place (λ copy. joined Adds copy c.args.number))) c.index_mut.ensures.value c.fold.ensures.folded)
 
 pub returns-clause-idle : goal.returns-clause-idle
 returns-clause-idle c = λ none.
     ap (λ (rows : List (Option (List ℕ))). let g : Summed = record { group = c.args.self.now.group; uses = c.args.self.now.decl; rows = rows } in g)
-    (map-kept row_of c.args.self.now.rows.items c.args.worker c.index_mut.result.now c.add.new.self c.index_mut.ensures.value (c.add.ensures.idle none))
+    (map-kept row_of c.args.self.now.rows.items c.args.worker c.index_mut.result.now c.fold.new.self c.index_mut.ensures.value (c.fold.ensures.idle none))
 
 pub returns-clause-made : goal.returns-clause-made
 returns-clause-made c =
     ap (λ (ns : List ℕ). let m : Made = record { uses = c.args.self.now.decl; rows = ns } in m)
-    (map-kept (λ (r : Row). length r.copies.items) c.args.self.now.rows.items c.args.worker c.index_mut.result.now c.add.new.self c.index_mut.ensures.value c.add.ensures.long)
+    (map-kept (λ (r : Row). length r.copies.items) c.args.self.now.rows.items c.args.worker c.index_mut.result.now c.fold.new.self c.index_mut.ensures.value c.fold.ensures.long)

@@ -4,10 +4,10 @@ use Rattle.ot_model.specs.Cells.{updated}
 use Rattle.ot_model.specs.Uses.{joined}
 use Rattle.ot_model.specs.declared.stmt.Mode.TheVariants.{Adds}
 use Rattle.ot_model.proofs.CellsLemmas.{set-updated}
-use Rattle.ot_owner.proofs.rows.Row.add.Goals as goal
+use Rattle.ot_owner.proofs.rows.Row.fold.Goals as goal
 
-pub returns-clause-added : goal.returns-clause-added
-returns-clause-added c =
+pub returns-clause-folded : goal.returns-clause-folded
+returns-clause-folded c =
     let copies = c.args.self.now.copies.items in
     let is = set-updated copies c.args.place c.joined.result c.index-copy.result.now (λ copy. joined Adds copy c.args.number)
     (c.joined.ensures.exact ∙ ap (λ copy. joined Adds copy c.args.number) c.index-copy.ensures) in
