@@ -1,5 +1,5 @@
 -- What owners keep: what is out, the open groups, and what is reserved for the calls that take no memory.
-use Rattle.std.specs.Prelude.{◌≡◌, ◌≤◌, ℕ, true, List, All, length, Some, IsSome, IfSome, slice_get}
+use Rattle.std.specs.Prelude.{◌≡◌, ◌≤◌, ◌<◌, ◌^◌, ℕ, true, List, All, length, Some, IsSome, IfSome, slice_get}
 use Rattle.ot_model.specs.Uses.{is_fold}
 use Rattle.ot_model.specs.declared.stmt.Mode.TheVariants.{Writes}
 use Rattle.ot_model.specs.declared.stmt.Use.{Use}
@@ -40,11 +40,13 @@ IsOpenable k = 1 ≤ k.places
 
 -- ---- what always holds
 
--- the group names its cells to write them, has a row or none for each of 17 numbers, and each row has a copy of each cell
+-- the group names its cells to write them, has a row or none for each of 17 numbers, and each row has a copy of each cell,
+-- each below 2^64
 pub record IsRegular (g : Summed) : Type 0 where
   pub written : All (λ u. u.mode ≡ Writes) g.uses
   pub numbers : length g.rows ≡ 17
   pub long : All (λ row. IfSome row (λ copies. length copies ≡ length g.uses)) g.rows
+  pub small : All (λ row. IfSome row (λ copies. All (λ copy. copy < 2 ^ 64) copies)) g.rows
 
 -- the worker has a copy of each cell into which the uses fold
 abbrev pub HasCopies : List Summed → ℕ → List Use → Type 0

@@ -1,5 +1,5 @@
 //! The open groups, one after another.
-ghost use Rattle.std.specs.Prelude.{◌≡◌, ◌≢◌, ◌<◌, ◌==◌, IsSome, OnOk, All, true, option_map, position, vec_capacity, vec_len};
+ghost use Rattle.std.specs.Prelude.{◌≡◌, ◌≢◌, ◌<◌, ◌^◌, ◌==◌, IsSome, OnOk, All, true, option_map, position, vec_capacity, vec_len};
 ghost use Rattle.ot_model.specs.Cells.{cell_of, lengths};
 ghost use Rattle.ot_model.specs.Uses.{AreInOrder, is_fold};
 ghost use Rattle.ot_model.specs.declared.expr.Cell.{Cell};
@@ -111,6 +111,7 @@ fn give_one(cells: &mut Cells, groups: &mut Vec<Group>, worker: usize, copy: Len
     ensures others { (other : Cell) → copy.cell ≢ other → cell_of cells.new other ≡ cell_of cells.old other }
     ensures lengths { lengths cells.new ≡ lengths cells.old }
     ensures back { summeds_of groups.new.items ≡ taken_back worker copy (summeds_of groups.old.items) }
+    ensures small { copy.value < 2 ^ 64 }
     ensures made { mades_of groups.new.items ≡ mades_of groups.old.items }
     ensures capacity { vec_capacity groups.new ≡ vec_capacity groups.old }
     ensures len { vec_len groups.new ≡ vec_len groups.old }
@@ -129,6 +130,7 @@ pub(crate) fn give_all(cells: &mut Cells, groups: &mut Vec<Group>, worker: usize
     requires rows { All (λ l. is_fold l.mode ≡ true → IsSome (copy_among (summeds_of groups.old.items) worker l.cell)) lent.now }
     ensures stored { AreStored lent.now (cell_of cells.old) (cell_of cells.new) }
     ensures back { summeds_of groups.new.items ≡ all_back worker lent.now (summeds_of groups.old.items) }
+    ensures small { All (λ l. l.value < 2 ^ 64) lent.now }
     ensures lengths { lengths cells.new ≡ lengths cells.old }
     ensures made { mades_of groups.new.items ≡ mades_of groups.old.items }
     ensures capacity { vec_capacity groups.new ≡ vec_capacity groups.old }

@@ -35,10 +35,6 @@ returns-in-Some-clause-folded c =
     map-changed summed_of items c.in-Some.i c.index_mut.result.now c.fold.new.self (λ (g : Summed). folded_in c.args.worker c.args.number g (Some c.in-Some.place)) c.index_mut.ensures.value c.fold.ensures.folded
     ∙ sym (subst (λ k. folded c.args.worker c.args.cell c.args.number gs ≡ updated gs k (λ (g : Summed). folded_in c.args.worker c.args.number g (Some c.in-Some.place))) at h.3)
 
-pub returns-in-Some-clause-idle : goal.returns-in-Some-clause-idle
-returns-in-Some-clause-idle c = λ none.
-    map-kept summed_of c.args.groups.now.items c.in-Some.i c.index_mut.result.now c.fold.new.self c.index_mut.ensures.value (c.fold.ensures.idle none)
-
 pub returns-in_default-clause-folded : goal.returns-in_default-clause-folded
 returns-in_default-clause-folded c =
     let gone = no_holder c.args.worker c.args.cell 0 (summeds_of c.args.groups.now.items)
