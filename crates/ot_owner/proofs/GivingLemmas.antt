@@ -122,7 +122,7 @@ module _ (w : ℕ) (lent : List LentCell) (gs : List Summed) (order : AreInOrder
         (λ n. changed (λ m. m) o k d within folds (λ m hs only at s. worth-idle w l.value l.cell o unit m hs only at s) n);
     others = λ other away. ap (λ o. option_map (worth_over (all_back w lent gs) other) o) (stored.others other away)
         ∙ same_worth (worth_over (all_back w lent gs) other) (worth_over gs other) (st other)
-        (λ n. back-other w lent gs other (λ k d within folds same. away (k, get_or lent k d, within, get_or_default lent k d (get_or lent k d) within, same)) n);
+        (λ n. back-other w lent gs other (λ k d within folds same. away (k, get_or lent k d, within, sym (get_or_default lent k d (get_or lent k d) within), same)) n);
   }
 
 stored-push : (lent : List LentCell) (x : LentCell) (before mid after : Cell → Option ℕ) → AreStored lent before mid → All (λ l. l.cell ≢ x.cell) lent
