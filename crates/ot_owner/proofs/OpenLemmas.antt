@@ -11,7 +11,7 @@ use Rattle.std.proofs.lemmas.List.{length-map, length-replicate, get_or_default,
 use Rattle.std.proofs.lemmas.List.Sorted.{All-permutation}
 use Rattle.std.proofs.lemmas.Option.{same_Some}
 use Rattle.std.proofs.Math.ListN.{get_or-map}
-use Rattle.ot_model.specs.Cells.{cell_of, updated}
+use Rattle.ot_model.specs.Cells.{updated}
 use Rattle.ot_model.specs.Joining.{join_by, unit_of}
 use Rattle.ot_model.specs.Uses.{joined as join, is_fold, conflicts, Conflict}
 use Rattle.ot_model.specs.declared.expr.Cell.{Cell}
@@ -25,7 +25,7 @@ use Rattle.ot_owner.specs.Back.{taken_back, all_back}
 use Rattle.ot_owner.specs.Keeping.{IsRegular, HasCopies, IsSound}
 use Rattle.ot_owner.specs.Lending.{use_of, uses_of}
 use Rattle.ot_owner.specs.Kept.{summed_of, summeds_of}
-use Rattle.ot_owner.specs.Owning.{Loan, Owned, IsFreeFor}
+use Rattle.ot_owner.specs.Owning.{Loan, IsFreeFor}
 use Rattle.ot_owner.specs.Rows.{Summed, is_of, place_in, names, IsSummed, IsSummedBy, IsOnlyBy, IsByOne, folds_in, copy_in, row_in, copies_at, copies_where, copies_in, copy_among, folded_in, folded, begun_row, begun_in, begun_for, without}
 use Rattle.ot_owner.specs.Worth.{combined, worth_over, closed_over, AreJoined}
 use Rattle.ot_owner.specs.declared.rows.Group.{Group}
