@@ -1,13 +1,15 @@
 -- What the clauses of a task declare: cells in order, each once, with one mode (docs/LANGUAGE.md, "Forms", on
 -- declarations).
-use Rattle.std.specs.Prelude.{Bool, ◌&&◌, ◌||◌, if◌then◌else◌, List, [], ◌∷◌, map, flat_map, fold}
+use Rattle.std.specs.Prelude.{Bool, not, ◌&&◌, if◌then◌else◌, List, [], ◌∷◌, map, flat_map, fold}
 use Rattle.std.specs.List.{list_any}
 use Rattle.ot_model.specs.Cells.{same_cell, is_before}
-use Rattle.ot_model.specs.Uses.{same_mode}
+use Rattle.ot_model.specs.Uses.{is_fold, same_mode}
 use Rattle.ot_model.specs.Value.{cells_of}
 use Rattle.ot_model.specs.declared.expr.Cell.{Cell}
+use Rattle.ot_model.specs.declared.fold.Fold.{Fold}
+use Rattle.ot_model.specs.declared.fold.Fold.TheVariants.{Plus}
 use Rattle.ot_model.specs.declared.stmt.Mode.{Mode}
-use Rattle.ot_model.specs.declared.stmt.Mode.TheVariants.{Reads, Writes, Adds}
+use Rattle.ot_model.specs.declared.stmt.Mode.TheVariants.{Reads, Writes, Folds}
 use Rattle.ot_model.specs.declared.stmt.Use.{Use}
 use Rattle.ot_program.specs.Meanings.{Clause}
 
@@ -24,17 +26,34 @@ named_cells clauses = fold placed [] (flat_map (λ clause. cells_of clause.secti
 
 -- ---- the modes
 
+-- whether a clause names the cell
+abbrev pub names : Cell → Clause → Bool
+names c clause = list_any (same_cell c) (cells_of clause.section)
+
 -- whether a clause of this mode names the cell
 abbrev pub named_as : Mode → List Clause → Cell → Bool
-named_as mode clauses c = list_any (λ clause. list_any (same_cell c) (cells_of clause.section) && same_mode mode clause.mode) clauses
+named_as mode clauses c = list_any (λ clause. names c clause && same_mode mode clause.mode) clauses
 
--- Writes where some clause writes, else Reads where some clause reads, else Adds
+abbrev pub fold_or : Mode → Fold → Fold
+fold_or (Folds op) other = op
+fold_or mode other = other
+
+-- what the first clause that folds the cell folds it by
+abbrev pub fold_among : List Clause → Cell → Fold
+fold_among [] c = Plus
+fold_among (clause ∷ rest) c = if names c clause then fold_or clause.mode (fold_among rest c) else fold_among rest c
+
+-- Writes where some clause writes, else Reads where some clause reads, else the fold of the first
 abbrev pub mode_among : List Clause → Cell → Mode
-mode_among clauses c = if named_as Writes clauses c then Writes else (if named_as Reads clauses c then Reads else Adds)
+mode_among clauses c = if named_as Writes clauses c then Writes else (if named_as Reads clauses c then Reads else Folds (fold_among clauses c))
 
--- a cell under `red` and another kind
+-- a clause that folds the cell, and one that names it with another mode, by another operation or by none
+abbrev pub differ : Cell → Clause → Clause → Bool
+differ c one two = names c one && names c two && is_fold one.mode && not (same_mode one.mode two.mode)
+
+-- a cell under `red` and another kind, or under `red` with two operations
 abbrev pub is_mixed : List Clause → Cell → Bool
-is_mixed clauses c = named_as Adds clauses c && (named_as Writes clauses c || named_as Reads clauses c)
+is_mixed clauses c = list_any (λ one. list_any (differ c one) clauses) clauses
 
 abbrev pub uses : List Clause → List Use
 uses clauses = map (λ c. record { cell = c; mode = mode_among clauses c }) (named_cells clauses)
