@@ -1,7 +1,8 @@
 -- What the clauses of a task declare: cells in order, each once, with one mode (docs/LANGUAGE.md, "Forms", on
 -- declarations).
-use Rattle.std.specs.Prelude.{Bool, not, ◌&&◌, if◌then◌else◌, List, [], ◌∷◌, map, flat_map, fold}
+use Rattle.std.specs.Prelude.{Bool, not, ◌&&◌, if◌then◌else◌, List, [], ◌∷◌, map, flat_map, fold, Option, Some, None, unwrap_or}
 use Rattle.std.specs.List.{list_any}
+use Rattle.std.specs.Option.{option_or}
 use Rattle.ot_model.specs.Cells.{same_cell, is_before}
 use Rattle.ot_model.specs.Uses.{is_fold, same_mode}
 use Rattle.ot_model.specs.Value.{cells_of}
@@ -34,26 +35,29 @@ names c clause = list_any (same_cell c) (cells_of clause.section)
 abbrev pub named_as : Mode → List Clause → Cell → Bool
 named_as mode clauses c = list_any (λ clause. names c clause && same_mode mode clause.mode) clauses
 
-abbrev pub fold_or : Mode → Fold → Fold
-fold_or (Folds op) other = op
-fold_or mode other = other
+abbrev pub fold_in : Mode → Option Fold
+fold_in (Folds op) = Some op
+fold_in mode = None
 
 -- what the first clause that folds the cell folds it by
-abbrev pub fold_among : List Clause → Cell → Fold
-fold_among [] c = Plus
-fold_among (clause ∷ rest) c = if names c clause then fold_or clause.mode (fold_among rest c) else fold_among rest c
+abbrev pub first_fold : List Clause → Cell → Option Fold
+first_fold [] c = None
+first_fold (clause ∷ rest) c = if names c clause then option_or (fold_in clause.mode) (first_fold rest c) else first_fold rest c
 
 -- Writes where some clause writes, else Reads where some clause reads, else the fold of the first
 abbrev pub mode_among : List Clause → Cell → Mode
-mode_among clauses c = if named_as Writes clauses c then Writes else (if named_as Reads clauses c then Reads else Folds (fold_among clauses c))
+mode_among clauses c =
+    if named_as Writes clauses c then Writes else
+    (if named_as Reads clauses c then Reads else Folds (unwrap_or (first_fold clauses c) Plus))
 
--- a clause that folds the cell, and one that names it with another mode, by another operation or by none
-abbrev pub differ : Cell → Clause → Clause → Bool
-differ c one two = names c one && names c two && is_fold one.mode && not (same_mode one.mode two.mode)
+-- a clause names the cell in another mode than this one
+abbrev pub named_otherwise : Mode → List Clause → Cell → Bool
+named_otherwise mode clauses c = list_any (λ clause. names c clause && not (same_mode mode clause.mode)) clauses
 
--- a cell under `red` and another kind, or under `red` with two operations
+-- a clause folds the cell, and another names it in another mode: so it is under `red` and another kind, or under `red` with
+-- two operations
 abbrev pub is_mixed : List Clause → Cell → Bool
-is_mixed clauses c = list_any (λ one. list_any (differ c one) clauses) clauses
+is_mixed clauses c = list_any (λ clause. names c clause && (is_fold clause.mode && named_otherwise clause.mode clauses c)) clauses
 
 abbrev pub uses : List Clause → List Use
 uses clauses = map (λ c. record { cell = c; mode = mode_among clauses c }) (named_cells clauses)

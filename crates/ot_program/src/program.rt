@@ -35,7 +35,7 @@ pub fn read_program(alloc: Global, text: &Value, shape: &Shape) -> Result<Progra
     }
 }
 
-#[tactic(auto, using(crate::proofs::ProgramForms::no_program_but_three))]
+#[tactic(auto, using(crate::proofs::ProgramForms::program_forms))]
 fn program_form(alloc: Global, shape: &Shape, items: &[Value]) -> Result<Program, ProgramFault>
     ensures { Gives expanded_of result (walk_of shape.now (array (items_view items.now))) }
 {
