@@ -295,12 +295,12 @@ none_of test weaker (k ∷ ks) each h =
 not_written : (op : Fold) (b : Bool) (m : Mode) → b && not (same_mode (Folds op) m) ≡ false → b && same_mode Writes m ≡ false
 not_written op false m h = refl
 not_written op true Reads h = refl
-not_written op true Writes h = sym h
+not_written op true Writes h = h
 not_written op true (Folds p) h = refl
 
 not_read : (op : Fold) (b : Bool) (m : Mode) → b && not (same_mode (Folds op) m) ≡ false → b && same_mode Reads m ≡ false
 not_read op false m h = refl
-not_read op true Reads h = sym h
+not_read op true Reads h = h
 not_read op true Writes h = refl
 not_read op true (Folds p) h = refl
 

@@ -303,6 +303,7 @@ clause_reads shape profile variables (array (item t (item a no_items))) =
     clause_at-reads (mode_of profile t) (section_of shape variables a) (section shape variables a) (section_faults shape variables a) (section_reads shape variables a)
 clause_reads shape Two variables (array (item t (item op (item a no_items)))) =
     clause_at-reads (red_by t op) (section_of shape variables a) (section shape variables a) (section_faults shape variables a) (section_reads shape variables a)
+clause_reads shape One variables (array (item t (item op (item a no_items)))) = reads_no_form 5 _
 clause_reads shape One variables _ = reads_no_form 5 _
 clause_reads shape Two variables _ = reads_no_form 5 _
 

@@ -4,7 +4,7 @@ use Rattle.serde_json.specs.View.{view}
 use Rattle.serde_json.specs.declared.value.Value.{the_lemmas}
 use Rattle.ot_model.specs.Tree.{Task, Group}
 use Rattle.ot_program.specs.walk.Variables.{bindings_of}
-use Rattle.ot_program.specs.walk.Statements.{declared_of, grouped_of, body_in}
+use Rattle.ot_program.specs.walk.Statements.{condition_of, declared_of, grouped_of, body_in}
 use Rattle.ot_program.proofs.Fronts.{added_behind_none, front_none, all_step, all_fails, all_ends, put_behind}
 use Rattle.ot_program.proofs.Seen.{array_seen, stmt_of-If, stmt_of-Task, stmt_of-Group}
 use Rattle.ot_program.proofs.Turns.{turns_step, turns_fail, turns_end}
@@ -17,7 +17,7 @@ unfolding body_in
 read_body-returns-in-Array t c = rw (array_seen _ _ _ c.in-Array.is c.deref.ensures.value) c.read_all.ensures
 
 pub read_body-returns-in_default : goal.read_body-returns-in_default
-read_body-returns-in_default t c = no_list-body _ _ _ _ _ c.in_default.not-Array
+read_body-returns-in_default t c = no_list-body _ _ _ _ _ _ c.in_default.not-Array
 
 pub read_all-loop-statement-init : goal.read_all-loop-statement-init
 read_all-loop-statement-init t c = front_none _ _
@@ -44,7 +44,7 @@ pub read_one-returns-in-Array : goal.read_one-returns-in-Array
 read_one-returns-in-Array t c = rw (array_seen _ _ _ c.in-Array.is c.deref.ensures.value) c.read_form.ensures
 
 pub read_one-returns-in_default : goal.read_one-returns-in_default
-read_one-returns-in_default t c = no_list-one _ _ _ _ _ c.in_default.not-Array
+read_one-returns-in_default t c = no_list-one _ _ _ _ _ _ c.in_default.not-Array
 
 pub read_form-returns-in-len1 : goal.read_form-returns-in-len1
 read_form-returns-in-len1 t c =
@@ -131,33 +131,45 @@ read_four-read_inner-requires-2 t c = (search (rules, the_lemmas), c.in_ok-condi
 pub read_four-returns-in_err-condition : goal.read_four-returns-in_err-condition
 read_four-returns-in_err-condition t c =
     let scope = c.args.scope.now in
+    let own = condition_of scope.shape.now (bindings_of scope.variables.now) scope.level (view c.one-item.result) (view c.two-item.result) (view c.three-item.result) in
+    let one = body_in scope.shape.now scope.profile (scope.level + 1) (view c.two-item.result) (bindings_of scope.variables.now) in
+    let two = body_in scope.shape.now scope.profile (scope.level + 1) (view c.three-item.result) (bindings_of scope.variables.now) in
     let p = err_from_is_err_and c.from_residual.result c.from_residual.ensures.1 in
     rw (p.1, p.2, form_if scope.shape.now scope.profile scope.level c.args.items.now (bindings_of scope.variables.now) c.args.counts.now _ _ _ _ c.requires
     c.tag-item.is c.one-item.is c.two-item.is c.three-item.is (sym c.if-two_has.ensures) (sym c.if-two_has-2.ensures) (sym c.if-not-is_word.ensures))
-    (if_fails_condition _ _ _ _ _ c.in_err-condition.ensures.reads)
+    (if_fails_condition own one two c.args.counts.now _ c.in_err-condition.ensures.reads)
 
 pub read_four-returns-in_err-first : goal.read_four-returns-in_err-first
 read_four-returns-in_err-first t c =
     let scope = c.args.scope.now in
+    let own = condition_of scope.shape.now (bindings_of scope.variables.now) scope.level (view c.one-item.result) (view c.two-item.result) (view c.three-item.result) in
+    let one = body_in scope.shape.now scope.profile (scope.level + 1) (view c.two-item.result) (bindings_of scope.variables.now) in
+    let two = body_in scope.shape.now scope.profile (scope.level + 1) (view c.three-item.result) (bindings_of scope.variables.now) in
     let p = err_from_is_err_and c.from_residual-in_err-first.result c.from_residual-in_err-first.ensures.1 in
     rw (p.1, p.2, form_if scope.shape.now scope.profile scope.level c.args.items.now (bindings_of scope.variables.now) c.args.counts.now _ _ _ _ c.requires
     c.tag-item.is c.one-item.is c.two-item.is c.three-item.is (sym c.if-two_has.ensures) (sym c.if-two_has-2.ensures) (sym c.if-not-is_word.ensures))
-    (if_fails_first _ _ _ _ _ _ _ c.in_ok-condition.ensures.reads c.in_err-first.ensures)
+    (if_fails_first own one two c.args.counts.now _ _ _ c.in_ok-condition.ensures.reads c.in_err-first.ensures)
 
 pub read_four-returns-in_err-second : goal.read_four-returns-in_err-second
 read_four-returns-in_err-second t c =
     let scope = c.args.scope.now in
+    let own = condition_of scope.shape.now (bindings_of scope.variables.now) scope.level (view c.one-item.result) (view c.two-item.result) (view c.three-item.result) in
+    let one = body_in scope.shape.now scope.profile (scope.level + 1) (view c.two-item.result) (bindings_of scope.variables.now) in
+    let two = body_in scope.shape.now scope.profile (scope.level + 1) (view c.three-item.result) (bindings_of scope.variables.now) in
     let p = err_from_is_err_and c.from_residual-in_err-second.result c.from_residual-in_err-second.ensures.1 in
     rw (p.1, p.2, form_if scope.shape.now scope.profile scope.level c.args.items.now (bindings_of scope.variables.now) c.args.counts.now _ _ _ _ c.requires
     c.tag-item.is c.one-item.is c.two-item.is c.three-item.is (sym c.if-two_has.ensures) (sym c.if-two_has-2.ensures) (sym c.if-not-is_word.ensures))
-    (if_fails_second _ _ _ _ _ _ _ _ _ c.in_ok-condition.ensures.reads c.in_ok-first.ensures c.in_err-second.ensures)
+    (if_fails_second own one two c.args.counts.now _ _ _ _ _ c.in_ok-condition.ensures.reads c.in_ok-first.ensures c.in_err-second.ensures)
 
 pub read_four-returns : goal.read_four-returns
 read_four-returns t c =
     let scope = c.args.scope.now in
+    let own = condition_of scope.shape.now (bindings_of scope.variables.now) scope.level (view c.one-item.result) (view c.two-item.result) (view c.three-item.result) in
+    let one = body_in scope.shape.now scope.profile (scope.level + 1) (view c.two-item.result) (bindings_of scope.variables.now) in
+    let two = body_in scope.shape.now scope.profile (scope.level + 1) (view c.three-item.result) (bindings_of scope.variables.now) in
     rw (form_if scope.shape.now scope.profile scope.level c.args.items.now (bindings_of scope.variables.now) c.args.counts.now _ _ _ _ c.requires
     c.tag-item.is c.one-item.is c.two-item.is c.three-item.is (sym c.if-two_has.ensures) (sym c.if-two_has-2.ensures) (sym c.if-not-is_word.ensures),
-    if_reads _ _ _ c.args.counts.now _ _ _ _ _ _ c.in_ok-condition.ensures.reads c.in_ok-first.ensures c.in_ok-second.ensures)
+    if_reads own one two c.args.counts.now _ _ _ _ _ _ c.in_ok-condition.ensures.reads c.in_ok-first.ensures c.in_ok-second.ensures)
     (record { added = _; is = refl; list = put_behind _ _ _ _ c.in_ok-push.ensures.items (stmt_of-If _ _ _) })
 
 pub read_task-returns-in_err-decl : goal.read_task-returns-in_err-decl
