@@ -1,5 +1,5 @@
 -- What holds of each program that is accepted.
-use Rattle.std.proofs.Common.{◌≡◌, ℕ, ◌+◌, List, [], ◌∷◌, ◌++◌, map, Option, Some, None, IfOk, refl, sym, ap, ◌∙◌, arith, append-nil}
+use Rattle.std.proofs.Common.{◌≡◌, List, [], ◌++◌, map, Option, Some, None, IfOk, refl, sym, ap, ◌∙◌, arith, append-nil}
 use Rattle.std.proofs.lemmas.List.Elements.{All-from_recursion}
 use Rattle.serde_json.specs.Data.{Data, array, no_items, item}
 use Rattle.ot_model.specs.Names.{FitsShape}
@@ -8,7 +8,7 @@ use Rattle.ot_model.specs.Shapes.{Arrays, AreShort, array_lengths}
 use Rattle.ot_program.specs.declared.fault.Refusal.{Refusal}
 use Rattle.ot_program.specs.declared.profile.Profile.{Profile}
 use Rattle.ot_program.specs.Accepted.{IsSmall}
-use Rattle.ot_program.specs.Copies.{Placed, copies, in_copy, in_order, statement_of, statements_of}
+use Rattle.ot_program.specs.Copies.{Placed, copies, in_copy, in_order, statement_of}
 use Rattle.ot_program.specs.Faults.{no_list, list_faults, section_faults, nested}
 use Rattle.ot_program.specs.Limits.{cells_in, tally, plus, total}
 use Rattle.ot_program.specs.Meanings.{items, section}

@@ -1,5 +1,5 @@
 -- What a statement with bodies is read as, where its parts are known.
-use Rattle.std.proofs.Common.{◌≡◌, ◌∙◌, ℕ, ◌+◌, true, List, [], ◌∷◌, length, get_or, Result, Ok, Err, codes, refl}
+use Rattle.std.proofs.Common.{◌≡◌, ◌∙◌, ℕ, true, List, [], ◌∷◌, length, get_or, Result, Ok, Err, codes, refl}
 use Rattle.std.specs.Prelude.{⊤, IsErrAnd}
 use Rattle.serde_json.specs.Data.{Data, string, array}
 use Rattle.serde_json.specs.View.{view, items_view}

@@ -1,7 +1,7 @@
 -- Where no statement has a fault, each cell that the tree names is in the shape.
-use Rattle.std.proofs.Common.{◌≡◌, ℕ, zero, suc, ◌+◌, ◌<◌, ◌≤◌, ◌^◌, Bool, true, false, cond, ◌||◌, List, [], ◌∷◌, ◌++◌, map, Option, Some, None, IfOk, nat_le, nat_lt, nat_eq, codes, refl, sym, ap, ◌∙◌, arith, All}
+use Rattle.std.proofs.Common.{◌≡◌, ℕ, zero, suc, ◌+◌, ◌<◌, ◌≤◌, ◌^◌, Bool, true, false, cond, ◌||◌, List, [], ◌∷◌, ◌++◌, map, Option, Some, nat_le, nat_lt, nat_eq, codes, refl, sym, ap, ◌∙◌, arith}
 use Rattle.std.specs.Prelude.{slice_get, find, fold, flat_map, option_map, unwrap_or, is_some, not}
-use Rattle.std.specs.List.{list_any, position_or_len, range_with_len, AllByRecursion}
+use Rattle.std.specs.List.{list_any, range_with_len, AllByRecursion}
 use Rattle.std.proofs.lemmas.Bool.{ltb-true, leb-true, eqb-false}
 use Rattle.std.proofs.lemmas.List.Elements.{recursion_from_All, All-from_recursion}
 use Rattle.std.proofs.lemmas.List.Folds.{find_at}
@@ -10,17 +10,17 @@ use Rattle.serde_json.specs.Data.{Data, number, string, array, Items, no_items, 
 use Rattle.ot_model.specs.Cells.{same_cell, is_before}
 use Rattle.ot_model.specs.Names.{IsInShape, FitsShape, AreInShape, AreDeclaredIn, ValueNamedIn, NamedIn}
 use Rattle.ot_model.specs.Shapes.{Arrays, AreShort, array_lengths}
-use Rattle.ot_model.specs.Tree.{E, CellAt, Apply, PickFrom, S, body_of}
+use Rattle.ot_model.specs.Tree.{CellAt, Apply, PickFrom, S, body_of}
 use Rattle.ot_model.specs.Value.{cell_at, cells_of}
 use Rattle.ot_model.specs.declared.expr.Cell.{Cell}
 use Rattle.ot_model.specs.declared.expr.Op.TheVariants.{Plus}
 use Rattle.ot_model.specs.declared.expr.Section.{Section}
 use Rattle.ot_model.specs.declared.stmt.Use.{Use}
 use Rattle.ot_program.specs.declared.fault.Refusal.{Refusal}
-use Rattle.ot_program.specs.declared.fault.Refusal.TheVariants.{Form, Size, UnknownArray, OutOfRange, EmptySection}
+use Rattle.ot_program.specs.declared.fault.Refusal.TheVariants.{Form, UnknownArray, OutOfRange, EmptySection}
 use Rattle.ot_program.specs.declared.profile.Profile.{Profile}
 use Rattle.ot_program.specs.declared.profile.Profile.TheVariants.{One, Two}
-use Rattle.ot_program.specs.Copies.{Text, SetText, AddText, FoldText, IfText, ForText, Turn, TaskText, WaitText, GroupText, GroupByText, ProgramText, NoForm, Placed, Copy, At, Copies, Done, Then, in_copy, in_order, statement, statement_of, statements_of}
+use Rattle.ot_program.specs.Copies.{Text, SetText, AddText, FoldText, IfText, ForText, Turn, TaskText, WaitText, GroupText, GroupByText, ProgramText, NoForm, Copy, At, Copies, Done, Then, in_copy, in_order, statement, statement_of, statements_of}
 use Rattle.ot_program.specs.Declarations.{placed, named_cells, mode_among, uses}
 use Rattle.ot_program.specs.Faults.{unless, no_list, list_faults, deep, name_faults, size_faults, array_faults, indexed_faults, cell_faults, section_faults, value_faults, expression_faults, clause_faults, fold_faults, nested, text_faults}
 use Rattle.ot_program.specs.Limits.{size_depth, depth_of}

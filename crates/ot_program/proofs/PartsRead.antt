@@ -1,6 +1,6 @@
 -- A part of a statement is read as what it denotes, or the first of its faults is told.
 use Rattle.std.proofs.Common.{◌≡◌, ℕ, suc, ◌+◌, ◌-◌, ◌*◌, ◌^◌, ◌≤◌, Bool, true, false, cond, ◌||◌, List, [], ◌∷◌, ◌++◌, map, Option, Some, None, Result, Ok, Err, nat_le, nat_lt, nat_eq, bytes_eq, codes, refl, sym, ap, ◌∙◌, subst, arith, zero-add, add-zero}
-use Rattle.std.specs.Prelude.{is_some, not, unwrap_or, option_map, find, flat_map}
+use Rattle.std.specs.Prelude.{is_some, not, unwrap_or, option_map, find}
 use Rattle.std.specs.List.{list_any, position_or_len}
 use Rattle.serde_json.specs.Data.{Data, number, string, array, no_items, item}
 use Rattle.ot_model.specs.Shapes.{Arrays}
@@ -18,7 +18,7 @@ use Rattle.ot_program.specs.declared.fault.Refusal.TheVariants.{Form, Size, Unkn
 use Rattle.ot_program.specs.declared.profile.Profile.{Profile}
 use Rattle.ot_program.specs.declared.profile.Profile.TheVariants.{One, Two}
 use Rattle.ot_program.specs.Limits.{max_depth, size_depth, depth_of}
-use Rattle.ot_program.specs.Meanings.{each, items, letters, Bindings, bound, sign_of, op_of, mode_of, red_by, in_range, exact, size, is_called, position_of, length_of, indexed, cell, section, value, clause}
+use Rattle.ot_program.specs.Meanings.{each, items, Bindings, bound, sign_of, op_of, mode_of, red_by, in_range, exact, size, is_called, position_of, indexed, cell, section, value, clause}
 use Rattle.ot_program.specs.Names.{whole_number, is_name, is_word}
 use Rattle.ot_program.specs.Faults.{unless, list_faults, deep, variable_faults, size_faults, array_faults, indexed_faults, cell_faults, section_faults, value_faults, expression_faults, clause_faults}
 use Rattle.ot_program.specs.walk.Reading.{◌>>=◌, both_of}

@@ -1,6 +1,6 @@
 -- What a text is read as, where a program is wanted.
-use Rattle.std.proofs.Common.{◌≡◌, ℕ, ◌+◌, ◌-◌, ◌^◌, ◌<◌, ◌≤◌, min, Bool, true, false, cond, ◌&&◌, List, [], ◌∷◌, length, get_or, Result, Ok, Err, nat_le, refl, sym, arith, inl, inr}
-use Rattle.std.specs.Prelude.{⊤, ◌≢◌}
+use Rattle.std.proofs.Common.{◌≡◌, ℕ, ◌+◌, ◌-◌, ◌^◌, ◌<◌, min, Bool, true, false, cond, ◌&&◌, List, [], ◌∷◌, length, get_or, Ok, Err, nat_le, refl, sym, arith, inl, inr}
+use Rattle.std.specs.Prelude.{◌≢◌}
 use Rattle.std.proofs.lemmas.Bool.{cases_lt, lt-leb}
 use Rattle.serde_json.specs.Data.{Data, array}
 use Rattle.serde_json.specs.View.{view, items_view}
@@ -16,7 +16,7 @@ use Rattle.ot_program.specs.declared.profile.Profile.{Profile}
 use Rattle.ot_program.specs.Limits.{max_statements, max_nodes, max_cells, cells_in}
 use Rattle.ot_program.specs.Profiles.{profile_of}
 use Rattle.ot_program.specs.Returned.{Fails}
-use Rattle.ot_program.specs.walk.Reading.{◌>>=◌, both_of}
+use Rattle.ot_program.specs.walk.Reading.{both_of}
 use Rattle.ot_program.specs.walk.Counting.{no_counts, counted, within_limits}
 use Rattle.ot_program.specs.walk.Parts.{sections_of}
 use Rattle.ot_program.specs.walk.Statements.{list_of, body_in}

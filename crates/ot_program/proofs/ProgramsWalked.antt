@@ -1,5 +1,5 @@
 -- The walk over a program tells what the definition tells.
-use Rattle.std.proofs.Common.{◌≡◌, ℕ, ◌+◌, ◌≤◌, true, List, [], ◌∷◌, ◌++◌, map, Option, Some, None, Result, Ok, Err, nat_le, refl, sym, ap, ◌∙◌, arith, append-nil}
+use Rattle.std.proofs.Common.{◌≡◌, ℕ, ◌+◌, ◌≤◌, true, List, [], ◌∷◌, ◌++◌, map, Option, Some, None, Result, Ok, nat_le, refl, sym, ap, ◌∙◌, arith, append-nil}
 use Rattle.std.specs.Prelude.{⊤}
 use Rattle.std.proofs.lemmas.Bool.{le-leb}
 use Rattle.serde_json.specs.Data.{Data, array, no_items, item}
@@ -15,7 +15,7 @@ use Rattle.ot_program.specs.declared.fault.Refusal.TheVariants.{TooLarge}
 use Rattle.ot_program.specs.declared.profile.Profile.{Profile}
 use Rattle.ot_program.specs.Copies.{ProgramText, Placed, copies, in_copy, in_order, statement_of, statements_of}
 use Rattle.ot_program.specs.Faults.{unless, no_list, list_faults, section_faults, nested, past_limits}
-use Rattle.ot_program.specs.Limits.{max_statements, max_cells, cells_in, Tally, tally, plus, total}
+use Rattle.ot_program.specs.Limits.{max_statements, max_cells, cells_in, Tally, tally, plus}
 use Rattle.ot_program.specs.Meanings.{items, section}
 use Rattle.ot_program.specs.Profiles.{profile_of}
 use Rattle.ot_program.specs.Programs.{told, told_or, expansion, program_copy, program_in, program_of}
@@ -32,7 +32,7 @@ use Rattle.ot_program.proofs.PartsFit.{told_ok, read_ok}
 use Rattle.ot_program.proofs.PartsRead.{sections_reads}
 use Rattle.ot_program.proofs.Sized.{sized_copies}
 use Rattle.ot_program.proofs.StatementsRead.{list_reads, past-from}
-use Rattle.ot_program.proofs.Tallies.{nothing, nothing-plus, sum_from, sum_is, faults_at, told_from, told-from, within_by, within_after, within_sum}
+use Rattle.ot_program.proofs.Tallies.{nothing, sum_from, sum_is, faults_at, told_from, told-from, within_by, within_after, within_sum}
 use Rattle.ot_program.proofs.Walked.{follow_by, walked_body}
 
 -- ---- the shows

@@ -1,13 +1,12 @@
 -- What the copies of a text count is what their tree has.
-use Rattle.std.proofs.Common.{◌≡◌, ℕ, zero, suc, ◌+◌, ◌-◌, ◌≤◌, Bool, true, false, cond, ◌&&◌, List, [], ◌∷◌, ◌++◌, map, length, codes, refl, sym, ap, ◌∙◌, arith, length-append}
+use Rattle.std.proofs.Common.{◌≡◌, ℕ, zero, suc, ◌+◌, ◌-◌, ◌≤◌, Bool, true, false, cond, ◌&&◌, List, [], ◌∷◌, ◌++◌, length, codes, refl, arith, length-append}
 use Rattle.std.specs.Prelude.{flat_map}
 use Rattle.std.proofs.lemmas.List.FromFn.{length-map-range_with_len}
 use Rattle.serde_json.specs.Data.{Data, array, Items, no_items, item}
 use Rattle.ot_model.specs.Counts.{size, tasks_in}
 use Rattle.ot_model.specs.Shapes.{Arrays}
-use Rattle.ot_model.specs.Tree.{E, Literal, CellAt, Apply, PickFrom, S, Set, If, Task, Wait, Group, Body, body_of}
+use Rattle.ot_model.specs.Tree.{E, Literal, CellAt, Apply, PickFrom, S, If, body_of}
 use Rattle.ot_model.specs.Value.{cell_at, cells_of}
-use Rattle.ot_model.specs.declared.expr.Cell.{Cell}
 use Rattle.ot_program.specs.Accepted.{parts, choices, sum_in}
 use Rattle.ot_program.specs.Copies.{SetText, AddText, FoldText, IfText, ForText, Turn, TaskText, WaitText, GroupText, GroupByText, NoForm, Copy, Copies, Done, at, turns, copies, copies_of, copy, in_copy, in_order, statement_of, statements_of}
 use Rattle.ot_program.specs.Limits.{Tally, tally, plus, nodes_of, picked_of, with_value, total}

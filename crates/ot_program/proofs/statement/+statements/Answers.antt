@@ -135,8 +135,12 @@ read_four-returns-in_err-condition t c =
     let one = body_in scope.shape.now scope.profile (scope.level + 1) (view c.two-item.result) (bindings_of scope.variables.now) in
     let two = body_in scope.shape.now scope.profile (scope.level + 1) (view c.three-item.result) (bindings_of scope.variables.now) in
     let p = err_from_is_err_and c.from_residual.result c.from_residual.ensures.1 in
-    rw (p.1, p.2, form_if scope.shape.now scope.profile scope.level c.args.items.now (bindings_of scope.variables.now) c.args.counts.now _ _ _ _ c.requires
-    c.tag-item.is c.one-item.is c.two-item.is c.three-item.is (sym c.if-two_has.ensures) (sym c.if-two_has-2.ensures) (sym c.if-not-is_word.ensures))
+    rw (
+      p.1,
+      p.2,
+      form_if scope.shape.now scope.profile scope.level c.args.items.now (bindings_of scope.variables.now) c.args.counts.now _ _ _ _ c.requires
+          c.tag-item.is c.one-item.is c.two-item.is c.three-item.is (sym c.if-two_has.ensures) (sym c.if-two_has-2.ensures) (sym c.if-not-is_word.ensures),
+    )
     (if_fails_condition own one two c.args.counts.now _ c.in_err-condition.ensures.reads)
 
 pub read_four-returns-in_err-first : goal.read_four-returns-in_err-first
@@ -146,8 +150,12 @@ read_four-returns-in_err-first t c =
     let one = body_in scope.shape.now scope.profile (scope.level + 1) (view c.two-item.result) (bindings_of scope.variables.now) in
     let two = body_in scope.shape.now scope.profile (scope.level + 1) (view c.three-item.result) (bindings_of scope.variables.now) in
     let p = err_from_is_err_and c.from_residual-in_err-first.result c.from_residual-in_err-first.ensures.1 in
-    rw (p.1, p.2, form_if scope.shape.now scope.profile scope.level c.args.items.now (bindings_of scope.variables.now) c.args.counts.now _ _ _ _ c.requires
-    c.tag-item.is c.one-item.is c.two-item.is c.three-item.is (sym c.if-two_has.ensures) (sym c.if-two_has-2.ensures) (sym c.if-not-is_word.ensures))
+    rw (
+      p.1,
+      p.2,
+      form_if scope.shape.now scope.profile scope.level c.args.items.now (bindings_of scope.variables.now) c.args.counts.now _ _ _ _ c.requires
+          c.tag-item.is c.one-item.is c.two-item.is c.three-item.is (sym c.if-two_has.ensures) (sym c.if-two_has-2.ensures) (sym c.if-not-is_word.ensures),
+    )
     (if_fails_first own one two c.args.counts.now _ _ _ c.in_ok-condition.ensures.reads c.in_err-first.ensures)
 
 pub read_four-returns-in_err-second : goal.read_four-returns-in_err-second
@@ -157,8 +165,12 @@ read_four-returns-in_err-second t c =
     let one = body_in scope.shape.now scope.profile (scope.level + 1) (view c.two-item.result) (bindings_of scope.variables.now) in
     let two = body_in scope.shape.now scope.profile (scope.level + 1) (view c.three-item.result) (bindings_of scope.variables.now) in
     let p = err_from_is_err_and c.from_residual-in_err-second.result c.from_residual-in_err-second.ensures.1 in
-    rw (p.1, p.2, form_if scope.shape.now scope.profile scope.level c.args.items.now (bindings_of scope.variables.now) c.args.counts.now _ _ _ _ c.requires
-    c.tag-item.is c.one-item.is c.two-item.is c.three-item.is (sym c.if-two_has.ensures) (sym c.if-two_has-2.ensures) (sym c.if-not-is_word.ensures))
+    rw (
+      p.1,
+      p.2,
+      form_if scope.shape.now scope.profile scope.level c.args.items.now (bindings_of scope.variables.now) c.args.counts.now _ _ _ _ c.requires
+          c.tag-item.is c.one-item.is c.two-item.is c.three-item.is (sym c.if-two_has.ensures) (sym c.if-two_has-2.ensures) (sym c.if-not-is_word.ensures),
+    )
     (if_fails_second own one two c.args.counts.now _ _ _ _ _ c.in_ok-condition.ensures.reads c.in_ok-first.ensures c.in_err-second.ensures)
 
 pub read_four-returns : goal.read_four-returns
@@ -167,9 +179,11 @@ read_four-returns t c =
     let own = condition_of scope.shape.now (bindings_of scope.variables.now) scope.level (view c.one-item.result) (view c.two-item.result) (view c.three-item.result) in
     let one = body_in scope.shape.now scope.profile (scope.level + 1) (view c.two-item.result) (bindings_of scope.variables.now) in
     let two = body_in scope.shape.now scope.profile (scope.level + 1) (view c.three-item.result) (bindings_of scope.variables.now) in
-    rw (form_if scope.shape.now scope.profile scope.level c.args.items.now (bindings_of scope.variables.now) c.args.counts.now _ _ _ _ c.requires
-    c.tag-item.is c.one-item.is c.two-item.is c.three-item.is (sym c.if-two_has.ensures) (sym c.if-two_has-2.ensures) (sym c.if-not-is_word.ensures),
-    if_reads own one two c.args.counts.now _ _ _ _ _ _ c.in_ok-condition.ensures.reads c.in_ok-first.ensures c.in_ok-second.ensures)
+    rw (
+      form_if scope.shape.now scope.profile scope.level c.args.items.now (bindings_of scope.variables.now) c.args.counts.now _ _ _ _ c.requires
+          c.tag-item.is c.one-item.is c.two-item.is c.three-item.is (sym c.if-two_has.ensures) (sym c.if-two_has-2.ensures) (sym c.if-not-is_word.ensures),
+      if_reads own one two c.args.counts.now _ _ _ _ _ _ c.in_ok-condition.ensures.reads c.in_ok-first.ensures c.in_ok-second.ensures,
+    )
     (record { added = _; is = refl; list = put_behind _ _ _ _ c.in_ok-push.ensures.items (stmt_of-If _ _ _) })
 
 pub read_task-returns-in_err-decl : goal.read_task-returns-in_err-decl
