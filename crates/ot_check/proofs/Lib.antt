@@ -24,3 +24,4 @@ pub mod ApartLemmas
 pub mod SumLemmas
 pub mod TouchLemmas
 pub mod InsideLemmas
+pub mod OneLemmas

@@ -7,3 +7,4 @@ pub mod Jobs
 pub mod walk
 pub mod FirstOffence
 pub mod Laws
+pub mod one

@@ -8,3 +8,4 @@ pub mod NamesLemmas
 pub mod CountsLemmas
 pub mod SerialLemmas
 pub mod SameLemmas
+pub mod OneLemmas

@@ -14,3 +14,4 @@ pub mod Names
 pub mod Runs
 pub mod Programs
 pub mod Code
+pub mod one

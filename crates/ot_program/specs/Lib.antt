@@ -11,3 +11,4 @@ pub mod Returned
 pub mod Printed
 pub mod Accepted
 pub mod walk
+pub mod one
