@@ -160,6 +160,11 @@ impl<'a> Printer<'a> {
         self.reduction(" task_reduction(", op, &sections)
     }
 
+    /// What the operation of a reduction is called in a clause: `+`, or `max`.
+    pub fn operation(&mut self, op: Fold) -> Result<(), AllocError> {
+        self.words(identifier(op))
+    }
+
     /// A clause that names the operation and the cells, if any.
     fn reduction(
         &mut self,
@@ -171,7 +176,7 @@ impl<'a> Printer<'a> {
             return Ok(());
         }
         self.words(words)?;
-        self.words(identifier(op))?;
+        self.operation(op)?;
         self.words(": ")?;
         self.sections(sections)?;
         self.words(")")
