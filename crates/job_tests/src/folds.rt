@@ -9,14 +9,22 @@ use test_reading::job_of;
 /// Workers that each take a piece of the first claimable task, one after another, and the body, over 1, 2, 3. Given
 /// is what the cells hold and what they are worth before the last of these claims, the same behind it, and what is
 /// left in the end: the executed task statements, the units and the cells.
-const SUMS: &str =
+const FOLDS: &str =
     r#"1 1 1 1 1 2 1 1: [["group",[["a",0,1]],[["task",[["red",["a",0,1]]],[["add",["c","a",0],18446744073709551615]]],["task",[["red",["a",0,1]]],[["add",["c","a",0],1]]],["task",[["red",["a",0,1]]],[["add",["c","a",0],5]]]]]] gives [1, 2, 3] [6, 2, 3], [6, 2, 3] [6, 2, 3], 3 7 [6, 2, 3]
 4 3 2 1 16 16 16 9: [["group",[["a",0,1]],[["task",[["red",["a",0,1]]],[["add",["c","a",0],18446744073709551615]]],["task",[["red",["a",0,1]]],[["add",["c","a",0],1]]],["task",[["red",["a",0,1]]],[["add",["c","a",0],5]]]]]] gives [1, 2, 3] [6, 2, 3], [6, 2, 3] [6, 2, 3], 3 7 [6, 2, 3]
 1 1 1 1 1: [["group",[["a",0,1]],[["task",[["red",["a",0,1]]],[["add",["c","a",0],18446744073709551615]]],["task",[["red",["a",0,1]]],[["add",["c","a",0],1]]],["task",[["red",["a",0,1]]],[["add",["c","a",0],5]]]]]] gives [1, 2, 3] [1, 2, 3], [1, 2, 3] [1, 2, 3], 3 7 [6, 2, 3]
 1 1 1 1 1 2: [["group",[["a",0,1]],[["task",[["red",["a",0,1]]],[["add",["c","a",0],18446744073709551615]]],["task",[["red",["a",0,1]]],[["add",["c","a",0],1]]],["task",[["red",["a",0,1]]],[["add",["c","a",0],5]]]]]] gives [1, 2, 3] [0, 2, 3], [1, 2, 3] [0, 2, 3], 3 7 [6, 2, 3]
 1 1 1 1 2 1 3: [["group",[["a",0,1]],[["task",[["red",["a",0,1]]],[["task",[["red",["a",0,1]]],[["add",["c","a",0],4]]],["add",["c","a",0],3],["wait"]]]]]] gives [1, 2, 3] [8, 2, 3], [8, 2, 3] [8, 2, 3], 2 6 [8, 2, 3]
 1 1 2 3: [["group",[["a",0,1]],[["task",[["red",["a",0,1]]],[["add",["c","a",0],5]]]]],["set",["c","a",1],["c","a",0]]] gives [1, 2, 3] [6, 2, 3], [6, 2, 3] [6, 2, 3], 1 4 [6, 6, 3]
-1 1 1 2 1: [["group",[["a",0,1]],[["group",[["a",1,1]],[["task",[["red",["a",0,2]]],[["add",["c","a",0],4],["add",["c","a",1],5]]]]]]]] gives [1, 2, 3] [5, 7, 3], [1, 7, 3] [5, 7, 3], 1 5 [5, 7, 3]"#;
+1 1 1 2 1: [["group",[["a",0,1]],[["group",[["a",1,1]],[["task",[["red",["a",0,2]]],[["add",["c","a",0],4],["add",["c","a",1],5]]]]]]]] gives [1, 2, 3] [5, 7, 3], [1, 7, 3] [5, 7, 3], 1 5 [5, 7, 3]
+4 3 2 1 16 16 16 9: program2 [["group","max",[["a",0,1]],[["task",[["red","max",["a",0,1]]],[["fold","max",["c","a",0],9]]],["task",[["red","max",["a",0,1]]],[["fold","max",["c","a",0],4]]],["task",[["red","max",["a",0,1]]],[["fold","max",["c","a",0],12]]]]]] gives [1, 2, 3] [12, 2, 3], [12, 2, 3] [12, 2, 3], 3 7 [12, 2, 3]
+1 1 1 1 1 2: program2 [["group","max",[["a",0,1]],[["task",[["red","max",["a",0,1]]],[["fold","max",["c","a",0],9]]],["task",[["red","max",["a",0,1]]],[["fold","max",["c","a",0],4]]],["task",[["red","max",["a",0,1]]],[["fold","max",["c","a",0],12]]]]]] gives [1, 2, 3] [9, 2, 3], [1, 2, 3] [9, 2, 3], 3 7 [12, 2, 3]
+1 1 1 1 2 1: program2 [["group","*",[["a",1,1]],[["task",[["red","*",["a",1,1]]],[["fold","*",["c","a",1],5]]],["task",[["red","*",["a",1,1]]],[["fold","*",["c","a",1],9223372036854775809]]]]]] gives [1, 2, 3] [1, 10, 3], [1, 10, 3] [1, 10, 3], 2 5 [1, 10, 3]
+1 1 1 1 2: program2 [["group","&",[["a",2,1]],[["task",[["red","&",["a",2,1]]],[["fold","&",["c","a",2],6]]],["task",[["red","&",["a",2,1]]],[["fold","&",["c","a",2],18446744073709551614]]]]]] gives [1, 2, 3] [1, 2, 2], [1, 2, 3] [1, 2, 2], 2 5 [1, 2, 2]
+1 2 1 16 3 1: program2 [["group","&",[["a",2,1]],[["task",[["red","&",["a",2,1]]],[["fold","&",["c","a",2],6]]],["task",[["red","&",["a",2,1]]],[["fold","&",["c","a",2],18446744073709551614]]]]]] gives [1, 2, 3] [1, 2, 2], [1, 2, 2] [1, 2, 2], 2 5 [1, 2, 2]
+1 1 2 1: program2 [["group","min",[["a",0,3]],[["task",[["red","min",["a",0,3]]],[["fold","min",["c","a",2],1]]]]]] gives [1, 2, 3] [1, 2, 1], [1, 2, 1] [1, 2, 1], 1 3 [1, 2, 1]
+1 1 1 2 3: program2 [["group","*",[["a",0,3]],[["task",[["red","*",["a",0,3]]],[]],["task",[["red","*",["a",0,3]]],[["fold","*",["c","a",1],0]]]]]] gives [1, 2, 3] [1, 2, 3], [1, 2, 3] [1, 2, 3], 2 4 [1, 0, 3]
+1 1 1 2 1: program2 [["group","max",[["a",0,1]],[["group","*",[["a",1,1]],[["task",[["red","max",["a",0,1]],["red","*",["a",1,1]]],[["fold","max",["c","a",0],4],["fold","*",["c","a",1],5]]]]]]]] gives [1, 2, 3] [4, 10, 3], [1, 10, 3] [4, 10, 3], 1 5 [4, 10, 3]"#;
 
 /// What the cells hold and what they are worth.
 fn shown(alloc: Global, job: &ThreeCells) -> Result<String, AllocError> {
@@ -76,7 +84,7 @@ fn is_right(alloc: Global, row: &str) -> bool {
 
 /// The first row of which something else comes.
 fn first_other(alloc: Global) -> Option<&'static str> {
-    for row in SUMS.lines() {
+    for row in FOLDS.lines() {
         if !is_right(alloc, row) {
             return Some(row);
         }
@@ -85,6 +93,6 @@ fn first_other(alloc: Global) -> Option<&'static str> {
 }
 
 #[test]
-fn what_is_added_is_stored_behind_the_end_of_its_group(rt: HostRuntime) {
+fn what_is_folded_is_stored_behind_the_end_of_its_group(rt: HostRuntime) {
     assert_eq!(rt; first_other(rt.alloc()), None);
 }
