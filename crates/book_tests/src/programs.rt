@@ -5,7 +5,8 @@ use ot_model::Shape;
 use std::alloc::{AllocError, Global};
 use test_reading::read;
 
-/// Shows and a body, over `a` of 3 cells and `b` of 5, and the program that is read.
+/// Shows and a body, over `a` of 3 cells and `b` of 5, those of a `program2` behind this word, and the program that is
+/// read.
 const READ: &str = r#"[],[] gives Program { shows: [], body: [], statements: 0, tasks: 0 }
 [["a",0,3]],[["for","i",0,3,[["set",["c","a","i"],["*","i","i"]]]]] gives Program { shows: [Section { array: 0, start: 0, len: 3 }], body: [Set(Cell { array: 0, index: 0 }, Op(Times, Number(0), Number(0))), Set(Cell { array: 0, index: 1 }, Op(Times, Number(1), Number(1))), Set(Cell { array: 0, index: 2 }, Op(Times, Number(2), Number(2)))], statements: 3, tasks: 0 }
 [],[["for","i",0,2,[["for","i",5,6,[["add",["c","a",0],"i"]]],["add",["c","a",1],"i"]]]] gives Program { shows: [], body: [Fold(Plus, Cell { array: 0, index: 0 }, Number(5)), Fold(Plus, Cell { array: 0, index: 1 }, Number(0)), Fold(Plus, Cell { array: 0, index: 0 }, Number(5)), Fold(Plus, Cell { array: 0, index: 1 }, Number(1))], statements: 4, tasks: 0 }
@@ -31,7 +32,11 @@ const READ: &str = r#"[],[] gives Program { shows: [], body: [], statements: 0, 
 [],[["task",[],[]]] gives Program { shows: [], body: [Task(Decl { uses: [] }, [])], statements: 1, tasks: 1 }
 [],[["group",[],[]]] gives Program { shows: [], body: [Group(Plus, [], [])], statements: 1, tasks: 0 }
 [["a",0,3]],[["set",["c","a",0],["pick",["a",0,3],["+",["c","a",1],7]]]] gives Program { shows: [Section { array: 0, start: 0, len: 3 }], body: [Set(Cell { array: 0, index: 0 }, Pick(Section { array: 0, start: 0, len: 3 }, Op(Plus, Cell(Cell { array: 0, index: 1 }), Number(7))))], statements: 1, tasks: 0 }
-[["a",0,3]],[["if",5,[["group",[["a",0,1]],[["task",[["red",["a",0,1]]],[["add",["c","a",0],18446744073709551615]]]]],["wait"]],[["set",["c","a",1],9]]],["add",["c","a",2],["c","a",1]]] gives Program { shows: [Section { array: 0, start: 0, len: 3 }], body: [If(Number(5), [Group(Plus, [Cell { array: 0, index: 0 }], [Task(Decl { uses: [Use { cell: Cell { array: 0, index: 0 }, mode: Folds(Plus) }] }, [Fold(Plus, Cell { array: 0, index: 0 }, Number(18446744073709551615))])]), Wait], [Set(Cell { array: 0, index: 1 }, Number(9))]), Fold(Plus, Cell { array: 0, index: 2 }, Cell(Cell { array: 0, index: 1 }))], statements: 7, tasks: 1 }"#;
+[["a",0,3]],[["if",5,[["group",[["a",0,1]],[["task",[["red",["a",0,1]]],[["add",["c","a",0],18446744073709551615]]]]],["wait"]],[["set",["c","a",1],9]]],["add",["c","a",2],["c","a",1]]] gives Program { shows: [Section { array: 0, start: 0, len: 3 }], body: [If(Number(5), [Group(Plus, [Cell { array: 0, index: 0 }], [Task(Decl { uses: [Use { cell: Cell { array: 0, index: 0 }, mode: Folds(Plus) }] }, [Fold(Plus, Cell { array: 0, index: 0 }, Number(18446744073709551615))])]), Wait], [Set(Cell { array: 0, index: 1 }, Number(9))]), Fold(Plus, Cell { array: 0, index: 2 }, Cell(Cell { array: 0, index: 1 }))], statements: 7, tasks: 1 }
+program2 [],[["fold","max",["c","a",2],9],["fold","*",["c","b",4],["c","a",0]]] gives Program { shows: [], body: [Fold(Max, Cell { array: 0, index: 2 }, Number(9)), Fold(Times, Cell { array: 1, index: 4 }, Cell(Cell { array: 0, index: 0 }))], statements: 2, tasks: 0 }
+program2 [],[["fold","&",["c","a",0],1],["fold","|",["c","a",0],2],["fold","^",["c","a",0],3],["fold","min",["c","a",0],4]] gives Program { shows: [], body: [Fold(And, Cell { array: 0, index: 0 }, Number(1)), Fold(Or, Cell { array: 0, index: 0 }, Number(2)), Fold(Xor, Cell { array: 0, index: 0 }, Number(3)), Fold(Min, Cell { array: 0, index: 0 }, Number(4))], statements: 4, tasks: 0 }
+program2 [],[["add",["c","a",0],5],["fold","+",["c","a",0],5]] gives Program { shows: [], body: [Fold(Plus, Cell { array: 0, index: 0 }, Number(5)), Fold(Plus, Cell { array: 0, index: 0 }, Number(5))], statements: 2, tasks: 0 }
+program2 [],[["group","min",[["a",1,2]],[["wait"]]]] gives Program { shows: [], body: [Group(Min, [Cell { array: 0, index: 1 }, Cell { array: 0, index: 2 }], [Wait])], statements: 2, tasks: 0 }"#;
 
 /// What is read, printed.
 pub(crate) fn printed(alloc: Global, text: &str, shape: &Shape) -> Result<String, AllocError> {
