@@ -1,4 +1,5 @@
 pub mod Names
+pub mod Profiles
 pub mod Meanings
 pub mod Declarations
 pub mod Copies

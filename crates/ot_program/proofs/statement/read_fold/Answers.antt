@@ -6,7 +6,7 @@ use Rattle.ot_program.specs.walk.Statements.{target_of}
 use Rattle.ot_program.specs.walk.Variables.{bindings_of}
 use Rattle.ot_program.proofs.Fronts.{put_behind}
 use Rattle.ot_program.proofs.Joins.{Fails-then}
-use Rattle.ot_program.proofs.statement.read_add.Goals as goal
+use Rattle.ot_program.proofs.statement.read_fold.Goals as goal
 
 pub returns-in_err-cell : goal.returns-in_err-cell
 returns-in_err-cell c =
