@@ -22,7 +22,12 @@ const PAIRS: [(Mode, Mode, bool, bool); 9] = [
     (Mode::Writes, Mode::Folds(Fold::Plus), true, true),
     (Mode::Folds(Fold::Plus), Mode::Reads, true, false),
     (Mode::Folds(Fold::Plus), Mode::Writes, true, true),
-    (Mode::Folds(Fold::Plus), Mode::Folds(Fold::Plus), false, false),
+    (
+        Mode::Folds(Fold::Plus),
+        Mode::Folds(Fold::Plus),
+        false,
+        false,
+    ),
 ];
 
 /// The first two that are something else to each other.

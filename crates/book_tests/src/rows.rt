@@ -294,7 +294,11 @@ fn folded(alloc: Global, groups: &mut Groups, kind: &str) -> Result<(), AllocErr
         "folders of one cell" => fold_each(alloc, groups, [(0, 1, 3), (0, 2, 1), (0, 1, 1)]),
         "folders of two cells" => fold_each(alloc, groups, [(0, 1, 3), (1, 1, 4), (1, 2, 5)]),
         "folders past the end" => {
-            fold_each(alloc, groups, [(0, 1, u64::MAX), (0, 2, 2), (0, 1, u64::MAX)])
+            fold_each(
+                alloc,
+                groups,
+                [(0, 1, u64::MAX), (0, 2, 2), (0, 1, u64::MAX)],
+            )
         }
         "three folders" => fold_each(alloc, groups, [(0, 1, 5), (0, 2, 13), (0, 1, 7)]),
         "two at once" => groups.fold_at_once(alloc),

@@ -72,7 +72,11 @@ impl Page {
     }
 
     fn function(&mut self, op: Op) -> Result<(), AllocError> {
-        if op == Op::Min { self.min() } else { self.max() }
+        if op == Op::Min {
+            self.min()
+        } else {
+            self.max()
+        }
     }
 
     /// The beginning of a call of `min`.

@@ -166,12 +166,7 @@ impl<'a> Printer<'a> {
     }
 
     /// A clause that names the operation and the cells, if any.
-    fn reduction(
-        &mut self,
-        words: &str,
-        op: Fold,
-        sections: &[Section],
-    ) -> Result<(), AllocError> {
+    fn reduction(&mut self, words: &str, op: Fold, sections: &[Section]) -> Result<(), AllocError> {
         if sections.is_empty() {
             return Ok(());
         }
