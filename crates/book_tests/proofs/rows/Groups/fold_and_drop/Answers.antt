@@ -3,12 +3,11 @@ use Rattle.ot_owner.specs.Leases.{Lease}
 use Rattle.ot_owner.specs.Lending.{MayChange}
 use Rattle.ot_owner.specs.Owning.{Loan, loan_of}
 use Rattle.ot_owner.proofs.OutLemmas.{contains_begun}
-use Rattle.book_tests.specs.TwoGroups.{nth}
-use Rattle.book_tests.proofs.TwoLemmas.{may-add, none-left}
-use Rattle.book_tests.proofs.rows.Sums.add_and_drop.Goals as goal
+use Rattle.book_tests.proofs.TwoLemmas.{may-fold, none-left}
+use Rattle.book_tests.proofs.rows.Groups.fold_and_drop.Goals as goal
 
 pub set-requires : goal.set-requires
-set-requires c = subst (MayChange c.in_ok-lent.lent) (sym c.cell.ensures) (may-add c.in_ok-lent.lent (nth 0) c.in_ok-lent.ensures.lent)
+set-requires c = subst (MayChange c.in_ok-lent.lent) (sym c.cell.ensures) (may-fold c.in_ok-lent.lent 0 c.in_ok-lent.ensures.lent)
 
 pub drop_right-requires : goal.drop_right-requires
 drop_right-requires c =

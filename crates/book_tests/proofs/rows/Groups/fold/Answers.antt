@@ -1,7 +1,7 @@
 use Rattle.ot_owner.specs.Owning.{loan_of}
 use Rattle.ot_owner.proofs.OutLemmas.{contains_begun}
 use Rattle.book_tests.proofs.TwoLemmas.{none-left}
-use Rattle.book_tests.proofs.rows.Sums.add.Goals as goal
+use Rattle.book_tests.proofs.rows.Groups.fold.Goals as goal
 
 pub put-requires-clause-out : goal.put-requires-clause-out
 put-requires-clause-out c = contains_begun (loan_of c.args.worker c.in_ok-lent.lent) c.args.self.now c.lend.new.self c.in_ok-lent.ensures.out

@@ -2,7 +2,7 @@ use Rattle.std.proofs.Common.{◌∷◌, IsPermutation}
 use Rattle.ot_owner.specs.Owning.{Loan, loan_of}
 use Rattle.ot_owner.proofs.OutLemmas.{contains_begun, contains_kept}
 use Rattle.book_tests.proofs.TwoLemmas.{none-left, second-left}
-use Rattle.book_tests.proofs.rows.Sums.add_at_once.Goals as goal
+use Rattle.book_tests.proofs.rows.Groups.fold_at_once.Goals as goal
 
 pub put-requires-clause-out : goal.put-requires-clause-out
 put-requires-clause-out c =
