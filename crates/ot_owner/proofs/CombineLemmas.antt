@@ -1,62 +1,72 @@
--- Combining a number with copies: a number more in one copy is that number more in all, and a copy at zero changes nothing.
-use Rattle.std.proofs.Common.{◌≡◌, ℕ, ◌+◌, ◌%◌, ◌^◌, ◌<◌, List, [], ◌∷◌, ◌++◌, refl, sym, ap, ◌∙◌, inl, inr, arith}
-use Rattle.std.proofs.Math.Nat.{mod-add-mod, add-mod-mod, mod-lt, mod-eq_of_lt}
-use Rattle.ot_model.specs.Uses.{joined}
-use Rattle.ot_model.specs.declared.stmt.Mode.TheVariants.{Adds}
+-- Combining a number with copies: a number more in one copy is that number more in all, and the unit makes no difference.
+use Rattle.std.proofs.Common.{◌≡◌, ℕ, suc, ◌+◌, ◌*◌, ◌%◌, ◌^◌, ◌<◌, ◌⊎◌, List, [], ◌∷◌, refl, sym, ap, ◌∙◌, inl, inr, arith}
+use Rattle.std.proofs.Math.Nat.{mod-lt}
+use Rattle.std.proofs.lemmas.Nat.{or_lt, xor_lt}
+use Rattle.std.specs.List.{All}
+use Rattle.std.specs.Prelude.{bit_and}
+use Rattle.ot_model.specs.Joining.{join_by, unit_of}
+use Rattle.ot_model.specs.Monoids.{join-associative, join-commutative, join-neutral, join-absorbed, join-swap}
+use Rattle.ot_model.specs.declared.fold.Fold.{Fold as Operation}
+use Rattle.ot_model.specs.declared.fold.Fold.TheVariants.{Plus, Times, And, Or, Xor, Min, Max}
 use Rattle.ot_owner.specs.Worth.{combined}
-use Rattle.ot_owner.specs.Growing.{Grew}
 
--- two numbers are added in either order
-join-swap : (s v x : ℕ) → joined Adds (joined Adds s v) x ≡ joined Adds (joined Adds s x) v
-join-swap s v x =
-    let e : s + v + x ≡ s + x + v = omega arith in
-    mod-add-mod (s + v) (2 ^ 64) x ∙ ap (λ m. m % 2 ^ 64) e ∙ sym (mod-add-mod (s + x) (2 ^ 64) v)
+-- one of the copies has a number more, and no other changes
+abbrev pub Grew : Operation → ℕ → List ℕ → List ℕ → Type 0
+Grew o v [] ys = ⊥
+Grew o v (x ∷ xs) [] = ⊥
+Grew o v (x ∷ xs) (y ∷ ys) = ((y ≡ join_by o x v) × (ys ≡ xs)) ⊎ ((y ≡ x) × Grew o v xs ys)
 
-join-assoc : (s x v : ℕ) → joined Adds s (joined Adds x v) ≡ joined Adds (joined Adds s x) v
-join-assoc s x v =
-    let e : s + (x + v) ≡ s + x + v = omega arith in
-    add-mod-mod s (x + v) (2 ^ 64) ∙ ap (λ m. m % 2 ^ 64) e ∙ sym (mod-add-mod (s + x) (2 ^ 64) v)
-
-pub combined-shift : (s v : ℕ) (xs : List ℕ) → combined (joined Adds s v) xs ≡ joined Adds (combined s xs) v
-combined-shift s v [] = refl
-combined-shift s v (x ∷ xs) = ap (λ n. combined n xs) (join-swap s v x) ∙ combined-shift (joined Adds s x) v xs
+pub combined-shift : (o : Operation) (s v : ℕ) (xs : List ℕ) → combined o (join_by o s v) xs ≡ join_by o (combined o s xs) v
+combined-shift o s v [] = refl
+combined-shift o s v (x ∷ xs) = ap (λ n. combined o n xs) (join-swap o v x s) ∙ combined-shift o (join_by o s x) v xs
 
 -- one copy has a number more
-pub combined-grew : (v s : ℕ) (xs ys : List ℕ) → Grew v xs ys → combined s ys ≡ joined Adds (combined s xs) v
-combined-grew v s [] ys grew = absurd grew
-combined-grew v s (x ∷ xs) [] grew = absurd grew
-combined-grew v s (x ∷ xs) (y ∷ ys) (inl (is, same)) =
-    ap (λ n. combined (joined Adds s n) ys) is ∙ ap (combined (joined Adds s (joined Adds x v))) same
-    ∙ ap (λ n. combined n xs) (join-assoc s x v) ∙ combined-shift (joined Adds s x) v xs
-combined-grew v s (x ∷ xs) (y ∷ ys) (inr (is, grew)) =
-    ap (λ n. combined (joined Adds s n) ys) is ∙ combined-grew v (joined Adds s x) xs ys grew
+pub combined-grew : (o : Operation) (v s : ℕ) (xs ys : List ℕ) → Grew o v xs ys → combined o s ys ≡ join_by o (combined o s xs) v
+combined-grew o v s [] ys grew = absurd grew
+combined-grew o v s (x ∷ xs) [] grew = absurd grew
+combined-grew o v s (x ∷ xs) (y ∷ ys) (inl (is, same)) =
+    ap (λ n. combined o (join_by o s n) ys) is ∙ ap (combined o (join_by o s (join_by o x v))) same
+    ∙ ap (λ n. combined o n xs) (sym (join-associative o s x v)) ∙ combined-shift o (join_by o s x) v xs
+combined-grew o v s (x ∷ xs) (y ∷ ys) (inr (is, grew)) =
+    ap (λ n. combined o (join_by o s n) ys) is ∙ combined-grew o v (join_by o s x) xs ys grew
 
-pub join-zero : (s : ℕ) → s < 2 ^ 64 → joined Adds s 0 ≡ s
-join-zero s small = let e : s + 0 ≡ s = omega arith in ap (λ m. m % 2 ^ 64) e ∙ mod-eq_of_lt small
+-- one copy has the unit more
+pub combined-idle : (o : Operation) (s : ℕ) (xs ys : List ℕ) → Grew o (unit_of o) xs ys → combined o s ys ≡ combined o s xs
+combined-idle o s [] ys grew = absurd grew
+combined-idle o s (x ∷ xs) [] grew = absurd grew
+combined-idle o s (x ∷ xs) (y ∷ ys) (inl (is, same)) =
+    ap (λ n. combined o (join_by o s n) ys) is ∙ ap (combined o (join_by o s (join_by o x (unit_of o)))) same
+    ∙ ap (λ n. combined o n xs) (ap (join_by o s) (join-commutative o x (unit_of o)) ∙ join-absorbed o s x)
+combined-idle o s (x ∷ xs) (y ∷ ys) (inr (is, grew)) =
+    ap (λ n. combined o (join_by o s n) ys) is ∙ combined-idle o (join_by o s x) xs ys grew
 
-pub join-small : (s x : ℕ) → joined Adds s x < 2 ^ 64
-join-small s x = let some : 0 < 2 ^ 64 = omega arith in mod-lt (s + x) some
+pub join-unit : (o : Operation) (s : ℕ) → s < 2 ^ 64 → join_by o s (unit_of o) ≡ s
+join-unit o s small = (join-neutral o s small).0
 
-pub combined-append : (s : ℕ) (xs ys : List ℕ) → combined s (xs ++ ys) ≡ combined (combined s xs) ys
-combined-append s [] ys = refl
-combined-append s (x ∷ xs) ys = combined-append (joined Adds s x) xs ys
+pub unit-small : (o : Operation) → unit_of o < 2 ^ 64
+unit-small Plus = omega arith
+unit-small Times = omega arith
+unit-small And = omega arith
+unit-small Or = omega arith
+unit-small Xor = omega arith
+unit-small Min = omega arith
+unit-small Max = omega arith
 
-pub combined-small : (s : ℕ) (xs : List ℕ) → s < 2 ^ 64 → combined s xs < 2 ^ 64
-combined-small s [] small = small
-combined-small s (x ∷ xs) small = combined-small (joined Adds s x) xs (join-small s x)
+pub join-small : (o : Operation) (s x : ℕ) → s < 2 ^ 64 → x < 2 ^ 64 → join_by o s x < 2 ^ 64
+join-small Plus s x one two = let some : 0 < 2 ^ 64 = omega arith in mod-lt (s + x) some
+join-small Times s x one two = let some : 0 < 2 ^ 64 = omega arith in mod-lt (s * x) some
+join-small And s x one two = let some : 0 < 2 ^ 64 = omega arith in mod-lt (bit_and s x) some
+join-small Or s x one two = or_lt 64 s x one two
+join-small Xor s x one two = xor_lt 64 s x one two
+join-small Min s x one two = omega (arith, one, two)
+join-small Max s x one two = omega (arith, one, two)
 
--- the copies in another order, or with other ones behind them, on the same number
-pub grew-with : (v : ℕ) (zs xs ys : List ℕ) → Grew v xs ys → Grew v (zs ++ xs) (zs ++ ys)
-grew-with v [] xs ys grew = grew
-grew-with v (z ∷ zs) xs ys grew = inr (refl, grew-with v zs xs ys grew)
-
-pub grew-before : (v : ℕ) (xs ys zs : List ℕ) → Grew v xs ys → Grew v (xs ++ zs) (ys ++ zs)
-grew-before v [] ys zs grew = absurd grew
-grew-before v (x ∷ xs) [] zs grew = absurd grew
-grew-before v (x ∷ xs) (y ∷ ys) zs (inl (is, same)) = inl (is, ap (λ l. l ++ zs) same)
-grew-before v (x ∷ xs) (y ∷ ys) zs (inr (is, grew)) = inr (is, grew-before v xs ys zs grew)
+pub combined-small : (o : Operation) (s : ℕ) (xs : List ℕ) → s < 2 ^ 64 → All (λ n. n < 2 ^ 64) xs → combined o s xs < 2 ^ 64
+combined-small o s [] small all = small
+combined-small o s (x ∷ xs) small all =
+    combined-small o (join_by o s x) xs (join-small o s x small (all 0 x (omega arith))) (λ k d within. all (suc k) d (omega (arith, within)))
 
 -- copies are combined in any order
-pub combined-swap : (s : ℕ) (xs ys : List ℕ) → combined (combined s xs) ys ≡ combined (combined s ys) xs
-combined-swap s xs [] = refl
-combined-swap s xs (y ∷ ys) = ap (λ n. combined n ys) (sym (combined-shift s y xs)) ∙ combined-swap (joined Adds s y) xs ys
+pub combined-swap : (o : Operation) (s : ℕ) (xs ys : List ℕ) → combined o (combined o s xs) ys ≡ combined o (combined o s ys) xs
+combined-swap o s xs [] = refl
+combined-swap o s xs (y ∷ ys) = ap (λ n. combined o n ys) (sym (combined-shift o s y xs)) ∙ combined-swap o (join_by o s y) xs ys

@@ -1,61 +1,129 @@
 -- What cells are worth once copies have come back.
-use Rattle.std.proofs.Common.{◌≡◌, ◌≢◌, ℕ, ◌<◌, List, [], ◌∷◌, length, get_or, refl, sym, ap, ◌∙◌, subst}
-use Rattle.std.specs.List.{All}
-use Rattle.std.specs.Prelude.{Option, Some, None, option_map}
-use Rattle.ot_model.specs.Uses.{joined}
-use Rattle.ot_model.specs.declared.expr.Cell.{Cell}
-use Rattle.ot_model.specs.declared.stmt.Mode.{Mode}
-use Rattle.ot_model.specs.declared.stmt.Mode.TheVariants.{Reads, Writes, Adds}
-use Rattle.ot_owner.specs.declared.lent.LentCell.{LentCell}
-use Rattle.ot_owner.specs.Worth.{combined, AreJoined}
-use Rattle.ot_owner.specs.Growing.{Grew, AreAdded, worth_with}
-use Rattle.ot_owner.specs.Back.{kept, AreStored}
-use Rattle.std.proofs.Common.{◌++◌, ◌+◌, take}
-use Rattle.std.specs.Prelude.{IsSome}
-use Rattle.std.proofs.lemmas.List.{take_more}
+use Rattle.std.proofs.Common.{◌≡◌, ◌≢◌, ℕ, zero, suc, ◌<◌, ◌+◌, List, [], ◌∷◌, ◌++◌, length, get_or, take, Bool, true, false, true≢false, refl, sym, ap, ◌∙◌, subst, inl, inr, arith}
+use Rattle.std.proofs.lemmas.Bool.{cases_lt}
+use Rattle.std.proofs.lemmas.List.{get_or_default, take_more}
 use Rattle.std.proofs.lemmas.List.Elements.{All-push}
 use Rattle.std.proofs.lemmas.List.Quantifiers.{Any-push}
-use Rattle.ot_model.specs.Uses.{AreInOrder}
-use Rattle.ot_owner.specs.Lending.{uses_of}
-use Rattle.ot_owner.specs.Rows.{Summed, added, copy_among}
-use Rattle.ot_owner.specs.Kept.{copies_among}
+use Rattle.std.specs.List.{All, AllPairs}
+use Rattle.std.specs.Prelude.{Option, Some, None, IsSome, is_some, option_map, if◌then◌else◌}
+use Rattle.ot_model.specs.Joining.{join_by, unit_of}
+use Rattle.ot_model.specs.Uses.{AreInOrder, is_fold, joined}
+use Rattle.ot_model.specs.declared.expr.Cell.{Cell}
+use Rattle.ot_model.specs.declared.fold.Fold.{Fold as Operation}
+use Rattle.ot_model.specs.declared.stmt.Mode.{Mode}
+use Rattle.ot_model.specs.declared.stmt.Mode.TheVariants.{Reads, Writes, Folds}
+use Rattle.ot_model.proofs.OrderLemmas.{precedes_apart}
+use Rattle.ot_owner.specs.declared.lent.LentCell.{LentCell}
+use Rattle.ot_owner.specs.Back.{kept, AreStored, IsByOwn, taken_back, all_back}
+use Rattle.ot_owner.specs.Lending.{uses_of, IsLent}
+use Rattle.ot_owner.specs.Rows.{Summed, IsSummed, IsOnlyBy, copy_among, folded}
+use Rattle.ot_owner.specs.Worth.{worth_over, AreJoined}
+use Rattle.ot_owner.proofs.OrderLemmas.{each_precedes}
 use Rattle.ot_owner.proofs.JoinedLemmas.{not_lent, lent_push, others_before}
-use Rattle.ot_owner.proofs.GroupLemmas.{among-grew, among-other, still-some}
-use Rattle.ot_owner.proofs.CombineLemmas.{combined-grew}
+use Rattle.ot_owner.proofs.GroupLemmas.{worth-grew, worth-idle, worth-other}
+use Rattle.ot_owner.proofs.OpenLemmas.{same_worth, taken-still, taken-only, worth-unsummed}
 
-no_adds : Reads ≡ Adds → ⊥
-no_adds e = cc
+-- what cells with these stored numbers are worth
+abbrev pub worth_with : List Summed → (Cell → Option ℕ) → Cell → Option ℕ
+worth_with gs stored c = option_map (worth_over gs c) (stored c)
 
-no_adds2 : Writes ≡ Adds → ⊥
-no_adds2 e = cc
+-- the lent cells are apart
+abbrev AreApart : List LentCell → Type 0
+AreApart lent = AllPairs (λ l m. l.cell ≢ m.cell) lent
 
-by_mode : (m : Mode) (v : ℕ) (before after : Option ℕ) (old new : List ℕ) → after ≡ option_map (λ n. kept m n v) before
-    → (m ≡ Adds → Grew v old new) → (m ≢ Adds → new ≡ old) → (m ≡ Writes → old ≡ [])
-    → option_map (λ n. combined n new) after ≡ option_map (λ n. joined m n v) (option_map (λ n. combined n old) before)
-by_mode Reads v None after old new is grew same none = ap (option_map (λ n. combined n new)) is
-by_mode Reads v (Some n) after old new is grew same none = ap (option_map (λ n. combined n new)) is ∙ ap (λ l. Some (combined n l)) (same no_adds)
-by_mode Writes v None after old new is grew same none = ap (option_map (λ n. combined n new)) is
-by_mode Writes v (Some n) after old new is grew same none = ap (option_map (λ n. combined n new)) is ∙ ap (λ l. Some (combined v l)) (same no_adds2 ∙ none refl)
-by_mode Adds v None after old new is grew same none = ap (option_map (λ n. combined n new)) is
-by_mode Adds v (Some n) after old new is grew same none = ap (option_map (λ n. combined n new)) is ∙ ap Some (combined-grew v n old new (grew refl))
+apart : (lent : List LentCell) → AreInOrder (uses_of lent) → AreApart lent
+apart lent order i j d before within = precedes_apart (get_or lent i d).cell (get_or lent j d).cell (each_precedes lent order i j d before within)
 
-by_idle : (m : Mode) (v : ℕ) (before after : Option ℕ) (old new : List ℕ) → after ≡ option_map (λ n. kept m n v) before → m ≡ Adds → new ≡ old
-    → option_map (λ n. combined n new) after ≡ option_map (λ n. combined n old) before
-by_idle Reads v before after old new is adds same = absurd (no_adds adds)
-by_idle Writes v before after old new is adds same = absurd (no_adds2 adds)
-by_idle Adds v None after old new is adds same = ap (option_map (λ n. combined n new)) is
-by_idle Adds v (Some n) after old new is adds same = ap (option_map (λ n. combined n new)) is ∙ ap (λ l. Some (combined n l)) same
+-- a cell of which nothing comes back is worth what it was
+taken-other : (w : ℕ) (l : LentCell) (gs : List Summed) (c : Cell) → (is_fold l.mode ≡ true → l.cell ≢ c) → (s : ℕ) → worth_over (taken_back w l gs) c s ≡ worth_over gs c s
+taken-other w l gs c other s = by (is_fold l.mode) other
+  where
+    by : (b : Bool) → (b ≡ true → l.cell ≢ c) → worth_over (if b then folded w l.cell l.value gs else gs) c s ≡ worth_over gs c s
+    by true other = worth-other w l.value l.cell c gs (other refl) s
+    by false other = refl
 
--- where no written cell has copies, what cells are worth is joined as stored numbers were when each copy was combined at once
-pub joined-worth : (lent : List LentCell) (st st' : Cell → Option ℕ) (cp cp' : Cell → List ℕ) → AreStored lent st st' → AreAdded lent cp cp'
-    → All (λ l. l.mode ≡ Writes → cp l.cell ≡ []) lent → AreJoined lent (worth_with cp st) (worth_with cp' st')
-joined-worth lent st st' cp cp' stored added none = record {
-  lent_cells = λ k d within. let l = get_or lent k d in
-      by_mode l.mode l.value (st l.cell) (st' l.cell) (cp l.cell) (cp' l.cell) (stored.lent_cells k d within) (added.grew k d within) (added.kept_copies k d within) (none k d within);
-  untouched = λ k d within adds nought. let l = get_or lent k d in
-      by_idle l.mode l.value (st l.cell) (st' l.cell) (cp l.cell) (cp' l.cell) (stored.lent_cells k d within) adds (added.idle k d within adds nought);
-  others = λ other away. ap (λ o. option_map (λ n. combined n (cp' other)) o) (stored.others other away) ∙ ap (λ l. option_map (λ n. combined n l) (st other)) (added.others other away);
-}
+back-other : (w : ℕ) (lent : List LentCell) (gs : List Summed) (c : Cell) → All (λ l. is_fold l.mode ≡ true → l.cell ≢ c) lent → (s : ℕ) → worth_over (all_back w lent gs) c s ≡ worth_over gs c s
+back-other w [] gs c others s = refl
+back-other w (l ∷ lent) gs c others s =
+    back-other w lent (taken_back w l gs) c (λ k d within. others (suc k) d (omega (arith, within))) s ∙ taken-other w l gs c (others 0 l (omega arith)) s
+
+-- what the value of a lent cell does to what the cell is worth, all of them together do
+back-changed : (w : ℕ) (f : ℕ → ℕ) (o : Operation) (x : LentCell)
+    → ((n : ℕ) (hs : List Summed) → IsOnlyBy hs o x.cell → copy_among hs w x.cell ≡ Some n → (s : ℕ) → worth_over (folded w x.cell x.value hs) x.cell s ≡ f (worth_over hs x.cell s))
+    → (lent : List LentCell) (k : ℕ) (gs : List Summed) → AreApart lent → k < length lent → x ≡ get_or lent k x → x.mode ≡ Folds o → IsOnlyBy gs o x.cell → IsSome (copy_among gs w x.cell)
+    → (s : ℕ) → worth_over (all_back w lent gs) x.cell s ≡ f (worth_over gs x.cell s)
+back-changed w f o x step [] k gs pairs within is mode only there s = absurd (omega (arith, within))
+back-changed w f o x step (l ∷ lent) zero gs pairs within is mode only there s =
+    back-other w lent (taken_back w l gs) x.cell (λ k d inside folds same. pairs 0 (suc k) d (omega arith) (omega (arith, inside)) (ap (λ (m : LentCell). m.cell) (sym is) ∙ sym same)) s
+    ∙ ap (λ hs. worth_over hs x.cell s) (ap (λ m. taken_back w m gs) (sym is) ∙ ap (λ m. if is_fold m then folded w x.cell x.value gs else gs) mode)
+    ∙ some (copy_among gs w x.cell) refl there
+  where
+    some : (c : Option ℕ) → copy_among gs w x.cell ≡ c → IsSome c → worth_over (folded w x.cell x.value gs) x.cell s ≡ f (worth_over gs x.cell s)
+    some None at none = absurd (true≢false (sym none))
+    some (Some n) at one = step n gs only at s
+back-changed w f o x step (l ∷ lent) (suc k) gs pairs within is mode only there s =
+    back-changed w f o x step lent k (taken_back w l gs) (λ i j d before inside. pairs (suc i) (suc j) d (omega (arith, before)) (omega (arith, inside))) (omega (arith, within)) is mode
+    (taken-only w l gs o x.cell only) (taken-still w l gs w x.cell there) s
+    ∙ ap f (taken-other w l gs x.cell (λ folds same. pairs 0 (suc k) x (omega arith) within (same ∙ ap (λ (m : LentCell). m.cell) is)) s)
+
+-- the cells that are folded into aren't one that isn't
+others-fold : (lent : List LentCell) (k : ℕ) (d : LentCell) → AreApart lent → k < length lent → is_fold (get_or lent k d).mode ≡ false → All (λ l. is_fold l.mode ≡ true → l.cell ≢ (get_or lent k d).cell) lent
+others-fold lent k d pairs within not i e inside = elim (cases_lt i k) [
+  | inl less ↦ λ folds same. pairs i k d less within (ap (λ (m : LentCell). m.cell) (get_or_default lent i d e inside) ∙ same)
+  | inr rest ↦ elim (cases_lt k i) [
+    | inl more ↦ λ folds same. pairs k i e more inside (ap (λ (m : LentCell). m.cell) (get_or_default lent k e d within) ∙ sym same)
+    | inr none ↦
+        let here : i ≡ k = omega (arith, rest, none) in
+        λ folds same. true≢false (sym folds ∙ ap (λ j. is_fold (get_or lent j e).mode) here ∙ ap (λ (m : LentCell). is_fold m.mode) (get_or_default lent k e d within) ∙ not)
+  ]
+]
+
+module _ (v : ℕ) (old new : ℕ → ℕ) where
+  -- what becomes of the stored number and what becomes of the copies are one joining
+  by_mode : (m : Mode) (before after : Option ℕ) → after ≡ option_map (λ n. kept m n v) before → (is_fold m ≡ false → (n : ℕ) → new n ≡ old n) → (m ≡ Writes → (n : ℕ) → old n ≡ n)
+      → ((o : Operation) → m ≡ Folds o → (n : ℕ) → new n ≡ join_by o (old n) v) → option_map new after ≡ option_map (λ n. joined m n v) (option_map old before)
+  by_mode Reads None after is same none grew = ap (option_map new) is
+  by_mode Reads (Some n) after is same none grew = ap (option_map new) is ∙ ap Some (same refl n)
+  by_mode Writes None after is same none grew = ap (option_map new) is
+  by_mode Writes (Some n) after is same none grew = ap (option_map new) is ∙ ap Some (same refl v ∙ none refl v)
+  by_mode (Folds o) None after is same none grew = ap (option_map new) is
+  by_mode (Folds o) (Some n) after is same none grew = ap (option_map new) is ∙ ap Some (grew o refl n)
+
+by_idle : (m : Mode) (v : ℕ) (o : Operation) (old new : ℕ → ℕ) (before after : Option ℕ) → after ≡ option_map (λ n. kept m n v) before → m ≡ Folds o → ((n : ℕ) → new n ≡ old n)
+    → option_map new after ≡ option_map old before
+by_idle m v o old new before after is folds same = by before (is ∙ ap (λ k. option_map (λ n. kept k n v) before) folds)
+  where
+    by : (before : Option ℕ) → after ≡ option_map (λ (n : ℕ). n) before → option_map new after ≡ option_map old before
+    by None is = ap (option_map new) is
+    by (Some n) is = ap (option_map new) is ∙ ap Some (same n)
+
+-- where no written cell has copies, and each cell is folded into by one operation, what cells are worth is joined as stored
+-- numbers were when each copy was combined at once
+module _ (w : ℕ) (lent : List LentCell) (gs : List Summed) (order : AreInOrder (uses_of lent)) (rows : All (λ l. is_fold l.mode ≡ true → IsSome (copy_among gs w l.cell)) lent)
+    (none : All (λ l. l.mode ≡ Writes → ¬ IsSummed gs l.cell) lent) (own : IsByOwn lent gs) where
+  -- a lent cell's value changes what it is worth so
+  changed : (f : ℕ → ℕ) (o : Operation) (k : ℕ) (d : LentCell) → k < length lent → (get_or lent k d).mode ≡ Folds o
+      → ((n : ℕ) (hs : List Summed) → IsOnlyBy hs o (get_or lent k d).cell → copy_among hs w (get_or lent k d).cell ≡ Some n
+      → (s : ℕ) → worth_over (folded w (get_or lent k d).cell (get_or lent k d).value hs) (get_or lent k d).cell s ≡ f (worth_over hs (get_or lent k d).cell s))
+      → (s : ℕ) → worth_over (all_back w lent gs) (get_or lent k d).cell s ≡ f (worth_over gs (get_or lent k d).cell s)
+  changed f o k d within mode step s =
+      let l = get_or lent k d in
+      back-changed w f o l step lent k gs (apart lent order) within (get_or_default lent k d l within) mode (own k d within o mode) (rows k d within (ap is_fold mode)) s
+
+  pub joined-worth : (st st' : Cell → Option ℕ) → AreStored lent st st' → AreJoined lent (worth_with gs st) (worth_with (all_back w lent gs) st')
+  joined-worth st st' stored = record {
+    lent_cells = λ k d within. let l = get_or lent k d in
+        by_mode l.value (worth_over gs l.cell) (worth_over (all_back w lent gs) l.cell) l.mode (st l.cell) (st' l.cell) (stored.lent_cells k d within)
+        (λ not n. back-other w lent gs l.cell (others-fold lent k d (apart lent order) within not) n)
+        (λ writes n. worth-unsummed gs l.cell (none k d within writes) n)
+        (λ o folds n. changed (λ m. join_by o m l.value) o k d within folds (λ m hs only at s. worth-grew w l.value l.cell o m hs only at s) n);
+    untouched = λ k d within o folds unit. let l = get_or lent k d in
+        by_idle l.mode l.value o (worth_over gs l.cell) (worth_over (all_back w lent gs) l.cell) (st l.cell) (st' l.cell) (stored.lent_cells k d within) folds
+        (λ n. changed (λ m. m) o k d within folds (λ m hs only at s. worth-idle w l.value l.cell o unit m hs only at s) n);
+    others = λ other away. ap (λ o. option_map (worth_over (all_back w lent gs) other) o) (stored.others other away)
+        ∙ same_worth (worth_over (all_back w lent gs) other) (worth_over gs other) (st other)
+        (λ n. back-other w lent gs other (λ k d within folds same. away (k, get_or lent k d, within, get_or_default lent k d (get_or lent k d) within, same)) n);
+  }
 
 stored-push : (lent : List LentCell) (x : LentCell) (before mid after : Cell → Option ℕ) → AreStored lent before mid → All (λ l. l.cell ≢ x.cell) lent
     → after x.cell ≡ option_map (λ n. kept x.mode n x.value) (mid x.cell) → ((other : Cell) → x.cell ≢ other → after other ≡ mid other) → AreStored (lent ++ x ∷ []) before after
@@ -66,59 +134,14 @@ stored-push lent x before mid after soon apart now others = record {
   others = λ other away. others other (λ same. away (Any-push (λ l. l.cell ≡ other) lent x same)) ∙ soon.others other (λ here. away (lent_push lent x other here));
 }
 
-added-push : (lent : List LentCell) (x : LentCell) (before mid after : Cell → List ℕ) → AreAdded lent before mid → All (λ l. l.cell ≢ x.cell) lent
-    → (x.mode ≡ Adds → Grew x.value (mid x.cell) (after x.cell)) → (x.mode ≡ Adds → x.value ≡ 0 → after x.cell ≡ mid x.cell) → (x.mode ≢ Adds → after x.cell ≡ mid x.cell)
-    → ((other : Cell) → x.cell ≢ other → after other ≡ mid other) → AreAdded (lent ++ x ∷ []) before after
-added-push lent x before mid after soon apart grew idle same others =
-    let was : mid x.cell ≡ before x.cell = soon.others x.cell (not_lent lent x.cell apart) in
-    record {
-      grew = All-push (λ l. l.mode ≡ Adds → Grew l.value (before l.cell) (after l.cell)) lent x
-          (λ k d within adds. subst (Grew (get_or lent k d).value (before (get_or lent k d).cell)) (sym (others (get_or lent k d).cell (λ e. apart k d within (sym e)))) (soon.grew k d within adds))
-          (λ adds. subst (λ l. Grew x.value l (after x.cell)) was (grew adds));
-      idle = All-push (λ l. l.mode ≡ Adds → l.value ≡ 0 → after l.cell ≡ before l.cell) lent x
-          (λ k d within adds none. others (get_or lent k d).cell (λ e. apart k d within (sym e)) ∙ soon.idle k d within adds none)
-          (λ adds none. idle adds none ∙ was);
-      kept_copies = All-push (λ l. l.mode ≢ Adds → after l.cell ≡ before l.cell) lent x
-          (λ k d within other. others (get_or lent k d).cell (λ e. apart k d within (sym e)) ∙ soon.kept_copies k d within other)
-          (λ other. same other ∙ was);
-      others = λ other away. others other (λ e. away (Any-push (λ l. l.cell ≡ other) lent x e)) ∙ soon.others other (λ here. away (lent_push lent x other here));
-    }
-
 pub stored-more : (lent : List LentCell) (k : ℕ) (x : LentCell) (before mid after : Cell → Option ℕ) → AreInOrder (uses_of lent) → k < length lent → x ≡ get_or lent k x → AreStored (take k lent) before mid
     → after x.cell ≡ option_map (λ n. kept x.mode n x.value) (mid x.cell) → ((other : Cell) → x.cell ≢ other → after other ≡ mid other) → AreStored (take (k + 1) lent) before after
 stored-more lent k x before mid after order within is soon now others =
     let more : take k lent ++ x ∷ [] ≡ take (k + 1) lent = ap (λ y. take k lent ++ y ∷ []) is ∙ sym (take_more lent k x within) in
     subst (λ ls. AreStored ls before after) more (stored-push (take k lent) x before mid after soon (others_before lent k x order within is) now others)
 
-some-is : (o : Option ℕ) → IsSome o → (n : ℕ) × (o ≡ Some n)
-some-is None there = absurd (cc)
-some-is (Some n) there = (n, refl)
-
--- one lent cell more, told by what becomes of the groups
-pub added-more : (lent : List LentCell) (k w : ℕ) (x : LentCell) (first mid after : List Summed) → AreInOrder (uses_of lent) → k < length lent → x ≡ get_or lent k x
-    → AreAdded (take k lent) (copies_among first) (copies_among mid) → (x.mode ≡ Adds → IsSome (copy_among mid w x.cell))
-    → (x.mode ≡ Adds → after ≡ added w x.cell x.value mid) → (x.mode ≡ Adds → x.value ≡ 0 → after ≡ mid) → (x.mode ≢ Adds → after ≡ mid)
-    → AreAdded (take (k + 1) lent) (copies_among first) (copies_among after)
-added-more lent k w x first mid after order within is soon row rows idle same =
+-- one element more
+pub all-more : (P : LentCell → Type 0) (lent : List LentCell) (k : ℕ) (x : LentCell) → k < length lent → x ≡ get_or lent k x → All P (take k lent) → P x → All P (take (k + 1) lent)
+all-more P lent k x within is all one =
     let more : take k lent ++ x ∷ [] ≡ take (k + 1) lent = ap (λ y. take k lent ++ y ∷ []) is ∙ sym (take_more lent k x within) in
-    subst (λ ls. AreAdded ls (copies_among first) (copies_among after)) more
-    (added-push (take k lent) x (copies_among first) (copies_among mid) (copies_among after) soon (others_before lent k x order within is)
-    (λ adds. let some = some-is (copy_among mid w x.cell) (row adds) in
-    subst (λ gs. Grew x.value (copies_among mid x.cell) (copies_among gs x.cell)) (sym (rows adds)) (among-grew w x.value some.0 x.cell mid some.1))
-    (λ adds none. ap (λ gs. copies_among gs x.cell) (idle adds none))
-    (λ other. ap (λ gs. copies_among gs x.cell) (same other))
-    (λ other apart. by x.mode refl other apart))
-  where
-    by : (m : Mode) → x.mode ≡ m → (other : Cell) → x.cell ≢ other → copies_among after other ≡ copies_among mid other
-    by Reads e other apart = ap (λ gs. copies_among gs other) (same (λ adds. no_adds (sym e ∙ adds)))
-    by Writes e other apart = ap (λ gs. copies_among gs other) (same (λ adds. no_adds2 (sym e ∙ adds)))
-    by Adds e other apart = ap (λ gs. copies_among gs other) (rows e) ∙ among-other w x.value x.cell other mid apart
-
-pub rows-still : (w : ℕ) (x : LentCell) (c : Cell) (mid after : List Summed) → (x.mode ≡ Adds → after ≡ added w x.cell x.value mid) → (x.mode ≢ Adds → after ≡ mid)
-    → IsSome (copy_among mid w c) → IsSome (copy_among after w c)
-rows-still w x c mid after rows same there = by x.mode refl
-  where
-    by : (m : Mode) → x.mode ≡ m → IsSome (copy_among after w c)
-    by Reads e = subst (λ gs. IsSome (copy_among gs w c)) (sym (same (λ adds. no_adds (sym e ∙ adds)))) there
-    by Writes e = subst (λ gs. IsSome (copy_among gs w c)) (sym (same (λ adds. no_adds2 (sym e ∙ adds)))) there
-    by Adds e = subst (λ gs. IsSome (copy_among gs w c)) (sym (rows e)) (still-some w x.value w x.cell c mid there)
+    subst (All P) more (All-push P (take k lent) x all one)

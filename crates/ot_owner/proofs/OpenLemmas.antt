@@ -12,63 +12,46 @@ use Rattle.std.proofs.lemmas.List.Sorted.{All-permutation}
 use Rattle.std.proofs.lemmas.Option.{same_Some}
 use Rattle.std.proofs.Math.ListN.{get_or-map}
 use Rattle.ot_model.specs.Cells.{cell_of, updated}
-use Rattle.ot_model.specs.Uses.{joined as join, is_adds, conflicts, Conflict}
+use Rattle.ot_model.specs.Joining.{join_by, unit_of}
+use Rattle.ot_model.specs.Uses.{joined as join, is_fold, conflicts, Conflict}
 use Rattle.ot_model.specs.declared.expr.Cell.{Cell}
 use Rattle.ot_model.specs.declared.stmt.Mode.{Mode}
-use Rattle.ot_model.specs.declared.stmt.Mode.TheVariants.{Reads, Writes, Adds}
+use Rattle.ot_model.specs.declared.fold.Fold.{Fold as Operation}
+use Rattle.ot_model.specs.declared.stmt.Mode.TheVariants.{Reads, Writes, Folds}
 use Rattle.ot_model.specs.declared.stmt.Use.{Use}
 use Rattle.ot_model.proofs.EqualLemmas.{cell-decides}
 use Rattle.ot_owner.specs.declared.lent.LentCell.{LentCell}
 use Rattle.ot_owner.specs.Back.{taken_back, all_back}
-use Rattle.ot_owner.specs.Growing.{worth_with}
 use Rattle.ot_owner.specs.Keeping.{IsRegular, HasCopies, IsSound}
 use Rattle.ot_owner.specs.Lending.{use_of, uses_of}
-use Rattle.ot_owner.specs.Kept.{copies_among, summed_of, summeds_of}
+use Rattle.ot_owner.specs.Kept.{summed_of, summeds_of}
 use Rattle.ot_owner.specs.Owning.{Loan, Owned, IsFreeFor}
-use Rattle.ot_owner.specs.Rows.{Summed, is_of, place_in, names, IsSummed, adds_in, copy_in, row_in, copies_at, copies_where, copies_in, copy_among, added_in, added, begun_row, begun_in, begun_for, copies_closed, without}
-use Rattle.ot_owner.specs.Worth.{combined, worth_over, worth, AreJoined}
+use Rattle.ot_owner.specs.Rows.{Summed, is_of, place_in, names, IsSummed, IsSummedBy, IsOnlyBy, IsByOne, folds_in, copy_in, row_in, copies_at, copies_where, copies_in, copy_among, folded_in, folded, begun_row, begun_in, begun_for, without}
+use Rattle.ot_owner.specs.Worth.{combined, worth_over, closed_over, AreJoined}
 use Rattle.ot_owner.specs.declared.rows.Group.{Group}
 use Rattle.ot_owner.proofs.ApartLemmas.{no_two-begun, no_two-ended}
-use Rattle.ot_owner.proofs.CombineLemmas.{combined-append, combined-small, combined-swap}
-use Rattle.ot_owner.proofs.RowLemmas.{combined-begun, all-updated, length-updated}
-use Rattle.ot_owner.proofs.GroupLemmas.{still-some}
+use Rattle.ot_owner.proofs.CombineLemmas.{unit-small, join-small, combined-small, combined-swap}
+use Rattle.ot_owner.proofs.RowLemmas.{IsSmall, copies-small, combined-begun, all-updated, length-updated}
+use Rattle.ot_owner.proofs.GroupLemmas.{unnamed, still-some, only-still}
 
 abbrev Rows : Type 0
 Rows = List (Option (List ℕ))
 
 -- ---- what a cell is worth
 
-pub worth-among : (gs : List Summed) (c : Cell) (n : ℕ) → worth_over gs c n ≡ combined n (copies_among gs c)
-worth-among [] c n = refl
-worth-among (g ∷ gs) c n = worth-among gs c (combined n (copies_in c g)) ∙ sym (combined-append n (copies_in c g) (copies_among gs c))
-
-pub worth-with : (owned : Owned) (cells : List (List ℕ)) (c : Cell) → worth owned cells c ≡ worth_with (copies_among owned.groups) (cell_of cells) c
-worth-with owned cells c = by (cell_of cells c)
+-- what no open group names is worth its stored number
+pub worth-unsummed : (gs : List Summed) (c : Cell) → ¬ IsSummed gs c → (n : ℕ) → worth_over gs c n ≡ n
+worth-unsummed [] c none n = refl
+worth-unsummed (g ∷ gs) c none n = by (names c g) refl (worth-unsummed gs c (λ (k, h, within, is, named). none (suc k, h, omega (arith, within), is, named)) n)
   where
-    by : (o : Option ℕ) → option_map (worth_over owned.groups c) o ≡ option_map (λ n. combined n (copies_among owned.groups c)) o
-    by None = refl
-    by (Some n) = ap Some (worth-among owned.groups c n)
-
--- what doesn't name a cell has no copies of it
-pub unnamed : (c : Cell) (g : Summed) → names c g ≡ false → copies_in c g ≡ []
-unnamed c g not = by (place_in g.uses c) not
-  where
-    by : (o : Option ℕ) → is_some o ≡ false → copies_where g.rows o ≡ []
-    by None is = refl
-    by (Some p) is = absurd (true≢false is)
-
-pub unsummed : (gs : List Summed) (c : Cell) → ¬ IsSummed gs c → copies_among gs c ≡ []
-unsummed [] c none = refl
-unsummed (g ∷ gs) c none = by (names c g) refl (unsummed gs c (λ (k, h, within, is, named). none (suc k, h, omega (arith, within), is, named)))
-  where
-    by : (b : Bool) → names c g ≡ b → copies_among gs c ≡ [] → copies_in c g ++ copies_among gs c ≡ []
+    by : (b : Bool) → names c g ≡ b → worth_over gs c n ≡ n → worth_over gs c (combined g.op n (copies_in c g)) ≡ n
     by true named rest = absurd (none (0, g, omega arith, refl, named))
-    by false not rest = ap (λ xs. xs ++ copies_among gs c) (unnamed c g not) ∙ rest
+    by false not rest = ap (λ xs. worth_over gs c (combined g.op n xs)) (unnamed c g not) ∙ rest
 
 -- one group more
-pub worth-push : (gs : List Summed) (g : Summed) (c : Cell) (n : ℕ) → worth_over (gs ++ g ∷ []) c n ≡ combined (worth_over gs c n) (copies_in c g)
+pub worth-push : (gs : List Summed) (g : Summed) (c : Cell) (n : ℕ) → worth_over (gs ++ g ∷ []) c n ≡ combined g.op (worth_over gs c n) (copies_in c g)
 worth-push [] g c n = refl
-worth-push (h ∷ gs) g c n = worth-push gs g c (combined n (copies_in c h))
+worth-push (h ∷ gs) g c n = worth-push gs g c (combined h.op n (copies_in c h))
 
 -- where each number is worth the same
 pub same_worth : (one two : ℕ → ℕ) (o : Option ℕ) → ((n : ℕ) → one n ≡ two n) → option_map one o ≡ option_map two o
@@ -88,39 +71,47 @@ begun-uses : (w : ℕ) (b : Bool) (g : Summed) → (begun_if w b g).uses ≡ g.u
 begun-uses w true g = refl
 begun-uses w false g = refl
 
-begun-combined : (w : ℕ) (c : Cell) (g : Summed) (b : Bool) (n : ℕ) → n < 2 ^ 64 → combined n (copies_in c (begun_if w b g)) ≡ combined n (copies_in c g)
-begun-combined w c g false n small = refl
-begun-combined w c g true n small = by (place_in g.uses c)
+begun-combined : (w : ℕ) (c : Cell) (g : Summed) (b : Bool) (n : ℕ) → n < 2 ^ 64 → IsRegular g → combined (begun_if w b g).op n (copies_in c (begun_if w b g)) ≡ combined g.op n (copies_in c g)
+begun-combined w c g false n small regular = refl
+begun-combined w c g true n small regular = by (place_in g.uses c)
   where
-    by : (o : Option ℕ) → combined n (copies_where (updated g.rows w (begun_row (length g.uses))) o) ≡ combined n (copies_where g.rows o)
+    by : (o : Option ℕ) → combined g.op n (copies_where (updated g.rows w (begun_row g.op (length g.uses))) o) ≡ combined g.op n (copies_where g.rows o)
     by None = refl
-    by (Some place) = combined-begun n small g.rows w (length g.uses) place
+    by (Some place) = combined-begun g.op n small g.rows w (length g.uses) place regular.small
 
--- rows begin alike for uses that add to the same cells
-pub begun-alike : (w : ℕ) (us vs : List Use) (gs : List Summed) → ((named : List Use) → adds_in named us ≡ adds_in named vs) → begun_for w us gs ≡ begun_for w vs gs
+-- a number below 2^64 is so still once it is combined with the copies in a group
+group-small : (c : Cell) (g : Summed) (n : ℕ) → n < 2 ^ 64 → IsRegular g → combined g.op n (copies_in c g) < 2 ^ 64
+group-small c g n small regular = by (place_in g.uses c)
+  where
+    by : (o : Option ℕ) → combined g.op n (copies_where g.rows o) < 2 ^ 64
+    by None = small
+    by (Some place) = combined-small g.op n (copies_at g.rows place) small (copies-small g.rows place regular.small)
+
+-- rows begin alike for uses that fold into the same cells
+pub begun-alike : (w : ℕ) (us vs : List Use) (gs : List Summed) → ((named : List Use) → folds_in named us ≡ folds_in named vs) → begun_for w us gs ≡ begun_for w vs gs
 begun-alike w us vs [] same = refl
 begun-alike w us vs (g ∷ gs) same =
     ap (λ b. (if b then begun_in w g else g) ∷ begun_for w us gs) (same g.uses)
-    ∙ ap (λ hs. (if adds_in g.uses vs then begun_in w g else g) ∷ hs) (begun-alike w us vs gs same)
+    ∙ ap (λ hs. (if folds_in g.uses vs then begun_in w g else g) ∷ hs) (begun-alike w us vs gs same)
 
-pub begun-worth : (w : ℕ) (uses : List Use) (gs : List Summed) (c : Cell) (n : ℕ) → n < 2 ^ 64 → worth_over (begun_for w uses gs) c n ≡ worth_over gs c n
-begun-worth w uses [] c n small = refl
-begun-worth w uses (g ∷ gs) c n small =
-    ap (worth_over (begun_for w uses gs) c) (begun-combined w c g (adds_in g.uses uses) n small)
-    ∙ begun-worth w uses gs c (combined n (copies_in c g)) (combined-small n (copies_in c g) small)
+pub begun-worth : (w : ℕ) (uses : List Use) (gs : List Summed) (c : Cell) (n : ℕ) → n < 2 ^ 64 → All IsRegular gs → worth_over (begun_for w uses gs) c n ≡ worth_over gs c n
+begun-worth w uses [] c n small regular = refl
+begun-worth w uses (g ∷ gs) c n small regular =
+    ap (worth_over (begun_for w uses gs) c) (begun-combined w c g (folds_in g.uses uses) n small (regular 0 g (omega arith)))
+    ∙ begun-worth w uses gs c (combined g.op n (copies_in c g)) (group-small c g n small (regular 0 g (omega arith))) (λ k d within. regular (suc k) d (omega (arith, within)))
 
-row-begun : (rows : Rows) (w x q len : ℕ) → IsSome (copy_in q (row_in rows x)) → IsSome (copy_in q (row_in (updated rows w (begun_row len)) x))
-row-begun [] w x q len there = there
-row-begun (None ∷ rows) zero zero q len there = absurd (true≢false (sym there))
-row-begun (Some copies ∷ rows) zero zero q len there = there
-row-begun (row ∷ rows) zero (suc x) q len there = there
-row-begun (row ∷ rows) (suc w) zero q len there = there
-row-begun (row ∷ rows) (suc w) (suc x) q len there = row-begun rows w x q len there
+row-begun : (o : Operation) (rows : Rows) (w x q len : ℕ) → IsSome (copy_in q (row_in rows x)) → IsSome (copy_in q (row_in (updated rows w (begun_row o len)) x))
+row-begun o [] w x q len there = there
+row-begun o (None ∷ rows) zero zero q len there = absurd (true≢false (sym there))
+row-begun o (Some copies ∷ rows) zero zero q len there = there
+row-begun o (row ∷ rows) zero (suc x) q len there = there
+row-begun o (row ∷ rows) (suc w) zero q len there = there
+row-begun o (row ∷ rows) (suc w) (suc x) q len there = row-begun o rows w x q len there
 
 -- whoever had a copy has one still
 pub begun-still : (w : ℕ) (uses : List Use) (gs : List Summed) (x : ℕ) (c : Cell) → IsSome (copy_among gs x c) → IsSome (copy_among (begun_for w uses gs) x c)
 begun-still w uses [] x c there = there
-begun-still w uses (g ∷ gs) x c there = by (begun-still w uses gs x c) (adds_in g.uses uses)
+begun-still w uses (g ∷ gs) x c there = by (begun-still w uses gs x c) (folds_in g.uses uses)
   where
     rest : (IsSome (copy_among gs x c) → IsSome (copy_among (begun_for w uses gs) x c)) → (o : Option ℕ) → IsSome (if is_some o then option_and_then (λ place. copy_in place (row_in g.rows x)) o else copy_among gs x c)
         → IsSome (if is_some o then option_and_then (λ place. copy_in place (row_in g.rows x)) o else copy_among (begun_for w uses gs) x c)
@@ -128,18 +119,18 @@ begun-still w uses (g ∷ gs) x c there = by (begun-still w uses gs x c) (adds_i
     rest later (Some p) some = some
 
     own : (IsSome (copy_among gs x c) → IsSome (copy_among (begun_for w uses gs) x c)) → (o : Option ℕ) → IsSome (if is_some o then option_and_then (λ place. copy_in place (row_in g.rows x)) o else copy_among gs x c)
-        → IsSome (if is_some o then option_and_then (λ place. copy_in place (row_in (updated g.rows w (begun_row (length g.uses))) x)) o else copy_among (begun_for w uses gs) x c)
+        → IsSome (if is_some o then option_and_then (λ place. copy_in place (row_in (updated g.rows w (begun_row g.op (length g.uses))) x)) o else copy_among (begun_for w uses gs) x c)
     own later None some = later some
-    own later (Some p) some = row-begun g.rows w x p (length g.uses) some
+    own later (Some p) some = row-begun g.op g.rows w x p (length g.uses) some
 
     by : (IsSome (copy_among gs x c) → IsSome (copy_among (begun_for w uses gs) x c)) → (b : Bool) → IsSome (copy_among (begun_if w b g ∷ begun_for w uses gs) x c)
     by later true = own later (place_in g.uses c) there
     by later false = rest later (place_in g.uses c) there
 
-zero-there : (len p : ℕ) → p < len → IsSome (slice_get {X = ℕ} (replicate len 0) p)
-zero-there zero p within = absurd (omega (arith, within))
-zero-there (suc len) zero within = refl
-zero-there (suc len) (suc p) within = zero-there len p (omega (arith, within))
+same-there : (len unit p : ℕ) → p < len → IsSome (slice_get {X = ℕ} (replicate len unit) p)
+same-there zero unit p within = absurd (omega (arith, within))
+same-there (suc len) unit zero within = refl
+same-there (suc len) unit (suc p) within = same-there len unit p (omega (arith, within))
 
 number-there : (copies : List ℕ) (p : ℕ) → p < length copies → IsSome (slice_get copies p)
 number-there [] p within = absurd (omega (arith, within))
@@ -147,30 +138,30 @@ number-there (x ∷ copies) zero within = refl
 number-there (x ∷ copies) (suc p) within = number-there copies p (omega (arith, within))
 
 -- a row that has begun has a copy at each place
-row-there : (rows : Rows) (w p len : ℕ) → w < length rows → p < len → All (λ row. IfSome row (λ copies. length copies ≡ len)) rows → IsSome (copy_in p (row_in (updated rows w (begun_row len)) w))
-row-there [] w p len known within long = absurd (omega (arith, known))
-row-there (None ∷ rows) zero p len known within long = zero-there len p within
-row-there (Some copies ∷ rows) zero p len known within long =
+row-there : (o : Operation) (rows : Rows) (w p len : ℕ) → w < length rows → p < len → All (λ row. IfSome row (λ copies. length copies ≡ len)) rows → IsSome (copy_in p (row_in (updated rows w (begun_row o len)) w))
+row-there o [] w p len known within long = absurd (omega (arith, known))
+row-there o (None ∷ rows) zero p len known within long = same-there len (unit_of o) p within
+row-there o (Some copies ∷ rows) zero p len known within long =
     let is : length copies ≡ len = long 0 None (omega arith) in
     number-there copies p (omega (arith, within, is))
-row-there (row ∷ rows) (suc w) p len known within long = row-there rows w p len (omega (arith, known)) within (λ k d inside. long (suc k) d (omega (arith, inside)))
+row-there o (row ∷ rows) (suc w) p len known within long = row-there o rows w p len (omega (arith, known)) within (λ k d inside. long (suc k) d (omega (arith, inside)))
 
 nothing : Use
 nothing = record { cell = record { array = 0; index = 0 }; mode = Reads }
 
--- the worker has a copy of each cell that is added to
-pub begun-there : (w : ℕ) (uses : List Use) (u : Use) (gs : List Summed) → w < 17 → Contains uses u → u.mode ≡ Adds → All IsRegular gs → IsSummed gs u.cell → IsSome (copy_among (begun_for w uses gs) w u.cell)
-begun-there w uses u [] known there adds regular (k, g, within, is, named) = absurd (omega (arith, within))
-begun-there w uses u (g ∷ gs) known there adds regular summed =
-    by (begun-there w uses u gs known there adds (λ k d within. regular (suc k) d (omega (arith, within)))) (place_in g.uses u.cell) refl
+-- the worker has a copy of each cell that is folded into
+pub begun-there : (w : ℕ) (uses : List Use) (u : Use) (gs : List Summed) → w < 17 → Contains uses u → is_fold u.mode ≡ true → All IsRegular gs → IsSummed gs u.cell → IsSome (copy_among (begun_for w uses gs) w u.cell)
+begun-there w uses u [] known there folds regular (k, g, within, is, named) = absurd (omega (arith, within))
+begun-there w uses u (g ∷ gs) known there folds regular summed =
+    by (begun-there w uses u gs known there folds (λ k d within. regular (suc k) d (omega (arith, within)))) (place_in g.uses u.cell) refl
   where
-    tested : (p : ℕ) → place_in g.uses u.cell ≡ Some p → adds_in g.uses uses ≡ true
-    tested p at = list_any-from_Any (λ v. if is_adds v.mode then is_some (place_in g.uses v.cell) else false) uses
-        (let (k, within, is) = there in (k, u, within, is, ap (λ m. if is_adds m then is_some (place_in g.uses u.cell) else false) adds ∙ ap is_some at))
+    tested : (p : ℕ) → place_in g.uses u.cell ≡ Some p → folds_in g.uses uses ≡ true
+    tested p at = list_any-from_Any (λ v. if is_fold v.mode then is_some (place_in g.uses v.cell) else false) uses
+        (let (k, within, is) = there in (k, u, within, is, ap (λ b. if b then is_some (place_in g.uses u.cell) else false) folds ∙ ap is_some at))
 
     by : (IsSummed gs u.cell → IsSome (copy_among (begun_for w uses gs) w u.cell)) → (o : Option ℕ) → place_in g.uses u.cell ≡ o → IsSome (copy_among (begun_for w uses (g ∷ gs)) w u.cell)
-    by rest None at = subst IsSome (sym (ap (λ o. if is_some o then option_and_then (λ place. copy_in place (row_in (begun_if w (adds_in g.uses uses) g).rows w)) o else copy_among (begun_for w uses gs) w u.cell)
-        (ap (λ us. place_in us u.cell) (begun-uses w (adds_in g.uses uses) g) ∙ at))) (rest (later summed))
+    by rest None at = subst IsSome (sym (ap (λ o. if is_some o then option_and_then (λ place. copy_in place (row_in (begun_if w (folds_in g.uses uses) g).rows w)) o else copy_among (begun_for w uses gs) w u.cell)
+        (ap (λ us. place_in us u.cell) (begun-uses w (folds_in g.uses uses) g) ∙ at))) (rest (later summed))
       where
         later : IsSummed (g ∷ gs) u.cell → IsSummed gs u.cell
         later (zero, h, within, is, named) = absurd (true≢false (sym named ∙ ap (names u.cell) (sym is) ∙ ap is_some at))
@@ -178,26 +169,35 @@ begun-there w uses u (g ∷ gs) known there adds regular summed =
     by rest (Some p) at =
         let one = regular 0 g (omega arith) in
         let inside : p < length g.uses = (position-Some (is_of u.cell) g.uses p nothing at).0 in
-        let mine : IsSome (copy_in p (row_in (updated g.rows w (begun_row (length g.uses))) w)) = row-there g.rows w p (length g.uses) (omega (arith, known, one.numbers)) inside one.long in
+        let mine : IsSome (copy_in p (row_in (updated g.rows w (begun_row g.op (length g.uses))) w)) = row-there g.op g.rows w p (length g.uses) (omega (arith, known, one.numbers)) inside one.long in
         subst (λ b. IsSome (copy_among (begun_if w b g ∷ begun_for w uses gs) w u.cell)) (sym (tested p at))
-        (subst IsSome (sym (ap (λ o. if is_some o then option_and_then (λ place. copy_in place (row_in (updated g.rows w (begun_row (length g.uses))) w)) o else copy_among (begun_for w uses gs) w u.cell) at)) mine)
+        (subst IsSome (sym (ap (λ o. if is_some o then option_and_then (λ place. copy_in place (row_in (updated g.rows w (begun_row g.op (length g.uses))) w)) o else copy_among (begun_for w uses gs) w u.cell) at)) mine)
 
-long-begun : (len : ℕ) (row : Option (List ℕ)) → IfSome row (λ copies. length copies ≡ len) → IfSome (begun_row len row) (λ copies. length copies ≡ len)
-long-begun len None long = length-replicate len 0
-long-begun len (Some copies) long = long
+long-begun : (o : Operation) (len : ℕ) (row : Option (List ℕ)) → IfSome row (λ copies. length copies ≡ len) → IfSome (begun_row o len row) (λ copies. length copies ≡ len)
+long-begun o len None long = length-replicate len (unit_of o)
+long-begun o len (Some copies) long = long
+
+units-small : (o : Operation) (len : ℕ) → All (λ copy. copy < 2 ^ 64) (replicate len (unit_of o))
+units-small o zero = All-nil (λ copy. copy < 2 ^ 64)
+units-small o (suc len) = All-cons (λ copy. copy < 2 ^ 64) (unit_of o) (replicate len (unit_of o)) (unit-small o) (units-small o len)
+
+small-begun : (o : Operation) (len : ℕ) (row : Option (List ℕ)) → IsSmall row → IsSmall (begun_row o len row)
+small-begun o len None small = units-small o len
+small-begun o len (Some copies) small = small
 
 begun-regular-one : (w : ℕ) (b : Bool) (g : Summed) → IsRegular g → IsRegular (begun_if w b g)
 begun-regular-one w false g regular = regular
 begun-regular-one w true g regular = record {
   written = regular.written;
-  numbers = length-updated g.rows w (begun_row (length g.uses)) ∙ regular.numbers;
-  long = all-updated (λ row. IfSome row (λ copies. length copies ≡ length g.uses)) g.rows w (begun_row (length g.uses)) (long-begun (length g.uses)) regular.long;
+  numbers = length-updated g.rows w (begun_row g.op (length g.uses)) ∙ regular.numbers;
+  long = all-updated (λ row. IfSome row (λ copies. length copies ≡ length g.uses)) g.rows w (begun_row g.op (length g.uses)) (long-begun g.op (length g.uses)) regular.long;
+  small = all-updated IsSmall g.rows w (begun_row g.op (length g.uses)) (small-begun g.op (length g.uses)) regular.small;
 }
 
 pub begun-regular : (w : ℕ) (uses : List Use) (gs : List Summed) → All IsRegular gs → All IsRegular (begun_for w uses gs)
 begun-regular w uses [] all = all
 begun-regular w uses (g ∷ gs) all =
-    All-cons IsRegular (begun_if w (adds_in g.uses uses) g) (begun_for w uses gs) (begun-regular-one w (adds_in g.uses uses) g (all 0 g (omega arith)))
+    All-cons IsRegular (begun_if w (folds_in g.uses uses) g) (begun_for w uses gs) (begun-regular-one w (folds_in g.uses uses) g (all 0 g (omega arith)))
     (begun-regular w uses gs (λ k d within. all (suc k) d (omega (arith, within))))
 
 -- ---- a group is opened
@@ -209,10 +209,10 @@ no_copies (suc n) p = no_copies n p
 pub opened-worth : (gs : List Summed) (g : Summed) (c : Cell) (n : ℕ) → g.rows ≡ replicate 17 None → worth_over (gs ++ g ∷ []) c n ≡ worth_over gs c n
 opened-worth [] g c n none = by (place_in g.uses c)
   where
-    by : (o : Option ℕ) → combined n (copies_where g.rows o) ≡ n
+    by : (o : Option ℕ) → combined g.op n (copies_where g.rows o) ≡ n
     by None = refl
-    by (Some p) = ap (combined n) (ap (λ rows. copies_at rows p) none ∙ no_copies 17 p)
-opened-worth (h ∷ gs) g c n none = opened-worth gs g c (combined n (copies_in c h)) none
+    by (Some p) = ap (combined g.op n) (ap (λ rows. copies_at rows p) none ∙ no_copies 17 p)
+opened-worth (h ∷ gs) g c n none = opened-worth gs g c (combined h.op n (copies_in c h)) none
 
 pub opened-still : (gs : List Summed) (g : Summed) (x : ℕ) (c : Cell) → IsSome (copy_among gs x c) → IsSome (copy_among (gs ++ g ∷ []) x c)
 opened-still [] g x c there = absurd (true≢false (sym there))
@@ -230,23 +230,54 @@ no-rows-long : (n len : ℕ) → All (IsLong len) (replicate n None)
 no-rows-long zero len = All-nil (IsLong len)
 no-rows-long (suc n) len = All-cons (IsLong len) None (replicate n None) tt (no-rows-long n len)
 
-pub opened-regular : (group : ℕ) (uses : List Use) → All (λ u. u.mode ≡ Writes) uses → IsRegular (record { group = group; uses = uses; rows = replicate 17 None })
-opened-regular group uses written = record { written = written; numbers = length-replicate {A = Option (List ℕ)} 17 None; long = no-rows-long 17 (length uses) }
+no-rows-small : (n : ℕ) → All IsSmall (replicate n None)
+no-rows-small zero = All-nil IsSmall
+no-rows-small (suc n) = All-cons IsSmall None (replicate n None) tt (no-rows-small n)
+
+pub opened-regular : (group : ℕ) (op : Operation) (uses : List Use) → All (λ u. u.mode ≡ Writes) uses → IsRegular (record { group = group; op = op; uses = uses; rows = replicate 17 None })
+opened-regular group op uses written = record {
+  written = written;
+  numbers = length-replicate {A = Option (List ℕ)} 17 None;
+  long = no-rows-long 17 (length uses);
+  small = no-rows-small 17;
+}
 
 -- ---- a group is closed
 
-pub closed-worth : (n : ℕ) (gs : List Summed) (c : Cell) (s : ℕ) → worth_over (without n gs) c (combined s (copies_closed n gs c)) ≡ worth_over gs c s
-closed-worth n [] c s = refl
-closed-worth n (g ∷ gs) c s = by (closed-worth n gs c) (g.group == n)
+-- the closed group's copies and others may be combined in either order, where both groups are by one operation
+closed-swap : (n : ℕ) (gs : List Summed) (c : Cell) (o : Operation) (s : ℕ) (xs : List ℕ) → All (λ g. g.group ≡ n → names c g ≡ true → g.op ≡ o) gs →
+    closed_over n gs c (combined o s xs) ≡ combined o (closed_over n gs c s) xs
+closed-swap n [] c o s xs one = refl
+closed-swap n (g ∷ gs) c o s xs one = by (closed-swap n gs c o s xs (λ k d within. one (suc k) d (omega (arith, within)))) (g.group == n) refl
   where
-    by : ((t : ℕ) → worth_over (without n gs) c (combined t (copies_closed n gs c)) ≡ worth_over gs c t) → (b : Bool) → worth_over (if b then gs else g ∷ without n gs) c (combined s (if b then copies_in c g else copies_closed n gs c)) ≡ worth_over (g ∷ gs) c s
-    by rest true = refl
-    by rest false = ap (worth_over (without n gs) c) (combined-swap s (copies_closed n gs c) (copies_in c g)) ∙ rest (combined s (copies_in c g))
+    here : g.group ≡ n → (b : Bool) → names c g ≡ b → combined g.op (combined o s xs) (copies_in c g) ≡ combined o (combined g.op s (copies_in c g)) xs
+    here is true named = subst (λ p. combined p (combined o s xs) (copies_in c g) ≡ combined o (combined p s (copies_in c g)) xs) (sym (one 0 g (omega arith) is named)) (combined-swap o s xs (copies_in c g))
+    here is false not = subst (λ ys. combined g.op (combined o s xs) ys ≡ combined o (combined g.op s ys) xs) (sym (unnamed c g not)) refl
 
-pub worth-combined : (n : ℕ) (gs : List Summed) (c : Cell) (before after : Option ℕ) → after ≡ option_map (λ s. combined s (copies_closed n gs c)) before →
+    by : closed_over n gs c (combined o s xs) ≡ combined o (closed_over n gs c s) xs → (b : Bool) → (g.group == n) ≡ b
+        → (if b then combined g.op (combined o s xs) (copies_in c g) else closed_over n gs c (combined o s xs)) ≡ combined o (if b then combined g.op s (copies_in c g) else closed_over n gs c s) xs
+    by rest true is = here (eqb-true g.group n is) (names c g) refl
+    by rest false not = rest
+
+pub closed-worth : (n : ℕ) (gs : List Summed) (c : Cell) (s : ℕ) → IsByOne n gs → worth_over (without n gs) c (closed_over n gs c s) ≡ worth_over gs c s
+closed-worth n [] c s one = refl
+closed-worth n (g ∷ gs) c s one = by (g.group == n)
+  where
+    rest : (t : ℕ) → worth_over (without n gs) c (closed_over n gs c t) ≡ worth_over gs c t
+    rest t = closed-worth n gs c t (λ k d within is e named j h inside. one (suc k) d (omega (arith, within)) is e named (suc j) h (omega (arith, inside)))
+
+    swapped : (b : Bool) → names c g ≡ b → closed_over n gs c (combined g.op s (copies_in c g)) ≡ combined g.op (closed_over n gs c s) (copies_in c g)
+    swapped true named = closed-swap n gs c g.op s (copies_in c g) (λ k d within is there. sym (one (suc k) d (omega (arith, within)) is c there 0 g (omega arith) named))
+    swapped false not = subst (λ xs. closed_over n gs c (combined g.op s xs) ≡ combined g.op (closed_over n gs c s) xs) (sym (unnamed c g not)) refl
+
+    by : (b : Bool) → worth_over (if b then gs else g ∷ without n gs) c (if b then combined g.op s (copies_in c g) else closed_over n gs c s) ≡ worth_over (g ∷ gs) c s
+    by true = refl
+    by false = ap (worth_over (without n gs) c) (sym (swapped (names c g) refl)) ∙ rest (combined g.op s (copies_in c g))
+
+pub worth-closed : (n : ℕ) (gs : List Summed) (c : Cell) (before after : Option ℕ) → IsByOne n gs → after ≡ option_map (closed_over n gs c) before →
     option_map (worth_over (without n gs) c) after ≡ option_map (worth_over gs c) before
-worth-combined n gs c None after is = ap (option_map (worth_over (without n gs) c)) is
-worth-combined n gs c (Some s) after is = ap (option_map (worth_over (without n gs) c)) is ∙ ap Some (closed-worth n gs c s)
+worth-closed n gs c None after one is = ap (option_map (worth_over (without n gs) c)) is
+worth-closed n gs c (Some s) after one is = ap (option_map (worth_over (without n gs) c)) is ∙ ap Some (closed-worth n gs c s one)
 
 pub closed-regular : (n : ℕ) (gs : List Summed) → All IsRegular gs → All IsRegular (without n gs)
 closed-regular n [] all = all
@@ -273,12 +304,14 @@ closed-still n (g ∷ gs) x c apart there = by (closed-still n gs x c (λ k d wi
     by later true is = subst (λ t. IsSome (if t then option_and_then (λ place. copy_in place (row_in g.rows x)) (place_in g.uses c) else copy_among gs x c)) (apart 0 g (omega arith) (is_number g.group n is)) there
     by later false is = kept later (place_in g.uses c) there
 
-adds_writes : (m v : Mode) → m ≡ Adds → v ≡ Writes → conflicts m v ≡ true
-adds_writes m v adds writes = ap (λ x. conflicts x v) adds ∙ ap (conflicts Adds) writes
+folds_writes : (m v : Mode) → is_fold m ≡ true → v ≡ Writes → conflicts m v ≡ true
+folds_writes Reads v folds writes = absurd (true≢false (sym folds))
+folds_writes Writes v folds writes = absurd (true≢false (sym folds))
+folds_writes (Folds o) v folds writes = ap (conflicts (Folds o)) writes
 
--- what is out to be added to isn't named by a group of which nothing is out
-pub unused : (uses : List Use) (g : Summed) (u : Use) → IsRegular g → ¬ Conflict uses g.uses → Contains uses u → u.mode ≡ Adds → names u.cell g ≡ false
-unused uses g u regular free (k, within, is) adds = by (place_in g.uses u.cell) refl
+-- what is out to be folded into isn't named by a group of which nothing is out
+pub unused : (uses : List Use) (g : Summed) (u : Use) → IsRegular g → ¬ Conflict uses g.uses → Contains uses u → is_fold u.mode ≡ true → names u.cell g ≡ false
+unused uses g u regular free (k, within, is) folds = by (place_in g.uses u.cell) refl
   where
     by : (o : Option ℕ) → place_in g.uses u.cell ≡ o → is_some o ≡ false
     by None at = refl
@@ -286,7 +319,7 @@ unused uses g u regular free (k, within, is) adds = by (place_in g.uses u.cell) 
         let found = position-Some (is_of u.cell) g.uses p nothing at in
         let v = get_or g.uses p nothing in
         let same : v.cell ≡ u.cell = (cell-decides v.cell u.cell).0 found.1 in
-        absurd (free (k, u, within, is, (p, v, found.0, sym (get_or_default g.uses p nothing v found.0), (sym same, adds_writes u.mode v.mode adds (regular.written p nothing found.0)))))
+        absurd (free (k, u, within, is, (p, v, found.0, sym (get_or_default g.uses p nothing v found.0), (sym same, folds_writes u.mode v.mode folds (regular.written p nothing found.0)))))
 
 -- ---- a lease comes back
 
@@ -294,10 +327,10 @@ pub back-push : (w : ℕ) (lent : List LentCell) (x : LentCell) (gs : List Summe
 back-push w [] x gs = refl
 back-push w (l ∷ lent) x gs = back-push w lent x (taken_back w l gs)
 
-taken-still : (w : ℕ) (l : LentCell) (gs : List Summed) (x : ℕ) (c : Cell) → IsSome (copy_among gs x c) → IsSome (copy_among (taken_back w l gs) x c)
-taken-still w l gs x c there = by (is_adds l.mode)
+pub taken-still : (w : ℕ) (l : LentCell) (gs : List Summed) (x : ℕ) (c : Cell) → IsSome (copy_among gs x c) → IsSome (copy_among (taken_back w l gs) x c)
+taken-still w l gs x c there = by (is_fold l.mode)
   where
-    by : (b : Bool) → IsSome (copy_among (if b then added w l.cell l.value gs else gs) x c)
+    by : (b : Bool) → IsSome (copy_among (if b then folded w l.cell l.value gs else gs) x c)
     by true = still-some w l.value x l.cell c gs there
     by false = there
 
@@ -305,38 +338,55 @@ pub back-still : (w : ℕ) (lent : List LentCell) (gs : List Summed) (x : ℕ) (
 back-still w [] gs x c there = there
 back-still w (l ∷ lent) gs x c there = back-still w lent (taken_back w l gs) x c (taken-still w l gs x c there)
 
-added-regular-one : (w v p : ℕ) (g : Summed) → IsRegular g → IsRegular (added_in w v g (Some p))
-added-regular-one w v p g regular = record {
+pub taken-only : (w : ℕ) (l : LentCell) (gs : List Summed) (o : Operation) (c : Cell) → IsOnlyBy gs o c → IsOnlyBy (taken_back w l gs) o c
+taken-only w l gs o c only = by (is_fold l.mode)
+  where
+    by : (b : Bool) → IsOnlyBy (if b then folded w l.cell l.value gs else gs) o c
+    by true = only-still w l.value l.cell c o gs only
+    by false = only
+
+updated-small : (o : Operation) (v : ℕ) → v < 2 ^ 64 → (copies : List ℕ) (p : ℕ) → All (λ copy. copy < 2 ^ 64) copies → All (λ copy. copy < 2 ^ 64) (updated copies p (λ copy. join_by o copy v))
+updated-small o v small copies p all = all-updated (λ copy. copy < 2 ^ 64) copies p (λ copy. join_by o copy v) (λ copy below. join-small o copy v below small) all
+
+folded-regular-one : (w v p : ℕ) (g : Summed) → v < 2 ^ 64 → IsRegular g → IsRegular (folded_in w v g (Some p))
+folded-regular-one w v p g below regular = record {
   written = regular.written;
-  numbers = length-updated g.rows w (option_map (λ copies. updated copies p (λ copy. join Adds copy v))) ∙ regular.numbers;
-  long = all-updated (λ row. IfSome row (λ copies. length copies ≡ length g.uses)) g.rows w (option_map (λ copies. updated copies p (λ copy. join Adds copy v))) keeps regular.long;
+  numbers = length-updated g.rows w (option_map (λ copies. updated copies p (λ copy. join_by g.op copy v))) ∙ regular.numbers;
+  long = all-updated (λ row. IfSome row (λ copies. length copies ≡ length g.uses)) g.rows w (option_map (λ copies. updated copies p (λ copy. join_by g.op copy v))) keeps regular.long;
+  small = all-updated IsSmall g.rows w (option_map (λ copies. updated copies p (λ copy. join_by g.op copy v))) keeps-small regular.small;
 }
   where
-    keeps : (row : Option (List ℕ)) → IfSome row (λ copies. length copies ≡ length g.uses) → IfSome (option_map (λ copies. updated copies p (λ copy. join Adds copy v)) row) (λ copies. length copies ≡ length g.uses)
+    keeps : (row : Option (List ℕ)) → IfSome row (λ copies. length copies ≡ length g.uses) → IfSome (option_map (λ copies. updated copies p (λ copy. join_by g.op copy v)) row) (λ copies. length copies ≡ length g.uses)
     keeps None long = long
-    keeps (Some copies) long = length-updated copies p (λ copy. join Adds copy v) ∙ long
+    keeps (Some copies) long = length-updated copies p (λ copy. join_by g.op copy v) ∙ long
 
-added-regular : (w v : ℕ) (c : Cell) (gs : List Summed) → All IsRegular gs → All IsRegular (added w c v gs)
-added-regular w v c [] all = all
-added-regular w v c (g ∷ gs) all = by (λ k d within. all (suc k) d (omega (arith, within))) (added-regular w v c gs (λ k d within. all (suc k) d (omega (arith, within)))) (place_in g.uses c)
+    keeps-small : (row : Option (List ℕ)) → IsSmall row → IsSmall (option_map (λ copies. updated copies p (λ copy. join_by g.op copy v)) row)
+    keeps-small None small = small
+    keeps-small (Some copies) small = updated-small g.op v below copies p small
+
+folded-regular : (w v : ℕ) (c : Cell) (gs : List Summed) → v < 2 ^ 64 → All IsRegular gs → All IsRegular (folded w c v gs)
+folded-regular w v c [] below all = all
+folded-regular w v c (g ∷ gs) below all =
+    by (λ k d within. all (suc k) d (omega (arith, within))) (folded-regular w v c gs below (λ k d within. all (suc k) d (omega (arith, within)))) (place_in g.uses c)
   where
     first : IsRegular g
     first = all 0 g (omega arith)
 
-    by : All IsRegular gs → All IsRegular (added w c v gs) → (o : Option ℕ) → All IsRegular (if is_some o then added_in w v g o ∷ gs else g ∷ added w c v gs)
-    by rest more None = All-cons IsRegular g (added w c v gs) first more
-    by rest more (Some p) = All-cons IsRegular (added_in w v g (Some p)) gs (added-regular-one w v p g first) rest
+    by : All IsRegular gs → All IsRegular (folded w c v gs) → (o : Option ℕ) → All IsRegular (if is_some o then folded_in w v g o ∷ gs else g ∷ folded w c v gs)
+    by rest more None = All-cons IsRegular g (folded w c v gs) first more
+    by rest more (Some p) = All-cons IsRegular (folded_in w v g (Some p)) gs (folded-regular-one w v p g below first) rest
 
-taken-regular : (w : ℕ) (l : LentCell) (gs : List Summed) → All IsRegular gs → All IsRegular (taken_back w l gs)
-taken-regular w l gs all = by (is_adds l.mode)
+taken-regular : (w : ℕ) (l : LentCell) (gs : List Summed) → l.value < 2 ^ 64 → All IsRegular gs → All IsRegular (taken_back w l gs)
+taken-regular w l gs below all = by (is_fold l.mode)
   where
-    by : (b : Bool) → All IsRegular (if b then added w l.cell l.value gs else gs)
-    by true = added-regular w l.value l.cell gs all
+    by : (b : Bool) → All IsRegular (if b then folded w l.cell l.value gs else gs)
+    by true = folded-regular w l.value l.cell gs below all
     by false = all
 
-pub back-regular : (w : ℕ) (lent : List LentCell) (gs : List Summed) → All IsRegular gs → All IsRegular (all_back w lent gs)
-back-regular w [] gs all = all
-back-regular w (l ∷ lent) gs all = back-regular w lent (taken_back w l gs) (taken-regular w l gs all)
+pub back-regular : (w : ℕ) (lent : List LentCell) (gs : List Summed) → All (λ l. l.value < 2 ^ 64) lent → All IsRegular gs → All IsRegular (all_back w lent gs)
+back-regular w [] gs below all = all
+back-regular w (l ∷ lent) gs below all =
+    back-regular w lent (taken_back w l gs) (λ k d within. below (suc k) d (omega (arith, within))) (taken-regular w l gs (below 0 l (omega arith)) all)
 
 pub back-more : (w : ℕ) (lent : List LentCell) (k : ℕ) (x : LentCell) (gs : List Summed) → k < length lent → x ≡ get_or lent k x →
     all_back w (take (k + 1) lent) gs ≡ taken_back w x (all_back w (take k lent) gs)
@@ -348,28 +398,28 @@ back-more w lent k x gs within is =
 -- the first of this number
 pub closing : (n k i : ℕ) (gs : List Group) → position_from (λ g. g.group == n) k gs ≡ Some i →
     (j : ℕ) × (i ≡ k + j) × (j < length gs) × (without n (summeds_of gs) ≡ summeds_of (remove gs j))
-    × ((c : Cell) (d : Group) → copies_closed n (summeds_of gs) c ≡ copies_in c (summed_of (get_or gs j d))) × ((d : Group) → (get_or gs j d).group ≡ n)
+    × ((c : Cell) (d : Group) (s : ℕ) → closed_over n (summeds_of gs) c s ≡ combined (get_or gs j d).op s (copies_in c (summed_of (get_or gs j d)))) × ((d : Group) → (get_or gs j d).group ≡ n)
 closing n k i [] is = absurd (true≢false (sym (ap is_some is)))
 closing n k i (g ∷ gs) is = by (closing n (k + 1) i gs) (g.group == n) refl
   where
-    by : (position_from (λ (h : Group). h.group == n) (k + 1) gs ≡ Some i → (j : ℕ) × (i ≡ k + 1 + j) × (j < length gs) × (without n (summeds_of gs) ≡ summeds_of (remove gs j)) × ((c : Cell) (d : Group) → copies_closed n (summeds_of gs) c ≡ copies_in c (summed_of (get_or gs j d))) × ((d : Group) → (get_or gs j d).group ≡ n)) → (b : Bool) → (g.group == n) ≡ b → (j : ℕ) × (i ≡ k + j) × (j < suc (length gs)) × (without n (summeds_of (g ∷ gs)) ≡ summeds_of (remove (g ∷ gs) j))
-        × ((c : Cell) (d : Group) → copies_closed n (summeds_of (g ∷ gs)) c ≡ copies_in c (summed_of (get_or (g ∷ gs) j d))) × ((d : Group) → (get_or (g ∷ gs) j d).group ≡ n)
+    by : (position_from (λ (h : Group). h.group == n) (k + 1) gs ≡ Some i → (j : ℕ) × (i ≡ k + 1 + j) × (j < length gs) × (without n (summeds_of gs) ≡ summeds_of (remove gs j)) × ((c : Cell) (d : Group) (s : ℕ) → closed_over n (summeds_of gs) c s ≡ combined (get_or gs j d).op s (copies_in c (summed_of (get_or gs j d)))) × ((d : Group) → (get_or gs j d).group ≡ n)) → (b : Bool) → (g.group == n) ≡ b → (j : ℕ) × (i ≡ k + j) × (j < suc (length gs)) × (without n (summeds_of (g ∷ gs)) ≡ summeds_of (remove (g ∷ gs) j))
+        × ((c : Cell) (d : Group) (s : ℕ) → closed_over n (summeds_of (g ∷ gs)) c s ≡ combined (get_or (g ∷ gs) j d).op s (copies_in c (summed_of (get_or (g ∷ gs) j d)))) × ((d : Group) → (get_or (g ∷ gs) j d).group ≡ n)
     by later true met =
         let here : k ≡ i = same_Some k i (sym (ap (λ b. cond b (Some k) (position_from (λ (g : Group). g.group == n) (k + 1) gs)) met) ∙ is) in (
           0,
           omega (arith, here),
           omega arith,
           ap (λ b. if b then summeds_of gs else summed_of g ∷ without n (summeds_of gs)) met,
-          (λ c d. ap (λ b. if b then copies_in c (summed_of g) else copies_closed n (summeds_of gs) c) met),
+          (λ c d s. ap (λ b. if b then combined g.op s (copies_in c (summed_of g)) else closed_over n (summeds_of gs) c s) met),
           (λ d. is_number g.group n met),
         )
     by later false not =
-        let (j, at, within, rest, copies, number) = later (sym (ap (λ b. cond b (Some k) (position_from (λ (g : Group). g.group == n) (k + 1) gs)) not) ∙ is) in (
+        let (j, at, within, rest, closed, number) = later (sym (ap (λ b. cond b (Some k) (position_from (λ (g : Group). g.group == n) (k + 1) gs)) not) ∙ is) in (
           suc j,
           omega (arith, at),
           omega (arith, within),
           ap (λ b. if b then summeds_of gs else summed_of g ∷ without n (summeds_of gs)) not ∙ ap (λ hs. summed_of g ∷ hs) rest,
-          (λ c d. ap (λ b. if b then copies_in c (summed_of g) else copies_closed n (summeds_of gs) c) not ∙ copies c d),
+          (λ c d s. ap (λ b. if b then combined g.op s (copies_in c (summed_of g)) else closed_over n (summeds_of gs) c s) not ∙ closed c d s),
           number,
         )
 
@@ -377,16 +427,16 @@ closing n k i (g ∷ gs) is = by (closing n (k + 1) i gs) (g.group == n) refl
 pub record Closes (n : ℕ) (gs : List Group) (i : ℕ) : Type 0 where
   pub within : i < length gs
   pub rest : without n (summeds_of gs) ≡ summeds_of (remove gs i)
-  pub copies : (c : Cell) (d : Group) → copies_closed n (summeds_of gs) c ≡ copies_in c (summed_of (get_or gs i d))
+  pub closed : (c : Cell) (d : Group) (s : ℕ) → closed_over n (summeds_of gs) c s ≡ combined (get_or gs i d).op s (copies_in c (summed_of (get_or gs i d)))
   pub number : (d : Group) → (get_or gs i d).group ≡ n
 
 pub closing-at : (n i : ℕ) (gs xs : List Group) (o : Option ℕ) → xs ≡ gs → o ≡ position (λ (g : Group). g.group == n) xs → o ≡ Some i → Closes n gs i
 closing-at n i gs xs o same first is =
     let here : position_from (λ (g : Group). g.group == n) 0 gs ≡ Some i =
     sym (ap (position (λ (g : Group). g.group == n)) same ∙ position_from-zero (λ (g : Group). g.group == n) gs) ∙ sym first ∙ is in
-    let (j, at, within, rest, copies, number) = closing n 0 i gs here in
+    let (j, at, within, rest, closed, number) = closing n 0 i gs here in
     let e : j ≡ i = omega (arith, at) in
-    subst (Closes n gs) e (record { within = within; rest = rest; copies = copies; number = number })
+    subst (Closes n gs) e (record { within = within; rest = rest; closed = closed; number = number })
 
 pub not_open : (n k : ℕ) (gs : List Group) → position_from (λ g. g.group == n) k gs ≡ None → ¬ Any (λ (g : Summed). g.group ≡ n) (summeds_of gs)
 not_open n k [] none (i, h, within, is, same) = omega (arith, within)
@@ -403,9 +453,9 @@ not_open n k (g ∷ gs) none there = by (not_open n (k + 1) gs) (g.group == n) r
 pub all-at : {A : Type 0} (P : A → Type 0) (xs : List A) (x : A) → All P xs → Contains xs x → P x
 all-at P xs x all (k, within, is) = subst P is (all k x within)
 
-pub copies-lent : (gs : List Summed) (w : ℕ) (lent : List LentCell) → HasCopies gs w (uses_of lent) → All (λ l. l.mode ≡ Adds → IsSome (copy_among gs w l.cell)) lent
+pub copies-lent : (gs : List Summed) (w : ℕ) (lent : List LentCell) → HasCopies gs w (uses_of lent) → All (λ l. is_fold l.mode ≡ true → IsSome (copy_among gs w l.cell)) lent
 copies-lent gs w lent all k d within =
-    subst (λ (u : Use). u.mode ≡ Adds → IsSome (copy_among gs w u.cell)) (get_or-map use_of lent k d) (all k (use_of d) (omega (arith, within, length-map lent use_of)))
+    subst (λ (u : Use). is_fold u.mode ≡ true → IsSome (copy_among gs w u.cell)) (get_or-map use_of lent k d) (all k (use_of d) (omega (arith, within, length-map lent use_of)))
 
 abbrev pub Copies : List Summed → Loan → Type 0
 Copies gs loan = HasCopies gs loan.worker loan.lease.uses
@@ -431,36 +481,48 @@ groups-sound : (out : List Loan) (gs hs : List Summed) → All IsRegular hs → 
 groups-sound out gs hs regular still sound = record {
   apart = sound.apart;
   regular = regular;
-  copies = λ k d within i u inside adds. still (get_or out k d).worker (get_or (get_or out k d).lease.uses i u).cell (sound.copies k d within i u inside adds);
+  copies = λ k d within i u inside folds. still (get_or out k d).worker (get_or (get_or out k d).lease.uses i u).cell (sound.copies k d within i u inside folds);
 }
 
 pub rows-sound : (out : List Loan) (gs : List Summed) (w : ℕ) (uses : List Use) → IsSound (record { out = out; groups = gs }) → IsSound (record { out = out; groups = begun_for w uses gs })
 rows-sound out gs w uses sound = groups-sound out gs (begun_for w uses gs) (begun-regular w uses gs sound.regular) (begun-still w uses gs) sound
 
+-- a cell that is folded into is named by an open group
+summed-fold : (gs : List Summed) (u : Use) → ((o : Operation) → u.mode ≡ Folds o → IsSummedBy gs o u.cell) → is_fold u.mode ≡ true → IsSummed gs u.cell
+summed-fold gs u summed folds = by u.mode refl folds
+  where
+    named : (o : Operation) → u.mode ≡ Folds o → IsSummed gs u.cell
+    named o is = let (k, g, within, at, both) = summed o is in (k, g, within, at, both.0)
+
+    by : (m : Mode) → u.mode ≡ m → is_fold m ≡ true → IsSummed gs u.cell
+    by Reads is folds = absurd (true≢false (sym folds))
+    by Writes is folds = absurd (true≢false (sym folds))
+    by (Folds o) is folds = named o is
+
 pub leased-sound : (loan : Loan) (out more : List Loan) (gs : List Summed) → loan.worker < 17 → IsPermutation (loan ∷ out) more → IsFreeFor out loan.lease.uses →
-    All (λ u. u.mode ≡ Adds → IsSummed gs u.cell) loan.lease.uses → IsSound (record { out = out; groups = gs }) → IsSound (record { out = more; groups = begun_for loan.worker loan.lease.uses gs })
+    All (λ u. (o : Operation) → u.mode ≡ Folds o → IsSummedBy gs o u.cell) loan.lease.uses → IsSound (record { out = out; groups = gs }) → IsSound (record { out = more; groups = begun_for loan.worker loan.lease.uses gs })
 leased-sound loan out more gs known begun free summed sound =
     begun-sound loan out more (begun_for loan.worker loan.lease.uses gs) begun free
-    (λ i u inside adds. let used = get_or loan.lease.uses i u in
-    begun-there loan.worker loan.lease.uses used gs known (i, inside, sym (get_or_default loan.lease.uses i u used inside)) adds sound.regular (summed i u inside adds))
+    (λ i u inside folds. let used = get_or loan.lease.uses i u in
+    begun-there loan.worker loan.lease.uses used gs known (i, inside, sym (get_or_default loan.lease.uses i u used inside)) folds sound.regular (summed-fold gs used (summed i u inside) folds))
     (rows-sound out gs loan.worker loan.lease.uses sound)
 
 pub opened-sound : (out : List Loan) (gs : List Summed) (g : Summed) → IsRegular g → IsSound (record { out = out; groups = gs }) → IsSound (record { out = out; groups = gs ++ g ∷ [] })
 opened-sound out gs g regular sound = groups-sound out gs (gs ++ g ∷ []) (All-push IsRegular gs g sound.regular regular) (opened-still gs g) sound
 
-pub back-sound : (out : List Loan) (gs : List Summed) (w : ℕ) (lent : List LentCell) → IsSound (record { out = out; groups = gs }) → IsSound (record { out = out; groups = all_back w lent gs })
-back-sound out gs w lent sound = groups-sound out gs (all_back w lent gs) (back-regular w lent gs sound.regular) (back-still w lent gs) sound
+pub back-sound : (out : List Loan) (gs : List Summed) (w : ℕ) (lent : List LentCell) → All (λ l. l.value < 2 ^ 64) lent → IsSound (record { out = out; groups = gs }) → IsSound (record { out = out; groups = all_back w lent gs })
+back-sound out gs w lent below sound = groups-sound out gs (all_back w lent gs) (back-regular w lent gs below sound.regular) (back-still w lent gs) sound
 
 pub closed-sound : (out : List Loan) (gs : List Summed) (n : ℕ) → All (λ g. g.group ≡ n → IsFreeFor out g.uses) gs → IsSound (record { out = out; groups = gs }) → IsSound (record { out = out; groups = without n gs })
 closed-sound out gs n free sound = record {
   apart = sound.apart;
   regular = closed-regular n gs sound.regular;
-  copies = λ k d within i u inside adds.
+  copies = λ k d within i u inside folds.
       let loan = get_or out k d in
       let used = get_or loan.lease.uses i u in
       closed-still n gs loan.worker used.cell
-      (λ j g known same. unused loan.lease.uses (get_or gs j g) used (sound.regular j g known) (free j g known same k d within) (i, inside, sym (get_or_default loan.lease.uses i u used inside)) adds)
-      (sound.copies k d within i u inside adds);
+      (λ j g known same. unused loan.lease.uses (get_or gs j g) used (sound.regular j g known) (free j g known same k d within) (i, inside, sym (get_or_default loan.lease.uses i u used inside)) folds)
+      (sound.copies k d within i u inside folds);
 }
 
 -- ---- joined one way or the other
@@ -468,6 +530,6 @@ closed-sound out gs n free sound = record {
 pub joined-same : (lent : List LentCell) (b b' a a' : Cell → Option ℕ) → ((c : Cell) → b' c ≡ b c) → ((c : Cell) → a' c ≡ a c) → AreJoined lent b a → AreJoined lent b' a'
 joined-same lent b b' a a' sb sa joined = record {
   lent_cells = λ k d within. let l = get_or lent k d in sa l.cell ∙ joined.lent_cells k d within ∙ sym (ap (option_map (λ n. join l.mode n l.value)) (sb l.cell));
-  untouched = λ k d within adds none. let l = get_or lent k d in sa l.cell ∙ joined.untouched k d within adds none ∙ sym (sb l.cell);
+  untouched = λ k d within o folds unit. let l = get_or lent k d in sa l.cell ∙ joined.untouched k d within o folds unit ∙ sym (sb l.cell);
   others = λ other away. sa other ∙ joined.others other away ∙ sym (sb other);
 }

@@ -1,10 +1,10 @@
--- How the copies of a cell change as a number is added to a worker's copy, and as a row begins.
+-- How the copies of a cell change as a number is folded into a worker's copy, and as a row begins.
 use Rattle.std.proofs.Common.{◌≡◌, ◌≢◌, ℕ, zero, suc, take, cond, get_or, set, map, ◌+◌, ◌^◌, ◌<◌, ◌≤◌, ◌⊎◌, List, [], ◌∷◌, ◌++◌, length, refl, sym, ap, ◌∙◌, subst, inl, inr, arith, true≢false, Bool, true, false, Vec, Global}
 use Rattle.std.specs.Prelude.{position, Option, Some, None, is_some, IfSome, slice_get, option_map, option_and_then, replicate, if◌then◌else◌}
 use Rattle.ot_model.specs.Cells.{updated, cell_of}
-use Rattle.ot_model.specs.Uses.{joined}
+use Rattle.ot_model.specs.Joining.{join_by, unit_of}
 use Rattle.ot_model.specs.declared.expr.Cell.{Cell}
-use Rattle.ot_model.specs.declared.stmt.Mode.TheVariants.{Adds}
+use Rattle.ot_model.specs.declared.fold.Fold.{Fold as Operation}
 use Rattle.ot_model.specs.declared.stmt.Use.{Use}
 use Rattle.std.proofs.lemmas.Bool.{cases_eq}
 use Rattle.std.proofs.lemmas.List.{map-set, take_more, get_or-take, get_or_read, length-map, length-set, get_or-set_same, get_or-set_other}
@@ -19,12 +19,11 @@ use Rattle.ot_model.specs.Cells.{same_cell}
 use Rattle.ot_model.proofs.EqualLemmas.{cell-decides}
 use Rattle.ot_model.proofs.OrderLemmas as uses
 use Rattle.ot_model.proofs.CellsLemmas.{set-updated, slice_get-updated, slice_get-updated-other}
-use Rattle.ot_owner.specs.Worth.{combined}
-use Rattle.ot_owner.specs.Rows.{is_of, copy_in, row_in, with_copy, copies_at, copies_where, added_at, begun_row}
-use Rattle.ot_owner.specs.Growing.{Grew}
+use Rattle.ot_owner.specs.Worth.{combined, combined_by}
+use Rattle.ot_owner.specs.Rows.{is_of, copy_in, row_in, with_copy, copies_at, copies_where, folded_at, begun_row}
 use Rattle.ot_owner.specs.Kept.{row_of}
 use Rattle.ot_owner.specs.declared.rows.Row.{Row}
-use Rattle.ot_owner.proofs.CombineLemmas.{join-zero, join-small, combined-append}
+use Rattle.ot_owner.proofs.CombineLemmas.{Grew, join-unit, join-small}
 
 abbrev Rows : Type 0
 Rows = List (Option (List ℕ))
@@ -32,52 +31,73 @@ Rows = List (Option (List ℕ))
 pub none≢some : {A : Type 0} (x : A) → None ≡ Some x → ⊥
 none≢some x e = true≢false (sym (ap is_some e))
 
-grew-copy : (v : ℕ) (o : Option ℕ) (xs ys : List ℕ) → Grew v xs ys → Grew v (with_copy o xs) (with_copy o ys)
-grew-copy v None xs ys grew = grew
-grew-copy v (Some x) xs ys grew = inr (refl, grew)
+grew-copy : (o : Operation) (v : ℕ) (copy : Option ℕ) (xs ys : List ℕ) → Grew o v xs ys → Grew o v (with_copy copy xs) (with_copy copy ys)
+grew-copy o v None xs ys grew = grew
+grew-copy o v (Some x) xs ys grew = inr (refl, grew)
 
-plus : ℕ → ℕ → ℕ
-plus v n = joined Adds n v
-
-pub grew-added : (rows : Rows) (worker place v n : ℕ) → copy_in place (row_in rows worker) ≡ Some n → Grew v (copies_at rows place) (copies_at (added_at worker place v rows) place)
-grew-added [] worker place v n is = absurd (none≢some n is)
-grew-added (None ∷ rows) zero place v n is = absurd (none≢some n is)
-grew-added (Some copies ∷ rows) zero place v n is =
-    let now : slice_get (updated copies place (λ copy. joined Adds copy v)) place ≡ Some (joined Adds n v) =
-    slice_get-updated copies place (λ copy. joined Adds copy v) ∙ ap (option_map (λ copy. joined Adds copy v)) is in
+pub grew-folded : (o : Operation) (rows : Rows) (worker place v n : ℕ) → copy_in place (row_in rows worker) ≡ Some n → Grew o v (copies_at rows place) (copies_at (folded_at o worker place v rows) place)
+grew-folded o [] worker place v n is = absurd (none≢some n is)
+grew-folded o (None ∷ rows) zero place v n is = absurd (none≢some n is)
+grew-folded o (Some copies ∷ rows) zero place v n is =
+    let now : slice_get (updated copies place (λ copy. join_by o copy v)) place ≡ Some (join_by o n v) =
+    slice_get-updated copies place (λ copy. join_by o copy v) ∙ ap (option_map (λ copy. join_by o copy v)) is in
     let rest = copies_at rows place in
-    subst (λ o. Grew v (with_copy o rest) (with_copy (slice_get (updated copies place (λ copy. joined Adds copy v)) place) rest)) (sym is)
-    (subst (λ o. Grew v (n ∷ rest) (with_copy o rest)) (sym now) (inl (refl, refl)))
-grew-added (row ∷ rows) (suc worker) place v n is =
-    grew-copy v (copy_in place row) (copies_at rows place) (copies_at (added_at worker place v rows) place) (grew-added rows worker place v n is)
+    subst (λ c. Grew o v (with_copy c rest) (with_copy (slice_get (updated copies place (λ copy. join_by o copy v)) place) rest)) (sym is)
+    (subst (λ c. Grew o v (n ∷ rest) (with_copy c rest)) (sym now) (inl (refl, refl)))
+grew-folded o (row ∷ rows) (suc worker) place v n is =
+    grew-copy o v (copy_in place row) (copies_at rows place) (copies_at (folded_at o worker place v rows) place) (grew-folded o rows worker place v n is)
 
-pub added-other : (rows : Rows) (worker place v p : ℕ) → place ≢ p → copies_at (added_at worker place v rows) p ≡ copies_at rows p
-added-other [] worker place v p apart = refl
-added-other (None ∷ rows) zero place v p apart = refl
-added-other (Some copies ∷ rows) zero place v p apart =
-    ap (λ o. with_copy o (copies_at rows p)) (slice_get-updated-other copies place p (λ copy. joined Adds copy v) apart)
-added-other (row ∷ rows) (suc worker) place v p apart = ap (with_copy (copy_in p row)) (added-other rows worker place v p apart)
+pub folded-other : (o : Operation) (rows : Rows) (worker place v p : ℕ) → place ≢ p → copies_at (folded_at o worker place v rows) p ≡ copies_at rows p
+folded-other o [] worker place v p apart = refl
+folded-other o (None ∷ rows) zero place v p apart = refl
+folded-other o (Some copies ∷ rows) zero place v p apart =
+    ap (λ c. with_copy c (copies_at rows p)) (slice_get-updated-other copies place p (λ copy. join_by o copy v) apart)
+folded-other o (row ∷ rows) (suc worker) place v p apart = ap (with_copy (copy_in p row)) (folded-other o rows worker place v p apart)
 
--- a list of zeros has a zero at each of its places
-zeros-at : (len place : ℕ) → (slice_get {X = ℕ} (replicate len 0) place ≡ None) ⊎ (slice_get {X = ℕ} (replicate len 0) place ≡ Some 0)
-zeros-at zero place = inl refl
-zeros-at (suc len) zero = inr refl
-zeros-at (suc len) (suc place) = zeros-at len place
+-- each copy of a row is below 2^64
+abbrev pub IsSmall : Option (List ℕ) → Type 0
+IsSmall row = IfSome row (λ copies. All (λ copy. copy < 2 ^ 64) copies)
+
+slice-small : (copies : List ℕ) (place n : ℕ) → All (λ copy. copy < 2 ^ 64) copies → slice_get copies place ≡ Some n → n < 2 ^ 64
+slice-small [] place n small is = absurd (none≢some n is)
+slice-small (x ∷ copies) zero n small is = subst (λ m. m < 2 ^ 64) (same_Some x n is) (small 0 x (omega arith))
+slice-small (x ∷ copies) (suc place) n small is = slice-small copies place n (λ k d within. small (suc k) d (omega (arith, within))) is
+
+copy-small : (row : Option (List ℕ)) (place n : ℕ) → IsSmall row → copy_in place row ≡ Some n → n < 2 ^ 64
+copy-small None place n small is = absurd (none≢some n is)
+copy-small (Some copies) place n small is = slice-small copies place n small is
+
+pub copies-small : (rows : Rows) (place : ℕ) → All IsSmall rows → All (λ copy. copy < 2 ^ 64) (copies_at rows place)
+copies-small [] place small = All-nil (λ copy. copy < 2 ^ 64)
+copies-small (row ∷ rows) place small =
+    by (copy_in place row) refl (copies_at rows place) (copies-small rows place (λ k d within. small (suc k) d (omega (arith, within))))
+  where
+    by : (c : Option ℕ) → copy_in place row ≡ c → (xs : List ℕ) → All (λ copy. copy < 2 ^ 64) xs → All (λ copy. copy < 2 ^ 64) (with_copy c xs)
+    by None is xs all = all
+    by (Some n) is xs all = All-cons (λ copy. copy < 2 ^ 64) n xs (copy-small row place n (small 0 row (omega arith)) is) all
+
+-- a list of one number has it at each of its places
+same-at : (len unit place : ℕ) → (slice_get {X = ℕ} (replicate len unit) place ≡ None) ⊎ (slice_get {X = ℕ} (replicate len unit) place ≡ Some unit)
+same-at zero unit place = inl refl
+same-at (suc len) unit zero = inr refl
+same-at (suc len) unit (suc place) = same-at len unit place
 
 -- a row that begins leaves what the cell is worth
-pub combined-begun : (s : ℕ) → s < 2 ^ 64 → (rows : Rows) (worker len place : ℕ) → combined s (copies_at (updated rows worker (begun_row len)) place) ≡ combined s (copies_at rows place)
-combined-begun s small [] worker len place = refl
-combined-begun s small (None ∷ rows) zero len place = elim (zeros-at len place) [
-  | inl none ↦ ap (λ o. combined s (with_copy o (copies_at rows place))) none
-  | inr nought ↦ ap (λ o. combined s (with_copy o (copies_at rows place))) nought ∙ ap (λ n. combined n (copies_at rows place)) (join-zero s small)
+pub combined-begun : (o : Operation) (s : ℕ) → s < 2 ^ 64 → (rows : Rows) (worker len place : ℕ) → All IsSmall rows →
+    combined o s (copies_at (updated rows worker (begun_row o len)) place) ≡ combined o s (copies_at rows place)
+combined-begun o s small [] worker len place all = refl
+combined-begun o s small (None ∷ rows) zero len place all = elim (same-at len (unit_of o) place) [
+  | inl none ↦ ap (λ c. combined o s (with_copy c (copies_at rows place))) none
+  | inr unit ↦ ap (λ c. combined o s (with_copy c (copies_at rows place))) unit ∙ ap (λ n. combined o n (copies_at rows place)) (join-unit o s small)
 ]
-combined-begun s small (Some copies ∷ rows) zero len place = refl
-combined-begun s small (row ∷ rows) (suc worker) len place =
-    behind s (copies_at (updated rows worker (begun_row len)) place) (copies_at rows place) (copy_in place row) (λ n below. combined-begun n below rows worker len place) small
+combined-begun o s small (Some copies ∷ rows) zero len place all = refl
+combined-begun o s small (row ∷ rows) (suc worker) len place all =
+    by (copy_in place row) refl (copies_at (updated rows worker (begun_row o len)) place) (copies_at rows place)
+    (λ n below. combined-begun o n below rows worker len place (λ k d within. all (suc k) d (omega (arith, within))))
   where
-    behind : (s : ℕ) (xs ys : List ℕ) (o : Option ℕ) → ((n : ℕ) → n < 2 ^ 64 → combined n xs ≡ combined n ys) → s < 2 ^ 64 → combined s (with_copy o xs) ≡ combined s (with_copy o ys)
-    behind s xs ys None same small = same s small
-    behind s xs ys (Some x) same small = same (joined Adds s x) (join-small s x)
+    by : (c : Option ℕ) → copy_in place row ≡ c → (xs ys : List ℕ) → ((n : ℕ) → n < 2 ^ 64 → combined o n xs ≡ combined o n ys) → combined o s (with_copy c xs) ≡ combined o s (with_copy c ys)
+    by None is xs ys same = same s small
+    by (Some x) is xs ys same = same (join_by o s x) (join-small o s x small (copy-small row place x (all 0 row (omega arith)) is))
 
 pub copies_at-append : (xs ys : Rows) (place : ℕ) → copies_at (xs ++ ys) place ≡ copies_at xs place ++ copies_at ys place
 copies_at-append [] ys place = refl
@@ -87,9 +107,15 @@ copies_at-append (row ∷ xs) ys place = by (copy_in place row) (copies_at (xs +
     by None xs ys zs same = same
     by (Some x) xs ys zs same = ap (λ l. x ∷ l) same
 
+combined_by-append : (join : ℕ → ℕ → ℕ) (s : ℕ) (xs ys : List ℕ) → combined_by join s (xs ++ ys) ≡ combined_by join (combined_by join s xs) ys
+combined_by-append join s [] ys = refl
+combined_by-append join s (x ∷ xs) ys = combined_by-append join (join s x) xs ys
+
 -- one row more
-pub total-more : (s place : ℕ) (rows : Rows) (row : Option (List ℕ)) → combined s (copies_at (rows ++ row ∷ []) place) ≡ combined (combined s (copies_at rows place)) (with_copy (copy_in place row) [])
-total-more s place rows row = ap (combined s) (copies_at-append rows (row ∷ []) place) ∙ combined-append s (copies_at rows place) (with_copy (copy_in place row) [])
+pub total-more : (join : ℕ → ℕ → ℕ) (s place : ℕ) (rows : Rows) (row : Option (List ℕ)) →
+    combined_by join s (copies_at (rows ++ row ∷ []) place) ≡ combined_by join (combined_by join s (copies_at rows place)) (with_copy (copy_in place row) [])
+total-more join s place rows row =
+    ap (combined_by join s) (copies_at-append rows (row ∷ []) place) ∙ combined_by-append join s (copies_at rows place) (with_copy (copy_in place row) [])
 
 -- a list whose elements are seen by g, once one of them is replaced
 pub map-changed : {A B : Type 0} (g : A → B) (xs : List A) (i : ℕ) (x y : A) (f : B → B) → x ≡ get_or xs i x → g y ≡ f (g x)
@@ -106,8 +132,8 @@ pub map-kept : {A B : Type 0} (g : A → B) (xs : List A) (i : ℕ) (x y : A) �
 map-kept g xs i x y is same = map-set g xs i y ∙ ap (set (map g xs) i) same ∙ set-same (map g xs) i (g x) (ap g is ∙ sym (get_or-map g xs i x))
 
 -- the cell at a place is of the group, and none of the earlier ones is the same
-abbrev CombinedTo : Rows → List Use → (before after : Cell → Option ℕ) → Type 0
-CombinedTo rows uses before after = (c : Cell) → after c ≡ option_map (λ s. combined s (copies_where rows (position (is_of c) uses))) (before c)
+abbrev CombinedTo : (ℕ → ℕ → ℕ) → Rows → List Use → (before after : Cell → Option ℕ) → Type 0
+CombinedTo join rows uses before after = (c : Cell) → after c ≡ option_map (λ s. combined_by join s (copies_where rows (position (is_of c) uses))) (before c)
 
 -- where none passes there is no place
 from-none : (p : Use → Bool) (k : ℕ) (xs : List Use) → All (λ x. p x ≡ false) xs → position_from p k xs ≡ None
@@ -144,10 +170,10 @@ others_before us k u order within is i d below =
     by false is never = is
 
 -- one cell more is combined
-pub combined-more : (rows : Rows) (us : List Use) (k n : ℕ) (u : Use) (before mid after : Cell → Option ℕ) → AreInOrder us → k < length us → u ≡ get_or us k u
-    → CombinedTo rows (take k us) before mid → mid u.cell ≡ Some n → after u.cell ≡ Some (combined n (copies_at rows k)) → ((c : Cell) → u.cell ≢ c → after c ≡ mid c)
-    → CombinedTo rows (take (k + 1) us) before after
-combined-more rows us k n u before mid after order within is soon there now others c = by (same_cell u.cell c) refl
+pub combined-more : (join : ℕ → ℕ → ℕ) (rows : Rows) (us : List Use) (k n : ℕ) (u : Use) (before mid after : Cell → Option ℕ) → AreInOrder us → k < length us → u ≡ get_or us k u
+    → CombinedTo join rows (take k us) before mid → mid u.cell ≡ Some n → after u.cell ≡ Some (combined_by join n (copies_at rows k)) → ((c : Cell) → u.cell ≢ c → after c ≡ mid c)
+    → CombinedTo join rows (take (k + 1) us) before after
+combined-more join rows us k n u before mid after order within is soon there now others c = by (same_cell u.cell c) refl
   where
     more : take (k + 1) us ≡ take k us ++ u ∷ []
     more = take_more us k u within ∙ ap (λ v. take k us ++ v ∷ []) (sym is)
@@ -165,18 +191,18 @@ combined-more rows us k n u before mid after order within is soon there now othe
         long = grind (arith, common_steps)
 
     was : before u.cell ≡ Some n
-    was = sym (unmapped (before u.cell)) ∙ ap (λ o. option_map (λ s. combined s (copies_where rows o)) (before u.cell)) (sym (position_from-zero (is_of u.cell) (take k us) ∙ from-none (is_of u.cell) 0 (take k us) none))
+    was = sym (unmapped (before u.cell)) ∙ ap (λ o. option_map (λ s. combined_by join s (copies_where rows o)) (before u.cell)) (sym (position_from-zero (is_of u.cell) (take k us) ∙ from-none (is_of u.cell) 0 (take k us) none))
         ∙ sym (soon u.cell) ∙ there
 
-    here : after u.cell ≡ option_map (λ s. combined s (copies_where rows (position (is_of u.cell) (take (k + 1) us)))) (before u.cell)
-    here = now ∙ sym (ap (λ o. option_map (λ s. combined s (copies_where rows o)) (before u.cell)) found ∙ ap (option_map (λ s. combined s (copies_at rows k))) was)
+    here : after u.cell ≡ option_map (λ s. combined_by join s (copies_where rows (position (is_of u.cell) (take (k + 1) us)))) (before u.cell)
+    here = now ∙ sym (ap (λ o. option_map (λ s. combined_by join s (copies_where rows o)) (before u.cell)) found ∙ ap (option_map (λ s. combined_by join s (copies_at rows k))) was)
 
-    by : (b : Bool) → same_cell u.cell c ≡ b → after c ≡ option_map (λ s. combined s (copies_where rows (position (is_of c) (take (k + 1) us)))) (before c)
-    by true e = subst (λ d. after d ≡ option_map (λ s. combined s (copies_where rows (position (is_of d) (take (k + 1) us)))) (before d)) ((cell-decides u.cell c).0 e) here
+    by : (b : Bool) → same_cell u.cell c ≡ b → after c ≡ option_map (λ s. combined_by join s (copies_where rows (position (is_of c) (take (k + 1) us)))) (before c)
+    by true e = subst (λ d. after d ≡ option_map (λ s. combined_by join s (copies_where rows (position (is_of d) (take (k + 1) us)))) (before d)) ((cell-decides u.cell c).0 e) here
     by false e =
         let kept : position (is_of c) (take (k + 1) us) ≡ position (is_of c) (take k us) =
         position_from-zero (is_of c) (take (k + 1) us) ∙ ap (position_from (is_of c) 0) more ∙ from-other (is_of c) 0 (take k us) u e ∙ sym (position_from-zero (is_of c) (take k us)) in
-        others c (λ d. true≢false (sym ((cell-decides u.cell c).1 d) ∙ e)) ∙ soon c ∙ ap (λ o. option_map (λ s. combined s (copies_where rows o)) (before c)) (sym kept)
+        others c (λ d. true≢false (sym ((cell-decides u.cell c).1 d) ∙ e)) ∙ soon c ∙ ap (λ o. option_map (λ s. combined_by join s (copies_where rows o)) (before c)) (sym kept)
 
 -- ---- one row of several
 

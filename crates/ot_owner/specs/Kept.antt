@@ -1,10 +1,10 @@
 -- How the crate keeps rights, rows and groups: only the crate knows it.
-use Rattle.std.specs.Prelude.{◌+◌, ◌-◌, ℕ, List, [], ◌∷◌, ◌++◌, map, length, Option, Some, None, if◌then◌else◌, option_map}
+use Rattle.std.specs.Prelude.{◌+◌, ◌-◌, ℕ, List, [], ◌∷◌, map, length, Option, Some, None, if◌then◌else◌, option_map}
 use Rattle.slab.specs.Slab.{get, values, slab_len}
 use Rattle.ot_model.specs.declared.expr.Cell.{Cell}
 use Rattle.ot_owner.specs.Owning.{Loan}
 use Rattle.ot_owner.specs.Keeping.{Made}
-use Rattle.ot_owner.specs.Rows.{Summed, names, place_in, copies_in}
+use Rattle.ot_owner.specs.Rows.{Summed, names, place_in}
 use Rattle.ot_owner.specs.declared.rights.Rights.{Rights}
 use Rattle.ot_owner.specs.declared.rows.Row.{Row}
 use Rattle.ot_owner.specs.declared.rows.Group.{Group}
@@ -29,7 +29,7 @@ abbrev pub rows_of : List Row → List (Option (List ℕ))
 rows_of rows = map row_of rows
 
 abbrev pub summed_of : Group → Summed
-summed_of g = record { group = g.group; uses = g.decl; rows = rows_of g.rows.items }
+summed_of g = record { group = g.group; op = g.op; uses = g.decl; rows = rows_of g.rows.items }
 
 abbrev pub summeds_of : List Group → List Summed
 summeds_of gs = map summed_of gs
@@ -40,11 +40,6 @@ made_of g = record { uses = g.decl; rows = map (λ r. length r.copies.items) g.r
 
 abbrev pub mades_of : List Group → List Made
 mades_of gs = map made_of gs
-
--- all copies of a cell
-abbrev pub copies_among : List Summed → Cell → List ℕ
-copies_among [] c = []
-copies_among (g ∷ gs) c = copies_in c g ++ copies_among gs c
 
 -- the first group from the number k on that names the cell, and the cell's place there
 abbrev pub holder_from : ℕ → List Summed → Cell → Option (ℕ × ℕ)

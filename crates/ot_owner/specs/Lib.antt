@@ -7,4 +7,3 @@ pub mod Back
 pub mod Keeping
 pub mod Laws
 pub mod Kept
-pub mod Growing

@@ -1,16 +1,18 @@
 -- The private copies that workers keep of the cells of open groups (OpenMP API 5.2, section 5.5).
-use Rattle.std.specs.Prelude.{◌≡◌, ◌==◌, ℕ, Bool, true, false, Any, List, [], ◌∷◌, length, replicate, Option, Some, None, is_some, if◌then◌else◌, map, slice_get, option_and_then, option_map, position}
+use Rattle.std.specs.Prelude.{◌≡◌, ◌==◌, ℕ, Bool, true, false, Any, All, List, [], ◌∷◌, length, replicate, Option, Some, None, is_some, if◌then◌else◌, map, slice_get, option_and_then, option_map, position}
 use Rattle.std.specs.List.{list_any}
 use Rattle.ot_model.specs.Cells.{same_cell, updated}
-use Rattle.ot_model.specs.Uses.{joined, is_adds}
+use Rattle.ot_model.specs.Joining.{join_by, unit_of}
+use Rattle.ot_model.specs.Uses.{is_fold}
 use Rattle.ot_model.specs.declared.expr.Cell.{Cell}
-use Rattle.ot_model.specs.declared.stmt.Mode.TheVariants.{Adds}
+use Rattle.ot_model.specs.declared.fold.Fold.{Fold as Operation}
 use Rattle.ot_model.specs.declared.stmt.Use.{Use}
 
--- an open group: its number, the cells that it names, in order, and for each worker its row, if it has one: a copy of
--- each of the cells
+-- an open group: its number, the operation by which values are folded into its cells, the cells that it names, in order,
+-- and for each worker its row, if it has one: a copy of each of the cells
 pub record Summed : Type 0 where
   pub group : ℕ
+  pub op : Operation
   pub uses : List Use
   pub rows : List (Option (List ℕ))
 
@@ -36,9 +38,21 @@ IsNamed uses c = Any (λ u. u.cell ≡ c) uses
 abbrev pub IsSummed : List Summed → Cell → Type 0
 IsSummed gs c = Any (λ g. names c g ≡ true) gs
 
--- whether one of the uses adds to a cell that is named
-abbrev pub adds_in : List Use → List Use → Bool
-adds_in named uses = list_any (λ u. if is_adds u.mode then is_some (place_in named u.cell) else false) uses
+-- an open group by this operation names the cell
+abbrev pub IsSummedBy : List Summed → Operation → Cell → Type 0
+IsSummedBy gs op c = Any (λ g. (names c g ≡ true) × (g.op ≡ op)) gs
+
+-- no open group by another operation names the cell
+abbrev pub IsOnlyBy : List Summed → Operation → Cell → Type 0
+IsOnlyBy gs op c = All (λ g. names c g ≡ true → g.op ≡ op) gs
+
+-- no cell of a group of this number is named by an open group of another operation
+abbrev pub IsByOne : ℕ → List Summed → Type 0
+IsByOne group gs = All (λ g. g.group ≡ group → (c : Cell) → names c g ≡ true → IsOnlyBy gs g.op c) gs
+
+-- whether one of the uses folds values into a cell that is named
+abbrev pub folds_in : List Use → List Use → Bool
+folds_in named uses = list_any (λ u. if is_fold u.mode then is_some (place_in named u.cell) else false) uses
 
 -- ---- copies
 
@@ -72,42 +86,37 @@ abbrev pub copy_among : List Summed → ℕ → Cell → Option ℕ
 copy_among [] worker c = None
 copy_among (g ∷ gs) worker c = if names c g then option_and_then (λ place. copy_in place (row_in g.rows worker)) (place_in g.uses c) else copy_among gs worker c
 
--- ---- a number is added to a copy
+-- ---- a number is folded into a copy
 
--- the rows with a number added to one worker's copy at a place
-abbrev pub added_at : ℕ → ℕ → ℕ → List (Option (List ℕ)) → List (Option (List ℕ))
-added_at worker place number rows = updated rows worker (λ row. option_map (λ copies. updated copies place (λ copy. joined Adds copy number)) row)
+-- the rows with a number folded into one worker's copy at a place
+abbrev pub folded_at : Operation → ℕ → ℕ → ℕ → List (Option (List ℕ)) → List (Option (List ℕ))
+folded_at op worker place number rows = updated rows worker (λ row. option_map (λ copies. updated copies place (λ copy. join_by op copy number)) row)
 
--- the group with a number added to one worker's copy at a place
-abbrev pub added_in : ℕ → ℕ → Summed → Option ℕ → Summed
-added_in worker number g None = g
-added_in worker number g (Some place) = record g { rows = added_at worker place number g.rows }
+-- the group with a number folded into one worker's copy at a place
+abbrev pub folded_in : ℕ → ℕ → Summed → Option ℕ → Summed
+folded_in worker number g None = g
+folded_in worker number g (Some place) = record g { rows = folded_at g.op worker place number g.rows }
 
--- the groups with a number added to one worker's copy of a cell, in the first group that names it
-abbrev pub added : ℕ → Cell → ℕ → List Summed → List Summed
-added worker c number [] = []
-added worker c number (g ∷ gs) = if names c g then added_in worker number g (place_in g.uses c) ∷ gs else g ∷ added worker c number gs
+-- the groups with a number folded into one worker's copy of a cell, in the first group that names it
+abbrev pub folded : ℕ → Cell → ℕ → List Summed → List Summed
+folded worker c number [] = []
+folded worker c number (g ∷ gs) = if names c g then folded_in worker number g (place_in g.uses c) ∷ gs else g ∷ folded worker c number gs
 
 -- ---- a row begins
 
--- a row that begins at zero, where the worker has none
-abbrev pub begun_row : ℕ → Option (List ℕ) → Option (List ℕ)
-begun_row len None = Some (replicate len 0)
-begun_row len (Some copies) = Some copies
+-- a row that begins at the unit of the operation, where the worker has none
+abbrev pub begun_row : Operation → ℕ → Option (List ℕ) → Option (List ℕ)
+begun_row op len None = Some (replicate len (unit_of op))
+begun_row op len (Some copies) = Some copies
 
 abbrev pub begun_in : ℕ → Summed → Summed
-begun_in worker g = record g { rows = updated g.rows worker (begun_row (length g.uses)) }
+begun_in worker g = record g { rows = updated g.rows worker (begun_row g.op (length g.uses)) }
 
--- each group that names a cell to which one of the uses adds has a row of the worker
+-- each group that names a cell into which one of the uses folds has a row of the worker
 abbrev pub begun_for : ℕ → List Use → List Summed → List Summed
-begun_for worker uses gs = map (λ g. if adds_in g.uses uses then begun_in worker g else g) gs
+begun_for worker uses gs = map (λ g. if folds_in g.uses uses then begun_in worker g else g) gs
 
 -- ---- a group is closed
-
--- all copies of a cell that the first group of this number has
-abbrev pub copies_closed : ℕ → List Summed → Cell → List ℕ
-copies_closed group [] c = []
-copies_closed group (g ∷ gs) c = if g.group == group then copies_in c g else copies_closed group gs c
 
 -- the groups without the first of this number
 abbrev pub without : ℕ → List Summed → List Summed

@@ -1,15 +1,13 @@
 //! The open groups, one after another.
-ghost use Rattle.std.specs.Prelude.{◌≡◌, ◌≢◌, ◌<◌, ◌==◌, IsSome, OnOk, All, true, option_map, position, vec_capacity, vec_len};
+ghost use Rattle.std.specs.Prelude.{◌≡◌, ◌≢◌, ◌<◌, ◌^◌, ◌==◌, IsSome, OnOk, All, true, option_map, position, vec_capacity, vec_len};
 ghost use Rattle.ot_model.specs.Cells.{cell_of, lengths};
-ghost use Rattle.ot_model.specs.Uses.{AreInOrder};
+ghost use Rattle.ot_model.specs.Uses.{AreInOrder, is_fold};
 ghost use Rattle.ot_model.specs.declared.expr.Cell.{Cell};
-ghost use Rattle.ot_model.specs.declared.stmt.Mode.TheVariants.{Adds};
 ghost use Rattle.ot_owner.specs.Back.{kept, AreStored, taken_back, all_back};
-ghost use Rattle.ot_owner.specs.Growing.{AreAdded};
 ghost use Rattle.ot_owner.specs.Keeping.{HasRow, IsRegular};
-ghost use Rattle.ot_owner.specs.Kept.{summeds_of, mades_of, holder_from, copies_among};
+ghost use Rattle.ot_owner.specs.Kept.{summeds_of, mades_of, holder_from};
 ghost use Rattle.ot_owner.specs.Lending.{uses_of};
-ghost use Rattle.ot_owner.specs.Rows.{copy_among, added, adds_in, begun_for};
+ghost use Rattle.ot_owner.specs.Rows.{copy_among, folded, folds_in, begun_for};
 ghost use Rattle.ot_owner.specs.Worth.{worth_over};
 
 use crate::lent::LentCell;
@@ -57,8 +55,8 @@ pub(crate) fn worth(groups: &[Group], cell: Cell, stored: u64) -> u64
     worth
 }
 
-/// Makes the worker's row in each group that names a cell to which one of these uses adds. No row begins
-/// by it.
+/// Makes the worker's row in each group that names a cell into which one of these uses folds. No row
+/// begins by it.
 pub(crate) fn make_rows(
     groups: &mut Vec<Group>,
     uses: &[Use],
@@ -67,7 +65,7 @@ pub(crate) fn make_rows(
     requires known { worker < 17 }
     requires regular { All IsRegular (summeds_of groups.old.items) }
     ensures same { summeds_of groups.new.items ≡ summeds_of groups.old.items }
-    ensures made { OnOk result (All (λ m. adds_in m.uses uses.now ≡ true → HasRow worker m) (mades_of groups.new.items)) }
+    ensures made { OnOk result (All (λ m. folds_in m.uses uses.now ≡ true → HasRow worker m) (mades_of groups.new.items)) }
     ensures capacity { vec_capacity groups.new ≡ vec_capacity groups.old }
     ensures len { vec_len groups.new ≡ vec_len groups.old }
 {
@@ -77,10 +75,10 @@ pub(crate) fn make_rows(
     Ok(())
 }
 
-/// Begins the worker's row in each group that names a cell to which one of these uses adds, where it has
-/// not begun. It is to be made.
+/// Begins the worker's row in each group that names a cell into which one of these uses folds, where it
+/// has not begun. It is to be made.
 pub(crate) fn begin_rows(groups: &mut Vec<Group>, uses: &[Use], worker: usize)
-    requires { All (λ m. adds_in m.uses uses.now ≡ true → HasRow worker m) (mades_of groups.old.items) }
+    requires { All (λ m. folds_in m.uses uses.now ≡ true → HasRow worker m) (mades_of groups.old.items) }
     ensures begun { summeds_of groups.new.items ≡ begun_for worker uses.now (summeds_of groups.old.items) }
     ensures made { mades_of groups.new.items ≡ mades_of groups.old.items }
     ensures capacity { vec_capacity groups.new ≡ vec_capacity groups.old }
@@ -91,32 +89,29 @@ pub(crate) fn begin_rows(groups: &mut Vec<Group>, uses: &[Use], worker: usize)
     }
 }
 
-/// Adds a number to a worker's copy of a cell.
-fn add(groups: &mut Vec<Group>, worker: usize, cell: Cell, number: u64)
+/// Folds a number into a worker's copy of a cell, by the operation of its group.
+fn fold(groups: &mut Vec<Group>, worker: usize, cell: Cell, number: u64)
     requires { IsSome (copy_among (summeds_of groups.old.items) worker cell) }
-    ensures added { summeds_of groups.new.items ≡ added worker cell number (summeds_of groups.old.items) }
-    ensures idle { number ≡ 0 → summeds_of groups.new.items ≡ summeds_of groups.old.items }
+    ensures folded { summeds_of groups.new.items ≡ folded worker cell number (summeds_of groups.old.items) }
     ensures made { mades_of groups.new.items ≡ mades_of groups.old.items }
     ensures capacity { vec_capacity groups.new ≡ vec_capacity groups.old }
     ensures len { vec_len groups.new ≡ vec_len groups.old }
 {
     if let Some((i, place)) = find(groups, cell) {
-        groups[i].add(worker, place, number);
+        groups[i].fold(worker, place, number);
     }
 }
 
-/// Takes one lent cell back: a written one has its present value, and what was added goes to the
+/// Takes one lent cell back: a written one has its present value, and what was folded goes to the
 /// worker's row.
 fn give_one(cells: &mut Cells, groups: &mut Vec<Group>, worker: usize, copy: LentCell)
     requires there { IsSome (cell_of cells.old copy.cell) }
-    requires row { copy.mode ≡ Adds → IsSome (copy_among (summeds_of groups.old.items) worker copy.cell) }
+    requires row { is_fold copy.mode ≡ true → IsSome (copy_among (summeds_of groups.old.items) worker copy.cell) }
     ensures stored { cell_of cells.new copy.cell ≡ option_map (λ stored. kept copy.mode stored copy.value) (cell_of cells.old copy.cell) }
     ensures others { (other : Cell) → copy.cell ≢ other → cell_of cells.new other ≡ cell_of cells.old other }
     ensures lengths { lengths cells.new ≡ lengths cells.old }
-    ensures rows { copy.mode ≡ Adds → summeds_of groups.new.items ≡ added worker copy.cell copy.value (summeds_of groups.old.items) }
-    ensures idle { copy.mode ≡ Adds → copy.value ≡ 0 → summeds_of groups.new.items ≡ summeds_of groups.old.items }
-    ensures kept_rows { copy.mode ≢ Adds → summeds_of groups.new.items ≡ summeds_of groups.old.items }
     ensures back { summeds_of groups.new.items ≡ taken_back worker copy (summeds_of groups.old.items) }
+    ensures small { copy.value < 2 ^ 64 }
     ensures made { mades_of groups.new.items ≡ mades_of groups.old.items }
     ensures capacity { vec_capacity groups.new ≡ vec_capacity groups.old }
     ensures len { vec_len groups.new ≡ vec_len groups.old }
@@ -124,7 +119,7 @@ fn give_one(cells: &mut Cells, groups: &mut Vec<Group>, worker: usize, copy: Len
     match copy.mode {
         Mode::Reads => {}
         Mode::Writes => cells.set(copy.cell, copy.value),
-        Mode::Adds => add(groups, worker, copy.cell, copy.value),
+        Mode::Folds(_) => fold(groups, worker, copy.cell, copy.value),
     }
 }
 
@@ -132,10 +127,10 @@ fn give_one(cells: &mut Cells, groups: &mut Vec<Group>, worker: usize, copy: Len
 pub(crate) fn give_all(cells: &mut Cells, groups: &mut Vec<Group>, worker: usize, lent: &[LentCell])
     requires ordered { AreInOrder (uses_of lent.now) }
     requires there { All (λ l. IsSome (cell_of cells.old l.cell)) lent.now }
-    requires rows { All (λ l. l.mode ≡ Adds → IsSome (copy_among (summeds_of groups.old.items) worker l.cell)) lent.now }
+    requires rows { All (λ l. is_fold l.mode ≡ true → IsSome (copy_among (summeds_of groups.old.items) worker l.cell)) lent.now }
     ensures stored { AreStored lent.now (cell_of cells.old) (cell_of cells.new) }
-    ensures copies { AreAdded lent.now (copies_among (summeds_of groups.old.items)) (copies_among (summeds_of groups.new.items)) }
     ensures back { summeds_of groups.new.items ≡ all_back worker lent.now (summeds_of groups.old.items) }
+    ensures small { All (λ l. l.value < 2 ^ 64) lent.now }
     ensures lengths { lengths cells.new ≡ lengths cells.old }
     ensures made { mades_of groups.new.items ≡ mades_of groups.old.items }
     ensures capacity { vec_capacity groups.new ≡ vec_capacity groups.old }

@@ -5,13 +5,13 @@ use crate::rights::Rights;
 use crate::room::Room;
 use crate::rows::Group;
 use crate::slip::Slip;
-use ot_model::{Cell, Cells, Decl, Look};
+use ot_model::{Cell, Cells, Decl, Fold, Look};
 use std::alloc::{AllocError, Global};
 use std::marker::Model;
 
-/// Who reads, writes or adds to which cell at this moment: the rights that are out, and for each open group
-/// a row of private copies for each worker that adds in it. No two rights conflict at a cell, as uses of
-/// one cell do unless both read or both add. Only `room` and `prepare` take memory.
+/// Who reads, writes or folds into which cell at this moment: the rights that are out, and for each open
+/// group a row of private copies for each worker that folds in it. No two rights conflict at a cell, as uses
+/// of one cell do unless both read or both fold by one operation. Only `room` and `prepare` take memory.
 #[derive(Debug, Drop)]
 pub struct Owners {
     rights: Rights,
@@ -40,12 +40,13 @@ impl Owners {
     ghost use Rattle.std.specs.Prelude.{◌≡◌, ◌↔◌, ◌≤◌, ◌++◌, ◌∷◌, [], ℕ, List, None, Some, IsTrue, IsSome, IfOk, All, Any, Contains, IsPermutation, option_map, replicate};
     ghost use Rattle.ot_model.specs.Cells.{cell_of, lengths};
     ghost use Rattle.ot_model.specs.declared.expr.Cell.{Cell};
-    ghost use Rattle.ot_model.specs.declared.stmt.Mode.TheVariants.{Writes, Adds};
+    ghost use Rattle.ot_model.specs.declared.fold.Fold.{Fold as Operation};
+    ghost use Rattle.ot_model.specs.declared.stmt.Mode.TheVariants.{Writes, Folds};
     ghost use Rattle.ot_owner.specs.Leases.{lent_from};
     ghost use Rattle.ot_owner.specs.Owning.{loan_of, IsFreeFor, NoTwoConflict};
-    ghost use Rattle.ot_owner.specs.Rows.{IsNamed, IsSummed, copy_among, begun_for, copies_closed, without};
-    ghost use Rattle.ot_owner.specs.Worth.{combined, worth, IsCombined, AreWorthSame, AreJoined};
-    ghost use Rattle.ot_owner.specs.Back.{AreStored, all_back};
+    ghost use Rattle.ot_owner.specs.Rows.{IsNamed, IsSummed, IsSummedBy, IsByOne, copy_among, begun_for, without};
+    ghost use Rattle.ot_owner.specs.Worth.{closed_over, worth, IsCombined, AreWorthSame, AreJoined};
+    ghost use Rattle.ot_owner.specs.Back.{AreStored, IsByOwn, all_back};
     ghost use Rattle.ot_owner.specs.Keeping.{Prepared, IsLast, IsOpenable};
 
     /// No right is out, and no group is open. It takes no memory.
@@ -76,7 +77,8 @@ impl Owners {
         copy_of(&self.groups, worker as usize, cell)
     }
 
-    /// What a cell that is there is worth: its stored number combined with all copies of it.
+    /// What a cell that is there is worth: its stored number combined with all copies of it, by the
+    /// operation of each group.
     pub fn worth(&self, cells: &Cells, cell: Cell) -> u64
         requires { IsSome (cell_of cells.now cell) }
         ensures { worth self.now.owned cells.now cell ≡ Some result }
@@ -107,38 +109,39 @@ impl Owners {
         ensures rooms { IsOpenable self.old → IsOpenable self.new }
     {
         let slip = Slip::of(alloc, decl, worker)?;
-        make_rows(&mut self.groups, slip.adds(), worker as usize)?;
+        make_rows(&mut self.groups, slip.folds(), worker as usize)?;
         self.rights.make()?;
         Ok(slip)
     }
 
-    /// Opens a group in the room of the last `room`, with no row. It takes no memory.
-    pub fn open_group(&mut self, group: u32, room: Room)
+    /// Opens a group by this operation in the room of the last `room`, with no row. It takes no memory.
+    pub fn open_group(&mut self, group: u32, op: Fold, room: Room)
         requires { IsOpenable self.old }
         ensures out { self.new.owned.out ≡ self.old.owned.out }
-        ensures groups { self.new.owned.groups ≡ self.old.owned.groups ++ record { group = group; uses = room; rows = replicate 17 None } ∷ [] }
+        ensures groups { self.new.owned.groups ≡ self.old.owned.groups ++ record { group = group; op = op; uses = room; rows = replicate 17 None } ∷ [] }
         ensures worth { (cells : List (List ℕ)) → AreWorthSame self.old.owned self.new.owned cells cells }
     {
-        self.groups.push_reserved(room.open(group));
+        self.groups.push_reserved(room.open(group, op));
     }
 
     /// Lends what the slip of the last `prepare` says, where it is free and no group was opened since.
-    /// Each cell is to be there, and each that is added to is to be named by an open group. A cell under
-    /// `Reads` or `Writes` comes with its stored number, and one under `Adds` begins at 0: so those who add
-    /// to one cell are out side by side. Where such a cell's group has no row of the worker, one begins at
-    /// 0. It takes no memory.
+    /// Each cell is to be there, and each under `Folds` is to be named by an open group of its operation. A
+    /// cell under `Reads` or `Writes` comes with its stored number, and one under `Folds` begins at the unit of
+    /// its operation: so those who fold into one cell by one operation are out side by side. Where such a
+    /// cell's group has no row of the worker, one begins at the unit of the group's operation. It takes no
+    /// memory.
     pub fn lease(&mut self, cells: &Cells, slip: Slip) -> Lent
         requires last { IsLast self.old slip }
         requires free { IsFreeFor self.old.owned.out slip.uses }
         requires there { All (λ u. IsSome (cell_of cells.now u.cell)) slip.uses }
-        requires summed { All (λ u. u.mode ≡ Adds → IsSummed self.old.owned.groups u.cell) slip.uses }
+        requires summed { All (λ u. (op : Operation) → u.mode ≡ Folds op → IsSummedBy self.old.owned.groups op u.cell) slip.uses }
         ensures lent { result ≡ lent_from cells.now slip.uses }
         ensures out { IsPermutation (loan_of slip.worker result ∷ self.old.owned.out) self.new.owned.out }
         ensures groups { self.new.owned.groups ≡ begun_for slip.worker slip.uses self.old.owned.groups }
         ensures worth { AreWorthSame self.old.owned self.new.owned cells.now cells.now }
         ensures rooms { IsOpenable self.old → IsOpenable self.new }
     {
-        begin_rows(&mut self.groups, slip.adds(), slip.worker() as usize);
+        begin_rows(&mut self.groups, slip.folds(), slip.worker() as usize);
         numbers(cells);
         let (lent, loan) = slip.fill(cells);
         let key = self.rights.put(loan);
@@ -146,14 +149,14 @@ impl Owners {
     }
 
     /// Takes back what is out to the worker, and whose cells are there: a written cell has its present
-    /// value from now on, what was added goes to the worker's row, modulo 2^64, every other stored number
-    /// and copy stays, and the right ends. It takes no memory.
+    /// value from now on, what was folded goes to the worker's row, by the operation of its group, every
+    /// other stored number and copy stays, and the right ends. It takes no memory.
     pub fn give_back(&mut self, cells: &mut Cells, lent: Lent, worker: u32)
         requires out { Contains self.old.owned.out (loan_of worker lent) }
         requires there { All (λ l. IsSome (cell_of cells.old l.cell)) lent }
         ensures stored { AreStored lent (cell_of cells.old) (cell_of cells.new) }
         ensures groups { self.new.owned.groups ≡ all_back worker lent self.old.owned.groups }
-        ensures worth { All (λ l. l.mode ≡ Writes → ¬ IsSummed self.old.owned.groups l.cell) lent → AreJoined lent (worth self.old.owned cells.old) (worth self.new.owned cells.new) }
+        ensures worth { All (λ l. l.mode ≡ Writes → ¬ IsSummed self.old.owned.groups l.cell) lent → IsByOwn lent self.old.owned.groups → AreJoined lent (worth self.old.owned cells.old) (worth self.new.owned cells.new) }
         ensures lengths { lengths cells.new ≡ lengths cells.old }
         ensures ended { IsPermutation self.old.owned.out (loan_of worker lent ∷ self.new.owned.out) }
         ensures slips { (s : Prepared) → IsLast self.old s → IsLast self.new s }
@@ -176,15 +179,15 @@ impl Owners {
     }
 
     /// Closes an open group, whose cells are there, and of which none is out: each stored number is combined
-    /// with all copies of its cell, and the rows are gone. It takes no memory.
+    /// with all copies of its cell, by the operation of the group, and the rows are gone. It takes no memory.
     pub fn close_group(&mut self, cells: &mut Cells, group: u32)
         requires is_open { Any (λ g. g.group ≡ group) self.old.owned.groups }
         requires unused { All (λ g. g.group ≡ group → IsFreeFor self.old.owned.out g.uses) self.old.owned.groups }
         requires there { All (λ g. g.group ≡ group → All (λ u. IsSome (cell_of cells.old u.cell)) g.uses) self.old.owned.groups }
-        ensures stored { (cell : Cell) → cell_of cells.new cell ≡ option_map (λ stored. combined stored (copies_closed group self.old.owned.groups cell)) (cell_of cells.old cell) }
+        ensures stored { (cell : Cell) → cell_of cells.new cell ≡ option_map (closed_over group self.old.owned.groups cell) (cell_of cells.old cell) }
         ensures groups { self.new.owned.groups ≡ without group self.old.owned.groups }
         ensures out { self.new.owned.out ≡ self.old.owned.out }
-        ensures worth { AreWorthSame self.old.owned self.new.owned cells.old cells.new }
+        ensures worth { IsByOne group self.old.owned.groups → AreWorthSame self.old.owned self.new.owned cells.old cells.new }
         ensures lengths { lengths cells.new ≡ lengths cells.old }
         ensures slips { (s : Prepared) → IsLast self.old s → IsLast self.new s }
         ensures rooms { IsOpenable self.new }

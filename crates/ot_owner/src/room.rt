@@ -8,7 +8,7 @@ ghost use Rattle.ot_owner.specs.Kept.{rows_of};
 ghost use Rattle.ot_owner.specs.Rows.{IsNamed};
 
 use crate::rows::{Group, Row};
-use ot_model::{Cell, Decl, Mode, Use};
+use ot_model::{Cell, Decl, Fold, Mode, Use};
 use std::alloc::{AllocError, Global};
 use std::marker::Model;
 
@@ -53,13 +53,18 @@ impl Room {
         })
     }
 
-    /// The group of this number in it. It takes no memory.
-    pub(crate) fn open(self, group: u32) -> Group
-        ensures opened { summed_of result ≡ record { group = group; uses = self; rows = replicate 17 None } }
+    /// The group of this number in it, by this operation. It takes no memory.
+    pub(crate) fn open(self, group: u32, op: Fold) -> Group
+        ensures opened { summed_of result ≡ record { group = group; op = op; uses = self; rows = replicate 17 None } }
         ensures written { All (λ u. u.mode ≡ Writes) self }
     {
         let Room { decl, rows } = self;
-        Group { group, decl, rows }
+        Group {
+            group,
+            op,
+            decl,
+            rows,
+        }
     }
 }
 

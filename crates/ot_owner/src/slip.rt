@@ -1,6 +1,6 @@
 ghost use Rattle.std.specs.Prelude.{◌≡◌, List, IfOk};
 ghost use Rattle.ot_model.specs.declared.stmt.Use.{Use};
-ghost use Rattle.ot_owner.specs.Rows.{adds_in};
+ghost use Rattle.ot_owner.specs.Rows.{folds_in};
 
 use crate::lent::LentCell;
 use crate::right::{Right, RightRoom};
@@ -15,8 +15,8 @@ use std::marker::Model;
 pub struct Slip {
     room: RightRoom,
     lent: Vec<LentCell>,
-    /// Those of the uses that add, so that the others aren't gone over for each group.
-    adds: Vec<Use>,
+    /// Those of the uses that fold, so that the others aren't gone over for each group.
+    folds: Vec<Use>,
     worker: u32,
 }
 
@@ -24,19 +24,19 @@ impl Model for Slip {
     ghost use Rattle.std.specs.Prelude.{◌≡◌, ◌≤◌, ◌<◌, [], List, length, vec_capacity};
     ghost use Rattle.ot_model.specs.declared.stmt.Use.{Use};
     ghost use Rattle.ot_owner.specs.Keeping.{Prepared};
-    ghost use Rattle.ot_owner.specs.Rows.{adds_in};
+    ghost use Rattle.ot_owner.specs.Rows.{folds_in};
 
     ghost Value = { Prepared };
 
     ghost view = { λ s. record { uses = s.room; worker = s.worker } };
 
-    ghost invariant = { λ s. (s.lent.items ≡ []) × (length s.room ≤ vec_capacity s.lent) × (s.worker < 17) × ((named : List Use) → adds_in named s.adds.items ≡ adds_in named s.room) };
+    ghost invariant = { λ s. (s.lent.items ≡ []) × (length s.room ≤ vec_capacity s.lent) × (s.worker < 17) × ((named : List Use) → folds_in named s.folds.items ≡ folds_in named s.room) };
 }
 
 impl Slip {
     ghost use Rattle.std.specs.Prelude.{◌≡◌, ◌<◌, List, IfOk, IsSome, All};
     ghost use Rattle.ot_model.specs.declared.stmt.Use.{Use};
-    ghost use Rattle.ot_owner.specs.Rows.{adds_in};
+    ghost use Rattle.ot_owner.specs.Rows.{folds_in};
     ghost use Rattle.ot_model.specs.Cells.{cell_of};
     ghost use Rattle.ot_model.specs.Uses.{AreInOrder};
     ghost use Rattle.ot_owner.specs.Leases.{lent_from};
@@ -49,11 +49,11 @@ impl Slip {
     {
         let room = Right::room(alloc, decl)?;
         let lent = Vec::with_capacity(alloc, room.uses().len())?;
-        let adds = adding(alloc, room.uses())?;
+        let folds = folding(alloc, room.uses())?;
         Ok(Slip {
             room,
             lent,
-            adds,
+            folds,
             worker,
         })
     }
@@ -74,11 +74,11 @@ impl Slip {
         self.room.uses()
     }
 
-    /// Those of the uses that add.
-    pub(crate) fn adds(&self) -> &[Use]
-        ensures { (named : List Use) → adds_in named result.now ≡ adds_in named self.now.uses }
+    /// Those of the uses that fold.
+    pub(crate) fn folds(&self) -> &[Use]
+        ensures { (named : List Use) → folds_in named result.now ≡ folds_in named self.now.uses }
     {
-        &self.adds
+        &self.folds
     }
 
     /// The lent cells and the loan of them, from the cells as they are. Each is to be there. It takes no
@@ -91,7 +91,7 @@ impl Slip {
         let Slip {
             room,
             mut lent,
-            adds: _,
+            folds: _,
             worker,
         } = self;
         for used in room.uses() {
@@ -108,15 +108,15 @@ impl Slip {
     }
 }
 
-/// Those of the uses that add.
-fn adding(alloc: Global, uses: &[Use]) -> Result<Vec<Use>, AllocError>
-    ensures { IfOk result (λ adds. (named : List Use) → adds_in named adds.items ≡ adds_in named uses.now) }
+/// Those of the uses that fold.
+fn folding(alloc: Global, uses: &[Use]) -> Result<Vec<Use>, AllocError>
+    ensures { IfOk result (λ folds. (named : List Use) → folds_in named folds.items ≡ folds_in named uses.now) }
 {
-    let mut adds = Vec::new(alloc);
+    let mut folds = Vec::new(alloc);
     for used in uses {
-        if used.mode == Mode::Adds {
-            adds.push(*used)?;
+        if matches!(used.mode, Mode::Folds(_)) {
+            folds.push(*used)?;
         }
     }
-    Ok(adds)
+    Ok(folds)
 }

@@ -2,7 +2,7 @@ use Rattle.std.proofs.Common.{◌≡◌, ◌<◌, ◌∙◌, sym, subst, arith, 
 use Rattle.std.specs.Prelude.{true, All}
 use Rattle.ot_owner.specs.Keeping.{Made, HasRow, IsRegular}
 use Rattle.ot_owner.specs.Kept.{summed_of, made_of}
-use Rattle.ot_owner.specs.Rows.{Summed, adds_in}
+use Rattle.ot_owner.specs.Rows.{Summed, folds_in}
 use Rattle.ot_owner.specs.declared.rows.Group.{Group}
 use Rattle.ot_owner.proofs.RowLemmas.{map-kept, seen-at, all-seen, before-more}
 use Rattle.ot_owner.proofs.groups.make_rows.Goals as goal
@@ -34,7 +34,7 @@ loop-i-preserved c =
     let within : i < length items = omega (arith, c.loop-i-test.true, c.loop-i.invariant.len, c.len-i-end.ensures, c.loop-i.groups.ok.0) in
     record {
       same = map-kept summed_of items i x y c.index_mut.ensures.value c.make_for.ensures.same ∙ c.loop-i.invariant.same;
-      made = before-more (λ (g : Group). adds_in g.decl c.args.uses.now ≡ true → HasRow c.args.worker (made_of g)) items i y c.loop-i.invariant.made c.in_ok-make_for.ensures.made within;
+      made = before-more (λ (g : Group). folds_in g.decl c.args.uses.now ≡ true → HasRow c.args.worker (made_of g)) items i y c.loop-i.invariant.made c.in_ok-make_for.ensures.made within;
       len = c.loop-i.invariant.len;
       capacity = c.loop-i.invariant.capacity;
     }
@@ -45,5 +45,5 @@ returns-in_err-make_for-clause-same c =
 
 pub returns-clause-made : goal.returns-clause-made
 returns-clause-made c =
-    all-seen made_of (λ (m : Made). adds_in m.uses c.args.uses.now ≡ true → HasRow c.args.worker m) c.loop-i.groups.items
+    all-seen made_of (λ (m : Made). folds_in m.uses c.args.uses.now ≡ true → HasRow c.args.worker m) c.loop-i.groups.items
     (λ j d within. c.loop-i.invariant.made j d (omega (arith, within, c.loop-i-test.false, c.loop-i.invariant.len, c.len-i-end.ensures, c.loop-i.groups.ok.0)) within)

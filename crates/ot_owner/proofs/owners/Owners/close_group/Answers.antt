@@ -6,10 +6,10 @@ use Rattle.ot_model.specs.Cells.{cell_of}
 use Rattle.ot_owner.specs.Keeping.{IsSound, IsLast, Made, HasRow, Prepared}
 use Rattle.ot_owner.specs.Kept.{loans_in, spare_in, summed_of, summeds_of, made_of, mades_of}
 use Rattle.ot_owner.specs.Owning.{Owned, IsFreeFor}
-use Rattle.ot_owner.specs.Rows.{Summed, copies_in, copies_closed, without, adds_in}
-use Rattle.ot_owner.specs.Worth.{combined, worth_over}
+use Rattle.ot_owner.specs.Rows.{Summed, copies_in, without, folds_in}
+use Rattle.ot_owner.specs.Worth.{combined, worth_over, closed_over}
 use Rattle.ot_owner.specs.declared.rows.Group.{Group}
-use Rattle.ot_owner.proofs.OpenLemmas.{closing-at, not_open, closed-sound, worth-combined}
+use Rattle.ot_owner.proofs.OpenLemmas.{closing-at, not_open, closed-sound, worth-closed, same_worth}
 use Rattle.ot_owner.proofs.RowLemmas.{seen-at, all-removed}
 use Rattle.ot_owner.proofs.owners.Owners.close_group.Goals as goal
 
@@ -46,9 +46,9 @@ returns-clause-stored c = λ cell.
     let x : Group = c.index.result.now in
     let closes = closing-at c.args.group c.in-Some.place items c.deref.result.now c.place_of.result c.deref.ensures.value c.place_of.ensures c.in-Some.is in
     let was : summeds_of items ≡ c.args.self.now.owned.groups = ap (λ k. k.owned.groups) c.self.view_is in
-    let copies : copies_in cell (summed_of x) ≡ copies_closed c.args.group c.args.self.now.owned.groups cell =
-    ap (λ g. copies_in cell (summed_of g)) c.index.ensures ∙ sym (closes.copies cell x) ∙ ap (λ gs. copies_closed c.args.group gs cell) was in
-    c.combine.ensures.combined cell ∙ ap (λ xs. option_map (λ n. combined n xs) (cell_of c.args.cells.now cell)) copies
+    c.combine.ensures.combined cell
+    ∙ same_worth (λ n. combined x.op n (copies_in cell (summed_of x))) (closed_over c.args.group c.args.self.now.owned.groups cell) (cell_of c.args.cells.now cell)
+    (λ n. ap (λ (g : Group). combined g.op n (copies_in cell (summed_of g))) c.index.ensures ∙ sym (closes.closed cell x n) ∙ ap (λ gs. closed_over c.args.group gs cell n) was)
 
 pub returns-clause-groups : goal.returns-clause-groups
 returns-clause-groups c =
@@ -57,11 +57,11 @@ returns-clause-groups c =
     ap summeds_of c.remove.ensures.items ∙ sym closes.rest ∙ ap (λ k. without c.args.group k.owned.groups) c.self.view_is
 
 pub returns-clause-worth : goal.returns-clause-worth
-returns-clause-worth c = λ cell.
+returns-clause-worth c = λ one cell.
     let items = c.self.inside.groups.items in
     let gs = c.args.self.now.owned.groups in
     ap (λ hs. option_map (worth_over hs cell) (cell_of c.combine.new.cells cell)) (returns-clause-groups c)
-    ∙ worth-combined c.args.group gs cell (cell_of c.args.cells.now cell) (cell_of c.combine.new.cells cell) (returns-clause-stored c cell)
+    ∙ worth-closed c.args.group gs cell (cell_of c.args.cells.now cell) (cell_of c.combine.new.cells cell) one (returns-clause-stored c cell)
 
 pub returns-clause-slips : goal.returns-clause-slips
 returns-clause-slips c = λ (s : Prepared) last.
@@ -73,6 +73,6 @@ returns-clause-slips c = λ (s : Prepared) last.
     }) s = subst (λ k. IsLast k s) (sym c.self.view_is) last in
     record {
       place = was.place;
-      rows = subst (λ (gs : List Group). All (λ (m : Made). adds_in m.uses s.uses ≡ true → HasRow s.worker m) (mades_of gs)) (sym c.remove.ensures.items)
-          (all-removed made_of (λ (m : Made). adds_in m.uses s.uses ≡ true → HasRow s.worker m) c.self.inside.groups.items c.in-Some.place was.rows);
+      rows = subst (λ (gs : List Group). All (λ (m : Made). folds_in m.uses s.uses ≡ true → HasRow s.worker m) (mades_of gs)) (sym c.remove.ensures.items)
+          (all-removed made_of (λ (m : Made). folds_in m.uses s.uses ≡ true → HasRow s.worker m) c.self.inside.groups.items c.in-Some.place was.rows);
     }

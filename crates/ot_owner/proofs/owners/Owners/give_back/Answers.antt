@@ -1,18 +1,18 @@
-use Rattle.std.proofs.Common.{◌≡◌, ◌∙◌, List, ap, sym, subst, get_or, IsSome, Contains, ◌-◌}
+use Rattle.std.proofs.Common.{◌≡◌, ◌∙◌, List, ap, sym, subst, IsSome, Contains, ◌-◌}
 use Rattle.std.specs.Prelude.{All, true, vec_capacity, vec_len}
 use Rattle.ot_model.specs.Cells.{cell_of}
-use Rattle.ot_model.specs.declared.stmt.Mode.TheVariants.{Adds}
+use Rattle.ot_model.specs.Uses.{is_fold}
+use Rattle.ot_model.specs.declared.stmt.Mode.TheVariants.{Writes}
 use Rattle.ot_owner.specs.declared.lent.LentCell.{LentCell}
-use Rattle.ot_owner.specs.Back.{AreStored}
-use Rattle.ot_owner.specs.Growing.{AreAdded, worth_with}
+use Rattle.ot_owner.specs.Back.{AreStored, IsByOwn, all_back}
 use Rattle.ot_owner.specs.Keeping.{IsSound, IsLast, Made, HasRow, Prepared}
-use Rattle.ot_owner.specs.Kept.{loans_in, spare_in, summeds_of, mades_of, copies_among}
+use Rattle.ot_owner.specs.Kept.{loans_in, spare_in, summeds_of, mades_of}
 use Rattle.ot_owner.specs.Leases.{lease_of}
 use Rattle.ot_owner.specs.Owning.{Loan}
-use Rattle.ot_owner.specs.Rows.{Summed, copy_among, adds_in}
-use Rattle.ot_owner.specs.Worth.{worth}
-use Rattle.ot_owner.proofs.GivingLemmas.{joined-worth}
-use Rattle.ot_owner.proofs.OpenLemmas.{Copies, all-at, copies-lent, back-sound, joined-same, unsummed, worth-with}
+use Rattle.ot_owner.specs.Rows.{Summed, IsSummed, copy_among, folds_in}
+use Rattle.ot_owner.specs.Worth.{worth, AreJoined}
+use Rattle.ot_owner.proofs.GivingLemmas.{worth_with, joined-worth}
+use Rattle.ot_owner.proofs.OpenLemmas.{Copies, all-at, copies-lent, back-sound}
 use Rattle.ot_owner.proofs.owners.Owners.give_back.Goals as goal
 
 pub give_all-requires-clause-rows : goal.give_all-requires-clause-rows
@@ -20,29 +20,33 @@ give_all-requires-clause-rows c =
     let gs = summeds_of c.self.inside.groups.items in
     let loan : Loan = record { worker = c.args.worker; lease = lease_of c.args.lent } in
     let out : Contains (loans_in c.self.inside.rights) loan = subst (λ xs. Contains xs loan) (ap (λ k. k.owned.out) (sym c.self.view_is)) c.requires.out in
-    subst (λ (ls : List LentCell). All (λ l. l.mode ≡ Adds → IsSome (copy_among gs c.args.worker l.cell)) ls) (sym c.cells.ensures.cells)
+    subst (λ (ls : List LentCell). All (λ l. is_fold l.mode ≡ true → IsSome (copy_among gs c.args.worker l.cell)) ls) (sym c.cells.ensures.cells)
     (copies-lent gs c.args.worker c.args.lent (all-at (Copies gs) (loans_in c.self.inside.rights) loan c.self.invariant.copies out))
 
 pub invariant_of-self : goal.invariant_of-self
 invariant_of-self c =
     let out = loans_in c.self.inside.rights in
     subst (λ (gs : List Summed). IsSound (record { out = out; groups = gs })) (sym c.give_all.ensures.back)
-    (back-sound out (summeds_of c.self.inside.groups.items) c.args.worker c.cells.result.now c.self.invariant)
+    (back-sound out (summeds_of c.self.inside.groups.items) c.args.worker c.cells.result.now c.give_all.ensures.small c.self.invariant)
 
 pub returns-clause-worth : goal.returns-clause-worth
-returns-clause-worth c = λ none.
+returns-clause-worth c = λ none own.
     let before = summeds_of c.self.inside.groups.items in
     let after = summeds_of c.give_all.new.groups.items in
+    let lent : List LentCell = c.args.lent in
+    let cells = c.cells.ensures.cells in
     let was : before ≡ c.args.self.now.owned.groups = ap (λ k. k.owned.groups) c.self.view_is in
-    joined-same c.args.lent
-    (worth_with (copies_among before) (cell_of c.args.cells.now)) (worth c.args.self.now.owned c.args.cells.now)
-    (worth_with (copies_among after) (cell_of c.give_all.new.cells)) (worth c.drop_right.new.self.owned c.give_all.new.cells)
-    (λ cell. worth-with c.args.self.now.owned c.args.cells.now cell ∙ ap (λ gs. worth_with (copies_among gs) (cell_of c.args.cells.now) cell) (sym was))
-    (λ cell. worth-with c.drop_right.new.self.owned c.give_all.new.cells cell ∙ ap (λ gs. worth_with (copies_among gs) (cell_of c.give_all.new.cells) cell) c.drop_right.ensures.groups)
-    (joined-worth c.args.lent (cell_of c.args.cells.now) (cell_of c.give_all.new.cells) (copies_among before) (copies_among after)
-    (subst (λ (ls : List LentCell). AreStored ls (cell_of c.args.cells.now) (cell_of c.give_all.new.cells)) c.cells.ensures.cells c.give_all.ensures.stored)
-    (subst (λ (ls : List LentCell). AreAdded ls (copies_among before) (copies_among after)) c.cells.ensures.cells c.give_all.ensures.copies)
-    (λ k d within writes. ap (λ gs. copies_among gs (get_or c.args.lent k d).cell) was ∙ unsummed c.args.self.now.owned.groups (get_or c.args.lent k d).cell (none k d within writes)))
+    let now : all_back c.args.worker lent before ≡ c.drop_right.new.self.owned.groups =
+    ap (λ ls. all_back c.args.worker ls before) (sym cells) ∙ sym c.give_all.ensures.back ∙ sym c.drop_right.ensures.groups in
+    let rows : All (λ l. is_fold l.mode ≡ true → IsSome (copy_among before c.args.worker l.cell)) lent =
+    subst (λ (ls : List LentCell). All (λ l. is_fold l.mode ≡ true → IsSome (copy_among before c.args.worker l.cell)) ls) cells (give_all-requires-clause-rows c) in
+    let joined : AreJoined lent (worth_with before (cell_of c.args.cells.now)) (worth_with (all_back c.args.worker lent before) (cell_of c.give_all.new.cells)) =
+    joined-worth c.args.worker lent before c.cells.ensures.ordered rows
+    (subst (λ (gs : List Summed). All (λ l. l.mode ≡ Writes → ¬ IsSummed gs l.cell) lent) (sym was) none)
+    (subst (IsByOwn lent) (sym was) own) (cell_of c.args.cells.now) (cell_of c.give_all.new.cells)
+    (subst (λ (ls : List LentCell). AreStored ls (cell_of c.args.cells.now) (cell_of c.give_all.new.cells)) cells c.give_all.ensures.stored) in
+    subst (λ (gs : List Summed). AreJoined lent (worth_with gs (cell_of c.args.cells.now)) (worth c.drop_right.new.self.owned c.give_all.new.cells)) was
+    (subst (λ (gs : List Summed). AreJoined lent (worth_with before (cell_of c.args.cells.now)) (worth_with gs (cell_of c.give_all.new.cells))) now joined)
 
 pub returns-clause-slips : goal.returns-clause-slips
 returns-clause-slips c = λ (s : Prepared) last.
@@ -54,5 +58,5 @@ returns-clause-slips c = λ (s : Prepared) last.
     }) s = subst (λ k. IsLast k s) (sym c.self.view_is) last in
     c.drop_right.ensures.slips s (record {
       place = was.place;
-      rows = subst (λ (ms : List Made). All (λ m. adds_in m.uses s.uses ≡ true → HasRow s.worker m) ms) (sym c.give_all.ensures.made) was.rows;
+      rows = subst (λ (ms : List Made). All (λ m. folds_in m.uses s.uses ≡ true → HasRow s.worker m) ms) (sym c.give_all.ensures.made) was.rows;
     })

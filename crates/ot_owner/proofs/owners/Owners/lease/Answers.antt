@@ -1,10 +1,11 @@
 use Rattle.std.proofs.Common.{◌≡◌, ◌∙◌, ap, sym, subst}
 use Rattle.std.specs.Prelude.{All, ◌<◌}
 use Rattle.ot_model.specs.Cells.{cell_of}
-use Rattle.ot_model.specs.declared.stmt.Mode.TheVariants.{Adds}
+use Rattle.ot_model.specs.declared.fold.Fold.{Fold as Operation}
+use Rattle.ot_model.specs.declared.stmt.Mode.TheVariants.{Folds}
 use Rattle.ot_owner.specs.Keeping.{IsSound}
 use Rattle.ot_owner.specs.Owning.{Loan, Owned, IsFreeFor}
-use Rattle.ot_owner.specs.Rows.{IsSummed, begun_for}
+use Rattle.ot_owner.specs.Rows.{IsSummedBy, begun_for}
 use Rattle.ot_owner.specs.Kept.{loans_in, summeds_of}
 use Rattle.ot_owner.specs.Worth.{worth_over}
 use Rattle.ot_owner.proofs.OpenLemmas.{begun-alike, begun-worth, leased-sound, same_small}
@@ -18,13 +19,13 @@ invariant_of-self c =
     let loan : Loan = c.fill-lent.result.1 in
     let uses : loan.lease.uses ≡ c.args.slip.uses = ap (λ (l : Loan). l.lease.uses) c.fill-lent.ensures.loan ∙ uses_of-lent_from c.args.cells.now c.args.slip.uses in
     let begun : summeds_of c.begin_rows.new.groups.items ≡ begun_for loan.worker loan.lease.uses before =
-    c.begin_rows.ensures.begun ∙ begun-alike c.worker.result c.adds.result.now c.args.slip.uses before c.adds.ensures
+    c.begin_rows.ensures.begun ∙ begun-alike c.worker.result c.folds.result.now c.args.slip.uses before c.folds.ensures
     ∙ ap (λ us. begun_for c.worker.result us before) (sym uses)
     ∙ ap (λ w. begun_for w loan.lease.uses before) (c.worker.ensures.worker ∙ sym (ap (λ (l : Loan). l.worker) c.fill-lent.ensures.loan)) in
     let owned : record { out = out; groups = before } ≡ c.args.self.now.owned = ap (λ k. k.owned) c.self.view_is in
     let free : IsFreeFor out loan.lease.uses = subst (IsFreeFor out) (sym uses) (subst (λ (o : Owned). IsFreeFor o.out c.args.slip.uses) (sym owned) c.requires.free) in
-    let summed : All (λ u. u.mode ≡ Adds → IsSummed before u.cell) loan.lease.uses =
-    subst (All (λ u. u.mode ≡ Adds → IsSummed before u.cell)) (sym uses) (subst (λ (o : Owned). All (λ u. u.mode ≡ Adds → IsSummed o.groups u.cell) c.args.slip.uses) (sym owned) c.requires.summed) in
+    let summed : All (λ u. (op : Operation) → u.mode ≡ Folds op → IsSummedBy before op u.cell) loan.lease.uses =
+    subst (All (λ u. (op : Operation) → u.mode ≡ Folds op → IsSummedBy before op u.cell)) (sym uses) (subst (λ (o : Owned). All (λ u. (op : Operation) → u.mode ≡ Folds op → IsSummedBy o.groups op u.cell) c.args.slip.uses) (sym owned) c.requires.summed) in
     let known : loan.worker < 17 = subst (λ w. w < 17) (c.worker.ensures.worker ∙ sym (ap (λ (l : Loan). l.worker) c.fill-lent.ensures.loan)) c.worker.ensures.known in
     subst (λ gs. IsSound (record { out = loans_in c.put-key.new.self; groups = gs })) (sym begun)
     (leased-sound loan out (loans_in c.put-key.new.self) before known c.put-key.ensures.put free summed c.self.invariant)
@@ -35,4 +36,4 @@ returns-clause-worth c = λ cell.
     let gs = c.args.self.now.owned.groups in
     let was : before ≡ gs = ap (λ k. k.owned.groups) c.self.view_is in
     same_small (worth_over (summeds_of c.begin_rows.new.groups.items) cell) (worth_over gs cell) (cell_of c.args.cells.now cell) (c.numbers.ensures cell)
-    (λ n small. ap (λ hs. worth_over hs cell n) c.begin_rows.ensures.begun ∙ begun-worth c.worker.result c.adds.result.now before cell n small ∙ ap (λ hs. worth_over hs cell n) was)
+    (λ n small. ap (λ hs. worth_over hs cell n) c.begin_rows.ensures.begun ∙ begun-worth c.worker.result c.folds.result.now before cell n small c.self.invariant.regular ∙ ap (λ hs. worth_over hs cell n) was)

@@ -15,7 +15,7 @@ invariant_of-self c =
     let more : summeds_of c.push_reserved.new.self.items ≡ summeds_of items ++ summed_of g ∷ [] = ap summeds_of c.push_reserved.ensures.items ∙ map-append summed_of items (g ∷ []) in
     subst (λ gs. IsSound (record { out = loans_in c.self.inside.rights; groups = gs })) (sym more)
     (opened-sound (loans_in c.self.inside.rights) (summeds_of items) (summed_of g)
-    (subst IsRegular (sym c.open.ensures.opened) (opened-regular c.args.group c.args.room c.open.ensures.written)) c.self.invariant)
+    (subst IsRegular (sym c.open.ensures.opened) (opened-regular c.args.group c.args.op c.args.room c.open.ensures.written)) c.self.invariant)
 
 pub returns-clause-worth : goal.returns-clause-worth
 returns-clause-worth c = λ cells cell.

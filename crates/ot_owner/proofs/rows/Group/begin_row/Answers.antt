@@ -18,9 +18,9 @@ returns-clause-begun c =
     let x = c.index_mut.result.now in
     let here = made_here (λ (r : Row). length r.copies.items) rows c.args.worker (length c.args.self.now.decl) x c.requires in
     let long : length x.copies.items ≡ length c.args.self.now.decl = ap (λ (r : Row). length r.copies.items) c.index_mut.ensures.value ∙ here.1 in
-    ap (λ (rows : List (Option (List ℕ))). let g : Summed = record { group = c.args.self.now.group; uses = c.args.self.now.decl; rows = rows } in g)
-    (map-changed row_of rows c.args.worker x c.begin.new.self (begun_row (length c.args.self.now.decl)) c.index_mut.ensures.value
-    (c.begin.ensures.begun ∙ ap (λ n. begun_row n (row_of x)) long))
+    ap (λ (rows : List (Option (List ℕ))). let g : Summed = record { group = c.args.self.now.group; op = c.args.self.now.op; uses = c.args.self.now.decl; rows = rows } in g)
+    (map-changed row_of rows c.args.worker x c.begin.new.self (begun_row c.args.self.now.op (length c.args.self.now.decl)) c.index_mut.ensures.value
+    (c.begin.ensures.begun ∙ ap (λ n. begun_row c.args.self.now.op n (row_of x)) long))
 
 pub returns-clause-made : goal.returns-clause-made
 returns-clause-made c =

@@ -22,7 +22,7 @@ make-requires c = λ begun.
 
 pub returns-clause-same : goal.returns-clause-same
 returns-clause-same c =
-    ap (λ (rows : List (Option (List ℕ))). let g : Summed = record { group = c.args.self.now.group; uses = c.args.self.now.decl; rows = rows } in g)
+    ap (λ (rows : List (Option (List ℕ))). let g : Summed = record { group = c.args.self.now.group; op = c.args.self.now.op; uses = c.args.self.now.decl; rows = rows } in g)
     (map-kept row_of c.args.self.now.rows.items c.args.worker c.index_mut.result.now c.make.new.self c.index_mut.ensures.value c.make.ensures.same)
 
 pub returns-clause-made : goal.returns-clause-made
