@@ -1,8 +1,9 @@
 -- Assignments on lent copies, step by step.
-use Rattle.std.proofs.Common.{◌≡◌, ◌≢◌, ◌<◌, ◌+◌, ◌%◌, ◌^◌, ℕ, zero, suc, Bool, true, false, List, [], ◌∷◌, ◌++◌, length, get_or, refl, sym, ap, subst, ◌∙◌, arith}
+use Rattle.std.proofs.Common.{◌≡◌, ◌≢◌, ◌<◌, ◌+◌, ℕ, zero, suc, Bool, true, false, List, [], ◌∷◌, ◌++◌, length, get_or, refl, sym, ap, subst, ◌∙◌, arith}
 use Rattle.std.specs.Prelude.{Some, IsSome, slice_get, option_map, if◌then◌else◌}
 use Rattle.std.proofs.lemmas.Option.{same_Some}
-use Rattle.ot_model.specs.Tree.{E, Literal, CellAt, Apply, PickFrom, S, Set, Add, If, Task, Wait, Group, Body, End, Next, append}
+use Rattle.ot_model.specs.Tree.{E, Literal, CellAt, Apply, PickFrom, S, Set, Fold, If, Task, Wait, Group, Body, End, Next, append}
+use Rattle.ot_model.specs.Joining.{join_by}
 use Rattle.ot_model.specs.Value.{val, HasAll}
 use Rattle.ot_model.specs.declared.expr.Cell.{Cell}
 use Rattle.ot_model.specs.declared.stmt.Use.{Use}
@@ -35,14 +36,14 @@ assigned-same (Next (Set d e) rest) look other same c =
     let v = value-same look other e (read-all (λ x. look x ≡ other x) same e) in
     assigned-same rest (with_copy look d (λ _. val look e)) (with_copy other d (λ _. val other e))
     (λ x. ap (λ n. with_copy look d (λ _. n) x) v ∙ ap (λ o. if same_cell d x then option_map (λ _. val other e) o else o) (same x)) c
-assigned-same (Next (Add d e) rest) look other same c =
+assigned-same (Next (Fold o d e) rest) look other same c =
     let v = value-same look other e (read-all (λ x. look x ≡ other x) same e) in
-    assigned-same rest (with_copy look d (λ n. (n + val look e) % 2 ^ 64)) (with_copy other d (λ n. (n + val other e) % 2 ^ 64))
-    (λ x. ap (λ w. with_copy look d (λ n. (n + w) % 2 ^ 64) x) v ∙ ap (λ o. if same_cell d x then option_map (λ n. (n + val other e) % 2 ^ 64) o else o) (same x)) c
+    assigned-same rest (with_copy look d (λ n. join_by o n (val look e))) (with_copy other d (λ n. join_by o n (val other e)))
+    (λ x. ap (λ w. with_copy look d (λ n. join_by o n w) x) v ∙ ap (λ s. if same_cell d x then option_map (λ n. join_by o n (val other e)) s else s) (same x)) c
 assigned-same (Next (If e a b) rest) look other same c = same c
 assigned-same (Next (Task d b) rest) look other same c = same c
 assigned-same (Next Wait rest) look other same c = same c
-assigned-same (Next (Group cs b) rest) look other same c = same c
+assigned-same (Next (Group o cs b) rest) look other same c = same c
 
 -- a copy is set to f of its value, and no other copy changes
 pub copy-set : (look now : Look) (c : Cell) (m n : ℕ) (f : ℕ → ℕ) → look c ≡ Some m → n ≡ f m → now c ≡ Some n → ((d : Cell) → c ≢ d → now d ≡ look d)
@@ -83,38 +84,38 @@ change-kept lent now c same (k, l, within, is, both) = found now k (ap (λ (x : 
 
 pub can-kept : (b : Body) (lent now : List LentCell) → lease_of now ≡ lease_of lent → ((c : Cell) → IsSome (value_at lent c) → IsSome (value_at now c)) → CanAssign b lent → CanAssign b now
 can-kept (Next (Set c e) rest) lent now same kept h = (all-kept (value_at lent) (value_at now) e kept h.0, change-kept lent now c same h.1, can-kept rest lent now same kept h.2)
-can-kept (Next (Add c e) rest) lent now same kept h = (all-kept (value_at lent) (value_at now) e kept h.0, change-kept lent now c same h.1, can-kept rest lent now same kept h.2)
+can-kept (Next (Fold o c e) rest) lent now same kept h = (all-kept (value_at lent) (value_at now) e kept h.0, change-kept lent now c same h.1, can-kept rest lent now same kept h.2)
 can-kept End lent now same kept h = tt
 can-kept (Next (If e a b) rest) lent now same kept h = tt
 can-kept (Next (Task d b) rest) lent now same kept h = tt
 can-kept (Next Wait rest) lent now same kept h = tt
-can-kept (Next (Group cs b) rest) lent now same kept h = tt
+can-kept (Next (Group o cs b) rest) lent now same kept h = tt
 
 abbrev pub IsAssign : S → Type 0
 IsAssign (Set c e) = Unit {0}
-IsAssign (Add c e) = Unit {0}
+IsAssign (Fold o c e) = Unit {0}
 IsAssign x = ⊥
 
 -- the first statement, and then the rest
 pub assigned-first : (x : S) (rest : Body) (look now : Look) → ((c : Cell) → now c ≡ assigned (Next x End) look c) → (c : Cell) → IsAssign x → assigned rest now c ≡ assigned (Next x rest) look c
 assigned-first (Set d e) rest look now made c is = assigned-same rest now (with_copy look d (λ _. val look e)) made c
-assigned-first (Add d e) rest look now made c is = assigned-same rest now (with_copy look d (λ n. (n + val look e) % 2 ^ 64)) made c
+assigned-first (Fold o d e) rest look now made c is = assigned-same rest now (with_copy look d (λ n. join_by o n (val look e))) made c
 assigned-first (If e a b) rest look now made c is = absurd is
 assigned-first (Task d b) rest look now made c is = absurd is
 assigned-first Wait rest look now made c is = absurd is
-assigned-first (Group cs b) rest look now made c is = absurd is
+assigned-first (Group o cs b) rest look now made c is = absurd is
 
 pub can-rest : (x : S) (rest : Body) (lent : List LentCell) → IsAssign x → CanAssign (Next x rest) lent → CanAssign rest lent
 can-rest (Set d e) rest lent is h = h.2
-can-rest (Add d e) rest lent is h = h.2
+can-rest (Fold o d e) rest lent is h = h.2
 can-rest (If e a b) rest lent is h = absurd is
 can-rest (Task d b) rest lent is h = absurd is
 can-rest Wait rest lent is h = absurd is
-can-rest (Group cs b) rest lent is h = absurd is
+can-rest (Group o cs b) rest lent is h = absurd is
 
 pub is_assign : (a : Assign) → IsAssign (assign_of a)
 is_assign (v.Set c e) = tt
-is_assign (v.Add c e) = tt
+is_assign (v.Fold o c e) = tt
 
 pub assigns-push : (ms : List Assign) (a : Assign) (b : Body) → append (assigns_of (ms ++ a ∷ [])) b ≡ append (assigns_of ms) (Next (assign_of a) b)
 assigns-push [] a b = refl

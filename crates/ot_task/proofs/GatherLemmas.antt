@@ -1,9 +1,9 @@
--- Sets and adds that are gathered, before what stands behind them.
+-- Sets and folds that are gathered, before what stands behind them.
 use Rattle.std.proofs.Common.{◌≡◌, ◌+◌, ℕ, Bool, true, false, List, [], ◌∷◌, ◌++◌, length, map, reverse, refl, sym, ap, ◌∙◌, arith, inl, inr}
 use Rattle.std.specs.Prelude.{None, ◌==◌, ◌↔◌, IsTrue}
 use Rattle.std.proofs.lemmas.List.{length-map, length-reverse}
 use Rattle.std.proofs.lemmas.Grind.{common_steps}
-use Rattle.ot_model.specs.Tree.{S, Set, Add, If, Task, Wait, Group, Body, End, Next, append, body_of}
+use Rattle.ot_model.specs.Tree.{S, Set, Fold, If, Task, Wait, Group, Body, End, Next, append, body_of}
 use Rattle.ot_model.proofs.TreeLemmas as tree
 use Rattle.ot_model.specs.View.{stmt_of}
 use Rattle.ot_model.specs.declared.stmt.Stmt.{Stmt}
@@ -28,65 +28,65 @@ more x b c h = ap tail h
 pub leading-append : (g b : Body) → leading g ≡ g → leading (append g b) ≡ append g (leading b)
 leading-append End b h = refl
 leading-append (Next (Set c e) rest) b h = ap (Next (Set c e)) (leading-append rest b (more (Set c e) (leading rest) rest h))
-leading-append (Next (Add c e) rest) b h = ap (Next (Add c e)) (leading-append rest b (more (Add c e) (leading rest) rest h))
+leading-append (Next (Fold o c e) rest) b h = ap (Next (Fold o c e)) (leading-append rest b (more (Fold o c e) (leading rest) rest h))
 leading-append (Next (If e p q) rest) b h = cc
 leading-append (Next (Task d p) rest) b h = cc
 leading-append (Next Wait rest) b h = cc
-leading-append (Next (Group cs p) rest) b h = cc
+leading-append (Next (Group o cs p) rest) b h = cc
 
 pub behind-append : (g b : Body) → leading g ≡ g → behind (append g b) ≡ behind b
 behind-append End b h = refl
 behind-append (Next (Set c e) rest) b h = behind-append rest b (more (Set c e) (leading rest) rest h)
-behind-append (Next (Add c e) rest) b h = behind-append rest b (more (Add c e) (leading rest) rest h)
+behind-append (Next (Fold o c e) rest) b h = behind-append rest b (more (Fold o c e) (leading rest) rest h)
 behind-append (Next (If e p q) rest) b h = cc
 behind-append (Next (Task d p) rest) b h = cc
 behind-append (Next Wait rest) b h = cc
-behind-append (Next (Group cs p) rest) b h = cc
+behind-append (Next (Group o cs p) rest) b h = cc
 
 pub weight-append : (g b : Body) → leading g ≡ g → weight (append g b) ≡ weight b
 weight-append End b h = refl
 weight-append (Next (Set c e) rest) b h = let w = weight-append rest b (more (Set c e) (leading rest) rest h) in omega (arith, w)
-weight-append (Next (Add c e) rest) b h = let w = weight-append rest b (more (Add c e) (leading rest) rest h) in omega (arith, w)
+weight-append (Next (Fold o c e) rest) b h = let w = weight-append rest b (more (Fold o c e) (leading rest) rest h) in omega (arith, w)
 weight-append (Next (If e p q) rest) b h = cc
 weight-append (Next (Task d p) rest) b h = cc
 weight-append (Next Wait rest) b h = cc
-weight-append (Next (Group cs p) rest) b h = cc
+weight-append (Next (Group o cs p) rest) b h = cc
 
 pub leading-twice : (b : Body) → leading (leading b) ≡ leading b
 leading-twice End = refl
 leading-twice (Next (Set c e) rest) = ap (Next (Set c e)) (leading-twice rest)
-leading-twice (Next (Add c e) rest) = ap (Next (Add c e)) (leading-twice rest)
+leading-twice (Next (Fold o c e) rest) = ap (Next (Fold o c e)) (leading-twice rest)
 leading-twice (Next (If e p q) rest) = refl
 leading-twice (Next (Task d p) rest) = refl
 leading-twice (Next Wait rest) = refl
-leading-twice (Next (Group cs p) rest) = refl
+leading-twice (Next (Group o cs p) rest) = refl
 
 pub leading-behind : (b : Body) → leading (behind b) ≡ End
 leading-behind End = refl
 leading-behind (Next (Set c e) rest) = leading-behind rest
-leading-behind (Next (Add c e) rest) = leading-behind rest
+leading-behind (Next (Fold o c e) rest) = leading-behind rest
 leading-behind (Next (If e p q) rest) = refl
 leading-behind (Next (Task d p) rest) = refl
 leading-behind (Next Wait rest) = refl
-leading-behind (Next (Group cs p) rest) = refl
+leading-behind (Next (Group o cs p) rest) = refl
 
 pub both : (b : Body) → append (leading b) (behind b) ≡ b
 both End = refl
 both (Next (Set c e) rest) = ap (Next (Set c e)) (both rest)
-both (Next (Add c e) rest) = ap (Next (Add c e)) (both rest)
+both (Next (Fold o c e) rest) = ap (Next (Fold o c e)) (both rest)
 both (Next (If e p q) rest) = refl
 both (Next (Task d p) rest) = refl
 both (Next Wait rest) = refl
-both (Next (Group cs p) rest) = refl
+both (Next (Group o cs p) rest) = refl
 
 pub no_leading : (b : Body) → leading_len b ≡ 0 → leading b ≡ End
 no_leading End h = refl
 no_leading (Next (Set c e) rest) h = absurd (omega (arith, h))
-no_leading (Next (Add c e) rest) h = absurd (omega (arith, h))
+no_leading (Next (Fold o c e) rest) h = absurd (omega (arith, h))
 no_leading (Next (If e p q) rest) h = refl
 no_leading (Next (Task d p) rest) h = refl
 no_leading (Next Wait rest) h = refl
-no_leading (Next (Group cs p) rest) h = refl
+no_leading (Next (Group o cs p) rest) h = refl
 
 -- ---- no control statement comes next
 
@@ -104,56 +104,56 @@ not-both x r l (inr h) = h l
 pub no_test : (b : Body) → NoControl b → test_of b ≡ None
 no_test End n = refl
 no_test (Next (Set c e) r) n = refl
-no_test (Next (Add c e) r) n = refl
+no_test (Next (Fold o c e) r) n = refl
 no_test (Next (If e p q) r) n = absurd (not-both (If e p q) r refl n)
 no_test (Next (Task d p) r) n = refl
 no_test (Next Wait r) n = refl
-no_test (Next (Group cs p) r) n = refl
+no_test (Next (Group o cs p) r) n = refl
 
 pub no_task : (b : Body) → NoControl b → next_task b ≡ None
 no_task End n = refl
 no_task (Next (Set c e) r) n = refl
-no_task (Next (Add c e) r) n = refl
+no_task (Next (Fold o c e) r) n = refl
 no_task (Next (If e p q) r) n = refl
 no_task (Next (Task d p) r) n = absurd (not-both (Task d p) r refl n)
 no_task (Next Wait r) n = refl
-no_task (Next (Group cs p) r) n = refl
+no_task (Next (Group o cs p) r) n = refl
 
 pub no_tasks : (b : Body) → NoControl b → tasks_next b ≡ 0
 no_tasks End n = refl
 no_tasks (Next (Set c e) r) n = refl
-no_tasks (Next (Add c e) r) n = refl
+no_tasks (Next (Fold o c e) r) n = refl
 no_tasks (Next (If e p q) r) n = refl
 no_tasks (Next (Task d p) r) n = absurd (not-both (Task d p) r refl n)
 no_tasks (Next Wait r) n = refl
-no_tasks (Next (Group cs p) r) n = refl
+no_tasks (Next (Group o cs p) r) n = refl
 
 pub no_step : (taken : Bool) (g : ℕ) (b : Body) (r : Region) → NoControl b → stepped_from taken g b r ≡ r
 no_step taken g End r n = refl
 no_step taken g (Next (Set c e) b) r n = refl
-no_step taken g (Next (Add c e) b) r n = refl
+no_step taken g (Next (Fold o c e) b) r n = refl
 no_step taken g (Next (If e p q) b) r n = absurd (not-both (If e p q) b refl n)
 no_step taken g (Next (Task d p) b) r n = absurd (not-both (Task d p) b refl n)
 no_step taken g (Next Wait b) r n = absurd (not-both Wait b refl n)
-no_step taken g (Next (Group cs p) b) r n = absurd (not-both (Group cs p) b refl n)
+no_step taken g (Next (Group o cs p) b) r n = absurd (not-both (Group o cs p) b refl n)
 
 -- ---- how many come first
 
 pub one-counted : (x : S) (b : Body) → is_control (leading (Next x End)) ≡ true → leading_len (Next x b) ≡ 1 + leading_len b
 one-counted (Set c e) b h = refl
-one-counted (Add c e) b h = refl
+one-counted (Fold o c e) b h = refl
 one-counted (If e p q) b h = cc
 one-counted (Task d p) b h = cc
 one-counted Wait b h = cc
-one-counted (Group cs p) b h = cc
+one-counted (Group o cs p) b h = cc
 
 pub none-counted : (x : S) (b : Body) → is_control (leading (Next x End)) ≡ false → leading_len (Next x b) ≡ 0
 none-counted (Set c e) b h = cc
-none-counted (Add c e) b h = cc
+none-counted (Fold o c e) b h = cc
 none-counted (If e p q) b h = refl
 none-counted (Task d p) b h = refl
 none-counted Wait b h = refl
-none-counted (Group cs p) b h = refl
+none-counted (Group o cs p) b h = refl
 
 -- ---- lists
 

@@ -3,7 +3,7 @@ use Rattle.std.proofs.Common.{◌≡◌, ◌≤◌, ℕ, zero, suc, ◌+◌, ◌
 use Rattle.std.specs.Prelude.{Option, Some, None, IsSome, IfSome, option_map, All, if◌then◌else◌}
 use Rattle.std.specs.List.{fold, range_with_len}
 use Rattle.std.proofs.lemmas.List.Elements.{All-nil, All-cons}
-use Rattle.ot_model.specs.Tree.{E, Literal, CellAt, Apply, PickFrom, Set, Add, If, Task, Wait, Group, Body, End, Next}
+use Rattle.ot_model.specs.Tree.{E, Literal, CellAt, Apply, PickFrom, Set, Fold, If, Task, Wait, Group, Body, End, Next}
 use Rattle.ot_model.specs.Names.{IsInShape, FitsShape, ValueNamedIn, NamedIn}
 use Rattle.ot_model.specs.Cells.{cell_of, lengths}
 use Rattle.ot_model.specs.Value.{cell_at}
@@ -54,20 +54,20 @@ reads-in lens (PickFrom s e) h =
 assigns-in : (lens : List ℕ) (b : Body) → NamedIn lens b → AllIn lens (assign_touches (leading b))
 assigns-in lens End h = tt
 assigns-in lens (Next (Set c e) rest) h = all-append lens _ _ (all-append lens _ _ (reads-in lens e h.0.1) (h.0.0, tt)) (assigns-in lens rest h.1)
-assigns-in lens (Next (Add c e) rest) h = all-append lens _ _ (all-append lens _ _ (reads-in lens e h.0.1) (h.0.0, tt)) (assigns-in lens rest h.1)
+assigns-in lens (Next (Fold o c e) rest) h = all-append lens _ _ (all-append lens _ _ (reads-in lens e h.0.1) (h.0.0, tt)) (assigns-in lens rest h.1)
 assigns-in lens (Next (If e a b) rest) h = tt
 assigns-in lens (Next (Task d b) rest) h = tt
 assigns-in lens (Next Wait rest) h = tt
-assigns-in lens (Next (Group cs b) rest) h = tt
+assigns-in lens (Next (Group o cs b) rest) h = tt
 
 test-in : (lens : List ℕ) (b : Body) → NamedIn lens b → AllIn lens (test_touches (test_of (behind b)))
 test-in lens End h = tt
 test-in lens (Next (Set c e) rest) h = test-in lens rest h.1
-test-in lens (Next (Add c e) rest) h = test-in lens rest h.1
+test-in lens (Next (Fold o c e) rest) h = test-in lens rest h.1
 test-in lens (Next (If e a b) rest) h = reads-in lens e h.0.0
 test-in lens (Next (Task d b) rest) h = tt
 test-in lens (Next Wait rest) h = tt
-test-in lens (Next (Group cs b) rest) h = tt
+test-in lens (Next (Group o cs b) rest) h = tt
 
 pub piece-in : (lens : List ℕ) (b : Body) → NamedIn lens b → AllIn lens (piece_touches (leading b) (test_of (behind b)))
 piece-in lens b h = all-append lens _ _ (assigns-in lens b h) (test-in lens b h)
@@ -85,20 +85,20 @@ value-fits lens (PickFrom s e) h =
 pub assigns-fit : (lens : List ℕ) (b : Body) → NamedIn lens b → AssignsFit (leading b)
 assigns-fit lens End h = tt
 assigns-fit lens (Next (Set c e) rest) h = (value-fits lens e h.0.1, assigns-fit lens rest h.1)
-assigns-fit lens (Next (Add c e) rest) h = (value-fits lens e h.0.1, assigns-fit lens rest h.1)
+assigns-fit lens (Next (Fold o c e) rest) h = (value-fits lens e h.0.1, assigns-fit lens rest h.1)
 assigns-fit lens (Next (If e a b) rest) h = tt
 assigns-fit lens (Next (Task d b) rest) h = tt
 assigns-fit lens (Next Wait rest) h = tt
-assigns-fit lens (Next (Group cs b) rest) h = tt
+assigns-fit lens (Next (Group o cs b) rest) h = tt
 
 pub test-fits : (lens : List ℕ) (b : Body) → NamedIn lens b → IfSome (test_of (behind b)) PicksFit
 test-fits lens End h = tt
 test-fits lens (Next (Set c e) rest) h = test-fits lens rest h.1
-test-fits lens (Next (Add c e) rest) h = test-fits lens rest h.1
+test-fits lens (Next (Fold o c e) rest) h = test-fits lens rest h.1
 test-fits lens (Next (If e a b) rest) h = value-fits lens e h.0.0
 test-fits lens (Next (Task d b) rest) h = tt
 test-fits lens (Next Wait rest) h = tt
-test-fits lens (Next (Group cs b) rest) h = tt
+test-fits lens (Next (Group o cs b) rest) h = tt
 
 -- ---- what is held is touched
 

@@ -3,7 +3,7 @@ use Rattle.std.proofs.Common.{◌≡◌, ◌+◌, ℕ, List, [], ◌∷◌, ◌+
 use Rattle.std.specs.Prelude.{false, Option, Some, None}
 use Rattle.std.proofs.lemmas.Option.{same_Some, none-some}
 use Rattle.ot_owner.specs.Leases.{Lease}
-use Rattle.ot_model.specs.Tree.{S, Set, Add, If, Task, Wait, Group, Body, End, Next, append}
+use Rattle.ot_model.specs.Tree.{S, Set, Fold, If, Task, Wait, Group, Body, End, Next, append}
 use Rattle.ot_model.proofs.TreeLemmas as tree
 use Rattle.ot_task.specs.Place.{Open}
 use Rattle.ot_task.specs.Standing.{Standing, left_group}
@@ -16,15 +16,15 @@ use Rattle.ot_task.proofs.AssignLemmas.{assigns-push}
 
 pub leading-first : (a : Assign) (b : Body) → leading (Next (assign_of a) b) ≡ Next (assign_of a) (leading b)
 leading-first (v.Set c e) b = refl
-leading-first (v.Add c e) b = refl
+leading-first (v.Fold o c e) b = refl
 
 pub behind-first : (a : Assign) (b : Body) → behind (Next (assign_of a) b) ≡ behind b
 behind-first (v.Set c e) b = refl
-behind-first (v.Add c e) b = refl
+behind-first (v.Fold o c e) b = refl
 
 pub len-first : (a : Assign) (b : Body) → leading_len (Next (assign_of a) b) ≡ 1 + leading_len b
 len-first (v.Set c e) b = refl
-len-first (v.Add c e) b = refl
+len-first (v.Fold o c e) b = refl
 
 -- one more is taken
 pub take-first : (ms more : List Assign) (a : Assign) (rest less : Body) → more ≡ ms ++ a ∷ [] → rest ≡ Next (assign_of a) less
@@ -36,20 +36,20 @@ take-first ms more a rest less put taken =
 pub behind-here : (b : Body) → leading b ≡ End → behind b ≡ b
 behind-here End h = refl
 behind-here (Next (Set c e) rest) h = cc
-behind-here (Next (Add c e) rest) h = cc
+behind-here (Next (Fold o c e) rest) h = cc
 behind-here (Next (If e p q) rest) h = refl
 behind-here (Next (Task d p) rest) h = refl
 behind-here (Next Wait rest) h = refl
-behind-here (Next (Group cs p) rest) h = refl
+behind-here (Next (Group o cs p) rest) h = refl
 
 pub none-here : (b : Body) → leading b ≡ End → leading_len b ≡ 0
 none-here End h = refl
 none-here (Next (Set c e) rest) h = cc
-none-here (Next (Add c e) rest) h = cc
+none-here (Next (Fold o c e) rest) h = cc
 none-here (Next (If e p q) rest) h = refl
 none-here (Next (Task d p) rest) h = refl
 none-here (Next Wait rest) h = refl
-none-here (Next (Group cs p) rest) h = refl
+none-here (Next (Group o cs p) rest) h = refl
 
 -- all that come first are taken
 pub all-taken : (b whole : Body) (ms : List Assign) → leading b ≡ End → append (assigns_of ms) (leading b) ≡ whole → assigns_of ms ≡ whole
@@ -58,19 +58,19 @@ all-taken b whole ms none h = sym (tree.append-End (assigns_of ms)) ∙ ap (appe
 -- a statement that is neither, alone or before others
 pub leading-other : (x : S) (b : Body) → leading (Next x End) ≡ End → leading (Next x b) ≡ End
 leading-other (Set c e) b h = cc
-leading-other (Add c e) b h = cc
+leading-other (Fold o c e) b h = cc
 leading-other (If e p q) b h = refl
 leading-other (Task d p) b h = refl
 leading-other Wait b h = refl
-leading-other (Group cs p) b h = refl
+leading-other (Group o cs p) b h = refl
 
 pub test-alone : (x : S) (b : Body) → test_of (Next x End) ≡ test_of (Next x b)
 test-alone (Set c e) b = refl
-test-alone (Add c e) b = refl
+test-alone (Fold o c e) b = refl
 test-alone (If e p q) b = refl
 test-alone (Task d p) b = refl
 test-alone Wait b = refl
-test-alone (Group cs p) b = refl
+test-alone (Group o cs p) b = refl
 
 -- ---- a group's end
 

@@ -1,6 +1,7 @@
 -- What assignments make of the copies that a piece was lent.
-use Rattle.std.specs.Prelude.{◌+◌, ◌%◌, ◌^◌, ℕ, if◌then◌else◌, Option, option_map}
-use Rattle.ot_model.specs.Tree.{Set, Add, Body, Next}
+use Rattle.std.specs.Prelude.{ℕ, if◌then◌else◌, Option, option_map}
+use Rattle.ot_model.specs.Tree.{Set, Fold, Body, Next}
+use Rattle.ot_model.specs.Joining.{join_by}
 use Rattle.ot_model.specs.Value.{val}
 use Rattle.ot_model.specs.declared.expr.Cell.{Cell}
 use Rattle.ot_model.specs.Cells.{same_cell}
@@ -15,5 +16,5 @@ with_copy look c f d = if same_cell c d then option_map f (look d) else look d
 -- the copies after these assignments
 abbrev pub assigned : Body → Look → Look
 assigned (Next (Set c e) rest) look = assigned rest (with_copy look c (λ _. val look e))
-assigned (Next (Add c e) rest) look = assigned rest (with_copy look c (λ n. (n + val look e) % 2 ^ 64))
+assigned (Next (Fold o c e) rest) look = assigned rest (with_copy look c (λ n. join_by o n (val look e)))
 assigned b look = look

@@ -1,28 +1,34 @@
 -- In which mode a piece holds each cell that it touches, touch by touch.
-use Rattle.std.specs.Prelude.{◌≡◌, ◌+◌, ◌≤◌, ◌^◌, not, ◌&&◌, if◌then◌else◌, List, Option, Some, None}
+use Rattle.std.specs.Prelude.{◌≡◌, ◌+◌, ◌≤◌, ◌^◌, if◌then◌else◌, List, Option, Some, None}
 use Rattle.std.specs.List.{fold}
-use Rattle.ot_model.specs.Tree.{E, Literal, CellAt, Apply, PickFrom, Set, Add, Body, Next}
-use Rattle.ot_model.specs.Uses.{is_adds, mode_in}
+use Rattle.ot_model.specs.Tree.{E, Literal, CellAt, Apply, PickFrom, Set, Fold, Body, Next}
+use Rattle.ot_model.specs.Uses.{same_fold, mode_in}
 use Rattle.ot_model.specs.declared.expr.Cell.{Cell}
 use Rattle.ot_model.specs.declared.stmt.Mode.{Mode}
-use Rattle.ot_model.specs.declared.stmt.Mode.TheVariants.{Reads, Writes, Adds}
+use Rattle.ot_model.specs.declared.stmt.Mode.TheVariants.{Reads, Writes, Folds}
 use Rattle.ot_model.specs.declared.stmt.Use.{Use}
-use Rattle.ot_check.specs.Offences.{Declared, adds_to}
+use Rattle.ot_check.specs.Offences.{Declared, folds_to}
 use Rattle.ot_model.specs.Cells.{same_cell}
 use Rattle.ot_task.specs.Regions.{Region}
 use Rattle.ot_task.specs.Pieces.{leading, behind, test_of, awake}
 use Rattle.ot_task.specs.Touched.{piece_touches}
 
--- the mode in which one touch is held: where the body doesn't declare the cell as Adds, an add is a write
-abbrev pub mode_held : Declared → Use → Mode
-mode_held own u = if is_adds u.mode && not (adds_to own u.cell) then Writes else u.mode
+-- the mode in which a touch of the cell is held: where the body doesn't declare the cell as Folds of its operation, a fold is a write
+abbrev pub held_as : Declared → Cell → Mode → Mode
+held_as own c Reads = Reads
+held_as own c Writes = Writes
+held_as own c (Folds o) = if folds_to own o c then Folds o else Writes
 
--- the one of two modes in which a cell is held
+abbrev pub mode_held : Declared → Use → Mode
+mode_held own u = held_as own u.cell u.mode
+
+-- the mode in which a cell is held for two touches: folds by two operations are a write
 abbrev pub stronger : Mode → Mode → Mode
 stronger Reads two = two
 stronger Writes two = Writes
-stronger Adds Writes = Writes
-stronger Adds two = Adds
+stronger (Folds o) Reads = Folds o
+stronger (Folds o) Writes = Writes
+stronger (Folds o) (Folds p) = if same_fold o p then Folds o else Writes
 
 abbrev pub with_mode : Option Mode → Mode → Mode
 with_mode None mode = mode
@@ -49,5 +55,5 @@ PicksFit (PickFrom s e) = (s.start + s.len ≤ 2 ^ 32) × PicksFit e
 
 abbrev pub AssignsFit : Body → Type 0
 AssignsFit (Next (Set c e) rest) = PicksFit e × AssignsFit rest
-AssignsFit (Next (Add c e) rest) = PicksFit e × AssignsFit rest
+AssignsFit (Next (Fold o c e) rest) = PicksFit e × AssignsFit rest
 AssignsFit b = Unit {0}

@@ -1,28 +1,28 @@
 -- What a piece is taken from, and what is left behind it.
 use Rattle.std.specs.Prelude.{◌≡◌, ℕ, ◌+◌, false, List, ◌∷◌, Option, Some, None}
-use Rattle.ot_model.specs.Tree.{E, Set, Add, If, Body, End, Next}
+use Rattle.ot_model.specs.Tree.{E, Set, Fold, If, Body, End, Next}
 use Rattle.ot_task.specs.Place.{Open, innermost}
 use Rattle.ot_owner.specs.Leases.{Lease, lease_of}
 use Rattle.ot_owner.specs.declared.lent.LentCell.{LentCell}
 use Rattle.ot_task.specs.Standing.{Standing}
 use Rattle.ot_task.specs.Regions.{Region, Run}
 
--- the sets and adds that come first
+-- the sets and folds that come first
 abbrev pub leading : Body → Body
 leading (Next (Set c e) rest) = Next (Set c e) (leading rest)
-leading (Next (Add c e) rest) = Next (Add c e) (leading rest)
+leading (Next (Fold o c e) rest) = Next (Fold o c e) (leading rest)
 leading b = End
 
 -- what stands behind them
 abbrev pub behind : Body → Body
 behind (Next (Set c e) rest) = behind rest
-behind (Next (Add c e) rest) = behind rest
+behind (Next (Fold o c e) rest) = behind rest
 behind b = b
 
 -- how many they are
 abbrev pub leading_len : Body → ℕ
 leading_len (Next (Set c e) rest) = 1 + leading_len rest
-leading_len (Next (Add c e) rest) = 1 + leading_len rest
+leading_len (Next (Fold o c e) rest) = 1 + leading_len rest
 leading_len b = 0
 
 -- the condition of an `if` that comes next

@@ -2,10 +2,12 @@
 use Rattle.std.specs.Prelude.{ℕ, List, [], ◌∷◌, Option, Some, None}
 use Rattle.ot_model.specs.Tree.{Body, append}
 use Rattle.ot_model.specs.declared.expr.Cell.{Cell}
+use Rattle.ot_model.specs.declared.fold.Fold.{Fold as Operation}
 
--- an open group: its number, its cells, and what stands behind its end
+-- an open group: its number, the operation and the cells of its reduction, and what stands behind its end
 pub record Open : Type 0 where
   pub group : ℕ
+  pub op : Operation
   pub cells : List Cell
   pub behind : Body
 

@@ -7,7 +7,7 @@ use Rattle.ot_task.specs.declared.place.OpenGroup.{OpenGroup}
 use Rattle.ot_task.specs.declared.place.Place.{Place}
 
 abbrev pub open_of : OpenGroup → Open
-open_of o = record { group = o.group; cells = o.cells.items; behind = body_left o.behind }
+open_of o = record { group = o.group; op = o.op; cells = o.cells.items; behind = body_left o.behind }
 
 abbrev pub standing_of : Place → Standing
 standing_of p = record { rest = body_left p.rest; groups = reverse (map open_of p.groups.items) }

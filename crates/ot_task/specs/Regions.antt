@@ -4,6 +4,7 @@ use Rattle.ot_model.specs.Tree.{If, Task, Wait, Group, Body, End, Next, append}
 use Rattle.ot_model.specs.Cells.{updated}
 use Rattle.ot_model.specs.declared.stmt.Use.{Use}
 use Rattle.ot_model.specs.declared.expr.Cell.{Cell}
+use Rattle.ot_model.specs.declared.fold.Fold.{Fold as Operation}
 use Rattle.ot_depend.specs.Siblings.{Sibling, created, with_finished}
 use Rattle.ot_check.specs.Offences.{Declared}
 use Rattle.ot_task.specs.Place.{Open}
@@ -43,8 +44,8 @@ abbrev pub with_child : List Use → Region → Region
 with_child uses r = record r { children = r.children ++ created uses (map (λ o. o.group) r.groups) ∷ [] }
 
 -- inside a group
-abbrev pub inside : ℕ → List Cell → Body → Region → Region
-inside g cells body r = record r { rest = body; groups = record { group = g; cells = cells; behind = r.rest } ∷ r.groups }
+abbrev pub inside : ℕ → Operation → List Cell → Body → Region → Region
+inside g op cells body r = record r { rest = body; groups = record { group = g; op = op; cells = cells; behind = r.rest } ∷ r.groups }
 
 -- no piece of it is out
 abbrev pub stopped : Region → Region
@@ -77,7 +78,7 @@ children_at (r ∷ rs) (suc i) = children_at rs i
 abbrev pub stepped_from : Bool → ℕ → Body → Region → Region
 stepped_from taken g (Next Wait rest) r = record r { rest = rest; waiting = true }
 stepped_from taken g (Next (If e a b) rest) r = with_rest (append (if taken then a else b) rest) r
-stepped_from taken g (Next (Group cs b) rest) r = inside g cs b (with_rest rest r)
+stepped_from taken g (Next (Group o cs b) rest) r = inside g o cs b (with_rest rest r)
 stepped_from taken g (Next (Task d b) rest) r = with_rest rest r
 stepped_from taken g rest r = r
 
@@ -89,10 +90,10 @@ abbrev pub next_task : Body → Option (List Use × Body)
 next_task (Next (Task d b) rest) = Some (d, b)
 next_task rest = None
 
--- the cells of the group that comes next
-abbrev pub cells_next : Body → Option (List Cell)
-cells_next (Next (Group cs b) rest) = Some cs
-cells_next rest = None
+-- the operation and the cells of the group that comes next
+abbrev pub group_next : Body → Option (Operation × List Cell)
+group_next (Next (Group o cs b) rest) = Some (o, cs)
+group_next rest = None
 
 -- the child that this creates of a task, whose own number is i
 abbrev pub child_of : ℕ → Region → List Use × Body → Region

@@ -1,4 +1,4 @@
--- What is left of a body, as the code keeps it: the sets and adds that are gathered, and behind them a list that ends with
+-- What is left of a body, as the code keeps it: the sets and folds that are gathered, and behind them a list that ends with
 -- what comes next.
 use Rattle.std.specs.Prelude.{◌≡◌, ◌<◌, ◌⊎◌, ℕ, List, map, reverse}
 use Rattle.ot_model.specs.Tree.{Body, End, body_of, append}
@@ -18,7 +18,7 @@ pub record Left : Type 0 where
 abbrev pub body_left : Left → Body
 body_left l = append l.gathered l.behind
 
--- sets and adds alone are gathered: all that come first, or none
+-- sets and folds alone are gathered: all that come first, or none
 pub record AreGathered (gathered behind : Body) : Type 0 where
   pub only : leading gathered ≡ gathered
   pub all : (gathered ≡ End) ⊎ (leading behind ≡ End)
@@ -27,6 +27,6 @@ pub record AreGathered (gathered behind : Body) : Type 0 where
 abbrev pub TakesBack : Left → Type 0
 TakesBack l = (l.gathered ≡ End) × (0 < l.room)
 
--- nothing comes next, or a set or an add
+-- nothing comes next, or a set or a fold
 abbrev pub NoControl : Body → Type 0
 NoControl b = (b ≡ End) ⊎ (leading b ≡ End → ⊥)

@@ -1,6 +1,6 @@
 -- How many settles a job may still take.
 use Rattle.std.specs.Prelude.{ℕ, ◌+◌, max, Bool, false, if◌then◌else◌, List, [], ◌∷◌, is_some}
-use Rattle.ot_model.specs.Tree.{S, Set, Add, If, Task, Wait, Group, Body, End, Next}
+use Rattle.ot_model.specs.Tree.{S, Set, Fold, If, Task, Wait, Group, Body, End, Next}
 use Rattle.ot_task.specs.Place.{Open}
 use Rattle.ot_task.specs.Regions.{Region}
 
@@ -8,11 +8,11 @@ use Rattle.ot_task.specs.Regions.{Region}
 abbrev mutual
   pub weight_one : S → ℕ
   weight_one (Set c e) = 0
-  weight_one (Add c e) = 0
+  weight_one (Fold o c e) = 0
   weight_one (If e a b) = 1 + max (weight a) (weight b)
   weight_one (Task d b) = 2 + weight b
   weight_one Wait = 1
-  weight_one (Group cs b) = 2 + weight b
+  weight_one (Group o cs b) = 2 + weight b
 
   pub weight : Body → ℕ
   weight End = 0

@@ -5,14 +5,16 @@ ghost use Rattle.ot_owner.specs.Leases.{lease_of};
 ghost use Rattle.ot_model.specs.declared.expr.Cell.{Cell};
 ghost use Rattle.ot_task.specs.Assigns.{assigns_of, CanAssign};
 
-use ot_model::{Cell, Expr, Look, value};
+use ot_model::{Cell, Expr, Fold, Look, Monoid, value};
 use ot_owner::Lent;
 
-/// A set or an add.
+/// A set or a fold.
 #[derive(Debug, Drop)]
 pub enum Assign {
+    /// Writes the value to the cell.
     Set(Cell, Expr),
-    Add(Cell, Expr),
+    /// Joins the cell with the value by the operation.
+    Fold(Fold, Cell, Expr),
 }
 
 /// Makes the assignments on lent copies. It takes no memory.
@@ -41,12 +43,12 @@ fn assign_one(assign: &Assign, lent: &mut Lent)
             };
             lent.set(*cell, number);
         }
-        Assign::Add(cell, expr) => {
+        Assign::Fold(op, cell, expr) => {
             let number = value(expr, &*lent);
             let Some(before) = lent.value(*cell) else {
                 unreachable!()
             };
-            lent.set(*cell, before.wrapping_add(number));
+            lent.set(*cell, op.join(before, number));
         }
     }
 }

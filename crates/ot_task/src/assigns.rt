@@ -6,7 +6,7 @@ use std::alloc::{AllocError, Global};
 use std::marker::Model;
 use std::sync::Arc;
 
-/// Sets and adds that come one behind the other, shared by all that hold them.
+/// Sets and folds that come one behind the other, shared by all that hold them.
 #[derive(Debug, Drop)]
 pub struct Assigns {
     /// None where there are none, which takes no memory.
@@ -88,7 +88,7 @@ impl Assigns {
         self.as_slice().len()
     }
 
-    /// Whether they are the same sets and adds.
+    /// Whether they are the same sets and folds.
     pub(crate) fn same_as(&self, other: &Assigns) -> bool
         ensures { IsTrue result ↔ self.now ≡ other.now }
     {
@@ -101,12 +101,12 @@ fn same_assign(one: &Assign, two: &Assign) -> bool
 {
     match (one, two) {
         (Assign::Set(c, a), Assign::Set(d, x)) => c == d && a.same_as(x),
-        (Assign::Add(c, a), Assign::Add(d, x)) => c == d && a.same_as(x),
+        (Assign::Fold(o, c, a), Assign::Fold(p, d, x)) => o == p && c == d && a.same_as(x),
         (_, _) => false,
     }
 }
 
-/// Whether they are the same sets and adds.
+/// Whether they are the same sets and folds.
 fn same_assigns(one: &[Assign], two: &[Assign]) -> bool
     ensures { IsTrue result ↔ assigns_of one.now ≡ assigns_of two.now }
 {

@@ -3,10 +3,11 @@ ghost use Rattle.std.specs.List.{AllWithin};
 ghost use Rattle.ot_model.specs.Cells.{is_before};
 ghost use Rattle.ot_model.specs.Uses.{AreInOrder, mode_in};
 ghost use Rattle.ot_model.specs.declared.expr.Cell.{Cell};
+ghost use Rattle.ot_model.specs.declared.stmt.Mode.TheVariants.{Folds};
 ghost use Rattle.ot_task.specs.Modes.{stronger};
 ghost use Rattle.ot_task.specs.Held.{added, strongest, IsPlaceOf};
 
-use ot_model::{Cell, Mode, Use};
+use ot_model::{Cell, Fold, Mode, Use};
 use std::alloc::{AllocError, Global};
 use std::marker::Model;
 
@@ -142,12 +143,25 @@ fn comes_last(list: &[Use], cell: Cell) -> bool
     }
 }
 
+/// The mode in which a cell is held for two touches.
 fn stronger(one: Mode, two: Mode) -> Mode
     ensures { result ≡ stronger one two }
 {
     match (one, two) {
         (Mode::Reads, _) => two,
-        (Mode::Adds, Mode::Reads | Mode::Adds) => Mode::Adds,
+        (Mode::Folds(_), Mode::Reads) => one,
+        (Mode::Folds(op), Mode::Folds(other)) => stronger_fold(op, other),
         (_, _) => Mode::Writes,
+    }
+}
+
+/// The mode of two folds: by two operations they are a write.
+fn stronger_fold(one: Fold, two: Fold) -> Mode
+    ensures { result ≡ stronger (Folds one) (Folds two) }
+{
+    if one == two {
+        Mode::Folds(one)
+    } else {
+        Mode::Writes
     }
 }

@@ -10,14 +10,14 @@ use crate::assign::Assign;
 use ot_model::{Expr, Stmt};
 use std::alloc::{AllocError, Global};
 
-/// The statement as an assignment, where it is a set or an add, and else itself.
+/// The statement as an assignment, where it is a set or a fold, and else itself.
 fn as_assign(stmt: Stmt) -> Result<Assign, Stmt>
     ensures is { IfOk result (λ a. assign_of a ≡ stmt_of stmt) }
     ensures other { IfErr result (λ s. (s ≡ stmt) × (leading (Next (stmt_of stmt) End) ≡ End)) }
 {
     match stmt {
         Stmt::Set(cell, value) => Ok(Assign::Set(cell, value)),
-        Stmt::Add(cell, value) => Ok(Assign::Add(cell, value)),
+        Stmt::Fold(op, cell, value) => Ok(Assign::Fold(op, cell, value)),
         other => Err(other),
     }
 }
@@ -27,18 +27,18 @@ fn as_stmt(assign: Assign) -> Stmt
 {
     match assign {
         Assign::Set(cell, value) => Stmt::Set(cell, value),
-        Assign::Add(cell, value) => Stmt::Add(cell, value),
+        Assign::Fold(op, cell, value) => Stmt::Fold(op, cell, value),
     }
 }
 
-/// Whether the statement is a set or an add.
+/// Whether the statement is a set or a fold.
 fn is_assign(stmt: &Stmt) -> bool
     ensures { result ≡ is_control (leading (Next (stmt_of stmt.now) End)) }
 {
-    matches!(stmt, Stmt::Set(_, _) | Stmt::Add(_, _))
+    matches!(stmt, Stmt::Set(_, _) | Stmt::Fold(_, _, _))
 }
 
-/// Takes the next statement where it is a set or an add. It takes no memory.
+/// Takes the next statement where it is a set or a fold. It takes no memory.
 fn take_assign(rest: &mut Vec<Stmt>) -> Option<Assign>
     ensures taken { MatchOption result ((rest_of rest.new.items ≡ rest_of rest.old.items) × (leading (rest_of rest.old.items) ≡ End))
         (λ a. rest_of rest.old.items ≡ Next (assign_of a) (rest_of rest.new.items)) }
@@ -55,7 +55,7 @@ fn take_assign(rest: &mut Vec<Stmt>) -> Option<Assign>
     }
 }
 
-/// Moves the sets and adds that come first to an empty list, which has room for them. It takes no
+/// Moves the sets and folds that come first to an empty list, which has room for them. It takes no
 /// memory.
 pub fn take_leading(rest: &mut Vec<Stmt>, room: Vec<Assign>) -> Vec<Assign>
     requires empty { room.items ≡ [] }
@@ -71,14 +71,14 @@ pub fn take_leading(rest: &mut Vec<Stmt>, room: Vec<Assign>) -> Vec<Assign>
     moved
 }
 
-/// Passes the sets and adds that come first. It takes no memory.
+/// Passes the sets and folds that come first. It takes no memory.
 pub fn pass_leading(rest: &mut Vec<Stmt>)
     ensures { rest_of rest.new.items ≡ behind (rest_of rest.old.items) }
 {
     while let Some(_) = take_assign(rest) {}
 }
 
-/// Puts sets and adds before what is left, which has room for them. It takes no memory.
+/// Puts sets and folds before what is left, which has room for them. It takes no memory.
 pub fn put_leading(rest: &mut Vec<Stmt>, assigns: Vec<Assign>)
     requires { vec_len rest.old + vec_len assigns ≤ vec_capacity rest.old }
     ensures { rest_of rest.new.items ≡ append (assigns_of assigns.items) (rest_of rest.old.items) }
@@ -89,7 +89,7 @@ pub fn put_leading(rest: &mut Vec<Stmt>, assigns: Vec<Assign>)
     }
 }
 
-/// How many sets and adds come first.
+/// How many sets and folds come first.
 pub fn count_leading(rest: &[Stmt]) -> usize
     ensures { result ≡ leading_len (rest_of rest.now) }
 {

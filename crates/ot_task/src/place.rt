@@ -3,13 +3,15 @@ ghost use Rattle.std.specs.Prelude.{◌≡◌, ◌<◌};
 use crate::assigns::Assigns;
 use crate::rest::Rest;
 use crate::same::same_test;
-use ot_model::{Cell, Decl, Expr, Stmt};
+use ot_model::{Cell, Decl, Expr, Fold, Stmt};
 use std::alloc::{AllocError, Global};
 
-/// A group that is open: its number, its cells, and what stands behind its end.
+/// A group that is open: its number, the operation and the cells of its reduction, and what stands behind
+/// its end.
 #[derive(Debug, Drop)]
 pub(crate) struct OpenGroup {
     pub(crate) group: u32,
+    op: Fold,
     cells: Vec<Cell>,
     behind: Rest,
 }
@@ -52,7 +54,7 @@ impl Place {
         self.rest.is_empty()
     }
 
-    /// The statement that comes next in the innermost body, where no gathered sets and adds come before it.
+    /// The statement that comes next in the innermost body, where no gathered sets and folds come before it.
     pub(crate) fn next(&self) -> Option<&Stmt>
         ensures { MatchOption result (NoControl (standing_of self.now).rest) (λ x. (rest : _) × ((standing_of self.now).rest ≡ Next (stmt_of x.now) rest)) }
     {
@@ -71,7 +73,7 @@ impl Place {
         Ok(numbers)
     }
 
-    /// Takes the next statement, where no gathered sets and adds come before it.
+    /// Takes the next statement, where no gathered sets and folds come before it.
     pub(crate) fn take(&mut self) -> Option<Stmt>
         ensures room { IsSome result → TakesBack self.new.rest }
         ensures taken { MatchOption result ((standing_of self.new ≡ standing_of self.old) × NoControl (standing_of self.old).rest) (λ x. (standing_of self.old).rest ≡ Next (stmt_of x) (standing_of self.new).rest) }
@@ -96,16 +98,17 @@ impl Place {
     }
 
     /// Enters a group. It takes no memory.
-    pub(crate) fn enter(&mut self, group: u32, cells: Vec<Cell>, body: Vec<Stmt>)
+    pub(crate) fn enter(&mut self, group: u32, op: Fold, cells: Vec<Cell>, body: Vec<Stmt>)
         requires { vec_len self.old.groups < vec_capacity self.old.groups }
         ensures { standing_of self.new ≡ record {
           rest = stmts_of body.items;
-          groups = record { group = group; cells = cells.items; behind = (standing_of self.old).rest } ∷ (standing_of self.old).groups;
+          groups = record { group = group; op = op; cells = cells.items; behind = (standing_of self.old).rest } ∷ (standing_of self.old).groups;
         } }
     {
         let behind = self.rest.replace(body);
         self.groups.push_reserved(OpenGroup {
             group,
+            op,
             cells,
             behind,
         });
@@ -149,23 +152,24 @@ impl Place {
     pub(crate) fn open(
         &mut self,
         group: u32,
+        op: Fold,
         cells: Vec<Cell>,
         body: Vec<Stmt>,
     ) -> Result<(), AllocError>
         requires { TakesBack self.old.rest }
         ensures entered { OnOk result (standing_of self.new ≡ record {
           rest = stmts_of body.items;
-          groups = record { group = group; cells = cells.items; behind = (standing_of self.old).rest } ∷ (standing_of self.old).groups;
+          groups = record { group = group; op = op; cells = cells.items; behind = (standing_of self.old).rest } ∷ (standing_of self.old).groups;
         }) }
-        ensures refused { OnErr result (standing_of self.new ≡ with_next (Group cells.items (stmts_of body.items)) (standing_of self.old)) }
+        ensures refused { OnErr result (standing_of self.new ≡ with_next (Group op cells.items (stmts_of body.items)) (standing_of self.old)) }
     {
         match self.groups.reserve(1) {
             Ok(()) => {
-                self.enter(group, cells, body);
+                self.enter(group, op, cells, body);
                 Ok(())
             }
             Err(error) => {
-                self.put_back(Stmt::Group(cells, body));
+                self.put_back(Stmt::Group(op, cells, body));
                 Err(error)
             }
         }
@@ -188,7 +192,7 @@ impl Place {
         }
     }
 
-    /// What the next piece is made of: the sets and adds that come once the task goes on, behind the end
+    /// What the next piece is made of: the sets and folds that come once the task goes on, behind the end
     /// of the innermost open group where that is reached, and a copy of the condition of an `if` behind
     /// them. The task stands where it stood.
     pub(crate) fn piece(&mut self, alloc: Global) -> Result<(Assigns, Option<Expr>), AllocError>
@@ -206,7 +210,7 @@ impl Place {
         self.rest.piece(alloc)
     }
 
-    /// Passes the end of the innermost open group where it is reached, and the sets and adds that come
+    /// Passes the end of the innermost open group where it is reached, and the sets and folds that come
     /// then. It takes no memory.
     pub(crate) fn go_on(&mut self)
         ensures { standing_of self.new ≡ record (passed_end (standing_of self.old)) { rest = behind (passed_end (standing_of self.old)).rest } }

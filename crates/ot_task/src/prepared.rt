@@ -17,7 +17,7 @@ use std::alloc::{AllocError, Global};
 /// values that the cells are lent with are to come.
 pub struct Prepared {
     pub assigns: Assigns,
-    /// The same sets and adds, for the task's record.
+    /// The same sets and folds, for the task's record.
     pub shared: Assigns,
     pub condition: Option<Expr>,
     pub decl: Decl,

@@ -11,7 +11,7 @@ use std::alloc::{AllocError, Global};
 use std::marker::Model;
 use std::{fmt, mem};
 
-/// What is left of a body. The sets and adds that come first are gathered into one list once, when a
+/// What is left of a body. The sets and folds that come first are gathered into one list once, when a
 /// claim first asks for them: each piece shares it.
 #[derive(Drop)]
 pub(crate) struct Rest {
@@ -133,7 +133,7 @@ impl Rest {
         mem::replace(self, Rest::new(body))
     }
 
-    /// Gathers the sets and adds that come first. Where memory is refused, none are gathered.
+    /// Gathers the sets and folds that come first. Where memory is refused, none are gathered.
     fn gather(&mut self, alloc: Global) -> Result<(), AllocError>
         ensures gathered { OnOk result (self.new.gathered ≡ leading (body_left self.old)) }
         ensures same { body_left self.new ≡ body_left self.old }
@@ -158,7 +158,7 @@ impl Rest {
         }
     }
 
-    /// The sets and adds that come first, shared, and a copy of the condition of an `if` that comes behind
+    /// The sets and folds that come first, shared, and a copy of the condition of an `if` that comes behind
     /// them. What is left stays.
     pub(crate) fn piece(&mut self, alloc: Global) -> Result<(Assigns, Option<Expr>), AllocError>
         ensures assigns { IfOk result (λ p. p.0 ≡ leading (body_left self.old)) }
@@ -170,7 +170,7 @@ impl Rest {
         Ok((self.gathered.share()?, condition))
     }
 
-    /// Passes the sets and adds that come first. It takes no memory.
+    /// Passes the sets and folds that come first. It takes no memory.
     pub(crate) fn pass(&mut self)
         ensures { body_left self.new ≡ behind (body_left self.old) }
     {

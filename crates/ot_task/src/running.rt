@@ -2,7 +2,7 @@ use crate::assigns::Assigns;
 use ot_owner::{Lent, Right, RightRoom};
 use std::marker::Model;
 
-/// What a task keeps of its piece that is out: the worker that has it, the sets and adds, which the piece
+/// What a task keeps of its piece that is out: the worker that has it, the sets and folds, which the piece
 /// shares, and what it holds.
 #[derive(Debug, Drop)]
 pub struct Running {
@@ -28,7 +28,7 @@ impl Running {
     ghost use Rattle.ot_owner.specs.Leases.{lease_of};
     ghost use Rattle.ot_owner.specs.Lending.{uses_of};
 
-    /// The record of a piece with these sets and adds, for which this was lent to the worker. It takes no
+    /// The record of a piece with these sets and folds, for which this was lent to the worker. It takes no
     /// memory.
     pub fn new(worker: u32, assigns: Assigns, room: RightRoom, lent: &Lent) -> Running
         requires { uses_of lent.now ≡ room }
@@ -48,7 +48,7 @@ impl Running {
         self.worker
     }
 
-    /// Whether it is of these sets and adds, on these inputs.
+    /// Whether it is of these sets and folds, on these inputs.
     pub(crate) fn is_of(&self, assigns: &Assigns, lent: &Lent) -> bool
         ensures { IsTrue result ↔ (self.now.assigns ≡ assigns.now) × (self.now.lease ≡ lease_of lent.now) }
     {

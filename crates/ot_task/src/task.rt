@@ -11,7 +11,7 @@ use crate::assigns::Assigns;
 use crate::place::Place;
 use crate::running::Running;
 use ot_depend::Siblings;
-use ot_model::{Cell, Decl, Expr, Stmt};
+use ot_model::{Cell, Decl, Expr, Fold, Stmt};
 use ot_owner::Lent;
 use std::alloc::{AllocError, Global};
 use std::marker::Model;
@@ -55,7 +55,7 @@ impl Task {
     ghost use Rattle.std.specs.Prelude.{◌^◌};
     ghost use Rattle.ot_task.specs.Weighing.{region_weight};
     ghost use Rattle.ot_task.specs.Pieces.{leading, behind, test_of, awake, begun, Runs, group_passed};
-    ghost use Rattle.ot_task.specs.Regions.{is_control, tasks_next, cells_next, with_child, without, over, stopped};
+    ghost use Rattle.ot_task.specs.Regions.{is_control, tasks_next, group_next, with_child, without, over, stopped};
     ghost use Rattle.ot_model.specs.Uses.{AreInOrder};
     ghost use Rattle.ot_task.specs.Standing.{is_at_end};
     ghost use Rattle.ot_depend.specs.Siblings.{IsReady, IsUnfinished, with_finished};
@@ -154,7 +154,7 @@ impl Task {
         (!self.waiting || self.children.unfinished() == 0) && self.end_lets_go()
     }
 
-    /// What its next piece is made of: the sets and adds that come once it goes on, and a copy of the
+    /// What its next piece is made of: the sets and folds that come once it goes on, and a copy of the
     /// condition of an `if` behind them. It stays as it is.
     pub(crate) fn piece(&mut self, alloc: Global) -> Result<(Assigns, Option<Expr>), AllocError>
         ensures assigns { IfOk result (λ p. p.0 ≡ leading (awake self.old).rest) }
@@ -174,12 +174,13 @@ impl Task {
         Some(self.place.groups.last()?.group)
     }
 
-    /// The cells of the group that the control statement which comes next enters, if it does.
-    pub fn group_next(&self) -> Option<&[Cell]>
-        ensures { option_map (λ cells. cells.now) result ≡ cells_next self.now.rest }
+    /// The operation and the cells of the group that the control statement which comes next enters, if it
+    /// does.
+    pub fn group_next(&self) -> Option<(Fold, &[Cell])>
+        ensures { option_map (λ g. (g.0, g.1.now)) result ≡ group_next self.now.rest }
     {
         match self.place.next() {
-            Some(Stmt::Group(cells, _)) => Some(cells.as_slice()),
+            Some(Stmt::Group(op, cells, _)) => Some((*op, cells.as_slice())),
             _ => None,
         }
     }
@@ -348,7 +349,7 @@ impl Task {
     }
 }
 
-/// Executes a statement that was taken off, as `step` does. A set or an add is put back, and where
+/// Executes a statement that was taken off, as `step` does. A set or a fold is put back, and where
 /// memory is refused, each.
 fn execute(
     place: &mut Place,
@@ -372,8 +373,8 @@ fn execute(
             place.branch(test, one, two, taken)?;
             Ok(None)
         }
-        Stmt::Group(cells, body) => {
-            place.open(group, cells, body)?;
+        Stmt::Group(op, cells, body) => {
+            place.open(group, op, cells, body)?;
             Ok(None)
         }
         Stmt::Task(decl, body) => Ok(Some((decl, body))),

@@ -4,22 +4,23 @@ ghost use Rattle.ot_model.specs.Uses.{AreInOrder, mode_in};
 ghost use Rattle.ot_model.specs.Value.{cell_at};
 ghost use Rattle.ot_model.specs.View.{expr_of};
 ghost use Rattle.ot_model.specs.declared.expr.Cell.{Cell};
-ghost use Rattle.ot_model.specs.declared.stmt.Mode.TheVariants.{Reads};
+ghost use Rattle.ot_model.specs.declared.stmt.Mode.TheVariants.{Reads, Folds};
 ghost use Rattle.ot_check.specs.Paths.{use_as, touches};
 ghost use Rattle.ot_model.specs.Value.{cells_named};
-ghost use Rattle.ot_check.specs.Offences.{adds_to};
+ghost use Rattle.ot_check.specs.Offences.{folds_by, folds_to};
 ghost use Rattle.ot_task.specs.Assigns.{assign_of, assigns_of};
 ghost use Rattle.ot_task.specs.Held.{strongest};
-ghost use Rattle.ot_task.specs.Modes.{mode_held, noted, held, PicksFit, AssignsFit};
+ghost use Rattle.ot_task.specs.Modes.{held_as, mode_held, noted, held, PicksFit, AssignsFit};
 ghost use Rattle.ot_task.specs.Touched.{test_touches, piece_touches};
 
 use crate::assign::Assign;
 use crate::held::Held;
-use ot_model::{Cell, Decl, Expr, Mode, Section, Use};
+use ot_model::{Cell, Decl, Expr, Fold, Mode, Section, Use};
 use std::alloc::{AllocError, Global};
 
 /// What a piece with these assignments and this condition holds: the cells that it touches and no
-/// others. An add holds its cell as `Adds` where the body declares it so, else as `Writes`.
+/// others. A fold holds its cell as `Folds` of its operation where the body declares it so,
+/// else as `Writes`.
 pub fn touched(
     alloc: Global,
     assigns: &[Assign],
@@ -71,14 +72,14 @@ fn note_assign(held: &mut Held, own: Option<&Decl>, assign: &Assign) -> Result<(
                 },
             )
         }
-        Assign::Add(cell, value) => {
+        Assign::Fold(op, cell, value) => {
             note_reads(held, own, value)?;
             note(
                 held,
                 own,
                 Use {
                     cell: *cell,
-                    mode: Mode::Adds,
+                    mode: Mode::Folds(*op),
                 },
             )
         }
@@ -147,26 +148,46 @@ fn note(held: &mut Held, own: Option<&Decl>, used: Use) -> Result<(), AllocError
 fn mode_held(own: Option<&Decl>, used: Use) -> Mode
     ensures { result ≡ mode_held (option_map (λ o. o.now) own.entry) used }
 {
-    if used.mode == Mode::Adds && !adds_to(own, used.cell) {
-        return Mode::Writes;
+    match used.mode {
+        Mode::Folds(op) => fold_held(own, op, used.cell),
+        mode => mode,
     }
-    used.mode
 }
 
-fn adds_to(own: Option<&Decl>, cell: Cell) -> bool
-    ensures { result ≡ adds_to (option_map (λ o. o.now) own.entry) cell }
+/// The mode in which a fold is held.
+fn fold_held(own: Option<&Decl>, op: Fold, cell: Cell) -> Mode
+    ensures { result ≡ held_as (option_map (λ o. o.now) own.entry) cell (Folds op) }
+{
+    if folds_to(own, op, cell) {
+        Mode::Folds(op)
+    } else {
+        Mode::Writes
+    }
+}
+
+fn folds_to(own: Option<&Decl>, op: Fold, cell: Cell) -> bool
+    ensures { result ≡ folds_to (option_map (λ o. o.now) own.entry) op cell }
 {
     match own {
         None => false,
-        Some(own) => declares_sum(own, cell),
+        Some(own) => declares_fold(own, op, cell),
     }
 }
 
-fn declares_sum(own: &Decl, cell: Cell) -> bool
-    ensures { result ≡ adds_to (Some own.now) cell }
+fn declares_fold(own: &Decl, op: Fold, cell: Cell) -> bool
+    ensures { result ≡ folds_to (Some own.now) op cell }
 {
     match own.mode(cell) {
         None => false,
-        Some(mode) => mode == Mode::Adds,
+        Some(mode) => folds_by(op, mode),
+    }
+}
+
+fn folds_by(op: Fold, mode: Mode) -> bool
+    ensures { result ≡ folds_by op mode }
+{
+    match mode {
+        Mode::Folds(declared) => declared == op,
+        _ => false,
     }
 }

@@ -24,7 +24,7 @@ fn weigh_one(stmt: &Stmt) -> u64
     ensures { result ≡ weight_one (stmt_of stmt.now) }
 {
     match stmt {
-        Stmt::Set(_, _) | Stmt::Add(_, _) => 0,
+        Stmt::Set(_, _) | Stmt::Fold(_, _, _) => 0,
         Stmt::If(_, one, two) => {
             let one = weigh(one);
             let two = weigh(two);
@@ -32,7 +32,7 @@ fn weigh_one(stmt: &Stmt) -> u64
         }
         Stmt::Task(_, body) => 2 + weigh(body),
         Stmt::Wait => 1,
-        Stmt::Group(_, body) => 2 + weigh(body),
+        Stmt::Group(_, _, body) => 2 + weigh(body),
     }
 }
 
