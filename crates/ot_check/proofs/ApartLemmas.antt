@@ -2,7 +2,7 @@
 use Rattle.std.proofs.Common.{◌≡◌, ◌≢◌, ℕ, zero, suc, ◌+◌, ◌%◌, ◌^◌, Bool, true, false, List, [], ◌∷◌, refl, sym, ap, ◌∙◌, arith}
 use Rattle.std.proofs.Math.Nat.{mod-add-mod}
 use Rattle.std.specs.Prelude.{◌==◌, if◌then◌else◌, Option, unwrap_or}
-use Rattle.ot_model.specs.Tree.{E, Literal, CellAt, Apply, PickFrom, S, Set, Add, If, Task, Wait, Group, Body, End, Next}
+use Rattle.ot_model.specs.Tree.{E, Literal, CellAt, Apply, PickFrom, S, Set, Fold, If, Task, Wait, Group, Body, End, Next}
 use Rattle.ot_model.specs.Cells.{cell_of, with_cell, updated}
 use Rattle.ot_model.specs.Value.{val, cell_at, applied}
 use Rattle.ot_model.specs.Serial.{State, bump, change, either, serial, serial_one}
@@ -27,12 +27,12 @@ read-weaker P Q (PickFrom s e) f h = (λ k. f (cell_at s (k % s.len)) (h.0 k), r
 mutual
   touch_one-weaker : (P Q : Use → Type 0) (x : S) → ((u : Use) → P u → Q u) → EachTouchOne P x → EachTouchOne Q x
   touch_one-weaker P Q (Set c e) f h = (read-weaker (λ d. P (use_as Reads d)) (λ d. Q (use_as Reads d)) e (λ d. f (use_as Reads d)) h.0, f (use_as Writes c) h.1)
-  touch_one-weaker P Q (Add c e) f h = (read-weaker (λ d. P (use_as Reads d)) (λ d. Q (use_as Reads d)) e (λ d. f (use_as Reads d)) h.0, f (use_as Adds c) h.1)
+  touch_one-weaker P Q (Fold o c e) f h = (read-weaker (λ d. P (use_as Reads d)) (λ d. Q (use_as Reads d)) e (λ d. f (use_as Reads d)) h.0, f (use_as Adds c) h.1)
   touch_one-weaker P Q (If e a b) f h =
       (read-weaker (λ d. P (use_as Reads d)) (λ d. Q (use_as Reads d)) e (λ d. f (use_as Reads d)) h.0, touch-weaker P Q a f h.1, touch-weaker P Q b f h.2)
   touch_one-weaker P Q (Task d b) f h = touch-weaker P Q b f h
   touch_one-weaker P Q Wait f h = h
-  touch_one-weaker P Q (Group cs b) f h = touch-weaker P Q b f h
+  touch_one-weaker P Q (Group o cs b) f h = touch-weaker P Q b f h
 
   pub touch-weaker : (P Q : Use → Type 0) (b : Body) → ((u : Use) → P u → Q u) → EachTouch P b → EachTouch Q b
   touch-weaker P Q End f h = h
@@ -100,14 +100,14 @@ adds_reads e = cc
 mutual
   frame_one : (c : Cell) (x : S) (s : State) → EachTouchOne (Spares c) x → cell_of (serial_one x s).cells c ≡ cell_of s.cells c
   frame_one c (Set d e) s h = model.cell_of-with_cell-other s.cells d c (λ _. val (cell_of s.cells) e) (spared c d Writes writes_reads h.1)
-  frame_one c (Add d e) s h = model.cell_of-with_cell-other s.cells d c (λ n. (n + val (cell_of s.cells) e) % 2 ^ 64) (spared c d Adds adds_reads h.1)
+  frame_one c (Fold o d e) s h = model.cell_of-with_cell-other s.cells d c (λ n. (n + val (cell_of s.cells) e) % 2 ^ 64) (spared c d Adds adds_reads h.1)
   frame_one c (If e p q) s h =
       either-both (λ t. cell_of t.cells c) (val (cell_of s.cells) e) (serial p (bump 0 1 s)) (serial q (bump 0 1 s))
       ∙ either-same (val (cell_of s.cells) e) (val (cell_of s.cells) e) _ _ (cell_of s.cells c) (cell_of s.cells c) refl (frame c p (bump 0 1 s) h.1) (frame c q (bump 0 1 s) h.2)
       ∙ either-one (val (cell_of s.cells) e) (cell_of s.cells c)
   frame_one c (Task d p) s h = frame c p (bump 1 1 s) h
   frame_one c Wait s h = refl
-  frame_one c (Group cs p) s h = frame c p (bump 0 1 s) h
+  frame_one c (Group o cs p) s h = frame c p (bump 0 1 s) h
 
   frame : (c : Cell) (p : Body) (s : State) → EachTouch (Spares c) p → cell_of (serial p s).cells c ≡ cell_of s.cells c
   frame c End s h = refl
@@ -143,7 +143,7 @@ mutual
   change_one (Set d e) s c f h =
       ap (bump 0 1) (ap (λ n. change (change s c f) d (λ _. n)) (read-elsewhere s c f e h.0)
       ∙ change-swap s c d f (λ _. val (cell_of s.cells) e) (λ same. absurd (writes_adds (h.1 (sym same)).0)))
-  change_one (Add d e) s c f h =
+  change_one (Fold o d e) s c f h =
       ap (bump 0 1) (ap (λ v. change (change s c f) d (λ n. (n + v) % 2 ^ 64)) (read-elsewhere s c f e h.0)
       ∙ change-swap s c d f (λ n. (n + val (cell_of s.cells) e) % 2 ^ 64) (λ same n. sym ((h.1 (sym same)).1 (val (cell_of s.cells) e) n)))
   change_one (If e p q) s c f h =
@@ -152,7 +152,7 @@ mutual
       ∙ sym (either-both (λ t. change t c f) (val (cell_of s.cells) e) (serial p (bump 0 1 s)) (serial q (bump 0 1 s)))
   change_one (Task d p) s c f h = serial-change p (bump 1 1 s) c f h
   change_one Wait s c f h = refl
-  change_one (Group cs p) s c f h = serial-change p (bump 0 1 s) c f h
+  change_one (Group o cs p) s c f h = serial-change p (bump 0 1 s) c f h
 
   serial-change : (p : Body) (s : State) (c : Cell) (f : ℕ → ℕ) → EachTouch (Commutes c f) p → serial p (change s c f) ≡ change (serial p s) c f
   serial-change End s c f h = refl
@@ -195,7 +195,7 @@ mutual
       ∙ ap (bump 0 1) (serial-change b s c (λ _. val (cell_of s.cells) e)
       (touch-weaker (Agree (use_as Writes c)) (Commutes c (λ _. val (cell_of s.cells) e)) b (λ u agree same. absurd (conflicts_writes u.mode (agree (sym same)))) h.1)
       ∙ ap (λ n. change (serial b s) c (λ _. n)) (read-behind s b e h.0))
-  apart_one (Add c e) b s h =
+  apart_one (Fold o c e) b s h =
       serial-bump b 0 1 (change s c (λ n. (n + val (cell_of s.cells) e) % 2 ^ 64))
       ∙ ap (bump 0 1) (serial-change b s c (λ n. (n + val (cell_of s.cells) e) % 2 ^ 64)
       (touch-weaker (Agree (use_as Adds c)) (Commutes c (λ n. (n + val (cell_of s.cells) e) % 2 ^ 64)) b
@@ -207,7 +207,7 @@ mutual
       (apart p b (bump 0 1 s) h.1 ∙ ap (serial p) (serial-bump b 0 1 s)) (apart q b (bump 0 1 s) h.2 ∙ ap (serial q) (serial-bump b 0 1 s))
   apart_one (Task d p) b s h = apart p b (bump 1 1 s) h ∙ ap (serial p) (serial-bump b 1 1 s)
   apart_one Wait b s h = serial-bump b 0 1 s
-  apart_one (Group cs p) b s h = apart p b (bump 0 1 s) h ∙ ap (serial p) (serial-bump b 0 1 s)
+  apart_one (Group o cs p) b s h = apart p b (bump 0 1 s) h ∙ ap (serial p) (serial-bump b 0 1 s)
 
   pub apart : (a b : Body) (s : State) → AreApart a b → serial b (serial a s) ≡ serial a (serial b s)
   apart End b s h = refl

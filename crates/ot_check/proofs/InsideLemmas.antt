@@ -2,7 +2,7 @@
 use Rattle.std.proofs.Common.{◌≡◌, ℕ, Bool, true, false, not, ◌&&◌, ◌||◌, List, [], ◌∷◌, refl, sym, subst, ◌∙◌, inl, inr}
 use Rattle.std.specs.Prelude.{Some, None}
 use Rattle.std.specs.List.{list_any}
-use Rattle.ot_model.specs.Tree.{E, S, Set, Add, If, Task, Wait, Group, Body, End, Next}
+use Rattle.ot_model.specs.Tree.{E, S, Set, Fold, If, Task, Wait, Group, Body, End, Next}
 use Rattle.ot_model.specs.Value.{cells_named}
 use Rattle.ot_model.specs.Names.{NamedIn, OneNamedIn, ValueNamedIn}
 use Rattle.ot_model.specs.Uses.{is_adds}
@@ -11,14 +11,14 @@ use Rattle.ot_model.specs.declared.stmt.Mode.{Mode}
 use Rattle.ot_model.specs.declared.stmt.Mode.TheVariants.{Reads, Writes, Adds}
 use Rattle.ot_model.specs.declared.stmt.Use.{Use}
 use Rattle.ot_check.specs.Paths.{use_as}
-use Rattle.ot_check.specs.Offences.{Declared, allows, adds_to, exceeds, misfits, covers, has_cell}
+use Rattle.ot_check.specs.Offences.{Declared, Openings, allows, adds_to, exceeds, misfits, covers, has_cell}
 use Rattle.ot_check.specs.walk.Walk.{Children, nobody, nothing_open, behind_one, with_group}
 use Rattle.ot_check.specs.walk.Fine.{IsClean, IsFineInside, IsFine}
 use Rattle.ot_check.specs.Disciplined.{OffendsNowhere}
 use Rattle.ot_model.specs.Cells.{same_cell}
 use Rattle.ot_check.specs.Touches.{EachRead, EachTouch, EachTouchOne, EachTask, EachTaskOne}
 use Rattle.ot_check.specs.declared.fault.Offence.TheVariants.{NotDeclared, ChildBeyond, ReductionMisuse}
-use Rattle.ot_check.proofs.OffenceLemmas.{is_offence-Set, is_offence-Add, is_offence-If, is_offence-ChildBeyond, is_offence-ReductionMisuse, is_offence-Group}
+use Rattle.ot_check.proofs.OffenceLemmas.{is_offence-Set, is_offence-Fold, is_offence-If, is_offence-ChildBeyond, is_offence-ReductionMisuse, is_offence-Group}
 use Rattle.ot_check.proofs.ApartLemmas.{read-weaker, touch-weaker}
 use Rattle.ot_check.proofs.SameLemmas.{same_is}
 use Rattle.ot_check.proofs.SumLemmas.{both_false}
@@ -40,7 +40,7 @@ reads_allowed lens own e named h =
 -- ---- what a child's declaration lets it do, its parent's lets it too
 
 -- each cell of an open group is declared as Writes
-abbrev pub Groups : Declared → (Cell → Bool) → Type 0
+abbrev pub Groups : Declared → Openings → Type 0
 Groups own opened = (c : Cell) → opened c ≡ true → Allowed own (use_as Writes c)
 
 -- a cell that is declared as Writes may be used in any mode
@@ -81,7 +81,7 @@ added None c h = refl
 added (Some uses) c h = any_adds uses c h
 
 -- a child's use of a cell that fits the parent
-use_fits : (own : Declared) (opened : Cell → Bool) (c : Cell) (m wanted : Mode) → Groups own opened → exceeds own (use_as m c) ≡ false
+use_fits : (own : Declared) (opened : Openings) (c : Cell) (m wanted : Mode) → Groups own opened → exceeds own (use_as m c) ≡ false
     → misfits own opened (use_as m c) ≡ false → covers m wanted ≡ true → Allowed own (use_as wanted c)
 use_fits own opened c Reads Reads groups exceed misfit covered = not_false (allows own (use_as Reads c)) exceed
 use_fits own opened c Reads Writes groups exceed misfit covered = cc
@@ -95,7 +95,7 @@ use_fits own opened c Adds Adds groups exceed misfit covered =
       | inr grouped ↦ written own c Adds (groups c grouped)
     ]
 
-pub child_fits : (own : Declared) (opened : Cell → Bool) (uses : List Use) → Groups own opened → list_any (exceeds own) uses ≡ false
+pub child_fits : (own : Declared) (opened : Openings) (uses : List Use) → Groups own opened → list_any (exceeds own) uses ≡ false
     → list_any (misfits own opened) uses ≡ false → (u : Use) → Allowed (Some uses) u → Allowed own u
 child_fits own opened [] groups exceed misfit u h = cc
 child_fits own opened (d ∷ uses) groups exceed misfit u h =
@@ -109,7 +109,7 @@ child_fits own opened (d ∷ uses) groups exceed misfit u h =
           (or_false_right (misfits own opened d) (list_any (misfits own opened) uses) misfit) u more
     ]
 
-group_writes : (own : Declared) (opened : Cell → Bool) (cells : List Cell) (c : Cell)
+group_writes : (own : Declared) (opened : Openings) (cells : List Cell) (c : Cell)
     → list_any (λ d. not (allows own (use_as Writes d)) || opened d) cells ≡ false → has_cell cells c ≡ true → Allowed own (use_as Writes c)
 group_writes own opened [] c h there = cc
 group_writes own opened (d ∷ cells) c h there =
@@ -122,8 +122,8 @@ group_writes own opened (d ∷ cells) c h there =
           group_writes own opened cells c (or_false_right (not (allows own (use_as Writes d)) || opened d) (list_any (λ d. not (allows own (use_as Writes d)) || opened d) cells) h) more
     ]
 
-pub groups_inside : (own : Declared) (opened : Cell → Bool) (cells : List Cell) → Groups own opened
-    → list_any (λ d. not (allows own (use_as Writes d)) || opened d) cells ≡ false → Groups own (with_group opened cells)
+pub groups_inside : (own : Declared) (opened : Openings) (cells : List Cell) → Groups own opened
+    → list_any (λ d. not (allows own (use_as Writes d)) || opened d) cells ≡ false → Groups own (with_group opened o cells)
 groups_inside own opened cells groups h c there =
     elim (or_true (opened c) (has_cell cells c) there) [
       | inl before ↦ groups c before
@@ -139,13 +139,13 @@ abbrev Fits : List Use → Body → Type 0
 Fits uses b = EachTouch (Allowed (Some uses)) b
 
 mutual
-  inside_one : (lens : List ℕ) (own : Declared) (opened : Cell → Bool) (children : Children) (x : S) → OneNamedIn lens x → Groups own opened
+  inside_one : (lens : List ℕ) (own : Declared) (opened : Openings) (children : Children) (x : S) → OneNamedIn lens x → Groups own opened
       → IsClean own opened children x → IsFineInside own opened children x → EachTouchOne (Allowed own) x × EachTaskOne Fits x
   inside_one lens own opened children (Set c e) named groups clean fine =
       let both = sym (is_offence-Set own opened children c e NotDeclared) ∙ clean NotDeclared in
       ((reads_allowed lens own e named.1 (or_false_left _ _ both), not_false (allows own (use_as Writes c)) (or_false_right _ _ both)), tt)
-  inside_one lens own opened children (Add c e) named groups clean fine =
-      let both = sym (is_offence-Add own opened children c e NotDeclared) ∙ clean NotDeclared in
+  inside_one lens own opened children (Fold o c e) named groups clean fine =
+      let both = sym (is_offence-Fold own opened children c e NotDeclared) ∙ clean NotDeclared in
       ((reads_allowed lens own e named.1 (or_false_left _ _ both), not_false (allows own (use_as Adds c)) (or_false_right _ _ both)), tt)
   inside_one lens own opened children (If e a b) named groups clean fine =
       let p = inside_body lens own opened children a named.1 groups fine.0 in
@@ -159,11 +159,11 @@ mutual
         (p.0, p.1),
       )
   inside_one lens own opened children Wait named groups clean fine = (tt, tt)
-  inside_one lens own opened children (Group cs b) named groups clean fine =
-      inside_body lens own (with_group opened cs) children b named.1
+  inside_one lens own opened children (Group o cs b) named groups clean fine =
+      inside_body lens own (with_group opened o cs) children b named.1
       (groups_inside own opened cs groups (sym (is_offence-Group own opened children cs b ReductionMisuse) ∙ clean ReductionMisuse)) fine
 
-  inside_body : (lens : List ℕ) (own : Declared) (opened : Cell → Bool) (children : Children) (b : Body) → NamedIn lens b → Groups own opened
+  inside_body : (lens : List ℕ) (own : Declared) (opened : Openings) (children : Children) (b : Body) → NamedIn lens b → Groups own opened
       → IsFine own opened children b → EachTouch (Allowed own) b × EachTask Fits b
   inside_body lens own opened children End named groups fine = (tt, tt)
   inside_body lens own opened children (Next x rest) named groups fine =

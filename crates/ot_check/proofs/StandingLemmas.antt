@@ -12,7 +12,7 @@ use Rattle.ot_model.specs.declared.expr.Cell.{Cell}
 use Rattle.ot_model.specs.declared.stmt.Mode.TheVariants.{Writes}
 use Rattle.ot_model.specs.declared.stmt.Use.{Use}
 use Rattle.ot_check.specs.Paths.{Enter, use_as}
-use Rattle.ot_check.specs.Offences.{Declared, allows, clashes}
+use Rattle.ot_check.specs.Offences.{Declared, Openings, allows, clashes}
 use Rattle.ot_check.specs.walk.Walk.{Children, may_break}
 use Rattle.ot_check.specs.declared.fault.Offence.{Offence}
 use Rattle.ot_check.specs.declared.fault.Offence.TheVariants.{NotDeclared, ChildBeyond, ReductionMisuse, ConflictsWithChild, EndsWithChildren}
@@ -73,10 +73,10 @@ any-none test list whole i same l none = sym none ∙ ap (list_any test) (taken 
 -- ---- a group's cells one by one
 
 -- whether a group of this cell alone is the offence
-abbrev pub alone : Declared → (Cell → Bool) → Children → Offence → Cell → Bool
+abbrev pub alone : Declared → Openings → Children → Offence → Cell → Bool
 alone own opened children offence c = may_break own opened children (Enter (c ∷ [])) offence
 
-pub one_by_one : (own : Declared) (opened : Cell → Bool) (children : Children) (cells : List Cell) (offence : Offence)
+pub one_by_one : (own : Declared) (opened : Openings) (children : Children) (cells : List Cell) (offence : Offence)
     → may_break own opened children (Enter cells) offence ≡ list_any (alone own opened children offence) cells
 one_by_one own opened children cells NotDeclared = none_any cells
 one_by_one own opened children cells ChildBeyond = none_any cells

@@ -9,7 +9,7 @@ use Rattle.ot_model.specs.declared.stmt.Mode.{Mode}
 use Rattle.ot_model.specs.declared.stmt.Mode.TheVariants.{Reads, Writes, Adds}
 use Rattle.ot_model.specs.declared.stmt.Use.{Use}
 use Rattle.ot_check.specs.Paths.{use_as}
-use Rattle.ot_check.specs.Offences.{Declared, allows, adds_to, misfits, covers}
+use Rattle.ot_check.specs.Offences.{Declared, Openings, allows, adds_to, misfits, covers}
 use Rattle.ot_check.proofs.Bits.{or_true, and_left, and_right, or_false_left, or_false_right}
 use Rattle.ot_check.proofs.SameLemmas.{same_is}
 
@@ -18,13 +18,13 @@ both_false true b h = inl refl
 both_false false true h = inr refl
 both_false false false h = cc
 
-one-adds : (own : Declared) (opened : Cell → Bool) (c d : Cell) (adds : Bool) → adds ≡ true → d ≡ c
+one-adds : (own : Declared) (opened : Openings) (c d : Cell) (adds : Bool) → adds ≡ true → d ≡ c
     → (if adds then not (adds_to own d) && not (opened d) else opened d) ≡ false → (adds_to own c ≡ true) ⊎ (opened c ≡ true)
 one-adds own opened c d true is at free = subst (λ d. (adds_to own d ≡ true) ⊎ (opened d ≡ true)) at (both_false (adds_to own d) (opened d) free)
 one-adds own opened c d false is at free = cc
 
 -- a cell that it adds to is one of the body's own sums, or of an open group
-pub fits-adds : (own : Declared) (opened : Cell → Bool) (child : List Use) (c : Cell) → list_any (misfits own opened) child ≡ false
+pub fits-adds : (own : Declared) (opened : Openings) (child : List Use) (c : Cell) → list_any (misfits own opened) child ≡ false
     → adds_to (Some child) c ≡ true → (adds_to own c ≡ true) ⊎ (opened c ≡ true)
 fits-adds own opened [] c fit h = absurd (true≢false (sym h))
 fits-adds own opened (d ∷ child) c fit h =
@@ -35,7 +35,7 @@ fits-adds own opened (d ∷ child) c fit h =
       | inr later ↦ fits-adds own opened child c (or_false_right (misfits own opened d) (list_any (misfits own opened) child) fit) later
     ]
 
-one-reads : (own : Declared) (opened : Cell → Bool) (c d : Cell) (m : Mode) (later same : Bool) → same_cell d c ≡ same → opened c ≡ true
+one-reads : (own : Declared) (opened : Openings) (c d : Cell) (m : Mode) (later same : Bool) → same_cell d c ≡ same → opened c ≡ true
     → (if is_adds m then not (adds_to own d) && not (opened d) else opened d) ≡ false → later ≡ false → ((same && covers m Reads) || later) ≡ false
 one-reads own opened c d m later false at here free rest = rest
 one-reads own opened c d Adds later true at here free rest = rest
@@ -43,7 +43,7 @@ one-reads own opened c d Reads later true at here free rest = absurd (true≢fal
 one-reads own opened c d Writes later true at here free rest = absurd (true≢false (sym here ∙ ap opened (sym (same_is d c at)) ∙ free))
 
 -- a cell of an open group it neither reads nor writes
-pub fits-reads : (own : Declared) (opened : Cell → Bool) (child : List Use) (c : Cell) → list_any (misfits own opened) child ≡ false
+pub fits-reads : (own : Declared) (opened : Openings) (child : List Use) (c : Cell) → list_any (misfits own opened) child ≡ false
     → opened c ≡ true → allows (Some child) (use_as Reads c) ≡ false
 fits-reads own opened [] c fit here = refl
 fits-reads own opened (d ∷ child) c fit here =

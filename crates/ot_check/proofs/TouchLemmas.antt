@@ -5,7 +5,7 @@ use Rattle.std.specs.Prelude.{Some}
 use Rattle.std.specs.List.{list_any, range_with_len}
 use Rattle.std.proofs.Math.Nat.{mod-lt}
 use Rattle.std.proofs.lemmas.List.Folds.{list_any-append}
-use Rattle.ot_model.specs.Tree.{E, Literal, CellAt, Apply, PickFrom, Set, Add, If, Task, Wait, Group, Body, End, Next, append}
+use Rattle.ot_model.specs.Tree.{E, Literal, CellAt, Apply, PickFrom, Set, Fold, If, Task, Wait, Group, Body, End, Next, append}
 use Rattle.ot_model.specs.Cells.{same_cell}
 use Rattle.ot_model.specs.Value.{cell_at, cells_of, cells_named}
 use Rattle.ot_model.specs.Names.{NamedIn, ValueNamedIn}
@@ -15,14 +15,14 @@ use Rattle.ot_model.specs.declared.stmt.Mode.{Mode}
 use Rattle.ot_model.specs.declared.stmt.Mode.TheVariants.{Reads, Writes, Adds}
 use Rattle.ot_model.specs.declared.stmt.Use.{Use}
 use Rattle.ot_check.specs.Paths.{Touch, use_as}
-use Rattle.ot_check.specs.Offences.{Declared, allows, covers, clashes}
+use Rattle.ot_check.specs.Offences.{Declared, Openings, allows, covers, clashes}
 use Rattle.ot_check.specs.Touches.{EachRead, EachTouch, Agree}
 use Rattle.ot_check.specs.walk.Walk.{Children, may_break}
 use Rattle.ot_check.specs.walk.Fine.{IsFine, IsHarmless, AreAssigns}
 use Rattle.ot_check.specs.declared.fault.Offence.{Offence}
 use Rattle.ot_check.proofs.Bits.{or_true, and_left, and_right, or_false_left, or_false_right}
 use Rattle.ot_check.proofs.SameLemmas.{same_itself, same_is}
-use Rattle.ot_check.proofs.OffenceLemmas.{reading, is_offence-Set, is_offence-Add, is_offence-If}
+use Rattle.ot_check.proofs.OffenceLemmas.{reading, is_offence-Set, is_offence-Fold, is_offence-If}
 
 -- ---- reads
 
@@ -58,14 +58,14 @@ read-each P (PickFrom s e) h = (λ k i. (h i).0 k, read-each P e (λ i. (h i).1)
 
 -- ---- touches
 
-reads_harmless : (lens : List ℕ) (own : Declared) (opened : Cell → Bool) (children : Children) (e : E) → ValueNamedIn lens e
+reads_harmless : (lens : List ℕ) (own : Declared) (opened : Openings) (children : Children) (e : E) → ValueNamedIn lens e
     → ((offence : Offence) → reading own opened children offence (cells_named e) ≡ false) → EachRead (λ c. IsHarmless own opened children (use_as Reads c)) e
 reads_harmless lens own opened children e named h =
     read-each (λ offence c. may_break own opened children (Touch (use_as Reads c)) offence ≡ false) e
     (λ offence. reads_none (λ c. may_break own opened children (Touch (use_as Reads c)) offence) lens e named (h offence))
 
 -- the sets and adds that come first
-pub harmless : (lens : List ℕ) (own : Declared) (opened : Cell → Bool) (children : Children) (piece rest : Body) → AreAssigns piece → NamedIn lens piece
+pub harmless : (lens : List ℕ) (own : Declared) (opened : Openings) (children : Children) (piece rest : Body) → AreAssigns piece → NamedIn lens piece
     → IsFine own opened children (append piece rest) → EachTouch (IsHarmless own opened children) piece
 harmless lens own opened children End rest only named h = tt
 harmless lens own opened children (Next (Set c e) more) rest only named h =
@@ -77,9 +77,9 @@ harmless lens own opened children (Next (Set c e) more) rest only named h =
       ),
       harmless lens own opened children more rest only named.1 h.2,
     )
-harmless lens own opened children (Next (Add c e) more) rest only named h =
+harmless lens own opened children (Next (Fold o c e) more) rest only named h =
     let both : (offence : Offence) → (reading own opened children offence (cells_named e) || may_break own opened children (Touch (use_as Adds c)) offence) ≡ false =
-    λ offence. sym (is_offence-Add own opened children c e offence) ∙ h.0 offence in (
+    λ offence. sym (is_offence-Fold own opened children c e offence) ∙ h.0 offence in (
       (
         reads_harmless lens own opened children e named.0.1 (λ offence. or_false_left _ _ (both offence)),
         λ offence. or_false_right _ _ (both offence),
@@ -89,10 +89,10 @@ harmless lens own opened children (Next (Add c e) more) rest only named h =
 harmless lens own opened children (Next (If e a b) more) rest only named h = absurd only
 harmless lens own opened children (Next (Task d b) more) rest only named h = absurd only
 harmless lens own opened children (Next Wait more) rest only named h = absurd only
-harmless lens own opened children (Next (Group cs b) more) rest only named h = absurd only
+harmless lens own opened children (Next (Group o cs b) more) rest only named h = absurd only
 
 -- the condition of an `if` that comes next
-pub harmless_if : (lens : List ℕ) (own : Declared) (opened : Cell → Bool) (children : Children) (e : E) (a b rest : Body) → ValueNamedIn lens e
+pub harmless_if : (lens : List ℕ) (own : Declared) (opened : Openings) (children : Children) (e : E) (a b rest : Body) → ValueNamedIn lens e
     → IsFine own opened children (Next (If e a b) rest) → EachTouch (IsHarmless own opened children) (Next (If e End End) End)
 harmless_if lens own opened children e a b rest named h =
     ((reads_harmless lens own opened children e named (λ offence. sym (is_offence-If own opened children e a b offence) ∙ h.0 offence), tt, tt), tt)

@@ -1,7 +1,7 @@
 -- Steps of the walk.
 use Rattle.std.proofs.Common.{◌≡◌, ◌<◌, ◌≤◌, ℕ, ◌+◌, List, Vec, Global, drop, length, get_or, sym, ap, subst, ◌∙◌, IfOk, OnOk, Ok, Err, Result, rules, arith}
 use Rattle.ot_model.specs.Counts.{size_one}
-use Rattle.ot_model.specs.Tree.{S, Set, Add, If, Task, Wait, Group, End, Next}
+use Rattle.ot_model.specs.Tree.{S, Set, Fold, If, Task, Wait, Group, End, Next}
 use Rattle.ot_model.specs.View.{expr_of, stmt_of, stmts_of}
 use Rattle.ot_model.specs.declared.expr.Cell.{Cell}
 use Rattle.ot_model.specs.declared.expr.Expr.{Expr}
@@ -19,8 +19,8 @@ use Rattle.std.proofs.lemmas.List.{at_drop_more, drop_all}
 pub stmt_of-Set : (x : Stmt) (cell : Cell) (e : Expr) → x ≡ stmt.Set cell e → stmt_of x ≡ Set cell (expr_of e)
 stmt_of-Set x cell e is = ap stmt_of is ∙ search (rules, the_lemmas)
 
-pub stmt_of-Add : (x : Stmt) (cell : Cell) (e : Expr) → x ≡ stmt.Add cell e → stmt_of x ≡ Add cell (expr_of e)
-stmt_of-Add x cell e is = ap stmt_of is ∙ search (rules, the_lemmas)
+pub stmt_of-Fold : (x : Stmt) (cell : Cell) (e : Expr) → x ≡ stmt.Add cell e → stmt_of x ≡ Add cell (expr_of e)
+stmt_of-Fold x cell e is = ap stmt_of is ∙ search (rules, the_lemmas)
 
 pub stmt_of-If : (x : Stmt) (e : Expr) (a b : Vec Stmt Global) → x ≡ stmt.If e a b → stmt_of x ≡ If (expr_of e) (stmts_of a.items) (stmts_of b.items)
 stmt_of-If x e a b is = ap stmt_of is ∙ search (rules, the_lemmas)

@@ -1,7 +1,7 @@
 use Rattle.std.proofs.Common.{rules, ℕ, inl, inr, ◌≡◌, ◌<◌, ◌≤◌, ◌+◌, ◌&&◌, add_assoc, Some, Ok, Err, drop, refl, ap, sym, subst, ◌∙◌, arith}
 use Rattle.std.specs.Option.{option_or}
 use Rattle.ot_model.specs.View.{expr_of, stmt_of, stmts_of}
-use Rattle.ot_model.specs.Tree.{Set, Add, If, Task, Wait, Group}
+use Rattle.ot_model.specs.Tree.{Set, Fold, If, Task, Wait, Group}
 use Rattle.ot_model.specs.Counts.{size, size_one}
 use Rattle.ot_model.specs.Names.{NamedIn, OneNamedIn, AreInShape, AreDeclaredIn}
 use Rattle.ot_model.specs.declared.stmt.Stmt.{the_lemmas}
@@ -11,7 +11,7 @@ use Rattle.ot_check.specs.walk.Grids.{widths}
 use Rattle.ot_check.specs.walk.States.{Represents, Stands, AreMore, lens_of, one_more, back, with_children}
 use Rattle.ot_check.specs.walk.Told.{IsTold}
 use Rattle.ot_check.proofs.TellingLemmas.{told-left, told-right, told-inside, told-passed}
-use Rattle.ot_check.proofs.WalkLemmas.{stmt_of-Set, stmt_of-Add, stmt_of-If, stmt_of-Task, stmt_of-Wait, stmt_of-Group, if_ok, behind-as, counted-later, counted-in_task, counted-in_group, place-behind, place-two, rest_is, rest_none}
+use Rattle.ot_check.proofs.WalkLemmas.{stmt_of-Set, stmt_of-Fold, stmt_of-If, stmt_of-Task, stmt_of-Wait, stmt_of-Group, if_ok, behind-as, counted-later, counted-in_task, counted-in_group, place-behind, place-two, rest_is, rest_none}
 use Rattle.ot_check.proofs.RegionLemmas.{stands-kept, stands-same}
 use Rattle.ot_check.proofs.TaskLemmas.{more-same, more-later}
 use Rattle.ot_check.proofs.walk.+walk.Goals as goal
@@ -270,7 +270,7 @@ walk_one-returns-in-Group-clause-told t c = λ own opened children h.
     let is : stmt_of c.args.stmt.now ≡ Group c.in-Group.cells.items (stmts_of c.in-Group.body.items) = stmt_of-Group _ _ _ c.in-Group.is in
     told-inside own opened children c.args.place (stmt_of c.args.stmt.now) (Group c.in-Group.cells.items (stmts_of c.in-Group.body.items))
     c.own_offence.result c.walk_group.result is (c.own_offence.ensures own opened children h) c.in_default.is
-    (subst (λ cells. IsTold (first own (with_group opened cells) children (c.args.place + 1) (stmts_of c.in-Group.body.items)) c.walk_group.result) c.deref.ensures.value
+    (subst (λ cells. IsTold (first own (with_group opened o cells) children (c.args.place + 1) (stmts_of c.in-Group.body.items)) c.walk_group.result) c.deref.ensures.value
     (c.walk_group.ensures.told own opened children h))
 
 pub walk_one-returns-in-Group-clause-behind : goal.walk_one-returns-in-Group-clause-behind
@@ -294,7 +294,7 @@ walk_one-returns-in-Set-clause-behind t c = λ own opened children h.
           let is : stmt_of c.args.stmt.now ≡ Set p.0 (expr_of p.1) = stmt_of-Set _ _ _ p.2 in
           subst (λ x. Represents own opened (behind_one children x) c.args.standing.now) (sym is) h
       | inr p ↦
-          let is : stmt_of c.args.stmt.now ≡ Add p.0 (expr_of p.1) = stmt_of-Add _ _ _ p.2 in
+          let is : stmt_of c.args.stmt.now ≡ Add p.0 (expr_of p.1) = stmt_of-Fold _ _ _ p.2 in
           subst (λ x. Represents own opened (behind_one children x) c.args.standing.now) (sym is) h
     ]
 
