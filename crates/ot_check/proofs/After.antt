@@ -3,6 +3,7 @@ use Rattle.std.proofs.Common.{◌≡◌, ℕ, ◌+◌, ◌++◌, Bool, true, fal
 use Rattle.std.proofs.lemmas.List.Folds.{list_any-append}
 use Rattle.ot_model.specs.Tree.{S, Set, Fold, If, Task, Wait, Group, Body, End, Next}
 use Rattle.ot_model.specs.Counts.{size, size_one}
+use Rattle.ot_model.specs.declared.fold.Fold.{Fold as Operation}
 use Rattle.ot_model.specs.declared.stmt.Use.{Use}
 use Rattle.ot_check.specs.Paths.{Enter, Leave, Step, At, touched, touches, PassesOne, Passes}
 use Rattle.ot_check.specs.Offences.{is_wait, has_wait}
@@ -112,11 +113,11 @@ inside-left : (test : List Use → Bool) (before : Bool) (k : ℕ) (uses : List 
 inside-left test before k uses inside closed =
     left-append test before (touched k uses) inside closed ∙ ap (λ b. left_by test b inside) (touched-left test before k uses)
 
-group-left : (test : List Use → Bool) (before : Bool) (k : ℕ) (cs : List _) (b : Body) (inside : List Step) → Passes (k + 1) b inside
+group-left : (test : List Use → Bool) (before : Bool) (k : ℕ) (o : Operation) (cs : List _) (b : Body) (inside : List Step) → Passes (k + 1) b inside
     → left_by test before (At k (Enter o cs) ∷ (inside ++ At k Leave ∷ [])) ≡ (before && not (has_wait inside))
-group-left test before k cs b inside h =
+group-left test before k o cs b inside h =
     ap (λ w. (before && not w) || some_unawaited test (At k (Enter o cs) ∷ (inside ++ At k Leave ∷ []))) (waits-group k inside)
-    ∙ ap (λ u. (before && not (has_wait inside)) || u) (unawaited-group test k cs b inside h) ∙ or_none (before && not (has_wait inside))
+    ∙ ap (λ u. (before && not (has_wait inside)) || u) (unawaited-group test k o cs b inside h) ∙ or_none (before && not (has_wait inside))
 
 or_same : (p u : Bool) → ((p && false) || u) ≡ true → u ≡ true
 or_same true u h = h
@@ -159,7 +160,7 @@ mutual
   after-from_one test k (Task d b) path is p q more h = made p q (test d) more (ap (left_by test p) (sym is) ∙ h)
   after-from_one test k Wait path is p q more h = awaited p (ap (left_by test p) (sym is) ∙ h)
   after-from_one test k (Group o cs b) path (inside, is, g) p q more h =
-      let both : (p && not (has_wait inside)) ≡ true = sym (group-left test p k cs b inside g) ∙ ap (left_by test p) (sym is) ∙ h in
+      let both : (p && not (has_wait inside)) ≡ true = sym (group-left test p k o cs b inside g) ∙ ap (left_by test p) (sym is) ∙ h in
       and_true q (through b) (more (and_left p (not (has_wait inside)) both))
       (through-from (k + 1) b inside g (not_true (has_wait inside) (and_right p (not (has_wait inside)) both)))
 
@@ -192,7 +193,7 @@ mutual
   after-to_one test k Wait p h = cc
   after-to_one test k (Group o cs b) p h =
       let q = through-to (k + 1) b (and_right p (through b) h) in
-      (_, (q.0, refl, q.1), group-left test p k cs b q.0 q.1 ∙ and_true p (not (has_wait q.0)) (and_left p (through b) h) (true_not (has_wait q.0) q.2))
+      (_, (q.0, refl, q.1), group-left test p k o cs b q.0 q.1 ∙ and_true p (not (has_wait q.0)) (and_left p (through b) h) (true_not (has_wait q.0) q.2))
 
   pub after-to : (test : List Use → Bool) (k : ℕ) (b : Body) (p : Bool) → after test p b ≡ true
       → (path : List Step) × Passes k b path × (left_by test p path ≡ true)

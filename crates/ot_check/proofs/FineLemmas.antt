@@ -99,7 +99,7 @@ clean-fewer own opened few many le x h offence =
     let marked = list_any (λ m. may_break own opened many m offence) (marks x) in
     false_or (list_any (λ m. may_break own opened few m offence) (marks x)) (ends_with_children x offence)
     (any_below (λ m. may_break own opened few m offence) (λ m. may_break own opened many m offence) (marks x)
-    (λ m. may_break-more own opened opened few many (λ c. refl) le m offence)
+    (λ m. may_break-more own opened opened few many (λ o c. refl) le m offence)
     (or_false_left marked (ends_with_children x offence) (h offence)))
     (or_false_right marked (ends_with_children x offence) (h offence))
 

@@ -4,7 +4,8 @@ use Rattle.std.specs.List.{list_any}
 use Rattle.std.proofs.lemmas.List.Folds.{list_any-append}
 use Rattle.ot_model.specs.Tree.{E, S, Set, Fold, If, Task, Group, Body}
 use Rattle.ot_model.specs.declared.expr.Cell.{Cell}
-use Rattle.ot_model.specs.declared.stmt.Mode.TheVariants.{Reads, Writes, Adds}
+use Rattle.ot_model.specs.declared.fold.Fold.{Fold as Operation}
+use Rattle.ot_model.specs.declared.stmt.Mode.TheVariants.{Reads, Writes, Folds}
 use Rattle.ot_model.specs.declared.stmt.Use.{Use}
 use Rattle.ot_check.specs.Paths.{Touch, Enter, use_as}
 use Rattle.ot_model.specs.Value.{cells_named}
@@ -36,12 +37,12 @@ no_end_set c e ReductionMisuse = refl
 no_end_set c e ConflictsWithChild = refl
 no_end_set c e EndsWithChildren = refl
 
-no_end_fold : (c : Cell) (e : E) (offence : Offence) → ends_with_children (Fold o c e) offence ≡ false
-no_end_fold c e NotDeclared = refl
-no_end_fold c e ChildBeyond = refl
-no_end_fold c e ReductionMisuse = refl
-no_end_fold c e ConflictsWithChild = refl
-no_end_fold c e EndsWithChildren = refl
+no_end_fold : (o : Operation) (c : Cell) (e : E) (offence : Offence) → ends_with_children (Fold o c e) offence ≡ false
+no_end_fold o c e NotDeclared = refl
+no_end_fold o c e ChildBeyond = refl
+no_end_fold o c e ReductionMisuse = refl
+no_end_fold o c e ConflictsWithChild = refl
+no_end_fold o c e EndsWithChildren = refl
 
 no_end_if : (e : E) (a b : Body) (offence : Offence) → ends_with_children (If e a b) offence ≡ false
 no_end_if e a b NotDeclared = refl
@@ -50,12 +51,12 @@ no_end_if e a b ReductionMisuse = refl
 no_end_if e a b ConflictsWithChild = refl
 no_end_if e a b EndsWithChildren = refl
 
-no_end_group : (cs : List Cell) (b : Body) (offence : Offence) → ends_with_children (Group o cs b) offence ≡ false
-no_end_group cs b NotDeclared = refl
-no_end_group cs b ChildBeyond = refl
-no_end_group cs b ReductionMisuse = refl
-no_end_group cs b ConflictsWithChild = refl
-no_end_group cs b EndsWithChildren = refl
+no_end_group : (o : Operation) (cs : List Cell) (b : Body) (offence : Offence) → ends_with_children (Group o cs b) offence ≡ false
+no_end_group o cs b NotDeclared = refl
+no_end_group o cs b ChildBeyond = refl
+no_end_group o cs b ReductionMisuse = refl
+no_end_group o cs b ConflictsWithChild = refl
+no_end_group o cs b EndsWithChildren = refl
 
 pub is_offence-Set : (own : Declared) (opened : Openings) (children : Children) (c : Cell) (e : E) (offence : Offence)
     → is_offence own opened children (Set c e) offence
@@ -65,13 +66,13 @@ is_offence-Set own opened children c e offence =
     ∙ touches-break own opened children offence (cells_named e) (use_as Writes c ∷ [])
     ∙ ap (λ b. reading own opened children offence (cells_named e) || b) (or_none (may_break own opened children (Touch (use_as Writes c)) offence))
 
-pub is_offence-Fold : (own : Declared) (opened : Openings) (children : Children) (c : Cell) (e : E) (offence : Offence)
+pub is_offence-Fold : (own : Declared) (opened : Openings) (children : Children) (o : Operation) (c : Cell) (e : E) (offence : Offence)
     → is_offence own opened children (Fold o c e) offence
-    ≡ (reading own opened children offence (cells_named e) || may_break own opened children (Touch (use_as Adds c)) offence)
-is_offence-Fold own opened children c e offence =
-    ends-touch (Fold o c e) offence _ (no_end_fold c e offence)
-    ∙ touches-break own opened children offence (cells_named e) (use_as Adds c ∷ [])
-    ∙ ap (λ b. reading own opened children offence (cells_named e) || b) (or_none (may_break own opened children (Touch (use_as Adds c)) offence))
+    ≡ (reading own opened children offence (cells_named e) || may_break own opened children (Touch (use_as (Folds o) c)) offence)
+is_offence-Fold own opened children o c e offence =
+    ends-touch (Fold o c e) offence _ (no_end_fold o c e offence)
+    ∙ touches-break own opened children offence (cells_named e) (use_as (Folds o) c ∷ [])
+    ∙ ap (λ b. reading own opened children offence (cells_named e) || b) (or_none (may_break own opened children (Touch (use_as (Folds o) c)) offence))
 
 pub is_offence-If : (own : Declared) (opened : Openings) (children : Children) (e : E) (a b : Body) (offence : Offence)
     → is_offence own opened children (If e a b) offence ≡ reading own opened children offence (cells_named e)
@@ -88,10 +89,10 @@ pub is_offence-ReductionMisuse : (own : Declared) (opened : Openings) (children 
     → is_offence own opened children (Task d b) ReductionMisuse ≡ list_any (misfits own opened) d
 is_offence-ReductionMisuse own opened children d b = or_none (list_any (misfits own opened) d || false) ∙ or_none (list_any (misfits own opened) d)
 
-pub is_offence-Group : (own : Declared) (opened : Openings) (children : Children) (cs : List Cell) (b : Body) (offence : Offence)
+pub is_offence-Group : (own : Declared) (opened : Openings) (children : Children) (o : Operation) (cs : List Cell) (b : Body) (offence : Offence)
     → is_offence own opened children (Group o cs b) offence ≡ may_break own opened children (Enter o cs) offence
-is_offence-Group own opened children cs b offence =
-    ends-touch (Group o cs b) offence _ (no_end_group cs b offence) ∙ or_none (may_break own opened children (Enter o cs) offence)
+is_offence-Group own opened children o cs b offence =
+    ends-touch (Group o cs b) offence _ (no_end_group o cs b offence) ∙ or_none (may_break own opened children (Enter o cs) offence)
 
 pub either_met : (b a d : Bool) → b ≡ a → b ≡ true → b ≡ (a || d)
 either_met b a d is met = met ∙ ap (λ c. c || d) (sym met ∙ is)

@@ -5,6 +5,8 @@ use Rattle.std.specs.List.{list_any}
 use Rattle.ot_model.specs.Tree.{S, Set, Fold, If, Task, Wait, Group, Body, End, Next}
 use Rattle.ot_model.specs.Counts.{size, size_one}
 use Rattle.ot_model.specs.declared.expr.Cell.{Cell}
+use Rattle.ot_model.specs.Uses.{same_fold}
+use Rattle.ot_model.specs.declared.fold.Fold.{Fold as Operation}
 use Rattle.ot_model.specs.declared.stmt.Use.{Use}
 use Rattle.ot_check.specs.Paths.{Mark, Touch, Create, Await, Enter, Leave, Step, At, touched, touches, PassesOne, Passes}
 use Rattle.ot_check.specs.Offences.{Declared, Openings, has_cell, has_wait, unawaited, is_open, OnPath, InTasks, InTasksOfOne, Offends, IsFirstOf}
@@ -21,7 +23,7 @@ use Rattle.ot_check.proofs.Bits.{or_true, true_or, or_false, or_right, and_left,
 
 -- the groups are those of each prefix; each child that the walk has is unawaited behind one of them
 pub record Reaches (I : Type 0) (prefix : I → List Step) (opened : Openings) (children : Children) : Type 0 where
-  pub groups : (i : I) (c : Cell) → opened c ≡ is_open (prefix i) c
+  pub groups : (i : I) (o : Operation) (c : Cell) → opened o c ≡ is_open (prefix i) o c
   pub unawaited : (test : List Use → Bool) → children test ≡ true → (i : I) × (some_unawaited test (prefix i) ≡ true)
   pub someone : I
 
@@ -41,7 +43,7 @@ may_break-member : {I : Type 0} (F : I → Children) (all : Children) (own : Dec
     → may_break own o all mark offence ≡ true → (i : I) × (may_break own o (F i) mark offence ≡ true)
 may_break-member F all own o (Touch u) ConflictsWithChild member i h = member _ h
 may_break-member F all own o (Create d) ConflictsWithChild member i h = (i, h)
-may_break-member F all own o (Enter o cs) ConflictsWithChild member i h = any-member F all _ cs member h
+may_break-member F all own o (Enter by cs) ConflictsWithChild member i h = any-member F all _ cs member h
 may_break-member F all own o Await ConflictsWithChild member i h = (i, h)
 may_break-member F all own o Leave ConflictsWithChild member i h = (i, h)
 may_break-member F all own o mark offence member i h = (i, h)
@@ -60,16 +62,16 @@ here-behind prefix opened children own mark offence reaches h =
 reaches-touched : {I : Type 0} (prefix : I → List Step) (opened : Openings) (children : Children) (k : ℕ) (uses : List Use)
     → Reaches I prefix opened children → Reaches I (λ i. prefix i ++ touched k uses) opened children
 reaches-touched prefix opened children k uses h = record {
-  groups = λ i c. h.groups i c ∙ sym (quiet-open c (prefix i) k uses);
+  groups = λ i o c. h.groups i o c ∙ sym (quiet-open o c (prefix i) k uses);
   unawaited = λ test is. let q = h.unawaited test is in (q.0, quiet-unawaited test (prefix q.0) k uses ∙ q.1);
   someone = h.someone;
 }
 
-reaches-entered : {I : Type 0} (prefix : I → List Step) (opened : Openings) (children : Children) (k : ℕ) (cs : List Cell)
-    → Reaches I prefix opened children → Reaches I (λ i. prefix i ++ At k (Enter o cs) ∷ []) (with_group opened o cs) children
-reaches-entered prefix opened children k cs h = record {
-  groups = λ i c. ap (λ b. b || has_cell cs c) (h.groups i c) ∙ sym (entered-open c (prefix i) k cs);
-  unawaited = λ test is. let q = h.unawaited test is in (q.0, entered-unawaited test (prefix q.0) k cs ∙ q.1);
+reaches-entered : {I : Type 0} (prefix : I → List Step) (opened : Openings) (children : Children) (k : ℕ) (by : Operation) (cs : List Cell)
+    → Reaches I prefix opened children → Reaches I (λ i. prefix i ++ At k (Enter by cs) ∷ []) (with_group opened by cs) children
+reaches-entered prefix opened children k by cs h = record {
+  groups = λ i o c. ap (λ b. b || (same_fold by o && has_cell cs c)) (h.groups i o c) ∙ sym (entered-open o c (prefix i) k by cs);
+  unawaited = λ test is. let q = h.unawaited test is in (q.0, entered-unawaited test (prefix q.0) k by cs ∙ q.1);
   someone = h.someone;
 }
 
@@ -83,7 +85,7 @@ further prefix k x f = prefix f.0 ++ f.1.0
 reaches-passed : {I : Type 0} (prefix : I → List Step) (opened : Openings) (children : Children) (k : ℕ) (x : S)
     → Reaches I prefix opened children → Reaches (Further I k x) (further prefix k x) opened (behind_one children x)
 reaches-passed {I} prefix opened children k x h = record {
-  groups = λ f c. h.groups f.0 c ∙ sym (passed-open c (prefix f.0) k x f.1.0 f.1.1);
+  groups = λ f o c. h.groups f.0 o c ∙ sym (passed-open o c (prefix f.0) k x f.1.0 f.1.1);
   unawaited = λ test is. found test (after-to_one test k x (children test) is);
   someone = (h.someone, some_path_one k x);
 }
@@ -172,7 +174,7 @@ stands-on_path k b own place offence (before, later, mark, way, h) =
     (before, later, mark, way, sym (may_break-breaks own (is_open before) (unawaited before) mark offence) ∙ h)
 
 reaches-nothing : Reaches (Unit {0}) (λ (i : Unit {0}). []) nothing_open nobody
-reaches-nothing = record { groups = λ i c. refl; unawaited = λ test h. (tt, h); someone = tt }
+reaches-nothing = record { groups = λ i o c. refl; unawaited = λ test h. (tt, h); someone = tt }
 
 mutual
   found_one : {I : Type 0} (prefix : I → List Step) (own : Declared) (opened : Openings) (children : Children) (k : ℕ) (x : S) (place : ℕ) (offence : Offence)
@@ -235,7 +237,7 @@ mutual
       )
   found_one prefix own opened children k (Group o cs b) place offence reaches (inr h) =
       elim (found (λ i. prefix i ++ At k (Enter o cs) ∷ []) own (with_group opened o cs) children (k + 1) b place offence
-      (reaches-entered prefix opened children k cs reaches) h) [
+      (reaches-entered prefix opened children k o cs reaches) h) [
         | inl q ↦ inl (
           q.0,
           stands-behind (prefix q.0) (At k (Enter o cs) ∷ []) (λ p. (inside : List Step) × (p ≡ inside ++ At k Leave ∷ []) × Passes (k + 1) b inside) (PassesOne k (Group o cs b)) own place offence
