@@ -1,6 +1,8 @@
 -- What stands at a place, as the walk goes on.
 use Rattle.std.proofs.Common.{◌≡◌, ◌==◌, ℕ, ◌+◌, ◌<◌, ◌≤◌, ◌&&◌, ◌||◌, Bool, true, false, List, refl, sym, ap, ◌∙◌, arith}
 use Rattle.ot_model.specs.declared.expr.Cell.{Cell}
+use Rattle.ot_model.specs.Uses.{same_fold}
+use Rattle.ot_model.specs.declared.fold.Fold.{Fold as Operation}
 use Rattle.ot_model.specs.declared.stmt.Use.{Use}
 use Rattle.ot_check.specs.Offences.{Declared, Openings, clashes, has_cell}
 use Rattle.ot_check.specs.walk.Walk.{Children, nobody, nothing_open, with_group}
@@ -18,7 +20,7 @@ pub sound-first : (tasks : Tasks) → ((numbers : Numbers) (u : Use) → met num
 sound-first tasks none one other u same = none one u ∙ sym (none other u)
 
 -- a body's beginning
-pub stands-first : (own : Declared) (region : Region) (tasks : Tasks) → region.own ≡ own → ((c : Cell) → is_open region.opened c ≡ false)
+pub stands-first : (own : Declared) (region : Region) (tasks : Tasks) → region.own ≡ own → ((o : Operation) (c : Cell) → is_open region.opened o c ≡ false)
     → ((k : ℕ) → has region.unawaited k ≡ false) → IsSound tasks → Stands own nothing_open nobody region tasks
 stands-first own region tasks declares closed none sound = record {
   declares = declares;
@@ -30,7 +32,7 @@ stands-first own region tasks declares closed none sound = record {
 
 -- the same region behind later tasks
 pub stands-kept : (own : Declared) (opened : Openings) (children : Children) (old region : Region) (before tasks : Tasks) → Stands own opened children old before
-    → region.own ≡ own → ((c : Cell) → is_open region.opened c ≡ opened c) → ((k : ℕ) → has region.unawaited k ≡ has old.unawaited k)
+    → region.own ≡ own → ((o : Operation) (c : Cell) → is_open region.opened o c ≡ opened o c) → ((k : ℕ) → has region.unawaited k ≡ has old.unawaited k)
     → AreMore before tasks → IsSound tasks → Stands own opened children region tasks
 stands-kept own opened children old region before tasks h declares shut same more sound =
     let early : (k : ℕ) → before.passed ≤ k → has region.unawaited k ≡ false = λ k l. same k ∙ h.passed k l in record {
@@ -88,12 +90,13 @@ stands-joined own opened children others region one both tasks h g joined = reco
     or_comm false false = refl
 
 -- a group's cells
-pub stands-grouped : (own : Declared) (opened : Openings) (children : Children) (cells : List Cell) (region new : Region) (tasks : Tasks)
+pub stands-grouped : (own : Declared) (opened : Openings) (children : Children) (by : Operation) (cells : List Cell) (region new : Region) (tasks : Tasks)
     → Stands own opened children region tasks → new.own ≡ region.own → new.unawaited ≡ region.unawaited
-    → ((c : Cell) → is_open new.opened c ≡ (is_open region.opened c || has_cell cells c)) → Stands own (with_group opened o cells) children new tasks
-stands-grouped own opened children cells region new tasks h declares same entered = record {
+    → ((o : Operation) (c : Cell) → is_open new.opened o c ≡ (is_open region.opened o c || (same_fold by o && has_cell cells c)))
+    → Stands own (with_group opened by cells) children new tasks
+stands-grouped own opened children by cells region new tasks h declares same entered = record {
   declares = declares ∙ h.declares;
-  grouped = λ c. entered c ∙ ap (λ b. b || has_cell cells c) (h.grouped c);
+  grouped = λ o c. entered o c ∙ ap (λ b. b || (same_fold by o && has_cell cells c)) (h.grouped o c);
   clash = λ u. ap (λ n. met n tasks.users u) same ∙ h.clash u;
   passed = λ k l. ap (λ n. has n k) same ∙ h.passed k l;
   sound = h.sound;

@@ -1,4 +1,4 @@
-ghost use Rattle.std.specs.Prelude.{◌≡◌};
+ghost use Rattle.std.specs.Prelude.{◌≡◌, ◌<◌};
 ghost use Rattle.ot_model.specs.Uses.{number_of};
 ghost use Rattle.ot_check.specs.Offences.{covers, folds_by};
 ghost use Rattle.ot_check.specs.walk.Rows.{is_by};
@@ -38,7 +38,8 @@ pub(crate) fn is_by(op: Fold, mode: Mode) -> bool
 
 /// The number of an operation, from 0 to 6.
 pub(crate) fn number(op: Fold) -> usize
-    ensures { result ≡ number_of op }
+    ensures exact { result ≡ number_of op }
+    ensures small { result < 7 }
 {
     match op {
         Fold::Plus => 0,

@@ -52,6 +52,7 @@ impl Opened {
 
     /// Makes a set for an operation, by its number.
     fn reach(&mut self, alloc: Global, number: usize) -> Result<(), AllocError>
+        requires { number < 7 }
         ensures same { (o : Operation) (c : Cell) → is_open self.new o c ≡ is_open self.old o c }
         ensures there { OnOk result (number < length self.new.sets.items) }
     {

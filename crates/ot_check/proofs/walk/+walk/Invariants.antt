@@ -2,7 +2,6 @@ use Rattle.std.proofs.Common.{◌≡◌, ◌+◌, ◌≤◌, Bool, List, drop}
 use Rattle.ot_model.specs.View.{stmts_of}
 use Rattle.ot_model.specs.Counts.{size}
 use Rattle.ot_model.specs.Names.{NamedIn}
-use Rattle.ot_model.specs.declared.expr.Cell.{Cell}
 use Rattle.ot_model.specs.declared.stmt.Use.{Use}
 use Rattle.ot_check.specs.Offences.{Declared, Openings}
 use Rattle.ot_check.specs.walk.Walk.{Children, after, first}

@@ -1,6 +1,5 @@
-use Rattle.std.proofs.Common.{◌≡◌, Bool, false, take}
+use Rattle.std.proofs.Common.{◌≡◌, false, take}
 use Rattle.std.specs.List.{list_any}
-use Rattle.ot_model.specs.declared.expr.Cell.{Cell}
 use Rattle.ot_check.specs.Offences.{Declared, Openings, misfits}
 use Rattle.ot_check.specs.walk.Walk.{Children}
 use Rattle.ot_check.specs.walk.States.{Represents}
