@@ -1,8 +1,9 @@
 -- The walk's children are those of all paths.
 use Rattle.std.proofs.Common.{◌≡◌, ℕ, ◌+◌, ◌++◌, Bool, true, false, not, ◌&&◌, ◌||◌, List, [], ◌∷◌, refl, sym, ap, inl, inr, ◌∙◌, append-nil}
 use Rattle.std.proofs.lemmas.List.Folds.{list_any-append}
-use Rattle.ot_model.specs.Tree.{S, Set, Add, If, Task, Wait, Group, Body, End, Next}
+use Rattle.ot_model.specs.Tree.{S, Set, Fold, If, Task, Wait, Group, Body, End, Next}
 use Rattle.ot_model.specs.Counts.{size, size_one}
+use Rattle.ot_model.specs.declared.fold.Fold.{Fold as Operation}
 use Rattle.ot_model.specs.declared.stmt.Use.{Use}
 use Rattle.ot_check.specs.Paths.{Enter, Leave, Step, At, touched, touches, PassesOne, Passes}
 use Rattle.ot_check.specs.Offences.{is_wait, has_wait}
@@ -15,11 +16,11 @@ use Rattle.ot_check.proofs.Bits.{or_true, true_or, or_right, and_left, and_right
 mutual
   pub some_path_one : (k : ℕ) (x : S) → (path : List Step) × PassesOne k x path
   some_path_one k (Set c e) = (_, refl)
-  some_path_one k (Add c e) = (_, refl)
+  some_path_one k (Fold o c e) = (_, refl)
   some_path_one k (If e a b) = let p = some_path (k + 1) a in (_, (p.0, refl, inl p.1))
   some_path_one k (Task d b) = (_, refl)
   some_path_one k Wait = (_, refl)
-  some_path_one k (Group cs b) = let p = some_path (k + 1) b in (_, (p.0, refl, p.1))
+  some_path_one k (Group o cs b) = let p = some_path (k + 1) b in (_, (p.0, refl, p.1))
 
   pub some_path : (k : ℕ) (b : Body) → (path : List Step) × Passes k b path
   some_path k End = (_, refl)
@@ -40,14 +41,14 @@ waits-group k inside = waits-append inside (At k Leave ∷ []) ∙ or_none (has_
 mutual
   through-from_one : (k : ℕ) (x : S) (path : List Step) → PassesOne k x path → has_wait path ≡ false → through_one x ≡ true
   through-from_one k (Set c e) path is none = refl
-  through-from_one k (Add c e) path is none = refl
+  through-from_one k (Fold o c e) path is none = refl
   through-from_one k (If e a b) path (inside, is, inl h) none =
       true_or (through a) (through b) (through-from (k + 1) a inside h (sym (waits-inside k (touches (If e a b)) inside) ∙ ap has_wait (sym is) ∙ none))
   through-from_one k (If e a b) path (inside, is, inr h) none =
       or_right (through a) (through b) (through-from (k + 1 + size a) b inside h (sym (waits-inside k (touches (If e a b)) inside) ∙ ap has_wait (sym is) ∙ none))
   through-from_one k (Task d b) path is none = refl
   through-from_one k Wait path is none = sym (ap has_wait (sym is) ∙ none)
-  through-from_one k (Group cs b) path (inside, is, h) none =
+  through-from_one k (Group o cs b) path (inside, is, h) none =
       through-from (k + 1) b inside h (sym (waits-group k inside) ∙ ap has_wait (sym is) ∙ none)
 
   pub through-from : (k : ℕ) (b : Body) (path : List Step) → Passes k b path → has_wait path ≡ false → through b ≡ true
@@ -60,7 +61,7 @@ mutual
 mutual
   through-to_one : (k : ℕ) (x : S) → through_one x ≡ true → (path : List Step) × PassesOne k x path × (has_wait path ≡ false)
   through-to_one k (Set c e) h = (_, refl, touched-waits k (touches (Set c e)))
-  through-to_one k (Add c e) h = (_, refl, touched-waits k (touches (Add c e)))
+  through-to_one k (Fold o c e) h = (_, refl, touched-waits k (touches (Fold o c e)))
   through-to_one k (If e a b) h =
       elim (or_true (through a) (through b) h) [
         | inl one ↦ let p = through-to (k + 1) a one in (_, (p.0, refl, inl p.1), waits-inside k (touches (If e a b)) p.0 ∙ p.2)
@@ -68,7 +69,7 @@ mutual
       ]
   through-to_one k (Task d b) h = (_, refl, refl)
   through-to_one k Wait h = cc
-  through-to_one k (Group cs b) h = let p = through-to (k + 1) b h in (_, (p.0, refl, p.1), waits-group k p.0 ∙ p.2)
+  through-to_one k (Group o cs b) h = let p = through-to (k + 1) b h in (_, (p.0, refl, p.1), waits-group k p.0 ∙ p.2)
 
   through-to : (k : ℕ) (b : Body) → through b ≡ true → (path : List Step) × Passes k b path × (has_wait path ≡ false)
   through-to k End h = (_, refl, refl)
@@ -112,11 +113,11 @@ inside-left : (test : List Use → Bool) (before : Bool) (k : ℕ) (uses : List 
 inside-left test before k uses inside closed =
     left-append test before (touched k uses) inside closed ∙ ap (λ b. left_by test b inside) (touched-left test before k uses)
 
-group-left : (test : List Use → Bool) (before : Bool) (k : ℕ) (cs : List _) (b : Body) (inside : List Step) → Passes (k + 1) b inside
-    → left_by test before (At k (Enter cs) ∷ (inside ++ At k Leave ∷ [])) ≡ (before && not (has_wait inside))
-group-left test before k cs b inside h =
-    ap (λ w. (before && not w) || some_unawaited test (At k (Enter cs) ∷ (inside ++ At k Leave ∷ []))) (waits-group k inside)
-    ∙ ap (λ u. (before && not (has_wait inside)) || u) (unawaited-group test k cs b inside h) ∙ or_none (before && not (has_wait inside))
+group-left : (test : List Use → Bool) (before : Bool) (k : ℕ) (o : Operation) (cs : List _) (b : Body) (inside : List Step) → Passes (k + 1) b inside
+    → left_by test before (At k (Enter o cs) ∷ (inside ++ At k Leave ∷ [])) ≡ (before && not (has_wait inside))
+group-left test before k o cs b inside h =
+    ap (λ w. (before && not w) || some_unawaited test (At k (Enter o cs) ∷ (inside ++ At k Leave ∷ []))) (waits-group k inside)
+    ∙ ap (λ u. (before && not (has_wait inside)) || u) (unawaited-group test k o cs b inside h) ∙ or_none (before && not (has_wait inside))
 
 or_same : (p u : Bool) → ((p && false) || u) ≡ true → u ≡ true
 or_same true u h = h
@@ -149,7 +150,7 @@ mutual
   pub after-from_one : (test : List Use → Bool) (k : ℕ) (x : S) (path : List Step) → PassesOne k x path → (p q : Bool) → (p ≡ true → q ≡ true)
       → left_by test p path ≡ true → after_one test q x ≡ true
   after-from_one test k (Set c e) path is p q more h = more (sym (touched-left test p k (touches (Set c e))) ∙ ap (left_by test p) (sym is) ∙ h)
-  after-from_one test k (Add c e) path is p q more h = more (sym (touched-left test p k (touches (Add c e))) ∙ ap (left_by test p) (sym is) ∙ h)
+  after-from_one test k (Fold o c e) path is p q more h = more (sym (touched-left test p k (touches (Fold o c e))) ∙ ap (left_by test p) (sym is) ∙ h)
   after-from_one test k (If e a b) path (inside, is, inl g) p q more h =
       true_or (after test q a) (after test q b) (after-from test (k + 1) a inside g p q more
       (sym (inside-left test p k (touches (If e a b)) inside (passes-closed (k + 1) a inside g)) ∙ ap (left_by test p) (sym is) ∙ h))
@@ -158,8 +159,8 @@ mutual
       (sym (inside-left test p k (touches (If e a b)) inside (passes-closed (k + 1 + size a) b inside g)) ∙ ap (left_by test p) (sym is) ∙ h))
   after-from_one test k (Task d b) path is p q more h = made p q (test d) more (ap (left_by test p) (sym is) ∙ h)
   after-from_one test k Wait path is p q more h = awaited p (ap (left_by test p) (sym is) ∙ h)
-  after-from_one test k (Group cs b) path (inside, is, g) p q more h =
-      let both : (p && not (has_wait inside)) ≡ true = sym (group-left test p k cs b inside g) ∙ ap (left_by test p) (sym is) ∙ h in
+  after-from_one test k (Group o cs b) path (inside, is, g) p q more h =
+      let both : (p && not (has_wait inside)) ≡ true = sym (group-left test p k o cs b inside g) ∙ ap (left_by test p) (sym is) ∙ h in
       and_true q (through b) (more (and_left p (not (has_wait inside)) both))
       (through-from (k + 1) b inside g (not_true (has_wait inside) (and_right p (not (has_wait inside)) both)))
 
@@ -180,7 +181,7 @@ mutual
   pub after-to_one : (test : List Use → Bool) (k : ℕ) (x : S) (p : Bool) → after_one test p x ≡ true
       → (path : List Step) × PassesOne k x path × (left_by test p path ≡ true)
   after-to_one test k (Set c e) p h = (_, refl, touched-left test p k (touches (Set c e)) ∙ h)
-  after-to_one test k (Add c e) p h = (_, refl, touched-left test p k (touches (Add c e)) ∙ h)
+  after-to_one test k (Fold o c e) p h = (_, refl, touched-left test p k (touches (Fold o c e)) ∙ h)
   after-to_one test k (If e a b) p h =
       elim (or_true (after test p a) (after test p b) h) [
         | inl one ↦ let q = after-to test (k + 1) a p one in
@@ -190,9 +191,9 @@ mutual
       ]
   after-to_one test k (Task d b) p h = (_, refl, made_back p (test d) h)
   after-to_one test k Wait p h = cc
-  after-to_one test k (Group cs b) p h =
+  after-to_one test k (Group o cs b) p h =
       let q = through-to (k + 1) b (and_right p (through b) h) in
-      (_, (q.0, refl, q.1), group-left test p k cs b q.0 q.1 ∙ and_true p (not (has_wait q.0)) (and_left p (through b) h) (true_not (has_wait q.0) q.2))
+      (_, (q.0, refl, q.1), group-left test p k o cs b q.0 q.1 ∙ and_true p (not (has_wait q.0)) (and_left p (through b) h) (true_not (has_wait q.0) q.2))
 
   pub after-to : (test : List Use → Bool) (k : ℕ) (b : Body) (p : Bool) → after test p b ≡ true
       → (path : List Step) × Passes k b path × (left_by test p path ≡ true)

@@ -1,15 +1,18 @@
 -- Bodies that are apart may be run in either order.
-use Rattle.std.proofs.Common.{◌≡◌, ◌≢◌, ℕ, zero, suc, ◌+◌, ◌%◌, ◌^◌, Bool, true, false, List, [], ◌∷◌, refl, sym, ap, ◌∙◌, arith}
-use Rattle.std.proofs.Math.Nat.{mod-add-mod}
+use Rattle.std.proofs.Common.{◌≡◌, ◌≢◌, ℕ, zero, suc, ◌%◌, Bool, true, false, not, subst, List, [], ◌∷◌, refl, sym, ap, ◌∙◌}
 use Rattle.std.specs.Prelude.{◌==◌, if◌then◌else◌, Option, unwrap_or}
-use Rattle.ot_model.specs.Tree.{E, Literal, CellAt, Apply, PickFrom, S, Set, Add, If, Task, Wait, Group, Body, End, Next}
+use Rattle.ot_model.specs.Tree.{E, Literal, CellAt, Apply, PickFrom, S, Set, Fold, If, Task, Wait, Group, Body, End, Next}
 use Rattle.ot_model.specs.Cells.{cell_of, with_cell, updated}
 use Rattle.ot_model.specs.Value.{val, cell_at, applied}
 use Rattle.ot_model.specs.Serial.{State, bump, change, either, serial, serial_one}
-use Rattle.ot_model.specs.Uses.{conflicts}
+use Rattle.ot_model.specs.Uses.{conflicts, same_fold}
+use Rattle.ot_model.specs.Joining.{join_by}
+use Rattle.ot_model.specs.Monoids.{join-swap}
+use Rattle.ot_model.specs.declared.fold.Fold.{Fold as Operation}
+use Rattle.ot_model.proofs.EqualLemmas.{fold-decides}
 use Rattle.ot_model.specs.declared.expr.Cell.{Cell}
 use Rattle.ot_model.specs.declared.stmt.Mode.{Mode}
-use Rattle.ot_model.specs.declared.stmt.Mode.TheVariants.{Reads, Writes, Adds}
+use Rattle.ot_model.specs.declared.stmt.Mode.TheVariants.{Reads, Writes, Folds}
 use Rattle.ot_model.specs.declared.stmt.Use.{Use}
 use Rattle.ot_check.specs.Paths.{use_as}
 use Rattle.ot_check.specs.Touches.{EachRead, EachTouch, EachTouchOne, Agree, AreApart}
@@ -27,12 +30,12 @@ read-weaker P Q (PickFrom s e) f h = (λ k. f (cell_at s (k % s.len)) (h.0 k), r
 mutual
   touch_one-weaker : (P Q : Use → Type 0) (x : S) → ((u : Use) → P u → Q u) → EachTouchOne P x → EachTouchOne Q x
   touch_one-weaker P Q (Set c e) f h = (read-weaker (λ d. P (use_as Reads d)) (λ d. Q (use_as Reads d)) e (λ d. f (use_as Reads d)) h.0, f (use_as Writes c) h.1)
-  touch_one-weaker P Q (Add c e) f h = (read-weaker (λ d. P (use_as Reads d)) (λ d. Q (use_as Reads d)) e (λ d. f (use_as Reads d)) h.0, f (use_as Adds c) h.1)
+  touch_one-weaker P Q (Fold o c e) f h = (read-weaker (λ d. P (use_as Reads d)) (λ d. Q (use_as Reads d)) e (λ d. f (use_as Reads d)) h.0, f (use_as (Folds o) c) h.1)
   touch_one-weaker P Q (If e a b) f h =
       (read-weaker (λ d. P (use_as Reads d)) (λ d. Q (use_as Reads d)) e (λ d. f (use_as Reads d)) h.0, touch-weaker P Q a f h.1, touch-weaker P Q b f h.2)
   touch_one-weaker P Q (Task d b) f h = touch-weaker P Q b f h
   touch_one-weaker P Q Wait f h = h
-  touch_one-weaker P Q (Group cs b) f h = touch-weaker P Q b f h
+  touch_one-weaker P Q (Group o cs b) f h = touch-weaker P Q b f h
 
   pub touch-weaker : (P Q : Use → Type 0) (b : Body) → ((u : Use) → P u → Q u) → EachTouch P b → EachTouch Q b
   touch-weaker P Q End f h = h
@@ -94,20 +97,20 @@ spared c d m no_read h e = no_read (h e)
 writes_reads : Writes ≢ Reads
 writes_reads e = cc
 
-adds_reads : Adds ≢ Reads
-adds_reads e = cc
+folds_reads : (o : Operation) → Folds o ≢ Reads
+folds_reads o e = cc
 
 mutual
   frame_one : (c : Cell) (x : S) (s : State) → EachTouchOne (Spares c) x → cell_of (serial_one x s).cells c ≡ cell_of s.cells c
   frame_one c (Set d e) s h = model.cell_of-with_cell-other s.cells d c (λ _. val (cell_of s.cells) e) (spared c d Writes writes_reads h.1)
-  frame_one c (Add d e) s h = model.cell_of-with_cell-other s.cells d c (λ n. (n + val (cell_of s.cells) e) % 2 ^ 64) (spared c d Adds adds_reads h.1)
+  frame_one c (Fold o d e) s h = model.cell_of-with_cell-other s.cells d c (λ n. join_by o n (val (cell_of s.cells) e)) (spared c d (Folds o) (folds_reads o) h.1)
   frame_one c (If e p q) s h =
       either-both (λ t. cell_of t.cells c) (val (cell_of s.cells) e) (serial p (bump 0 1 s)) (serial q (bump 0 1 s))
       ∙ either-same (val (cell_of s.cells) e) (val (cell_of s.cells) e) _ _ (cell_of s.cells c) (cell_of s.cells c) refl (frame c p (bump 0 1 s) h.1) (frame c q (bump 0 1 s) h.2)
       ∙ either-one (val (cell_of s.cells) e) (cell_of s.cells c)
   frame_one c (Task d p) s h = frame c p (bump 1 1 s) h
   frame_one c Wait s h = refl
-  frame_one c (Group cs p) s h = frame c p (bump 0 1 s) h
+  frame_one c (Group o cs p) s h = frame c p (bump 0 1 s) h
 
   frame : (c : Cell) (p : Body) (s : State) → EachTouch (Spares c) p → cell_of (serial p s).cells c ≡ cell_of s.cells c
   frame c End s h = refl
@@ -117,20 +120,30 @@ mutual
 
 -- a use that a change of the cell commutes with
 abbrev Commutes : Cell → (ℕ → ℕ) → Use → Type 0
-Commutes c f u = u.cell ≡ c → (u.mode ≡ Adds) × ((k n : ℕ) → f ((n + k) % 2 ^ 64) ≡ (f n + k) % 2 ^ 64)
+Commutes c f u = u.cell ≡ c → (o : Operation) × (u.mode ≡ Folds o) × ((k n : ℕ) → f (join_by o n k) ≡ join_by o (f n) k)
 
-reads_adds : Reads ≢ Adds
-reads_adds e = cc
+reads_folds : (o : Operation) → Reads ≢ Folds o
+reads_folds o e = cc
 
-writes_adds : Writes ≢ Adds
-writes_adds e = cc
+writes_folds : (o : Operation) → Writes ≢ Folds o
+writes_folds o e = cc
+
+-- the operation of a mode
+op_of : Mode → Operation → Operation
+op_of Reads other = other
+op_of Writes other = other
+op_of (Folds o) other = o
+
+one_op : (o p : Operation) → Folds o ≡ Folds p → o ≡ p
+unfolding op_of
+one_op o p same = ap (λ m. op_of m o) same
 
 read-elsewhere : (s : State) (c : Cell) (f : ℕ → ℕ) (e : E) → EachRead (λ d. Commutes c f (use_as Reads d)) e
     → val (cell_of (with_cell s.cells c f)) e ≡ val (cell_of s.cells) e
 read-elsewhere s c f e h =
     value-same (cell_of (with_cell s.cells c f)) (cell_of s.cells) e
     (read-weaker (λ d. Commutes c f (use_as Reads d)) (λ d. cell_of (with_cell s.cells c f) d ≡ cell_of s.cells d) e
-    (λ d g. model.cell_of-with_cell-other s.cells c d f (λ same. reads_adds (g (sym same)).0)) h)
+    (λ d g. model.cell_of-with_cell-other s.cells c d f (λ same. (let folds = g (sym same) in reads_folds folds.0 folds.1))) h)
 
 change-same : (s : State) (c : Cell) (f g : ℕ → ℕ) → ((n : ℕ) → f n ≡ g n) → change s c f ≡ change s c g
 change-same s c f g same = ap (λ cells. state-at cells s.tasks s.units) (model.updated-same s.cells c.array _ _ (λ row. model.updated-same row c.index f g same))
@@ -142,17 +155,18 @@ mutual
   change_one : (x : S) (s : State) (c : Cell) (f : ℕ → ℕ) → EachTouchOne (Commutes c f) x → serial_one x (change s c f) ≡ change (serial_one x s) c f
   change_one (Set d e) s c f h =
       ap (bump 0 1) (ap (λ n. change (change s c f) d (λ _. n)) (read-elsewhere s c f e h.0)
-      ∙ change-swap s c d f (λ _. val (cell_of s.cells) e) (λ same. absurd (writes_adds (h.1 (sym same)).0)))
-  change_one (Add d e) s c f h =
-      ap (bump 0 1) (ap (λ v. change (change s c f) d (λ n. (n + v) % 2 ^ 64)) (read-elsewhere s c f e h.0)
-      ∙ change-swap s c d f (λ n. (n + val (cell_of s.cells) e) % 2 ^ 64) (λ same n. sym ((h.1 (sym same)).1 (val (cell_of s.cells) e) n)))
+      ∙ change-swap s c d f (λ _. val (cell_of s.cells) e) (λ same. (let folds = h.1 (sym same) in absurd (writes_folds folds.0 folds.1))))
+  change_one (Fold o d e) s c f h =
+      ap (bump 0 1) (ap (λ v. change (change s c f) d (λ n. join_by o n v)) (read-elsewhere s c f e h.0)
+      ∙ change-swap s c d f (λ n. join_by o n (val (cell_of s.cells) e)) (λ same n. let folds = h.1 (sym same) in
+          sym (subst (λ p. f (join_by p n (val (cell_of s.cells) e)) ≡ join_by p (f n) (val (cell_of s.cells) e)) (sym (one_op o folds.0 folds.1)) (folds.2 (val (cell_of s.cells) e) n))))
   change_one (If e p q) s c f h =
       either-same (val (cell_of (with_cell s.cells c f)) e) (val (cell_of s.cells) e) _ _ _ _ (read-elsewhere s c f e h.0)
       (serial-change p (bump 0 1 s) c f h.1) (serial-change q (bump 0 1 s) c f h.2)
       ∙ sym (either-both (λ t. change t c f) (val (cell_of s.cells) e) (serial p (bump 0 1 s)) (serial q (bump 0 1 s)))
   change_one (Task d p) s c f h = serial-change p (bump 1 1 s) c f h
   change_one Wait s c f h = refl
-  change_one (Group cs p) s c f h = serial-change p (bump 0 1 s) c f h
+  change_one (Group o cs p) s c f h = serial-change p (bump 0 1 s) c f h
 
   serial-change : (p : Body) (s : State) (c : Cell) (f : ℕ → ℕ) → EachTouch (Commutes c f) p → serial p (change s c f) ≡ change (serial p s) c f
   serial-change End s c f h = refl
@@ -163,22 +177,21 @@ mutual
 conflicts_writes : (m : Mode) → conflicts Writes m ≡ false → ⊥
 conflicts_writes Reads h = cc
 conflicts_writes Writes h = cc
-conflicts_writes Adds h = cc
+conflicts_writes (Folds o) h = cc
 
 conflicts_reads : (m : Mode) → conflicts Reads m ≡ false → m ≡ Reads
 conflicts_reads Reads h = refl
 conflicts_reads Writes h = cc
-conflicts_reads Adds h = cc
+conflicts_reads (Folds o) h = cc
 
-conflicts_adds : (m : Mode) → conflicts Adds m ≡ false → m ≡ Adds
-conflicts_adds Reads h = cc
-conflicts_adds Writes h = cc
-conflicts_adds Adds h = refl
-
-sums-swap : (a k n : ℕ) → ((n + k) % 2 ^ 64 + a) % 2 ^ 64 ≡ ((n + a) % 2 ^ 64 + k) % 2 ^ 64
-sums-swap a k n =
-    let e : n + k + a ≡ n + a + k = omega arith in
-    mod-add-mod (n + k) (2 ^ 64) a ∙ ap (λ m. m % 2 ^ 64) e ∙ sym (mod-add-mod (n + a) (2 ^ 64) k)
+conflicts_folds : (o : Operation) (m : Mode) → conflicts (Folds o) m ≡ false → m ≡ Folds o
+conflicts_folds o Reads h = cc
+conflicts_folds o Writes h = cc
+conflicts_folds o (Folds p) h = ap Folds (sym ((fold-decides o p).0 (not_back (same_fold o p) h)))
+  where
+    not_back : (b : Bool) → not b ≡ false → b ≡ true
+    not_back true h = refl
+    not_back false h = cc
 
 -- what a value reads is the same behind a body that is apart from the reading
 pub read-behind : (s : State) (b : Body) (e : E) → EachRead (λ c. EachTouch (Agree (use_as Reads c)) b) e
@@ -195,19 +208,19 @@ mutual
       ∙ ap (bump 0 1) (serial-change b s c (λ _. val (cell_of s.cells) e)
       (touch-weaker (Agree (use_as Writes c)) (Commutes c (λ _. val (cell_of s.cells) e)) b (λ u agree same. absurd (conflicts_writes u.mode (agree (sym same)))) h.1)
       ∙ ap (λ n. change (serial b s) c (λ _. n)) (read-behind s b e h.0))
-  apart_one (Add c e) b s h =
-      serial-bump b 0 1 (change s c (λ n. (n + val (cell_of s.cells) e) % 2 ^ 64))
-      ∙ ap (bump 0 1) (serial-change b s c (λ n. (n + val (cell_of s.cells) e) % 2 ^ 64)
-      (touch-weaker (Agree (use_as Adds c)) (Commutes c (λ n. (n + val (cell_of s.cells) e) % 2 ^ 64)) b
-      (λ u agree same. (conflicts_adds u.mode (agree (sym same)), sums-swap (val (cell_of s.cells) e))) h.1)
-      ∙ ap (λ v. change (serial b s) c (λ n. (n + v) % 2 ^ 64)) (read-behind s b e h.0))
+  apart_one (Fold o c e) b s h =
+      serial-bump b 0 1 (change s c (λ n. join_by o n (val (cell_of s.cells) e)))
+      ∙ ap (bump 0 1) (serial-change b s c (λ n. join_by o n (val (cell_of s.cells) e))
+      (touch-weaker (Agree (use_as (Folds o) c)) (Commutes c (λ n. join_by o n (val (cell_of s.cells) e))) b
+      (λ u agree same. (o, conflicts_folds o u.mode (agree (sym same)), λ k n. join-swap o k (val (cell_of s.cells) e) n)) h.1)
+      ∙ ap (λ v. change (serial b s) c (λ n. join_by o n v)) (read-behind s b e h.0))
   apart_one (If e p q) b s h =
       either-both (serial b) (val (cell_of s.cells) e) (serial p (bump 0 1 s)) (serial q (bump 0 1 s))
       ∙ either-same (val (cell_of s.cells) e) (val (cell_of (serial b s).cells) e) _ _ _ _ (read-behind s b e h.0)
       (apart p b (bump 0 1 s) h.1 ∙ ap (serial p) (serial-bump b 0 1 s)) (apart q b (bump 0 1 s) h.2 ∙ ap (serial q) (serial-bump b 0 1 s))
   apart_one (Task d p) b s h = apart p b (bump 1 1 s) h ∙ ap (serial p) (serial-bump b 1 1 s)
   apart_one Wait b s h = serial-bump b 0 1 s
-  apart_one (Group cs p) b s h = apart p b (bump 0 1 s) h ∙ ap (serial p) (serial-bump b 0 1 s)
+  apart_one (Group o cs p) b s h = apart p b (bump 0 1 s) h ∙ ap (serial p) (serial-bump b 0 1 s)
 
   pub apart : (a b : Body) (s : State) → AreApart a b → serial b (serial a s) ≡ serial a (serial b s)
   apart End b s h = refl

@@ -6,11 +6,13 @@ use Rattle.std.specs.List.{list_any}
 use Rattle.std.proofs.lemmas.Bool.{cases_eq}
 use Rattle.std.proofs.lemmas.List.Folds.{list_any-append}
 use Rattle.std.proofs.lemmas.Nat.Bits.{bit_at-zero, bit_at_set_same, bit_at_set_other}
+use Rattle.ot_model.specs.declared.fold.Fold.{Fold as Operation}
 use Rattle.ot_model.specs.declared.stmt.Mode.{Mode}
-use Rattle.ot_model.specs.declared.stmt.Mode.TheVariants.{Reads, Writes, Adds}
-use Rattle.ot_check.specs.walk.Rows.{user_at, users_below, users_of_block}
+use Rattle.ot_model.specs.declared.stmt.Mode.TheVariants.{Reads, Writes, Folds}
+use Rattle.ot_check.specs.walk.Rows.{is_by, user_at, users_below, users_of_block}
 use Rattle.ot_check.specs.declared.block.Block.{Block}
 use Rattle.ot_check.specs.declared.users.User.{User}
+use Rattle.ot_model.proofs.EqualLemmas.{fold-decides}
 use Rattle.ot_check.proofs.Bits.{or_assoc, false_or, or_true, true_or, or_right, and_left, and_right, and_true}
 use Rattle.ot_check.proofs.SameLemmas.{eq_apart}
 
@@ -104,10 +106,16 @@ any-three test xs ys zs =
     list_any-append test (xs ++ ys) zs ∙ ap (λ b. b || list_any test zs) (list_any-append test xs ys)
     ∙ or_assoc (list_any test xs) (list_any test ys) (list_any test zs)
 
-pub block-none : (test : User → Bool) (place : ℕ) → list_any test (users_of_block (record { place = place; reads = 0; writes = 0; adds = 0 })) ≡ false
-block-none test place =
-    any-three test (users_below place Reads 0 64) (users_below place Writes 0 64) (users_below place Adds 0 64)
-    ∙ false_or _ _ (below-none test place Reads 64) (false_or _ _ (below-none test place Writes 64) (below-none test place Adds 64))
+pub block-none : (test : User → Bool) (place : ℕ) (o : Operation) → list_any test (users_of_block (record { place = place; reads = 0; writes = 0; folds = 0; operation = o })) ≡ false
+block-none test place o =
+    any-three test (users_below place Reads 0 64) (users_below place Writes 0 64) (users_below place (Folds o) 0 64)
+    ∙ false_or _ _ (below-none test place Reads 64) (false_or _ _ (below-none test place Writes 64) (below-none test place (Folds o) 64))
+
+-- a task that folds by the operation of its block
+pub by-block : (o p : Operation) (mode : Mode) → mode ≡ Folds p → is_by o mode ≡ true → mode ≡ Folds o
+by-block o p mode is by =
+    let same : is_by o (Folds p) ≡ true = ap (is_by o) (sym is) ∙ by in
+    is ∙ ap Folds (sym ((fold-decides o p).0 same))
 
 first_more : (a b c t : Bool) → ((a || t) || (b || c)) ≡ ((a || (b || c)) || t)
 first_more true b c t = refl
@@ -149,24 +157,24 @@ module _ (test : User → Bool) (block : Block) (user : User) (here : block.plac
   among mode word = list_any test (users_below block.place mode word 64)
 
   -- whom the block tells
-  told : list_any test (users_of_block block) ≡ (among Reads block.reads || (among Writes block.writes || among Adds block.adds))
-  told = any-three test (users_below block.place Reads block.reads 64) (users_below block.place Writes block.writes 64) (users_below block.place Adds block.adds 64)
+  told : list_any test (users_of_block block) ≡ (among Reads block.reads || (among Writes block.writes || among (Folds block.operation) block.folds))
+  told = any-three test (users_below block.place Reads block.reads 64) (users_below block.place Writes block.writes 64) (users_below block.place (Folds block.operation) block.folds 64)
 
   pub insert-reads : user.mode ≡ Reads → list_any test (users_of_block (record block { reads = bit_or block.reads bit })) ≡ (list_any test (users_of_block block) || test user)
   insert-reads is =
-      any-three test (users_below block.place Reads (bit_or block.reads bit) 64) (users_below block.place Writes block.writes 64) (users_below block.place Adds block.adds 64)
-      ∙ ap (λ b. b || (among Writes block.writes || among Adds block.adds)) (set-mine Reads block.reads is)
-      ∙ first_more (among Reads block.reads) (among Writes block.writes) (among Adds block.adds) (test user) ∙ ap (λ b. b || test user) (sym told)
+      any-three test (users_below block.place Reads (bit_or block.reads bit) 64) (users_below block.place Writes block.writes 64) (users_below block.place (Folds block.operation) block.folds 64)
+      ∙ ap (λ b. b || (among Writes block.writes || among (Folds block.operation) block.folds)) (set-mine Reads block.reads is)
+      ∙ first_more (among Reads block.reads) (among Writes block.writes) (among (Folds block.operation) block.folds) (test user) ∙ ap (λ b. b || test user) (sym told)
 
   pub insert-writes : user.mode ≡ Writes
       → list_any test (users_of_block (record block { writes = bit_or block.writes bit })) ≡ (list_any test (users_of_block block) || test user)
   insert-writes is =
-      any-three test (users_below block.place Reads block.reads 64) (users_below block.place Writes (bit_or block.writes bit) 64) (users_below block.place Adds block.adds 64)
-      ∙ ap (λ b. among Reads block.reads || (b || among Adds block.adds)) (set-mine Writes block.writes is)
-      ∙ second_more (among Reads block.reads) (among Writes block.writes) (among Adds block.adds) (test user) ∙ ap (λ b. b || test user) (sym told)
+      any-three test (users_below block.place Reads block.reads 64) (users_below block.place Writes (bit_or block.writes bit) 64) (users_below block.place (Folds block.operation) block.folds 64)
+      ∙ ap (λ b. among Reads block.reads || (b || among (Folds block.operation) block.folds)) (set-mine Writes block.writes is)
+      ∙ second_more (among Reads block.reads) (among Writes block.writes) (among (Folds block.operation) block.folds) (test user) ∙ ap (λ b. b || test user) (sym told)
 
-  pub insert-adds : user.mode ≡ Adds → list_any test (users_of_block (record block { adds = bit_or block.adds bit })) ≡ (list_any test (users_of_block block) || test user)
-  insert-adds is =
-      any-three test (users_below block.place Reads block.reads 64) (users_below block.place Writes block.writes 64) (users_below block.place Adds (bit_or block.adds bit) 64)
-      ∙ ap (λ b. among Reads block.reads || (among Writes block.writes || b)) (set-mine Adds block.adds is)
-      ∙ third_more (among Reads block.reads) (among Writes block.writes) (among Adds block.adds) (test user) ∙ ap (λ b. b || test user) (sym told)
+  pub insert-folds : user.mode ≡ Folds block.operation → list_any test (users_of_block (record block { folds = bit_or block.folds bit })) ≡ (list_any test (users_of_block block) || test user)
+  insert-folds is =
+      any-three test (users_below block.place Reads block.reads 64) (users_below block.place Writes block.writes 64) (users_below block.place (Folds block.operation) (bit_or block.folds bit) 64)
+      ∙ ap (λ b. among Reads block.reads || (among Writes block.writes || b)) (set-mine (Folds block.operation) block.folds is)
+      ∙ third_more (among Reads block.reads) (among Writes block.writes) (among (Folds block.operation) block.folds) (test user) ∙ ap (λ b. b || test user) (sym told)

@@ -7,9 +7,10 @@ use Rattle.std.proofs.lemmas.List.Concat.{flat_map-cons}
 use Rattle.std.proofs.lemmas.List.Folds.{list_any-append}
 use Rattle.std.proofs.lemmas.Nat.{and_le_r}
 use Rattle.std.proofs.lemmas.Nat.Bits.{bit_at_and, bit_at-zero, bit_at-lt, bit_at-trailing_zeros}
-use Rattle.ot_model.specs.Uses.{conflicts}
+use Rattle.ot_model.specs.Uses.{conflicts, same_fold}
+use Rattle.ot_model.specs.declared.fold.Fold.{Fold as Operation}
 use Rattle.ot_model.specs.declared.stmt.Mode.{Mode}
-use Rattle.ot_model.specs.declared.stmt.Mode.TheVariants.{Reads, Writes, Adds}
+use Rattle.ot_model.specs.declared.stmt.Mode.TheVariants.{Reads, Writes, Folds}
 use Rattle.ot_check.specs.walk.Bits.{bit_in}
 use Rattle.ot_check.specs.walk.Rows.{users_below, users_of_block, users_of_row, is_against}
 use Rattle.ot_check.specs.declared.block.Block.{Block}
@@ -36,23 +37,31 @@ writes_against false true a = refl
 writes_against false false true = refl
 writes_against false false false = refl
 
-adds_against : (r w a : Bool) → (r || w) ≡ ((r && true) || ((w && true) || (a && false)))
-adds_against true w a = refl
-adds_against false true a = refl
-adds_against false false true = refl
-adds_against false false false = refl
+folds_against : (r w a : Bool) → (r || w) ≡ ((r && true) || ((w && true) || (a && false)))
+folds_against true w a = refl
+folds_against false true a = refl
+folds_against false false true = refl
+folds_against false false false = refl
 
 module _ (block : Block) (j : ℕ) where
-  pub against-reads : (bit_at (bit_or block.writes block.adds) j == 1) ≡ is_against block Reads j
-  against-reads = or-one block.writes block.adds j ∙ reads_against (bit_at block.reads j == 1) (bit_at block.writes j == 1) (bit_at block.adds j == 1)
+  pub against-reads : (bit_at (bit_or block.writes block.folds) j == 1) ≡ is_against block Reads j
+  against-reads = or-one block.writes block.folds j ∙ reads_against (bit_at block.reads j == 1) (bit_at block.writes j == 1) (bit_at block.folds j == 1)
 
-  pub against-writes : (bit_at (bit_or (bit_or block.reads block.writes) block.adds) j == 1) ≡ is_against block Writes j
+  pub against-writes : (bit_at (bit_or (bit_or block.reads block.writes) block.folds) j == 1) ≡ is_against block Writes j
   against-writes =
-      or-one (bit_or block.reads block.writes) block.adds j ∙ ap (λ b. b || (bit_at block.adds j == 1)) (or-one block.reads block.writes j)
-      ∙ writes_against (bit_at block.reads j == 1) (bit_at block.writes j == 1) (bit_at block.adds j == 1)
+      or-one (bit_or block.reads block.writes) block.folds j ∙ ap (λ b. b || (bit_at block.folds j == 1)) (or-one block.reads block.writes j)
+      ∙ writes_against (bit_at block.reads j == 1) (bit_at block.writes j == 1) (bit_at block.folds j == 1)
 
-  pub against-adds : (bit_at (bit_or block.reads block.writes) j == 1) ≡ is_against block Adds j
-  against-adds = or-one block.reads block.writes j ∙ adds_against (bit_at block.reads j == 1) (bit_at block.writes j == 1) (bit_at block.adds j == 1)
+  pub against-same : (p : Operation) → same_fold block.operation p ≡ true → (bit_at (bit_or block.reads block.writes) j == 1) ≡ is_against block (Folds p) j
+  against-same p is =
+      or-one block.reads block.writes j ∙ folds_against (bit_at block.reads j == 1) (bit_at block.writes j == 1) (bit_at block.folds j == 1)
+      ∙ ap (λ s. ((bit_at block.reads j == 1) && true) || (((bit_at block.writes j == 1) && true) || ((bit_at block.folds j == 1) && not s))) (sym is)
+
+  pub against-other : (p : Operation) → same_fold block.operation p ≡ false
+      → (bit_at (bit_or (bit_or block.reads block.writes) block.folds) j == 1) ≡ is_against block (Folds p) j
+  against-other p is =
+      against-writes
+      ∙ ap (λ s. ((bit_at block.reads j == 1) && true) || (((bit_at block.writes j == 1) && true) || ((bit_at block.folds j == 1) && not s))) (sym is)
 
 -- ---- bits in common
 
@@ -115,36 +124,36 @@ module _ (words : List ℕ) (block : Block) (wanted : Mode) (against : ℕ) (l :
   abbrev against_at : Mode → ℕ → ℕ → Bool
   against_at mode word j = (bit_at word j == 1) && conflicts mode wanted
 
-  told : list_any (clashing words wanted) (users_of_block block) ≡ (among Reads block.reads || (among Writes block.writes || among Adds block.adds))
-  told = any-three (clashing words wanted) (users_below block.place Reads block.reads 64) (users_below block.place Writes block.writes 64) (users_below block.place Adds block.adds 64)
+  told : list_any (clashing words wanted) (users_of_block block) ≡ (among Reads block.reads || (among Writes block.writes || among (Folds block.operation) block.folds))
+  told = any-three (clashing words wanted) (users_below block.place Reads block.reads 64) (users_below block.place Writes block.writes 64) (users_below block.place (Folds block.operation) block.folds 64)
 
-  to : found ≡ true → (among Reads block.reads || (among Writes block.writes || among Adds block.adds)) ≡ true
+  to : found ≡ true → (among Reads block.reads || (among Writes block.writes || among (Folds block.operation) block.folds)) ≡ true
   to h =
       let c = common-found (get_or words block.place 0) against l h in
       let clash : (mode : Mode) (word : ℕ) → against_at mode word c.0 ≡ true → among mode word ≡ true =
       λ mode word b. below-clash words wanted block.place mode word c.0 c.1 c.2 b in
-      or_more (against_at Reads block.reads c.0) (against_at Writes block.writes c.0 || against_at Adds block.adds c.0) _ _ (clash Reads block.reads)
-      (or_more (against_at Writes block.writes c.0) (against_at Adds block.adds c.0) _ _ (clash Writes block.writes) (clash Adds block.adds))
+      or_more (against_at Reads block.reads c.0) (against_at Writes block.writes c.0 || against_at (Folds block.operation) block.folds c.0) _ _ (clash Reads block.reads)
+      (or_more (against_at Writes block.writes c.0) (against_at (Folds block.operation) block.folds c.0) _ _ (clash Writes block.writes) (clash (Folds block.operation) block.folds))
       (sym (is c.0) ∙ one_is (bit_at against c.0) c.3)
 
   meets : (j : ℕ) → bit_at (get_or words block.place 0) j ≡ 1 → is_against block wanted j ≡ true → found ≡ true
   meets j here there = common-at (get_or words block.place 0) against j here (is_one (bit_at against j) (is j ∙ there))
 
-  from : (among Reads block.reads || (among Writes block.writes || among Adds block.adds)) ≡ true → found ≡ true
+  from : (among Reads block.reads || (among Writes block.writes || among (Folds block.operation) block.folds)) ≡ true → found ≡ true
   from h =
-      elim (or_true (among Reads block.reads) (among Writes block.writes || among Adds block.adds) h) [
+      elim (or_true (among Reads block.reads) (among Writes block.writes || among (Folds block.operation) block.folds) h) [
         | inl reads ↦
             let c = clash-below words wanted block.place Reads block.reads reads in
-            meets c.0 c.1 (true_or (against_at Reads block.reads c.0) (against_at Writes block.writes c.0 || against_at Adds block.adds c.0) c.2)
-        | inr other ↦ elim (or_true (among Writes block.writes) (among Adds block.adds) other) [
+            meets c.0 c.1 (true_or (against_at Reads block.reads c.0) (against_at Writes block.writes c.0 || against_at (Folds block.operation) block.folds c.0) c.2)
+        | inr other ↦ elim (or_true (among Writes block.writes) (among (Folds block.operation) block.folds) other) [
           | inl writes ↦
               let c = clash-below words wanted block.place Writes block.writes writes in
-              meets c.0 c.1 (or_right (against_at Reads block.reads c.0) (against_at Writes block.writes c.0 || against_at Adds block.adds c.0)
-              (true_or (against_at Writes block.writes c.0) (against_at Adds block.adds c.0) c.2))
-          | inr adds ↦
-              let c = clash-below words wanted block.place Adds block.adds adds in
-              meets c.0 c.1 (or_right (against_at Reads block.reads c.0) (against_at Writes block.writes c.0 || against_at Adds block.adds c.0)
-              (or_right (against_at Writes block.writes c.0) (against_at Adds block.adds c.0) c.2))
+              meets c.0 c.1 (or_right (against_at Reads block.reads c.0) (against_at Writes block.writes c.0 || against_at (Folds block.operation) block.folds c.0)
+              (true_or (against_at Writes block.writes c.0) (against_at (Folds block.operation) block.folds c.0) c.2))
+          | inr folds ↦
+              let c = clash-below words wanted block.place (Folds block.operation) block.folds folds in
+              meets c.0 c.1 (or_right (against_at Reads block.reads c.0) (against_at Writes block.writes c.0 || against_at (Folds block.operation) block.folds c.0)
+              (or_right (against_at Writes block.writes c.0) (against_at (Folds block.operation) block.folds c.0) c.2))
         ]
       ]
 

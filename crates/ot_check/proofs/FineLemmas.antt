@@ -3,11 +3,11 @@ use Rattle.std.proofs.Common.{◌≡◌, ℕ, ◌+◌, Bool, true, false, ◌&&�
 use Rattle.std.specs.Prelude.{if◌then◌else◌, Option, Some, None}
 use Rattle.std.specs.List.{list_any}
 use Rattle.std.specs.Option.{option_or}
-use Rattle.ot_model.specs.Tree.{S, Set, Add, If, Task, Wait, Group, Body, End, Next, append}
+use Rattle.ot_model.specs.Tree.{S, Set, Fold, If, Task, Wait, Group, Body, End, Next, append}
 use Rattle.ot_model.specs.Counts.{size, size_one}
 use Rattle.ot_model.specs.declared.expr.Cell.{Cell}
 use Rattle.ot_model.specs.declared.stmt.Use.{Use}
-use Rattle.ot_check.specs.Offences.{Declared, Offends, IsFirstOf}
+use Rattle.ot_check.specs.Offences.{Declared, Openings, Offends, IsFirstOf}
 use Rattle.ot_check.specs.Disciplined.{OffendsNowhere}
 use Rattle.ot_check.specs.walk.Walk.{Children, nobody, nothing_open, behind_one, behind, after, after_one, through, through_one, with_group, may_break, is_offence, ends_with_children, marks, leading, placed, first, first_inside, first_one}
 use Rattle.ot_check.specs.walk.Fine.{IsClean, IsFineInside, IsFine, AreFewer}
@@ -54,19 +54,19 @@ none_leads holds h offence = pick offence (none_of_five _ _ _ _ _ NotDeclared Ch
     pick EndsWithChildren g = g.4
 
 mutual
-  fine_inside-first : (own : Declared) (opened : Cell → Bool) (children : Children) (k : ℕ) (x : S) → first_inside own opened children k x ≡ None
+  fine_inside-first : (own : Declared) (opened : Openings) (children : Children) (k : ℕ) (x : S) → first_inside own opened children k x ≡ None
       → IsFineInside own opened children x
   fine_inside-first own opened children k (Set c e) h = tt
-  fine_inside-first own opened children k (Add c e) h = tt
+  fine_inside-first own opened children k (Fold o c e) h = tt
   fine_inside-first own opened children k (If e a b) h = (
     fine-first own opened children (k + 1) a (none_left _ (first own opened children (k + 1 + size a) b) h),
     fine-first own opened children (k + 1 + size a) b (none_right (first own opened children (k + 1) a) _ h),
   )
   fine_inside-first own opened children k (Task d b) h = fine-first (Some d) nothing_open nobody (k + 1) b h
   fine_inside-first own opened children k Wait h = tt
-  fine_inside-first own opened children k (Group cs b) h = fine-first own (with_group opened cs) children (k + 1) b h
+  fine_inside-first own opened children k (Group o cs b) h = fine-first own (with_group opened o cs) children (k + 1) b h
 
-  pub fine-first : (own : Declared) (opened : Cell → Bool) (children : Children) (k : ℕ) (b : Body) → first own opened children k b ≡ None
+  pub fine-first : (own : Declared) (opened : Openings) (children : Children) (k : ℕ) (b : Body) → first own opened children k b ≡ None
       → IsFine own opened children b
   fine-first own opened children k End h = tt
   fine-first own opened children k (Next x rest) h =
@@ -94,40 +94,40 @@ false_below false q le h = refl
 any_below : {X : Type 0} (f g : X → Bool) (xs : List X) → ((x : X) → f x ≡ true → g x ≡ true) → list_any g xs ≡ false → list_any f xs ≡ false
 any_below f g xs more h = false_below (list_any f xs) (list_any g xs) (any-more f g xs more) h
 
-clean-fewer : (own : Declared) (opened : Cell → Bool) (few many : Children) → AreFewer few many → (x : S) → IsClean own opened many x → IsClean own opened few x
+clean-fewer : (own : Declared) (opened : Openings) (few many : Children) → AreFewer few many → (x : S) → IsClean own opened many x → IsClean own opened few x
 clean-fewer own opened few many le x h offence =
     let marked = list_any (λ m. may_break own opened many m offence) (marks x) in
     false_or (list_any (λ m. may_break own opened few m offence) (marks x)) (ends_with_children x offence)
     (any_below (λ m. may_break own opened few m offence) (λ m. may_break own opened many m offence) (marks x)
-    (λ m. may_break-more own opened opened few many (λ c. refl) le m offence)
+    (λ m. may_break-more own opened opened few many (λ o c. refl) le m offence)
     (or_false_left marked (ends_with_children x offence) (h offence)))
     (or_false_right marked (ends_with_children x offence) (h offence))
 
 mutual
   after_one-more : (test : List Use → Bool) (x : S) (p q : Bool) → (p ≡ true → q ≡ true) → after_one test p x ≡ true → after_one test q x ≡ true
   after_one-more test (Set c e) p q le h = le h
-  after_one-more test (Add c e) p q le h = le h
+  after_one-more test (Fold o c e) p q le h = le h
   after_one-more test (If e a b) p q le h =
       or_more (after test p a) (after test p b) (after test q a) (after test q b) (after-more test a p q le) (after-more test b p q le) h
   after_one-more test (Task d b) p q le h = or_more p (test d) q (test d) le (λ g. g) h
   after_one-more test Wait p q le h = h
-  after_one-more test (Group cs b) p q le h = and_true q (through b) (le (and_left p (through b) h)) (and_right p (through b) h)
+  after_one-more test (Group o cs b) p q le h = and_true q (through b) (le (and_left p (through b) h)) (and_right p (through b) h)
 
   pub after-more : (test : List Use → Bool) (b : Body) (p q : Bool) → (p ≡ true → q ≡ true) → after test p b ≡ true → after test q b ≡ true
   after-more test End p q le h = le h
   after-more test (Next x rest) p q le h = after-more test rest (after_one test p x) (after_one test q x) (after_one-more test x p q le) h
 
 mutual
-  fine_inside-fewer : (own : Declared) (opened : Cell → Bool) (few many : Children) → AreFewer few many → (x : S)
+  fine_inside-fewer : (own : Declared) (opened : Openings) (few many : Children) → AreFewer few many → (x : S)
       → IsFineInside own opened many x → IsFineInside own opened few x
   fine_inside-fewer own opened few many le (Set c e) h = tt
-  fine_inside-fewer own opened few many le (Add c e) h = tt
+  fine_inside-fewer own opened few many le (Fold o c e) h = tt
   fine_inside-fewer own opened few many le (If e a b) h = (fine-fewer own opened few many le a h.0, fine-fewer own opened few many le b h.1)
   fine_inside-fewer own opened few many le (Task d b) h = h
   fine_inside-fewer own opened few many le Wait h = tt
-  fine_inside-fewer own opened few many le (Group cs b) h = fine-fewer own (with_group opened cs) few many le b h
+  fine_inside-fewer own opened few many le (Group o cs b) h = fine-fewer own (with_group opened o cs) few many le b h
 
-  pub fine-fewer : (own : Declared) (opened : Cell → Bool) (few many : Children) → AreFewer few many → (b : Body)
+  pub fine-fewer : (own : Declared) (opened : Openings) (few many : Children) → AreFewer few many → (b : Body)
       → IsFine own opened many b → IsFine own opened few b
   fine-fewer own opened few many le End h = tt
   fine-fewer own opened few many le (Next x rest) h = (
@@ -138,7 +138,7 @@ mutual
 
 -- ---- one body, then the other
 
-pub fine-append : (own : Declared) (opened : Cell → Bool) (children : Children) (a b : Body) → IsFine own opened children a
+pub fine-append : (own : Declared) (opened : Openings) (children : Children) (a b : Body) → IsFine own opened children a
     → IsFine own opened (behind children a) b → IsFine own opened children (append a b)
 fine-append own opened children End b h g = g
 fine-append own opened children (Next x rest) b h g = (h.0, h.1, fine-append own opened (behind_one children x) rest b h.2 g)

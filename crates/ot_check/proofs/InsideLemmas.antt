@@ -2,26 +2,28 @@
 use Rattle.std.proofs.Common.{◌≡◌, ℕ, Bool, true, false, not, ◌&&◌, ◌||◌, List, [], ◌∷◌, refl, sym, subst, ◌∙◌, inl, inr}
 use Rattle.std.specs.Prelude.{Some, None}
 use Rattle.std.specs.List.{list_any}
-use Rattle.ot_model.specs.Tree.{E, S, Set, Add, If, Task, Wait, Group, Body, End, Next}
+use Rattle.ot_model.specs.Tree.{E, S, Set, Fold, If, Task, Wait, Group, Body, End, Next}
 use Rattle.ot_model.specs.Value.{cells_named}
 use Rattle.ot_model.specs.Names.{NamedIn, OneNamedIn, ValueNamedIn}
-use Rattle.ot_model.specs.Uses.{is_adds}
 use Rattle.ot_model.specs.declared.expr.Cell.{Cell}
+use Rattle.ot_model.specs.Uses.{same_fold}
+use Rattle.ot_model.specs.declared.fold.Fold.{Fold as Operation}
 use Rattle.ot_model.specs.declared.stmt.Mode.{Mode}
-use Rattle.ot_model.specs.declared.stmt.Mode.TheVariants.{Reads, Writes, Adds}
+use Rattle.ot_model.specs.declared.stmt.Mode.TheVariants.{Reads, Writes, Folds}
 use Rattle.ot_model.specs.declared.stmt.Use.{Use}
 use Rattle.ot_check.specs.Paths.{use_as}
-use Rattle.ot_check.specs.Offences.{Declared, allows, adds_to, exceeds, misfits, covers, has_cell}
+use Rattle.ot_check.specs.Offences.{Declared, Openings, allows, opened_by_any, folds_by, folds_to, exceeds, misfits, covers, has_cell}
 use Rattle.ot_check.specs.walk.Walk.{Children, nobody, nothing_open, behind_one, with_group}
 use Rattle.ot_check.specs.walk.Fine.{IsClean, IsFineInside, IsFine}
 use Rattle.ot_check.specs.Disciplined.{OffendsNowhere}
 use Rattle.ot_model.specs.Cells.{same_cell}
 use Rattle.ot_check.specs.Touches.{EachRead, EachTouch, EachTouchOne, EachTask, EachTaskOne}
 use Rattle.ot_check.specs.declared.fault.Offence.TheVariants.{NotDeclared, ChildBeyond, ReductionMisuse}
-use Rattle.ot_check.proofs.OffenceLemmas.{is_offence-Set, is_offence-Add, is_offence-If, is_offence-ChildBeyond, is_offence-ReductionMisuse, is_offence-Group}
+use Rattle.ot_check.proofs.OffenceLemmas.{is_offence-Set, is_offence-Fold, is_offence-If, is_offence-ChildBeyond, is_offence-ReductionMisuse, is_offence-Group}
+use Rattle.ot_model.proofs.EqualLemmas.{fold-decides}
 use Rattle.ot_check.proofs.ApartLemmas.{read-weaker, touch-weaker}
 use Rattle.ot_check.proofs.SameLemmas.{same_is}
-use Rattle.ot_check.proofs.SumLemmas.{both_false}
+use Rattle.ot_check.proofs.FoldLemmas.{both_false}
 use Rattle.ot_check.proofs.TouchLemmas.{reads_none}
 use Rattle.ot_check.proofs.FineLemmas.{disciplined-fine}
 use Rattle.ot_check.proofs.Bits.{or_true, true_or, or_right, and_left, and_right, and_true, or_false_left, or_false_right, not_false}
@@ -40,14 +42,14 @@ reads_allowed lens own e named h =
 -- ---- what a child's declaration lets it do, its parent's lets it too
 
 -- each cell of an open group is declared as Writes
-abbrev pub Groups : Declared → (Cell → Bool) → Type 0
-Groups own opened = (c : Cell) → opened c ≡ true → Allowed own (use_as Writes c)
+abbrev pub Groups : Declared → Openings → Type 0
+Groups own opened = (o : Operation) (c : Cell) → opened o c ≡ true → Allowed own (use_as Writes c)
 
 -- a cell that is declared as Writes may be used in any mode
 covers_all : (declared wanted : Mode) → covers declared Writes ≡ true → covers declared wanted ≡ true
 covers_all Reads wanted h = cc
 covers_all Writes wanted h = refl
-covers_all Adds wanted h = cc
+covers_all (Folds o) wanted h = cc
 
 any_covers : (uses : List Use) (c : Cell) (m : Mode) → Allowed (Some uses) (use_as Writes c) → Allowed (Some uses) (use_as m c)
 any_covers [] c m h = h
@@ -62,40 +64,41 @@ written : (own : Declared) (c : Cell) (m : Mode) → Allowed own (use_as Writes 
 written None c m h = refl
 written (Some uses) c m h = any_covers uses c m h
 
-adds_covers : (m : Mode) → is_adds m ≡ true → covers m Adds ≡ true
-adds_covers Reads h = cc
-adds_covers Writes h = refl
-adds_covers Adds h = refl
+folds_covers : (o : Operation) (m : Mode) → folds_by o m ≡ true → covers m (Folds o) ≡ true
+folds_covers o Reads h = cc
+folds_covers o Writes h = cc
+folds_covers o (Folds by) h = h
 
-any_adds : (uses : List Use) (c : Cell) → adds_to (Some uses) c ≡ true → Allowed (Some uses) (use_as Adds c)
-any_adds [] c h = h
-any_adds (d ∷ uses) c h =
-    elim (or_true (same_cell d.cell c && is_adds d.mode) (list_any (λ d. same_cell d.cell c && is_adds d.mode) uses) h) [
-      | inl one ↦ true_or _ _ (and_true (same_cell d.cell c) (covers d.mode Adds) (and_left (same_cell d.cell c) (is_adds d.mode) one)
-          (adds_covers d.mode (and_right (same_cell d.cell c) (is_adds d.mode) one)))
-      | inr more ↦ or_right _ _ (any_adds uses c more)
+any_folds : (uses : List Use) (o : Operation) (c : Cell) → folds_to (Some uses) o c ≡ true → Allowed (Some uses) (use_as (Folds o) c)
+any_folds [] o c h = h
+any_folds (d ∷ uses) o c h =
+    elim (or_true (same_cell d.cell c && folds_by o d.mode) (list_any (λ d. same_cell d.cell c && folds_by o d.mode) uses) h) [
+      | inl one ↦ true_or _ _ (and_true (same_cell d.cell c) (covers d.mode (Folds o)) (and_left (same_cell d.cell c) (folds_by o d.mode) one)
+          (folds_covers o d.mode (and_right (same_cell d.cell c) (folds_by o d.mode) one)))
+      | inr more ↦ or_right _ _ (any_folds uses o c more)
     ]
 
-added : (own : Declared) (c : Cell) → adds_to own c ≡ true → Allowed own (use_as Adds c)
-added None c h = refl
-added (Some uses) c h = any_adds uses c h
+pub folded : (own : Declared) (o : Operation) (c : Cell) → folds_to own o c ≡ true → Allowed own (use_as (Folds o) c)
+folded None o c h = refl
+folded (Some uses) o c h = any_folds uses o c h
 
 -- a child's use of a cell that fits the parent
-use_fits : (own : Declared) (opened : Cell → Bool) (c : Cell) (m wanted : Mode) → Groups own opened → exceeds own (use_as m c) ≡ false
+use_fits : (own : Declared) (opened : Openings) (c : Cell) (m wanted : Mode) → Groups own opened → exceeds own (use_as m c) ≡ false
     → misfits own opened (use_as m c) ≡ false → covers m wanted ≡ true → Allowed own (use_as wanted c)
 use_fits own opened c Reads Reads groups exceed misfit covered = not_false (allows own (use_as Reads c)) exceed
 use_fits own opened c Reads Writes groups exceed misfit covered = cc
-use_fits own opened c Reads Adds groups exceed misfit covered = cc
+use_fits own opened c Reads (Folds o) groups exceed misfit covered = cc
 use_fits own opened c Writes wanted groups exceed misfit covered = written own c wanted (not_false (allows own (use_as Writes c)) exceed)
-use_fits own opened c Adds Reads groups exceed misfit covered = cc
-use_fits own opened c Adds Writes groups exceed misfit covered = cc
-use_fits own opened c Adds Adds groups exceed misfit covered =
-    elim (both_false (adds_to own c) (opened c) misfit) [
-      | inl declared ↦ added own c declared
-      | inr grouped ↦ written own c Adds (groups c grouped)
-    ]
+use_fits own opened c (Folds o) Reads groups exceed misfit covered = cc
+use_fits own opened c (Folds o) Writes groups exceed misfit covered = cc
+use_fits own opened c (Folds o) (Folds by) groups exceed misfit covered =
+    subst (λ o. Allowed own (use_as (Folds o) c)) ((fold-decides o by).0 covered)
+    (elim (both_false (folds_to own o c) (opened o c) misfit) [
+      | inl declared ↦ folded own o c declared
+      | inr grouped ↦ written own c (Folds o) (groups o c grouped)
+    ])
 
-pub child_fits : (own : Declared) (opened : Cell → Bool) (uses : List Use) → Groups own opened → list_any (exceeds own) uses ≡ false
+pub child_fits : (own : Declared) (opened : Openings) (uses : List Use) → Groups own opened → list_any (exceeds own) uses ≡ false
     → list_any (misfits own opened) uses ≡ false → (u : Use) → Allowed (Some uses) u → Allowed own u
 child_fits own opened [] groups exceed misfit u h = cc
 child_fits own opened (d ∷ uses) groups exceed misfit u h =
@@ -109,29 +112,44 @@ child_fits own opened (d ∷ uses) groups exceed misfit u h =
           (or_false_right (misfits own opened d) (list_any (misfits own opened) uses) misfit) u more
     ]
 
-group_writes : (own : Declared) (opened : Cell → Bool) (cells : List Cell) (c : Cell)
-    → list_any (λ d. not (allows own (use_as Writes d)) || opened d) cells ≡ false → has_cell cells c ≡ true → Allowed own (use_as Writes c)
-group_writes own opened [] c h there = cc
-group_writes own opened (d ∷ cells) c h there =
+-- a cell that a group may name
+abbrev MayBeNamed : Declared → Openings → Cell → Type 0
+MayBeNamed own opened c = (not (allows own (use_as Writes c)) || opened_by_any opened c) ≡ false
+
+group_may : (own : Declared) (opened : Openings) (cells : List Cell) (c : Cell)
+    → list_any (λ d. not (allows own (use_as Writes d)) || opened_by_any opened d) cells ≡ false → has_cell cells c ≡ true → MayBeNamed own opened c
+group_may own opened [] c h there = cc
+group_may own opened (d ∷ cells) c h there =
     elim (or_true (same_cell d c) (has_cell cells c) there) [
       | inl one ↦
-          subst (λ c. Allowed own (use_as Writes c)) (same_is d c one)
-          (not_false (allows own (use_as Writes d)) (or_false_left (not (allows own (use_as Writes d))) (opened d)
-          (or_false_left (not (allows own (use_as Writes d)) || opened d) (list_any (λ d. not (allows own (use_as Writes d)) || opened d) cells) h)))
+          subst (MayBeNamed own opened) (same_is d c one)
+          (or_false_left (not (allows own (use_as Writes d)) || opened_by_any opened d) (list_any (λ d. not (allows own (use_as Writes d)) || opened_by_any opened d) cells) h)
       | inr more ↦
-          group_writes own opened cells c (or_false_right (not (allows own (use_as Writes d)) || opened d) (list_any (λ d. not (allows own (use_as Writes d)) || opened d) cells) h) more
+          group_may own opened cells c
+          (or_false_right (not (allows own (use_as Writes d)) || opened_by_any opened d) (list_any (λ d. not (allows own (use_as Writes d)) || opened_by_any opened d) cells) h) more
     ]
 
-pub groups_inside : (own : Declared) (opened : Cell → Bool) (cells : List Cell) → Groups own opened
-    → list_any (λ d. not (allows own (use_as Writes d)) || opened d) cells ≡ false → Groups own (with_group opened cells)
-groups_inside own opened cells groups h c there =
-    elim (or_true (opened c) (has_cell cells c) there) [
-      | inl before ↦ groups c before
-      | inr now ↦ group_writes own opened cells c h now
+group_writes : (own : Declared) (opened : Openings) (cells : List Cell) (c : Cell)
+    → list_any (λ d. not (allows own (use_as Writes d)) || opened_by_any opened d) cells ≡ false → has_cell cells c ≡ true → Allowed own (use_as Writes c)
+group_writes own opened cells c h there =
+    not_false (allows own (use_as Writes c)) (or_false_left (not (allows own (use_as Writes c))) (opened_by_any opened c) (group_may own opened cells c h there))
+
+-- no open group names a cell that a group may name
+pub group_free : (own : Declared) (opened : Openings) (cells : List Cell) (c : Cell)
+    → list_any (λ d. not (allows own (use_as Writes d)) || opened_by_any opened d) cells ≡ false → has_cell cells c ≡ true → opened_by_any opened c ≡ false
+group_free own opened cells c h there =
+    or_false_right (not (allows own (use_as Writes c))) (opened_by_any opened c) (group_may own opened cells c h there)
+
+pub groups_inside : (own : Declared) (opened : Openings) (by : Operation) (cells : List Cell) → Groups own opened
+    → list_any (λ d. not (allows own (use_as Writes d)) || opened_by_any opened d) cells ≡ false → Groups own (with_group opened by cells)
+groups_inside own opened by cells groups h o c there =
+    elim (or_true (opened o c) (same_fold by o && has_cell cells c) there) [
+      | inl before ↦ groups o c before
+      | inr now ↦ group_writes own opened cells c h (and_right (same_fold by o) (has_cell cells c) now)
     ]
 
 no_groups : (own : Declared) → Groups own nothing_open
-no_groups own c h = cc
+no_groups own o c h = cc
 
 -- ---- bodies of which nothing is told
 
@@ -139,14 +157,14 @@ abbrev Fits : List Use → Body → Type 0
 Fits uses b = EachTouch (Allowed (Some uses)) b
 
 mutual
-  inside_one : (lens : List ℕ) (own : Declared) (opened : Cell → Bool) (children : Children) (x : S) → OneNamedIn lens x → Groups own opened
+  inside_one : (lens : List ℕ) (own : Declared) (opened : Openings) (children : Children) (x : S) → OneNamedIn lens x → Groups own opened
       → IsClean own opened children x → IsFineInside own opened children x → EachTouchOne (Allowed own) x × EachTaskOne Fits x
   inside_one lens own opened children (Set c e) named groups clean fine =
       let both = sym (is_offence-Set own opened children c e NotDeclared) ∙ clean NotDeclared in
       ((reads_allowed lens own e named.1 (or_false_left _ _ both), not_false (allows own (use_as Writes c)) (or_false_right _ _ both)), tt)
-  inside_one lens own opened children (Add c e) named groups clean fine =
-      let both = sym (is_offence-Add own opened children c e NotDeclared) ∙ clean NotDeclared in
-      ((reads_allowed lens own e named.1 (or_false_left _ _ both), not_false (allows own (use_as Adds c)) (or_false_right _ _ both)), tt)
+  inside_one lens own opened children (Fold o c e) named groups clean fine =
+      let both = sym (is_offence-Fold own opened children o c e NotDeclared) ∙ clean NotDeclared in
+      ((reads_allowed lens own e named.1 (or_false_left _ _ both), not_false (allows own (use_as (Folds o) c)) (or_false_right _ _ both)), tt)
   inside_one lens own opened children (If e a b) named groups clean fine =
       let p = inside_body lens own opened children a named.1 groups fine.0 in
       let q = inside_body lens own opened children b named.2 groups fine.1 in
@@ -159,11 +177,11 @@ mutual
         (p.0, p.1),
       )
   inside_one lens own opened children Wait named groups clean fine = (tt, tt)
-  inside_one lens own opened children (Group cs b) named groups clean fine =
-      inside_body lens own (with_group opened cs) children b named.1
-      (groups_inside own opened cs groups (sym (is_offence-Group own opened children cs b ReductionMisuse) ∙ clean ReductionMisuse)) fine
+  inside_one lens own opened children (Group o cs b) named groups clean fine =
+      inside_body lens own (with_group opened o cs) children b named.1
+      (groups_inside own opened o cs groups (sym (is_offence-Group own opened children o cs b ReductionMisuse) ∙ clean ReductionMisuse)) fine
 
-  inside_body : (lens : List ℕ) (own : Declared) (opened : Cell → Bool) (children : Children) (b : Body) → NamedIn lens b → Groups own opened
+  inside_body : (lens : List ℕ) (own : Declared) (opened : Openings) (children : Children) (b : Body) → NamedIn lens b → Groups own opened
       → IsFine own opened children b → EachTouch (Allowed own) b × EachTask Fits b
   inside_body lens own opened children End named groups fine = (tt, tt)
   inside_body lens own opened children (Next x rest) named groups fine =

@@ -4,6 +4,7 @@ pub mod After
 pub mod Meeting
 pub mod PathsTold
 pub mod PathsMet
+pub mod OpeningLemmas
 pub mod SameLemmas
 pub mod EqualLemmas
 pub mod GridLemmas
@@ -21,6 +22,6 @@ pub mod WalkLemmas
 pub mod FineLemmas
 pub mod FirstLemmas
 pub mod ApartLemmas
-pub mod SumLemmas
+pub mod FoldLemmas
 pub mod TouchLemmas
 pub mod InsideLemmas

@@ -2,33 +2,33 @@
 use Rattle.std.proofs.Common.{◌≡◌, ◌<◌, ◌≤◌, ℕ, ◌+◌, Bool, true, false, refl, sym, subst, inl, inr, ◌∙◌, arith}
 use Rattle.std.specs.Prelude.{◌⊎◌, Option, Some, None}
 use Rattle.std.specs.Option.{option_or}
-use Rattle.ot_model.specs.Tree.{S, Set, Add, If, Task, Wait, Group, Body, End, Next}
+use Rattle.ot_model.specs.Tree.{S, Set, Fold, If, Task, Wait, Group, Body, End, Next}
 use Rattle.ot_model.specs.Counts.{size, size_one}
 use Rattle.ot_model.specs.declared.expr.Cell.{Cell}
-use Rattle.ot_check.specs.Offences.{Declared, IsFirstOf, rank}
+use Rattle.ot_check.specs.Offences.{Declared, Openings, IsFirstOf, rank}
 use Rattle.ot_check.specs.walk.Walk.{Children, nobody, nothing_open, behind_one, with_group, is_offence, leading, placed, first, first_inside}
 use Rattle.ot_check.specs.declared.fault.Offence.{Offence}
 use Rattle.ot_check.specs.declared.fault.Offence.TheVariants.{NotDeclared, ChildBeyond, ReductionMisuse, ConflictsWithChild, EndsWithChildren}
 
 -- an offence that the walk meets in a statement's bodies, in a body
 abbrev mutual
-  pub MeetsInside : Declared → (Cell → Bool) → Children → ℕ → S → ℕ → Offence → Type 0
+  pub MeetsInside : Declared → Openings → Children → ℕ → S → ℕ → Offence → Type 0
   MeetsInside own opened children k (Set c e) place offence = ⊥
-  MeetsInside own opened children k (Add c e) place offence = ⊥
+  MeetsInside own opened children k (Fold o c e) place offence = ⊥
   MeetsInside own opened children k (If e a b) place offence =
       Meets own opened children (k + 1) a place offence ⊎ Meets own opened children (k + 1 + size a) b place offence
   MeetsInside own opened children k (Task d b) place offence = Meets (Some d) nothing_open nobody (k + 1) b place offence
   MeetsInside own opened children k Wait place offence = ⊥
-  MeetsInside own opened children k (Group cs b) place offence = Meets own (with_group opened cs) children (k + 1) b place offence
+  MeetsInside own opened children k (Group o cs b) place offence = Meets own (with_group opened o cs) children (k + 1) b place offence
 
-  pub Meets : Declared → (Cell → Bool) → Children → ℕ → Body → ℕ → Offence → Type 0
+  pub Meets : Declared → Openings → Children → ℕ → Body → ℕ → Offence → Type 0
   Meets own opened children k End place offence = ⊥
   Meets own opened children k (Next x rest) place offence =
       (((place ≡ k) × (is_offence own opened children x offence ≡ true)) ⊎ MeetsInside own opened children k x place offence)
       ⊎ Meets own opened (behind_one children x) (k + size_one x) rest place offence
 
 -- the statement's own offences, and those in its bodies
-abbrev pub MeetsOne : Declared → (Cell → Bool) → Children → ℕ → S → ℕ → Offence → Type 0
+abbrev pub MeetsOne : Declared → Openings → Children → ℕ → S → ℕ → Offence → Type 0
 MeetsOne own opened children k x place offence =
     ((place ≡ k) × (is_offence own opened children x offence ≡ true)) ⊎ MeetsInside own opened children k x place offence
 
@@ -36,17 +36,17 @@ MeetsOne own opened children k x place offence =
 
 size_one-positive : (x : S) → 0 < size_one x
 size_one-positive (Set c e) = omega arith
-size_one-positive (Add c e) = omega arith
+size_one-positive (Fold o c e) = omega arith
 size_one-positive (If e a b) = omega arith
 size_one-positive (Task d b) = omega arith
 size_one-positive Wait = omega arith
-size_one-positive (Group cs b) = omega arith
+size_one-positive (Group o cs b) = omega arith
 
 mutual
-  inside-places : (own : Declared) (opened : Cell → Bool) (children : Children) (k : ℕ) (x : S) (place : ℕ) (offence : Offence)
+  inside-places : (own : Declared) (opened : Openings) (children : Children) (k : ℕ) (x : S) (place : ℕ) (offence : Offence)
       → MeetsInside own opened children k x place offence → (k < place) × (place < k + size_one x)
   inside-places own opened children k (Set c e) place offence h = absurd h
-  inside-places own opened children k (Add c e) place offence h = absurd h
+  inside-places own opened children k (Fold o c e) place offence h = absurd h
   inside-places own opened children k (If e a b) place offence (inl h) =
       let p = meets-places own opened children (k + 1) a place offence h in (omega (arith, p.0), omega (arith, p.1))
   inside-places own opened children k (If e a b) place offence (inr h) =
@@ -54,10 +54,10 @@ mutual
   inside-places own opened children k (Task d b) place offence h =
       let p = meets-places (Some d) nothing_open nobody (k + 1) b place offence h in (omega (arith, p.0), omega (arith, p.1))
   inside-places own opened children k Wait place offence h = absurd h
-  inside-places own opened children k (Group cs b) place offence h =
-      let p = meets-places own (with_group opened cs) children (k + 1) b place offence h in (omega (arith, p.0), omega (arith, p.1))
+  inside-places own opened children k (Group o cs b) place offence h =
+      let p = meets-places own (with_group opened o cs) children (k + 1) b place offence h in (omega (arith, p.0), omega (arith, p.1))
 
-  meets-places : (own : Declared) (opened : Cell → Bool) (children : Children) (k : ℕ) (b : Body) (place : ℕ) (offence : Offence)
+  meets-places : (own : Declared) (opened : Openings) (children : Children) (k : ℕ) (b : Body) (place : ℕ) (offence : Offence)
       → Meets own opened children k b place offence → (k ≤ place) × (place < k + size b)
   meets-places own opened children k End place offence h = absurd h
   meets-places own opened children k (Next x rest) place offence (inl (inl h)) =
@@ -154,10 +154,10 @@ here-first k holds =
 -- ---- what the walk tells is the first of what it meets
 
 mutual
-  inside-first : (own : Declared) (opened : Cell → Bool) (children : Children) (k : ℕ) (x : S)
+  inside-first : (own : Declared) (opened : Openings) (children : Children) (k : ℕ) (x : S)
       → IsFirstOf (MeetsInside own opened children k x) (first_inside own opened children k x)
   inside-first own opened children k (Set c e) = none_first
-  inside-first own opened children k (Add c e) = none_first
+  inside-first own opened children k (Fold o c e) = none_first
   inside-first own opened children k (If e a b) =
       or_first (Meets own opened children (k + 1) a) (Meets own opened children (k + 1 + size a) b)
       (first own opened children (k + 1) a) (first own opened children (k + 1 + size a) b)
@@ -166,9 +166,9 @@ mutual
       let r = meets-places own opened children (k + 1 + size a) b q d g in omega (arith, l.1, r.0))
   inside-first own opened children k (Task d b) = meets-first (Some d) nothing_open nobody (k + 1) b
   inside-first own opened children k Wait = none_first
-  inside-first own opened children k (Group cs b) = meets-first own (with_group opened cs) children (k + 1) b
+  inside-first own opened children k (Group o cs b) = meets-first own (with_group opened o cs) children (k + 1) b
 
-  pub meets-first : (own : Declared) (opened : Cell → Bool) (children : Children) (k : ℕ) (b : Body)
+  pub meets-first : (own : Declared) (opened : Openings) (children : Children) (k : ℕ) (b : Body)
       → IsFirstOf (Meets own opened children k b) (first own opened children k b)
   meets-first own opened children k End = none_first
   meets-first own opened children k (Next x rest) =

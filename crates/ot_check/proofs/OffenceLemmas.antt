@@ -2,23 +2,24 @@
 use Rattle.std.proofs.Common.{◌≡◌, Bool, true, false, ◌||◌, List, [], ◌∷◌, ◌++◌, map, refl, sym, ap, ◌∙◌}
 use Rattle.std.specs.List.{list_any}
 use Rattle.std.proofs.lemmas.List.Folds.{list_any-append}
-use Rattle.ot_model.specs.Tree.{E, S, Set, Add, If, Task, Group, Body}
+use Rattle.ot_model.specs.Tree.{E, S, Set, Fold, If, Task, Group, Body}
 use Rattle.ot_model.specs.declared.expr.Cell.{Cell}
-use Rattle.ot_model.specs.declared.stmt.Mode.TheVariants.{Reads, Writes, Adds}
+use Rattle.ot_model.specs.declared.fold.Fold.{Fold as Operation}
+use Rattle.ot_model.specs.declared.stmt.Mode.TheVariants.{Reads, Writes, Folds}
 use Rattle.ot_model.specs.declared.stmt.Use.{Use}
 use Rattle.ot_check.specs.Paths.{Touch, Enter, use_as}
 use Rattle.ot_model.specs.Value.{cells_named}
-use Rattle.ot_check.specs.Offences.{Declared, exceeds, misfits}
+use Rattle.ot_check.specs.Offences.{Declared, Openings, exceeds, misfits}
 use Rattle.ot_check.specs.walk.Walk.{Children, may_break, is_offence, ends_with_children}
 use Rattle.ot_check.specs.declared.fault.Offence.{Offence}
 use Rattle.ot_check.specs.declared.fault.Offence.TheVariants.{NotDeclared, ChildBeyond, ReductionMisuse, ConflictsWithChild, EndsWithChildren}
 use Rattle.ot_check.proofs.Bits.{or_none, any-map}
 
 -- whether reading any of these cells is the offence
-abbrev pub reading : Declared → (Cell → Bool) → Children → Offence → List Cell → Bool
+abbrev pub reading : Declared → Openings → Children → Offence → List Cell → Bool
 reading own opened children offence cells = list_any (λ c. may_break own opened children (Touch (use_as Reads c)) offence) cells
 
-touches-break : (own : Declared) (opened : Cell → Bool) (children : Children) (offence : Offence) (cells : List Cell) (more : List Use)
+touches-break : (own : Declared) (opened : Openings) (children : Children) (offence : Offence) (cells : List Cell) (more : List Use)
     → list_any (λ m. may_break own opened children m offence) (map Touch (map (use_as Reads) cells ++ more))
     ≡ (reading own opened children offence cells || list_any (λ u. may_break own opened children (Touch u) offence) more)
 touches-break own opened children offence cells more =
@@ -36,12 +37,12 @@ no_end_set c e ReductionMisuse = refl
 no_end_set c e ConflictsWithChild = refl
 no_end_set c e EndsWithChildren = refl
 
-no_end_add : (c : Cell) (e : E) (offence : Offence) → ends_with_children (Add c e) offence ≡ false
-no_end_add c e NotDeclared = refl
-no_end_add c e ChildBeyond = refl
-no_end_add c e ReductionMisuse = refl
-no_end_add c e ConflictsWithChild = refl
-no_end_add c e EndsWithChildren = refl
+no_end_fold : (o : Operation) (c : Cell) (e : E) (offence : Offence) → ends_with_children (Fold o c e) offence ≡ false
+no_end_fold o c e NotDeclared = refl
+no_end_fold o c e ChildBeyond = refl
+no_end_fold o c e ReductionMisuse = refl
+no_end_fold o c e ConflictsWithChild = refl
+no_end_fold o c e EndsWithChildren = refl
 
 no_end_if : (e : E) (a b : Body) (offence : Offence) → ends_with_children (If e a b) offence ≡ false
 no_end_if e a b NotDeclared = refl
@@ -50,14 +51,14 @@ no_end_if e a b ReductionMisuse = refl
 no_end_if e a b ConflictsWithChild = refl
 no_end_if e a b EndsWithChildren = refl
 
-no_end_group : (cs : List Cell) (b : Body) (offence : Offence) → ends_with_children (Group cs b) offence ≡ false
-no_end_group cs b NotDeclared = refl
-no_end_group cs b ChildBeyond = refl
-no_end_group cs b ReductionMisuse = refl
-no_end_group cs b ConflictsWithChild = refl
-no_end_group cs b EndsWithChildren = refl
+no_end_group : (o : Operation) (cs : List Cell) (b : Body) (offence : Offence) → ends_with_children (Group o cs b) offence ≡ false
+no_end_group o cs b NotDeclared = refl
+no_end_group o cs b ChildBeyond = refl
+no_end_group o cs b ReductionMisuse = refl
+no_end_group o cs b ConflictsWithChild = refl
+no_end_group o cs b EndsWithChildren = refl
 
-pub is_offence-Set : (own : Declared) (opened : Cell → Bool) (children : Children) (c : Cell) (e : E) (offence : Offence)
+pub is_offence-Set : (own : Declared) (opened : Openings) (children : Children) (c : Cell) (e : E) (offence : Offence)
     → is_offence own opened children (Set c e) offence
     ≡ (reading own opened children offence (cells_named e) || may_break own opened children (Touch (use_as Writes c)) offence)
 is_offence-Set own opened children c e offence =
@@ -65,33 +66,33 @@ is_offence-Set own opened children c e offence =
     ∙ touches-break own opened children offence (cells_named e) (use_as Writes c ∷ [])
     ∙ ap (λ b. reading own opened children offence (cells_named e) || b) (or_none (may_break own opened children (Touch (use_as Writes c)) offence))
 
-pub is_offence-Add : (own : Declared) (opened : Cell → Bool) (children : Children) (c : Cell) (e : E) (offence : Offence)
-    → is_offence own opened children (Add c e) offence
-    ≡ (reading own opened children offence (cells_named e) || may_break own opened children (Touch (use_as Adds c)) offence)
-is_offence-Add own opened children c e offence =
-    ends-touch (Add c e) offence _ (no_end_add c e offence)
-    ∙ touches-break own opened children offence (cells_named e) (use_as Adds c ∷ [])
-    ∙ ap (λ b. reading own opened children offence (cells_named e) || b) (or_none (may_break own opened children (Touch (use_as Adds c)) offence))
+pub is_offence-Fold : (own : Declared) (opened : Openings) (children : Children) (o : Operation) (c : Cell) (e : E) (offence : Offence)
+    → is_offence own opened children (Fold o c e) offence
+    ≡ (reading own opened children offence (cells_named e) || may_break own opened children (Touch (use_as (Folds o) c)) offence)
+is_offence-Fold own opened children o c e offence =
+    ends-touch (Fold o c e) offence _ (no_end_fold o c e offence)
+    ∙ touches-break own opened children offence (cells_named e) (use_as (Folds o) c ∷ [])
+    ∙ ap (λ b. reading own opened children offence (cells_named e) || b) (or_none (may_break own opened children (Touch (use_as (Folds o) c)) offence))
 
-pub is_offence-If : (own : Declared) (opened : Cell → Bool) (children : Children) (e : E) (a b : Body) (offence : Offence)
+pub is_offence-If : (own : Declared) (opened : Openings) (children : Children) (e : E) (a b : Body) (offence : Offence)
     → is_offence own opened children (If e a b) offence ≡ reading own opened children offence (cells_named e)
 is_offence-If own opened children e a b offence =
     ends-touch (If e a b) offence _ (no_end_if e a b offence)
     ∙ any-map (λ m. may_break own opened children m offence) Touch (map (use_as Reads) (cells_named e))
     ∙ any-map (λ u. may_break own opened children (Touch u) offence) (use_as Reads) (cells_named e)
 
-pub is_offence-ChildBeyond : (own : Declared) (opened : Cell → Bool) (children : Children) (d : List Use) (b : Body)
+pub is_offence-ChildBeyond : (own : Declared) (opened : Openings) (children : Children) (d : List Use) (b : Body)
     → is_offence own opened children (Task d b) ChildBeyond ≡ list_any (exceeds own) d
 is_offence-ChildBeyond own opened children d b = or_none (list_any (exceeds own) d || false) ∙ or_none (list_any (exceeds own) d)
 
-pub is_offence-ReductionMisuse : (own : Declared) (opened : Cell → Bool) (children : Children) (d : List Use) (b : Body)
+pub is_offence-ReductionMisuse : (own : Declared) (opened : Openings) (children : Children) (d : List Use) (b : Body)
     → is_offence own opened children (Task d b) ReductionMisuse ≡ list_any (misfits own opened) d
 is_offence-ReductionMisuse own opened children d b = or_none (list_any (misfits own opened) d || false) ∙ or_none (list_any (misfits own opened) d)
 
-pub is_offence-Group : (own : Declared) (opened : Cell → Bool) (children : Children) (cs : List Cell) (b : Body) (offence : Offence)
-    → is_offence own opened children (Group cs b) offence ≡ may_break own opened children (Enter cs) offence
-is_offence-Group own opened children cs b offence =
-    ends-touch (Group cs b) offence _ (no_end_group cs b offence) ∙ or_none (may_break own opened children (Enter cs) offence)
+pub is_offence-Group : (own : Declared) (opened : Openings) (children : Children) (o : Operation) (cs : List Cell) (b : Body) (offence : Offence)
+    → is_offence own opened children (Group o cs b) offence ≡ may_break own opened children (Enter o cs) offence
+is_offence-Group own opened children o cs b offence =
+    ends-touch (Group o cs b) offence _ (no_end_group o cs b offence) ∙ or_none (may_break own opened children (Enter o cs) offence)
 
 pub either_met : (b a d : Bool) → b ≡ a → b ≡ true → b ≡ (a || d)
 either_met b a d is met = met ∙ ap (λ c. c || d) (sym met ∙ is)

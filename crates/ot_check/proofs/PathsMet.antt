@@ -2,12 +2,14 @@
 use Rattle.std.proofs.Common.{◌≡◌, ℕ, ◌+◌, ◌++◌, Bool, true, false, not, ◌&&◌, ◌||◌, List, [], ◌∷◌, map, refl, sym, ap, subst, inl, inr, ◌∙◌, append_assoc, append-nil}
 use Rattle.std.specs.Prelude.{◌⊎◌, Option, Some, None}
 use Rattle.std.specs.List.{list_any}
-use Rattle.ot_model.specs.Tree.{S, Set, Add, If, Task, Wait, Group, Body, End, Next}
+use Rattle.ot_model.specs.Tree.{S, Set, Fold, If, Task, Wait, Group, Body, End, Next}
 use Rattle.ot_model.specs.Counts.{size, size_one}
 use Rattle.ot_model.specs.declared.expr.Cell.{Cell}
+use Rattle.ot_model.specs.Uses.{same_fold}
+use Rattle.ot_model.specs.declared.fold.Fold.{Fold as Operation}
 use Rattle.ot_model.specs.declared.stmt.Use.{Use}
 use Rattle.ot_check.specs.Paths.{Mark, Touch, Create, Await, Enter, Leave, Step, At, touched, touches, PassesOne, Passes}
-use Rattle.ot_check.specs.Offences.{Declared, has_cell, has_wait, unawaited, is_open, OnPath, InTasks, InTasksOfOne, Offends, IsFirstOf}
+use Rattle.ot_check.specs.Offences.{Declared, Openings, has_cell, has_wait, unawaited, is_open, OnPath, InTasks, InTasksOfOne, Offends, IsFirstOf}
 use Rattle.ot_check.specs.walk.Walk.{Children, may_break, anyone, nobody, nothing_open, behind_one, with_group, ends_with_children, first}
 use Rattle.ot_check.proofs.Steps.{some_unawaited, passes_one-closed, unawaited-append}
 use Rattle.ot_check.specs.declared.fault.Offence.{Offence}
@@ -20,8 +22,8 @@ use Rattle.ot_check.proofs.Bits.{or_true, true_or, or_false, or_right, and_left,
 -- ---- many prefixes
 
 -- the groups are those of each prefix; each child that the walk has is unawaited behind one of them
-pub record Reaches (I : Type 0) (prefix : I → List Step) (opened : Cell → Bool) (children : Children) : Type 0 where
-  pub groups : (i : I) (c : Cell) → opened c ≡ is_open (prefix i) c
+pub record Reaches (I : Type 0) (prefix : I → List Step) (opened : Openings) (children : Children) : Type 0 where
+  pub groups : (i : I) (o : Operation) (c : Cell) → opened o c ≡ is_open (prefix i) o c
   pub unawaited : (test : List Use → Bool) → children test ≡ true → (i : I) × (some_unawaited test (prefix i) ≡ true)
   pub someone : I
 
@@ -36,18 +38,18 @@ any-member F all test (c ∷ cs) member h =
     ]
 
 -- a mark looks at one child alone
-may_break-member : {I : Type 0} (F : I → Children) (all : Children) (own : Declared) (o : Cell → Bool) (mark : Mark) (offence : Offence)
+may_break-member : {I : Type 0} (F : I → Children) (all : Children) (own : Declared) (o : Openings) (mark : Mark) (offence : Offence)
     → ((t : List Use → Bool) → all t ≡ true → (i : I) × (F i t ≡ true)) → I
     → may_break own o all mark offence ≡ true → (i : I) × (may_break own o (F i) mark offence ≡ true)
 may_break-member F all own o (Touch u) ConflictsWithChild member i h = member _ h
 may_break-member F all own o (Create d) ConflictsWithChild member i h = (i, h)
-may_break-member F all own o (Enter cs) ConflictsWithChild member i h = any-member F all _ cs member h
+may_break-member F all own o (Enter by cs) ConflictsWithChild member i h = any-member F all _ cs member h
 may_break-member F all own o Await ConflictsWithChild member i h = (i, h)
 may_break-member F all own o Leave ConflictsWithChild member i h = (i, h)
 may_break-member F all own o mark offence member i h = (i, h)
 
 -- a mark of the statement itself, behind one of the prefixes
-here-behind : {I : Type 0} (prefix : I → List Step) (opened : Cell → Bool) (children : Children) (own : Declared) (mark : Mark) (offence : Offence)
+here-behind : {I : Type 0} (prefix : I → List Step) (opened : Openings) (children : Children) (own : Declared) (mark : Mark) (offence : Offence)
     → Reaches I prefix opened children → may_break own opened children mark offence ≡ true → (i : I) × BreaksBehind (prefix i) [] own mark offence
 here-behind prefix opened children own mark offence reaches h =
     let q = may_break-member (λ i test. some_unawaited test (prefix i)) children own opened mark offence reaches.unawaited reaches.someone h in (
@@ -57,19 +59,19 @@ here-behind prefix opened children own mark offence reaches h =
           (reaches.groups q.0) (λ test is. is) mark offence q.1),
     )
 
-reaches-touched : {I : Type 0} (prefix : I → List Step) (opened : Cell → Bool) (children : Children) (k : ℕ) (uses : List Use)
+reaches-touched : {I : Type 0} (prefix : I → List Step) (opened : Openings) (children : Children) (k : ℕ) (uses : List Use)
     → Reaches I prefix opened children → Reaches I (λ i. prefix i ++ touched k uses) opened children
 reaches-touched prefix opened children k uses h = record {
-  groups = λ i c. h.groups i c ∙ sym (quiet-open c (prefix i) k uses);
+  groups = λ i o c. h.groups i o c ∙ sym (quiet-open o c (prefix i) k uses);
   unawaited = λ test is. let q = h.unawaited test is in (q.0, quiet-unawaited test (prefix q.0) k uses ∙ q.1);
   someone = h.someone;
 }
 
-reaches-entered : {I : Type 0} (prefix : I → List Step) (opened : Cell → Bool) (children : Children) (k : ℕ) (cs : List Cell)
-    → Reaches I prefix opened children → Reaches I (λ i. prefix i ++ At k (Enter cs) ∷ []) (with_group opened cs) children
-reaches-entered prefix opened children k cs h = record {
-  groups = λ i c. ap (λ b. b || has_cell cs c) (h.groups i c) ∙ sym (entered-open c (prefix i) k cs);
-  unawaited = λ test is. let q = h.unawaited test is in (q.0, entered-unawaited test (prefix q.0) k cs ∙ q.1);
+reaches-entered : {I : Type 0} (prefix : I → List Step) (opened : Openings) (children : Children) (k : ℕ) (by : Operation) (cs : List Cell)
+    → Reaches I prefix opened children → Reaches I (λ i. prefix i ++ At k (Enter by cs) ∷ []) (with_group opened by cs) children
+reaches-entered prefix opened children k by cs h = record {
+  groups = λ i o c. ap (λ b. b || (same_fold by o && has_cell cs c)) (h.groups i o c) ∙ sym (entered-open o c (prefix i) k by cs);
+  unawaited = λ test is. let q = h.unawaited test is in (q.0, entered-unawaited test (prefix q.0) k by cs ∙ q.1);
   someone = h.someone;
 }
 
@@ -80,10 +82,10 @@ Further I k x = I × ((path : List Step) × PassesOne k x path)
 abbrev further : {I : Type 0} (prefix : I → List Step) (k : ℕ) (x : S) → Further I k x → List Step
 further prefix k x f = prefix f.0 ++ f.1.0
 
-reaches-passed : {I : Type 0} (prefix : I → List Step) (opened : Cell → Bool) (children : Children) (k : ℕ) (x : S)
+reaches-passed : {I : Type 0} (prefix : I → List Step) (opened : Openings) (children : Children) (k : ℕ) (x : S)
     → Reaches I prefix opened children → Reaches (Further I k x) (further prefix k x) opened (behind_one children x)
 reaches-passed {I} prefix opened children k x h = record {
-  groups = λ f c. h.groups f.0 c ∙ sym (passed-open c (prefix f.0) k x f.1.0 f.1.1);
+  groups = λ f o c. h.groups f.0 o c ∙ sym (passed-open o c (prefix f.0) k x f.1.0 f.1.1);
   unawaited = λ test is. found test (after-to_one test k x (children test) is);
   someone = (h.someone, some_path_one k x);
 }
@@ -125,7 +127,7 @@ stands-before prefix more Path Whole own place offence whole (before, later, mar
     (before, later ++ more, mark, subst Whole (append_assoc before (At place mark ∷ later) more) (whole (before ++ At place mark ∷ later) way), h)
 
 -- an offence among the touches of a statement
-touch-stands : {I : Type 0} (prefix : I → List Step) (opened : Cell → Bool) (children : Children) (own : Declared) (k : ℕ) (uses : List Use) (offence : Offence)
+touch-stands : {I : Type 0} (prefix : I → List Step) (opened : Openings) (children : Children) (own : Declared) (k : ℕ) (uses : List Use) (offence : Offence)
     → Reaches I prefix opened children → list_any (λ m. may_break own opened children m offence) (map Touch uses) ≡ true
     → (i : I) × Stands (prefix i) (λ p. p ≡ touched k uses) own k offence
 touch-stands prefix opened children own k [] offence reaches h = cc
@@ -148,7 +150,7 @@ Found I prefix Path Tasks own place offence = ((i : I) × Stands (prefix i) Path
 abbrev OneFound : (I : Type 0) → (I → List Step) → ℕ → S → Declared → ℕ → Offence → Type 0
 OneFound I prefix k x own place offence = Found I prefix (PassesOne k x) (InTasksOfOne k x) own place offence
 
-own_touch-found : {I : Type 0} (prefix : I → List Step) (opened : Cell → Bool) (children : Children) (own : Declared) (k : ℕ) (x : S) (place : ℕ) (offence : Offence)
+own_touch-found : {I : Type 0} (prefix : I → List Step) (opened : Openings) (children : Children) (own : Declared) (k : ℕ) (x : S) (place : ℕ) (offence : Offence)
     → Reaches I prefix opened children → (Whole : List Step → Type 0) → ((p : List Step) → p ≡ touched k (touches x) → Whole p)
     → place ≡ k → list_any (λ m. may_break own opened children m offence) (map Touch (touches x)) ≡ true
     → (i : I) × Stands (prefix i) Whole own place offence
@@ -172,17 +174,17 @@ stands-on_path k b own place offence (before, later, mark, way, h) =
     (before, later, mark, way, sym (may_break-breaks own (is_open before) (unawaited before) mark offence) ∙ h)
 
 reaches-nothing : Reaches (Unit {0}) (λ (i : Unit {0}). []) nothing_open nobody
-reaches-nothing = record { groups = λ i c. refl; unawaited = λ test h. (tt, h); someone = tt }
+reaches-nothing = record { groups = λ i o c. refl; unawaited = λ test h. (tt, h); someone = tt }
 
 mutual
-  found_one : {I : Type 0} (prefix : I → List Step) (own : Declared) (opened : Cell → Bool) (children : Children) (k : ℕ) (x : S) (place : ℕ) (offence : Offence)
+  found_one : {I : Type 0} (prefix : I → List Step) (own : Declared) (opened : Openings) (children : Children) (k : ℕ) (x : S) (place : ℕ) (offence : Offence)
       → Reaches I prefix opened children → MeetsOne own opened children k x place offence → OneFound I prefix k x own place offence
   found_one prefix own opened children k (Set c e) place offence reaches (inl (here, h)) =
       inl (own_touch-found prefix opened children own k (Set c e) place offence reaches (PassesOne k (Set c e)) (λ p is. is) here (or_false _ h))
   found_one prefix own opened children k (Set c e) place offence reaches (inr h) = absurd h
-  found_one prefix own opened children k (Add c e) place offence reaches (inl (here, h)) =
-      inl (own_touch-found prefix opened children own k (Add c e) place offence reaches (PassesOne k (Add c e)) (λ p is. is) here (or_false _ h))
-  found_one prefix own opened children k (Add c e) place offence reaches (inr h) = absurd h
+  found_one prefix own opened children k (Fold o c e) place offence reaches (inl (here, h)) =
+      inl (own_touch-found prefix opened children own k (Fold o c e) place offence reaches (PassesOne k (Fold o c e)) (λ p is. is) here (or_false _ h))
+  found_one prefix own opened children k (Fold o c e) place offence reaches (inr h) = absurd h
   found_one prefix own opened children k (If e a b) place offence reaches (inl (here, h)) =
       let way = some_path (k + 1) a in
       let q = own_touch-found prefix opened children own k (If e a b) place offence reaches (λ p. p ≡ touched k (touches (If e a b))) (λ p is. is) here (or_false _ h) in
@@ -225,28 +227,28 @@ mutual
       ]
   found_one prefix own opened children k Wait place offence reaches (inl (here, h)) = cc
   found_one prefix own opened children k Wait place offence reaches (inr h) = absurd h
-  found_one prefix own opened children k (Group cs b) place offence reaches (inl (here, h)) =
+  found_one prefix own opened children k (Group o cs b) place offence reaches (inl (here, h)) =
       let way = some_path (k + 1) b in
-      let q = here-behind prefix opened children own (Enter cs) offence reaches (or_false _ (or_false _ h)) in
+      let q = here-behind prefix opened children own (Enter o cs) offence reaches (or_false _ (or_false _ h)) in
       inl (
         q.0,
-        subst (λ n. Stands (prefix q.0) (PassesOne k (Group cs b)) own n offence) (sym here)
-            ([], way.0 ++ At k Leave ∷ [], Enter cs, (way.0, refl, way.1), q.1),
+        subst (λ n. Stands (prefix q.0) (PassesOne k (Group o cs b)) own n offence) (sym here)
+            ([], way.0 ++ At k Leave ∷ [], Enter o cs, (way.0, refl, way.1), q.1),
       )
-  found_one prefix own opened children k (Group cs b) place offence reaches (inr h) =
-      elim (found (λ i. prefix i ++ At k (Enter cs) ∷ []) own (with_group opened cs) children (k + 1) b place offence
-      (reaches-entered prefix opened children k cs reaches) h) [
+  found_one prefix own opened children k (Group o cs b) place offence reaches (inr h) =
+      elim (found (λ i. prefix i ++ At k (Enter o cs) ∷ []) own (with_group opened o cs) children (k + 1) b place offence
+      (reaches-entered prefix opened children k o cs reaches) h) [
         | inl q ↦ inl (
           q.0,
-          stands-behind (prefix q.0) (At k (Enter cs) ∷ []) (λ p. (inside : List Step) × (p ≡ inside ++ At k Leave ∷ []) × Passes (k + 1) b inside) (PassesOne k (Group cs b)) own place offence
-              (λ p way. (way.0, ap (λ p. At k (Enter cs) ∷ p) way.1, way.2))
-              (stands-before (prefix q.0 ++ At k (Enter cs) ∷ []) (At k Leave ∷ []) (Passes (k + 1) b)
+          stands-behind (prefix q.0) (At k (Enter o cs) ∷ []) (λ p. (inside : List Step) × (p ≡ inside ++ At k Leave ∷ []) × Passes (k + 1) b inside) (PassesOne k (Group o cs b)) own place offence
+              (λ p way. (way.0, ap (λ p. At k (Enter o cs) ∷ p) way.1, way.2))
+              (stands-before (prefix q.0 ++ At k (Enter o cs) ∷ []) (At k Leave ∷ []) (Passes (k + 1) b)
               (λ p. (inside : List Step) × (p ≡ inside ++ At k Leave ∷ []) × Passes (k + 1) b inside) own place offence (λ p way. (p, refl, way)) q.1),
         )
         | inr t ↦ inr t
       ]
 
-  pub found : {I : Type 0} (prefix : I → List Step) (own : Declared) (opened : Cell → Bool) (children : Children) (k : ℕ) (b : Body) (place : ℕ) (offence : Offence)
+  pub found : {I : Type 0} (prefix : I → List Step) (own : Declared) (opened : Openings) (children : Children) (k : ℕ) (b : Body) (place : ℕ) (offence : Offence)
       → Reaches I prefix opened children → Meets own opened children k b place offence → Found I prefix (Passes k b) (InTasks k b) own place offence
   found prefix own opened children k End place offence reaches h = absurd h
   found prefix own opened children k (Next x rest) place offence reaches (inl h) =

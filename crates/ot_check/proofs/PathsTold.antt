@@ -1,19 +1,22 @@
 -- What stands on some path is met by the walk.
 use Rattle.std.proofs.Common.{◌≡◌, ◌≢◌, ℕ, ◌+◌, ◌++◌, Bool, true, false, not, ◌&&◌, ◌||◌, List, [], ◌∷◌, map, refl, sym, ap, subst, inl, inr, ◌∙◌, append_assoc, append-nil}
-use Rattle.std.specs.Prelude.{◌⊎◌, Some, if◌then◌else◌}
-use Rattle.ot_model.specs.Uses.{is_adds}
+use Rattle.std.specs.Prelude.{◌⊎◌, Some}
+use Rattle.ot_model.specs.Uses.{same_fold}
 use Rattle.std.specs.List.{list_any}
-use Rattle.ot_model.specs.Tree.{S, Set, Add, If, Task, Wait, Group, Body, End, Next}
+use Rattle.ot_model.specs.Tree.{S, Set, Fold, If, Task, Wait, Group, Body, End, Next}
 use Rattle.ot_model.specs.Counts.{size, size_one}
 use Rattle.ot_model.specs.declared.expr.Cell.{Cell}
-use Rattle.ot_model.specs.declared.stmt.Mode.TheVariants.{Writes}
+use Rattle.ot_model.specs.declared.fold.Fold.{Fold as Operation}
+use Rattle.ot_model.specs.declared.stmt.Mode.{Mode}
+use Rattle.ot_model.specs.declared.stmt.Mode.TheVariants.{Reads, Writes, Folds}
 use Rattle.ot_model.specs.declared.stmt.Use.{Use}
 use Rattle.ot_check.specs.Paths.{Mark, Touch, Create, Await, Enter, Leave, Step, At, touched, touches, use_as, PassesOne, Passes}
-use Rattle.ot_check.specs.Offences.{Declared, adds_to, allows, breaks, misfits, has_cell, unawaited, is_open, OnPath, InTasks, InTasksOfOne}
+use Rattle.ot_check.specs.Offences.{Declared, Openings, folds_to, allows, breaks, misfits, misfits_as, has_cell, unawaited, is_open, OnPath, InTasks, InTasksOfOne}
 use Rattle.ot_check.specs.walk.Walk.{Children, may_break, anyone, nobody, nothing_open, behind_one, with_group, is_offence, marks, after}
 use Rattle.ot_check.proofs.Steps.{some_unawaited, closed_of, touched-balanced, touched-open, touched-unawaited, touched-waits, passes_one-closed, passes_one-open, unawaited-append, open-append}
 use Rattle.ot_check.specs.declared.fault.Offence.{Offence}
 use Rattle.ot_check.specs.declared.fault.Offence.TheVariants.{ReductionMisuse, ConflictsWithChild, EndsWithChildren}
+use Rattle.ot_check.proofs.OpeningLemmas.{opened-same}
 use Rattle.ot_check.proofs.After.{after-from, after-from_one}
 use Rattle.ot_check.proofs.Meeting.{Meets, MeetsOne}
 use Rattle.ot_check.proofs.Bits.{true_or, or_right, or_none, and_one, any-same, any-more}
@@ -36,31 +39,36 @@ append_split (x ∷ xs) ys (b ∷ before) s later h =
       | inr p ↦ inr (p.0, ap (λ z. z ∷ before) (sym first) ∙ ap (λ zs. x ∷ zs) p.1, p.2)
     ]
 
-misfits-same : (own : Declared) (o p : Cell → Bool) (u : Use) → ((c : Cell) → o c ≡ p c) → misfits own o u ≡ misfits own p u
-misfits-same own o p u same = ap (λ b. if is_adds u.mode then not (adds_to own u.cell) && not b else b) (same u.cell)
+misfits_as-same : (m : Mode) (own : Declared) (o p : Openings) (c : Cell) → ((by : Operation) (c : Cell) → o by c ≡ p by c) → misfits_as m own o c ≡ misfits_as m own p c
+misfits_as-same Reads own o p c same = opened-same o p same c
+misfits_as-same Writes own o p c same = opened-same o p same c
+misfits_as-same (Folds by) own o p c same = ap (λ b. not (folds_to own by c) && not b) (same by c)
+
+misfits-same : (own : Declared) (o p : Openings) (u : Use) → ((by : Operation) (c : Cell) → o by c ≡ p by c) → misfits own o u ≡ misfits own p u
+misfits-same own o p u same = misfits_as-same u.mode own o p u.cell same
 
 -- ---- which children there are
 
 -- a list of children, told by what is true of some of them
-pub may_break-breaks : (own : Declared) (opened : Cell → Bool) (children : List (List Use)) (mark : Mark) (offence : Offence)
+pub may_break-breaks : (own : Declared) (opened : Openings) (children : List (List Use)) (mark : Mark) (offence : Offence)
     → may_break own opened (λ test. list_any test children) mark offence ≡ breaks own opened children mark offence
 may_break-breaks own opened children (Touch u) ConflictsWithChild = refl
 may_break-breaks own opened children (Create d) ConflictsWithChild = refl
-may_break-breaks own opened children (Enter cs) ConflictsWithChild = refl
+may_break-breaks own opened children (Enter o cs) ConflictsWithChild = refl
 may_break-breaks own opened children Await ConflictsWithChild = refl
 may_break-breaks own opened children Leave ConflictsWithChild = refl
 may_break-breaks own opened children mark offence = refl
 
 -- more children, the same groups
-pub may_break-more : (own : Declared) (o p : Cell → Bool) (few many : Children) → ((c : Cell) → o c ≡ p c)
+pub may_break-more : (own : Declared) (o p : Openings) (few many : Children) → ((by : Operation) (c : Cell) → o by c ≡ p by c)
     → ((test : List Use → Bool) → few test ≡ true → many test ≡ true) → (mark : Mark) (offence : Offence)
     → may_break own o few mark offence ≡ true → may_break own p many mark offence ≡ true
-may_break-more own o p few many same more (Touch u) ReductionMisuse h = sym (same u.cell) ∙ h
+may_break-more own o p few many same more (Touch u) ReductionMisuse h = sym (opened-same o p same u.cell) ∙ h
 may_break-more own o p few many same more (Touch u) ConflictsWithChild h = more _ h
 may_break-more own o p few many same more (Create d) ReductionMisuse h =
     sym (any-same (misfits own o) (misfits own p) d (λ u. misfits-same own o p u same)) ∙ h
-may_break-more own o p few many same more (Enter cs) ReductionMisuse h = sym (any-same _ _ cs (λ c. ap (λ b. not (allows own (use_as Writes c)) || b) (same c))) ∙ h
-may_break-more own o p few many same more (Enter cs) ConflictsWithChild h = any-more _ _ cs (λ c. more _) h
+may_break-more own o p few many same more (Enter by cs) ReductionMisuse h = sym (any-same _ _ cs (λ c. ap (λ b. not (allows own (use_as Writes c)) || b) (opened-same o p same c))) ∙ h
+may_break-more own o p few many same more (Enter by cs) ConflictsWithChild h = any-more _ _ cs (λ c. more _) h
 may_break-more own o p few many same more Await ConflictsWithChild h = h
 may_break-more own o p few many same more Leave ConflictsWithChild h = h
 may_break-more own o p few many same more mark offence h = h
@@ -68,15 +76,15 @@ may_break-more own o p few many same more mark offence h = h
 -- ---- behind a prefix
 
 -- the groups and children that the walk has are at least those behind a prefix
-pub record Holds (prefix : List Step) (opened : Cell → Bool) (children : Children) : Type 0 where
-  pub groups : (c : Cell) → is_open prefix c ≡ opened c
+pub record Holds (prefix : List Step) (opened : Openings) (children : Children) : Type 0 where
+  pub groups : (o : Operation) (c : Cell) → is_open prefix o c ≡ opened o c
   pub unawaited : (test : List Use → Bool) → some_unawaited test prefix ≡ true → children test ≡ true
 
 -- a step of a touch changes neither
-pub quiet-open : (c : Cell) (prefix : List Step) (k : ℕ) (uses : List Use) → is_open (prefix ++ touched k uses) c ≡ is_open prefix c
-quiet-open c prefix k uses =
-    open-append c prefix (touched k uses) (closed_of (touched k uses) (touched-balanced k uses))
-    ∙ ap (λ b. is_open prefix c || b) (ap (λ p. is_open p c) (sym (append-nil (touched k uses))) ∙ touched-open c k uses []) ∙ or_none (is_open prefix c)
+pub quiet-open : (o : Operation) (c : Cell) (prefix : List Step) (k : ℕ) (uses : List Use) → is_open (prefix ++ touched k uses) o c ≡ is_open prefix o c
+quiet-open o c prefix k uses =
+    open-append o c prefix (touched k uses) (closed_of (touched k uses) (touched-balanced k uses))
+    ∙ ap (λ b. is_open prefix o c || b) (ap (λ p. is_open p o c) (sym (append-nil (touched k uses))) ∙ touched-open o c k uses []) ∙ or_none (is_open prefix o c)
 
 pub quiet-unawaited : (test : List Use → Bool) (prefix : List Step) (k : ℕ) (uses : List Use)
     → some_unawaited test (prefix ++ touched k uses) ≡ some_unawaited test prefix
@@ -86,40 +94,40 @@ quiet-unawaited test prefix k uses =
     ∙ ap (λ b. (some_unawaited test prefix && true) || b) (ap (some_unawaited test) (sym (append-nil (touched k uses))) ∙ touched-unawaited test k uses [])
     ∙ or_none (some_unawaited test prefix && true) ∙ and_one (some_unawaited test prefix)
 
-holds-touched : (prefix : List Step) (opened : Cell → Bool) (children : Children) (k : ℕ) (uses : List Use) → Holds prefix opened children
+holds-touched : (prefix : List Step) (opened : Openings) (children : Children) (k : ℕ) (uses : List Use) → Holds prefix opened children
     → Holds (prefix ++ touched k uses) opened children
 holds-touched prefix opened children k uses h = record {
-  groups = λ c. quiet-open c prefix k uses ∙ h.groups c;
+  groups = λ o c. quiet-open o c prefix k uses ∙ h.groups o c;
   unawaited = λ test is. h.unawaited test (sym (quiet-unawaited test prefix k uses) ∙ is);
 }
 
-pub entered-open : (c : Cell) (prefix : List Step) (k : ℕ) (cs : List Cell)
-    → is_open (prefix ++ At k (Enter cs) ∷ []) c ≡ (is_open prefix c || has_cell cs c)
-entered-open c prefix k cs =
-    open-append c prefix (At k (Enter cs) ∷ []) (λ n. refl) ∙ ap (λ b. is_open prefix c || b) (or_none (has_cell cs c && true) ∙ and_one (has_cell cs c))
+pub entered-open : (o : Operation) (c : Cell) (prefix : List Step) (k : ℕ) (by : Operation) (cs : List Cell)
+    → is_open (prefix ++ At k (Enter by cs) ∷ []) o c ≡ (is_open prefix o c || (same_fold by o && has_cell cs c))
+entered-open o c prefix k by cs =
+    open-append o c prefix (At k (Enter by cs) ∷ []) (λ n. refl) ∙ ap (λ b. is_open prefix o c || b) (or_none ((same_fold by o && has_cell cs c) && true) ∙ and_one (same_fold by o && has_cell cs c))
 
-pub entered-unawaited : (test : List Use → Bool) (prefix : List Step) (k : ℕ) (cs : List Cell)
-    → some_unawaited test (prefix ++ At k (Enter cs) ∷ []) ≡ some_unawaited test prefix
-entered-unawaited test prefix k cs =
-    unawaited-append test prefix (At k (Enter cs) ∷ []) (λ n. refl)
+pub entered-unawaited : (test : List Use → Bool) (prefix : List Step) (k : ℕ) (by : Operation) (cs : List Cell)
+    → some_unawaited test (prefix ++ At k (Enter by cs) ∷ []) ≡ some_unawaited test prefix
+entered-unawaited test prefix k by cs =
+    unawaited-append test prefix (At k (Enter by cs) ∷ []) (λ n. refl)
     ∙ or_none (some_unawaited test prefix && true) ∙ and_one (some_unawaited test prefix)
 
-holds-entered : (prefix : List Step) (opened : Cell → Bool) (children : Children) (k : ℕ) (cs : List Cell) → Holds prefix opened children
-    → Holds (prefix ++ At k (Enter cs) ∷ []) (with_group opened cs) children
-holds-entered prefix opened children k cs h = record {
-  groups = λ c. entered-open c prefix k cs ∙ ap (λ b. b || has_cell cs c) (h.groups c);
-  unawaited = λ test is. h.unawaited test (sym (entered-unawaited test prefix k cs) ∙ is);
+holds-entered : (prefix : List Step) (opened : Openings) (children : Children) (k : ℕ) (by : Operation) (cs : List Cell) → Holds prefix opened children
+    → Holds (prefix ++ At k (Enter by cs) ∷ []) (with_group opened by cs) children
+holds-entered prefix opened children k by cs h = record {
+  groups = λ o c. entered-open o c prefix k by cs ∙ ap (λ b. b || (same_fold by o && has_cell cs c)) (h.groups o c);
+  unawaited = λ test is. h.unawaited test (sym (entered-unawaited test prefix k by cs) ∙ is);
 }
 
-pub passed-open : (c : Cell) (prefix : List Step) (k : ℕ) (x : S) (one : List Step) → PassesOne k x one → is_open (prefix ++ one) c ≡ is_open prefix c
-passed-open c prefix k x one h =
-    open-append c prefix one (passes_one-closed k x one h)
-    ∙ ap (λ b. is_open prefix c || b) (ap (λ p. is_open p c) (sym (append-nil one)) ∙ passes_one-open c k x one h []) ∙ or_none (is_open prefix c)
+pub passed-open : (o : Operation) (c : Cell) (prefix : List Step) (k : ℕ) (x : S) (one : List Step) → PassesOne k x one → is_open (prefix ++ one) o c ≡ is_open prefix o c
+passed-open o c prefix k x one h =
+    open-append o c prefix one (passes_one-closed k x one h)
+    ∙ ap (λ b. is_open prefix o c || b) (ap (λ p. is_open p o c) (sym (append-nil one)) ∙ passes_one-open o c k x one h []) ∙ or_none (is_open prefix o c)
 
-holds-passed : (prefix : List Step) (opened : Cell → Bool) (children : Children) (k : ℕ) (x : S) (one : List Step) → PassesOne k x one
+holds-passed : (prefix : List Step) (opened : Openings) (children : Children) (k : ℕ) (x : S) (one : List Step) → PassesOne k x one
     → Holds prefix opened children → Holds (prefix ++ one) opened (behind_one children x)
 holds-passed prefix opened children k x one passes h = record {
-  groups = λ c. passed-open c prefix k x one passes ∙ h.groups c;
+  groups = λ o c. passed-open o c prefix k x one passes ∙ h.groups o c;
   unawaited = λ test is. after-from_one test k x one passes (some_unawaited test prefix) (children test) (h.unawaited test)
       (sym (unawaited-append test prefix one (passes_one-closed k x one passes)) ∙ is);
 }
@@ -134,14 +142,14 @@ behind-more : (prefix more before : List Step) (own : Declared) (mark : Mark) (o
 behind-more prefix more before own mark offence h =
     subst (λ p. may_break own (is_open p) (λ test. some_unawaited test p) mark offence ≡ true) (sym (append_assoc prefix more before)) h
 
-here-breaks : (prefix : List Step) (opened : Cell → Bool) (children : Children) (own : Declared) (mark : Mark) (offence : Offence)
+here-breaks : (prefix : List Step) (opened : Openings) (children : Children) (own : Declared) (mark : Mark) (offence : Offence)
     → Holds prefix opened children → BreaksBehind prefix [] own mark offence → may_break own opened children mark offence ≡ true
 here-breaks prefix opened children own mark offence h is =
     may_break-more own (is_open prefix) opened (λ test. some_unawaited test prefix) children h.groups h.unawaited mark offence
     (subst (λ p. may_break own (is_open p) (λ test. some_unawaited test p) mark offence ≡ true) (append-nil prefix) is)
 
 -- an offence among the touches of a statement
-touched-meets : (own : Declared) (opened : Cell → Bool) (children : Children) (k : ℕ) (uses : List Use) (prefix before later : List Step)
+touched-meets : (own : Declared) (opened : Openings) (children : Children) (k : ℕ) (uses : List Use) (prefix before later : List Step)
     (place : ℕ) (mark : Mark) (offence : Offence) → Holds prefix opened children → touched k uses ≡ before ++ At place mark ∷ later
     → BreaksBehind prefix before own mark offence
     → (place ≡ k) × (list_any (λ m. may_break own opened children m offence) (map Touch uses) ≡ true)
@@ -163,14 +171,14 @@ touched-meets own opened children k (u ∷ uses) prefix (b ∷ before) later pla
 
 -- ---- what stands on a path is met
 
-abbrev pub MeetsHere : Declared → (Cell → Bool) → Children → ℕ → S → ℕ → Offence → Type 0
+abbrev pub MeetsHere : Declared → Openings → Children → ℕ → S → ℕ → Offence → Type 0
 MeetsHere own opened children k x place offence = (place ≡ k) × (is_offence own opened children x offence ≡ true)
 
-pub nothing-breaks : (own : Declared) (o : Cell → Bool) (p : Children) (offence : Offence) → may_break own o p Await offence ≡ true → ⊥
+pub nothing-breaks : (own : Declared) (o : Openings) (p : Children) (offence : Offence) → may_break own o p Await offence ≡ true → ⊥
 nothing-breaks own o p ConflictsWithChild h = cc
 nothing-breaks own o p offence h = cc
 
-pub end-breaks : (own : Declared) (o : Cell → Bool) (p : Children) (offence : Offence) → may_break own o p Leave offence ≡ true → ⊥
+pub end-breaks : (own : Declared) (o : Openings) (p : Children) (offence : Offence) → may_break own o p Leave offence ≡ true → ⊥
 end-breaks own o p ConflictsWithChild h = cc
 end-breaks own o p offence h = cc
 
@@ -181,14 +189,14 @@ only s (b ∷ []) t later h = let e : [] ≡ t ∷ later = cc in cc
 only s (b ∷ c ∷ before) t later h = let e : [] ≡ c ∷ (before ++ t ∷ later) = cc in cc
 
 mutual
-  meets-from_one : (own : Declared) (opened : Cell → Bool) (children : Children) (k : ℕ) (x : S) (prefix before later : List Step)
+  meets-from_one : (own : Declared) (opened : Openings) (children : Children) (k : ℕ) (x : S) (prefix before later : List Step)
       (place : ℕ) (mark : Mark) (offence : Offence) → Holds prefix opened children → PassesOne k x (before ++ At place mark ∷ later)
       → BreaksBehind prefix before own mark offence → MeetsOne own opened children k x place offence
   meets-from_one own opened children k (Set c e) prefix before later place mark offence holds is h =
       let q = touched-meets own opened children k (touches (Set c e)) prefix before later place mark offence holds (sym is) h in
       inl (q.0, true_or _ _ q.1)
-  meets-from_one own opened children k (Add c e) prefix before later place mark offence holds is h =
-      let q = touched-meets own opened children k (touches (Add c e)) prefix before later place mark offence holds (sym is) h in
+  meets-from_one own opened children k (Fold o c e) prefix before later place mark offence holds is h =
+      let q = touched-meets own opened children k (touches (Fold o c e)) prefix before later place mark offence holds (sym is) h in
       inl (q.0, true_or _ _ q.1)
   meets-from_one own opened children k (If e a b) prefix before later place mark offence holds (inside, is, way) h =
       elim (append_split (touched k (touches (If e a b))) inside before (At place mark) later (sym is)) [
@@ -220,30 +228,30 @@ mutual
       let what : mark ≡ Await = cc in
       absurd (nothing-breaks own opened children offence (ap (λ m. may_break own opened children m offence) (sym what)
       ∙ here-breaks prefix opened children own mark offence holds (subst (λ b. BreaksBehind prefix b own mark offence) o.0 h)))
-  meets-from_one own opened children k (Group cs b) prefix [] later place mark offence holds (inside, is, way) h =
+  meets-from_one own opened children k (Group o cs b) prefix [] later place mark offence holds (inside, is, way) h =
       let at_place : k ≡ place = cc in
-      let what : Enter cs ≡ mark = cc in
+      let what : Enter o cs ≡ mark = cc in
       inl (
         sym at_place,
         true_or _ _ (true_or _ _ (ap (λ m. may_break own opened children m offence) what
             ∙ here-breaks prefix opened children own mark offence holds h)),
       )
-  meets-from_one own opened children k (Group cs b) prefix (s ∷ before) later place mark offence holds (inside, is, way) h =
-      let step : At k (Enter cs) ≡ s = cc in
+  meets-from_one own opened children k (Group o cs b) prefix (s ∷ before) later place mark offence holds (inside, is, way) h =
+      let step : At k (Enter o cs) ≡ s = cc in
       let rest : inside ++ At k Leave ∷ [] ≡ before ++ At place mark ∷ later = cc in
-      let moved : BreaksBehind (prefix ++ At k (Enter cs) ∷ []) before own mark offence =
-      behind-more prefix (At k (Enter cs) ∷ []) before own mark offence (subst (λ s. BreaksBehind prefix (s ∷ before) own mark offence) (sym step) h) in
-      let held = holds-entered prefix opened children k cs holds in
+      let moved : BreaksBehind (prefix ++ At k (Enter o cs) ∷ []) before own mark offence =
+      behind-more prefix (At k (Enter o cs) ∷ []) before own mark offence (subst (λ s. BreaksBehind prefix (s ∷ before) own mark offence) (sym step) h) in
+      let held = holds-entered prefix opened children k o cs holds in
       elim (append_split inside (At k Leave ∷ []) before (At place mark) later rest) [
-        | inl p ↦ inr (meets-from own (with_group opened cs) children (k + 1) b (prefix ++ At k (Enter cs) ∷ []) before p.0 place mark offence held
+        | inl p ↦ inr (meets-from own (with_group opened o cs) children (k + 1) b (prefix ++ At k (Enter o cs) ∷ []) before p.0 place mark offence held
             (subst (Passes (k + 1) b) p.1 way) moved)
         | inr p ↦
             let o = only (At k Leave) p.0 (At place mark) later p.2 in
             let what : mark ≡ Leave = cc in
-            absurd (end-breaks own (is_open ((prefix ++ At k (Enter cs) ∷ []) ++ before)) (λ test. some_unawaited test ((prefix ++ At k (Enter cs) ∷ []) ++ before)) offence (subst (λ m. BreaksBehind (prefix ++ At k (Enter cs) ∷ []) before own m offence) what moved))
+            absurd (end-breaks own (is_open ((prefix ++ At k (Enter o cs) ∷ []) ++ before)) (λ test. some_unawaited test ((prefix ++ At k (Enter o cs) ∷ []) ++ before)) offence (subst (λ m. BreaksBehind (prefix ++ At k (Enter o cs) ∷ []) before own m offence) what moved))
       ]
 
-  pub meets-from : (own : Declared) (opened : Cell → Bool) (children : Children) (k : ℕ) (b : Body) (prefix before later : List Step)
+  pub meets-from : (own : Declared) (opened : Openings) (children : Children) (k : ℕ) (b : Body) (prefix before later : List Step)
       (place : ℕ) (mark : Mark) (offence : Offence) → Holds prefix opened children → Passes k b (before ++ At place mark ∷ later)
       → BreaksBehind prefix before own mark offence → Meets own opened children k b place offence
   meets-from own opened children k End prefix [] later place mark offence holds is h = cc
@@ -257,7 +265,7 @@ mutual
       ]
 
 holds-nothing : Holds [] nothing_open nobody
-holds-nothing = record { groups = λ c. refl; unawaited = λ test h. h }
+holds-nothing = record { groups = λ o c. refl; unawaited = λ test h. h }
 
 pub meets-on_path : (k : ℕ) (b : Body) (own : Declared) (place : ℕ) (offence : Offence) → OnPath k b own place offence
     → Meets own nothing_open nobody k b place offence
@@ -275,10 +283,10 @@ there_someone (d ∷ children) h = λ e. cc
 
 -- so is what stands in a task
 mutual
-  meets-in_tasks_one : (own : Declared) (opened : Cell → Bool) (children : Children) (k : ℕ) (x : S) (place : ℕ) (offence : Offence)
+  meets-in_tasks_one : (own : Declared) (opened : Openings) (children : Children) (k : ℕ) (x : S) (place : ℕ) (offence : Offence)
       → InTasksOfOne k x place offence → MeetsOne own opened children k x place offence
   meets-in_tasks_one own opened children k (Set c e) place offence h = absurd h
-  meets-in_tasks_one own opened children k (Add c e) place offence h = absurd h
+  meets-in_tasks_one own opened children k (Fold o c e) place offence h = absurd h
   meets-in_tasks_one own opened children k (If e a b) place offence (inl h) = inr (inl (meets-in_tasks own opened children (k + 1) a place offence h))
   meets-in_tasks_one own opened children k (If e a b) place offence (inr h) = inr (inr (meets-in_tasks own opened children (k + 1 + size a) b place offence h))
   meets-in_tasks_one own opened children k (Task d b) place offence (inl (here, is, left)) =
@@ -287,9 +295,9 @@ mutual
   meets-in_tasks_one own opened children k (Task d b) place offence (inr (inl h)) = inr (meets-on_path (k + 1) b (Some d) place offence h)
   meets-in_tasks_one own opened children k (Task d b) place offence (inr (inr h)) = inr (meets-in_tasks (Some d) nothing_open nobody (k + 1) b place offence h)
   meets-in_tasks_one own opened children k Wait place offence h = absurd h
-  meets-in_tasks_one own opened children k (Group cs b) place offence h = inr (meets-in_tasks own (with_group opened cs) children (k + 1) b place offence h)
+  meets-in_tasks_one own opened children k (Group o cs b) place offence h = inr (meets-in_tasks own (with_group opened o cs) children (k + 1) b place offence h)
 
-  pub meets-in_tasks : (own : Declared) (opened : Cell → Bool) (children : Children) (k : ℕ) (b : Body) (place : ℕ) (offence : Offence)
+  pub meets-in_tasks : (own : Declared) (opened : Openings) (children : Children) (k : ℕ) (b : Body) (place : ℕ) (offence : Offence)
       → InTasks k b place offence → Meets own opened children k b place offence
   meets-in_tasks own opened children k End place offence h = absurd h
   meets-in_tasks own opened children k (Next x rest) place offence (inl h) = inl (meets-in_tasks_one own opened children k x place offence h)

@@ -4,11 +4,14 @@ use Rattle.std.specs.Prelude.{Option, Some, None, IsSome, slice_get, option_map,
 use Rattle.std.proofs.lemmas.Bool.{cases_eq}
 use Rattle.std.proofs.lemmas.Option.{slice_get-map, slice_get_within}
 use Rattle.ot_model.specs.Cells.{same_cell}
+use Rattle.ot_model.specs.Uses.{number_of, same_fold}
 use Rattle.ot_model.specs.declared.expr.Cell.{Cell}
+use Rattle.ot_model.specs.declared.fold.Fold.{Fold as Operation}
 use Rattle.ot_check.specs.walk.Grids.{found_at, filled, widths}
 use Rattle.ot_check.specs.walk.Rows.{users_of, users_of_row, users_in, HaveRows}
 use Rattle.ot_check.specs.walk.Bits.{bit_in, has}
-use Rattle.ot_check.specs.walk.States.{row_has, users_at}
+use Rattle.ot_check.specs.walk.States.{holds, row_has, rows_of, set_has, users_at}
+use Rattle.ot_check.specs.declared.cell_set.CellSet.{CellSet}
 use Rattle.ot_check.specs.declared.numbers.Numbers.{Numbers}
 use Rattle.ot_check.specs.declared.users.Row.{Row}
 use Rattle.ot_check.proofs.SameLemmas.{eq_itself, eq_apart, cells_equal}
@@ -199,9 +202,36 @@ row_has-insert rows cell c row new there inserted =
       | inr apart ↦ eq_apart n m apart ∙ sym (eq_apart m n (λ e. apart (sym e)))
     ]
 
--- a row that is there
-pub words-read : (rows : List Numbers) (i : ℕ) (row : Numbers) → i < length rows → row ≡ get_or rows i row
-    → slice_get (map (λ row. row.words.items) rows) i ≡ Some row.words.items
-words-read [] i row l is = absurd (omega (arith, l))
-words-read (r ∷ rows) zero row l is = ap (λ r. Some r.words.items) (sym is)
-words-read (r ∷ rows) (suc i) row l is = words-read rows i row (omega (arith, l)) is
+-- what a list has, seen by a function
+pub map-read : {A B : Type 0} (f : A → B) (xs : List A) (i : ℕ) (x : A) → i < length xs → x ≡ get_or xs i x → slice_get (map f xs) i ≡ Some (f x)
+map-read f [] i x l is = absurd (omega (arith, l))
+map-read f (y ∷ xs) zero x l is = ap (λ y. Some (f y)) (sym is)
+map-read f (y ∷ xs) (suc i) x l is = map-read f xs i x (omega (arith, l)) is
+
+-- ---- sets of cells
+
+-- an empty set more
+pub set-pushed : (sets : List CellSet) (set : CellSet) (n : ℕ) (c : Cell) → ((c : Cell) → holds set c ≡ false)
+    → set_has (slice_get (map rows_of (sets ++ set ∷ [])) n) c ≡ set_has (slice_get (map rows_of sets) n) c
+set-pushed [] set zero c none = none c
+set-pushed [] set (suc n) c none = refl
+set-pushed (s ∷ sets) set zero c none = refl
+set-pushed (s ∷ sets) set (suc n) c none = set-pushed sets set n c none
+
+-- a group's cells in the set of its operation
+pub set-entered : (sets : List (List (List ℕ))) (place : ℕ) (op o : Operation) (old new : List (List ℕ)) (c : Cell) (named : Bool) → place ≡ number_of op
+    → slice_get sets place ≡ Some old → set_has (Some new) c ≡ (set_has (Some old) c || named)
+    → set_has (slice_get (set sets place new) (number_of o)) c ≡ (set_has (slice_get sets (number_of o)) c || (same_fold op o && named))
+set-entered sets place op o old new c named is there entered =
+    elim (cases_eq place (number_of o)) [
+      | inl e ↦
+          ap (λ n. set_has (slice_get (set sets place new) n) c) (sym e)
+          ∙ ap (λ s. set_has s c) (slice_get-set_same sets place new (subst IsSome (sym there) refl))
+          ∙ entered ∙ ap (λ s. set_has s c || named) (sym there) ∙ ap (λ n. set_has (slice_get sets n) c || named) e
+          ∙ ap (λ b. set_has (slice_get sets (number_of o)) c || (b && named))
+          (sym (ap (λ n. n == number_of o) (sym is) ∙ ap (λ n. place == n) (sym e) ∙ eq_itself place))
+      | inr apart ↦
+          ap (λ s. set_has s c) (slice_get-set_other sets place (number_of o) new apart)
+          ∙ no_bit (set_has (slice_get sets (number_of o)) c)
+          ∙ ap (λ b. set_has (slice_get sets (number_of o)) c || (b && named)) (sym (ap (λ n. n == number_of o) (sym is) ∙ eq_apart place (number_of o) apart))
+    ]

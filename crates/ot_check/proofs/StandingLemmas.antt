@@ -9,10 +9,11 @@ use Rattle.std.proofs.lemmas.List.Folds.{list_any-append, list_any_more, list_an
 use Rattle.std.proofs.lemmas.List.Elements.{All-get_or}
 use Rattle.ot_model.specs.Names.{IsInShape}
 use Rattle.ot_model.specs.declared.expr.Cell.{Cell}
+use Rattle.ot_model.specs.declared.fold.Fold.{Fold as Operation}
 use Rattle.ot_model.specs.declared.stmt.Mode.TheVariants.{Writes}
 use Rattle.ot_model.specs.declared.stmt.Use.{Use}
 use Rattle.ot_check.specs.Paths.{Enter, use_as}
-use Rattle.ot_check.specs.Offences.{Declared, allows, clashes}
+use Rattle.ot_check.specs.Offences.{Declared, Openings, allows, clashes, opened_by_any}
 use Rattle.ot_check.specs.walk.Walk.{Children, may_break}
 use Rattle.ot_check.specs.declared.fault.Offence.{Offence}
 use Rattle.ot_check.specs.declared.fault.Offence.TheVariants.{NotDeclared, ChildBeyond, ReductionMisuse, ConflictsWithChild, EndsWithChildren}
@@ -73,16 +74,16 @@ any-none test list whole i same l none = sym none ∙ ap (list_any test) (taken 
 -- ---- a group's cells one by one
 
 -- whether a group of this cell alone is the offence
-abbrev pub alone : Declared → (Cell → Bool) → Children → Offence → Cell → Bool
-alone own opened children offence c = may_break own opened children (Enter (c ∷ [])) offence
+abbrev pub alone : Declared → Openings → Children → Operation → Offence → Cell → Bool
+alone own opened children op offence c = may_break own opened children (Enter op (c ∷ [])) offence
 
-pub one_by_one : (own : Declared) (opened : Cell → Bool) (children : Children) (cells : List Cell) (offence : Offence)
-    → may_break own opened children (Enter cells) offence ≡ list_any (alone own opened children offence) cells
-one_by_one own opened children cells NotDeclared = none_any cells
-one_by_one own opened children cells ChildBeyond = none_any cells
-one_by_one own opened children cells ReductionMisuse = any-same _ _ cells (λ c. sym (or_none (not (allows own (use_as Writes c)) || opened c)))
-one_by_one own opened children cells ConflictsWithChild = any-same _ _ cells (λ c. sym (or_none (children (clashes (use_as Writes c)))))
-one_by_one own opened children cells EndsWithChildren = none_any cells
+pub one_by_one : (own : Declared) (opened : Openings) (children : Children) (op : Operation) (cells : List Cell) (offence : Offence)
+    → may_break own opened children (Enter op cells) offence ≡ list_any (alone own opened children op offence) cells
+one_by_one own opened children op cells NotDeclared = none_any cells
+one_by_one own opened children op cells ChildBeyond = none_any cells
+one_by_one own opened children op cells ReductionMisuse = any-same _ _ cells (λ c. sym (or_none (not (allows own (use_as Writes c)) || opened_by_any opened c)))
+one_by_one own opened children op cells ConflictsWithChild = any-same _ _ cells (λ c. sym (or_none (children (clashes (use_as Writes c)))))
+one_by_one own opened children op cells EndsWithChildren = none_any cells
 
 -- ---- what one list or the other has
 

@@ -3,9 +3,11 @@ use Rattle.std.proofs.Common.{◌≡◌, ℕ, zero, suc, ◌+◌, ◌++◌, Bool
 use Rattle.std.specs.List.{list_any}
 use Rattle.std.specs.Prelude.{if◌then◌else◌}
 use Rattle.std.proofs.lemmas.List.Folds.{list_any-append}
-use Rattle.ot_model.specs.Tree.{S, Set, Add, If, Task, Wait, Group, Body, End, Next}
+use Rattle.ot_model.specs.Tree.{S, Set, Fold, If, Task, Wait, Group, Body, End, Next}
 use Rattle.ot_model.specs.Counts.{size, size_one}
+use Rattle.ot_model.specs.Uses.{same_fold}
 use Rattle.ot_model.specs.declared.expr.Cell.{Cell}
+use Rattle.ot_model.specs.declared.fold.Fold.{Fold as Operation}
 use Rattle.ot_model.specs.declared.stmt.Use.{Use}
 use Rattle.ot_check.specs.Paths.{Touch, Create, Await, Enter, Leave, Step, At, touched, touches, PassesOne, Passes}
 use Rattle.ot_check.specs.Offences.{stays_within, is_wait, has_wait, unawaited, is_open, has_cell}
@@ -27,7 +29,7 @@ within-closed [] closed h n = h n
 within-closed (At k (Touch u) ∷ path) closed h n = within-closed path closed h n
 within-closed (At k (Create d) ∷ path) closed h n = within-closed path closed h n
 within-closed (At k Await ∷ path) closed h n = within-closed path closed h n
-within-closed (At k (Enter cs) ∷ path) closed h n = within-closed path closed h (suc n)
+within-closed (At k (Enter o cs) ∷ path) closed h n = within-closed path closed h (suc n)
 within-closed (At k Leave ∷ path) closed h zero = refl
 within-closed (At k Leave ∷ path) closed h (suc n) = within-closed path closed h n
 
@@ -75,19 +77,19 @@ unawaited-append test (At k (Create d) ∷ path) closed h =
     ∙ bits-unawaited (test d) (stays_within 0 path) (has_wait path) (has_wait closed) (some_unawaited test path) (some_unawaited test closed)
     ∙ ap (λ b. (b && not (has_wait closed)) || some_unawaited test closed) (sym (unawaited-created test k d path))
 unawaited-append test (At k Await ∷ path) closed h = unawaited-append test path closed h
-unawaited-append test (At k (Enter cs) ∷ path) closed h = unawaited-append test path closed h
+unawaited-append test (At k (Enter o cs) ∷ path) closed h = unawaited-append test path closed h
 unawaited-append test (At k Leave ∷ path) closed h = unawaited-append test path closed h
 
-pub open-append : (c : Cell) (path closed : List Step) → IsClosed closed → is_open (path ++ closed) c ≡ (is_open path c || is_open closed c)
-open-append c [] closed h = refl
-open-append c (At k (Touch u) ∷ path) closed h = open-append c path closed h
-open-append c (At k (Create d) ∷ path) closed h = open-append c path closed h
-open-append c (At k Await ∷ path) closed h = open-append c path closed h
-open-append c (At k (Enter cs) ∷ path) closed h =
-    ap (λ w. (has_cell cs c && w) || is_open (path ++ closed) c) (within-closed path closed h 0)
-    ∙ ap (λ b. (has_cell cs c && stays_within 0 path) || b) (open-append c path closed h)
-    ∙ bits-open (has_cell cs c) (stays_within 0 path) (is_open path c) (is_open closed c)
-open-append c (At k Leave ∷ path) closed h = open-append c path closed h
+pub open-append : (o : Operation) (c : Cell) (path closed : List Step) → IsClosed closed → is_open (path ++ closed) o c ≡ (is_open path o c || is_open closed o c)
+open-append o c [] closed h = refl
+open-append o c (At k (Touch u) ∷ path) closed h = open-append o c path closed h
+open-append o c (At k (Create d) ∷ path) closed h = open-append o c path closed h
+open-append o c (At k Await ∷ path) closed h = open-append o c path closed h
+open-append o c (At k (Enter by cs) ∷ path) closed h =
+    ap (λ w. ((same_fold by o && has_cell cs c) && w) || is_open (path ++ closed) o c) (within-closed path closed h 0)
+    ∙ ap (λ b. ((same_fold by o && has_cell cs c) && stays_within 0 path) || b) (open-append o c path closed h)
+    ∙ bits-open (same_fold by o && has_cell cs c) (stays_within 0 path) (is_open path o c) (is_open closed o c)
+open-append o c (At k Leave ∷ path) closed h = open-append o c path closed h
 
 -- ---- touches
 
@@ -104,9 +106,9 @@ pub touched-unawaited : (test : List Use → Bool) (k : ℕ) (uses : List Use) (
 touched-unawaited test k [] later = refl
 touched-unawaited test k (u ∷ uses) later = touched-unawaited test k uses later
 
-pub touched-open : (c : Cell) (k : ℕ) (uses : List Use) (later : List Step) → is_open (touched k uses ++ later) c ≡ is_open later c
-touched-open c k [] later = refl
-touched-open c k (u ∷ uses) later = touched-open c k uses later
+pub touched-open : (o : Operation) (c : Cell) (k : ℕ) (uses : List Use) (later : List Step) → is_open (touched k uses ++ later) o c ≡ is_open later o c
+touched-open o c k [] later = refl
+touched-open o c k (u ∷ uses) later = touched-open o c k uses later
 
 -- ---- paths
 
@@ -116,14 +118,14 @@ both-balanced one later h g n end = ap (stays_within n) (append_assoc one later 
 mutual
   pub passes_one-balanced : (k : ℕ) (x : S) (path : List Step) → PassesOne k x path → IsBalanced path
   passes_one-balanced k (Set c e) path is = subst IsBalanced (sym is) (touched-balanced k (touches (Set c e)))
-  passes_one-balanced k (Add c e) path is = subst IsBalanced (sym is) (touched-balanced k (touches (Add c e)))
+  passes_one-balanced k (Fold o c e) path is = subst IsBalanced (sym is) (touched-balanced k (touches (Fold o c e)))
   passes_one-balanced k (If e a b) path (inside, is, inl h) =
       subst IsBalanced (sym is) (both-balanced (touched k (touches (If e a b))) inside (touched-balanced k (touches (If e a b))) (passes-balanced (k + 1) a inside h))
   passes_one-balanced k (If e a b) path (inside, is, inr h) =
       subst IsBalanced (sym is) (both-balanced (touched k (touches (If e a b))) inside (touched-balanced k (touches (If e a b))) (passes-balanced (k + 1 + size a) b inside h))
   passes_one-balanced k (Task d b) path is = subst IsBalanced (sym is) (λ n later. refl)
   passes_one-balanced k Wait path is = subst IsBalanced (sym is) (λ n later. refl)
-  passes_one-balanced k (Group cs b) path (inside, is, h) =
+  passes_one-balanced k (Group o cs b) path (inside, is, h) =
       subst IsBalanced (sym is) (λ n later. ap (stays_within (suc n)) (append_assoc inside (At k Leave ∷ []) later)
       ∙ passes-balanced (k + 1) b inside h (suc n) (At k Leave ∷ later))
 
@@ -144,8 +146,8 @@ mutual
       → stays_within 0 later ≡ false → some_unawaited test (path ++ later) ≡ some_unawaited test later
   unawaited-left_one test k (Set c e) path is later left =
       subst (λ p. some_unawaited test (p ++ later) ≡ some_unawaited test later) (sym is) (touched-unawaited test k (touches (Set c e)) later)
-  unawaited-left_one test k (Add c e) path is later left =
-      subst (λ p. some_unawaited test (p ++ later) ≡ some_unawaited test later) (sym is) (touched-unawaited test k (touches (Add c e)) later)
+  unawaited-left_one test k (Fold o c e) path is later left =
+      subst (λ p. some_unawaited test (p ++ later) ≡ some_unawaited test later) (sym is) (touched-unawaited test k (touches (Fold o c e)) later)
   unawaited-left_one test k (If e a b) path (inside, is, inl h) later left =
       subst (λ p. some_unawaited test (p ++ later) ≡ some_unawaited test later) (sym is)
       (ap (some_unawaited test) (append_assoc (touched k (touches (If e a b))) inside later)
@@ -159,7 +161,7 @@ mutual
       (unawaited-created test k d later
       ∙ ap (λ w. (test d && (w && not (has_wait later))) || some_unawaited test later) left ∙ bits-out (test d) (some_unawaited test later))
   unawaited-left_one test k Wait path is later left = subst (λ p. some_unawaited test (p ++ later) ≡ some_unawaited test later) (sym is) refl
-  unawaited-left_one test k (Group cs b) path (inside, is, h) later left =
+  unawaited-left_one test k (Group o cs b) path (inside, is, h) later left =
       subst (λ p. some_unawaited test (p ++ later) ≡ some_unawaited test later) (sym is)
       (ap (some_unawaited test) (append_assoc inside (At k Leave ∷ []) later) ∙ unawaited-left test (k + 1) b inside h (At k Leave ∷ later) refl)
 
@@ -173,38 +175,38 @@ mutual
       ∙ unawaited-left test (k + size_one x) rest behind g later left)
 
 -- none behind a group was made in it
-pub unawaited-group : (test : List Use → Bool) (k : ℕ) (cs : List Cell) (b : Body) (inside : List Step) → Passes (k + 1) b inside
-    → some_unawaited test (At k (Enter cs) ∷ (inside ++ At k Leave ∷ [])) ≡ false
-unawaited-group test k cs b inside h = unawaited-left test (k + 1) b inside h (At k Leave ∷ []) refl
+pub unawaited-group : (test : List Use → Bool) (k : ℕ) (o : Operation) (cs : List Cell) (b : Body) (inside : List Step) → Passes (k + 1) b inside
+    → some_unawaited test (At k (Enter o cs) ∷ (inside ++ At k Leave ∷ [])) ≡ false
+unawaited-group test k o cs b inside h = unawaited-left test (k + 1) b inside h (At k Leave ∷ []) refl
 
 -- a path leaves no group open
 mutual
-  pub passes_one-open : (c : Cell) (k : ℕ) (x : S) (path : List Step) → PassesOne k x path → (later : List Step)
-      → is_open (path ++ later) c ≡ is_open later c
-  passes_one-open c k (Set d e) path is later =
-      subst (λ p. is_open (p ++ later) c ≡ is_open later c) (sym is) (touched-open c k (touches (Set d e)) later)
-  passes_one-open c k (Add d e) path is later =
-      subst (λ p. is_open (p ++ later) c ≡ is_open later c) (sym is) (touched-open c k (touches (Add d e)) later)
-  passes_one-open c k (If e a b) path (inside, is, inl h) later =
-      subst (λ p. is_open (p ++ later) c ≡ is_open later c) (sym is)
-      (ap (λ p. is_open p c) (append_assoc (touched k (touches (If e a b))) inside later)
-      ∙ touched-open c k (touches (If e a b)) (inside ++ later) ∙ passes-open c (k + 1) a inside h later)
-  passes_one-open c k (If e a b) path (inside, is, inr h) later =
-      subst (λ p. is_open (p ++ later) c ≡ is_open later c) (sym is)
-      (ap (λ p. is_open p c) (append_assoc (touched k (touches (If e a b))) inside later)
-      ∙ touched-open c k (touches (If e a b)) (inside ++ later) ∙ passes-open c (k + 1 + size a) b inside h later)
-  passes_one-open c k (Task d b) path is later = subst (λ p. is_open (p ++ later) c ≡ is_open later c) (sym is) refl
-  passes_one-open c k Wait path is later = subst (λ p. is_open (p ++ later) c ≡ is_open later c) (sym is) refl
-  passes_one-open c k (Group cs b) path (inside, is, h) later =
-      subst (λ p. is_open (p ++ later) c ≡ is_open later c) (sym is)
-      (ap (λ p. (has_cell cs c && stays_within 0 p) || is_open p c) (append_assoc inside (At k Leave ∷ []) later)
-      ∙ ap (λ w. (has_cell cs c && w) || is_open (inside ++ At k Leave ∷ later) c) (passes-balanced (k + 1) b inside h 0 (At k Leave ∷ later))
-      ∙ bits-out (has_cell cs c) (is_open (inside ++ At k Leave ∷ later) c)
-      ∙ passes-open c (k + 1) b inside h (At k Leave ∷ later))
+  pub passes_one-open : (o : Operation) (c : Cell) (k : ℕ) (x : S) (path : List Step) → PassesOne k x path → (later : List Step)
+      → is_open (path ++ later) o c ≡ is_open later o c
+  passes_one-open o c k (Set d e) path is later =
+      subst (λ p. is_open (p ++ later) o c ≡ is_open later o c) (sym is) (touched-open o c k (touches (Set d e)) later)
+  passes_one-open o c k (Fold by d e) path is later =
+      subst (λ p. is_open (p ++ later) o c ≡ is_open later o c) (sym is) (touched-open o c k (touches (Fold by d e)) later)
+  passes_one-open o c k (If e a b) path (inside, is, inl h) later =
+      subst (λ p. is_open (p ++ later) o c ≡ is_open later o c) (sym is)
+      (ap (λ p. is_open p o c) (append_assoc (touched k (touches (If e a b))) inside later)
+      ∙ touched-open o c k (touches (If e a b)) (inside ++ later) ∙ passes-open o c (k + 1) a inside h later)
+  passes_one-open o c k (If e a b) path (inside, is, inr h) later =
+      subst (λ p. is_open (p ++ later) o c ≡ is_open later o c) (sym is)
+      (ap (λ p. is_open p o c) (append_assoc (touched k (touches (If e a b))) inside later)
+      ∙ touched-open o c k (touches (If e a b)) (inside ++ later) ∙ passes-open o c (k + 1 + size a) b inside h later)
+  passes_one-open o c k (Task d b) path is later = subst (λ p. is_open (p ++ later) o c ≡ is_open later o c) (sym is) refl
+  passes_one-open o c k Wait path is later = subst (λ p. is_open (p ++ later) o c ≡ is_open later o c) (sym is) refl
+  passes_one-open o c k (Group by cs b) path (inside, is, h) later =
+      subst (λ p. is_open (p ++ later) o c ≡ is_open later o c) (sym is)
+      (ap (λ p. ((same_fold by o && has_cell cs c) && stays_within 0 p) || is_open p o c) (append_assoc inside (At k Leave ∷ []) later)
+      ∙ ap (λ w. ((same_fold by o && has_cell cs c) && w) || is_open (inside ++ At k Leave ∷ later) o c) (passes-balanced (k + 1) b inside h 0 (At k Leave ∷ later))
+      ∙ bits-out (same_fold by o && has_cell cs c) (is_open (inside ++ At k Leave ∷ later) o c)
+      ∙ passes-open o c (k + 1) b inside h (At k Leave ∷ later))
 
-  pub passes-open : (c : Cell) (k : ℕ) (b : Body) (path : List Step) → Passes k b path → (later : List Step)
-      → is_open (path ++ later) c ≡ is_open later c
-  passes-open c k End path is later = subst (λ p. is_open (p ++ later) c ≡ is_open later c) (sym is) refl
-  passes-open c k (Next x rest) path (one, behind, is, h, g) later =
-      subst (λ p. is_open (p ++ later) c ≡ is_open later c) (sym is)
-      (ap (λ p. is_open p c) (append_assoc one behind later) ∙ passes_one-open c k x one h (behind ++ later) ∙ passes-open c (k + size_one x) rest behind g later)
+  pub passes-open : (o : Operation) (c : Cell) (k : ℕ) (b : Body) (path : List Step) → Passes k b path → (later : List Step)
+      → is_open (path ++ later) o c ≡ is_open later o c
+  passes-open o c k End path is later = subst (λ p. is_open (p ++ later) o c ≡ is_open later o c) (sym is) refl
+  passes-open o c k (Next x rest) path (one, behind, is, h, g) later =
+      subst (λ p. is_open (p ++ later) o c ≡ is_open later o c) (sym is)
+      (ap (λ p. is_open p o c) (append_assoc one behind later) ∙ passes_one-open o c k x one h (behind ++ later) ∙ passes-open o c (k + size_one x) rest behind g later)

@@ -5,7 +5,7 @@ use Rattle.std.specs.Option.{option_or}
 use Rattle.std.proofs.lemmas.Result.{err_from_is_err_and}
 use Rattle.ot_model.specs.Tree.{S, Body}
 use Rattle.ot_model.specs.declared.expr.Cell.{Cell}
-use Rattle.ot_check.specs.Offences.{Declared, Offends, IsFirstOf}
+use Rattle.ot_check.specs.Offences.{Declared, Openings, Offends, IsFirstOf}
 use Rattle.ot_check.specs.Codes.{TellsFirst}
 use Rattle.ot_check.specs.walk.Walk.{Children, nobody, nothing_open, first, first_one, first_inside, leading, is_offence, placed}
 use Rattle.ot_check.specs.walk.Told.{IsTold}
@@ -24,7 +24,7 @@ pub told-right : {A : Type 0} (f g : Option (ℕ × Offence)) (r : Result A Chec
 told-right f g r none h = subst (λ f. IsTold f r) (sym (ap (λ f. option_or f g) none)) h
 
 -- a statement without an offence of its own
-pub told-inside : {A : Type 0} (own : Declared) (opened : Cell → Bool) (children : Children) (k : ℕ) (x y : S) (o : Option Offence) (r : Result A CheckFault)
+pub told-inside : {A : Type 0} (own : Declared) (opened : Openings) (children : Children) (k : ℕ) (x y : S) (o : Option Offence) (r : Result A CheckFault)
     → x ≡ y → o ≡ leading (is_offence own opened children x) → o ≡ None → IsTold (first_inside own opened children k y) r
     → IsTold (first_one own opened children k x) r
 told-inside own opened children k x y o r same is none h =

@@ -1,28 +1,30 @@
 -- What a statement touches, where it is no offence: what its body may touch, no cell of an open group, and nothing that a
 -- child may use otherwise.
-use Rattle.std.proofs.Common.{◌≡◌, ◌<◌, ℕ, zero, suc, ◌+◌, ◌%◌, Bool, true, false, ◌&&◌, ◌||◌, List, [], ◌∷◌, map, sym, ap, ◌∙◌, inl, inr, refl, arith}
+use Rattle.std.proofs.Common.{◌≡◌, ◌<◌, ℕ, zero, suc, ◌+◌, ◌%◌, Bool, true, false, not, subst, ◌&&◌, ◌||◌, List, [], ◌∷◌, map, sym, ap, ◌∙◌, inl, inr, refl, arith}
 use Rattle.std.specs.Prelude.{Some}
 use Rattle.std.specs.List.{list_any, range_with_len}
 use Rattle.std.proofs.Math.Nat.{mod-lt}
 use Rattle.std.proofs.lemmas.List.Folds.{list_any-append}
-use Rattle.ot_model.specs.Tree.{E, Literal, CellAt, Apply, PickFrom, Set, Add, If, Task, Wait, Group, Body, End, Next, append}
+use Rattle.ot_model.specs.Tree.{E, Literal, CellAt, Apply, PickFrom, Set, Fold, If, Task, Wait, Group, Body, End, Next, append}
 use Rattle.ot_model.specs.Cells.{same_cell}
 use Rattle.ot_model.specs.Value.{cell_at, cells_of, cells_named}
 use Rattle.ot_model.specs.Names.{NamedIn, ValueNamedIn}
-use Rattle.ot_model.specs.Uses.{conflicts}
+use Rattle.ot_model.specs.Uses.{conflicts, same_fold}
 use Rattle.ot_model.specs.declared.expr.Cell.{Cell}
+use Rattle.ot_model.specs.declared.fold.Fold.{Fold as Operation}
 use Rattle.ot_model.specs.declared.stmt.Mode.{Mode}
-use Rattle.ot_model.specs.declared.stmt.Mode.TheVariants.{Reads, Writes, Adds}
+use Rattle.ot_model.specs.declared.stmt.Mode.TheVariants.{Reads, Writes, Folds}
 use Rattle.ot_model.specs.declared.stmt.Use.{Use}
 use Rattle.ot_check.specs.Paths.{Touch, use_as}
-use Rattle.ot_check.specs.Offences.{Declared, allows, covers, clashes}
+use Rattle.ot_check.specs.Offences.{Declared, Openings, allows, covers, clashes}
 use Rattle.ot_check.specs.Touches.{EachRead, EachTouch, Agree}
 use Rattle.ot_check.specs.walk.Walk.{Children, may_break}
 use Rattle.ot_check.specs.walk.Fine.{IsFine, IsHarmless, AreAssigns}
 use Rattle.ot_check.specs.declared.fault.Offence.{Offence}
-use Rattle.ot_check.proofs.Bits.{or_true, and_left, and_right, or_false_left, or_false_right}
+use Rattle.ot_model.proofs.EqualLemmas.{fold-decides}
+use Rattle.ot_check.proofs.Bits.{or_true, and_left, and_right, or_false_left, or_false_right, not_false}
 use Rattle.ot_check.proofs.SameLemmas.{same_itself, same_is}
-use Rattle.ot_check.proofs.OffenceLemmas.{reading, is_offence-Set, is_offence-Add, is_offence-If}
+use Rattle.ot_check.proofs.OffenceLemmas.{reading, is_offence-Set, is_offence-Fold, is_offence-If}
 
 -- ---- reads
 
@@ -58,14 +60,14 @@ read-each P (PickFrom s e) h = (λ k i. (h i).0 k, read-each P e (λ i. (h i).1)
 
 -- ---- touches
 
-reads_harmless : (lens : List ℕ) (own : Declared) (opened : Cell → Bool) (children : Children) (e : E) → ValueNamedIn lens e
+reads_harmless : (lens : List ℕ) (own : Declared) (opened : Openings) (children : Children) (e : E) → ValueNamedIn lens e
     → ((offence : Offence) → reading own opened children offence (cells_named e) ≡ false) → EachRead (λ c. IsHarmless own opened children (use_as Reads c)) e
 reads_harmless lens own opened children e named h =
     read-each (λ offence c. may_break own opened children (Touch (use_as Reads c)) offence ≡ false) e
     (λ offence. reads_none (λ c. may_break own opened children (Touch (use_as Reads c)) offence) lens e named (h offence))
 
--- the sets and adds that come first
-pub harmless : (lens : List ℕ) (own : Declared) (opened : Cell → Bool) (children : Children) (piece rest : Body) → AreAssigns piece → NamedIn lens piece
+-- the sets and folds that come first
+pub harmless : (lens : List ℕ) (own : Declared) (opened : Openings) (children : Children) (piece rest : Body) → AreAssigns piece → NamedIn lens piece
     → IsFine own opened children (append piece rest) → EachTouch (IsHarmless own opened children) piece
 harmless lens own opened children End rest only named h = tt
 harmless lens own opened children (Next (Set c e) more) rest only named h =
@@ -77,9 +79,9 @@ harmless lens own opened children (Next (Set c e) more) rest only named h =
       ),
       harmless lens own opened children more rest only named.1 h.2,
     )
-harmless lens own opened children (Next (Add c e) more) rest only named h =
-    let both : (offence : Offence) → (reading own opened children offence (cells_named e) || may_break own opened children (Touch (use_as Adds c)) offence) ≡ false =
-    λ offence. sym (is_offence-Add own opened children c e offence) ∙ h.0 offence in (
+harmless lens own opened children (Next (Fold o c e) more) rest only named h =
+    let both : (offence : Offence) → (reading own opened children offence (cells_named e) || may_break own opened children (Touch (use_as (Folds o) c)) offence) ≡ false =
+    λ offence. sym (is_offence-Fold own opened children o c e offence) ∙ h.0 offence in (
       (
         reads_harmless lens own opened children e named.0.1 (λ offence. or_false_left _ _ (both offence)),
         λ offence. or_false_right _ _ (both offence),
@@ -89,30 +91,33 @@ harmless lens own opened children (Next (Add c e) more) rest only named h =
 harmless lens own opened children (Next (If e a b) more) rest only named h = absurd only
 harmless lens own opened children (Next (Task d b) more) rest only named h = absurd only
 harmless lens own opened children (Next Wait more) rest only named h = absurd only
-harmless lens own opened children (Next (Group cs b) more) rest only named h = absurd only
+harmless lens own opened children (Next (Group o cs b) more) rest only named h = absurd only
 
 -- the condition of an `if` that comes next
-pub harmless_if : (lens : List ℕ) (own : Declared) (opened : Cell → Bool) (children : Children) (e : E) (a b rest : Body) → ValueNamedIn lens e
+pub harmless_if : (lens : List ℕ) (own : Declared) (opened : Openings) (children : Children) (e : E) (a b rest : Body) → ValueNamedIn lens e
     → IsFine own opened children (Next (If e a b) rest) → EachTouch (IsHarmless own opened children) (Next (If e End End) End)
 harmless_if lens own opened children e a b rest named h =
     ((reads_harmless lens own opened children e named (λ offence. sym (is_offence-If own opened children e a b offence) ∙ h.0 offence), tt, tt), tt)
 
 -- ---- who doesn't clash agrees
 
+turned : (o p : Operation) → not (same_fold o p) ≡ false → not (same_fold p o) ≡ false
+turned o p h = ap not ((fold-decides p o).1 (sym ((fold-decides o p).0 (not_false (same_fold o p) h))))
+
 modes_agree : (declared one two : Mode) → covers declared two ≡ true → conflicts declared one ≡ false → conflicts one two ≡ false
 modes_agree Writes Reads two cov none = cc
 modes_agree Writes Writes two cov none = cc
-modes_agree Writes Adds two cov none = cc
+modes_agree Writes (Folds p) two cov none = cc
 modes_agree Reads Reads Reads cov none = refl
 modes_agree Reads Reads Writes cov none = cc
-modes_agree Reads Reads Adds cov none = cc
+modes_agree Reads Reads (Folds q) cov none = cc
 modes_agree Reads Writes two cov none = cc
-modes_agree Reads Adds two cov none = cc
-modes_agree Adds Adds Adds cov none = refl
-modes_agree Adds Adds Writes cov none = cc
-modes_agree Adds Adds Reads cov none = cc
-modes_agree Adds Reads two cov none = cc
-modes_agree Adds Writes two cov none = cc
+modes_agree Reads (Folds p) two cov none = cc
+modes_agree (Folds o) (Folds p) (Folds q) cov none = subst (λ q. not (same_fold p q) ≡ false) ((fold-decides o q).0 cov) (turned o p none)
+modes_agree (Folds o) (Folds p) Writes cov none = cc
+modes_agree (Folds o) (Folds p) Reads cov none = cc
+modes_agree (Folds o) Reads two cov none = cc
+modes_agree (Folds o) Writes two cov none = cc
 
 second_false : (a b : Bool) → a ≡ true → (a && b) ≡ false → b ≡ false
 second_false true b h none = none

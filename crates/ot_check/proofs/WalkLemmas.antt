@@ -1,10 +1,11 @@
 -- Steps of the walk.
 use Rattle.std.proofs.Common.{◌≡◌, ◌<◌, ◌≤◌, ℕ, ◌+◌, List, Vec, Global, drop, length, get_or, sym, ap, subst, ◌∙◌, IfOk, OnOk, Ok, Err, Result, rules, arith}
 use Rattle.ot_model.specs.Counts.{size_one}
-use Rattle.ot_model.specs.Tree.{S, Set, Add, If, Task, Wait, Group, End, Next}
+use Rattle.ot_model.specs.Tree.{S, Set, Fold, If, Task, Wait, Group, End, Next}
 use Rattle.ot_model.specs.View.{expr_of, stmt_of, stmts_of}
 use Rattle.ot_model.specs.declared.expr.Cell.{Cell}
 use Rattle.ot_model.specs.declared.expr.Expr.{Expr}
+use Rattle.ot_model.specs.declared.fold.Fold.{Fold as Operation}
 use Rattle.ot_model.specs.declared.stmt.Stmt as stmt
 use Rattle.ot_model.specs.declared.stmt.Stmt.{Stmt, the_lemmas}
 use Rattle.ot_model.specs.declared.stmt.Use.{Use}
@@ -19,8 +20,8 @@ use Rattle.std.proofs.lemmas.List.{at_drop_more, drop_all}
 pub stmt_of-Set : (x : Stmt) (cell : Cell) (e : Expr) → x ≡ stmt.Set cell e → stmt_of x ≡ Set cell (expr_of e)
 stmt_of-Set x cell e is = ap stmt_of is ∙ search (rules, the_lemmas)
 
-pub stmt_of-Add : (x : Stmt) (cell : Cell) (e : Expr) → x ≡ stmt.Add cell e → stmt_of x ≡ Add cell (expr_of e)
-stmt_of-Add x cell e is = ap stmt_of is ∙ search (rules, the_lemmas)
+pub stmt_of-Fold : (x : Stmt) (op : Operation) (cell : Cell) (e : Expr) → x ≡ stmt.Fold op cell e → stmt_of x ≡ Fold op cell (expr_of e)
+stmt_of-Fold x op cell e is = ap stmt_of is ∙ search (rules, the_lemmas)
 
 pub stmt_of-If : (x : Stmt) (e : Expr) (a b : Vec Stmt Global) → x ≡ stmt.If e a b → stmt_of x ≡ If (expr_of e) (stmts_of a.items) (stmts_of b.items)
 stmt_of-If x e a b is = ap stmt_of is ∙ search (rules, the_lemmas)
@@ -31,8 +32,9 @@ stmt_of-Task x uses b is = ap stmt_of is ∙ search (rules, the_lemmas)
 pub stmt_of-Wait : (x : Stmt) → x ≡ stmt.Wait → stmt_of x ≡ Wait
 stmt_of-Wait x is = ap stmt_of is ∙ search (rules, the_lemmas)
 
-pub stmt_of-Group : (x : Stmt) (cells : Vec Cell Global) (b : Vec Stmt Global) → x ≡ stmt.Group cells b → stmt_of x ≡ Group cells.items (stmts_of b.items)
-stmt_of-Group x cells b is = ap stmt_of is ∙ search (rules, the_lemmas)
+pub stmt_of-Group : (x : Stmt) (op : Operation) (cells : Vec Cell Global) (b : Vec Stmt Global) → x ≡ stmt.Group op cells b
+    → stmt_of x ≡ Group op cells.items (stmts_of b.items)
+stmt_of-Group x op cells b is = ap stmt_of is ∙ search (rules, the_lemmas)
 
 -- ---- the rest of a body
 

@@ -1,22 +1,25 @@
-ghost use Rattle.std.specs.Prelude.{◌≡◌, ◌/◌, ◌==◌, ◌&&◌, ◌||◌, Bool, ℕ};
+ghost use Rattle.std.specs.Prelude.{◌≡◌, ◌/◌, ◌==◌, ◌&&◌, ◌||◌, Bool, true, ℕ};
 ghost use Rattle.std.specs.Int.{bit_at};
 ghost use Rattle.std.specs.List.{list_any};
 ghost use Rattle.ot_model.specs.Uses.{conflicts};
 ghost use Rattle.ot_check.specs.declared.users.User.{User};
 ghost use Rattle.ot_check.specs.walk.Bits.{has};
-ghost use Rattle.ot_check.specs.walk.Rows.{is_against, users_of_block};
+ghost use Rattle.ot_check.specs.walk.Rows.{is_against, is_by, users_of_block};
 
+use crate::modes::is_by;
 use crate::numbers::Numbers;
 use crate::users::User;
-use ot_model::Mode;
+use ot_model::{Fold, Mode};
 
 /// Those of 64 tasks that declare a cell, by their modes: the task `64 * place + j` is the bit `j`.
+/// Those that fold do so by one operation.
 #[derive(Clone, Copy, Debug, PartialEq, Eq)]
 pub(crate) struct Block {
     pub(crate) place: u32,
     reads: u64,
     writes: u64,
-    adds: u64,
+    folds: u64,
+    operation: Fold,
 }
 
 impl Block {
@@ -28,22 +31,32 @@ impl Block {
             place: user.task / 64,
             reads: 0,
             writes: 0,
-            adds: 0,
+            folds: 0,
+            operation: operation_for(user.mode),
         };
         block.insert(user);
         block
     }
 
+    /// Whether a task that declares the cell in this mode can stand among them: it doesn't fold, or
+    /// does so by the block's operation.
+    pub(crate) fn takes(&self, mode: Mode) -> bool
+        ensures { result ≡ is_by self.now.operation mode }
+    {
+        is_by(self.operation, mode)
+    }
+
     /// Puts one of the 64 tasks among them.
     pub(crate) fn insert(&mut self, user: User)
-        requires { self.old.place ≡ user.task / 64 }
+        requires place { self.old.place ≡ user.task / 64 }
+        requires by { is_by self.old.operation user.mode ≡ true }
         ensures { (test : User → Bool) → list_any test (users_of_block self.new) ≡ (list_any test (users_of_block self.old) || test user) }
     {
         let bit = 1u64 << (user.task % 64);
         match user.mode {
             Mode::Reads => self.reads |= bit,
             Mode::Writes => self.writes |= bit,
-            Mode::Adds => self.adds |= bit,
+            Mode::Folds(_) => self.folds |= bit,
         }
     }
 
@@ -52,9 +65,15 @@ impl Block {
         ensures { (j : ℕ) → (bit_at result j == 1) ≡ is_against self.now mode j }
     {
         match mode {
-            Mode::Reads => self.writes | self.adds,
-            Mode::Writes => self.reads | self.writes | self.adds,
-            Mode::Adds => self.reads | self.writes,
+            Mode::Reads => self.writes | self.folds,
+            Mode::Writes => self.reads | self.writes | self.folds,
+            Mode::Folds(op) => {
+                if self.operation == op {
+                    self.reads | self.writes
+                } else {
+                    self.reads | self.writes | self.folds
+                }
+            }
         }
     }
 
@@ -63,5 +82,15 @@ impl Block {
         ensures { result ≡ list_any (λ v. has tasks.now v.task && conflicts v.mode mode) (users_of_block self.now) }
     {
         tasks.word(self.place) & self.against(mode) != 0
+    }
+}
+
+/// The operation of a mode that folds; for another any will do.
+fn operation_for(mode: Mode) -> Fold
+    ensures { is_by result mode ≡ true }
+{
+    match mode {
+        Mode::Folds(op) => op,
+        Mode::Reads | Mode::Writes => Fold::Plus,
     }
 }

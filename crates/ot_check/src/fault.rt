@@ -4,12 +4,13 @@ use std::alloc::AllocError;
 /// tasks are executed.
 #[derive(Clone, Copy, Debug, PartialEq, Eq)]
 pub enum Offence {
-    /// A statement reads, writes or adds to a cell in a way that its body doesn't declare.
+    /// A statement reads, writes or folds into a cell in a way that its body doesn't declare.
     NotDeclared,
     /// A task declares more of a cell than the body that creates it.
     ChildBeyond,
-    /// A statement touches a cell of an open group; a task declares such a cell without adding to it, or
-    /// adds to a cell of no reduction; or a group names a cell that it may not.
+    /// A statement touches a cell of an open group; a task declares such a cell without folding into it
+    /// by the group's operation, or folds into a cell of no reduction by its operation; or a group names
+    /// a cell that it may not.
     ReductionMisuse,
     /// A statement uses a cell in conflict with a child that may be unawaited.
     ConflictsWithChild,

@@ -2,6 +2,7 @@
 #![tactic(auto)]
 
 mod block;
+mod cell_set;
 mod checked;
 mod checking;
 mod fault;

@@ -1,77 +1,84 @@
-ghost use Rattle.std.specs.Prelude.{◌≡◌, ◌||◌, ◌<◌, IfOk, OnOk, false, length};
-ghost use Rattle.ot_check.specs.walk.States.{is_open, rows_of};
-ghost use Rattle.ot_check.specs.Offences.{has_cell};
-ghost use Rattle.ot_model.specs.Cells.{same_cell};
+ghost use Rattle.std.specs.Prelude.{◌≡◌, ◌||◌, ◌&&◌, ◌<◌, IfOk, OnOk, false, length};
+ghost use Rattle.ot_model.specs.Uses.{same_fold};
+ghost use Rattle.ot_model.specs.declared.fold.Fold.{Fold as Operation};
 ghost use Rattle.ot_model.specs.declared.expr.Cell.{Cell};
+ghost use Rattle.ot_check.specs.Offences.{has_cell, opened_by_any};
+ghost use Rattle.ot_check.specs.walk.States.{is_open, sets_of};
 
-use crate::numbers::Numbers;
-use ot_model::Cell;
+use crate::cell_set::CellSet;
+use crate::modes::number;
+use ot_model::{Cell, Fold};
 use std::alloc::{AllocError, Global};
 
-/// The cells that the open groups of a body name.
+/// The cells that the open groups of a body name, by the operations of the groups.
 #[derive(Debug, Drop)]
 pub(crate) struct Opened {
-    /// For each array the indices of its cells.
-    rows: Vec<Numbers>,
+    /// For each operation, by its number, the cells of its groups.
+    sets: Vec<CellSet>,
 }
 
 impl Opened {
     /// No cell at all. It takes no memory.
     pub(crate) fn new(alloc: Global) -> Opened
-        ensures { (c : Cell) → is_open result c ≡ false }
+        ensures { (o : Operation) (c : Cell) → is_open result o c ≡ false }
     {
         Opened {
-            rows: Vec::new(alloc),
+            sets: Vec::new(alloc),
         }
     }
 
-    /// Whether a cell is among them.
-    pub(crate) fn has(&self, cell: Cell) -> bool
-        ensures { result ≡ is_open self.now cell }
+    /// Whether a group by this operation names a cell.
+    pub(crate) fn has(&self, op: Fold, cell: Cell) -> bool
+        ensures { result ≡ is_open self.now op cell }
     {
-        match self.rows.get(cell.array as usize) {
-            Some(row) => row.has(cell.index),
+        match self.sets.get(number(op)) {
+            Some(set) => set.has(cell),
             None => false,
         }
     }
 
-    /// Puts a cell among them.
-    fn insert(&mut self, alloc: Global, cell: Cell) -> Result<(), AllocError>
-        ensures { OnOk result ((c : Cell) → is_open self.new c ≡ (is_open self.old c || same_cell cell c)) }
+    /// Whether a group names a cell, whatever its operation.
+    pub(crate) fn has_any(&self, cell: Cell) -> bool
+        ensures { result ≡ opened_by_any (is_open self.now) cell }
     {
-        self.reach(alloc, cell.array)?;
-        self.rows[cell.array as usize].insert(cell.index)
+        self.has(Fold::Plus, cell)
+            || self.has(Fold::Times, cell)
+            || self.has(Fold::And, cell)
+            || self.has(Fold::Or, cell)
+            || self.has(Fold::Xor, cell)
+            || self.has(Fold::Min, cell)
+            || self.has(Fold::Max, cell)
     }
 
-    /// Makes a row for the array.
-    fn reach(&mut self, alloc: Global, array: u32) -> Result<(), AllocError>
-        ensures same { (c : Cell) → is_open self.new c ≡ is_open self.old c }
-        ensures there { OnOk result (array < length self.new.rows.items) }
+    /// Makes a set for an operation, by its number.
+    fn reach(&mut self, alloc: Global, number: usize) -> Result<(), AllocError>
+        requires { number < 7 }
+        ensures same { (o : Operation) (c : Cell) → is_open self.new o c ≡ is_open self.old o c }
+        ensures there { OnOk result (number < length self.new.sets.items) }
     {
-        for _ in self.rows.len()..array as usize + 1 {
-            self.rows.push(Numbers::new(alloc))?;
+        for _ in self.sets.len()..number + 1 {
+            self.sets.push(CellSet::new(alloc))?;
         }
         Ok(())
     }
 
-    /// Puts the cells of a group among them.
-    pub(crate) fn enter(&mut self, alloc: Global, cells: &[Cell]) -> Result<(), AllocError>
-        ensures { OnOk result ((c : Cell) → is_open self.new c ≡ (is_open self.old c || has_cell cells.now c)) }
+    /// Puts the cells of a group by this operation among them.
+    pub(crate) fn enter(&mut self, alloc: Global, op: Fold, cells: &[Cell]) -> Result<(), AllocError>
+        ensures { OnOk result ((o : Operation) (c : Cell) → is_open self.new o c ≡ (is_open self.old o c || (same_fold op o && has_cell cells.now c))) }
     {
-        for cell in cells {
-            self.insert(alloc, *cell)?;
-        }
-        Ok(())
+        let place = number(op);
+        self.reach(alloc, place)?;
+        self.sets[place].enter(alloc, cells)
     }
 
     /// The same cells once more.
     pub(crate) fn copy(&self, alloc: Global) -> Result<Opened, AllocError>
-        ensures { IfOk result (λ copied. rows_of copied ≡ rows_of self.now) }
+        ensures { IfOk result (λ copied. sets_of copied ≡ sets_of self.now) }
     {
-        let mut rows = Vec::with_capacity(alloc, self.rows.len())?;
-        for row in &self.rows {
-            rows.push(row.copy(alloc)?)?;
+        let mut sets = Vec::with_capacity(alloc, self.sets.len())?;
+        for set in &self.sets {
+            sets.push(set.copy(alloc)?)?;
         }
-        Ok(Opened { rows })
+        Ok(Opened { sets })
     }
 }

@@ -1,9 +1,9 @@
 use crate::fault::Offence;
-use crate::modes::{covers, is_adds};
+use crate::modes::{covers, folds_by};
 use crate::numbers::Numbers;
 use crate::opened::Opened;
 use crate::tasks::Tasks;
-use ot_model::{Cell, Decl, Mode, Shape, Use};
+use ot_model::{Cell, Decl, Fold, Mode, Shape, Use};
 use std::alloc::{AllocError, Global};
 use std::mem;
 
@@ -34,7 +34,7 @@ pub(crate) struct Standing {
 
 impl Region {
     ghost use Rattle.std.specs.Prelude.{◌≡◌};
-    ghost use Rattle.ot_check.specs.Offences.{allows, adds_to};
+    ghost use Rattle.ot_check.specs.Offences.{allows, folds_to};
 
     /// Whether the body may use a cell so.
     fn allows(&self, used: Use) -> bool
@@ -49,15 +49,15 @@ impl Region {
         }
     }
 
-    /// Whether the body declares a cell as `Adds`.
-    fn adds_to(&self, cell: Cell) -> bool
-        ensures { result ≡ adds_to self.now.own cell }
+    /// Whether the body declares a cell as `Folds` of this operation.
+    fn folds_to(&self, op: Fold, cell: Cell) -> bool
+        ensures { result ≡ folds_to self.now.own op cell }
     {
         match &self.own {
             None => false,
             Some(decl) => match decl.mode(cell) {
                 None => false,
-                Some(mode) => is_adds(mode),
+                Some(mode) => folds_by(op, mode),
             },
         }
     }
@@ -69,9 +69,8 @@ impl Standing {
     ghost use Rattle.ot_model.specs.Shapes.{array_lengths};
     ghost use Rattle.ot_model.specs.Names.{IsInShape, AreInShape, AreDeclaredIn};
     ghost use Rattle.ot_check.specs.Paths.{Touch, Enter};
-    ghost use Rattle.std.specs.Prelude.{Bool};
-    ghost use Rattle.ot_model.specs.declared.expr.Cell.{Cell};
-    ghost use Rattle.ot_check.specs.Offences.{Declared, exceeds, misfits};
+    ghost use Rattle.ot_model.specs.declared.fold.Fold.{Fold as Operation};
+    ghost use Rattle.ot_check.specs.Offences.{Declared, Openings, exceeds, misfits};
     ghost use Rattle.ot_check.specs.walk.Walk.{Children, nobody, nothing_open, with_group, may_break};
     ghost use Rattle.ot_check.specs.walk.States.{Represents, Stands, Whatever, AreMore, lens_of, one_more, of_both, back, with_children, with_others};
 
@@ -113,7 +112,7 @@ impl Standing {
     ) -> Result<(), AllocError>
         requires declared { AreDeclaredIn (lens_of self.old) decl.now }
         requires short { self.old.tasks.passed + 1 < 2 ^ 32 }
-        ensures stands { OnOk result ((own : Declared) (opened : Cell → Bool) (children : Children)
+        ensures stands { OnOk result ((own : Declared) (opened : Openings) (children : Children)
             → Stands own opened children outer self.old.tasks → Represents own opened (one_more children decl.now) self.new) }
         ensures more { OnOk result (AreMore self.old.tasks self.new.tasks) }
         ensures passed { OnOk result (self.new.tasks.passed ≡ self.old.tasks.passed + 1) }
@@ -124,26 +123,27 @@ impl Standing {
         self.region.unawaited.insert(number)
     }
 
-    /// Goes into a group that names these cells. What stood before it is the answer.
+    /// Goes into a group by this operation that names these cells. What stood before it is the answer.
     pub(crate) fn begin_group(
         &mut self,
         alloc: Global,
+        op: Fold,
         cells: &[Cell],
     ) -> Result<Outside, AllocError>
-        ensures stands { IfOk result (λ _. Whatever self.old (λ own opened children. Represents own (with_group opened cells.now) children self.new)) }
+        ensures stands { IfOk result (λ _. Whatever self.old (λ own opened children. Represents own (with_group opened op cells.now) children self.new)) }
         ensures outside { IfOk result (λ outside. Whatever self.old (λ own opened children. Stands own opened children (back self.new.region outside) self.new.tasks)) }
         ensures tasks { IfOk result (λ _. self.new.tasks ≡ self.old.tasks) }
     {
         let opened = self.region.opened.copy(alloc)?;
         let unawaited = self.region.unawaited.copy(alloc)?;
-        self.region.opened.enter(alloc, cells)?;
+        self.region.opened.enter(alloc, op, cells)?;
         Ok(Outside { opened, unawaited })
     }
 
     /// Comes out of a group, whose end awaits the children made in it. Those from before stay
     /// unawaited where some path through it has no wait. It takes no memory.
     pub(crate) fn end_group(&mut self, outside: Outside, through: bool)
-        ensures stands { (own : Declared) (opened : Cell → Bool) (children : Children)
+        ensures stands { (own : Declared) (opened : Openings) (children : Children)
             → Stands own opened children (back self.old.region outside) self.old.tasks → Represents own opened (λ test. children test && through) self.new }
         ensures tasks { self.new.tasks ≡ self.old.tasks }
     {
@@ -173,7 +173,7 @@ impl Standing {
 
     /// The children behind one way through an `if` may be unawaited too.
     pub(crate) fn end_other(&mut self, one: &Numbers) -> Result<(), AllocError>
-        ensures stands { OnOk result ((own : Declared) (opened : Cell → Bool) (children others : Children)
+        ensures stands { OnOk result ((own : Declared) (opened : Openings) (children others : Children)
             → Represents own opened others self.old → Stands own opened children (with_children self.old.region one.now) self.old.tasks
             → Represents own opened (of_both children others) self.new) }
         ensures tasks { OnOk result (self.new.tasks ≡ self.old.tasks) }
@@ -188,7 +188,7 @@ impl Standing {
     {
         match offence {
             Offence::NotDeclared => !self.region.allows(used),
-            Offence::ReductionMisuse => self.region.opened.has(used.cell),
+            Offence::ReductionMisuse => self.region.opened.has_any(used.cell),
             Offence::ConflictsWithChild => self.tasks.clash(&self.region.unawaited, used),
             Offence::ChildBeyond | Offence::EndsWithChildren => false,
         }
@@ -198,7 +198,7 @@ impl Standing {
     fn use_exceeds(&self, used: Use) -> bool
         ensures { Whatever self.now (λ own opened children. result ≡ exceeds own used) }
     {
-        !matches!(used.mode, Mode::Adds) && !self.region.allows(used)
+        !matches!(used.mode, Mode::Folds(_)) && !self.region.allows(used)
     }
 
     /// Whether a child's declaration goes beyond the body's.
@@ -217,10 +217,11 @@ impl Standing {
     fn use_misfits(&self, used: Use) -> bool
         ensures { Whatever self.now (λ own opened children. result ≡ misfits own opened used) }
     {
-        let grouped = self.region.opened.has(used.cell);
         match used.mode {
-            Mode::Adds => !self.region.adds_to(used.cell) && !grouped,
-            Mode::Reads | Mode::Writes => grouped,
+            Mode::Folds(op) => {
+                !self.region.folds_to(op, used.cell) && !self.region.opened.has(op, used.cell)
+            }
+            Mode::Reads | Mode::Writes => self.region.opened.has_any(used.cell),
         }
     }
 
@@ -236,10 +237,10 @@ impl Standing {
         false
     }
 
-    /// Whether a group that names the cell is this offence here.
+    /// Whether a group that names the cell is this offence here, whatever its operation.
     fn cell_breaks(&self, cell: Cell, offence: Offence) -> bool
         requires { IsInShape (lens_of self.now) cell }
-        ensures { Whatever self.now (λ own opened children. result ≡ may_break own opened children (Enter (cell ∷ [])) offence) }
+        ensures { Whatever self.now (λ own opened children. (op : Operation) → result ≡ may_break own opened children (Enter op (cell ∷ [])) offence) }
     {
         let used = Use {
             cell,
@@ -247,17 +248,17 @@ impl Standing {
         };
         match offence {
             Offence::ReductionMisuse => {
-                !self.region.allows(used) || self.region.opened.has(cell)
+                !self.region.allows(used) || self.region.opened.has_any(cell)
             }
             Offence::ConflictsWithChild => self.tasks.clash(&self.region.unawaited, used),
             Offence::NotDeclared | Offence::ChildBeyond | Offence::EndsWithChildren => false,
         }
     }
 
-    /// Whether a group of these cells is this offence here.
+    /// Whether a group of these cells is this offence here, whatever its operation.
     pub(crate) fn group_breaks(&self, cells: &[Cell], offence: Offence) -> bool
         requires { AreInShape (lens_of self.now) cells.now }
-        ensures { Whatever self.now (λ own opened children. result ≡ may_break own opened children (Enter cells.now) offence) }
+        ensures { Whatever self.now (λ own opened children. (op : Operation) → result ≡ may_break own opened children (Enter op cells.now) offence) }
     {
         for cell in cells {
             if self.cell_breaks(*cell, offence) {

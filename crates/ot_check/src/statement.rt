@@ -46,10 +46,10 @@ fn is_offence(stmt: &Stmt, standing: &Standing, offence: Offence) -> bool
             };
             value_breaks(expr, standing, offence) || standing.touch_breaks(used, offence)
         }
-        Stmt::Add(cell, expr) => {
+        Stmt::Fold(op, cell, expr) => {
             let used = Use {
                 cell: *cell,
-                mode: Mode::Adds,
+                mode: Mode::Folds(*op),
             };
             value_breaks(expr, standing, offence) || standing.touch_breaks(used, offence)
         }
@@ -61,6 +61,6 @@ fn is_offence(stmt: &Stmt, standing: &Standing, offence: Offence) -> bool
             Offence::NotDeclared | Offence::ConflictsWithChild => false,
         },
         Stmt::Wait => false,
-        Stmt::Group(cells, _) => standing.group_breaks(cells, offence),
+        Stmt::Group(_, cells, _) => standing.group_breaks(cells, offence),
     }
 }

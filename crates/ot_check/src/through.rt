@@ -22,10 +22,10 @@ fn through_one(stmt: &Stmt) -> bool
     ensures { result ≡ through_one (stmt_of stmt.now) }
 {
     match stmt {
-        Stmt::Set(_, _) | Stmt::Add(_, _) | Stmt::Task(_, _) => true,
+        Stmt::Set(_, _) | Stmt::Fold(_, _, _) | Stmt::Task(_, _) => true,
         Stmt::If(_, one, two) => through(one) || through(two),
         Stmt::Wait => false,
-        Stmt::Group(_, body) => through(body),
+        Stmt::Group(_, _, body) => through(body),
     }
 }
 
@@ -47,10 +47,10 @@ fn leaves_child_one(stmt: &Stmt, before: bool) -> bool
     ensures { result ≡ after_one anyone before (stmt_of stmt.now) }
 {
     match stmt {
-        Stmt::Set(_, _) | Stmt::Add(_, _) => before,
+        Stmt::Set(_, _) | Stmt::Fold(_, _, _) => before,
         Stmt::If(_, one, two) => leaves_child(one, before) || leaves_child(two, before),
         Stmt::Task(_, _) => true,
         Stmt::Wait => false,
-        Stmt::Group(_, body) => before && through(body),
+        Stmt::Group(_, _, body) => before && through(body),
     }
 }

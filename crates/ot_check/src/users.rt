@@ -21,9 +21,9 @@ pub(crate) struct User {
 #[derive(Debug, Drop)]
 pub(crate) struct Row {
     cell: Cell,
-    /// Those of earlier places.
+    /// Those of earlier places, or that fold by other operations.
     earlier: Vec<Block>,
-    /// Those of the latest place.
+    /// Those of the latest place that fold by the latest operation, if they fold.
     latest: Block,
 }
 
@@ -50,7 +50,7 @@ impl Row {
         ensures cell { self.new.cell ≡ self.old.cell }
         ensures users { OnOk result ((test : User → Bool) → list_any test (users_of_row self.new) ≡ (list_any test (users_of_row self.old) || test user)) }
     {
-        if self.latest.place == user.task / 64 {
+        if self.latest.place == user.task / 64 && self.latest.takes(user.mode) {
             self.latest.insert(user);
             return Ok(());
         }

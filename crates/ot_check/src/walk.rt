@@ -1,11 +1,10 @@
-ghost use Rattle.std.specs.Prelude.{◌≡◌, ◌+◌, ◌≤◌, ◌<◌, ◌^◌, ◌&&◌, Bool, IfOk, Some};
+ghost use Rattle.std.specs.Prelude.{◌≡◌, ◌+◌, ◌≤◌, ◌<◌, ◌^◌, ◌&&◌, IfOk, Some};
 ghost use Rattle.ot_model.specs.View.{stmt_of, stmts_of};
 ghost use Rattle.ot_model.specs.Counts.{size, size_one};
 ghost use Rattle.ot_model.specs.Names.{NamedIn, OneNamedIn, AreInShape, AreDeclaredIn};
 ghost use Rattle.ot_check.specs.walk.Walk.{Children, behind, behind_one, first, first_one, nobody, nothing_open, through, with_group};
 ghost use Rattle.ot_check.specs.walk.Told.{IsTold};
-ghost use Rattle.ot_check.specs.Offences.{Declared};
-ghost use Rattle.ot_model.specs.declared.expr.Cell.{Cell};
+ghost use Rattle.ot_check.specs.Offences.{Declared, Openings};
 ghost use Rattle.ot_check.specs.walk.States.{Represents, Stands, Whatever, AreMore, lens_of, of_both, one_more, with_children};
 
 use crate::fault::CheckFault;
@@ -13,7 +12,7 @@ use crate::numbers::Numbers;
 use crate::standing::Standing;
 use crate::statement::own_offence;
 use crate::through::through;
-use ot_model::{Cell, Decl, Stmt};
+use ot_model::{Cell, Decl, Fold, Stmt};
 use std::alloc::Global;
 
 /// Walks a body whose first statement has this place, and gives the place behind it.
@@ -62,7 +61,7 @@ fn walk_one(
         return Err(CheckFault::Offence(offence, place));
     }
     match stmt {
-        Stmt::Set(_, _) | Stmt::Add(_, _) => Ok(place + 1),
+        Stmt::Set(_, _) | Stmt::Fold(_, _, _) => Ok(place + 1),
         Stmt::If(_, one, two) => {
             let before = standing.region.unawaited.copy(alloc)?;
             let second = walk(alloc, one, standing, place + 1)?;
@@ -73,7 +72,7 @@ fn walk_one(
             standing.await_children();
             Ok(place + 1)
         }
-        Stmt::Group(cells, body) => walk_group(alloc, cells, body, standing, place + 1),
+        Stmt::Group(op, cells, body) => walk_group(alloc, *op, cells, body, standing, place + 1),
     }
 }
 
@@ -89,7 +88,7 @@ fn walk_other(
     requires named { NamedIn (lens_of standing.old) (stmts_of body.now.items) }
     requires counted { standing.old.tasks.passed ≤ place }
     requires short { place + size (stmts_of body.now.items) < 2 ^ 32 }
-    ensures told { (own : Declared) (opened : Cell → Bool) (others : Children) → Stands own opened others (with_children standing.old.region before) standing.old.tasks
+    ensures told { (own : Declared) (opened : Openings) (others : Children) → Stands own opened others (with_children standing.old.region before) standing.old.tasks
         → IsTold (first own opened others place (stmts_of body.now.items)) result }
     ensures behind { IfOk result (λ _. Whatever standing.old (λ own opened children. (others : Children)
         → Stands own opened others (with_children standing.old.region before) standing.old.tasks
@@ -136,6 +135,7 @@ fn walk_task(
 #[cycle(walk)]
 fn walk_group(
     alloc: Global,
+    op: Fold,
     cells: &[Cell],
     body: &Vec<Stmt>,
     standing: &mut Standing,
@@ -145,14 +145,14 @@ fn walk_group(
     requires named { NamedIn (lens_of standing.old) (stmts_of body.now.items) }
     requires counted { standing.old.tasks.passed ≤ place }
     requires short { place + size (stmts_of body.now.items) < 2 ^ 32 }
-    ensures told { Whatever standing.old (λ own opened children. IsTold (first own (with_group opened cells.now) children place (stmts_of body.now.items)) result) }
+    ensures told { Whatever standing.old (λ own opened children. IsTold (first own (with_group opened op cells.now) children place (stmts_of body.now.items)) result) }
     ensures behind { IfOk result (λ _. Whatever standing.old (λ own opened children. Represents own opened (λ test. children test && through (stmts_of body.now.items)) standing.new)) }
     ensures lens { IfOk result (λ _. lens_of standing.new ≡ lens_of standing.old) }
     ensures more { IfOk result (λ _. AreMore standing.old.tasks standing.new.tasks) }
     ensures counted { IfOk result (λ next. standing.new.tasks.passed + place ≤ standing.old.tasks.passed + next) }
     ensures place { IfOk result (λ next. next ≡ place + size (stmts_of body.now.items)) }
 {
-    let outside = standing.begin_group(alloc, cells)?;
+    let outside = standing.begin_group(alloc, op, cells)?;
     let next = walk(alloc, body, standing, place)?;
     standing.end_group(outside, through(body));
     Ok(next)

@@ -3,8 +3,9 @@ use Rattle.std.specs.Prelude.{◌≡◌, ◌==◌, ℕ, zero, suc, ◌+◌, ◌*
 use Rattle.std.specs.Int.{bit_at}
 use Rattle.ot_model.specs.declared.expr.Cell.{Cell}
 use Rattle.ot_model.specs.declared.stmt.Mode.{Mode}
-use Rattle.ot_model.specs.declared.stmt.Mode.TheVariants.{Reads, Writes, Adds}
-use Rattle.ot_model.specs.Uses.{conflicts}
+use Rattle.ot_model.specs.declared.stmt.Mode.TheVariants.{Reads, Writes, Folds}
+use Rattle.ot_model.specs.Uses.{conflicts, same_fold}
+use Rattle.ot_model.specs.declared.fold.Fold.{Fold as Operation}
 use Rattle.ot_check.specs.walk.Grids.{found_at}
 use Rattle.ot_check.specs.declared.block.Block.{Block}
 use Rattle.ot_check.specs.declared.users.User.{User}
@@ -22,12 +23,12 @@ users_below place mode word (suc j) =
 
 abbrev pub users_of_block : Block → List User
 users_of_block block =
-    users_below block.place Reads block.reads 64 ++ users_below block.place Writes block.writes 64 ++ users_below block.place Adds block.adds 64
+    users_below block.place Reads block.reads 64 ++ users_below block.place Writes block.writes 64 ++ users_below block.place (Folds block.operation) block.folds 64
 
 -- whether the task of a bit declares the cell in conflict with this mode
 abbrev pub is_against : Block → Mode → ℕ → Bool
 is_against block mode j =
-    ((bit_at block.reads j == 1) && conflicts Reads mode) || (((bit_at block.writes j == 1) && conflicts Writes mode) || ((bit_at block.adds j == 1) && conflicts Adds mode))
+    ((bit_at block.reads j == 1) && conflicts Reads mode) || (((bit_at block.writes j == 1) && conflicts Writes mode) || ((bit_at block.folds j == 1) && conflicts (Folds block.operation) mode))
 
 abbrev pub users_of_row : Row → List User
 users_of_row row = flat_map users_of_block row.earlier.items ++ users_of_block row.latest
@@ -36,6 +37,11 @@ users_of_row row = flat_map users_of_block row.earlier.items ++ users_of_block r
 abbrev pub users_of : Option Row → List User
 users_of None = []
 users_of (Some row) = users_of_row row
+
+-- whether the fold of a user, if it folds, is by the operation by which the block folds
+abbrev pub is_by : Operation → Mode → Bool
+is_by o (Folds other) = same_fold o other
+is_by o mode = true
 
 -- those of the row with this number, from 1 on
 abbrev pub users_in : List Row → ℕ → List User

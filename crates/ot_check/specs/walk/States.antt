@@ -1,14 +1,16 @@
 -- What the walk knows at a place, and what it stands for.
 use Rattle.std.specs.Prelude.{◌≡◌, ℕ, ◌≤◌, ◌<◌, Bool, false, ◌&&◌, ◌||◌, List, [], Option, Some, None, slice_get, map, unwrap_or}
 use Rattle.std.specs.List.{list_any}
-use Rattle.ot_model.specs.Uses.{conflicts}
+use Rattle.ot_model.specs.Uses.{conflicts, number_of}
 use Rattle.ot_model.specs.declared.expr.Cell.{Cell}
+use Rattle.ot_model.specs.declared.fold.Fold.{Fold as Operation}
 use Rattle.ot_model.specs.declared.stmt.Use.{Use}
-use Rattle.ot_check.specs.Offences.{Declared, clashes}
+use Rattle.ot_check.specs.Offences.{Declared, Openings, clashes}
 use Rattle.ot_check.specs.walk.Walk.{Children}
 use Rattle.ot_check.specs.walk.Grids.{found_at, widths}
 use Rattle.ot_check.specs.walk.Bits.{bit_in, has}
 use Rattle.ot_check.specs.declared.numbers.Numbers.{Numbers}
+use Rattle.ot_check.specs.declared.cell_set.CellSet.{CellSet}
 use Rattle.ot_check.specs.declared.opened.Opened.{Opened}
 use Rattle.ot_check.specs.declared.users.User.{User}
 use Rattle.ot_check.specs.declared.tasks.Tasks.{Tasks}
@@ -19,16 +21,29 @@ use Rattle.ot_check.specs.declared.standing.Standing.{Standing}
 -- ---- cells
 
 -- the words of each array
-abbrev pub rows_of : Opened → List (List ℕ)
-rows_of opened = map (λ row. row.words.items) opened.rows.items
+abbrev pub rows_of : CellSet → List (List ℕ)
+rows_of set = map (λ row. row.words.items) set.rows.items
 
 -- whether an index is in the row of its array
 abbrev pub row_has : Option (List ℕ) → ℕ → Bool
 row_has None i = false
 row_has (Some words) i = bit_in words i
 
-abbrev pub is_open : Opened → Cell → Bool
-is_open opened c = row_has (slice_get (rows_of opened) c.array) c.index
+-- whether a cell is in the set
+abbrev pub holds : CellSet → Cell → Bool
+holds set c = row_has (slice_get (rows_of set) c.array) c.index
+
+-- the words of each array of each set
+abbrev pub sets_of : Opened → List (List (List ℕ))
+sets_of opened = map rows_of opened.sets.items
+
+-- whether a cell is in the set of its operation
+abbrev pub set_has : Option (List (List ℕ)) → Cell → Bool
+set_has None c = false
+set_has (Some rows) c = row_has (slice_get rows c.array) c.index
+
+abbrev pub is_open : Opened → Openings
+is_open opened o c = set_has (slice_get (sets_of opened) (number_of o)) c
 
 -- ---- tasks
 
@@ -52,19 +67,19 @@ pub record AreMore (old new : Tasks) : Type 0 where
 -- ---- what stands at a place
 
 -- the region is that of a body that declares this, where these groups are open and these children may be unawaited
-pub record Stands (own : Declared) (opened : Cell → Bool) (children : Children) (region : Region) (tasks : Tasks) : Type 0 where
+pub record Stands (own : Declared) (opened : Openings) (children : Children) (region : Region) (tasks : Tasks) : Type 0 where
   pub declares : region.own ≡ own
-  pub grouped : (c : Cell) → is_open region.opened c ≡ opened c
+  pub grouped : (o : Operation) (c : Cell) → is_open region.opened o c ≡ opened o c
   pub clash : (u : Use) → met region.unawaited tasks.users u ≡ children (clashes u)
   pub passed : (k : ℕ) → tasks.passed ≤ k → has region.unawaited k ≡ false
   pub sound : IsSound tasks
 
-abbrev pub Represents : Declared → (Cell → Bool) → Children → Standing → Type 0
+abbrev pub Represents : Declared → Openings → Children → Standing → Type 0
 Represents own opened children standing = Stands own opened children standing.region standing.tasks
 
 -- P holds of whatever the standing represents: a declaration, open groups, and children that may be unawaited
-abbrev pub Whatever : Standing → (Declared → (Cell → Bool) → Children → Type 0) → Type 0
-Whatever standing P = (own : Declared) (opened : Cell → Bool) (children : Children) → Represents own opened children standing → P own opened children
+abbrev pub Whatever : Standing → (Declared → Openings → Children → Type 0) → Type 0
+Whatever standing P = (own : Declared) (opened : Openings) (children : Children) → Represents own opened children standing → P own opened children
 
 -- the region with these children in place of its own
 abbrev pub with_children : Region → Numbers → Region

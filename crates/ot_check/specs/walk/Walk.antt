@@ -2,13 +2,15 @@
 use Rattle.std.specs.Prelude.{ℕ, ◌+◌, Bool, true, false, ◌&&◌, ◌||◌, if◌then◌else◌, List, [], ◌∷◌, Option, Some, None, map}
 use Rattle.std.specs.List.{list_any}
 use Rattle.std.specs.Option.{option_or}
-use Rattle.ot_model.specs.Tree.{S, Set, Add, If, Task, Wait, Group, Body, End, Next}
+use Rattle.ot_model.specs.Tree.{S, Set, Fold, If, Task, Wait, Group, Body, End, Next}
 use Rattle.ot_model.specs.Counts.{size, size_one}
 use Rattle.ot_model.specs.declared.expr.Cell.{Cell}
+use Rattle.ot_model.specs.Uses.{same_fold}
+use Rattle.ot_model.specs.declared.fold.Fold.{Fold as Operation}
 use Rattle.ot_model.specs.declared.stmt.Mode.TheVariants.{Writes}
 use Rattle.ot_model.specs.declared.stmt.Use.{Use}
 use Rattle.ot_check.specs.Paths.{Mark, Touch, Create, Enter, touches, use_as}
-use Rattle.ot_check.specs.Offences.{Declared, breaks, clashes, has_cell}
+use Rattle.ot_check.specs.Offences.{Declared, Openings, breaks, clashes, has_cell}
 use Rattle.ot_check.specs.declared.fault.Offence.{Offence}
 use Rattle.ot_check.specs.declared.fault.Offence.TheVariants.{NotDeclared, ChildBeyond, ReductionMisuse, ConflictsWithChild, EndsWithChildren}
 
@@ -30,11 +32,11 @@ nobody test = false
 abbrev mutual
   pub through_one : S → Bool
   through_one (Set c e) = true
-  through_one (Add c e) = true
+  through_one (Fold o c e) = true
   through_one (If e a b) = through a || through b
   through_one (Task d b) = true
   through_one Wait = false
-  through_one (Group cs b) = through b
+  through_one (Group o cs b) = through b
 
   pub through : Body → Bool
   through End = true
@@ -44,11 +46,11 @@ abbrev mutual
 abbrev mutual
   pub after_one : (List Use → Bool) → Bool → S → Bool
   after_one test before (Set c e) = before
-  after_one test before (Add c e) = before
+  after_one test before (Fold o c e) = before
   after_one test before (If e a b) = after test before a || after test before b
   after_one test before (Task d b) = before || test d
   after_one test before Wait = false
-  after_one test before (Group cs b) = before && through b
+  after_one test before (Group o cs b) = before && through b
 
   pub after : (List Use → Bool) → Bool → Body → Bool
   after test before End = before
@@ -64,26 +66,26 @@ behind children body test = after test (children test) body
 -- ---- groups
 
 -- no group at all
-abbrev pub nothing_open : Cell → Bool
-nothing_open c = false
+abbrev pub nothing_open : Openings
+nothing_open o c = false
 
--- these groups, and one that names these cells
-abbrev pub with_group : (Cell → Bool) → List Cell → Cell → Bool
-with_group opened cells c = opened c || has_cell cells c
+-- these groups, and one by this operation that names these cells
+abbrev pub with_group : Openings → Operation → List Cell → Openings
+with_group opened by cells o c = opened o c || (same_fold by o && has_cell cells c)
 
 -- ---- offences
 
 -- whether a mark is this offence where these children may be unawaited: a conflict with some of them, or what is one
 -- whatever children there are
-abbrev pub may_break : Declared → (Cell → Bool) → Children → Mark → Offence → Bool
+abbrev pub may_break : Declared → Openings → Children → Mark → Offence → Bool
 may_break own opened children (Touch u) ConflictsWithChild = children (clashes u)
-may_break own opened children (Enter cs) ConflictsWithChild = list_any (λ c. children (clashes (use_as Writes c))) cs
+may_break own opened children (Enter o cs) ConflictsWithChild = list_any (λ c. children (clashes (use_as Writes c))) cs
 may_break own opened children mark offence = breaks own opened [] mark offence
 
 -- the marks of a statement itself
 abbrev pub marks : S → List Mark
 marks (Task d b) = Create d ∷ []
-marks (Group cs b) = Enter cs ∷ []
+marks (Group o cs b) = Enter o cs ∷ []
 marks x = map Touch (touches x)
 
 -- whether a task's body can end with a child unawaited
@@ -92,7 +94,7 @@ ends_with_children (Task d b) EndsWithChildren = after anyone false b
 ends_with_children x offence = false
 
 -- whether the statement itself is this offence
-abbrev pub is_offence : Declared → (Cell → Bool) → Children → S → Offence → Bool
+abbrev pub is_offence : Declared → Openings → Children → S → Offence → Bool
 is_offence own opened children x offence = list_any (λ m. may_break own opened children m offence) (marks x) || ends_with_children x offence
 
 -- the first that holds, in the order in which they are told
@@ -111,19 +113,19 @@ placed k (Some offence) = Some (k, offence)
 
 -- the first offence in a statement's bodies, of a statement, of a body, whose place is k, with its place
 abbrev mutual
-  pub first_inside : Declared → (Cell → Bool) → Children → ℕ → S → Option (ℕ × Offence)
+  pub first_inside : Declared → Openings → Children → ℕ → S → Option (ℕ × Offence)
   first_inside own opened children k (Set c e) = None
-  first_inside own opened children k (Add c e) = None
+  first_inside own opened children k (Fold o c e) = None
   first_inside own opened children k (If e a b) = option_or (first own opened children (k + 1) a) (first own opened children (k + 1 + size a) b)
   first_inside own opened children k (Task d b) = first (Some d) nothing_open nobody (k + 1) b
   first_inside own opened children k Wait = None
-  first_inside own opened children k (Group cs b) = first own (with_group opened cs) children (k + 1) b
+  first_inside own opened children k (Group o cs b) = first own (with_group opened o cs) children (k + 1) b
 
-  pub first : Declared → (Cell → Bool) → Children → ℕ → Body → Option (ℕ × Offence)
+  pub first : Declared → Openings → Children → ℕ → Body → Option (ℕ × Offence)
   first own opened children k End = None
   first own opened children k (Next x rest) =
       option_or (option_or (placed k (leading (is_offence own opened children x))) (first_inside own opened children k x))
       (first own opened (behind_one children x) (k + size_one x) rest)
 
-abbrev pub first_one : Declared → (Cell → Bool) → Children → ℕ → S → Option (ℕ × Offence)
+abbrev pub first_one : Declared → Openings → Children → ℕ → S → Option (ℕ × Offence)
 first_one own opened children k x = option_or (placed k (leading (is_offence own opened children x))) (first_inside own opened children k x)

@@ -1,13 +1,13 @@
 use Rattle.std.proofs.Common.{rules, ◌≡◌, ap, sym, ◌∙◌}
-use Rattle.ot_model.specs.Tree.{Set, Add, If, Task}
+use Rattle.ot_model.specs.Tree.{Set, Fold, If, Task}
 use Rattle.ot_model.specs.View.{stmt_of, stmts_of, expr_of}
 use Rattle.ot_model.specs.declared.stmt.Stmt.{the_lemmas}
-use Rattle.ot_model.specs.declared.stmt.Mode.TheVariants.{Writes, Adds}
+use Rattle.ot_model.specs.declared.stmt.Mode.TheVariants.{Writes, Folds}
 use Rattle.ot_check.specs.Paths.{Touch, use_as}
 use Rattle.ot_model.specs.Value.{cells_named}
 use Rattle.ot_check.specs.walk.Walk.{may_break, is_offence}
 use Rattle.ot_check.specs.declared.fault.Offence.TheVariants.{ChildBeyond, ReductionMisuse}
-use Rattle.ot_check.proofs.OffenceLemmas.{reading, either_met, either_other, is_offence-Set, is_offence-Add, is_offence-If, is_offence-ChildBeyond, is_offence-ReductionMisuse}
+use Rattle.ot_check.proofs.OffenceLemmas.{reading, either_met, either_other, is_offence-Set, is_offence-Fold, is_offence-If, is_offence-ChildBeyond, is_offence-ReductionMisuse}
 use Rattle.ot_check.proofs.statement.is_offence.Goals as goal
 
 pub returns-then-value_breaks : goal.returns-then-value_breaks
@@ -26,17 +26,17 @@ returns-else-value_breaks c = λ own opened children h.
 
 pub returns-then-value_breaks-2 : goal.returns-then-value_breaks-2
 returns-then-value_breaks-2 c = λ own opened children h.
-    let is : stmt_of c.args.stmt.now ≡ Add c.in-Add.cell (expr_of c.in-Add.expr) = search (rules, the_lemmas) in
-    either_met _ (reading own opened children c.args.offence (cells_named (expr_of c.in-Add.expr))) (may_break own opened children (Touch (use_as Adds c.in-Add.cell)) c.args.offence)
-    (c.value_breaks-in-Add.ensures own opened children h) c.if-value_breaks-2.true
-    ∙ sym (ap (λ x. is_offence own opened children x c.args.offence) is ∙ is_offence-Add own opened children c.in-Add.cell (expr_of c.in-Add.expr) c.args.offence)
+    let is : stmt_of c.args.stmt.now ≡ Fold c.in-Fold.op c.in-Fold.cell (expr_of c.in-Fold.expr) = search (rules, the_lemmas) in
+    either_met _ (reading own opened children c.args.offence (cells_named (expr_of c.in-Fold.expr))) (may_break own opened children (Touch (use_as (Folds c.in-Fold.op) c.in-Fold.cell)) c.args.offence)
+    (c.value_breaks-in-Fold.ensures own opened children h) c.if-value_breaks-2.true
+    ∙ sym (ap (λ x. is_offence own opened children x c.args.offence) is ∙ is_offence-Fold own opened children c.in-Fold.op c.in-Fold.cell (expr_of c.in-Fold.expr) c.args.offence)
 
 pub returns-else-value_breaks-2 : goal.returns-else-value_breaks-2
 returns-else-value_breaks-2 c = λ own opened children h.
-    let is : stmt_of c.args.stmt.now ≡ Add c.in-Add.cell (expr_of c.in-Add.expr) = search (rules, the_lemmas) in
-    either_other _ _ (reading own opened children c.args.offence (cells_named (expr_of c.in-Add.expr))) (may_break own opened children (Touch (use_as Adds c.in-Add.cell)) c.args.offence)
-    (c.value_breaks-in-Add.ensures own opened children h) c.if-value_breaks-2.false (c.touch_breaks-else-value_breaks-2.ensures own opened children h)
-    ∙ sym (ap (λ x. is_offence own opened children x c.args.offence) is ∙ is_offence-Add own opened children c.in-Add.cell (expr_of c.in-Add.expr) c.args.offence)
+    let is : stmt_of c.args.stmt.now ≡ Fold c.in-Fold.op c.in-Fold.cell (expr_of c.in-Fold.expr) = search (rules, the_lemmas) in
+    either_other _ _ (reading own opened children c.args.offence (cells_named (expr_of c.in-Fold.expr))) (may_break own opened children (Touch (use_as (Folds c.in-Fold.op) c.in-Fold.cell)) c.args.offence)
+    (c.value_breaks-in-Fold.ensures own opened children h) c.if-value_breaks-2.false (c.touch_breaks-else-value_breaks-2.ensures own opened children h)
+    ∙ sym (ap (λ x. is_offence own opened children x c.args.offence) is ∙ is_offence-Fold own opened children c.in-Fold.op c.in-Fold.cell (expr_of c.in-Fold.expr) c.args.offence)
 
 pub returns-in-If : goal.returns-in-If
 returns-in-If c = λ own opened children h.

@@ -6,17 +6,17 @@ use Rattle.ot_model.specs.declared.expr.Cell.{Cell}
 use Rattle.ot_model.specs.declared.expr.Expr.{Expr}
 use Rattle.ot_model.specs.declared.stmt.Mode.TheVariants.{Reads}
 use Rattle.ot_check.specs.Paths.{Touch, use_as}
-use Rattle.ot_check.specs.Offences.{Declared}
+use Rattle.ot_check.specs.Offences.{Declared, Openings}
 use Rattle.ot_check.specs.walk.Walk.{Children, may_break}
 use Rattle.ot_check.specs.declared.fault.Offence.{Offence}
 use Rattle.ot_check.proofs.StandingLemmas.{either-then, either-else}
 use Rattle.ot_check.proofs.touch.+value_breaks.Goals as goal
 
 -- whether the reading of a cell is the offence
-abbrev read : Declared → (Cell → Bool) → Children → Offence → Cell → Bool
+abbrev read : Declared → Openings → Children → Offence → Cell → Bool
 read own opened children offence d = may_break own opened children (Touch (use_as Reads d)) offence
 
-abbrev reads : Declared → (Cell → Bool) → Children → Offence → Expr → Bool
+abbrev reads : Declared → Openings → Children → Offence → Expr → Bool
 reads own opened children offence e = list_any (read own opened children offence) (cells_named (expr_of e))
 
 pub returns-then-value_breaks : goal.returns-then-value_breaks

@@ -1,15 +1,14 @@
-use Rattle.std.proofs.Common.{◌≡◌, Bool, false, map}
+use Rattle.std.proofs.Common.{◌≡◌, false, map}
 use Rattle.std.specs.List.{list_any, range_with_len}
 use Rattle.ot_model.specs.Value.{cell_at}
-use Rattle.ot_model.specs.declared.expr.Cell.{Cell}
 use Rattle.ot_model.specs.declared.stmt.Mode.TheVariants.{Reads}
 use Rattle.ot_check.specs.Paths.{Touch, use_as}
-use Rattle.ot_check.specs.Offences.{Declared}
+use Rattle.ot_check.specs.Offences.{Declared, Openings}
 use Rattle.ot_check.specs.walk.Walk.{Children, may_break}
 use Rattle.ot_check.specs.walk.States.{Represents}
 use Rattle.ot_check.proofs.touch.section_breaks.Given as goal
 
 abbrev pub invariant-loop-place : goal.invariant-loop-place
 invariant-loop-place l =
-    (own : Declared) (opened : Cell → Bool) (children : Children) → Represents own opened children l.standing
+    (own : Declared) (opened : Openings) (children : Children) → Represents own opened children l.standing
     → list_any (λ c. may_break own opened children (Touch (use_as Reads c)) l.offence) (map (cell_at l.section) (range_with_len 0 l.place)) ≡ false

@@ -1,7 +1,7 @@
 use Rattle.std.proofs.Common.{rules, ℕ, inl, inr, ◌≡◌, ◌<◌, ◌≤◌, ◌+◌, ◌&&◌, add_assoc, Some, Ok, Err, drop, refl, ap, sym, subst, ◌∙◌, arith}
 use Rattle.std.specs.Option.{option_or}
 use Rattle.ot_model.specs.View.{expr_of, stmt_of, stmts_of}
-use Rattle.ot_model.specs.Tree.{Set, Add, If, Task, Wait, Group}
+use Rattle.ot_model.specs.Tree.{Set, Fold, If, Task, Wait, Group}
 use Rattle.ot_model.specs.Counts.{size, size_one}
 use Rattle.ot_model.specs.Names.{NamedIn, OneNamedIn, AreInShape, AreDeclaredIn}
 use Rattle.ot_model.specs.declared.stmt.Stmt.{the_lemmas}
@@ -11,7 +11,7 @@ use Rattle.ot_check.specs.walk.Grids.{widths}
 use Rattle.ot_check.specs.walk.States.{Represents, Stands, AreMore, lens_of, one_more, back, with_children}
 use Rattle.ot_check.specs.walk.Told.{IsTold}
 use Rattle.ot_check.proofs.TellingLemmas.{told-left, told-right, told-inside, told-passed}
-use Rattle.ot_check.proofs.WalkLemmas.{stmt_of-Set, stmt_of-Add, stmt_of-If, stmt_of-Task, stmt_of-Wait, stmt_of-Group, if_ok, behind-as, counted-later, counted-in_task, counted-in_group, place-behind, place-two, rest_is, rest_none}
+use Rattle.ot_check.proofs.WalkLemmas.{stmt_of-Set, stmt_of-Fold, stmt_of-If, stmt_of-Task, stmt_of-Wait, stmt_of-Group, if_ok, behind-as, counted-later, counted-in_task, counted-in_group, place-behind, place-two, rest_is, rest_none}
 use Rattle.ot_check.proofs.RegionLemmas.{stands-kept, stands-same}
 use Rattle.ot_check.proofs.TaskLemmas.{more-same, more-later}
 use Rattle.ot_check.proofs.walk.+walk.Goals as goal
@@ -101,17 +101,17 @@ walk_group-walk-requires t c =
 
 pub walk_group-returns-in_err-next-clause-told : goal.walk_group-returns-in_err-next-clause-told
 walk_group-returns-in_err-next-clause-told t c = λ own opened children h.
-    told-passed (first own (with_group opened c.args.cells.now) children c.args.place (stmts_of c.args.body.now.items))
+    told-passed (first own (with_group opened c.args.op c.args.cells.now) children c.args.place (stmts_of c.args.body.now.items))
     c.from_residual-in_err-next.result c.in_err-next.field-0.0 c.from_residual-in_err-next.ensures
-    (c.in_err-next.ensures.told own (with_group opened c.args.cells.now) children (c.in_ok-outside.ensures.stands own opened children h))
+    (c.in_err-next.ensures.told own (with_group opened c.args.op c.args.cells.now) children (c.in_ok-outside.ensures.stands own opened children h))
 
 pub walk_group-returns-clause-told : goal.walk_group-returns-clause-told
 walk_group-returns-clause-told t c = λ own opened children h.
-    c.in_ok-next.ensures.told own (with_group opened c.args.cells.now) children (c.in_ok-outside.ensures.stands own opened children h)
+    c.in_ok-next.ensures.told own (with_group opened c.args.op c.args.cells.now) children (c.in_ok-outside.ensures.stands own opened children h)
 
 pub walk_group-returns-clause-behind : goal.walk_group-returns-clause-behind
 walk_group-returns-clause-behind t c = λ own opened children h.
-    let inside = c.in_ok-next.ensures.behind own (with_group opened c.args.cells.now) children (c.in_ok-outside.ensures.stands own opened children h) in
+    let inside = c.in_ok-next.ensures.behind own (with_group opened c.args.op c.args.cells.now) children (c.in_ok-outside.ensures.stands own opened children h) in
     let outside : Stands own opened children (back c.walk.new.standing.region c.in_ok-outside.outside) c.walk.new.standing.tasks =
     stands-kept own opened children (back c.begin_group.new.self.region c.in_ok-outside.outside) (back c.walk.new.standing.region c.in_ok-outside.outside)
     c.begin_group.new.self.tasks c.walk.new.standing.tasks (c.in_ok-outside.ensures.outside own opened children h)
@@ -259,7 +259,7 @@ walk_one-returns-in-Wait-clause-place t c = ap (λ x. c.args.place + size_one x)
 pub walk_one-walk_group-requires : goal.walk_one-walk_group-requires
 walk_one-walk_group-requires t c =
     let body = stmts_of c.in-Group.body.items in
-    let is : stmt_of c.args.stmt.now ≡ Group c.in-Group.cells.items body = stmt_of-Group _ _ _ c.in-Group.is in
+    let is : stmt_of c.args.stmt.now ≡ Group c.in-Group.op c.in-Group.cells.items body = stmt_of-Group _ _ _ _ c.in-Group.is in
     let parts = subst (OneNamedIn (lens_of c.args.standing.now)) is c.requires.named in
     let grouped = subst (AreInShape (lens_of c.args.standing.now)) (sym c.deref.ensures.value) parts.0 in
     let sizes : size_one (stmt_of c.args.stmt.now) ≡ 1 + size body = ap size_one is in
@@ -267,16 +267,16 @@ walk_one-walk_group-requires t c =
 
 pub walk_one-returns-in-Group-clause-told : goal.walk_one-returns-in-Group-clause-told
 walk_one-returns-in-Group-clause-told t c = λ own opened children h.
-    let is : stmt_of c.args.stmt.now ≡ Group c.in-Group.cells.items (stmts_of c.in-Group.body.items) = stmt_of-Group _ _ _ c.in-Group.is in
-    told-inside own opened children c.args.place (stmt_of c.args.stmt.now) (Group c.in-Group.cells.items (stmts_of c.in-Group.body.items))
+    let is : stmt_of c.args.stmt.now ≡ Group c.in-Group.op c.in-Group.cells.items (stmts_of c.in-Group.body.items) = stmt_of-Group _ _ _ _ c.in-Group.is in
+    told-inside own opened children c.args.place (stmt_of c.args.stmt.now) (Group c.in-Group.op c.in-Group.cells.items (stmts_of c.in-Group.body.items))
     c.own_offence.result c.walk_group.result is (c.own_offence.ensures own opened children h) c.in_default.is
-    (subst (λ cells. IsTold (first own (with_group opened cells) children (c.args.place + 1) (stmts_of c.in-Group.body.items)) c.walk_group.result) c.deref.ensures.value
+    (subst (λ cells. IsTold (first own (with_group opened c.in-Group.op cells) children (c.args.place + 1) (stmts_of c.in-Group.body.items)) c.walk_group.result) c.deref.ensures.value
     (c.walk_group.ensures.told own opened children h))
 
 pub walk_one-returns-in-Group-clause-behind : goal.walk_one-returns-in-Group-clause-behind
 walk_one-returns-in-Group-clause-behind t c =
-    let is : stmt_of c.args.stmt.now ≡ Group c.in-Group.cells.items (stmts_of c.in-Group.body.items) = stmt_of-Group _ _ _ c.in-Group.is in
-    behind-as c.walk_group.result c.args.standing.now c.walk_group.new.standing (stmt_of c.args.stmt.now) (Group c.in-Group.cells.items (stmts_of c.in-Group.body.items))
+    let is : stmt_of c.args.stmt.now ≡ Group c.in-Group.op c.in-Group.cells.items (stmts_of c.in-Group.body.items) = stmt_of-Group _ _ _ _ c.in-Group.is in
+    behind-as c.walk_group.result c.args.standing.now c.walk_group.new.standing (stmt_of c.args.stmt.now) (Group c.in-Group.op c.in-Group.cells.items (stmts_of c.in-Group.body.items))
     (λ children test. children test && through (stmts_of c.in-Group.body.items)) is (λ children. refl) c.walk_group.ensures.behind
 
 pub walk_one-returns-in-Group-clause-counted : goal.walk_one-returns-in-Group-clause-counted
@@ -284,7 +284,7 @@ walk_one-returns-in-Group-clause-counted t c = counted-in_group c.walk_group.res
 
 pub walk_one-returns-in-Group-clause-place : goal.walk_one-returns-in-Group-clause-place
 walk_one-returns-in-Group-clause-place t c =
-    place-behind c.walk_group.result _ _ _ _ _ (stmt_of-Group _ _ _ c.in-Group.is)
+    place-behind c.walk_group.result _ _ _ _ _ (stmt_of-Group _ _ _ _ c.in-Group.is)
     (add_assoc c.args.place 1 _) c.walk_group.ensures.place
 
 pub walk_one-returns-in-Set-clause-behind : goal.walk_one-returns-in-Set-clause-behind
@@ -294,7 +294,7 @@ walk_one-returns-in-Set-clause-behind t c = λ own opened children h.
           let is : stmt_of c.args.stmt.now ≡ Set p.0 (expr_of p.1) = stmt_of-Set _ _ _ p.2 in
           subst (λ x. Represents own opened (behind_one children x) c.args.standing.now) (sym is) h
       | inr p ↦
-          let is : stmt_of c.args.stmt.now ≡ Add p.0 (expr_of p.1) = stmt_of-Add _ _ _ p.2 in
+          let is : stmt_of c.args.stmt.now ≡ Fold p.0 p.1 (expr_of p.2) = stmt_of-Fold _ _ _ _ p.3 in
           subst (λ x. Represents own opened (behind_one children x) c.args.standing.now) (sym is) h
     ]
 

@@ -8,5 +8,5 @@ pub returns-clause-stands : goal.returns-clause-stands
 returns-clause-stands c = λ own opened children h.
     stands-first (Some c.args.decl.now) c.replace.new.dest c.args.self.now.tasks
     (ap (λ r. r.own) c.replace.ensures.after ∙ ap Some c.in_ok-copy.ensures)
-    (λ cell. ap (λ r. is_open r.opened cell) c.replace.ensures.after ∙ c.new.ensures cell)
+    (λ o cell. ap (λ r. is_open r.opened o cell) c.replace.ensures.after ∙ c.new.ensures o cell)
     (λ k. ap (λ r. has r.unawaited k) c.replace.ensures.after ∙ c.new-2.ensures k) h.sound

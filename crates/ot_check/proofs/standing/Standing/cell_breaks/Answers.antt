@@ -7,6 +7,6 @@ use Rattle.ot_check.proofs.Bits.{or_none}
 use Rattle.ot_check.proofs.standing.Standing.cell_breaks.Goals as goal
 
 pub returns-in-ConflictsWithChild : goal.returns-in-ConflictsWithChild
-returns-in-ConflictsWithChild c = λ own opened children h.
+returns-in-ConflictsWithChild c = λ own opened children h op.
     c.clash.ensures ∙ h.clash (use_as Writes c.args.cell) ∙ sym (or_none (children (clashes (use_as Writes c.args.cell))))
-    ∙ sym (ap (may_break own opened children (Enter (c.args.cell ∷ []))) c.in-ConflictsWithChild.is)
+    ∙ sym (ap (may_break own opened children (Enter op (c.args.cell ∷ []))) c.in-ConflictsWithChild.is)

@@ -1,12 +1,12 @@
-use Rattle.std.proofs.Common.{◌≡◌, Bool, false, take}
-use Rattle.ot_model.specs.declared.expr.Cell.{Cell}
+use Rattle.std.proofs.Common.{◌≡◌, false, take}
+use Rattle.ot_model.specs.declared.fold.Fold.{Fold as Operation}
 use Rattle.ot_check.specs.Paths.{Enter}
-use Rattle.ot_check.specs.Offences.{Declared}
+use Rattle.ot_check.specs.Offences.{Declared, Openings}
 use Rattle.ot_check.specs.walk.Walk.{Children, may_break}
 use Rattle.ot_check.specs.walk.States.{Represents}
 use Rattle.ot_check.proofs.standing.Standing.group_breaks.Given as goal
 
 abbrev pub invariant-loop-cell : goal.invariant-loop-cell
 invariant-loop-cell l =
-    (own : Declared) (opened : Cell → Bool) (children : Children) → Represents own opened children l.self
-    → may_break own opened children (Enter (take l.cell-index l.cells)) l.offence ≡ false
+    (own : Declared) (opened : Openings) (children : Children) → Represents own opened children l.self → (op : Operation)
+    → may_break own opened children (Enter op (take l.cell-index l.cells)) l.offence ≡ false

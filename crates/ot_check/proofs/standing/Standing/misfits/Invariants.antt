@@ -1,12 +1,11 @@
-use Rattle.std.proofs.Common.{◌≡◌, Bool, false, take}
+use Rattle.std.proofs.Common.{◌≡◌, false, take}
 use Rattle.std.specs.List.{list_any}
-use Rattle.ot_model.specs.declared.expr.Cell.{Cell}
-use Rattle.ot_check.specs.Offences.{Declared, misfits}
+use Rattle.ot_check.specs.Offences.{Declared, Openings, misfits}
 use Rattle.ot_check.specs.walk.Walk.{Children}
 use Rattle.ot_check.specs.walk.States.{Represents}
 use Rattle.ot_check.proofs.standing.Standing.misfits.Given as goal
 
 abbrev pub invariant-loop-used : goal.invariant-loop-used
 invariant-loop-used l =
-    (own : Declared) (opened : Cell → Bool) (children : Children) → Represents own opened children l.self
+    (own : Declared) (opened : Openings) (children : Children) → Represents own opened children l.self
     → list_any (misfits own opened) (take l.used-index l.used-items) ≡ false

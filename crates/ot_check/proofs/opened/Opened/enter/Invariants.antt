@@ -1,8 +1,0 @@
-use Rattle.std.proofs.Common.{◌≡◌, ◌||◌, take}
-use Rattle.ot_model.specs.declared.expr.Cell.{Cell}
-use Rattle.ot_check.specs.Offences.{has_cell}
-use Rattle.ot_check.specs.walk.States.{is_open}
-use Rattle.ot_check.proofs.opened.Opened.enter.Given as goal
-
-abbrev pub invariant-loop-cell : goal.invariant-loop-cell
-invariant-loop-cell l = (c : Cell) → is_open l.self c ≡ (is_open l.fn.self c || has_cell (take l.cell-index l.cells) c)
