@@ -2,6 +2,7 @@
 use Rattle.std.proofs.Common.{◌≡◌, ℕ, Bool, true, false, not, ◌&&◌, ◌||◌, List, [], ◌∷◌, refl, sym, ◌∙◌}
 use Rattle.ot_model.specs.Tree.{E, Set, Fold, If, Task, Wait, Group, Body, End, Next, append}
 use Rattle.ot_model.specs.declared.expr.Cell.{Cell}
+use Rattle.ot_model.specs.declared.fold.Fold.{Fold as Operation}
 use Rattle.ot_model.specs.declared.stmt.Use.{Use}
 use Rattle.ot_depend.specs.Siblings.{Sibling, is_in}
 use Rattle.ot_check.specs.walk.Walk.{anyone}
@@ -85,9 +86,9 @@ awaits-task kids d b rest os new inside h =
     first_true false true t here k = k
     first_true false false t here k = here
 
-pub awaits-enter : (kids : Kids) (cs : List Cell) (b rest : Body) (g : ℕ) (os : List Open) → Monotone kids
+pub awaits-enter : (kids : Kids) (op : Operation) (cs : List Cell) (b rest : Body) (g : ℕ) (os : List Open) → Monotone kids
     → AwaitsAll kids (Next (Group op cs b) rest) os → AwaitsAll kids b (record { group = g; op = op; cells = cs; behind = rest } ∷ os)
-awaits-enter kids cs b rest g os mono h =
+awaits-enter kids op cs b rest g os mono h =
     awaits-step kids (kids_behind kids b g) (Next (Group op cs b) rest) rest os
     (after-more anyone rest (children_of (kids_behind kids b g) anyone) (children_of kids anyone && through b) (swap (through b) _ _ (mono _ _ (λ s. and_right (not (is_in g s)) true))))
     (λ p more e T k. again (through b) (through rest) _ _ (mono _ _ (λ s. and_right (not (is_in g s)) (not (is_in p.group s) && T s))) k) h

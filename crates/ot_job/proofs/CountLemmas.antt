@@ -6,6 +6,7 @@ use Rattle.ot_model.specs.Value.{val}
 use Rattle.ot_model.specs.Cells.{cell_of, lengths}
 use Rattle.ot_model.proofs.CellsLemmas.{lengths-with_cell}
 use Rattle.ot_model.specs.Counts.{size, tasks_in}
+use Rattle.ot_model.specs.Joining.{join_by}
 use Rattle.ot_model.specs.Serial.{State, bump, change, either, serial, serial_run}
 use Rattle.ot_model.specs.Runs.{state_of}
 use Rattle.ot_model.specs.declared.plain.Counts.{Counts}

@@ -35,7 +35,7 @@ use Rattle.ot_task.specs.Copies.{assigned}
 use Rattle.ot_job.proofs.Given.{Lets}
 use Rattle.ot_task.specs.Place.{todo}
 use Rattle.ot_job.specs.Awaiting.{opened, children_of, unawaited, IsFineAt}
-use Rattle.ot_task.specs.Regions.{Region, Run, with_rest, next_task, cells_next}
+use Rattle.ot_task.specs.Regions.{Region, Run, with_rest, next_task, group_next}
 use Rattle.ot_job.specs.Numbered.{at, todo_at, parents, left_of}
 use Rattle.ot_job.specs.Sound.{IsBegun, IsSound}
 use Rattle.ot_task.specs.Pieces.{leading, leading_len, test_of}
@@ -80,7 +80,7 @@ module _ (j : Live) (w : IsWell j) (working : j.failing ≡ false) (d : Came) (o
     (made : (c : Cell) → value_at d.lent c ≡ assigned d.assigns (first_at d.lent) c) (told : d.answer ≡ option_map (λ e. val (value_at d.lent) e) d.test)
     (cells : List (List ℕ)) (owned : Owned) (back : AreJoined d.lent (worth j.owned j.cells) (worth owned cells)) (long : lengths cells ≡ lengths j.cells)
     (ended : IsPermutation j.owned.out (loan_of out.0.0 d.lent ∷ owned.out))
-    (groups : Opens (cells_next (at j.regions d.task).rest) j.counts.units (all_back out.0.0 d.lent j.owned.groups) owned.groups)
+    (groups : Opens (group_next (at j.regions d.task).rest) j.counts.units (all_back out.0.0 d.lent j.owned.groups) owned.groups)
     (ordered : (child : List Use × Body) → next_task (at j.regions d.task).rest ≡ Some child → AreInOrder child.0) where
   abbrev i : ℕ
   i = d.task
@@ -288,13 +288,13 @@ module _ (j : Live) (w : IsWell j) (working : j.failing ≡ false) (d : Came) (o
   older-now =
       each-settled (λ g. g.group < settles.counts.units) (taken_by d.answer) j.counts.units i j.regions
       (λ k. All-weaker (λ g. g.group < j.counts.units) (λ g. g.group < settles.counts.units) (λ g lt. omega (arith, lt)) (at j.regions k).groups (o.older k))
-      (λ cs b rest was. let more : units_of d.assigns r.rest ≡ leading_len d.assigns + 1 = ap (units_of d.assigns) was in omega (arith, more))
+      (λ op cs b rest was. let more : units_of d.assigns r.rest ≡ leading_len d.assigns + 1 = ap (units_of d.assigns) was in omega (arith, more))
 
   there-now : (k : ℕ) → All (λ g. AreInShape (lengths cells) g.cells) (at settles.regions k).groups
   there-now =
       each-settled (λ g. AreInShape (lengths cells) g.cells) (taken_by d.answer) j.counts.units i j.regions
       (λ k. subst (λ l. All (λ g. AreInShape l g.cells) (at j.regions k).groups) (sym long) (o.there k))
-      (λ cs b rest was. subst (λ l. AreInShape l cs) (sym long) (subst (NamedIn lens) was (named-back lens d.assigns r.rest named-all)).0.0)
+      (λ op cs b rest was. subst (λ l. AreInShape l cs) (sym long) (subst (NamedIn lens) was (named-back lens d.assigns r.rest named-all)).0.0)
 
   pub settle-course : IsOnCourse settles
   settle-course = record {

@@ -20,7 +20,7 @@ use Rattle.ot_check.specs.declared.fault.Offence.TheVariants.{ChildBeyond, Reduc
 use Rattle.ot_check.proofs.Bits.{or_true, true_or, or_right, and_left, and_right, and_true}
 use Rattle.ot_check.proofs.OffenceLemmas.{is_offence-ChildBeyond, is_offence-ReductionMisuse}
 use Rattle.ot_check.proofs.InsideLemmas.{child_fits}
-use Rattle.ot_check.proofs.SumLemmas.{fits-folds, fits-reads}
+use Rattle.ot_check.proofs.FoldLemmas.{fits-folds, fits-reads}
 use Rattle.ot_check.specs.walk.Fine.{IsClean}
 use Rattle.ot_task.specs.Place.{Open, todo}
 use Rattle.ot_job.specs.Awaiting.{opened, children_of, IsFineAt, AwaitsAll, unawaited}

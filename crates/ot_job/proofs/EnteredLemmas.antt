@@ -6,6 +6,7 @@ use Rattle.ot_model.specs.Tree.{Set, Fold, If, Task, Wait, Group, Body, End, Nex
 use Rattle.ot_model.specs.Cells.{updated}
 use Rattle.ot_model.specs.declared.stmt.Use.{Use}
 use Rattle.ot_model.specs.declared.expr.Cell.{Cell}
+use Rattle.ot_model.specs.declared.fold.Fold.{Fold as Operation}
 use Rattle.ot_owner.specs.Leases.{Lease}
 use Rattle.ot_task.specs.Place.{Open}
 use Rattle.ot_task.specs.Regions.{Region, with_child, new_region, with_created, stepped, stepped_from, executed, next_task, rest_at, children_at, over, stopped, without}
@@ -42,7 +43,7 @@ module _ (P : Open → Type 0) where
   each-begun worker lease rs i old = at-each Each rs i (begun worker lease) old (each-passed (at rs i).rest (at rs i).groups (old i))
 
   module _ (taken : Bool) (g i : ℕ) (rs : List Region) (old : (k : ℕ) → All P (at rs k).groups)
-      (new : (cs : List Cell) (b rest : Body) → (at rs i).rest ≡ Next (Group op cs b) rest → P (record { group = g; op = op; cells = cs; behind = rest })) where
+      (new : (op : Operation) (cs : List Cell) (b rest : Body) → (at rs i).rest ≡ Next (Group op cs b) rest → P (record { group = g; op = op; cells = cs; behind = rest })) where
     each-told : (k : ℕ) → All P (at (told_parent i rs) k).groups
     each-told = by (nat_lt 0 i)
       where
@@ -60,7 +61,7 @@ module _ (P : Open → Type 0) where
         by (Next (If e a b) rest) was = old i
         by (Next (Task d b) rest) was = old i
         by (Next Wait rest) was = old i
-        by (Next (Group op cs b) rest) was = All-cons P (record { group = g; op = op; cells = cs; behind = rest }) (at rs i).groups (new cs b rest was) (old i)
+        by (Next (Group op cs b) rest) was = All-cons P (record { group = g; op = op; cells = cs; behind = rest }) (at rs i).groups (new op cs b rest was) (old i)
 
     each-created : (child : Option (List Use × Body)) (k : ℕ) → All P (at (with_created i child (updated rs i (stepped taken g))) k).groups
     each-created None = each-stepped

@@ -13,6 +13,7 @@ use Rattle.ot_model.proofs.EqualLemmas.{fold-decides}
 use Rattle.ot_check.specs.Paths.{use_as}
 use Rattle.ot_check.specs.Offences.{Declared, allows, covers, folds_by, folds_to}
 use Rattle.ot_check.proofs.Bits.{or_true, true_or, or_right, or_false_left, or_false_right, not_false}
+use Rattle.ot_check.proofs.InsideLemmas.{folded}
 use Rattle.ot_job.specs.Sound.{OnlyFolds}
 
 -- ---- operations
@@ -87,25 +88,6 @@ pub writes-all : (own : Declared) (c : Cell) (m : Mode) → allows own (use_as W
 writes-all None c m may = refl
 writes-all (Some uses) c m may = writes-any uses c m may
 
--- who declares a fold may fold
-any-folds : (uses : List Use) (o : Operation) (c : Cell) → folds_to (Some uses) o c ≡ true → allows (Some uses) (use_as (Folds o) c) ≡ true
-any-folds [] o c h = h
-any-folds (d ∷ uses) o c h =
-    elim (or_true (same_cell d.cell c && folds_by o d.mode) (folds_to (Some uses) o c) h) [
-      | inl here ↦ true_or (same_cell d.cell c && covers d.mode (Folds o)) (allows (Some uses) (use_as (Folds o) c)) (one (same_cell d.cell c) d.mode here)
-      | inr later ↦ or_right (same_cell d.cell c && covers d.mode (Folds o)) (allows (Some uses) (use_as (Folds o) c)) (any-folds uses o c later)
-    ]
-  where
-    one : (b : Bool) (m : Mode) → (b && folds_by o m) ≡ true → (b && covers m (Folds o)) ≡ true
-    one true Reads h = absurd (true≢false (sym h))
-    one true Writes h = refl
-    one true (Folds p) h = h
-    one false m h = absurd (true≢false (sym h))
-
-pub folds-may : (own : Declared) (o : Operation) (c : Cell) → folds_to own o c ≡ true → allows own (use_as (Folds o) c) ≡ true
-folds-may None o c h = refl
-folds-may (Some uses) o c h = any-folds uses o c h
-
 -- who may fold, and not read, declares the fold
 pub declares-fold : (uses : List Use) (o : Operation) (c : Cell) → allows (Some uses) (use_as (Folds o) c) ≡ true → allows (Some uses) (use_as Reads c) ≡ false → folds_to (Some uses) o c ≡ true
 declares-fold [] o c may none = may
@@ -128,7 +110,7 @@ declares-fold (d ∷ uses) o c may none =
 -- such a cell is folded by one operation
 pub held-alike : (own : Declared) (c : Cell) → ((o : Operation) → folds_to own o c ≡ true → OnlyFolds o own c)
     → (o p : Operation) → folds_to own o c ≡ true → folds_to own p c ≡ true → o ≡ p
-held-alike own c only o p h g = sym (one-fold p o (only o h (Folds p) (folds-may own p c g)))
+held-alike own c only o p h g = sym (one-fold p o (only o h (Folds p) (folded own p c g)))
 
 -- it isn't read
 pub only-unread : (o : Operation) (own : Declared) (c : Cell) → OnlyFolds o own c → allows own (use_as Reads c) ≡ true → ⊥

@@ -12,13 +12,13 @@ use Rattle.ot_model.specs.declared.stmt.Use.{Use}
 use Rattle.ot_depend.specs.Siblings.{Sibling, is_unfinished, is_in}
 use Rattle.ot_check.specs.Paths.{use_as}
 use Rattle.ot_check.specs.Touches.{EachTouch, EachTask}
-use Rattle.ot_check.specs.Offences.{Declared, Openings, allows, clashes, has_cell, opened_by_any}
+use Rattle.ot_check.specs.Offences.{allows, clashes, has_cell, opened_by_any}
 use Rattle.ot_model.specs.Cells.{same_cell}
 use Rattle.ot_check.specs.declared.fault.Offence.TheVariants.{ReductionMisuse, ConflictsWithChild}
 use Rattle.ot_check.proofs.Bits.{or_true, true_or, or_right, and_right, or_false_left, or_false_right}
 use Rattle.ot_check.proofs.OffenceLemmas.{is_offence-Group}
-use Rattle.ot_check.proofs.InsideLemmas.{groups_inside}
-use Rattle.ot_check.proofs.OpeningLemmas.{unopened-by}
+use Rattle.ot_check.proofs.InsideLemmas.{group_free, groups_inside}
+use Rattle.ot_check.proofs.OpeningLemmas.{opened-none}
 use Rattle.ot_check.specs.walk.Fine.{IsClean}
 use Rattle.ot_task.specs.Place.{Open, todo}
 use Rattle.ot_job.specs.Awaiting.{opened, children_of, IsFineAt, AwaitsAll, unawaited}
@@ -70,19 +70,6 @@ unused (d ∷ cs) kids k s c free there alive named m =
     never true h = absurd (h refl)
     never false h = refl
 
--- a group names no cell that an open one names
-pub unopened : (own : Declared) (groups : Openings) (cs : List Cell) (c : Cell) → list_any (λ d. not (allows own (use_as Writes d)) || opened_by_any groups d) cs ≡ false
-    → has_cell cs c ≡ true → opened_by_any groups c ≡ false
-unopened own groups [] c free named = absurd (true≢false (sym named))
-unopened own groups (d ∷ cs) c free named =
-    elim (or_true (same_cell d c) (has_cell cs c) named) [
-      | inl here ↦ subst (λ (e : Cell). opened_by_any groups e ≡ false) (same_is d c here)
-          (or_false_right (not (allows own (use_as Writes d))) (opened_by_any groups d)
-          (or_false_left (not (allows own (use_as Writes d)) || opened_by_any groups d) (list_any (λ d. not (allows own (use_as Writes d)) || opened_by_any groups d) cs) free))
-      | inr later ↦ unopened own groups cs c
-          (or_false_right (not (allows own (use_as Writes d)) || opened_by_any groups d) (list_any (λ d. not (allows own (use_as Writes d)) || opened_by_any groups d) cs) free) later
-    ]
-
 module _ (r : Region) (p : IsPlaced r) where
   pub placed-enter : (g : ℕ) (op : Operation) (cs : List Cell) (b rest : Body) → r.rest ≡ Next (Group op cs b) rest → r.waiting ≡ false
       → IsClean r.own (opened r.groups) (children_of (unawaited r.waiting r.children)) (Group op cs b)
@@ -100,7 +87,7 @@ module _ (r : Region) (p : IsPlaced r) where
     apart = p.apart;
     over = λ e. absurd (never (sym (sym (ap (λ x. todo x r.groups) was ∙ todo-next (Group op cs b) rest r.groups) ∙ p.over e)));
     shut = λ e. absurd (never (sym (sym (ap (λ x. todo x r.groups) was ∙ todo-next (Group op cs b) rest r.groups) ∙ p.over e)));
-    once = ((λ o c named. unopened-by (opened r.groups) o c (unopened r.own (opened r.groups) cs c fits named)), p.once);
+    once = ((λ o c named. opened-none (opened r.groups) o c (group_free r.own (opened r.groups) cs c fits named)), p.once);
     writes = groups_inside r.own (opened r.groups) op cs p.writes fits;
     sums = λ k s there alive o c folds. ⊎_elim (λ e. inl e) (λ e. inr (or_right ((same_fold op o && has_cell cs c) && is_in g s) (sums_in r.groups s o c) e)) (p.sums k s there alive o c folds);
     reduced = λ k s there alive o c here. ⊎_elim (λ e. p.reduced k s there alive o c e)

@@ -11,6 +11,7 @@ use Rattle.ot_model.proofs.CellsLemmas.{length-updated, updated-updated}
 use Rattle.ot_model.specs.Serial.{State, bump, either, serial}
 use Rattle.ot_model.specs.declared.stmt.Use.{Use}
 use Rattle.ot_model.specs.declared.expr.Cell.{Cell}
+use Rattle.ot_model.specs.declared.fold.Fold.{Fold as Operation}
 use Rattle.ot_model.proofs.TreeLemmas as tree
 use Rattle.ot_model.proofs.SerialLemmas.{serial-append}
 use Rattle.ot_job.specs.Left.{left}
@@ -170,7 +171,7 @@ module _ (rs : List Region) (s : IsSound rs) (i : ℕ) (h : i < length rs) where
   -- the entry into a group
   pub kept-group : (g : ℕ) (op : Operation) (cs : List Cell) (b rest : Body) (t : State) → (at rs i).rest ≡ Next (Group op cs b) rest
       → left_of (updated rs i (λ r. inside g op cs b (with_rest rest r))) (bump 0 1 t) ≡ left_of rs t
-  kept-group g cs b rest t was =
+  kept-group g op cs b rest t was =
       counted (λ r. inside g op cs b (with_rest rest r)) (λ r. refl) t
       (λ u. serial-append b (todo rest (at rs i).groups) (bump 0 1 u)
       ∙ sym (ap (λ c. serial c u) (ap (λ c. todo c (at rs i).groups) was ∙ todo-next (Group op cs b) rest (at rs i).groups)))

@@ -15,7 +15,7 @@ use Rattle.ot_check.specs.Offences.{Declared, allows, folds_to, has_cell}
 use Rattle.ot_check.specs.Touches.{Agree}
 use Rattle.ot_check.specs.declared.fault.Offence.TheVariants.{ReductionMisuse}
 use Rattle.ot_check.proofs.Bits.{or_true, or_right, and_true}
-use Rattle.ot_check.proofs.OpeningLemmas.{unopened-by}
+use Rattle.ot_check.proofs.OpeningLemmas.{opened-none}
 use Rattle.ot_task.specs.Place.{Open}
 use Rattle.ot_task.specs.Regions.{Region, Run}
 use Rattle.ot_task.specs.Pieces.{test_of}
@@ -181,7 +181,7 @@ module _ (rs : List Region) (s : IsSound (wholes rs)) (lens : List ℕ) (named :
         Touched u = Among u (piece_touches run.assigns (test_of (at rs i).rest))
 
         touch : (u : Use) → Touched u → opened (at rs i).groups op u.cell ≡ false
-        touch u t = unopened-by (opened (at rs i).groups) op u.cell (safe lens (at rs i) (placed rs s i) (named-at i) run out (well i run out) u t ReductionMisuse)
+        touch u t = opened-none (opened (at rs i).groups) op u.cell (safe lens (at rs i) (placed rs s i) (named-at i) run out (well i run out) u t ReductionMisuse)
 
         by : (m : Mode) → IsRight (at rs i).own Touched (use_as m c) → opened (at rs i).groups op c ≡ false
         by Reads right = touch (use_as Reads c) right

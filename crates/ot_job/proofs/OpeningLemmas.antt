@@ -25,9 +25,9 @@ use Rattle.ot_owner.specs.Back.{taken_back, all_back}
 use Rattle.ot_owner.specs.Leases.{copy_of, lent_from}
 use Rattle.ot_owner.specs.Owning.{Loan, Owned, IsFreeFor}
 use Rattle.ot_owner.specs.Rows.{Summed, is_of, place_in, names, IsNamed, IsSummed, IsSummedBy, IsOnlyBy, IsByOne, folds_in, folded_in, folded, begun_in, begun_for, without as without_group}
-use Rattle.ot_owner.specs.Worth.{combined, worth_over, worth, worths, IsCombined}
+use Rattle.ot_owner.specs.Worth.{worth_over, worth, worths, IsCombined}
 use Rattle.ot_owner.specs.declared.lent.LentCell.{LentCell}
-use Rattle.ot_owner.proofs.OpenLemmas.{unsummed, worth-with}
+use Rattle.ot_owner.proofs.OpenLemmas.{same_worth, worth-unsummed as over-unsummed}
 use Rattle.ot_owner.proofs.OutLemmas.{permutation_rest}
 use Rattle.ot_owner.proofs.WorthLemmas.{cell_of-worths}
 use Rattle.ot_task.specs.Pieces.{passed, awake, ended_group, group_passed}
@@ -591,7 +591,7 @@ module _ (rs : List Region) (gs : List Summed) (i : ℕ) (o : Open) (among : Con
 -- a cell that no copies are kept of is worth its stored number
 pub worth-unsummed : (owned : Owned) (cells : List (List ℕ)) (c : Cell) → ¬ IsSummed owned.groups c → worth owned cells c ≡ cell_of cells c
 worth-unsummed owned cells c none =
-    worth-with owned cells c ∙ ap (λ copies. option_map (λ n. combined n copies) (cell_of cells c)) (unsummed owned.groups c none) ∙ option-same (cell_of cells c)
+    same_worth (worth_over owned.groups c) (λ (n : ℕ). n) (cell_of cells c) (over-unsummed owned.groups c none) ∙ option-same (cell_of cells c)
 
 -- what is lent is as it was from the cells as they are worth, where only those who fold meet copies
 pub lent-worths : (owned : Owned) (cells : List (List ℕ)) (uses : List Use) → All (λ u. is_fold u.mode ≡ false → ¬ IsSummed owned.groups u.cell) uses → lent_from cells uses ≡ lent_from (worths owned cells) uses

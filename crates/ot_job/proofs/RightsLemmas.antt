@@ -15,7 +15,7 @@ use Rattle.ot_model.specs.Cells.{same_cell}
 use Rattle.ot_check.specs.Touches.{Agree}
 use Rattle.ot_check.specs.declared.fault.Offence.TheVariants.{ReductionMisuse, ConflictsWithChild}
 use Rattle.ot_check.proofs.Bits.{or_true, true_or, or_right, or_false_left, or_false_right}
-use Rattle.ot_check.proofs.OpeningLemmas.{unopened-by}
+use Rattle.ot_check.proofs.OpeningLemmas.{opened-none}
 use Rattle.ot_job.specs.Rights.{IsRight}
 use Rattle.ot_job.proofs.FoldLemmas.{agrees-with, turned}
 use Rattle.ot_job.proofs.Order.{IsBefore, branch}
@@ -59,7 +59,7 @@ module _ (own : Declared) (opened : Openings) (children : Children) (Touched : U
         let free = there (clashes (use_as (Folds o) c)) (safe (use_as (Folds o) c) held.1 ConflictsWithChild) in
         let folds : v.mode ≡ Folds o = agrees-with o v.mode (clash_free (use_as (Folds o) c) v child free may same) in
         let sum : folds_to (Some child) o c ≡ true = folds_or_clashes o c child (subst (λ (u : Use). Allowed (Some child) u) (use_is o v c (sym same) folds) may) free in
-        absurd (⊎_elim (λ e. true≢false (sym e ∙ held.2)) (λ e. true≢false (sym e ∙ unopened-by opened o c (safe (use_as (Folds o) c) held.1 ReductionMisuse))) (sums o c sum))
+        absurd (⊎_elim (λ e. true≢false (sym e ∙ held.2)) (λ e. true≢false (sym e ∙ opened-none opened o c (safe (use_as (Folds o) c) held.1 ReductionMisuse))) (sums o c sum))
       where
         use_is : (o : Operation) (v : Use) (c : Cell) → v.cell ≡ c → v.mode ≡ Folds o → v ≡ use_as (Folds o) c
         use_is o v c p q = ap (λ (x : Cell). use_as v.mode x) p ∙ ap (λ (m : Mode). use_as m c) q
