@@ -15,10 +15,11 @@ use Rattle.ot_model.specs.Uses.{AreInOrder}
 use Rattle.ot_model.specs.Serial.{State, serial, serial_run}
 use Rattle.ot_model.specs.Runs.{state_of}
 use Rattle.ot_model.specs.declared.expr.Cell.{Cell}
+use Rattle.ot_model.specs.declared.fold.Fold.{Fold as Operation}
 use Rattle.ot_model.specs.declared.stmt.Use.{Use}
 use Rattle.ot_model.proofs.CellsLemmas.{length-updated}
 use Rattle.ot_check.specs.Paths.{use_as}
-use Rattle.ot_check.specs.Offences.{adds_to, allows}
+use Rattle.ot_check.specs.Offences.{folds_to}
 use Rattle.ot_model.specs.declared.stmt.Mode.TheVariants.{Reads}
 use Rattle.ot_check.specs.Touches.{EachTouch}
 use Rattle.ot_check.specs.walk.Fine.{IsFine}
@@ -37,7 +38,7 @@ use Rattle.ot_task.specs.Place.{todo}
 use Rattle.ot_job.specs.Awaiting.{opened, children_of, unawaited, IsFineAt}
 use Rattle.ot_task.specs.Regions.{Region, Run, with_rest, next_task, group_next}
 use Rattle.ot_job.specs.Numbered.{at, todo_at, parents, left_of}
-use Rattle.ot_job.specs.Sound.{IsBegun, IsSound}
+use Rattle.ot_job.specs.Sound.{IsBegun, IsSound, OnlyFolds}
 use Rattle.ot_task.specs.Pieces.{leading, leading_len, test_of}
 use Rattle.ot_task.specs.Modes.{held}
 use Rattle.ot_task.specs.Touched.{piece_touches}
@@ -160,8 +161,8 @@ module _ (j : Live) (w : IsWell j) (working : j.failing ≡ false) (d : Came) (o
       subst (IsFine r.own (opened r.groups) (children_of (unawaited r.waiting r.children))) (ap (λ p. append (assigns_out p) r.rest) out.0.1)
       (fine-innermost r.own (unawaited r.waiting r.children) (whole r).rest r.groups f)
 
-  exclusive : (c : Cell) → adds_to r.own c ≡ true → allows r.own (use_as Reads c) ≡ false
-  exclusive = subst (λ (x : Region). (c : Cell) → adds_to x.own c ≡ true → allows x.own (use_as Reads c) ≡ false) (at-whole j.regions i) (o.sound.placed i).exclusive
+  exclusive : (o : Operation) (c : Cell) → folds_to r.own o c ≡ true → OnlyFolds o r.own c
+  exclusive = subst (λ (x : Region). (o : Operation) (c : Cell) → folds_to x.own o c ≡ true → OnlyFolds o x.own c) (at-whole j.regions i) (o.sound.placed i).exclusive
 
   may : EachTouch (Lets (mode_at d.lent)) d.assigns
   may = lets-piece lens r.own (opened r.groups) (children_of (unawaited r.waiting r.children)) d.assigns r.rest well.assigns named-all fine-here exclusive d.lent well.modes

@@ -91,7 +91,7 @@ module _ (r : Region) (p : IsPlaced r) (alive : r.ended ≡ false) (uses : List 
     over = λ e. absurd (true≢false (sym e));
     shut = λ e. refl;
     once = tt;
-    writes = λ c h. absurd (true≢false (sym h));
+    writes = λ o c h. absurd (true≢false (sym h));
     sums = λ k s h. cc;
     reduced = λ k s h. cc;
     exclusive = folds-alone uses ordered;

@@ -22,6 +22,7 @@ use Rattle.ot_task.specs.Place.{Open, todo}
 use Rattle.ot_check.specs.walk.Fine.{AreAssigns}
 use Rattle.ot_task.specs.Regions.{Region, Run}
 use Rattle.ot_job.specs.Numbered.{at, parent_of, todo_at, parents, left_of}
+use Rattle.ot_model.specs.declared.fold.Fold.TheVariants.{Plus}
 use Rattle.ot_job.specs.Sound.{IsBegun, IsSound}
 use Rattle.ot_model.proofs.CellsLemmas.{length-updated}
 use Rattle.ot_task.specs.Pieces.{leading, behind, test_of, passed, awake, begun, group_passed}
@@ -328,7 +329,7 @@ settle-may j v w = record { out = out; kin = kin }
         let both = subst (NamedIn lens) (ap (λ o. append (assigns_out o) r.rest) is) whole-named in (
           Contains-permutation (loans_out j.regions) j.owned.out (loan_in run) (IsPermutation-sym j.owned.out (loans_out j.regions) v.rights) (out-contained j.regions i run is),
           held-there j.cells r.own (piece_touches run.assigns (test_of r.rest)) run.lease.uses
-              (all-append lens (assign_touches run.assigns) (test_touches (test_of r.rest)) (piece-named lens run.assigns well.assigns (named-front lens run.assigns (record { group = 0; cells = []; behind = r.rest } ∷ []) both)) (test-named lens r.rest (named-back lens run.assigns r.rest both)))
+              (all-append lens (assign_touches run.assigns) (test_touches (test_of r.rest)) (piece-named lens run.assigns well.assigns (named-front lens run.assigns (record { group = 0; op = Plus; cells = []; behind = r.rest } ∷ []) both)) (test-named lens r.rest (named-back lens run.assigns r.rest both)))
               well.modes,
         )
 
