@@ -5,8 +5,8 @@ use Rattle.std.proofs.lemmas.List.{get_or_default, take_more}
 use Rattle.std.proofs.lemmas.List.Elements.{All-push}
 use Rattle.std.proofs.lemmas.List.Quantifiers.{Any-push}
 use Rattle.std.specs.List.{All, AllPairs}
-use Rattle.std.specs.Prelude.{Option, Some, None, IsSome, is_some, option_map, if◌then◌else◌}
-use Rattle.ot_model.specs.Joining.{join_by, unit_of}
+use Rattle.std.specs.Prelude.{Option, Some, None, IsSome, option_map, if◌then◌else◌}
+use Rattle.ot_model.specs.Joining.{join_by}
 use Rattle.ot_model.specs.Uses.{AreInOrder, is_fold, joined}
 use Rattle.ot_model.specs.declared.expr.Cell.{Cell}
 use Rattle.ot_model.specs.declared.fold.Fold.{Fold as Operation}
@@ -15,7 +15,7 @@ use Rattle.ot_model.specs.declared.stmt.Mode.TheVariants.{Reads, Writes, Folds}
 use Rattle.ot_model.proofs.OrderLemmas.{precedes_apart}
 use Rattle.ot_owner.specs.declared.lent.LentCell.{LentCell}
 use Rattle.ot_owner.specs.Back.{kept, AreStored, IsByOwn, taken_back, all_back}
-use Rattle.ot_owner.specs.Lending.{uses_of, IsLent}
+use Rattle.ot_owner.specs.Lending.{uses_of}
 use Rattle.ot_owner.specs.Rows.{Summed, IsSummed, IsOnlyBy, copy_among, folded}
 use Rattle.ot_owner.specs.Worth.{worth_over, AreJoined}
 use Rattle.ot_owner.proofs.OrderLemmas.{each_precedes}
@@ -122,7 +122,7 @@ module _ (w : ℕ) (lent : List LentCell) (gs : List Summed) (order : AreInOrder
         (λ n. changed (λ m. m) o k d within folds (λ m hs only at s. worth-idle w l.value l.cell o unit m hs only at s) n);
     others = λ other away. ap (λ o. option_map (worth_over (all_back w lent gs) other) o) (stored.others other away)
         ∙ same_worth (worth_over (all_back w lent gs) other) (worth_over gs other) (st other)
-        (λ n. back-other w lent gs other (λ k d within folds same. away (k, get_or lent k d, within, get_or_default lent k d (get_or lent k d) within, same)) n);
+        (λ n. back-other w lent gs other (λ k d within folds same. away (k, get_or lent k d, within, sym (get_or_default lent k d (get_or lent k d) within), same)) n);
   }
 
 stored-push : (lent : List LentCell) (x : LentCell) (before mid after : Cell → Option ℕ) → AreStored lent before mid → All (λ l. l.cell ≢ x.cell) lent

@@ -49,15 +49,12 @@ unnamed c g not = by (place_in g.uses c) not
 -- a number that is joined with the stored one is joined with what the cell is worth, where its groups are by this operation
 pub worth-shift : (o : Operation) (c : Cell) (gs : List Summed) → IsOnlyBy gs o c → (s v : ℕ) → worth_over gs c (join_by o s v) ≡ join_by o (worth_over gs c s) v
 worth-shift o c [] only s v = refl
-worth-shift o c (g ∷ gs) only s v = by (names c g) refl
+worth-shift o c (g ∷ gs) only s v = by (λ n. worth-shift o c gs (λ k d within. only (suc k) d (omega (arith, within))) n v) (names c g) refl
   where
-    rest : (s : ℕ) → worth_over gs c (join_by o s v) ≡ join_by o (worth_over gs c s) v
-    rest s = worth-shift o c gs (λ k d within. only (suc k) d (omega (arith, within))) s v
-
-    by : (b : Bool) → names c g ≡ b → worth_over gs c (combined g.op (join_by o s v) (copies_in c g)) ≡ join_by o (worth_over gs c (combined g.op s (copies_in c g))) v
-    by true named = subst (λ p. worth_over gs c (combined p (join_by o s v) (copies_in c g)) ≡ join_by o (worth_over gs c (combined p s (copies_in c g))) v) (sym (only 0 g (omega arith) named))
+    by : ((n : ℕ) → worth_over gs c (join_by o n v) ≡ join_by o (worth_over gs c n) v) → (b : Bool) → names c g ≡ b → worth_over gs c (combined g.op (join_by o s v) (copies_in c g)) ≡ join_by o (worth_over gs c (combined g.op s (copies_in c g))) v
+    by rest true named = subst (λ p. worth_over gs c (combined p (join_by o s v) (copies_in c g)) ≡ join_by o (worth_over gs c (combined p s (copies_in c g))) v) (sym (only 0 g (omega arith) named))
         (ap (worth_over gs c) (combined-shift o s v (copies_in c g)) ∙ rest (combined o s (copies_in c g)))
-    by false not = subst (λ xs. worth_over gs c (combined g.op (join_by o s v) xs) ≡ join_by o (worth_over gs c (combined g.op s xs)) v) (sym (unnamed c g not)) (rest s)
+    by rest false not = subst (λ xs. worth_over gs c (combined g.op (join_by o s v) xs) ≡ join_by o (worth_over gs c (combined g.op s xs)) v) (sym (unnamed c g not)) (rest s)
 
 module _ (w v : ℕ) (c : Cell) (o : Operation) where
   -- the first group that names the cell, once the number is folded into the worker's copy in it

@@ -11,7 +11,7 @@ use Rattle.std.proofs.lemmas.List.{length-map, length-replicate, get_or_default,
 use Rattle.std.proofs.lemmas.List.Sorted.{All-permutation}
 use Rattle.std.proofs.lemmas.Option.{same_Some}
 use Rattle.std.proofs.Math.ListN.{get_or-map}
-use Rattle.ot_model.specs.Cells.{cell_of, updated}
+use Rattle.ot_model.specs.Cells.{updated}
 use Rattle.ot_model.specs.Joining.{join_by, unit_of}
 use Rattle.ot_model.specs.Uses.{joined as join, is_fold, conflicts, Conflict}
 use Rattle.ot_model.specs.declared.expr.Cell.{Cell}
@@ -25,7 +25,7 @@ use Rattle.ot_owner.specs.Back.{taken_back, all_back}
 use Rattle.ot_owner.specs.Keeping.{IsRegular, HasCopies, IsSound}
 use Rattle.ot_owner.specs.Lending.{use_of, uses_of}
 use Rattle.ot_owner.specs.Kept.{summed_of, summeds_of}
-use Rattle.ot_owner.specs.Owning.{Loan, Owned, IsFreeFor}
+use Rattle.ot_owner.specs.Owning.{Loan, IsFreeFor}
 use Rattle.ot_owner.specs.Rows.{Summed, is_of, place_in, names, IsSummed, IsSummedBy, IsOnlyBy, IsByOne, folds_in, copy_in, row_in, copies_at, copies_where, copies_in, copy_among, folded_in, folded, begun_row, begun_in, begun_for, without}
 use Rattle.ot_owner.specs.Worth.{combined, worth_over, closed_over, AreJoined}
 use Rattle.ot_owner.specs.declared.rows.Group.{Group}
@@ -261,18 +261,16 @@ closed-swap n (g ∷ gs) c o s xs one = by (closed-swap n gs c o s xs (λ k d wi
 
 pub closed-worth : (n : ℕ) (gs : List Summed) (c : Cell) (s : ℕ) → IsByOne n gs → worth_over (without n gs) c (closed_over n gs c s) ≡ worth_over gs c s
 closed-worth n [] c s one = refl
-closed-worth n (g ∷ gs) c s one = by (g.group == n)
+closed-worth n (g ∷ gs) c s one =
+    by (λ t. closed-worth n gs c t (λ k d within is e named j h inside. one (suc k) d (omega (arith, within)) is e named (suc j) h (omega (arith, inside)))) (g.group == n)
   where
-    rest : (t : ℕ) → worth_over (without n gs) c (closed_over n gs c t) ≡ worth_over gs c t
-    rest t = closed-worth n gs c t (λ k d within is e named j h inside. one (suc k) d (omega (arith, within)) is e named (suc j) h (omega (arith, inside)))
-
     swapped : (b : Bool) → names c g ≡ b → closed_over n gs c (combined g.op s (copies_in c g)) ≡ combined g.op (closed_over n gs c s) (copies_in c g)
     swapped true named = closed-swap n gs c g.op s (copies_in c g) (λ k d within is there. sym (one (suc k) d (omega (arith, within)) is c there 0 g (omega arith) named))
     swapped false not = subst (λ xs. closed_over n gs c (combined g.op s xs) ≡ combined g.op (closed_over n gs c s) xs) (sym (unnamed c g not)) refl
 
-    by : (b : Bool) → worth_over (if b then gs else g ∷ without n gs) c (if b then combined g.op s (copies_in c g) else closed_over n gs c s) ≡ worth_over (g ∷ gs) c s
-    by true = refl
-    by false = ap (worth_over (without n gs) c) (sym (swapped (names c g) refl)) ∙ rest (combined g.op s (copies_in c g))
+    by : ((t : ℕ) → worth_over (without n gs) c (closed_over n gs c t) ≡ worth_over gs c t) → (b : Bool) → worth_over (if b then gs else g ∷ without n gs) c (if b then combined g.op s (copies_in c g) else closed_over n gs c s) ≡ worth_over (g ∷ gs) c s
+    by rest true = refl
+    by rest false = ap (worth_over (without n gs) c) (sym (swapped (names c g) refl)) ∙ rest (combined g.op s (copies_in c g))
 
 pub worth-closed : (n : ℕ) (gs : List Summed) (c : Cell) (before after : Option ℕ) → IsByOne n gs → after ≡ option_map (closed_over n gs c) before →
     option_map (worth_over (without n gs) c) after ≡ option_map (worth_over gs c) before

@@ -35,11 +35,13 @@ returns-clause-worth c = λ none own.
     let after = summeds_of c.give_all.new.groups.items in
     let lent : List LentCell = c.args.lent in
     let cells = c.cells.ensures.cells in
+    let loan : Loan = record { worker = c.args.worker; lease = lease_of lent } in
     let was : before ≡ c.args.self.now.owned.groups = ap (λ k. k.owned.groups) c.self.view_is in
     let now : all_back c.args.worker lent before ≡ c.drop_right.new.self.owned.groups =
     ap (λ ls. all_back c.args.worker ls before) (sym cells) ∙ sym c.give_all.ensures.back ∙ sym c.drop_right.ensures.groups in
     let rows : All (λ l. is_fold l.mode ≡ true → IsSome (copy_among before c.args.worker l.cell)) lent =
-    subst (λ (ls : List LentCell). All (λ l. is_fold l.mode ≡ true → IsSome (copy_among before c.args.worker l.cell)) ls) cells (give_all-requires-clause-rows c) in
+    copies-lent before c.args.worker lent
+    (all-at (Copies before) (loans_in c.self.inside.rights) loan c.self.invariant.copies (subst (λ xs. Contains xs loan) (ap (λ k. k.owned.out) (sym c.self.view_is)) c.requires.out)) in
     let joined : AreJoined lent (worth_with before (cell_of c.args.cells.now)) (worth_with (all_back c.args.worker lent before) (cell_of c.give_all.new.cells)) =
     joined-worth c.args.worker lent before c.cells.ensures.ordered rows
     (subst (λ (gs : List Summed). All (λ l. l.mode ≡ Writes → ¬ IsSummed gs l.cell) lent) (sym was) none)
