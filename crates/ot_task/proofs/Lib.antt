@@ -1,4 +1,5 @@
 pub mod CellLemmas
+pub mod FoldLemmas
 pub mod RestLemmas
 pub mod AssignLemmas
 pub mod UseLemmas
