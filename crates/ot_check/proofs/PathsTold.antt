@@ -246,7 +246,7 @@ mutual
         | inl p ↦ inr (meets-from own (with_group opened o cs) children (k + 1) b (prefix ++ At k (Enter o cs) ∷ []) before p.0 place mark offence held
             (subst (Passes (k + 1) b) p.1 way) moved)
         | inr p ↦
-            let o = only (At k Leave) p.0 (At place mark) later p.2 in
+            let last = only (At k Leave) p.0 (At place mark) later p.2 in
             let what : mark ≡ Leave = cc in
             absurd (end-breaks own (is_open ((prefix ++ At k (Enter o cs) ∷ []) ++ before)) (λ test. some_unawaited test ((prefix ++ At k (Enter o cs) ∷ []) ++ before)) offence (subst (λ m. BreaksBehind (prefix ++ At k (Enter o cs) ∷ []) before own m offence) what moved))
       ]

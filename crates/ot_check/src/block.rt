@@ -67,8 +67,8 @@ impl Block {
         match mode {
             Mode::Reads => self.writes | self.folds,
             Mode::Writes => self.reads | self.writes | self.folds,
-            Mode::Folds(op) => {
-                if self.operation == op {
+            Mode::Folds(_) => {
+                if self.takes(mode) {
                     self.reads | self.writes
                 } else {
                     self.reads | self.writes | self.folds

@@ -38,16 +38,29 @@ impl Opened {
     }
 
     /// Whether a group names a cell, whatever its operation.
+    #[tactic(auto, unfolding(crate::specs::Offences::opened_by_any))]
     pub(crate) fn has_any(&self, cell: Cell) -> bool
         ensures { result ≡ opened_by_any (is_open self.now) cell }
     {
-        self.has(Fold::Plus, cell)
-            || self.has(Fold::Times, cell)
-            || self.has(Fold::And, cell)
-            || self.has(Fold::Or, cell)
-            || self.has(Fold::Xor, cell)
-            || self.has(Fold::Min, cell)
-            || self.has(Fold::Max, cell)
+        if self.has(Fold::Plus, cell) {
+            return true;
+        }
+        if self.has(Fold::Times, cell) {
+            return true;
+        }
+        if self.has(Fold::And, cell) {
+            return true;
+        }
+        if self.has(Fold::Or, cell) {
+            return true;
+        }
+        if self.has(Fold::Xor, cell) {
+            return true;
+        }
+        if self.has(Fold::Min, cell) {
+            return true;
+        }
+        self.has(Fold::Max, cell)
     }
 
     /// Makes a set for an operation, by its number.

@@ -1,5 +1,5 @@
 use Rattle.std.proofs.Common.{ap, sym, ◌∙◌}
-use Rattle.ot_check.specs.walk.Rows.{is_against}
+use Rattle.ot_check.specs.walk.Rows.{is_against, is_by}
 use Rattle.ot_check.proofs.ClashLemmas.{against-reads, against-writes, against-same, against-other}
 use Rattle.ot_check.proofs.block.Block.against.Goals as goal
 
@@ -9,10 +9,12 @@ returns-in-Reads c = λ j. against-reads c.args.self.now j ∙ ap (λ mode. is_a
 pub returns-in-Writes : goal.returns-in-Writes
 returns-in-Writes c = λ j. against-writes c.args.self.now j ∙ ap (λ mode. is_against c.args.self.now mode j) (sym c.in-Writes.is)
 
-pub returns-then-eq : goal.returns-then-eq
-returns-then-eq c = λ j.
-    against-same c.args.self.now j c.in-Folds.op (c.if-eq.true) ∙ ap (λ mode. is_against c.args.self.now mode j) (sym c.in-Folds.is)
+pub returns-then-takes : goal.returns-then-takes
+returns-then-takes c = λ j.
+    against-same c.args.self.now j c.in-Folds.field-0 (ap (is_by c.args.self.now.operation) (sym c.in-Folds.is) ∙ sym c.takes.ensures ∙ c.if-takes.true)
+    ∙ ap (λ mode. is_against c.args.self.now mode j) (sym c.in-Folds.is)
 
-pub returns-else-eq : goal.returns-else-eq
-returns-else-eq c = λ j.
-    against-other c.args.self.now j c.in-Folds.op (c.if-eq.false) ∙ ap (λ mode. is_against c.args.self.now mode j) (sym c.in-Folds.is)
+pub returns-else-takes : goal.returns-else-takes
+returns-else-takes c = λ j.
+    against-other c.args.self.now j c.in-Folds.field-0 (ap (is_by c.args.self.now.operation) (sym c.in-Folds.is) ∙ sym c.takes.ensures ∙ c.if-takes.false)
+    ∙ ap (λ mode. is_against c.args.self.now mode j) (sym c.in-Folds.is)
