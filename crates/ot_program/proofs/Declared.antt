@@ -20,7 +20,7 @@ use Rattle.ot_model.specs.Cells.{same_cell}
 use Rattle.ot_model.specs.Uses.{is_fold, same_fold, same_mode}
 use Rattle.ot_model.specs.Value.{cells_of}
 use Rattle.ot_model.proofs.EqualLemmas.{fold-decides}
-use Rattle.ot_program.specs.Declarations.{names, named_as, fold_in, first_fold, mode_among, named_otherwise, is_mixed}
+use Rattle.ot_program.specs.Declarations.{names, named_as, operation_in, first_fold, mode_among, named_otherwise, is_mixed}
 use Rattle.ot_program.specs.Meanings.{Clause}
 use Rattle.ot_program.specs.walk.Namings.{cell_order, Named, together, with_mode, name_cell, name_clause}
 use Rattle.ot_program.proofs.Coded.{code_clause}
@@ -221,7 +221,7 @@ abbrev WritesKept : Option Fold → Option (Option Mode) → Type 0
 WritesKept f s = s ≡ cond (is_some f) (Some None) (Some (Some Writes))
 
 writes_by : (c : Cell) (ks : List Clause) (b : Bool) (m : Mode) → WritesKept (first_fold ks c) (after (Some (Some Writes)) ks c)
-    → WritesKept (cond b (option_or (fold_in m) (first_fold ks c)) (first_fold ks c)) (after (cond b (Some (with_mode (Some (Some Writes)) m)) (Some (Some Writes))) ks c)
+    → WritesKept (cond b (option_or (operation_in m) (first_fold ks c)) (first_fold ks c)) (after (cond b (Some (with_mode (Some (Some Writes)) m)) (Some (Some Writes))) ks c)
 writes_by c ks false m h = h
 writes_by c ks true Reads h = h
 writes_by c ks true Writes h = h
@@ -236,7 +236,7 @@ abbrev ReadsKept : Option Fold → Bool → Option (Option Mode) → Type 0
 ReadsKept f w s = s ≡ cond (is_some f) (Some None) (cond w (Some (Some Writes)) (Some (Some Reads)))
 
 reads_by : (c : Cell) (ks : List Clause) (b : Bool) (m : Mode) → ReadsKept (first_fold ks c) (named_as Writes ks c) (after (Some (Some Reads)) ks c)
-    → ReadsKept (cond b (option_or (fold_in m) (first_fold ks c)) (first_fold ks c)) ((b && same_mode Writes m) || named_as Writes ks c)
+    → ReadsKept (cond b (option_or (operation_in m) (first_fold ks c)) (first_fold ks c)) ((b && same_mode Writes m) || named_as Writes ks c)
     (after (cond b (Some (with_mode (Some (Some Reads)) m)) (Some (Some Reads))) ks c)
 reads_by c ks false m h = h
 reads_by c ks true Reads h = h
@@ -311,7 +311,7 @@ mixed_by f ks c = is_some f && named_otherwise (Folds (unwrap_or f Plus)) ks c
 told_by : (c : Cell) (ks : List Clause) (b : Bool) (m : Mode) (v : Option Mode)
     → (Some v ≡ after None ks c → Told (mixed_by (first_fold ks c) ks c) (mode_among ks c) v)
     → Some v ≡ after (cond b (Some (with_mode None m)) None) ks c
-    → let f = cond b (option_or (fold_in m) (first_fold ks c)) (first_fold ks c) in
+    → let f = cond b (option_or (operation_in m) (first_fold ks c)) (first_fold ks c) in
     let op = unwrap_or f Plus in
     Told (is_some f && ((b && not (same_mode (Folds op) m)) || named_otherwise (Folds op) ks c))
     (cond ((b && same_mode Writes m) || named_as Writes ks c) Writes (cond ((b && same_mode Reads m) || named_as Reads ks c) Reads (Folds op))) v
@@ -352,7 +352,7 @@ or_self false b h = h refl
 first_by : (test : Mode → Bool) (c : Cell) (ks : List Clause) (b : Bool) (m : Mode)
     → (((op : Fold) → first_fold ks c ≡ Some op → test (Folds op) ≡ false → named_otherwise (Folds op) ks c ≡ false)
     → some_fold test ks c ≡ is_some (first_fold ks c) && test (Folds (unwrap_or (first_fold ks c) Plus)))
-    → let f = cond b (option_or (fold_in m) (first_fold ks c)) (first_fold ks c) in
+    → let f = cond b (option_or (operation_in m) (first_fold ks c)) (first_fold ks c) in
     ((op : Fold) → f ≡ Some op → test (Folds op) ≡ false → (b && not (same_mode (Folds op) m)) || named_otherwise (Folds op) ks c ≡ false)
     → (b && (is_fold m && test m)) || some_fold test ks c ≡ is_some f && test (Folds (unwrap_or f Plus))
 first_by test c ks false m rest h = rest h

@@ -14,6 +14,7 @@ use Rattle.ot_model.specs.Uses.{is_fold, same_mode}
 use Rattle.ot_model.specs.Value.{cells_of}
 use Rattle.ot_model.specs.declared.expr.Cell.{Cell}
 use Rattle.ot_model.specs.declared.expr.Section.{Section}
+use Rattle.ot_model.specs.declared.fold.Fold.{Fold}
 use Rattle.ot_model.specs.declared.fold.Fold.TheVariants.{Plus}
 use Rattle.ot_model.specs.declared.stmt.Mode.TheVariants.{Reads, Writes, Folds}
 use Rattle.ot_model.specs.one.Uses.{Mode1, Reads1, Writes1, Adds1, same_mode1}
@@ -21,7 +22,7 @@ use Rattle.ot_model.specs.one.Tree.{S1, body_of1, size1, Expanded1}
 use Rattle.ot_model.specs.one.Upward.{up_mode, up_use, up_uses, up_one, up, up_program}
 use Rattle.ot_model.proofs.OneLemmas.{any-map, any-same, size-up, tasks_in-up}
 use Rattle.ot_program.specs.Copies.{Text, SetText, AddText, IfText, ForText, Turn, TaskText, WaitText, GroupText, ProgramText, NoForm, Placed, Copy, Copies, At, Done, Then, at, turns, copies, copies_of, copy, in_copy, in_order, statement, statement_of, statements_of}
-use Rattle.ot_program.specs.Declarations.{names, named_cells, named_as, fold_or, fold_among, mode_among, differ, is_mixed, uses, placed}
+use Rattle.ot_program.specs.Declarations.{names, named_cells, named_as, operation_in, first_fold, mode_among, named_otherwise, is_mixed, uses, placed}
 use Rattle.ot_program.specs.Faults.{unless, no_list, list_faults, clause_faults, section_faults, mixed, nested, text_faults, past_limits}
 use Rattle.ot_program.specs.Limits.{cells_in, tally, plus, own_tally, total}
 use Rattle.ot_program.specs.Meanings.{items, letters, Bindings, size as size_of, section, value, mode_of, Clause, clause}
@@ -53,11 +54,6 @@ and-out false b c = refl
 any-either : {A : Type 0} (p q : A → Bool) (xs : List A) → list_any (λ x. p x || q x) xs ≡ (list_any p xs || list_any q xs)
 any-either p q [] = refl
 any-either p q (x ∷ xs) = ap (λ w. (p x || q x) || w) (any-either p q xs) ∙ or-turned (p x) (q x) (list_any p xs) (list_any q xs)
-
-any-with : {A : Type 0} (a : Bool) (p : A → Bool) (xs : List A) → list_any (λ x. a && p x) xs ≡ (a && list_any p xs)
-any-with true p xs = refl
-any-with false p [] = refl
-any-with false p (x ∷ xs) = any-with false p xs
 
 any-and : {A : Type 0} (p : A → Bool) (a : Bool) (xs : List A) → list_any (λ x. p x && a) xs ≡ (list_any p xs && a)
 any-and p a [] = refl
@@ -145,26 +141,22 @@ named_as-up m cs c =
     any-map up_clause (λ clause. names c clause && same_mode (up_mode m) clause.mode) (λ clause. names1 c clause && same_mode1 m clause.mode)
     (λ clause. ap (λ w. names1 c clause && w) (same_mode-up m clause.mode)) cs
 
-fold_or-up : (m : Mode1) → fold_or (up_mode m) Plus ≡ Plus
-fold_or-up Reads1 = refl
-fold_or-up Writes1 = refl
-fold_or-up Adds1 = refl
-
-either_plus : (w : Bool) → cond w Plus Plus ≡ Plus
-either_plus true = refl
-either_plus false = refl
-
 -- all that folds, folds by `+`
-fold-up : (cs : List Clause1) (c : Cell) → fold_among (map up_clause cs) c ≡ Plus
+fold_by-up : (w : Bool) (m : Mode1) (o : Option Fold) → unwrap_or o Plus ≡ Plus
+    → unwrap_or (cond w (option_or (operation_in (up_mode m)) o) o) Plus ≡ Plus
+fold_by-up true Reads1 o h = h
+fold_by-up true Writes1 o h = h
+fold_by-up true Adds1 o h = refl
+fold_by-up false m o h = h
+
+fold-up : (cs : List Clause1) (c : Cell) → unwrap_or (first_fold (map up_clause cs) c) Plus ≡ Plus
 fold-up [] c = refl
-fold-up (clause ∷ cs) c =
-    ap (λ o. cond (names1 c clause) (fold_or (up_mode clause.mode) o) o) (fold-up cs c)
-    ∙ ap (λ o. cond (names1 c clause) o Plus) (fold_or-up clause.mode) ∙ either_plus (names1 c clause)
+fold-up (clause ∷ cs) c = fold_by-up (names1 c clause) clause.mode (first_fold (map up_clause cs) c) (fold-up cs c)
 
 mode_among-up : (cs : List Clause1) (c : Cell) → mode_among (map up_clause cs) c ≡ up_mode (mode_among1 cs c)
 mode_among-up cs c =
-    ap (λ w. cond w Writes (cond (named_as Reads (map up_clause cs) c) Reads (Folds (fold_among (map up_clause cs) c)))) (named_as-up Writes1 cs c)
-    ∙ ap (λ w. cond (named_as1 Writes1 cs c) Writes (cond w Reads (Folds (fold_among (map up_clause cs) c)))) (named_as-up Reads1 cs c)
+    ap (λ w. cond w Writes (cond (named_as Reads (map up_clause cs) c) Reads (Folds (unwrap_or (first_fold (map up_clause cs) c) Plus)))) (named_as-up Writes1 cs c)
+    ∙ ap (λ w. cond (named_as1 Writes1 cs c) Writes (cond w Reads (Folds (unwrap_or (first_fold (map up_clause cs) c) Plus)))) (named_as-up Reads1 cs c)
     ∙ chosen up_mode (named_as1 Writes1 cs c) Writes _ Writes1 _ refl
     (chosen up_mode (named_as1 Reads1 cs c) Reads _ Reads1 Adds1 refl (ap Folds (fold-up cs c)))
 
@@ -180,30 +172,29 @@ uses-up cs =
 abbrev named_so : Mode1 → Cell → Clause1 → Bool
 named_so m c clause = names1 c clause && same_mode1 m clause.mode
 
-differ_modes : (m n : Mode1) (v w : Bool) → (v && w && is_fold (up_mode m) && not (same_mode (up_mode m) (up_mode n)))
-    ≡ ((v && same_mode1 Adds1 m) && ((w && same_mode1 Writes1 n) || (w && same_mode1 Reads1 n)))
-differ_modes Reads1 n true true = refl
-differ_modes Reads1 n true false = refl
-differ_modes Reads1 n false w = refl
-differ_modes Writes1 n true true = refl
-differ_modes Writes1 n true false = refl
-differ_modes Writes1 n false w = refl
-differ_modes Adds1 Reads1 true true = refl
-differ_modes Adds1 Writes1 true true = refl
-differ_modes Adds1 Adds1 true true = refl
-differ_modes Adds1 n true false = refl
-differ_modes Adds1 n false w = refl
+otherwise_modes : (n : Mode1) (w : Bool) → (w && not (same_mode (Folds Plus) (up_mode n))) ≡ ((w && same_mode1 Writes1 n) || (w && same_mode1 Reads1 n))
+otherwise_modes n false = refl
+otherwise_modes Reads1 true = refl
+otherwise_modes Writes1 true = refl
+otherwise_modes Adds1 true = refl
 
-differ-up : (c : Cell) (one two : Clause1) → differ c (up_clause one) (up_clause two) ≡ (named_so Adds1 c one && (named_so Writes1 c two || named_so Reads1 c two))
-differ-up c one two = differ_modes one.mode two.mode (names1 c one) (names1 c two)
+otherwise-up : (cs : List Clause1) (c : Cell) → named_otherwise (Folds Plus) (map up_clause cs) c ≡ (named_as1 Writes1 cs c || named_as1 Reads1 cs c)
+otherwise-up cs c =
+    any-map up_clause (λ k. names c k && not (same_mode (Folds Plus) k.mode)) (λ k. named_so Writes1 c k || named_so Reads1 c k)
+    (λ k. otherwise_modes k.mode (names1 c k)) cs
+    ∙ any-either (named_so Writes1 c) (named_so Reads1 c) cs
+
+mixed_modes : (cs : List Clause1) (c : Cell) (m : Mode1) (v : Bool) → (v && (is_fold (up_mode m) && named_otherwise (up_mode m) (map up_clause cs) c))
+    ≡ ((v && same_mode1 Adds1 m) && (named_as1 Writes1 cs c || named_as1 Reads1 cs c))
+mixed_modes cs c m false = refl
+mixed_modes cs c Reads1 true = refl
+mixed_modes cs c Writes1 true = refl
+mixed_modes cs c Adds1 true = otherwise-up cs c
 
 mixed-up : (cs : List Clause1) (c : Cell) → is_mixed (map up_clause cs) c ≡ is_mixed1 cs c
 mixed-up cs c =
-    any-map up_clause (λ one. list_any (differ c one) (map up_clause cs)) (λ one. named_so Adds1 c one && (named_as1 Writes1 cs c || named_as1 Reads1 cs c))
-    (λ one.
-    any-map up_clause (differ c (up_clause one)) (λ two. named_so Adds1 c one && (named_so Writes1 c two || named_so Reads1 c two)) (differ-up c one) cs
-    ∙ any-with (named_so Adds1 c one) (λ two. named_so Writes1 c two || named_so Reads1 c two) cs
-    ∙ ap (λ w. named_so Adds1 c one && w) (any-either (named_so Writes1 c) (named_so Reads1 c) cs)) cs
+    any-map up_clause (λ k. names c k && (is_fold k.mode && named_otherwise k.mode (map up_clause cs) c)) (λ k. named_so Adds1 c k && (named_as1 Writes1 cs c || named_as1 Reads1 cs c))
+    (λ k. mixed_modes cs c k.mode (names1 c k)) cs
     ∙ any-and (named_so Adds1 c) (named_as1 Writes1 cs c || named_as1 Reads1 cs c) cs
 
 all_mixed-up : (cs : List Clause1) → mixed (map up_clause cs) ≡ mixed1 cs

@@ -35,14 +35,14 @@ names c clause = list_any (same_cell c) (cells_of clause.section)
 abbrev pub named_as : Mode → List Clause → Cell → Bool
 named_as mode clauses c = list_any (λ clause. names c clause && same_mode mode clause.mode) clauses
 
-abbrev pub fold_in : Mode → Option Fold
-fold_in (Folds op) = Some op
-fold_in mode = None
+abbrev pub operation_in : Mode → Option Fold
+operation_in (Folds op) = Some op
+operation_in mode = None
 
 -- what the first clause that folds the cell folds it by
 abbrev pub first_fold : List Clause → Cell → Option Fold
 first_fold [] c = None
-first_fold (clause ∷ rest) c = if names c clause then option_or (fold_in clause.mode) (first_fold rest c) else first_fold rest c
+first_fold (clause ∷ rest) c = if names c clause then option_or (operation_in clause.mode) (first_fold rest c) else first_fold rest c
 
 -- Writes where some clause writes, else Reads where some clause reads, else the fold of the first
 abbrev pub mode_among : List Clause → Cell → Mode
