@@ -28,8 +28,11 @@ a group by another operation in a body of an if, in a task that folds beside ano
 const BY_THREE: &str =
     r#"a reduction past the modulus: [["group",[["a",0,1]],[["task",[["red",["a",0,1]]],[["add",["c","a",0],18446744073709551615]]],["task",[["red",["a",0,1]]],[["add",["c","a",0],1]]],["task",[["red",["a",0,1]]],[["add",["c","a",0],5]]]]]] gives 738450 orders to 3 7 [6, 2, 3]
 an adder in an adder: [["group",[["a",0,1]],[["task",[["red",["a",0,1]]],[["task",[["red",["a",0,1]]],[["add",["c","a",0],4]]],["add",["c","a",0],3],["wait"]]]]]] gives 2190 orders to 2 6 [8, 2, 3]
-a read behind a group: [["group",[["a",0,1]],[["task",[["red",["a",0,1]]],[["add",["c","a",0],5]]]]],["set",["c","a",1],["c","a",0]]] gives 14 orders to 1 4 [6, 6, 3]
-the greatest of three: program2 [["group","max",[["a",0,1]],[["task",[["red","max",["a",0,1]]],[["fold","max",["c","a",0],9]]],["task",[["red","max",["a",0,1]]],[["fold","max",["c","a",0],4]]],["task",[["red","max",["a",0,1]]],[["fold","max",["c","a",0],12]]]]]] gives 738450 orders to 3 7 [12, 2, 3]
+a read behind a group: [["group",[["a",0,1]],[["task",[["red",["a",0,1]]],[["add",["c","a",0],5]]]]],["set",["c","a",1],["c","a",0]]] gives 14 orders to 1 4 [6, 6, 3]"#;
+
+/// The same of folds by other operations.
+const FOLDS_BY_THREE: &str =
+    r#"the greatest of three: program2 [["group","max",[["a",0,1]],[["task",[["red","max",["a",0,1]]],[["fold","max",["c","a",0],9]]],["task",[["red","max",["a",0,1]]],[["fold","max",["c","a",0],4]]],["task",[["red","max",["a",0,1]]],[["fold","max",["c","a",0],12]]]]]] gives 738450 orders to 3 7 [12, 2, 3]
 a product past the modulus: program2 [["group","*",[["a",1,1]],[["task",[["red","*",["a",1,1]]],[["fold","*",["c","a",1],5]]],["task",[["red","*",["a",1,1]]],[["fold","*",["c","a",1],9223372036854775809]]]]]] gives 1830 orders to 2 5 [1, 10, 3]
 the bits of both: program2 [["group","&",[["a",2,1]],[["task",[["red","&",["a",2,1]]],[["fold","&",["c","a",2],6]]],["task",[["red","&",["a",2,1]]],[["fold","&",["c","a",2],18446744073709551614]]]]]] gives 1830 orders to 2 5 [1, 2, 2]
 a folder in a folder: program2 [["group","*",[["a",0,1]],[["task",[["red","*",["a",0,1]]],[["task",[["red","*",["a",0,1]]],[["fold","*",["c","a",0],4]]],["fold","*",["c","a",0],3],["wait"]]]]]] gives 2190 orders to 2 6 [12, 2, 3]"#;
@@ -91,4 +94,12 @@ fn each_order_leaves_the_same(rt: HostRuntime) {
 #[test]
 fn each_order_by_each_worker_leaves_the_same(rt: HostRuntime) {
     assert_eq!(rt; first_other(rt.alloc(), BY_THREE, Takers::AnyOfThree), None);
+}
+
+#[test]
+fn each_order_of_folds_by_each_worker_leaves_the_same(rt: HostRuntime) {
+    assert_eq!(rt;
+        first_other(rt.alloc(), FOLDS_BY_THREE, Takers::AnyOfThree),
+        None
+    );
 }
