@@ -2,71 +2,75 @@
 use Rattle.std.proofs.Common.{◌≡◌, ℕ, zero, suc, ◌<◌, Bool, true, false, List, [], ◌∷◌, length, get_or, refl, sym, ap, ◌∙◌, subst, arith, Contains, IsPermutation}
 use Rattle.std.specs.Prelude.{◌↔◌, ◌==◌, Option, Some, None, is_some, IsSome, All, Any, replicate, if◌then◌else◌}
 use Rattle.ot_model.specs.Cells.{cell_of, lengths}
-use Rattle.ot_model.specs.Uses.{is_adds}
+use Rattle.ot_model.specs.Uses.{is_fold}
 use Rattle.ot_model.specs.Names.{IsInShape}
 use Rattle.ot_model.specs.declared.expr.Cell.{Cell}
+use Rattle.ot_model.specs.declared.fold.Fold.{Fold as Operation}
+use Rattle.ot_model.specs.declared.stmt.Mode.{Mode}
 use Rattle.ot_model.specs.declared.stmt.Use.{Use}
 use Rattle.ot_model.proofs.NamesLemmas.{found_from_in}
 use Rattle.std.proofs.lemmas.List.{get_or_default}
 use Rattle.std.proofs.lemmas.List.Elements.{All-nil, All-cons}
 use Rattle.std.proofs.lemmas.List.Sorted.{length_permutation, IsPermutation-cons, IsPermutation-swap, IsPermutation-trans}
 use Rattle.ot_owner.proofs.OutLemmas.{permutation_rest}
-use Rattle.ot_model.specs.declared.stmt.Mode.TheVariants.{Reads, Adds}
+use Rattle.ot_model.specs.declared.stmt.Mode.TheVariants.{Reads, Folds}
 use Rattle.ot_owner.specs.Lending.{use_of, uses_of, MayChange}
 use Rattle.ot_owner.specs.Back.{taken_back, all_back}
 use Rattle.ot_owner.specs.Owning.{Loan, IsFreeFor}
-use Rattle.ot_owner.specs.Rows.{Summed, place_in, IsNamed, IsSummed, adds_in, added_in, added, begun_in, begun_for, without}
+use Rattle.ot_owner.specs.Rows.{Summed, place_in, IsNamed, IsSummedBy, folds_in, folded_in, folded, begun_in, begun_for, without}
 use Rattle.ot_owner.specs.declared.lent.LentCell.{LentCell}
 use Rattle.ot_owner.proofs.NameLemmas.{place-named}
-use Rattle.book_tests.specs.TwoGroups.{nth, IsOver, AreTwo}
+use Rattle.book_tests.specs.TwoGroups.{nth, IsFoldOf, IsOver, AreTwo}
 
 -- ---- they stay
 
-over-same : (n i : ℕ) (g h : Summed) → h.group ≡ g.group → h.uses ≡ g.uses → IsOver n i g → IsOver n i h
-over-same n i g h group uses is = record {
+over-same : (n : ℕ) (o : Operation) (i : ℕ) (g h : Summed) → h.group ≡ g.group → h.op ≡ g.op → h.uses ≡ g.uses → IsOver n o i g → IsOver n o i h
+over-same n o i g h group op uses is = record {
   number = group ∙ is.number;
+  op = op ∙ is.op;
   named = ap (λ us. is_some (place_in us (nth i))) uses ∙ is.named;
   only = subst (All (λ u. u.cell ≡ nth i)) (sym uses) is.only;
 }
 
-over-begun : (w : ℕ) (n i : ℕ) (g : Summed) (b : Bool) → IsOver n i g → IsOver n i (if b then begun_in w g else g)
-over-begun w n i g true is = over-same n i g (begun_in w g) refl refl is
-over-begun w n i g false is = is
+over-begun : (w n : ℕ) (o : Operation) (i : ℕ) (g : Summed) (b : Bool) → IsOver n o i g → IsOver n o i (if b then begun_in w g else g)
+over-begun w n o i g true is = over-same n o i g (begun_in w g) refl refl refl is
+over-begun w n o i g false is = is
 
-pub two-begun : (w : ℕ) (uses : List Use) (gs : List Summed) → AreTwo gs → AreTwo (begun_for w uses gs)
-two-begun w uses [] two = absurd two
-two-begun w uses (g ∷ []) two = absurd two
-two-begun w uses (outer ∷ inner ∷ []) two = (over-begun w 1 0 outer (adds_in outer.uses uses) two.0, over-begun w 2 1 inner (adds_in inner.uses uses) two.1)
-two-begun w uses (g ∷ h ∷ k ∷ gs) two = absurd two
+pub two-begun : (w : ℕ) (o : Operation) (uses : List Use) (gs : List Summed) → AreTwo o gs → AreTwo o (begun_for w uses gs)
+two-begun w o uses [] two = absurd two
+two-begun w o uses (g ∷ []) two = absurd two
+two-begun w o uses (outer ∷ inner ∷ []) two = (over-begun w 1 o 0 outer (folds_in outer.uses uses) two.0, over-begun w 2 o 1 inner (folds_in inner.uses uses) two.1)
+two-begun w o uses (g ∷ h ∷ k ∷ gs) two = absurd two
 
-two-added : (w v : ℕ) (c : Cell) (gs : List Summed) → AreTwo gs → AreTwo (added w c v gs)
-two-added w v c [] two = absurd two
-two-added w v c (g ∷ []) two = absurd two
-two-added w v c (outer ∷ inner ∷ []) two = by (place_in outer.uses c) (place_in inner.uses c)
+two-folded : (w v : ℕ) (o : Operation) (c : Cell) (gs : List Summed) → AreTwo o gs → AreTwo o (folded w c v gs)
+two-folded w v o c [] two = absurd two
+two-folded w v o c (g ∷ []) two = absurd two
+two-folded w v o c (outer ∷ inner ∷ []) two = by (place_in outer.uses c) (place_in inner.uses c)
   where
-    by : (o p : Option ℕ) → AreTwo (if is_some o then added_in w v outer o ∷ inner ∷ [] else outer ∷ (if is_some p then added_in w v inner p ∷ [] else inner ∷ []))
-    by (Some o) p = (over-same 1 0 outer (added_in w v outer (Some o)) refl refl two.0, two.1)
-    by None (Some p) = (two.0, over-same 2 1 inner (added_in w v inner (Some p)) refl refl two.1)
+    by : (j k : Option ℕ) → AreTwo o (if is_some j then folded_in w v outer j ∷ inner ∷ [] else outer ∷ (if is_some k then folded_in w v inner k ∷ [] else inner ∷ []))
+    by (Some j) k = (over-same 1 o 0 outer (folded_in w v outer (Some j)) refl refl refl two.0, two.1)
+    by None (Some k) = (two.0, over-same 2 o 1 inner (folded_in w v inner (Some k)) refl refl refl two.1)
     by None None = two
-two-added w v c (g ∷ h ∷ k ∷ gs) two = absurd two
+two-folded w v o c (g ∷ h ∷ k ∷ gs) two = absurd two
 
-two-taken : (w : ℕ) (l : LentCell) (gs : List Summed) → AreTwo gs → AreTwo (taken_back w l gs)
-two-taken w l gs two = by (is_adds l.mode)
+two-taken : (w : ℕ) (o : Operation) (l : LentCell) (gs : List Summed) → AreTwo o gs → AreTwo o (taken_back w l gs)
+two-taken w o l gs two = by (is_fold l.mode)
   where
-    by : (b : Bool) → AreTwo (if b then added w l.cell l.value gs else gs)
-    by true = two-added w l.value l.cell gs two
+    by : (b : Bool) → AreTwo o (if b then folded w l.cell l.value gs else gs)
+    by true = two-folded w l.value o l.cell gs two
     by false = two
 
-pub two-back : (w : ℕ) (lent : List LentCell) (gs : List Summed) → AreTwo gs → AreTwo (all_back w lent gs)
-two-back w [] gs two = two
-two-back w (l ∷ lent) gs two = two-back w lent (taken_back w l gs) (two-taken w l gs two)
+pub two-back : (w : ℕ) (o : Operation) (lent : List LentCell) (gs : List Summed) → AreTwo o gs → AreTwo o (all_back w lent gs)
+two-back w o [] gs two = two
+two-back w o (l ∷ lent) gs two = two-back w o lent (taken_back w l gs) (two-taken w o l gs two)
 
 -- ---- they are opened
 
 -- a group in the room for one cell
-pub over-opened : (n i : ℕ) (room : List Use) → ((c : Cell) → IsNamed room c ↔ Contains (nth i ∷ []) c) → IsOver n i (let g : Summed = record { group = n; uses = room; rows = replicate 17 None } in g)
-over-opened n i room named = record {
+pub over-opened : (n : ℕ) (o : Operation) (i : ℕ) (room : List Use) → ((c : Cell) → IsNamed room c ↔ Contains (nth i ∷ []) c) → IsOver n o i (let g : Summed = record { group = n; op = o; uses = room; rows = replicate 17 None } in g)
+over-opened n o i room named = record {
   number = refl;
+  op = refl;
   named = place-named room (nth i) ((named (nth i)).1 (0, omega arith, refl));
   only = λ k d within. one (get_or room k d).cell ((named (get_or room k d).cell).0 (k, get_or room k d, within, sym (refl_at k d within), refl));
 }
@@ -83,33 +87,33 @@ over-opened n i room named = record {
 pub there : (cells : List (List ℕ)) (i : ℕ) → lengths cells ≡ 3 ∷ [] → i < 3 → IsSome (cell_of cells (nth i))
 there cells i long within = found_from_in cells (nth i) (subst (λ lens. IsInShape lens (nth i)) (sym long) (record { len = 3; array = refl; within = within }))
 
-over-there : (cells : List (List ℕ)) (n i : ℕ) (g : Summed) → lengths cells ≡ 3 ∷ [] → i < 3 → IsOver n i g → All (λ u. IsSome (cell_of cells u.cell)) g.uses
-over-there cells n i g long within is k d inside = subst (λ c. IsSome (cell_of cells c)) (sym (is.only k d inside)) (there cells i long within)
+over-there : (cells : List (List ℕ)) (n : ℕ) (o : Operation) (i : ℕ) (g : Summed) → lengths cells ≡ 3 ∷ [] → i < 3 → IsOver n o i g → All (λ u. IsSome (cell_of cells u.cell)) g.uses
+over-there cells n o i g long within is k d inside = subst (λ c. IsSome (cell_of cells c)) (sym (is.only k d inside)) (there cells i long within)
 
-pub two-summed : (i : ℕ) (gs : List Summed) → i < 2 → AreTwo gs → IsSummed gs (nth i)
-two-summed i [] small two = absurd two
-two-summed i (g ∷ []) small two = absurd two
-two-summed zero (outer ∷ inner ∷ []) small two = (0, outer, omega arith, refl, two.0.named)
-two-summed (suc zero) (outer ∷ inner ∷ []) small two = (1, inner, omega arith, refl, two.1.named)
-two-summed (suc (suc i)) (outer ∷ inner ∷ []) small two = absurd (omega (arith, small))
-two-summed i (g ∷ h ∷ k ∷ gs) small two = absurd two
+pub two-summed : (o : Operation) (i : ℕ) (gs : List Summed) → i < 2 → AreTwo o gs → IsSummedBy gs o (nth i)
+two-summed o i [] small two = absurd two
+two-summed o i (g ∷ []) small two = absurd two
+two-summed o zero (outer ∷ inner ∷ []) small two = (0, outer, omega arith, refl, (two.0.named, two.0.op))
+two-summed o (suc zero) (outer ∷ inner ∷ []) small two = (1, inner, omega arith, refl, (two.1.named, two.1.op))
+two-summed o (suc (suc i)) (outer ∷ inner ∷ []) small two = absurd (omega (arith, small))
+two-summed o i (g ∷ h ∷ k ∷ gs) small two = absurd two
 
-pub two-inner : (gs : List Summed) → AreTwo gs → Any (λ g. g.group ≡ 2) gs
-two-inner [] two = absurd two
-two-inner (g ∷ []) two = absurd two
-two-inner (outer ∷ inner ∷ []) two = (1, inner, omega arith, refl, two.1.number)
-two-inner (g ∷ h ∷ k ∷ gs) two = absurd two
+pub two-inner : (o : Operation) (gs : List Summed) → AreTwo o gs → Any (λ g. g.group ≡ 2) gs
+two-inner o [] two = absurd two
+two-inner o (g ∷ []) two = absurd two
+two-inner o (outer ∷ inner ∷ []) two = (1, inner, omega arith, refl, two.1.number)
+two-inner o (g ∷ h ∷ k ∷ gs) two = absurd two
 
-pub two-there : (cells : List (List ℕ)) (n : ℕ) (gs : List Summed) → lengths cells ≡ 3 ∷ [] → AreTwo gs → All (λ g. g.group ≡ n → All (λ u. IsSome (cell_of cells u.cell)) g.uses) gs
-two-there cells n [] long two = absurd two
-two-there cells n (g ∷ []) long two = absurd two
-two-there cells n (outer ∷ inner ∷ []) long two = each
+pub two-there : (cells : List (List ℕ)) (n : ℕ) (o : Operation) (gs : List Summed) → lengths cells ≡ 3 ∷ [] → AreTwo o gs → All (λ g. g.group ≡ n → All (λ u. IsSome (cell_of cells u.cell)) g.uses) gs
+two-there cells n o [] long two = absurd two
+two-there cells n o (g ∷ []) long two = absurd two
+two-there cells n o (outer ∷ inner ∷ []) long two = each
   where
     each : All (λ g. g.group ≡ n → All (λ u. IsSome (cell_of cells u.cell)) g.uses) (outer ∷ inner ∷ [])
-    each zero d within same = over-there cells 1 0 outer long (omega arith) two.0
-    each (suc zero) d within same = over-there cells 2 1 inner long (omega arith) two.1
+    each zero d within same = over-there cells 1 o 0 outer long (omega arith) two.0
+    each (suc zero) d within same = over-there cells 2 o 1 inner long (omega arith) two.1
     each (suc (suc k)) d within same = absurd (omega (arith, within))
-two-there cells n (g ∷ h ∷ k ∷ gs) long two = absurd two
+two-there cells n o (g ∷ h ∷ k ∷ gs) long two = absurd two
 
 -- where nothing is out, each is unused
 pub none-unused : (out : List Loan) (n : ℕ) (gs : List Summed) → out ≡ [] → All (λ g. g.group ≡ n → IsFreeFor out g.uses) gs
@@ -117,48 +121,57 @@ none-unused out n gs none k d within same = subst (λ (o : List Loan). IsFreeFor
 
 -- ---- the inner one is closed
 
-pub record IsOuter (gs : List Summed) : Type 0 where
+pub record IsOuter (o : Operation) (gs : List Summed) : Type 0 where
   pub outer : Summed
-  pub over : IsOver 1 0 outer
+  pub over : IsOver 1 o 0 outer
   pub alone : gs ≡ outer ∷ []
 
-pub two-closed : (gs : List Summed) → AreTwo gs → IsOuter (without 2 gs)
-two-closed [] two = absurd two
-two-closed (g ∷ []) two = absurd two
-two-closed (outer ∷ inner ∷ []) two = record {
+pub two-closed : (o : Operation) (gs : List Summed) → AreTwo o gs → IsOuter o (without 2 gs)
+two-closed o [] two = absurd two
+two-closed o (g ∷ []) two = absurd two
+two-closed o (outer ∷ inner ∷ []) two = record {
   outer = outer;
   over = two.0;
   alone = ap (λ n. if n == 2 then inner ∷ [] else outer ∷ (if inner.group == 2 then [] else inner ∷ [])) two.0.number
       ∙ ap (λ n. outer ∷ (if n == 2 then [] else inner ∷ [])) two.1.number;
 }
-two-closed (g ∷ h ∷ k ∷ gs) two = absurd two
+two-closed o (g ∷ h ∷ k ∷ gs) two = absurd two
 
-pub outer-open : (gs : List Summed) → IsOuter gs → Any (λ g. g.group ≡ 1) gs
-outer-open gs is = subst (Any (λ (g : Summed). g.group ≡ 1)) (sym is.alone) (0, is.outer, omega arith, refl, is.over.number)
+pub outer-open : (o : Operation) (gs : List Summed) → IsOuter o gs → Any (λ g. g.group ≡ 1) gs
+outer-open o gs is = subst (Any (λ (g : Summed). g.group ≡ 1)) (sym is.alone) (0, is.outer, omega arith, refl, is.over.number)
 
-pub outer-there : (cells : List (List ℕ)) (n : ℕ) (gs : List Summed) → lengths cells ≡ 3 ∷ [] → IsOuter gs → All (λ g. g.group ≡ n → All (λ u. IsSome (cell_of cells u.cell)) g.uses) gs
-outer-there cells n gs long is = subst (All (λ (g : Summed). g.group ≡ n → All (λ u. IsSome (cell_of cells u.cell)) g.uses)) (sym is.alone) each
+pub outer-there : (cells : List (List ℕ)) (n : ℕ) (o : Operation) (gs : List Summed) → lengths cells ≡ 3 ∷ [] → IsOuter o gs → All (λ g. g.group ≡ n → All (λ u. IsSome (cell_of cells u.cell)) g.uses) gs
+outer-there cells n o gs long is = subst (All (λ (g : Summed). g.group ≡ n → All (λ u. IsSome (cell_of cells u.cell)) g.uses)) (sym is.alone) each
   where
     each : All (λ g. g.group ≡ n → All (λ u. IsSome (cell_of cells u.cell)) g.uses) (is.outer ∷ [])
-    each zero d within same = over-there cells 1 0 is.outer long (omega arith) is.over
+    each zero d within same = over-there cells 1 o 0 is.outer long (omega arith) is.over
     each (suc k) d within same = absurd (omega (arith, within))
 
--- ---- one cell that is lent to be added to
+-- ---- one cell that is lent to be folded into
 
 pub all-one : {A : Type 0} (P : A → Type 0) (x : A) → P x → All P (x ∷ [])
 all-one P x p = All-cons P x [] p (All-nil P)
 
-pub may-add : (lent : List LentCell) (c : Cell) → uses_of lent ≡ (let u : Use = record { cell = c; mode = Adds } in u) ∷ [] → MayChange lent c
-may-add [] c uses = absurd (omega (arith, ap length uses))
-may-add (l ∷ ls) c uses = (0, l, omega arith, refl, (ap (λ (us : List Use). (get_or us 0 (use_of l)).cell) uses, λ reads. adds (sym reads ∙ ap (λ (us : List Use). (get_or us 0 (use_of l)).mode) uses)))
-  where
-    adds : Reads ≡ Adds → ⊥
-    adds is = cc
+-- one operation is that of one mode
+abbrev operation_or : Operation → Mode → Operation
+operation_or o (Folds other) = other
+operation_or o mode = o
 
-pub all-lent : (P : Cell → Type 0) (lent : List LentCell) (c : Cell) → uses_of lent ≡ (let u : Use = record { cell = c; mode = Adds } in u) ∷ [] → P c → All (λ l. P l.cell) lent
-all-lent P [] c uses p = All-nil (λ (l : LentCell). P l.cell)
-all-lent P (l ∷ []) c uses p = all-one (λ (l : LentCell). P l.cell) l (subst P (sym (ap (λ (us : List Use). (get_or us 0 (use_of l)).cell) uses)) p)
-all-lent P (l ∷ m ∷ ls) c uses p = absurd (omega (arith, ap length uses))
+pub same-operation : (o other : Operation) → Folds o ≡ Folds other → o ≡ other
+same-operation o other is = ap (operation_or o) is
+
+pub may-fold : (lent : List LentCell) (i : ℕ) → IsFoldOf i (uses_of lent) → MayChange lent (nth i)
+may-fold [] i is = absurd (omega (arith, ap length is.1))
+may-fold (l ∷ ls) i is =
+    (0, l, omega arith, refl, (ap (λ (us : List Use). (get_or us 0 (use_of l)).cell) is.1, λ reads. folds (sym reads ∙ ap (λ (us : List Use). (get_or us 0 (use_of l)).mode) is.1)))
+  where
+    folds : Reads ≡ Folds is.0 → ⊥
+    folds same = cc
+
+pub all-lent : (P : Cell → Type 0) (lent : List LentCell) (i : ℕ) → IsFoldOf i (uses_of lent) → P (nth i) → All (λ l. P l.cell) lent
+all-lent P [] i is p = All-nil (λ (l : LentCell). P l.cell)
+all-lent P (l ∷ []) i is p = all-one (λ (l : LentCell). P l.cell) l (subst P (sym (ap (λ (us : List Use). (get_or us 0 (use_of l)).cell) is.1)) p)
+all-lent P (l ∷ m ∷ ls) i is p = absurd (omega (arith, ap length is.1))
 
 -- ---- what is left out
 

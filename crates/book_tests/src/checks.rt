@@ -10,7 +10,7 @@ use ot_program::ProgramFault;
 use std::alloc::{AllocError, Global};
 use test_reading::{one_array, read};
 
-/// Bodies by what they are, over 1, 2, 3 and with 1,024 task statements. A refused one gives the code,
+/// Bodies by what they are, over 1, 2, 3 and with 1,024 task statements, those of a `program2` behind this word. A refused one gives the code,
 /// and the checker's with its place. An accepted one gives the executed task statements, the units
 /// and the cells after its run.
 const BODIES: &str =
@@ -93,12 +93,33 @@ an adder without a group before ends with a child: [["task",[["red",["a",0,1]]],
 ends with a child before what stands in it: [["task",[["out",["a",0,1]]],[["task",[["out",["a",0,1]]],[]],["set",["c","a",0],1]]]] gives 428 1
 the least place: [["task",[["out",["a",0,1]]],[]],["set",["c","a",0],1],["task",[],[["set",["c","a",0],1]]]] gives 427 2
 the place in a child before one behind it: [["task",[["out",["a",0,1]]],[["set",["c","a",1],1]]],["set",["c","a",0],1]] gives 425 2
-the place in a second branch: [["if",1,[["wait"],["wait"]],[["task",[],[["set",["c","a",0],1]]]]]] gives 425 5"#;
+the place in a second branch: [["if",1,[["wait"],["wait"]],[["task",[],[["set",["c","a",0],1]]]]]] gives 425 5
+a product past the modulus: program2 [["group","*",[["a",0,1]],[["task",[["red","*",["a",0,1]]],[["fold","*",["c","a",0],9223372036854775809]]],["task",[["red","*",["a",0,1]]],[["fold","*",["c","a",0],6]]]]]] gives 2 5 [[6, 2, 3]]
+folds by the root: program2 [["fold","*",["c","a",0],5],["fold","&",["c","a",1],3],["fold","max",["c","a",2],9]] gives 0 3 [[5, 2, 9]]
+a fold in a task that writes: program2 [["task",[["out",["a",0,1]]],[["fold","^",["c","a",0],6]]]] gives 1 2 [[7, 2, 3]]
+a folder that folds nothing: program2 [["group","min",[["a",0,1]],[["task",[["red","min",["a",0,1]]],[]]]]] gives 1 2 [[1, 2, 3]]
+a folder in a folder: program2 [["group","max",[["a",0,1]],[["task",[["red","max",["a",0,1]]],[["task",[["red","max",["a",0,1]]],[["fold","max",["c","a",0],4]]],["fold","max",["c","a",0],3],["wait"]]]]]] gives 2 6 [[4, 2, 3]]
+a folder into the cells of two groups: program2 [["group","max",[["a",0,1]],[["group","*",[["a",1,1]],[["task",[["red","max",["a",0,1]],["red","*",["a",1,1]]],[["fold","max",["c","a",0],9],["fold","*",["c","a",1],4]]]]]]]] gives 1 5 [[9, 8, 3]]
+an add in a reduction by another operation: program2 [["group","max",[["a",0,1]],[["task",[["red","max",["a",0,1]]],[["add",["c","a",0],1]]]]]] gives 425 3
+an add in a reduction by +: program2 [["group","+",[["a",0,1]],[["task",[["red","+",["a",0,1]]],[["add",["c","a",0],4]]]]]] gives 1 3 [[5, 2, 3]]
+a fold by another operation than the declared one: program2 [["group","max",[["a",0,1]],[["task",[["red","max",["a",0,1]]],[["fold","min",["c","a",0],1]]]]]] gives 425 3
+a read of a cell that is folded into: program2 [["group","|",[["a",0,1]],[["task",[["red","|",["a",0,1]]],[["fold","|",["c","a",0],["c","a",0]]]]]]] gives 425 3
+a fold into a cell of an open group: program2 [["group","max",[["a",0,1]],[["fold","max",["c","a",0],9]]]] gives 429 2
+a folder by another operation than the group's: program2 [["group","max",[["a",0,1]],[["task",[["red","min",["a",0,1]]],[]]]]] gives 429 2
+a folder by another operation than its parent's: program2 [["group","max",[["a",0,1]],[["task",[["red","max",["a",0,1]]],[["task",[["red","min",["a",0,1]]],[]],["wait"]]]]]] gives 429 3
+a group of another operation on a cell of an open group: program2 [["group","max",[["a",0,1]],[["group","min",[["a",0,1]],[]]]]] gives 429 2
+a fold beside a child that reads: program2 [["task",[["in",["a",0,1]]],[]],["fold","&",["c","a",0],1]] gives 427 2
+a cell under red by two operations: program2 [["task",[["red","+",["a",0,1]],["red","max",["a",0,1]]],[]]] gives 429
+a fold in the first profile: [["fold","+",["c","a",0],1]] gives 420
+a group without an operation in the second: program2 [["group",[],[]]] gives 420"#;
 
 /// What a body comes to, which has its name in front of it.
 pub(crate) fn outcome(alloc: Global, row: &str) -> Result<String, AllocError> {
     let (_, body) = row.split_once(": ").unwrap_or(("", ""));
-    let text = format!(in alloc; "[],{body}")?;
+    let text = match body.split_once("program2 ") {
+        Some((before, rest)) if before.is_empty() => format!(in alloc; "program2 [],{rest}")?,
+        _ => format!(in alloc; "[],{body}")?,
+    };
     outcome_of(alloc, text.as_str())
 }
 

@@ -12,24 +12,28 @@ const DECLARED: &str =
 [],[["task",[["in",["a",2,1]]],[]]] gives Program { shows: [], body: [Task(Decl { uses: [Use { cell: Cell { array: 0, index: 2 }, mode: Reads }] }, [])], statements: 1, tasks: 1 }
 [],[["task",[["out",["a",2,1]]],[]]] gives Program { shows: [], body: [Task(Decl { uses: [Use { cell: Cell { array: 0, index: 2 }, mode: Writes }] }, [])], statements: 1, tasks: 1 }
 [],[["task",[["inout",["a",2,1]]],[]]] gives Program { shows: [], body: [Task(Decl { uses: [Use { cell: Cell { array: 0, index: 2 }, mode: Writes }] }, [])], statements: 1, tasks: 1 }
-[],[["task",[["red",["a",2,1]]],[]]] gives Program { shows: [], body: [Task(Decl { uses: [Use { cell: Cell { array: 0, index: 2 }, mode: Adds }] }, [])], statements: 1, tasks: 1 }
+[],[["task",[["red",["a",2,1]]],[]]] gives Program { shows: [], body: [Task(Decl { uses: [Use { cell: Cell { array: 0, index: 2 }, mode: Folds(Plus) }] }, [])], statements: 1, tasks: 1 }
 [],[["task",[["in",["a",2,1]],["in",["a",2,1]]],[]]] gives Program { shows: [], body: [Task(Decl { uses: [Use { cell: Cell { array: 0, index: 2 }, mode: Reads }] }, [])], statements: 1, tasks: 1 }
 [],[["task",[["in",["a",2,1]],["out",["a",2,1]]],[]]] gives Program { shows: [], body: [Task(Decl { uses: [Use { cell: Cell { array: 0, index: 2 }, mode: Writes }] }, [])], statements: 1, tasks: 1 }
 [],[["task",[["out",["a",2,1]],["in",["a",2,1]]],[]]] gives Program { shows: [], body: [Task(Decl { uses: [Use { cell: Cell { array: 0, index: 2 }, mode: Writes }] }, [])], statements: 1, tasks: 1 }
 [],[["task",[["inout",["a",2,1]],["out",["a",2,1]]],[]]] gives Program { shows: [], body: [Task(Decl { uses: [Use { cell: Cell { array: 0, index: 2 }, mode: Writes }] }, [])], statements: 1, tasks: 1 }
-[],[["task",[["red",["a",2,1]],["red",["a",2,1]]],[]]] gives Program { shows: [], body: [Task(Decl { uses: [Use { cell: Cell { array: 0, index: 2 }, mode: Adds }] }, [])], statements: 1, tasks: 1 }
+[],[["task",[["red",["a",2,1]],["red",["a",2,1]]],[]]] gives Program { shows: [], body: [Task(Decl { uses: [Use { cell: Cell { array: 0, index: 2 }, mode: Folds(Plus) }] }, [])], statements: 1, tasks: 1 }
 [],[["task",[["in",["a",2,3]],["out",["a",3,1]]],[]]] gives Program { shows: [], body: [Task(Decl { uses: [Use { cell: Cell { array: 0, index: 2 }, mode: Reads }, Use { cell: Cell { array: 0, index: 3 }, mode: Writes }, Use { cell: Cell { array: 0, index: 4 }, mode: Reads }] }, [])], statements: 1, tasks: 1 }
 [],[["task",[["out",["a",3,2]],["in",["a",1,3]]],[]]] gives Program { shows: [], body: [Task(Decl { uses: [Use { cell: Cell { array: 0, index: 1 }, mode: Reads }, Use { cell: Cell { array: 0, index: 2 }, mode: Reads }, Use { cell: Cell { array: 0, index: 3 }, mode: Writes }, Use { cell: Cell { array: 0, index: 4 }, mode: Writes }] }, [])], statements: 1, tasks: 1 }
-[],[["task",[["red",["b",0,1]],["in",["a",8,1]]],[]]] gives Program { shows: [], body: [Task(Decl { uses: [Use { cell: Cell { array: 0, index: 8 }, mode: Reads }, Use { cell: Cell { array: 1, index: 0 }, mode: Adds }] }, [])], statements: 1, tasks: 1 }
-[],[["task",[["red",["a",4,2]],["in",["a",2,2]],["red",["a",5,2]]],[]]] gives Program { shows: [], body: [Task(Decl { uses: [Use { cell: Cell { array: 0, index: 2 }, mode: Reads }, Use { cell: Cell { array: 0, index: 3 }, mode: Reads }, Use { cell: Cell { array: 0, index: 4 }, mode: Adds }, Use { cell: Cell { array: 0, index: 5 }, mode: Adds }, Use { cell: Cell { array: 0, index: 6 }, mode: Adds }] }, [])], statements: 1, tasks: 1 }
+[],[["task",[["red",["b",0,1]],["in",["a",8,1]]],[]]] gives Program { shows: [], body: [Task(Decl { uses: [Use { cell: Cell { array: 0, index: 8 }, mode: Reads }, Use { cell: Cell { array: 1, index: 0 }, mode: Folds(Plus) }] }, [])], statements: 1, tasks: 1 }
+[],[["task",[["red",["a",4,2]],["in",["a",2,2]],["red",["a",5,2]]],[]]] gives Program { shows: [], body: [Task(Decl { uses: [Use { cell: Cell { array: 0, index: 2 }, mode: Reads }, Use { cell: Cell { array: 0, index: 3 }, mode: Reads }, Use { cell: Cell { array: 0, index: 4 }, mode: Folds(Plus) }, Use { cell: Cell { array: 0, index: 5 }, mode: Folds(Plus) }, Use { cell: Cell { array: 0, index: 6 }, mode: Folds(Plus) }] }, [])], statements: 1, tasks: 1 }
 [],[["task",[["in",["a",0,1]],["red",["a",0,1]]],[]]] gives Refused(MixedReduction)
 [],[["task",[["red",["a",0,1]],["in",["a",0,1]]],[]]] gives Refused(MixedReduction)
 [],[["task",[["red",["a",0,1]],["out",["a",0,1]]],[]]] gives Refused(MixedReduction)
 [],[["task",[["red",["a",0,1]],["inout",["a",0,1]]],[]]] gives Refused(MixedReduction)
 [],[["task",[["in",["a",0,1]],["red",["a",0,1]],["in",["a",0,1]]],[]]] gives Refused(MixedReduction)
 [],[["task",[["red",["a",0,3]],["in",["a",2,3]]],[]]] gives Refused(MixedReduction)
-[],[["task",[["red",["a",0,2]],["in",["a",2,3]]],[]]] gives Program { shows: [], body: [Task(Decl { uses: [Use { cell: Cell { array: 0, index: 0 }, mode: Adds }, Use { cell: Cell { array: 0, index: 1 }, mode: Adds }, Use { cell: Cell { array: 0, index: 2 }, mode: Reads }, Use { cell: Cell { array: 0, index: 3 }, mode: Reads }, Use { cell: Cell { array: 0, index: 4 }, mode: Reads }] }, [])], statements: 1, tasks: 1 }
-[],[["task",[["red",["a",0,1]],["in",["b",0,1]]],[]]] gives Program { shows: [], body: [Task(Decl { uses: [Use { cell: Cell { array: 0, index: 0 }, mode: Adds }, Use { cell: Cell { array: 1, index: 0 }, mode: Reads }] }, [])], statements: 1, tasks: 1 }"#;
+[],[["task",[["red",["a",0,2]],["in",["a",2,3]]],[]]] gives Program { shows: [], body: [Task(Decl { uses: [Use { cell: Cell { array: 0, index: 0 }, mode: Folds(Plus) }, Use { cell: Cell { array: 0, index: 1 }, mode: Folds(Plus) }, Use { cell: Cell { array: 0, index: 2 }, mode: Reads }, Use { cell: Cell { array: 0, index: 3 }, mode: Reads }, Use { cell: Cell { array: 0, index: 4 }, mode: Reads }] }, [])], statements: 1, tasks: 1 }
+[],[["task",[["red",["a",0,1]],["in",["b",0,1]]],[]]] gives Program { shows: [], body: [Task(Decl { uses: [Use { cell: Cell { array: 0, index: 0 }, mode: Folds(Plus) }, Use { cell: Cell { array: 1, index: 0 }, mode: Reads }] }, [])], statements: 1, tasks: 1 }
+program2 [],[["task",[["red","max",["a",2,1]],["red","&",["a",1,1]]],[]]] gives Program { shows: [], body: [Task(Decl { uses: [Use { cell: Cell { array: 0, index: 1 }, mode: Folds(And) }, Use { cell: Cell { array: 0, index: 2 }, mode: Folds(Max) }] }, [])], statements: 1, tasks: 1 }
+program2 [],[["task",[["red","max",["a",2,1]],["red","max",["a",2,1]]],[]]] gives Program { shows: [], body: [Task(Decl { uses: [Use { cell: Cell { array: 0, index: 2 }, mode: Folds(Max) }] }, [])], statements: 1, tasks: 1 }
+program2 [],[["task",[["red","max",["a",2,1]],["red","min",["a",2,1]]],[]]] gives Refused(MixedReduction)
+program2 [],[["task",[["red","^",["a",2,2]],["in",["a",1,2]]],[]]] gives Refused(MixedReduction)"#;
 
 #[test]
 fn a_cell_is_declared_once(rt: HostRuntime) {
@@ -50,7 +54,10 @@ const PAIRS: &str =
 [],[["task",[["out",["a",0,9]]],[]],["task",[],[]]] gives false false true
 [],[["task",[["out",["a",3,1]]],[]],["task",[["out",["b",3,1]]],[]]] gives false false true
 [],[["task",[["in",["a",0,4]],["out",["b",8,1]]],[]],["task",[["in",["a",2,7]],["in",["b",8,1]]],[]]] gives true true false
-[],[["task",[["in",["a",0,9]],["red",["b",8,1]]],[]],["task",[["out",["b",0,8]],["in",["a",4,1]]],[]]] gives false false true"#;
+[],[["task",[["in",["a",0,9]],["red",["b",8,1]]],[]],["task",[["out",["b",0,8]],["in",["a",4,1]]],[]]] gives false false true
+program2 [],[["task",[["red","max",["a",0,1]]],[]],["task",[["red","max",["a",0,1]]],[]]] gives false false true
+program2 [],[["task",[["red","max",["a",0,1]]],[]],["task",[["red","min",["a",0,1]]],[]]] gives false true true
+program2 [],[["task",[["red","*",["a",0,2]]],[]],["task",[["red","*",["a",0,1]],["red","&",["a",1,1]]],[]]] gives false true true"#;
 
 /// The same of tasks that name all cells of `a` or `b`, of 65,536 cells each.
 const LONG_PAIRS: &str =

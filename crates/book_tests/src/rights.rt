@@ -1,6 +1,6 @@
 //! Leases over 1, 2, 3: what comes back, what stays out, and want of memory.
-ghost use Rattle.std.specs.Prelude.{◌≡◌, ◌≢◌, ◌≤◌, ◌<◌, ◌∷◌, [], IfOk, IsPermutation};
-ghost use Rattle.ot_model.specs.declared.stmt.Mode.TheVariants.{Adds};
+ghost use Rattle.std.specs.Prelude.{◌≡◌, ◌≤◌, ◌<◌, ◌∷◌, [], false, IfOk, IsPermutation};
+ghost use Rattle.ot_model.specs.Uses.{is_fold};
 ghost use Rattle.ot_owner.specs.Leases.{lent_from};
 ghost use Rattle.ot_owner.specs.Owning.{loan_of};
 
@@ -44,7 +44,7 @@ fn lend(
 ) -> Result<Lent, AllocError>
     requires cells { cells.now ≡ (1 ∷ 2 ∷ 3 ∷ []) ∷ [] }
     requires within { index < 3 }
-    requires no_adds { mode ≢ Adds }
+    requires no_folds { is_fold mode ≡ false }
     requires worker { (1 ≤ worker) × (worker ≤ 16) }
     ensures lent { IfOk result (λ lent. lent
         ≡ lent_from cells.now (record { cell = record { array = 0; index = index }; mode = mode } ∷ [])) }

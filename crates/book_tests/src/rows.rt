@@ -1,14 +1,15 @@
-//! Two groups that are open over 1, 2, 3: the rows of workers that add, what the cells are worth, what the
-//! groups leave behind, and want of memory.
+//! Two groups that are open over three cells, by one operation: the rows of workers that fold, what the cells
+//! are worth, what the groups leave behind, who is free beside whom, and want of memory.
 ghost use Rattle.std.specs.Prelude.{◌≡◌, ◌↔◌, ◌≤◌, ◌++◌, ◌∷◌, [], IfOk, OnOk, Contains};
 ghost use Rattle.ot_model.specs.declared.expr.Cell.{Cell};
 ghost use Rattle.ot_owner.specs.Keeping.{IsLast, IsOpenable};
 ghost use Rattle.ot_owner.specs.Rows.{IsNamed, Summed};
-ghost use Rattle.book_tests.specs.TwoGroups.{nth, IsOver};
+ghost use Rattle.book_tests.specs.TwoGroups.{nth, IsFoldOf, IsOver};
 
-use super::rights::{cell, declared, one_two_three};
+use super::modes::OPERATIONS;
+use super::rights::{cell, declared};
 use super::table::{Asked, assert_rows};
-use ot_model::{Cells, Decl, Look, Mode};
+use ot_model::{Cells, Decl, Fold, Look, Mode};
 use ot_owner::{Lent, Owners, Room, Slip};
 use std::alloc::{AllocError, Global};
 use std::marker::Model;
@@ -26,13 +27,19 @@ fn room_again(alloc: Global, owners: &mut Owners, index: u32) -> Result<Room, Al
     }
 }
 
-/// Opens a group that names one cell.
-fn open(alloc: Global, owners: &mut Owners, group: u32, index: u32) -> Result<(), AllocError>
-    ensures opened { OnOk result ((g : Summed) × IsOver group index g × (owners.new.owned.groups ≡ owners.old.owned.groups ++ g ∷ [])) }
+/// Opens a group by the operation that names one cell.
+fn open(
+    alloc: Global,
+    owners: &mut Owners,
+    group: u32,
+    op: Fold,
+    index: u32,
+) -> Result<(), AllocError>
+    ensures opened { OnOk result ((g : Summed) × IsOver group op index g × (owners.new.owned.groups ≡ owners.old.owned.groups ++ g ∷ [])) }
     ensures out { owners.new.owned.out ≡ owners.old.owned.out }
 {
     let room = room_again(alloc, owners, index)?;
-    owners.open_group(group, room);
+    owners.open_group(group, op, room);
     Ok(())
 }
 
@@ -57,12 +64,13 @@ fn prepare_again(
 
 /// Group 1, which names the first cell, and in it group 2, which names the second.
 #[derive(Drop)]
-struct Sums {
+struct Groups {
+    op: Fold,
     owners: Owners,
     cells: Cells,
 }
 
-impl Model for Sums {
+impl Model for Groups {
     ghost use Rattle.std.specs.Prelude.{◌≡◌, List, [], ◌∷◌};
     ghost use Rattle.ot_model.specs.Cells.{lengths};
     ghost use Rattle.ot_owner.specs.Owning.{Loan};
@@ -70,37 +78,36 @@ impl Model for Sums {
 
     ghost Value = { List Loan };
 
-    ghost view = { λ s. s.owners.owned.out };
+    ghost view = { λ g. g.owners.owned.out };
 
-    ghost invariant = { λ s. AreTwo s.owners.owned.groups × (lengths s.cells ≡ 3 ∷ []) };
+    ghost invariant = { λ g. AreTwo g.op g.owners.owned.groups × (lengths g.cells ≡ 3 ∷ []) };
 }
 
-impl Sums {
+impl Groups {
     ghost use Rattle.std.specs.Prelude.{◌≡◌, ◌≤◌, ◌<◌, ◌∷◌, [], IfOk, OnOk, Contains, IsPermutation};
-    ghost use Rattle.ot_model.specs.declared.stmt.Mode.TheVariants.{Adds};
     ghost use Rattle.ot_owner.specs.Lending.{uses_of};
     ghost use Rattle.ot_owner.specs.Owning.{loan_of};
-    ghost use Rattle.book_tests.specs.TwoGroups.{nth};
 
-    /// Both are opened. Nothing is out.
-    fn new(alloc: Global) -> Result<Sums, AllocError>
-        ensures { IfOk result (λ sums. sums ≡ []) }
+    /// Both are opened over this number, 2, 3. Nothing is out.
+    fn new(alloc: Global, op: Fold, first: u64) -> Result<Groups, AllocError>
+        ensures { IfOk result (λ groups. groups ≡ []) }
     {
         let mut owners = Owners::new(alloc);
-        open(alloc, &mut owners, 1, 0)?;
-        open(alloc, &mut owners, 2, 1)?;
-        let cells = one_two_three(alloc)?;
-        Ok(Sums { owners, cells })
+        open(alloc, &mut owners, 1, op, 0)?;
+        open(alloc, &mut owners, 2, op, 1)?;
+        let array = vec![in alloc; first, 2, 3]?;
+        let cells = Cells::new(vec![in alloc; array]?);
+        Ok(Groups { op, owners, cells })
     }
 
-    /// Lends a cell to a worker that adds to it.
+    /// Lends a cell to a worker that folds into it.
     fn lend(&mut self, alloc: Global, index: u32, worker: u32) -> Result<Lent, AllocError>
         requires named { index < 2 }
         requires worker { (1 ≤ worker) × (worker ≤ 16) }
-        ensures lent { IfOk result (λ lent. uses_of lent ≡ record { cell = nth index; mode = Adds } ∷ []) }
+        ensures lent { IfOk result (λ lent. IsFoldOf index (uses_of lent)) }
         ensures out { IfOk result (λ lent. IsPermutation (loan_of worker lent ∷ self.old) self.new) }
     {
-        let decl = declared(alloc, Mode::Adds, index)?;
+        let decl = declared(alloc, Mode::Folds(self.op), index)?;
         if !self.owners.free_for(&decl) {
             return Err(AllocError);
         }
@@ -108,20 +115,36 @@ impl Sums {
         Ok(self.owners.lease(&self.cells, slip))
     }
 
-    /// The worker adds a number to its copy, and gives it back.
+    /// The worker gives its copy back.
+    fn back(&mut self, lent: Lent, index: u32, worker: u32)
+        requires named { index < 2 }
+        requires lent { IsFoldOf index (uses_of lent) }
+        requires out { Contains self.old (loan_of worker lent) }
+        ensures { IsPermutation self.old (loan_of worker lent ∷ self.new) }
+    {
+        self.owners.give_back(&mut self.cells, lent, worker);
+    }
+
+    /// The worker sets its copy to a number, and gives it back.
     fn put(&mut self, lent: Lent, index: u32, worker: u32, number: u64)
         requires named { index < 2 }
-        requires lent { uses_of lent ≡ record { cell = nth index; mode = Adds } ∷ [] }
+        requires lent { IsFoldOf index (uses_of lent) }
         requires out { Contains self.old (loan_of worker lent) }
         ensures { IsPermutation self.old (loan_of worker lent ∷ self.new) }
     {
         let mut lent = lent;
         lent.set(cell(index), number);
-        self.owners.give_back(&mut self.cells, lent, worker);
+        self.back(lent, index, worker);
     }
 
-    /// A worker adds a number to a cell.
-    fn add(&mut self, alloc: Global, index: u32, worker: u32, number: u64) -> Result<(), AllocError>
+    /// A worker folds a number into a cell.
+    fn fold(
+        &mut self,
+        alloc: Global,
+        index: u32,
+        worker: u32,
+        number: u64,
+    ) -> Result<(), AllocError>
         requires named { index < 2 }
         requires worker { (1 ≤ worker) × (worker ≤ 16) }
         requires none { self.old ≡ [] }
@@ -132,8 +155,8 @@ impl Sums {
         Ok(())
     }
 
-    /// Worker 3 adds 5 and 6 to the first cell by two leases that are out at once.
-    fn add_at_once(&mut self, alloc: Global) -> Result<(), AllocError>
+    /// Worker 3 folds 5 and 6 into the first cell by two leases that are out at once.
+    fn fold_at_once(&mut self, alloc: Global) -> Result<(), AllocError>
         requires { self.old ≡ [] }
         ensures { OnOk result (self.new ≡ []) }
     {
@@ -150,8 +173,8 @@ impl Sums {
         Ok(())
     }
 
-    /// Worker 1 adds 5 to its copy of the first cell, and what it added is dropped.
-    fn add_and_drop(&mut self, alloc: Global) -> Result<(), AllocError>
+    /// Worker 1 folds 5 into its copy of the first cell, and what it folded is dropped.
+    fn fold_and_drop(&mut self, alloc: Global) -> Result<(), AllocError>
         requires { self.old ≡ [] }
         ensures { OnOk result (self.new ≡ []) }
     {
@@ -161,14 +184,35 @@ impl Sums {
         Ok(())
     }
 
+    /// Worker 1 has a copy of the first cell, and gives it back as it is.
+    fn fold_nothing(&mut self, alloc: Global) -> Result<(), AllocError>
+        requires { self.old ≡ [] }
+        ensures { OnOk result (self.new ≡ []) }
+    {
+        let lent = self.lend(alloc, 0, 1)?;
+        self.back(lent, 0, 1);
+        Ok(())
+    }
+
     /// The row of worker 2 is prepared, and never leased.
     fn prepare_alone(&mut self, alloc: Global) -> Result<(), AllocError>
         requires { self.old ≡ [] }
         ensures { OnOk result (self.new ≡ []) }
     {
-        let decl = declared(alloc, Mode::Adds, 0)?;
+        let decl = declared(alloc, Mode::Folds(self.op), 0)?;
         let _slip = prepare_again(alloc, &mut self.owners, decl, 2)?;
         Ok(())
+    }
+
+    /// Whether one who folds by an operation is free to the first cell while worker 1 has a copy of it.
+    fn is_free_beside(&mut self, alloc: Global, op: Fold) -> Result<bool, AllocError>
+        requires { self.old ≡ [] }
+    {
+        let decl = declared(alloc, Mode::Folds(op), 0)?;
+        let lent = self.lend(alloc, 0, 1)?;
+        let is_free = self.owners.free_for(&decl);
+        self.owners.drop_right(lent, 1);
+        Ok(is_free)
     }
 
     /// What the first cell holds, its copies of the workers 1, 2 and 3, what it is worth, and all cells
@@ -176,7 +220,8 @@ impl Sums {
     fn told(self, alloc: Global) -> Result<String, AllocError>
         requires { self ≡ [] }
     {
-        let Sums {
+        let Groups {
+            op: _,
             mut owners,
             mut cells,
         } = self;
@@ -198,61 +243,122 @@ impl Sums {
     }
 }
 
-/// Those who add, each with a cell, a worker and a number.
-fn add_each(alloc: Global, sums: &mut Sums, adders: [(u32, u32, u64); 3]) -> Result<(), AllocError>
-    requires { sums.old ≡ [] }
-    ensures { OnOk result (sums.new ≡ []) }
+/// Those who fold, each with a cell, a worker and a number.
+fn fold_each(
+    alloc: Global,
+    groups: &mut Groups,
+    folders: [(u32, u32, u64); 3],
+) -> Result<(), AllocError>
+    requires { groups.old ≡ [] }
+    ensures { OnOk result (groups.new ≡ []) }
 {
-    for (index, worker, number) in adders {
+    for (index, worker, number) in folders {
         if index < 2 && worker >= 1 && worker <= 16 {
-            sums.add(alloc, index, worker, number)?;
+            groups.fold(alloc, index, worker, number)?;
         }
     }
     Ok(())
 }
 
-const SUMS: &str = "adders of one cell gives 1 [Some(4), Some(1), None] 6 [[1, 2, 3]] [[6, 2, 3]]
-adders of two cells gives 1 [Some(3), None, None] 4 [[1, 11, 3]] [[4, 11, 3]]
-adders past the end gives 1 [Some(18446744073709551614), Some(2), None] 1 [[1, 2, 3]] [[1, 2, 3]]
-two at once gives 1 [None, None, Some(11)] 12 [[1, 2, 3]] [[12, 2, 3]]
-dropped gives 1 [Some(0), None, None] 1 [[1, 2, 3]] [[1, 2, 3]]
-prepared alone gives 1 [None, None, None] 1 [[1, 2, 3]] [[1, 2, 3]]
-no row gives 1 [None, None, None] 1 [[1, 2, 3]] [[1, 2, 3]]";
+/// An operation, the number of the first cell, and who folds.
+const FOLDS: &str =
+    "+ of 1: folders of one cell gives 1 [Some(4), Some(1), None] 6 [[1, 2, 3]] [[6, 2, 3]]
++ of 1: folders of two cells gives 1 [Some(3), None, None] 4 [[1, 11, 3]] [[4, 11, 3]]
++ of 1: folders past the end gives 1 [Some(18446744073709551614), Some(2), None] 1 [[1, 2, 3]] [[1, 2, 3]]
++ of 1: two at once gives 1 [None, None, Some(11)] 12 [[1, 2, 3]] [[12, 2, 3]]
++ of 1: dropped gives 1 [Some(0), None, None] 1 [[1, 2, 3]] [[1, 2, 3]]
++ of 1: prepared alone gives 1 [None, None, None] 1 [[1, 2, 3]] [[1, 2, 3]]
++ of 1: no row gives 1 [None, None, None] 1 [[1, 2, 3]] [[1, 2, 3]]
++ of 7: three folders gives 7 [Some(12), Some(13), None] 32 [[7, 2, 3]] [[32, 2, 3]]
+* of 7: three folders gives 7 [Some(35), Some(13), None] 3185 [[7, 2, 3]] [[3185, 2, 3]]
+& of 7: three folders gives 7 [Some(5), Some(13), None] 5 [[7, 2, 3]] [[5, 2, 3]]
+| of 7: three folders gives 7 [Some(7), Some(13), None] 15 [[7, 2, 3]] [[15, 2, 3]]
+^ of 7: three folders gives 7 [Some(2), Some(13), None] 8 [[7, 2, 3]] [[8, 2, 3]]
+min of 7: three folders gives 7 [Some(5), Some(13), None] 5 [[7, 2, 3]] [[5, 2, 3]]
+max of 7: three folders gives 7 [Some(7), Some(13), None] 13 [[7, 2, 3]] [[13, 2, 3]]
++ of 7: nobody gives 7 [Some(0), None, None] 7 [[7, 2, 3]] [[7, 2, 3]]
+* of 7: nobody gives 7 [Some(1), None, None] 7 [[7, 2, 3]] [[7, 2, 3]]
+& of 7: nobody gives 7 [Some(18446744073709551615), None, None] 7 [[7, 2, 3]] [[7, 2, 3]]
+| of 7: nobody gives 7 [Some(0), None, None] 7 [[7, 2, 3]] [[7, 2, 3]]
+^ of 7: nobody gives 7 [Some(0), None, None] 7 [[7, 2, 3]] [[7, 2, 3]]
+min of 7: nobody gives 7 [Some(18446744073709551615), None, None] 7 [[7, 2, 3]] [[7, 2, 3]]
+max of 7: nobody gives 7 [Some(0), None, None] 7 [[7, 2, 3]] [[7, 2, 3]]
+* of 7: dropped gives 7 [Some(1), None, None] 7 [[7, 2, 3]] [[7, 2, 3]]
+min of 7: two at once gives 7 [None, None, Some(5)] 5 [[7, 2, 3]] [[5, 2, 3]]";
 
-fn added(alloc: Global, sums: &mut Sums, kind: &str) -> Result<(), AllocError>
-    requires { sums.old ≡ [] }
-    ensures { OnOk result (sums.new ≡ []) }
+fn folded(alloc: Global, groups: &mut Groups, kind: &str) -> Result<(), AllocError>
+    requires { groups.old ≡ [] }
+    ensures { OnOk result (groups.new ≡ []) }
 {
     match kind {
-        "adders of one cell" => add_each(alloc, sums, [(0, 1, 3), (0, 2, 1), (0, 1, 1)]),
-        "adders of two cells" => add_each(alloc, sums, [(0, 1, 3), (1, 1, 4), (1, 2, 5)]),
-        "adders past the end" => {
-            add_each(alloc, sums, [(0, 1, u64::MAX), (0, 2, 2), (0, 1, u64::MAX)])
+        "folders of one cell" => fold_each(alloc, groups, [(0, 1, 3), (0, 2, 1), (0, 1, 1)]),
+        "folders of two cells" => fold_each(alloc, groups, [(0, 1, 3), (1, 1, 4), (1, 2, 5)]),
+        "folders past the end" => {
+            fold_each(
+                alloc,
+                groups,
+                [(0, 1, u64::MAX), (0, 2, 2), (0, 1, u64::MAX)],
+            )
         }
-        "two at once" => sums.add_at_once(alloc),
-        "dropped" => sums.add_and_drop(alloc),
-        "prepared alone" => sums.prepare_alone(alloc),
+        "three folders" => fold_each(alloc, groups, [(0, 1, 5), (0, 2, 13), (0, 1, 7)]),
+        "two at once" => groups.fold_at_once(alloc),
+        "dropped" => groups.fold_and_drop(alloc),
+        "nobody" => groups.fold_nothing(alloc),
+        "prepared alone" => groups.prepare_alone(alloc),
         _ => Ok(()),
     }
 }
 
-/// What comes of leases of this kind to workers that add.
-pub(crate) fn summed(alloc: Global, kind: &str) -> Result<String, AllocError> {
-    let mut sums = Sums::new(alloc)?;
-    added(alloc, &mut sums, kind)?;
-    sums.told(alloc)
+fn operation_of(name: &str) -> Fold {
+    match name {
+        "*" => Fold::Times,
+        "&" => Fold::And,
+        "|" => Fold::Or,
+        "^" => Fold::Xor,
+        "min" => Fold::Min,
+        "max" => Fold::Max,
+        _ => Fold::Plus,
+    }
+}
+
+/// What comes of leases of this kind to workers that fold.
+pub(crate) fn combined(alloc: Global, row: &str) -> Result<String, AllocError> {
+    let (over, kind) = row.split_once(": ").unwrap_or(("", ""));
+    let (name, first) = over.split_once(" of ").unwrap_or(("", ""));
+    let mut groups = Groups::new(alloc, operation_of(name), first.parse().unwrap_or(0))?;
+    folded(alloc, &mut groups, kind)?;
+    groups.told(alloc)
 }
 
 #[test]
-fn what_comes_of_sums(rt: HostRuntime) {
-    assert_rows(&rt, rt.alloc(), Asked::Summed, [1, 1, 0], SUMS);
+fn what_comes_of_folds(rt: HostRuntime) {
+    assert_rows(&rt, rt.alloc(), Asked::Combined, [1, 1, 0], FOLDS);
+}
+
+/// The first two operations of which one isn't free beside the other as it should be.
+fn other_beside(alloc: Global) -> Result<Option<(Fold, Fold)>, AllocError> {
+    for one in &OPERATIONS {
+        for two in &OPERATIONS {
+            let mut groups = Groups::new(alloc, *one, 1)?;
+            if groups.is_free_beside(alloc, *two)? != (*one == *two) {
+                return Ok(Some((*one, *two)));
+            }
+        }
+    }
+    Ok(None)
+}
+
+#[test]
+fn folders_are_free_beside_those_by_their_operation(rt: HostRuntime) -> Result<(), AllocError> {
+    assert_eq!(rt; other_beside(rt.alloc())?, None);
+    Ok(())
 }
 
 /// Where room or the memory of a lease is refused, it is asked for again: then all goes on as if it had
 /// not been refused. It passes whichever allocation fails, and prints a line where another one did.
 #[test]
-fn sums_that_want_memory_go_on(rt: HostRuntime) {
-    match summed(rt.alloc(), "adders of one cell") {
+fn folds_that_want_memory_go_on(rt: HostRuntime) {
+    match combined(rt.alloc(), "+ of 1: folders of one cell") {
         Ok(told) => {
             let right = told.as_str() == "1 [Some(4), Some(1), None] 6 [[1, 2, 3]] [[6, 2, 3]]";
             assert!(rt; right);

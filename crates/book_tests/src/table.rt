@@ -8,7 +8,7 @@ use super::names::is_name_text;
 use super::programs::{printed, printed_copy};
 use super::reading::two_arrays;
 use super::rights::lent;
-use super::rows::summed;
+use super::rows::combined;
 use ot_model::Shape;
 use std::alloc::{AllocError, Global};
 use std::process::Abort;
@@ -36,8 +36,8 @@ pub(crate) enum Asked {
     Awaiting,
     /// What comes of a lease.
     Lent,
-    /// What comes of leases to workers that add.
-    Summed,
+    /// What comes of leases to workers that fold.
+    Combined,
 }
 
 /// Asserts that each text of a table is told what its row gives.
@@ -93,6 +93,6 @@ fn told(alloc: Global, asked: Asked, text: &str, shape: &Shape) -> Result<String
         Asked::Finished => finished(alloc, text),
         Asked::Awaiting => awaited(alloc, text, shape),
         Asked::Lent => lent(alloc, text),
-        Asked::Summed => summed(alloc, text),
+        Asked::Combined => combined(alloc, text),
     }
 }

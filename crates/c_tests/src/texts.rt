@@ -131,7 +131,72 @@ const BODIES: [(&str, &str); 9] = [
     ),
 ];
 
-/// The C of a program of these shows and this body, a comma between them, where the array is called so and has so many
+/// Bodies whose folds have operations, and what stands for them.
+const FOLDS: [(&str, &str); 4] = [
+    (
+        "[[\"fold\",\"+\",[\"c\",\"a\",0],[\"c\",\"a\",1]],[\"fold\",\"*\",[\"c\",\"a\",0],18446744073709551615],[\"fold\",\"&\",[\"c\",\"a\",0],[\"<\",1,2]],[\"fold\",\"|\",[\"c\",\"a\",0],[\"+\",[\"c\",\"a\",2],1]],[\"fold\",\"^\",[\"c\",\"a\",0],7]]",
+        "        a[0] += a[1];
+        a[0] *= 18446744073709551615ULL;
+        a[0] &= 1ULL < 2;
+        a[0] |= a[2] + 1;
+        a[0] ^= 7;
+",
+    ),
+    (
+        "[[\"group\",\"*\",[[\"a\",1,2]],[[\"task\",[[\"red\",\"*\",[\"a\",1,1]],[\"out\",[\"a\",0,1]]],[[\"fold\",\"*\",[\"c\",\"a\",1],5],[\"fold\",\"*\",[\"c\",\"a\",0],6]]]]]]",
+        "        {
+            uint64_t *Product_a_1 = &a[1];
+            uint64_t *Product_a_2 = &a[2];
+            #pragma omp taskgroup task_reduction(*: Product_a_1[0:1], Product_a_2[0:1])
+            {
+                #pragma omp task depend(out: a[0]) in_reduction(*: Product_a_1[0:1])
+                {
+                    Product_a_1[0] *= 5;
+                    a[0] *= 6;
+                }
+            }
+        }
+",
+    ),
+    // A task has a clause for each operation.
+    (
+        "[[\"group\",\"^\",[[\"a\",0,1]],[[\"group\",\"&\",[[\"a\",1,1]],[[\"task\",[[\"red\",\"^\",[\"a\",0,1]],[\"red\",\"&\",[\"a\",1,1]]],[[\"fold\",\"&\",[\"c\",\"a\",1],2],[\"fold\",\"^\",[\"c\",\"a\",0],1]]]]]]]]",
+        "        {
+            uint64_t *Xor_a_0 = &a[0];
+            #pragma omp taskgroup task_reduction(^: Xor_a_0[0:1])
+            {
+                {
+                    uint64_t *And_a_1 = &a[1];
+                    #pragma omp taskgroup task_reduction(&: And_a_1[0:1])
+                    {
+                        #pragma omp task in_reduction(&: And_a_1[0:1]) in_reduction(^: Xor_a_0[0:1])
+                        {
+                            And_a_1[0] &= 2;
+                            Xor_a_0[0] ^= 1;
+                        }
+                    }
+                }
+            }
+        }
+",
+    ),
+    (
+        "[[\"group\",\"|\",[[\"a\",0,1]],[[\"task\",[[\"red\",\"|\",[\"a\",0,1]]],[[\"fold\",\"|\",[\"c\",\"a\",0],8]]]]]]",
+        "        {
+            uint64_t *Or_a_0 = &a[0];
+            #pragma omp taskgroup task_reduction(|: Or_a_0[0:1])
+            {
+                #pragma omp task in_reduction(|: Or_a_0[0:1])
+                {
+                    Or_a_0[0] |= 8;
+                }
+            }
+        }
+",
+    ),
+];
+
+/// The C of a program of these shows and this body, a comma between them, `program2 ` before it where it is one, where the array is called so and has so many
 /// cells.
 pub(crate) fn text_of(alloc: Global, name: &str, len: u32, program: &str) -> Result<String, Fail> {
     let shape = one_array(alloc, len, 1024)?;
@@ -143,8 +208,8 @@ pub(crate) fn text_of(alloc: Global, name: &str, len: u32, program: &str) -> Res
     Ok(c_text(alloc, &program, &arrays, &before)?)
 }
 
-fn is_body(alloc: Global, body: &str, region: &str) -> Result<bool, Fail> {
-    let program = format!(in alloc; "[],{body}")?;
+fn is_body(alloc: Global, shows: &str, body: &str, region: &str) -> Result<bool, Fail> {
+    let program = format!(in alloc; "{shows},{body}")?;
     let text = text_of(alloc, "a", 3, program.as_str())?;
     let wanted = format!(in alloc; "{HEAD}{BEGIN}{region}{TAIL}")?;
     Ok(text.as_str() == wanted.as_str())
@@ -152,7 +217,12 @@ fn is_body(alloc: Global, body: &str, region: &str) -> Result<bool, Fail> {
 
 fn first_other(alloc: Global) -> Result<Option<&'static str>, Fail> {
     for (body, region) in &BODIES {
-        if !is_body(alloc, body, region)? {
+        if !is_body(alloc, "[]", body, region)? {
+            return Ok(Some(*body));
+        }
+    }
+    for (body, region) in &FOLDS {
+        if !is_body(alloc, "program2 []", body, region)? {
             return Ok(Some(*body));
         }
     }

@@ -64,6 +64,48 @@ int main(void)
 }
 ";
 
+const FOLDS: &str =
+    "/* The last run of a session, as C with OpenMP: it prints what the run shows. */
+#include <inttypes.h>
+#include <stdint.h>
+#include <stdio.h>
+
+static uint64_t min(uint64_t one, uint64_t two)
+{
+    return one < two ? one : two;
+}
+
+static uint64_t max(uint64_t one, uint64_t two)
+{
+    return one < two ? two : one;
+}
+
+int main(void)
+{
+    static uint64_t a[3] = {1, 2};
+
+    #pragma omp parallel
+    #pragma omp single
+    {
+        {
+            uint64_t *Max_a_0 = &a[0];
+            #pragma omp taskgroup task_reduction(max: Max_a_0[0:1])
+            {
+                #pragma omp task depend(in: a[1]) in_reduction(max: Max_a_0[0:1])
+                {
+                    Max_a_0[0] = max(Max_a_0[0], a[1] * 3);
+                }
+            }
+        }
+        a[0] = min(a[0], a[2]);
+    }
+
+    printf(\"[\");
+    printf(\"]\\n\");
+    return 0;
+}
+";
+
 const LONG: &str = "/* The last run of a session, as C with OpenMP: it prints what the run shows. */
 #include <inttypes.h>
 #include <stdint.h>
@@ -88,13 +130,19 @@ int main(void)
 ";
 
 /// An array `a` in a program, with its name in the C and its length; the program; and its C.
-const ROWS: [(&str, u32, &str, &str); 3] = [
+const ROWS: [(&str, u32, &str, &str); 4] = [
     ("a", 3, "[],[]", NOTHING),
     (
         "for",
         3,
         "[[\"a\",0,2],[\"a\",2,1]],[[\"set\",[\"c\",\"a\",0],[\"min\",1,[\"max\",[\"c\",\"a\",1],2]]]]",
         FUNCTIONS,
+    ),
+    (
+        "a",
+        3,
+        "program2 [],[[\"group\",\"max\",[[\"a\",0,1]],[[\"task\",[[\"red\",\"max\",[\"a\",0,1]],[\"in\",[\"a\",1,1]]],[[\"fold\",\"max\",[\"c\",\"a\",0],[\"*\",[\"c\",\"a\",1],3]]]]]],[\"fold\",\"min\",[\"c\",\"a\",0],[\"c\",\"a\",2]]]",
+        FOLDS,
     ),
     (
         "b_1",

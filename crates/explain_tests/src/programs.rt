@@ -115,9 +115,65 @@ const ROWS: [(&str, &str); 25] = [
     ),
 ];
 
-fn is_as_told(alloc: Global, body: &str, text: &str) -> Result<bool, Fail> {
+/// The same of bodies whose folds have operations.
+const FOLDS: [(&str, &str); 13] = [
+    (
+        "[[\"group\",[],[]]]",
+        "[\"err\",2,420]\n# 420: the program is of no form of the language\n# a part of the program has none of the forms of the language\n",
+    ),
+    (
+        "[[\"task\",[[\"red\",\"+\",[\"a\",0,1]],[\"red\",\"max\",[\"a\",0,1]]],[]]]",
+        "[\"err\",2,429]\n# 429: a reduction is misused\n# one cell of a task stands under `red` and under another kind, or under `red` by two operations\n",
+    ),
+    (
+        "[[\"task\",[[\"in\",[\"a\",0,1]]],[[\"fold\",\"max\",[\"c\",\"a\",0],9]]]]",
+        "[\"err\",2,425,2]\n# 425: the body of a task touches a cell as the task doesn't declare it\n# statement 2: a[0] = max(a[0], 9)\n# it reads a cell that its task declares neither for reading nor for writing; or folds by `max` into one that is declared neither for writing nor under `red` by `max`\n",
+    ),
+    (
+        "[[\"group\",\"max\",[[\"a\",0,1]],[[\"task\",[[\"red\",\"max\",[\"a\",0,1]]],[[\"add\",[\"c\",\"a\",0],1]]]]]]",
+        "[\"err\",2,425,3]\n# 425: the body of a task touches a cell as the task doesn't declare it\n# statement 3: a[0] += 1\n# it reads a cell that its task declares neither for reading nor for writing; or folds by `+` into one that is declared neither for writing nor under `red` by `+`\n",
+    ),
+    (
+        "[[\"task\",[],[[\"set\",[\"c\",\"a\",0],1]]]]",
+        "[\"err\",2,425,2]\n# 425: the body of a task touches a cell as the task doesn't declare it\n# statement 2: a[0] = 1\n# it reads a cell that its task declares neither for reading nor for writing; or writes one that isn't declared for writing\n",
+    ),
+    (
+        "[[\"group\",\"max\",[[\"a\",0,1]],[[\"task\",[[\"red\",\"min\",[\"a\",0,1]]],[]]]]]",
+        "[\"err\",2,429,2]\n# 429: a reduction is misused\n# statement 2: task in_reduction(min: a[0])\n# it declares a cell of an open group without `red`; or, under `red` by `min`, a cell that the task around hasn't under `red` by `min` and no open group by `min` names\n",
+    ),
+    (
+        "[[\"group\",\"*\",[[\"a\",0,2]],[[\"task\",[[\"red\",\"*\",[\"a\",0,1]],[\"red\",\"+\",[\"a\",1,1]],[\"in\",[\"a\",2,1]]],[]]]]]",
+        "[\"err\",2,429,2]\n# 429: a reduction is misused\n# statement 2: task in(a[2]) in_reduction(+: a[1]) in_reduction(*: a[0])\n# it declares a cell of an open group without `red`; or, under `red` by `*`, a cell that the task around hasn't under `red` by `*` and no open group by `*` names; or, under `red` by `+`, a cell that the task around hasn't under `red` by `+` and no open group by `+` names\n",
+    ),
+    (
+        "[[\"task\",[[\"in\",[\"a\",0,2]]],[[\"group\",\"*\",[[\"a\",0,2]],[]]]]]",
+        "[\"err\",2,429,2]\n# 429: a reduction is misused\n# statement 2: taskgroup task_reduction(*: a[0:2])\n# it names a cell which the task around doesn't declare for writing or which an open group names\n",
+    ),
+    (
+        "[[\"group\",\"^\",[[\"a\",0,1]],[[\"fold\",\"^\",[\"c\",\"a\",0],1]]]]",
+        "[\"err\",2,429,2]\n# 429: a reduction is misused\n# statement 2: a[0] ^= 1\n# it touches a cell of an open group\n",
+    ),
+    (
+        "[[\"task\",[[\"in\",[\"a\",0,1]]],[]],[\"fold\",\"*\",[\"c\",\"a\",0],2]]",
+        "[\"err\",2,427,2]\n# 427: a touch, or a group, conflicts with a pending child\n# statement 2: a[0] *= 2\n# conflicts at a[0] with statement 1, which may be pending: task in(a[0])\n",
+    ),
+    (
+        "[[\"task\",[[\"out\",[\"a\",1,1]]],[]],[\"task\",[[\"in\",[\"a\",0,1]]],[]],[\"group\",\"&\",[[\"a\",0,1]],[]]]",
+        "[\"err\",2,427,3]\n# 427: a touch, or a group, conflicts with a pending child\n# statement 3: taskgroup task_reduction(&: a[0])\n# conflicts at a[0] with statement 2, which may be pending: task in(a[0])\n",
+    ),
+    (
+        "[[\"task\",[[\"in\",[\"a\",0,1]]],[]],[\"fold\",\"|\",[\"c\",\"a\",1],[\"c\",\"a\",0]],[\"fold\",\"min\",[\"c\",\"a\",0],[\"+\",1,2]]]",
+        "[\"err\",2,427,3]\n# 427: a touch, or a group, conflicts with a pending child\n# statement 3: a[0] = min(a[0], 1 + 2)\n# conflicts at a[0] with statement 1, which may be pending: task in(a[0])\n",
+    ),
+    (
+        "[[\"group\",\"max\",[[\"a\",0,1]],[[\"task\",[[\"red\",\"max\",[\"a\",0,1]]],[[\"task\",[[\"red\",\"max\",[\"a\",0,1]]],[]]]]]]]",
+        "[\"err\",2,428,2]\n# 428: a task can end with a child pending\n# statement 2: task in_reduction(max: a[0])\n# can end before its child, statement 3: task in_reduction(max: a[0])\n",
+    ),
+];
+
+fn is_as_told(alloc: Global, word: &str, body: &str, text: &str) -> Result<bool, Fail> {
     let lines = format!(in alloc;
-        "[\"new\",\"a\",3]\n[\"run\",[\"program\",[],{body}]]\n[\"used\"]\n"
+        "[\"new\",\"a\",3]\n[\"run\",[\"{word}\",[],{body}]]\n[\"used\"]\n"
     )?;
     let all = format!(in alloc; "[\"ok\",1]\n{text}[\"used\",3,0]\n")?;
     let told = session(alloc, lines.as_str());
@@ -126,7 +182,12 @@ fn is_as_told(alloc: Global, body: &str, text: &str) -> Result<bool, Fail> {
 
 fn first_other(alloc: Global) -> Result<Option<&'static str>, Fail> {
     for (body, text) in &ROWS {
-        if !is_as_told(alloc, body, text)? {
+        if !is_as_told(alloc, "program", body, text)? {
+            return Ok(Some(*body));
+        }
+    }
+    for (body, text) in &FOLDS {
+        if !is_as_told(alloc, "program2", body, text)? {
             return Ok(Some(*body));
         }
     }

@@ -65,8 +65,27 @@ const ROWS: [(&str, &str); 12] = [
     ),
 ];
 
-fn is_drawn(alloc: Global, body: &str, inner: &str) -> Result<bool, Fail> {
-    let lines = format!(in alloc; "[\"new\",\"a\",3]\n[\"run\",[\"program\",[],{body}]]\n")?;
+/// The same of bodies whose folds have operations.
+const FOLDS: [(&str, &str); 3] = [
+    // Tasks that fold by one operation wait for none.
+    (
+        "[[\"group\",\"max\",[[\"a\",0,1]],[[\"task\",[[\"red\",\"max\",[\"a\",0,1]]],[]],[\"task\",[[\"red\",\"max\",[\"a\",0,1]]],[]]]]]",
+        "  subgraph cluster_1 {\n  label=\"taskgroup task_reduction(max: a[0])\";\n  t1 [label=\"2: task in_reduction(max: a[0])\"];\n  t2 [label=\"3: task in_reduction(max: a[0])\"];\n  }\n  t0 -> t1 [style=dashed];\n  t0 -> t2 [style=dashed];\n",
+    ),
+    // A task has a clause for each operation, in their order.
+    (
+        "[[\"group\",\"*\",[[\"a\",0,1]],[[\"group\",\"+\",[[\"a\",1,1]],[[\"task\",[[\"red\",\"*\",[\"a\",0,1]],[\"red\",\"+\",[\"a\",1,1]]],[]]]]]]]",
+        "  subgraph cluster_1 {\n  label=\"taskgroup task_reduction(*: a[0])\";\n  subgraph cluster_2 {\n  label=\"taskgroup task_reduction(+: a[1])\";\n  t1 [label=\"3: task in_reduction(+: a[1]) in_reduction(*: a[0])\"];\n  }\n  }\n  t0 -> t1 [style=dashed];\n",
+    ),
+    // What is folded decides which body of an `if` is run.
+    (
+        "[[\"fold\",\"max\",[\"c\",\"a\",0],5],[\"fold\",\"&\",[\"c\",\"a\",0],12],[\"if\",[\"=\",[\"c\",\"a\",0],4],[[\"task\",[[\"out\",[\"a\",1,1]]],[]]],[[\"task\",[[\"out\",[\"a\",2,1]]],[]]]]]",
+        "  t1 [label=\"4: task out(a[1])\"];\n  t0 -> t1 [style=dashed];\n",
+    ),
+];
+
+fn is_drawn(alloc: Global, word: &str, body: &str, inner: &str) -> Result<bool, Fail> {
+    let lines = format!(in alloc; "[\"new\",\"a\",3]\n[\"run\",[\"{word}\",[],{body}]]\n")?;
     let text = format!(in alloc; "digraph tasks {{\n  t0 [label=\"program\"];\n{inner}}}\n")?;
     let mut source = Reading::new(lines.as_bytes());
     match draw(alloc, &mut source) {
@@ -77,7 +96,12 @@ fn is_drawn(alloc: Global, body: &str, inner: &str) -> Result<bool, Fail> {
 
 fn first_other(alloc: Global) -> Result<Option<&'static str>, Fail> {
     for (body, inner) in &ROWS {
-        if !is_drawn(alloc, body, inner)? {
+        if !is_drawn(alloc, "program", body, inner)? {
+            return Ok(Some(*body));
+        }
+    }
+    for (body, inner) in &FOLDS {
+        if !is_drawn(alloc, "program2", body, inner)? {
             return Ok(Some(*body));
         }
     }

@@ -7,6 +7,8 @@ mod choosers;
 #[cfg(test)]
 mod driving;
 #[cfg(test)]
+mod folds;
+#[cfg(test)]
 mod foreign;
 #[cfg(test)]
 mod memory;
@@ -18,8 +20,6 @@ mod random;
 mod rows;
 #[cfg(test)]
 mod sizes;
-#[cfg(test)]
-mod sums;
 #[cfg(test)]
 mod three;
 #[cfg(test)]

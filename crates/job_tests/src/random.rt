@@ -1,4 +1,4 @@
-//! Random bodies in random orders, by scripts/random_jobs.
+//! Bodies in random orders: one of each operation of folds, and the random ones of scripts/random_jobs.
 use super::choosers::Random;
 use super::driving::{Width, run};
 use ot_check::JobSpec;
@@ -6,6 +6,16 @@ use ot_program::ProgramFault;
 use std::alloc::{AllocError, Global};
 use std::{env, fs};
 use test_reading::job_over;
+
+/// Bodies over 1 to 6, in which tasks and their children fold: the executed task statements, the units and the cells.
+const FOLDS: &str =
+    r#"program2 [["group","+",[["a",4,2]],[["for","i",0,4,[["task",[["red","+",["a",4,2]],["in",["a",2,1]]],[["fold","+",["c","a",4],["|",["+",["c","a",2],"i"],4]],["task",[["red","+",["a",5,1]]],[["fold","+",["c","a",5],["|",["+","i",5],2]]]],["wait"]]]]]]],["set",["c","a",0],["+",["c","a",4],["c","a",5]]]] gives 8 22 [63, 2, 3, 4, 27, 36]
+program2 [["group","*",[["a",4,2]],[["for","i",0,4,[["task",[["red","*",["a",4,2]],["in",["a",2,1]]],[["fold","*",["c","a",4],["|",["+",["c","a",2],"i"],4]],["task",[["red","*",["a",5,1]]],[["fold","*",["c","a",5],["|",["+","i",5],2]]]],["wait"]]]]]]],["set",["c","a",0],["+",["c","a",4],["c","a",5]]]] gives 8 22 [21840, 2, 3, 4, 4200, 17640]
+program2 [["group","&",[["a",4,2]],[["for","i",0,4,[["task",[["red","&",["a",4,2]],["in",["a",2,1]]],[["fold","&",["c","a",4],["|",["+",["c","a",2],"i"],4]],["task",[["red","&",["a",5,1]]],[["fold","&",["c","a",5],["|",["+","i",5],2]]]],["wait"]]]]]]],["set",["c","a",0],["+",["c","a",4],["c","a",5]]]] gives 8 22 [6, 2, 3, 4, 4, 2]
+program2 [["group","|",[["a",4,2]],[["for","i",0,4,[["task",[["red","|",["a",4,2]],["in",["a",2,1]]],[["fold","|",["c","a",4],["|",["+",["c","a",2],"i"],4]],["task",[["red","|",["a",5,1]]],[["fold","|",["c","a",5],["|",["+","i",5],2]]]],["wait"]]]]]]],["set",["c","a",0],["+",["c","a",4],["c","a",5]]]] gives 8 22 [22, 2, 3, 4, 7, 15]
+program2 [["group","^",[["a",4,2]],[["for","i",0,4,[["task",[["red","^",["a",4,2]],["in",["a",2,1]]],[["fold","^",["c","a",4],["|",["+",["c","a",2],"i"],4]],["task",[["red","^",["a",5,1]]],[["fold","^",["c","a",5],["|",["+","i",5],2]]]],["wait"]]]]]]],["set",["c","a",0],["+",["c","a",4],["c","a",5]]]] gives 8 22 [15, 2, 3, 4, 5, 10]
+program2 [["group","min",[["a",4,2]],[["for","i",0,4,[["task",[["red","min",["a",4,2]],["in",["a",2,1]]],[["fold","min",["c","a",4],["|",["+",["c","a",2],"i"],4]],["task",[["red","min",["a",5,1]]],[["fold","min",["c","a",5],["|",["+","i",5],2]]]],["wait"]]]]]]],["set",["c","a",0],["+",["c","a",4],["c","a",5]]]] gives 8 22 [10, 2, 3, 4, 4, 6]
+program2 [["group","max",[["a",4,2]],[["for","i",0,4,[["task",[["red","max",["a",4,2]],["in",["a",2,1]]],[["fold","max",["c","a",4],["|",["+",["c","a",2],"i"],4]],["task",[["red","max",["a",5,1]]],[["fold","max",["c","a",5],["|",["+","i",5],2]]]],["wait"]]]]]]],["set",["c","a",0],["+",["c","a",4],["c","a",5]]]] gives 8 22 [17, 2, 3, 4, 7, 10]"#;
 
 /// Whether a job leaves this in each of so many orders.
 fn leaves(
@@ -50,6 +60,11 @@ fn first_other<'a>(alloc: Global, rows: &'a str, orders: u32) -> Option<&'a str>
         }
     }
     None
+}
+
+#[test]
+fn ten_thousand_random_orders_leave_what_folds_mean(rt: HostRuntime) {
+    assert_eq!(rt; first_other(rt.alloc(), FOLDS, 10_000), None);
 }
 
 /// It runs the body of each row of the file that RANDOM_JOBS names in as many orders as RANDOM_ORDERS

@@ -1,6 +1,7 @@
 //! Clauses of tasks and groups: dependences (OpenMP API 5.2, section 15.9.5) and reductions (5.5.9 and 5.5.10).
+use crate::fold::{OPERATIONS, identifier};
 use crate::page::Page;
-use ot_model::{Cell, Decl, Mode, Section};
+use ot_model::{Cell, Decl, Fold, Mode, Section};
 use std::alloc::{AllocError, Global};
 
 /// So many cells side by side are listed; more are told by an iterator.
@@ -11,8 +12,11 @@ impl Page {
     pub(crate) fn declared(&mut self, decl: &Decl) -> Result<(), AllocError> {
         self.dependences("in", decl, Mode::Reads)?;
         self.dependences("out", decl, Mode::Writes)?;
-        let added = cells_in(self.alloc, decl, Mode::Adds)?;
-        self.sums(" in_reduction(+: ", &added)
+        for op in &OPERATIONS {
+            let folded = cells_in(self.alloc, decl, Mode::Folds(*op))?;
+            self.reduction(" in_reduction(", *op, &folded)?;
+        }
+        Ok(())
     }
 
     /// The cells of this mode. Each is an item of its own: sections that overlap but aren't the same may not be items.
@@ -61,17 +65,24 @@ impl Page {
         Ok(())
     }
 
-    /// A clause over the sums of these cells, if there are any.
-    pub(crate) fn sums(&mut self, opened: &str, cells: &[Cell]) -> Result<(), AllocError> {
-        let mut before = opened;
+    /// A clause over the pointers to these cells, if there are any, by this operation.
+    pub(crate) fn reduction(
+        &mut self,
+        opened: &str,
+        op: Fold,
+        cells: &[Cell],
+    ) -> Result<(), AllocError> {
+        if cells.is_empty() {
+            return Ok(());
+        }
+        self.words(opened)?;
+        self.words(identifier(op))?;
+        let mut before = ": ";
         for cell in cells {
             self.words(before)?;
             before = ", ";
-            self.sum(*cell)?;
+            self.pointer(op, *cell)?;
             self.words("[0:1]")?;
-        }
-        if cells.is_empty() {
-            return Ok(());
         }
         self.words(")")
     }

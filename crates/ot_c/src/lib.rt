@@ -3,6 +3,7 @@
 
 mod array;
 mod clause;
+mod fold;
 mod page;
 mod statement;
 mod value;

@@ -1,6 +1,7 @@
 //! Text of C that is being written.
 use crate::array::{Array, arrays_of};
-use ot_model::{ArrayShape, Cell};
+use crate::fold::pointer_word;
+use ot_model::{ArrayShape, Cell, Fold};
 use std::alloc::{AllocError, Global};
 
 /// A text so far, with what it has named.
@@ -87,10 +88,10 @@ impl Page {
         self.words("]")
     }
 
-    /// `Sum_a_0`, the pointer over which the sum of `a[0]` is reduced. (A compiler may take a clause over two cells of
-    /// one array for one over the array, so each cell has a pointer of its own.) No array has a capital in its name.
-    pub(crate) fn sum(&mut self, cell: Cell) -> Result<(), AllocError> {
-        self.words("Sum_")?;
+    /// `Sum_a_0`, the pointer over which `a[0]` is reduced by `+`. (A compiler may take a clause over two cells of one
+    /// array for one over the array, so each cell has a pointer of its own.) No array has a capital in its name.
+    pub(crate) fn pointer(&mut self, op: Fold, cell: Cell) -> Result<(), AllocError> {
+        self.words(pointer_word(op))?;
         self.name(cell.array)?;
         self.words("_")?;
         self.number(u64::from(cell.index))

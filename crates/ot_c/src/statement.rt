@@ -1,6 +1,6 @@
 //! Statements, and the bodies that they have.
 use crate::page::Page;
-use ot_model::{Cell, Decl, Expr, Mode, Stmt};
+use ot_model::{Cell, Decl, Expr, Fold, Stmt};
 use std::alloc::{AllocError, Global};
 
 impl Page {
@@ -25,11 +25,7 @@ impl Page {
                 self.cell(*cell)?;
                 self.assigned(" = ", expr)
             }
-            Stmt::Add(cell, expr) => {
-                self.begin("")?;
-                self.target(own, *cell)?;
-                self.assigned(" += ", expr)
-            }
+            Stmt::Fold(op, cell, expr) => self.fold(own, *op, *cell, expr),
             Stmt::If(expr, one, two) => {
                 self.begin("if (")?;
                 self.value(expr)?;
@@ -45,7 +41,7 @@ impl Page {
                 self.block(Some(decl), body)
             }
             Stmt::Wait => self.line("#pragma omp taskwait"),
-            Stmt::Group(cells, body) => self.group(own, cells, body),
+            Stmt::Group(op, cells, body) => self.group(own, *op, cells, body),
         }
     }
 
@@ -81,6 +77,7 @@ impl Page {
     fn group(
         &mut self,
         own: Option<&Decl>,
+        op: Fold,
         cells: &[Cell],
         body: &[Stmt],
     ) -> Result<(), AllocError> {
@@ -92,44 +89,28 @@ impl Page {
         self.line("{")?;
         self.deepen();
         for cell in &cells {
-            self.pointer(*cell)?;
+            self.declared_pointer(op, *cell)?;
         }
         self.begin("#pragma omp taskgroup")?;
-        self.sums(" task_reduction(+: ", &cells)?;
+        self.reduction(" task_reduction(", op, &cells)?;
         self.words("\n")?;
         self.block(own, body)?;
         self.rise();
         self.line("}")
     }
 
-    fn pointer(&mut self, cell: Cell) -> Result<(), AllocError> {
+    fn declared_pointer(&mut self, op: Fold, cell: Cell) -> Result<(), AllocError> {
         self.begin("uint64_t *")?;
-        self.sum(cell)?;
+        self.pointer(op, cell)?;
         self.words(" = &")?;
         self.cell(cell)?;
         self.words(";\n")
     }
 
-    /// The cell that is added to: where the task only adds to it, its own copy of the sum.
-    fn target(&mut self, own: Option<&Decl>, cell: Cell) -> Result<(), AllocError> {
-        if !only_adds(own, cell) {
-            return self.cell(cell);
-        }
-        self.sum(cell)?;
-        self.words("[0]")
-    }
-
-    fn assigned(&mut self, sign: &str, expr: &Expr) -> Result<(), AllocError> {
+    pub(crate) fn assigned(&mut self, sign: &str, expr: &Expr) -> Result<(), AllocError> {
         self.words(sign)?;
         self.value(expr)?;
         self.words(";\n")
-    }
-}
-
-fn only_adds(own: Option<&Decl>, cell: Cell) -> bool {
-    match own {
-        Some(decl) => decl.mode(cell) == Some(Mode::Adds),
-        None => false,
     }
 }
 

@@ -73,12 +73,22 @@ impl Page {
 
     fn function(&mut self, op: Op) -> Result<(), AllocError> {
         if op == Op::Min {
-            self.calls_min = true;
-            self.words("min(")
+            self.min()
         } else {
-            self.calls_max = true;
-            self.words("max(")
+            self.max()
         }
+    }
+
+    /// The beginning of a call of `min`.
+    pub(crate) fn min(&mut self) -> Result<(), AllocError> {
+        self.calls_min = true;
+        self.words("min(")
+    }
+
+    /// The beginning of a call of `max`.
+    pub(crate) fn max(&mut self) -> Result<(), AllocError> {
+        self.calls_max = true;
+        self.words("max(")
     }
 
     /// `a[2 + `, of the section of `a` from 2 on; `a[` from 0 on.

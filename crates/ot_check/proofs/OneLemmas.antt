@@ -14,7 +14,7 @@ use Rattle.ot_model.specs.declared.stmt.Use.{Use}
 use Rattle.ot_model.specs.one.Uses.{Mode1, Reads1, Writes1, Adds1, Use1, conflicts1, is_adds1}
 use Rattle.ot_model.specs.one.Tree.{S1, Set1, Add1, If1, Task1, Wait1, Group1, Body1, End1, Next1, size1, size_one1}
 use Rattle.ot_model.specs.one.Upward.{up_mode, up_use, up_uses, up_one, up}
-use Rattle.ot_model.proofs.OneLemmas.{size-up, size_one-up}
+use Rattle.ot_model.proofs.OneLemmas.{any-map, any-same, size-up, size_one-up}
 use Rattle.ot_check.specs.Paths.{Mark, Touch, Enter, Leave, Step, At, use_as, touches, touched, PassesOne, Passes}
 use Rattle.ot_check.specs.Offences.{has_cell, covers, folds_by, Declared, allows, folds_to, exceeds, opened_by_any, misfits_as, misfits, clashes, stays_within, has_wait, unawaited, is_open, breaks, OnPath, CanEndWithChildren, InTasksOfOne, InTasks, Offends, IsFirstOf}
 use Rattle.ot_check.specs.declared.fault.Offence.{Offence}
@@ -24,14 +24,6 @@ use Rattle.ot_check.specs.one.Offences.{covers1, Declared1, allows1, adds_to1, e
 use Rattle.ot_check.specs.one.Upward.{up_mark, up_step, up_path}
 
 -- ---- lists and tests
-
-any-map : {A B : Type 0} (f : A → B) (p : B → Bool) (q : A → Bool) → ((x : A) → p (f x) ≡ q x) → (xs : List A) → list_any p (map f xs) ≡ list_any q xs
-any-map f p q h [] = refl
-any-map f p q h (x ∷ xs) = ap (λ w. w || list_any p (map f xs)) (h x) ∙ ap (λ w. q x || w) (any-map f p q h xs)
-
-any-same : {A : Type 0} (p q : A → Bool) → ((x : A) → p x ≡ q x) → (xs : List A) → list_any p xs ≡ list_any q xs
-any-same p q h [] = refl
-any-same p q h (x ∷ xs) = ap (λ w. w || list_any p xs) (h x) ∙ ap (λ w. q x || w) (any-same p q h xs)
 
 false-and : (b : Bool) → false ≡ (b && false)
 false-and true = refl

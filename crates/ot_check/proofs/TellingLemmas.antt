@@ -1,10 +1,9 @@
 -- What the walk tells, from part to whole.
-use Rattle.std.proofs.Common.{◌≡◌, ℕ, Bool, sym, ap, subst, ◌∙◌, Err, Result, IsErrAnd}
+use Rattle.std.proofs.Common.{◌≡◌, ℕ, sym, ap, subst, ◌∙◌, Err, Result, IsErrAnd}
 use Rattle.std.specs.Prelude.{Option, None, IsErr}
 use Rattle.std.specs.Option.{option_or}
 use Rattle.std.proofs.lemmas.Result.{err_from_is_err_and}
 use Rattle.ot_model.specs.Tree.{S, Body}
-use Rattle.ot_model.specs.declared.expr.Cell.{Cell}
 use Rattle.ot_check.specs.Offences.{Declared, Openings, Offends, IsFirstOf}
 use Rattle.ot_check.specs.Codes.{TellsFirst}
 use Rattle.ot_check.specs.walk.Walk.{Children, nobody, nothing_open, first, first_one, first_inside, leading, is_offence, placed}

@@ -3,9 +3,10 @@ use Rattle.std.proofs.Common.{◌≡◌, ℕ, ◌+◌, ◌++◌, true, false, no
 use Rattle.std.specs.Prelude.{⊤, Option, Some, None, Result, Ok, Err, IfSome, IfErr}
 use Rattle.std.specs.List.{list_any}
 use Rattle.std.proofs.lemmas.List.Folds.{list_any-append}
-use Rattle.ot_model.specs.Tree.{E, S, Set, Add, If, Task, Wait, Group, Body, End, Next}
+use Rattle.ot_model.specs.Tree.{E, S, Set, Fold, If, Task, Wait, Group, Body, End, Next}
 use Rattle.ot_model.specs.Counts.{size, size_one}
 use Rattle.ot_model.specs.declared.expr.Cell.{Cell}
+use Rattle.ot_model.specs.declared.fold.Fold.{Fold as Operation}
 use Rattle.ot_model.specs.declared.stmt.Use.{Use}
 use Rattle.ot_check.specs.Paths.{Create, Enter, Leave, Step, At, touched, touches, PassesOne, Passes}
 use Rattle.ot_check.specs.Offences.{stays_within, is_wait, has_wait, unawaited}
@@ -44,8 +45,8 @@ carried_touched steps k uses p h = carried_past steps (touched k uses) p (closed
 pub carries-set : (k : ℕ) (c : Cell) (e : E) (p : Pending) → Carries (PassesOne k (Set c e)) p p
 carries-set k c e p steps h = (touched k (touches (Set c e)), refl, carried_touched steps k (touches (Set c e)) p h)
 
-pub carries-add : (k : ℕ) (c : Cell) (e : E) (p : Pending) → Carries (PassesOne k (Add c e)) p p
-carries-add k c e p steps h = (touched k (touches (Add c e)), refl, carried_touched steps k (touches (Add c e)) p h)
+pub carries-fold : (k : ℕ) (o : Operation) (c : Cell) (e : E) (p : Pending) → Carries (PassesOne k (Fold o c e)) p p
+carries-fold k o c e p steps h = (touched k (touches (Fold o c e)), refl, carried_touched steps k (touches (Fold o c e)) p h)
 
 pub carries-none : (k : ℕ) (x : S) (p : Pending) → Carries (PassesOne k x) p None
 carries-none k x p steps h = let w = some_path_one k x in (w.0, w.1, tt)
@@ -73,16 +74,16 @@ none_passes [] = refl
 none_passes (d ∷ children) = none_passes children
 
 -- a path through a group without a wait
-no_wait : (k : ℕ) (cells : List Cell) (b : Body) → through b ≡ true → (path : List Step) × PassesOne k (Group cells b) path × (has_wait path ≡ false)
-no_wait k cells b h =
-    let w = after-to_one (λ (d : List Use). false) k (Group cells b) true h in
+no_wait : (k : ℕ) (o : Operation) (cells : List Cell) (b : Body) → through b ≡ true → (path : List Step) × PassesOne k (Group o cells b) path × (has_wait path ≡ false)
+no_wait k o cells b h =
+    let w = after-to_one (λ (d : List Use). false) k (Group o cells b) true h in
     let free : (not (has_wait w.0) || list_any (λ (d : List Use). false) (unawaited w.0)) ≡ true = w.2 in
     (w.0, w.1, not_true (has_wait w.0) (sym (ap (λ u. not (has_wait w.0) || u) (none_passes (unawaited w.0)) ∙ or_none (not (has_wait w.0))) ∙ free))
 
-pub carries-group : (k : ℕ) (cells : List Cell) (b : Body) (p : Pending) → through b ≡ true → Carries (PassesOne k (Group cells b)) p p
-carries-group k cells b p free steps h =
-    let w = no_wait k cells b free in
-    (w.0, w.1, carried_past steps w.0 p (passes_one-closed k (Group cells b) w.0 w.1) w.2 h)
+pub carries-group : (k : ℕ) (o : Operation) (cells : List Cell) (b : Body) (p : Pending) → through b ≡ true → Carries (PassesOne k (Group o cells b)) p p
+carries-group k o cells b p free steps h =
+    let w = no_wait k o cells b free in
+    (w.0, w.1, carried_past steps w.0 p (passes_one-closed k (Group o cells b) w.0 w.1) w.2 h)
 
 -- ---- what is carried behind a body
 
@@ -161,14 +162,14 @@ pub arrives-task : (k : ℕ) (d : List Use) (b : Body) (p : Pending) (place : �
     → Arrives (k + 1) b None place x now → ArrivesOne k (Task d b) p place x now
 arrives-task k d b p place x now arrives = inr (somewhere_of place x now (k + 1) b arrives)
 
-pub arrives-group : (k : ℕ) (cells : List Cell) (b : Body) (p : Pending) (place : ℕ) (x : S) (now : Pending)
-    → Arrives (k + 1) b p place x now → ArrivesOne k (Group cells b) p place x now
-arrives-group k cells b p place x now (inl reaches) =
+pub arrives-group : (k : ℕ) (o : Operation) (cells : List Cell) (b : Body) (p : Pending) (place : ℕ) (x : S) (now : Pending)
+    → Arrives (k + 1) b p place x now → ArrivesOne k (Group o cells b) p place x now
+arrives-group k o cells b p place x now (inl reaches) =
     let Inside : List Step → Type 0 = λ path. (inside : List Step) × (path ≡ inside ++ At k Leave ∷ []) × Passes (k + 1) b inside in
-    inl (reaches-behind Inside (PassesOne k (Group cells b)) p p place x now
-    (λ steps h. (At k (Enter cells) ∷ [], carried_past steps (At k (Enter cells) ∷ []) p (λ n. refl) refl h, λ path way. (way.0, ap (λ s. At k (Enter cells) ∷ s) way.1, way.2)))
+    inl (reaches-behind Inside (PassesOne k (Group o cells b)) p p place x now
+    (λ steps h. (At k (Enter o cells) ∷ [], carried_past steps (At k (Enter o cells) ∷ []) p (λ n. refl) refl h, λ path way. (way.0, ap (λ s. At k (Enter o cells) ∷ s) way.1, way.2)))
     (reaches-before (Passes (k + 1) b) Inside p place x now (At k Leave ∷ []) (λ path way. (path, refl, way)) reaches))
-arrives-group k cells b p place x now (inr inside) = inr inside
+arrives-group k o cells b p place x now (inr inside) = inr inside
 
 pub arrives-next : (k : ℕ) (y : S) (rest : Body) (p : Pending) (place : ℕ) (x : S) (now : Pending)
     → ArrivesOne k y p place x now → Arrives k (Next y rest) p place x now
@@ -192,13 +193,13 @@ stands_at place x now k b h = record { before = h.before; own = h.own; later = h
 mutual
   in_task_one : (P Q : ℕ → Body → Type 0) → ((k : ℕ) (b : Body) → P k b → Q k b) → (k : ℕ) (x : S) → InTaskOne P k x → InTaskOne Q k x
   in_task_one P Q more k (Set c e) h = absurd h
-  in_task_one P Q more k (Add c e) h = absurd h
+  in_task_one P Q more k (Fold o c e) h = absurd h
   in_task_one P Q more k (If e a b) (inl h) = inl (in_task P Q more (k + 1) a h)
   in_task_one P Q more k (If e a b) (inr h) = inr (in_task P Q more (k + 1 + size a) b h)
   in_task_one P Q more k (Task d b) (inl h) = inl (more (k + 1) b h)
   in_task_one P Q more k (Task d b) (inr h) = inr (in_task P Q more (k + 1) b h)
   in_task_one P Q more k Wait h = absurd h
-  in_task_one P Q more k (Group cs b) h = in_task P Q more (k + 1) b h
+  in_task_one P Q more k (Group o cs b) h = in_task P Q more (k + 1) b h
 
   in_task : (P Q : ℕ → Body → Type 0) → ((k : ℕ) (b : Body) → P k b → Q k b) → (k : ℕ) (b : Body) → InTask P k b → InTask Q k b
   in_task P Q more k End h = absurd h

@@ -1,7 +1,7 @@
 -- Which child is pending where a statement stands or a task ends, and where the two conflict.
 use Rattle.std.specs.Prelude.{◌≡◌, ℕ, ◌+◌, ◌++◌, ◌⊎◌, ⊤, Bool, true, not, ◌&&◌, List, ◌∷◌, map}
 use Rattle.std.specs.List.{list_any}
-use Rattle.ot_model.specs.Tree.{S, Set, Add, If, Task, Wait, Group, Body, End, Next}
+use Rattle.ot_model.specs.Tree.{S, Set, Fold, If, Task, Wait, Group, Body, End, Next}
 use Rattle.ot_model.specs.Cells.{same_cell}
 use Rattle.ot_model.specs.Counts.{size, size_one}
 use Rattle.ot_model.specs.declared.expr.Cell.{Cell}
@@ -40,11 +40,11 @@ Meets place x child declared = Stands place x (λ steps. IsPending steps child d
 abbrev mutual
   pub InTaskOne : (ℕ → Body → Type 0) → ℕ → S → Type 0
   InTaskOne P k (Set c e) = ⊥
-  InTaskOne P k (Add c e) = ⊥
+  InTaskOne P k (Fold o c e) = ⊥
   InTaskOne P k (If e a b) = InTask P (k + 1) a ⊎ InTask P (k + 1 + size a) b
   InTaskOne P k (Task d b) = P (k + 1) b ⊎ InTask P (k + 1) b
   InTaskOne P k Wait = ⊥
-  InTaskOne P k (Group cs b) = InTask P (k + 1) b
+  InTaskOne P k (Group o cs b) = InTask P (k + 1) b
 
   pub InTask : (ℕ → Body → Type 0) → ℕ → Body → Type 0
   InTask P k End = ⊥
@@ -62,7 +62,7 @@ IsAt place x body = Somewhere (Stands place x (λ steps. ⊤)) 1 body
 
 -- what a statement itself uses; a group that names cells writes them
 abbrev pub uses_of : S → List Use
-uses_of (Group cs b) = map (use_as Writes) cs
+uses_of (Group o cs b) = map (use_as Writes) cs
 uses_of x = touches x
 
 -- whether the statement uses the cell in conflict with what a child declares

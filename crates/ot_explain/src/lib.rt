@@ -14,6 +14,7 @@ mod through;
 mod touch;
 mod walk;
 mod wanted;
+mod wrong;
 
 pub use code::code_page;
 pub use explaining::{Explained, explain};

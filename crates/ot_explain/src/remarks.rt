@@ -3,11 +3,12 @@ use crate::left::find_left;
 use crate::race::{find_race, statement_at};
 use crate::sentences::{page_of, wrong_in_program};
 use crate::wanted::{Touched, Wanted};
+use crate::wrong::{wrong, wrong_by};
 use ot_book::{Book, Code, Entry, Told};
 use ot_check::Offence;
 use ot_model::{Program, Shape};
 use ot_print::Printer;
-use ot_program::read_program;
+use ot_program::{Refusal, is_word, read_program};
 use serde_json::Value;
 use std::alloc::{AllocError, Global};
 
@@ -17,7 +18,7 @@ pub(crate) fn remarks_on_last(alloc: Global, book: &Book) -> Result<Option<Strin
         return Ok(None);
     };
     match &entry.told {
-        Told::Refused(code) => Ok(Some(refused(alloc, *code)?)),
+        Told::Refused(code) => Ok(Some(refused(alloc, entry, *code)?)),
         Told::Offends(offence, place) => {
             Ok(Some(offends(alloc, book, entry, *offence, *place)?))
         }
@@ -34,13 +35,30 @@ fn sentence(alloc: Global, code: u32) -> Result<String, AllocError> {
     }
 }
 
-fn refused(alloc: Global, code: Code) -> Result<String, AllocError> {
+fn refused(alloc: Global, entry: &Entry, code: Code) -> Result<String, AllocError> {
     let mut said = sentence(alloc, code.number())?;
     if let Code::Program(refusal) = code {
         said.push_str("\n")?;
         said.push_str(wrong_in_program(refusal))?;
+        if refusal == Refusal::MixedReduction && has_operations(alloc, entry.line.as_slice()) {
+            said.push_str(", or under `red` by two operations")?;
+        }
     }
     Ok(said)
+}
+
+/// Whether a line runs a program whose folds have operations.
+fn has_operations(alloc: Global, line: &[u8]) -> bool {
+    let Ok(Value::Array(items)) = Value::from_slice(alloc, line) else {
+        return false;
+    };
+    let Some(Value::Array(program)) = items.get(1) else {
+        return false;
+    };
+    match program.first() {
+        Some(word) => is_word(word, "program2"),
+        None => false,
+    }
 }
 
 /// The sentence, the statement at the place, and what it offends against.
@@ -54,7 +72,8 @@ fn offends(
     let mut said = sentence(alloc, offence.code())?;
     let shape = book.store().shape(alloc, &book.limits())?;
     if let Some(program) = program_of(alloc, entry.line.as_slice(), &shape)? {
-        let shown = explained(alloc, &program, &shape, offence, place)?;
+        let names = has_operations(alloc, entry.line.as_slice());
+        let shown = explained(alloc, &program, &shape, offence, place, names)?;
         said.push_str(shown.as_str())?;
     }
     Ok(said)
@@ -81,6 +100,7 @@ fn explained(
     shape: &Shape,
     offence: Offence,
     place: u32,
+    has_operations: bool,
 ) -> Result<String, AllocError> {
     let mut printer = Printer::new(alloc, shape.arrays());
     let Some(stmt) = statement_at(&program.body, place) else {
@@ -97,28 +117,9 @@ fn explained(
             conflict(&mut printer, program, place, Wanted::Touching(touched))?;
         }
         Offence::EndsWithChildren => left(&mut printer, program, place)?,
-        _ => printer.words(wrong_by(offence))?,
+        _ => wrong(alloc, &mut printer, stmt, offence, has_operations)?,
     }
     Ok(printer.into_text())
-}
-
-/// What an offence is, where no child has a part in it.
-fn wrong_by(offence: Offence) -> &'static str {
-    match offence {
-        Offence::NotDeclared => {
-            "it reads a cell that its task declares neither for reading nor for writing; writes one that isn't declared for writing; or adds to one that is declared neither for writing nor under `red`"
-        }
-        Offence::ChildBeyond => {
-            "it declares, for reading, a cell that the task around declares neither for reading nor for writing; or, for writing, one that isn't declared for writing"
-        }
-        Offence::ReductionMisuse => {
-            "it touches a cell of an open group; or declares such a cell without `red`, or under `red` a cell that the task around hasn't under `red` and no open group names; or it is a group that names a cell which the task around doesn't declare for writing or which an open group names"
-        }
-        Offence::ConflictsWithChild => {
-            "it touches a cell, or is a group that names one, in conflict with a child that may be pending"
-        }
-        Offence::EndsWithChildren => "its body can end with a child pending",
-    }
 }
 
 fn conflict(

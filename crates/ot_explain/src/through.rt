@@ -22,9 +22,9 @@ fn through_one(stmt: &Stmt) -> bool
     ensures { result ≡ through_one (stmt_of stmt.now) }
 {
     match stmt {
-        Stmt::Set(_, _) | Stmt::Add(_, _) | Stmt::Task(_, _) => true,
+        Stmt::Set(_, _) | Stmt::Fold(_, _, _) | Stmt::Task(_, _) => true,
         Stmt::If(_, one, two) => through(one) || through(two),
         Stmt::Wait => false,
-        Stmt::Group(_, body) => through(body),
+        Stmt::Group(_, _, body) => through(body),
     }
 }

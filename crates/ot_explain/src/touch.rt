@@ -34,15 +34,15 @@ fn uses_against(mode: Mode, cell: Cell, stmt: &Stmt) -> bool
             };
             value_against(mode, cell, expr) || use_against(mode, cell, used)
         }
-        Stmt::Add(target, expr) => {
+        Stmt::Fold(op, target, expr) => {
             let used = Use {
                 cell: *target,
-                mode: Mode::Adds,
+                mode: Mode::Folds(*op),
             };
             value_against(mode, cell, expr) || use_against(mode, cell, used)
         }
         Stmt::If(expr, _, _) => value_against(mode, cell, expr),
-        Stmt::Group(cells, _) => mode.conflicts(Mode::Writes) && has(cells, cell),
+        Stmt::Group(_, cells, _) => mode.conflicts(Mode::Writes) && has(cells, cell),
         Stmt::Task(_, _) | Stmt::Wait => false,
     }
 }

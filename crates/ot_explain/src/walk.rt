@@ -2,6 +2,7 @@
 ghost use Rattle.std.specs.Prelude.{◌≡◌, ◌+◌, ◌<◌, ◌≤◌, ◌^◌, ◌⊎◌, IfOk, IfErr, List, Some, None, true};
 ghost use Rattle.ot_model.specs.Tree.{Task, Group};
 ghost use Rattle.ot_model.specs.declared.expr.Cell.{Cell};
+ghost use Rattle.ot_model.specs.declared.fold.Fold.{Fold};
 ghost use Rattle.ot_check.specs.walk.Walk.{through};
 ghost use Rattle.ot_model.specs.View.{stmt_of, stmts_of};
 ghost use Rattle.ot_model.specs.Counts.{size, size_one};
@@ -78,14 +79,14 @@ fn walk_one<'a>(
     }
     let next = place + 1;
     match stmt {
-        Stmt::Set(_, _) | Stmt::Add(_, _) => Ok(Behind { next, child }),
+        Stmt::Set(_, _) | Stmt::Fold(_, _, _) => Ok(Behind { next, child }),
         Stmt::If(_, one, two) => match walk(one, search, next, child) {
             Ok(first) => walk_other(two, search, first, child),
             Err(arrived) => Err(arrived),
         },
         Stmt::Task(decl, body) => walk_task(decl, body, search, place, child),
         Stmt::Wait => Ok(Behind { next, child: None }),
-        Stmt::Group(_, body) => walk_group(body, search, place, child),
+        Stmt::Group(_, _, body) => walk_group(body, search, place, child),
     }
 }
 
@@ -173,8 +174,8 @@ fn walk_group<'a>(
 ) -> Result<Behind<'a>, Arrived<'a>>
     requires short { place + 1 + size (stmts_of body.now.items) < 2 ^ 32 }
     ensures place { IfOk result (λ behind. behind.next ≡ place + (1 + size (stmts_of body.now.items))) }
-    ensures carries { (cells : List Cell) → IfOk result (λ behind. Carries (PassesOne place (Group cells (stmts_of body.now.items))) (pending_of child.entry) (pending_of behind.child)) }
-    ensures arrives { (cells : List Cell) → IfErr result (λ at. ArrivesOne place (Group cells (stmts_of body.now.items)) (pending_of child.entry) search.now.place (stmt_of at.stmt.now) (pending_of at.child)) }
+    ensures carries { (op : Fold) (cells : List Cell) → IfOk result (λ behind. Carries (PassesOne place (Group op cells (stmts_of body.now.items))) (pending_of child.entry) (pending_of behind.child)) }
+    ensures arrives { (op : Fold) (cells : List Cell) → IfErr result (λ at. ArrivesOne place (Group op cells (stmts_of body.now.items)) (pending_of child.entry) search.now.place (stmt_of at.stmt.now) (pending_of at.child)) }
     ensures within { IfErr result (λ at. search.now.place + size_one (stmt_of at.stmt.now) ≤ place + (1 + size (stmts_of body.now.items))) }
 {
     match walk(body, search, place + 1, child) {

@@ -1,17 +1,29 @@
-use ot_model::{ArrayShape, Cell, Decl, Expr, Mode, Section, Stmt, Use};
+use ot_model::{ArrayShape, Cell, Decl, Expr, Fold, Mode, Section, Stmt, Use};
 use std::alloc::{AllocError, Global};
 
-/// How a statement uses a cell, as bits.
-const READS: u8 = 1;
+/// How a statement uses a cell, as bits: a fold has that of its operation.
+const READS: u16 = 1;
 
-const WRITES: u8 = 2;
+const WRITES: u16 = 2;
 
-const ADDS: u8 = 4;
+const FOLDS: u16 = 508;
+
+fn folds_by(op: Fold) -> u16 {
+    match op {
+        Fold::Plus => 4,
+        Fold::Times => 8,
+        Fold::And => 16,
+        Fold::Or => 32,
+        Fold::Xor => 64,
+        Fold::Min => 128,
+        Fold::Max => 256,
+    }
+}
 
 /// How a statement itself uses each cell of a shape.
 #[derive(Drop)]
 pub(crate) struct Touched {
-    rows: Vec<Vec<u8>>,
+    rows: Vec<Vec<u16>>,
 }
 
 impl Touched {
@@ -23,7 +35,7 @@ impl Touched {
     ) -> Result<Touched, AllocError> {
         let mut rows = Vec::with_capacity(alloc, arrays.len())?;
         for array in arrays {
-            rows.push(vec![in alloc; 0u8; array.len as usize]?)?;
+            rows.push(vec![in alloc; 0u16; array.len as usize]?)?;
         }
         let mut touched = Touched { rows };
         touched.statement(stmt);
@@ -36,12 +48,12 @@ impl Touched {
                 self.value(expr);
                 self.mark(*cell, WRITES);
             }
-            Stmt::Add(cell, expr) => {
+            Stmt::Fold(op, cell, expr) => {
                 self.value(expr);
-                self.mark(*cell, ADDS);
+                self.mark(*cell, folds_by(*op));
             }
             Stmt::If(expr, _, _) => self.value(expr),
-            Stmt::Group(cells, _) => {
+            Stmt::Group(_, cells, _) => {
                 for cell in cells {
                     self.mark(*cell, WRITES);
                 }
@@ -75,7 +87,7 @@ impl Touched {
         }
     }
 
-    fn mark(&mut self, cell: Cell, bit: u8) {
+    fn mark(&mut self, cell: Cell, bit: u16) {
         if let Some(row) = self.rows.get_mut(cell.array as usize) {
             if let Some(marks) = row.get_mut(cell.index as usize) {
                 *marks |= bit;
@@ -92,9 +104,9 @@ impl Touched {
             return false;
         };
         let against = match used.mode {
-            Mode::Reads => WRITES | ADDS,
-            Mode::Writes => READS | WRITES | ADDS,
-            Mode::Adds => READS | WRITES,
+            Mode::Reads => WRITES | FOLDS,
+            Mode::Writes => READS | WRITES | FOLDS,
+            Mode::Folds(op) => (READS | WRITES | FOLDS) ^ folds_by(op),
         };
         *marks & against != 0
     }

@@ -1,6 +1,6 @@
 -- The children of each body that a run executes.
 use Rattle.std.specs.Prelude.{ℕ, ◌+◌, List, [], ◌∷◌, ◌++◌, map}
-use Rattle.ot_model.specs.Tree.{S, Set, Add, If, Task, Wait, Group, Body, End, Next}
+use Rattle.ot_model.specs.Tree.{S, Set, Fold, If, Task, Wait, Group, Body, End, Next}
 use Rattle.ot_model.specs.Cells.{cell_of}
 use Rattle.ot_model.specs.Value.{val}
 use Rattle.ot_model.specs.Serial.{State, bump, either, serial_one}
@@ -12,11 +12,11 @@ use Rattle.ot_graph.specs.declared.child.Child.{Child}
 abbrev mutual
   pub children_one : S → State → List (List Use)
   children_one (Set c e) s = []
-  children_one (Add c e) s = []
+  children_one (Fold o c e) s = []
   children_one (If e a b) s = either (val (cell_of s.cells) e) (children_in a (bump 0 1 s)) (children_in b (bump 0 1 s))
   children_one (Task d b) s = d ∷ []
   children_one Wait s = []
-  children_one (Group cs b) s = children_in b (bump 0 1 s)
+  children_one (Group o cs b) s = children_in b (bump 0 1 s)
 
   pub children_in : Body → State → List (List Use)
   children_in End s = []
@@ -26,11 +26,11 @@ abbrev mutual
 abbrev mutual
   pub inside_one : S → State → List (List (List Use))
   inside_one (Set c e) s = []
-  inside_one (Add c e) s = []
+  inside_one (Fold o c e) s = []
   inside_one (If e a b) s = either (val (cell_of s.cells) e) (inside a (bump 0 1 s)) (inside b (bump 0 1 s))
   inside_one (Task d b) s = inside b (bump 1 1 s) ++ children_in b (bump 1 1 s) ∷ []
   inside_one Wait s = []
-  inside_one (Group cs b) s = inside b (bump 0 1 s)
+  inside_one (Group o cs b) s = inside b (bump 0 1 s)
 
   pub inside : Body → State → List (List (List Use))
   inside End s = []

@@ -41,11 +41,11 @@ fn nodes(out: &mut Printer<'_>, marks: &[Mark<'_>]) -> Result<(), AllocError> {
                 node(out, "  w", waits)?;
                 out.words(" [shape=box, label=\"taskwait\"];\n")?;
             }
-            Mark::Enter(cells) => {
+            Mark::Enter(op, cells) => {
                 groups = groups.saturating_add(1);
                 node(out, "  subgraph cluster_", groups)?;
                 out.words(" {\n  label=\"")?;
-                out.group(cells)?;
+                out.group(*op, cells)?;
                 out.words("\";\n")?;
             }
             Mark::Leave => out.words("  }\n")?,
@@ -82,7 +82,7 @@ fn creations(out: &mut Printer<'_>, marks: &[Mark<'_>]) -> Result<(), AllocError
                 waits = waits.saturating_add(1);
                 wait_edges(out, waits, *parent, awaited)?;
             }
-            Mark::Enter(_) | Mark::Leave => {}
+            Mark::Enter(_, _) | Mark::Leave => {}
         }
     }
     Ok(())

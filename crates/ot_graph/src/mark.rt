@@ -1,6 +1,6 @@
 //! What a run passes.
 use crate::child::Child;
-use ot_model::Cell;
+use ot_model::{Cell, Fold};
 
 /// What a run passes, in its order.
 #[derive(Debug, Drop)]
@@ -9,8 +9,8 @@ pub enum Mark<'a> {
     Task(u32, Child<'a>),
     /// The task with this number waits for these children.
     Wait(u32, Vec<u32>),
-    /// A group over these cells begins.
-    Enter(&'a Vec<Cell>),
+    /// A group begins that reduces these cells by the operation.
+    Enter(Fold, &'a Vec<Cell>),
     /// The last group that began ends.
     Leave,
 }

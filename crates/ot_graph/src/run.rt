@@ -13,7 +13,7 @@ use crate::child::Child;
 use crate::family::Family;
 use crate::mark::Mark;
 use crate::place::{behind, behind_all};
-use ot_model::{Cells, Counts, Decl, Look, Stmt, value};
+use ot_model::{Cells, Counts, Decl, Look, Monoid, Stmt, value};
 use std::alloc::{AllocError, Global};
 use std::mem;
 
@@ -94,10 +94,10 @@ fn run_one<'a>(
             run.cells.set(*cell, number);
             Ok(())
         }
-        Stmt::Add(cell, expr) => {
+        Stmt::Fold(op, cell, expr) => {
             let number = value(expr, &run.cells);
             let before = run.cells.at(*cell);
-            run.cells.set(*cell, before.wrapping_add(number));
+            run.cells.set(*cell, op.join(before, number));
             Ok(())
         }
         Stmt::If(expr, one, two) => {
@@ -110,9 +110,9 @@ fn run_one<'a>(
         }
         Stmt::Task(decl, body) => run_task(alloc, decl, body, run, region, place),
         Stmt::Wait => await_all(alloc, run, region),
-        Stmt::Group(cells, body) => {
+        Stmt::Group(op, cells, body) => {
             let before = region.pending.len();
-            run.marks.push(Mark::Enter(cells))?;
+            run.marks.push(Mark::Enter(*op, cells))?;
             run_all(alloc, body, run, region, place.saturating_add(1))?;
             region.pending.truncate(before);
             run.marks.push(Mark::Leave)?;

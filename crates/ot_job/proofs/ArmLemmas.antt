@@ -5,6 +5,7 @@ use Rattle.std.specs.List.{list_any}
 use Rattle.ot_check.proofs.Bits.{or_true, true_or, or_right, and_left, and_right, and_true}
 use Rattle.ot_depend.specs.Siblings.{Sibling, is_unfinished}
 use Rattle.ot_model.specs.declared.expr.Cell.{Cell}
+use Rattle.ot_model.specs.declared.fold.Fold.{Fold as Operation}
 use Rattle.ot_model.specs.Tree.{E, If, Group, Wait, Body, Next, append}
 use Rattle.ot_model.specs.Cells.{updated}
 use Rattle.ot_model.specs.declared.stmt.Use.{Use}
@@ -113,12 +114,12 @@ monotone true kids f g w h = h
 monotone false kids f g w h = weaker-any kids f g w h
 
 module _ (ws : List Region) (s : IsSound ws) (i : ℕ) (h : i < length ws) (calm : (at ws i).waiting ≡ false) (started : IsBegun ws i) where
-  pub sound-enter : (g : ℕ) (cs : List Cell) (b rest : Body) → (at ws i).rest ≡ Next (Group cs b) rest → IsSound (updated ws i (λ r. inside g cs b (with_rest rest r)))
-  sound-enter g cs b rest was =
+  pub sound-enter : (g : ℕ) (op : Operation) (cs : List Cell) (b rest : Body) → (at ws i).rest ≡ Next (Group op cs b) rest → IsSound (updated ws i (λ r. inside g op cs b (with_rest rest r)))
+  sound-enter g op cs b rest was =
       let r = at ws i in
       let fine = subst (λ x. IsFineAt r.own (unawaited r.waiting r.children) x r.groups) was (s.placed i).fine in
-      sound-changed ws i (λ r. inside g cs b (with_rest rest r)) h (record { parent = λ r. refl; child = λ r. refl; own = λ r. refl; children = λ r. refl; ended = λ r. refl }) s
-      (placed-enter r (s.placed i) g cs b rest was calm (fine-innermost r.own (unawaited r.waiting r.children) (Next (Group cs b) rest) r.groups fine).0
-      (at-enter r.own (unawaited r.waiting r.children) cs b rest g r.groups (λ f k w u. monotone r.waiting r.children f k w u) fine)
-      (λ uses own. awaits-enter (unawaited r.waiting r.children) cs b rest g r.groups (λ f k w u. monotone r.waiting r.children f k w u)
+      sound-changed ws i (λ r. inside g op cs b (with_rest rest r)) h (record { parent = λ r. refl; child = λ r. refl; own = λ r. refl; children = λ r. refl; ended = λ r. refl }) s
+      (placed-enter r (s.placed i) g op cs b rest was calm (fine-innermost r.own (unawaited r.waiting r.children) (Next (Group op cs b) rest) r.groups fine).0
+      (at-enter r.own (unawaited r.waiting r.children) op cs b rest g r.groups (λ f k w u. monotone r.waiting r.children f k w u) fine)
+      (λ uses own. awaits-enter (unawaited r.waiting r.children) op cs b rest g r.groups (λ f k w u. monotone r.waiting r.children f k w u)
       (subst (λ x. AwaitsAll (unawaited r.waiting r.children) x r.groups) was ((s.placed i).awaits uses own)))) (λ o os is. started)

@@ -1,7 +1,8 @@
 -- A task's body ends with no child unawaited: step by step.
 use Rattle.std.proofs.Common.{◌≡◌, ℕ, Bool, true, false, not, ◌&&◌, ◌||◌, List, [], ◌∷◌, refl, sym, ◌∙◌}
-use Rattle.ot_model.specs.Tree.{E, Set, Add, If, Task, Wait, Group, Body, End, Next, append}
+use Rattle.ot_model.specs.Tree.{E, Set, Fold, If, Task, Wait, Group, Body, End, Next, append}
 use Rattle.ot_model.specs.declared.expr.Cell.{Cell}
+use Rattle.ot_model.specs.declared.fold.Fold.{Fold as Operation}
 use Rattle.ot_model.specs.declared.stmt.Use.{Use}
 use Rattle.ot_depend.specs.Siblings.{Sibling, is_in}
 use Rattle.ot_check.specs.walk.Walk.{anyone}
@@ -55,17 +56,17 @@ awaits-two kids e a b rest os h =
     (λ o more is T k. and_more (through (append b rest)) (through (Next (If e a b) rest)) _
     (λ t. let both = sym (through-append b rest) ∙ t in and_true (through a || through b) (through rest) (or_right _ _ (and_left (through b) (through rest) both)) (and_right (through b) (through rest) both)) k) h
 
--- sets and adds
+-- sets and folds
 pub awaits-piece : (kids : Kids) (piece rest : Body) (os : List Open) → AreAssigns piece → AwaitsAll kids (append piece rest) os → AwaitsAll kids rest os
 awaits-piece kids End rest os only h = h
 awaits-piece kids (Next (Set c e) more) rest os only h =
     awaits-piece kids more rest os only (awaits-step kids kids (Next (Set c e) (append more rest)) (append more rest) os (λ g. g) (λ o later is T k. k) h)
-awaits-piece kids (Next (Add c e) more) rest os only h =
-    awaits-piece kids more rest os only (awaits-step kids kids (Next (Add c e) (append more rest)) (append more rest) os (λ g. g) (λ o later is T k. k) h)
+awaits-piece kids (Next (Fold op c e) more) rest os only h =
+    awaits-piece kids more rest os only (awaits-step kids kids (Next (Fold op c e) (append more rest)) (append more rest) os (λ g. g) (λ o later is T k. k) h)
 awaits-piece kids (Next (If e a b) more) rest os only h = absurd only
 awaits-piece kids (Next (Task d b) more) rest os only h = absurd only
 awaits-piece kids (Next Wait more) rest os only h = absurd only
-awaits-piece kids (Next (Group cs b) more) rest os only h = absurd only
+awaits-piece kids (Next (Group op cs b) more) rest os only h = absurd only
 
 pub awaits-wait : (kids : Kids) (rest : Body) (os : List Open) → AwaitsAll kids (Next Wait rest) os → AwaitsAll (λ test. false) rest os
 awaits-wait kids rest os h = awaits-step kids (λ test. false) (Next Wait rest) rest os (λ g. g) (λ o more is T k. absurd (never (and_right (through rest) false k))) h
@@ -85,10 +86,10 @@ awaits-task kids d b rest os new inside h =
     first_true false true t here k = k
     first_true false false t here k = here
 
-pub awaits-enter : (kids : Kids) (cs : List Cell) (b rest : Body) (g : ℕ) (os : List Open) → Monotone kids
-    → AwaitsAll kids (Next (Group cs b) rest) os → AwaitsAll kids b (record { group = g; cells = cs; behind = rest } ∷ os)
-awaits-enter kids cs b rest g os mono h =
-    awaits-step kids (kids_behind kids b g) (Next (Group cs b) rest) rest os
+pub awaits-enter : (kids : Kids) (op : Operation) (cs : List Cell) (b rest : Body) (g : ℕ) (os : List Open) → Monotone kids
+    → AwaitsAll kids (Next (Group op cs b) rest) os → AwaitsAll kids b (record { group = g; op = op; cells = cs; behind = rest } ∷ os)
+awaits-enter kids op cs b rest g os mono h =
+    awaits-step kids (kids_behind kids b g) (Next (Group op cs b) rest) rest os
     (after-more anyone rest (children_of (kids_behind kids b g) anyone) (children_of kids anyone && through b) (swap (through b) _ _ (mono _ _ (λ s. and_right (not (is_in g s)) true))))
     (λ p more e T k. again (through b) (through rest) _ _ (mono _ _ (λ s. and_right (not (is_in g s)) (not (is_in p.group s) && T s))) k) h
   where

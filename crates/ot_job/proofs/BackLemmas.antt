@@ -1,5 +1,5 @@
 -- The cells once a piece has come back are the cells after its assignments.
-use Rattle.std.proofs.Common.{◌≡◌, ◌≢◌, ℕ, suc, ◌+◌, ◌%◌, ◌^◌, Bool, true, false, cond, List, [], ◌∷◌, refl, sym, ap, subst, ◌∙◌, inl, inr, arith, true≢false}
+use Rattle.std.proofs.Common.{◌≡◌, ℕ, suc, Bool, true, false, cond, List, [], ◌∷◌, refl, sym, ap, subst, ◌∙◌, inl, inr, arith, true≢false}
 use Rattle.std.specs.Prelude.{Option, Some, None, IsSome, option_map}
 use Rattle.std.specs.List.{find, All}
 use Rattle.std.proofs.lemmas.Option.{same_Some}
@@ -7,11 +7,13 @@ use Rattle.ot_model.specs.Tree.{E, Body}
 use Rattle.ot_model.specs.Value.{val}
 use Rattle.ot_check.specs.Paths.{use_as}
 use Rattle.ot_model.specs.Cells.{cell_of, lengths}
-use Rattle.ot_model.specs.Uses.{joined}
+use Rattle.ot_model.specs.Joining.{join_by, unit_of}
+use Rattle.ot_model.specs.Uses.{is_fold, joined}
 use Rattle.ot_model.specs.Serial.{State, serial}
 use Rattle.ot_model.specs.declared.expr.Cell.{Cell}
+use Rattle.ot_model.specs.declared.fold.Fold.{Fold as Operation}
 use Rattle.ot_model.specs.declared.stmt.Mode.{Mode}
-use Rattle.ot_model.specs.declared.stmt.Mode.TheVariants.{Reads, Writes, Adds}
+use Rattle.ot_model.specs.declared.stmt.Mode.TheVariants.{Reads, Writes, Folds}
 use Rattle.ot_model.proofs.CellsLemmas.{same_cells}
 use Rattle.ot_check.specs.Touches.{EachRead, EachTouch}
 use Rattle.ot_owner.specs.Lending.{is_at, first_at, value_at}
@@ -26,8 +28,8 @@ use Rattle.ot_job.proofs.CopiesLemmas.{given-serial, value-copies}
 -- the cells have what the copies began with
 pub record HasInputs (cells : List (List ℕ)) (l : LentCell) : Type 0 where
   pub there : IsSome (cell_of cells l.cell)
-  pub same : l.mode ≢ Adds → cell_of cells l.cell ≡ Some l.first
-  pub unit : l.mode ≡ Adds → l.first ≡ 0
+  pub same : is_fold l.mode ≡ false → cell_of cells l.cell ≡ Some l.first
+  pub unit : (op : Operation) → l.mode ≡ Folds op → l.first ≡ unit_of op
 
 -- what holds of all holds of the one that is found
 pub found : (P : LentCell → Type 0) (lent : List LentCell) (c : Cell) (l : LentCell) → All P lent → find (is_at c) lent ≡ Some l → P l × (l.cell ≡ c)
@@ -58,23 +60,17 @@ module _ (first last : List LentCell) (before after : List (List ℕ)) (piece : 
     start c = pick (find (is_at c) first) refl
       where
         given : (l : LentCell) (m : Mode) → l.mode ≡ m → HasInputs before l → l.cell ≡ c → IsGiven (Some m) (cell_of before c) (Some l.first) (cell_of before c)
-        given l Reads is h at = (refl, sym (sym (ap (cell_of before) at) ∙ h.same (λ e. differ (sym is ∙ e))))
+        given l Reads is h at = (refl, sym (sym (ap (cell_of before) at) ∙ h.same (ap is_fold is)))
+        given l Writes is h at = sym (ap (cell_of before) at) ∙ h.same (ap is_fold is)
+        given l (Folds op) is h at = some (cell_of before c) refl
           where
-            differ : Reads ≡ Adds → ⊥
-            differ e = cc
-        given l Writes is h at = sym (ap (cell_of before) at) ∙ h.same (λ e. differ (sym is ∙ e))
-          where
-            differ : Writes ≡ Adds → ⊥
-            differ e = cc
-        given l Adds is h at = some (cell_of before c) refl
-          where
-            some : (o : Option ℕ) → cell_of before c ≡ o → IsGiven (Some Adds) (cell_of before c) (Some l.first) (cell_of before c)
+            some : (o : Option ℕ) → cell_of before c ≡ o → IsGiven (Some (Folds op)) (cell_of before c) (Some l.first) (cell_of before c)
             some None e = absurd (gone (cell_of before l.cell) (ap (cell_of before) at ∙ e) h.there)
               where
                 gone : (o : Option ℕ) → o ≡ None → IsSome o → ⊥
                 gone None e h = true≢false (sym h)
                 gone (Some n) e h = cc
-            some (Some n) e = (n, l.first, e, refl, inr (h.unit is, refl))
+            some (Some n) e = (n, l.first, e, refl, inr (h.unit op is, refl))
 
         pick : (o : Option LentCell) → find (is_at c) first ≡ o → IsGiven (mode_at first c) (cell_of before c) (first_at first c) (cell_of before c)
         pick None e = rw e refl
@@ -87,7 +83,7 @@ module _ (first last : List LentCell) (before after : List (List ℕ)) (piece : 
     each c = pick (find (is_at c) last) refl (subst (λ (v : Option ℕ). IsGiven (mode_at first c) (cell_of before c) v (cell_of (serial piece begin).cells c)) (sym (made c)) (done c))
       where
         joins : (l : LentCell) (m : Mode) (now : Option ℕ) → l.mode ≡ m → l.cell ≡ c → cell_of after l.cell ≡ option_map (λ stored. joined l.mode stored l.value) (cell_of before l.cell)
-            → (l.mode ≡ Adds → l.value ≡ 0 → cell_of after l.cell ≡ cell_of before l.cell)
+            → ((op : Operation) → l.mode ≡ Folds op → l.value ≡ unit_of op → cell_of after l.cell ≡ cell_of before l.cell)
             → IsSome (cell_of before l.cell) → IsGiven (Some m) (cell_of before c) (Some l.value) now → cell_of after c ≡ now
         joins l Reads now is at j u there g =
             ap (cell_of after) (sym at) ∙ j ∙ ap (λ (m : Mode). option_map (λ stored. joined m stored l.value) (cell_of before l.cell)) is ∙ as_is (cell_of before l.cell) ∙ ap (cell_of before) at ∙ sym g.0
@@ -101,12 +97,12 @@ module _ (first last : List LentCell) (before after : List (List ℕ)) (piece : 
             value : (o : Option ℕ) → IsSome o → option_map (λ (stored : ℕ). l.value) o ≡ Some l.value
             value None h = absurd (true≢false (sym h))
             value (Some n) h = refl
-        joins l Adds now is at j u there (stored, sum, p, q, inl e) =
+        joins l (Folds op) now is at j u there (stored, sum, p, q, inl e) =
             let s : l.value ≡ sum = same_Some l.value sum q in
             ap (cell_of after) (sym at) ∙ j ∙ ap (λ (m : Mode). option_map (λ stored. joined m stored l.value) (cell_of before l.cell)) is
-            ∙ ap (option_map (λ stored. joined Adds stored l.value)) (ap (cell_of before) at ∙ p) ∙ ap (λ n. Some ((stored + n) % 2 ^ 64)) s ∙ sym e
-        joins l Adds now is at j u there (stored, sum, p, q, inr e) =
-            ap (cell_of after) (sym at) ∙ u is (same_Some l.value sum q ∙ e.0) ∙ ap (cell_of before) at ∙ sym e.1
+            ∙ ap (option_map (λ stored. joined (Folds op) stored l.value)) (ap (cell_of before) at ∙ p) ∙ ap (λ n. Some (join_by op stored n)) s ∙ sym e
+        joins l (Folds op) now is at j u there (stored, sum, p, q, inr e) =
+            ap (cell_of after) (sym at) ∙ u op is (same_Some l.value sum q ∙ e.0) ∙ ap (cell_of before) at ∙ sym e.1
 
         pick : (o : Option LentCell) → find (is_at c) last ≡ o → IsGiven (mode_at first c) (cell_of before c) (value_at last c) (cell_of (serial piece begin).cells c) → cell_of after c ≡ cell_of (serial piece begin).cells c
         pick None e g =
@@ -118,7 +114,7 @@ module _ (first last : List LentCell) (before after : List (List ℕ)) (piece : 
             none (Some l) e h = cc
         pick (Some l) e g =
             let f = found (λ l. (cell_of after l.cell ≡ option_map (λ stored. joined l.mode stored l.value) (cell_of before l.cell))
-            × (l.mode ≡ Adds → l.value ≡ 0 → cell_of after l.cell ≡ cell_of before l.cell) × IsSome (cell_of before l.cell)) last c l
+            × ((op : Operation) → l.mode ≡ Folds op → l.value ≡ unit_of op → cell_of after l.cell ≡ cell_of before l.cell) × IsSome (cell_of before l.cell)) last c l
             (λ k d within. (back.lent_cells k d within, back.untouched k d within, there k d within)) e in
             joins l l.mode (cell_of (serial piece begin).cells c) refl f.1 f.0.0 f.0.1 f.0.2
             (subst (λ (m : Option Mode). IsGiven m (cell_of before c) (Some l.value) (cell_of (serial piece begin).cells c)) (sym (modes_same c) ∙ ap (option_map (λ l. l.mode)) e)

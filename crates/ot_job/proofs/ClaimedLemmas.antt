@@ -5,14 +5,15 @@ use Rattle.ot_model.specs.Tree.{E, Body}
 use Rattle.ot_model.specs.Cells.{cell_of, lengths, updated}
 use Rattle.ot_model.specs.Uses.{AreInOrder}
 use Rattle.ot_model.specs.declared.expr.Cell.{Cell}
-use Rattle.ot_model.specs.declared.stmt.Mode.TheVariants.{Adds}
+use Rattle.ot_model.specs.declared.fold.Fold.{Fold as Operation}
+use Rattle.ot_model.specs.declared.stmt.Mode.TheVariants.{Folds}
 use Rattle.ot_model.specs.declared.stmt.Use.{Use}
 use Rattle.ot_owner.specs.Keeping.{Prepared}
 use Rattle.ot_owner.specs.Leases.{Lease, lease_of, lent_from}
 use Rattle.ot_owner.specs.Lending.{uses_of}
 use Rattle.ot_owner.specs.Owning.{Owned, loan_of, IsFreeFor}
-use Rattle.ot_owner.specs.Rows.{Summed, IsSummed, begun_for}
-use Rattle.ot_owner.specs.Worth.{combined, worths, AreWorthSame}
+use Rattle.ot_owner.specs.Rows.{Summed, IsSummedBy, IsByOne, begun_for}
+use Rattle.ot_owner.specs.Worth.{worths, AreWorthSame}
 use Rattle.ot_owner.specs.declared.lent.LentCell.{LentCell}
 use Rattle.ot_owner.proofs.RightsLemmas.{lent_uses}
 use Rattle.ot_task.specs.Assigns.{CanRun}
@@ -25,10 +26,10 @@ use Rattle.ot_job.specs.Claims.{Claims}
 use Rattle.ot_job.specs.Holding.{Holds}
 use Rattle.ot_job.specs.Live.{Live}
 use Rattle.ot_job.specs.Numbered.{at}
-use Rattle.ot_job.specs.Opening.{left_open, copies_passed}
+use Rattle.ot_job.specs.Opening.{left_open, passed_over}
 use Rattle.ot_job.specs.States.{claimable_in}
 use Rattle.ot_job.specs.Well.{IsWell, IsOnCourse}
-use Rattle.ot_job.proofs.LendingLemmas.{claim-open, claim-unused, claim-known, claim-sums, claim-fresh}
+use Rattle.ot_job.proofs.LendingLemmas.{claim-alone, claim-open, claim-unused, claim-known, claim-sums, claim-fresh}
 use Rattle.ot_job.proofs.PickLemmas.{at-here}
 use Rattle.ot_job.proofs.TakenLemmas.{claim-can}
 use Rattle.ot_job.proofs.WellLemmas.{claim-free, claim-holds, claim-well}
@@ -55,6 +56,9 @@ module _ (j : Live) (w : IsWell j) (working : j.failing ≡ false) (i : ℕ) (h 
   pub lends-open : IfSome told (λ group. Any (λ g. g.group ≡ group) before.groups)
   lends-open = subst (λ (b : Owned). IfSome told (λ group. Any (λ (g : Summed). g.group ≡ group) b.groups)) (sym before-is) (claim-open j w o i h can told told-is)
 
+  pub lends-alone : IfSome told (λ group. IsByOne group before.groups)
+  lends-alone = subst (λ (b : Owned). IfSome told (λ group. IsByOne group b.groups)) (sym before-is) (claim-alone j w o i h can told told-is)
+
   pub lends-unused : IfSome told (λ group. All (λ g. g.group ≡ group → IsFreeFor before.out g.uses) before.groups)
   lends-unused = subst (λ (b : Owned). IfSome told (λ group. All (λ (g : Summed). g.group ≡ group → IsFreeFor b.out g.uses) b.groups)) (sym before-is) (claim-unused j w o i h can told told-is)
 
@@ -67,18 +71,18 @@ module _ (j : Live) (w : IsWell j) (working : j.failing ≡ false) (i : ℕ) (h 
   pub lends-there : All (λ u. IsSome (cell_of j.cells u.cell)) decl → All (λ u. IsSome (cell_of j.cells u.cell)) slip.uses
   lends-there there = subst (All (λ (u : Use). IsSome (cell_of j.cells u.cell))) (sym uses-are) there
 
-  pub lends-summed : All (λ u. u.mode ≡ Adds → IsSummed (left_open told before.groups) u.cell) slip.uses
+  pub lends-summed : All (λ u. (op : Operation) → u.mode ≡ Folds op → IsSummedBy (left_open told before.groups) op u.cell) slip.uses
   lends-summed =
-      subst (λ (b : Owned). All (λ u. u.mode ≡ Adds → IsSummed (left_open told b.groups) u.cell) slip.uses) (sym before-is)
-      (subst (λ (n : Option ℕ). All (λ u. u.mode ≡ Adds → IsSummed (left_open n j.owned.groups) u.cell) slip.uses) (sym told-is)
-      (subst (All (λ (u : Use). u.mode ≡ Adds → IsSummed (left_open (group_passed (at j.regions i)) j.owned.groups) u.cell)) (sym uses-are)
+      subst (λ (b : Owned). All (λ u. (op : Operation) → u.mode ≡ Folds op → IsSummedBy (left_open told b.groups) op u.cell) slip.uses) (sym before-is)
+      (subst (λ (n : Option ℕ). All (λ u. (op : Operation) → u.mode ≡ Folds op → IsSummedBy (left_open n j.owned.groups) op u.cell) slip.uses) (sym told-is)
+      (subst (All (λ (u : Use). (op : Operation) → u.mode ≡ Folds op → IsSummedBy (left_open (group_passed (at j.regions i)) j.owned.groups) op u.cell)) (sym uses-are)
       (claim-sums j w o i h can worker lease are ordered)))
 
   -- ---- what they have lent
 
   module _ (cells : List (List ℕ)) (owned : Owned) (lent : List LentCell) (is : lent ≡ lent_from cells slip.uses) (long : lengths cells ≡ lengths j.cells)
       (out : IsPermutation (loan_of slip.worker lent ∷ before.out) owned.out) (groups : owned.groups ≡ begun_for slip.worker slip.uses (left_open told before.groups))
-      (stored : (cell : Cell) → cell_of cells cell ≡ option_map (λ n. combined n (copies_passed told before.groups cell)) (cell_of j.cells cell))
+      (stored : (cell : Cell) → cell_of cells cell ≡ option_map (passed_over told before.groups cell) (cell_of j.cells cell))
       (same : AreWorthSame before owned j.cells cells) where
     pub lent-are : uses_of lent ≡ decl
     lent-are = lent_uses cells slip.uses lent is ∙ uses-are
@@ -102,10 +106,10 @@ module _ (j : Live) (w : IsWell j) (working : j.failing ≡ false) (i : ℕ) (h 
         ∙ ap (λ (b : Owned). begun_for worker (uses_of lent) (left_open told b.groups)) before-is
         ∙ ap (λ (n : Option ℕ). begun_for worker (uses_of lent) (left_open n j.owned.groups)) told-is
 
-    stored-now : (cell : Cell) → cell_of cells cell ≡ option_map (λ n. combined n (copies_passed (group_passed (at j.regions i)) j.owned.groups cell)) (cell_of j.cells cell)
+    stored-now : (cell : Cell) → cell_of cells cell ≡ option_map (passed_over (group_passed (at j.regions i)) j.owned.groups cell) (cell_of j.cells cell)
     stored-now cell =
-        stored cell ∙ ap (λ (b : Owned). option_map (λ n. combined n (copies_passed told b.groups cell)) (cell_of j.cells cell)) before-is
-        ∙ ap (λ (n : Option ℕ). option_map (λ m. combined m (copies_passed n j.owned.groups cell)) (cell_of j.cells cell)) told-is
+        stored cell ∙ ap (λ (b : Owned). option_map (passed_over told b.groups cell) (cell_of j.cells cell)) before-is
+        ∙ ap (λ (n : Option ℕ). option_map (passed_over n j.owned.groups cell) (cell_of j.cells cell)) told-is
 
     same-now : AreWorthSame j.owned owned j.cells cells
     same-now = subst (λ (b : Owned). AreWorthSame b owned j.cells cells) before-is same

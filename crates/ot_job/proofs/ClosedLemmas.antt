@@ -12,15 +12,15 @@ use Rattle.ot_depend.specs.Siblings.{Sibling, is_unfinished, with_finished, IsRe
 use Rattle.ot_depend.proofs.SiblingsLemmas.{IsReady-finished}
 use Rattle.ot_check.proofs.Bits.{or_true, true_or, or_right, and_left, and_right, and_true}
 use Rattle.ot_model.specs.declared.expr.Cell.{Cell}
-use Rattle.ot_model.specs.declared.stmt.Mode.TheVariants.{Reads}
-use Rattle.ot_check.specs.Paths.{use_as}
-use Rattle.ot_check.specs.Offences.{allows, adds_to, has_cell}
+use Rattle.ot_model.specs.declared.fold.Fold.{Fold as Operation}
+use Rattle.ot_model.specs.Uses.{same_fold}
+use Rattle.ot_check.specs.Offences.{allows, folds_to, has_cell}
 use Rattle.ot_task.specs.Place.{Open, todo}
 use Rattle.ot_job.specs.Awaiting.{AwaitsAll, unawaited}
 use Rattle.ot_task.specs.Regions.{Region, over, without}
 use Rattle.ot_job.specs.Settling.{told_parent, closed}
 use Rattle.ot_job.specs.Numbered.{at, parent_of, todo_at, ended_at, parents}
-use Rattle.ot_job.specs.Sound.{DontMix, sums_in, IsBegun, IsKin, IsPlaced, IsSound}
+use Rattle.ot_job.specs.Sound.{DontMix, OnlyFolds, sums_in, IsBegun, IsKin, IsPlaced, IsSound}
 use Rattle.ot_job.proofs.PlaceLemmas.{at-fewer}
 use Rattle.ot_job.proofs.AwaitsLemmas.{awaits-fewer, awaits-end}
 use Rattle.ot_job.proofs.KeptLemmas.{at-updated, at-updated-other, parents-updated}
@@ -82,11 +82,11 @@ fewer-any (x ∷ kids) (suc c) test h =
 
 -- ---- one region
 
-sums-groups : (gs : List Open) (s t : Sibling) (c : Cell) → s.groups ≡ t.groups → sums_in gs s c ≡ sums_in gs t c
-sums-groups [] s t c e = refl
-sums-groups (o ∷ os) s t c e =
-    ap (λ g. (has_cell o.cells c && list_any (λ h. h == o.group) g) || sums_in os s c) e
-    ∙ ap (λ b. (has_cell o.cells c && is_in o.group t) || b) (sums-groups os s t c e)
+sums-groups : (gs : List Open) (s t : Sibling) (o : Operation) (c : Cell) → s.groups ≡ t.groups → sums_in gs s o c ≡ sums_in gs t o c
+sums-groups [] s t o c e = refl
+sums-groups (g ∷ gs) s t o c e =
+    ap (λ groups. ((same_fold g.op o && has_cell g.cells c) && list_any (λ h. h == g.group) groups) || sums_in gs s o c) e
+    ∙ ap (λ b. ((same_fold g.op o && has_cell g.cells c) && is_in g.group t) || b) (sums-groups gs s t o c e)
 
 -- a child of it has finished
 placed-without : (c : ℕ) (r : Region) → IsPlaced r → IsPlaced (without c r)
@@ -105,13 +105,13 @@ placed-without c r p = record {
   shut = p.shut;
   once = p.once;
   writes = p.writes;
-  sums = λ k s there alive cell adds.
+  sums = λ k s there alive o cell folds.
       let b = before r.children c k s there in
-      subst (λ v. (adds_to r.own cell ≡ true) ⊎ (v ≡ true)) (sym (sums-groups r.groups s b.entry cell b.groups))
-      (p.sums k b.entry b.there (b.unfinished alive) cell (subst (λ us. adds_to (Some us) cell ≡ true) b.uses adds));
-  reduced = λ k s there alive cell here.
+      subst (λ v. (folds_to r.own o cell ≡ true) ⊎ (v ≡ true)) (sym (sums-groups r.groups s b.entry o cell b.groups))
+      (p.sums k b.entry b.there (b.unfinished alive) o cell (subst (λ us. folds_to (Some us) o cell ≡ true) b.uses folds));
+  reduced = λ k s there alive o cell here.
       let b = before r.children c k s there in
-      subst (λ us. allows (Some us) (use_as Reads cell) ≡ false) (sym b.uses) (p.reduced k b.entry b.there (b.unfinished alive) cell here);
+      subst (λ us. OnlyFolds o (Some us) cell) (sym b.uses) (p.reduced k b.entry b.there (b.unfinished alive) o cell here);
   exclusive = p.exclusive;
 }
   where

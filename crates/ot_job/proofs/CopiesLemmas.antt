@@ -1,14 +1,16 @@
 -- Assignments on copies, given back, are the assignments on the cells.
-use Rattle.std.proofs.Common.{◌≡◌, ℕ, ◌+◌, ◌%◌, ◌^◌, Bool, true, false, refl, sym, ap, subst, ◌∙◌, inl, inr, arith}
+use Rattle.std.proofs.Common.{◌≡◌, ℕ, Bool, true, false, refl, sym, ap, subst, ◌∙◌, inl, inr}
 use Rattle.std.specs.Prelude.{if◌then◌else◌, Option, Some, None, option_map}
-use Rattle.std.proofs.Math.Nat.{mod-add-mod, add-mod-mod}
-use Rattle.ot_model.specs.Tree.{E, Set, Add, If, Task, Wait, Group, Body, End, Next}
+use Rattle.ot_model.specs.Joining.{join_by}
+use Rattle.ot_model.specs.Monoids.{join-associative, join-absorbed}
+use Rattle.ot_model.specs.Tree.{E, Set, Fold, If, Task, Wait, Group, Body, End, Next}
 use Rattle.ot_model.specs.Value.{val}
 use Rattle.ot_model.specs.Cells.{cell_of, with_cell}
 use Rattle.ot_model.specs.Serial.{State, bump, change, serial}
 use Rattle.ot_model.specs.declared.expr.Cell.{Cell}
+use Rattle.ot_model.specs.declared.fold.Fold.{Fold as Operation}
 use Rattle.ot_model.specs.declared.stmt.Mode.{Mode}
-use Rattle.ot_model.specs.declared.stmt.Mode.TheVariants.{Reads, Writes, Adds}
+use Rattle.ot_model.specs.declared.stmt.Mode.TheVariants.{Reads, Writes, Folds}
 use Rattle.ot_model.proofs.CellsLemmas as model
 use Rattle.ot_check.specs.Paths.{use_as}
 use Rattle.ot_model.specs.Cells.{same_cell}
@@ -29,38 +31,38 @@ module _ (modes : Cell → Option Mode) (before : Look) where
   read-same None was copy now g may = absurd may
   read-same (Some Reads) was copy now g may = g.0 ∙ sym g.1
   read-same (Some Writes) was copy now g may = g
-  read-same (Some Adds) was copy now g may = absurd may
+  read-same (Some (Folds op)) was copy now g may = absurd may
 
   pub value-copies : (copies : Look) (s : State) (e : E) → Given copies s → EachRead (λ c. Lets modes (use_as Reads c)) e → val (cell_of s.cells) e ≡ val copies e
   value-copies copies s e g may = value-same (cell_of s.cells) copies e (read-weaker _ _ e (λ c h. read-same (modes c) (before c) (copies c) (cell_of s.cells c) (g c) h) may)
-
-  sums : (a b c : ℕ) → ((a + b) % 2 ^ 64 + c) % 2 ^ 64 ≡ (a + (b + c) % 2 ^ 64) % 2 ^ 64
-  sums a b c =
-      let e : a + b + c ≡ a + (b + c) = omega arith in
-      mod-add-mod (a + b) (2 ^ 64) c ∙ ap (λ m. m % 2 ^ 64) e ∙ sym (add-mod-mod a (b + c) (2 ^ 64))
 
   set_at : (o : Option Mode) (was copy now : Option ℕ) (n : ℕ) → LetsMode Writes o → IsGiven o was copy now
       → IsGiven o was (option_map (λ _. n) copy) (option_map (λ _. n) now)
   set_at None was copy now n may g = absurd may
   set_at (Some Reads) was copy now n may g = absurd may
   set_at (Some Writes) was copy now n may g = ap (option_map (λ _. n)) g
-  set_at (Some Adds) was copy now n may g = absurd may
+  set_at (Some (Folds op)) was copy now n may g = absurd may
 
-  add_at : (o : Option Mode) (was copy now : Option ℕ) (v : ℕ) → LetsMode Adds o → IsGiven o was copy now
-      → IsGiven o was (option_map (λ n. (n + v) % 2 ^ 64) copy) (option_map (λ n. (n + v) % 2 ^ 64) now)
-  add_at None was copy now v may g = absurd may
-  add_at (Some Reads) was copy now v may g = absurd may
-  add_at (Some Writes) was copy now v may g = ap (option_map (λ n. (n + v) % 2 ^ 64)) g
-  add_at (Some Adds) was copy now v may (stored, sum, p, q, inl r) =
-      (stored, (sum + v) % 2 ^ 64, p, ap (option_map (λ n. (n + v) % 2 ^ 64)) q, inl (ap (option_map (λ n. (n + v) % 2 ^ 64)) r ∙ ap Some (sums stored sum v)))
-  add_at (Some Adds) was copy now v may (stored, sum, p, q, inr r) =
-      let z : sum + v ≡ v = omega (arith, r.0) in (
-        stored,
-        (sum + v) % 2 ^ 64,
-        p,
-        ap (option_map (λ n. (n + v) % 2 ^ 64)) q,
-        inl (ap (option_map (λ n. (n + v) % 2 ^ 64)) (r.1 ∙ p) ∙ ap Some (sym (add-mod-mod stored v (2 ^ 64)) ∙ ap (λ m. (stored + m % 2 ^ 64) % 2 ^ 64) (sym z))),
-      )
+  -- a copy that begins at the unit, and its cell, through one fold
+  folded : (op : Operation) (was copy now : Option ℕ) (v : ℕ) → IsGiven (Some (Folds op)) was copy now
+      → IsGiven (Some (Folds op)) was (option_map (λ n. join_by op n v) copy) (option_map (λ n. join_by op n v) now)
+  folded op was copy now v (stored, sum, p, q, inl r) =
+      (stored, join_by op sum v, p, ap (option_map (λ n. join_by op n v)) q, inl (ap (option_map (λ n. join_by op n v)) r ∙ ap Some (join-associative op stored sum v)))
+  folded op was copy now v (stored, sum, p, q, inr r) = (
+    stored,
+    join_by op sum v,
+    p,
+    ap (option_map (λ n. join_by op n v)) q,
+    inl (ap (option_map (λ n. join_by op n v)) (r.1 ∙ p) ∙ ap Some (sym (join-absorbed op stored v) ∙ ap (λ u. join_by op stored (join_by op u v)) (sym r.0))),
+  )
+
+  fold_at : (op : Operation) (o : Option Mode) (was copy now : Option ℕ) (v : ℕ) → LetsMode (Folds op) o → IsGiven o was copy now
+      → IsGiven o was (option_map (λ n. join_by op n v) copy) (option_map (λ n. join_by op n v) now)
+  fold_at op None was copy now v may g = absurd may
+  fold_at op (Some Reads) was copy now v may g = absurd may
+  fold_at op (Some Writes) was copy now v may g = ap (option_map (λ n. join_by op n v)) g
+  fold_at op (Some (Folds by)) was copy now v may g =
+      subst (λ (b : Operation). IsGiven (Some (Folds by)) was (option_map (λ n. join_by b n v) copy) (option_map (λ n. join_by b n v) now)) (sym may) (folded by was copy now v g)
 
   -- one copy and its cell change alike, and no other does
   moved : (copies : Look) (s : State) (c : Cell) (f : ℕ → ℕ) → Given copies s
@@ -85,12 +87,12 @@ module _ (modes : Cell → Option Mode) (before : Look) where
       let same = value-copies copies s e g may.0.0 in
       given-serial rest (with_copy copies c (λ _. val copies e)) (bump 0 1 (change s c (λ _. v))) only may.1
       (subst (λ n. Given (with_copy copies c (λ _. n)) (change s c (λ _. v))) same (moved copies s c (λ _. v) g (set_at (modes c) (before c) (copies c) (cell_of s.cells c) v may.0.1 (g c))))
-  given-serial (Next (Add c e) rest) copies s only may g =
+  given-serial (Next (Fold op c e) rest) copies s only may g =
       let v = val (cell_of s.cells) e in
       let same = value-copies copies s e g may.0.0 in
-      given-serial rest (with_copy copies c (λ n. (n + val copies e) % 2 ^ 64)) (bump 0 1 (change s c (λ n. (n + v) % 2 ^ 64))) only may.1
-      (subst (λ w. Given (with_copy copies c (λ n. (n + w) % 2 ^ 64)) (change s c (λ n. (n + v) % 2 ^ 64))) same (moved copies s c (λ n. (n + v) % 2 ^ 64) g (add_at (modes c) (before c) (copies c) (cell_of s.cells c) v may.0.1 (g c))))
+      given-serial rest (with_copy copies c (λ n. join_by op n (val copies e))) (bump 0 1 (change s c (λ n. join_by op n v))) only may.1
+      (subst (λ w. Given (with_copy copies c (λ n. join_by op n w)) (change s c (λ n. join_by op n v))) same (moved copies s c (λ n. join_by op n v) g (fold_at op (modes c) (before c) (copies c) (cell_of s.cells c) v may.0.1 (g c))))
   given-serial (Next (If e a b) rest) copies s only may g = absurd only
   given-serial (Next (Task d b) rest) copies s only may g = absurd only
   given-serial (Next Wait rest) copies s only may g = absurd only
-  given-serial (Next (Group cs b) rest) copies s only may g = absurd only
+  given-serial (Next (Group op cs b) rest) copies s only may g = absurd only

@@ -1,11 +1,12 @@
 -- What a job counts, now and at its end.
 use Rattle.std.proofs.Common.{◌≡◌, ℕ, ◌+◌, ◌%◌, ◌^◌, ◌≤◌, Bool, true, false, List, [], ◌∷◌, refl, ap, ◌∙◌, arith}
 use Rattle.std.specs.Prelude.{◌==◌, if◌then◌else◌}
-use Rattle.ot_model.specs.Tree.{Set, Add, If, Task, Wait, Group, Body, End, Next}
+use Rattle.ot_model.specs.Tree.{Set, Fold, If, Task, Wait, Group, Body, End, Next}
 use Rattle.ot_model.specs.Value.{val}
 use Rattle.ot_model.specs.Cells.{cell_of, lengths}
 use Rattle.ot_model.proofs.CellsLemmas.{lengths-with_cell}
 use Rattle.ot_model.specs.Counts.{size, tasks_in}
+use Rattle.ot_model.specs.Joining.{join_by}
 use Rattle.ot_model.specs.Serial.{State, bump, change, either, serial, serial_run}
 use Rattle.ot_model.specs.Runs.{state_of}
 use Rattle.ot_model.specs.declared.plain.Counts.{Counts}
@@ -48,7 +49,7 @@ left-grows todo ps s =
 pub serial-few : (b : Body) (s : State) → ((serial b s).tasks ≤ s.tasks + tasks_in b) × ((serial b s).units ≤ s.units + size b)
 serial-few End s = (omega arith, omega arith)
 serial-few (Next (Set c e) rest) s = let r = serial-few rest (bump 0 1 (change s c (λ _. val (cell_of s.cells) e))) in (omega (arith, r.0), omega (arith, r.1))
-serial-few (Next (Add c e) rest) s = let r = serial-few rest (bump 0 1 (change s c (λ n. (n + val (cell_of s.cells) e) % 2 ^ 64))) in (omega (arith, r.0), omega (arith, r.1))
+serial-few (Next (Fold op c e) rest) s = let r = serial-few rest (bump 0 1 (change s c (λ n. join_by op n (val (cell_of s.cells) e)))) in (omega (arith, r.0), omega (arith, r.1))
 serial-few (Next (If e a b) rest) s =
     let one = serial a (bump 0 1 s) in
     let two = serial b (bump 0 1 s) in
@@ -60,7 +61,7 @@ serial-few (Next (If e a b) rest) s =
     (omega (arith, r.0, w.0), omega (arith, r.1, w.1))
 serial-few (Next (Task d b) rest) s = let w = serial-few b (bump 1 1 s) in let r = serial-few rest (serial b (bump 1 1 s)) in (omega (arith, r.0, w.0), omega (arith, r.1, w.1))
 serial-few (Next Wait rest) s = let r = serial-few rest (bump 0 1 s) in (omega (arith, r.0), omega (arith, r.1))
-serial-few (Next (Group cs b) rest) s = let w = serial-few b (bump 0 1 s) in let r = serial-few rest (serial b (bump 0 1 s)) in (omega (arith, r.0, w.0), omega (arith, r.1, w.1))
+serial-few (Next (Group op cs b) rest) s = let w = serial-few b (bump 0 1 s) in let r = serial-few rest (serial b (bump 0 1 s)) in (omega (arith, r.0, w.0), omega (arith, r.1, w.1))
 
 -- ---- the counts of one step
 
@@ -68,12 +69,12 @@ pub piece-counts : (piece : Body) (s : State) → AreAssigns piece → ((serial 
 piece-counts End s only = (refl, omega arith)
 piece-counts (Next (Set c e) rest) s only =
     let r = piece-counts rest (bump 0 1 (change s c (λ _. val (cell_of s.cells) e))) only in (omega (arith, r.0), omega (arith, r.1))
-piece-counts (Next (Add c e) rest) s only =
-    let r = piece-counts rest (bump 0 1 (change s c (λ n. (n + val (cell_of s.cells) e) % 2 ^ 64))) only in (omega (arith, r.0), omega (arith, r.1))
+piece-counts (Next (Fold op c e) rest) s only =
+    let r = piece-counts rest (bump 0 1 (change s c (λ n. join_by op n (val (cell_of s.cells) e)))) only in (omega (arith, r.0), omega (arith, r.1))
 piece-counts (Next (If e a b) rest) s only = absurd only
 piece-counts (Next (Task d b) rest) s only = absurd only
 piece-counts (Next Wait rest) s only = absurd only
-piece-counts (Next (Group cs b) rest) s only = absurd only
+piece-counts (Next (Group op cs b) rest) s only = absurd only
 
 -- a piece sees the cells alone
 pub piece-cells : (piece : Body) (s : State) → (serial piece s).cells ≡ (serial_run piece s.cells).cells
@@ -84,12 +85,12 @@ pub piece-lengths : (piece : Body) (s : State) → AreAssigns piece → lengths 
 piece-lengths End s only = refl
 piece-lengths (Next (Set c e) rest) s only =
     piece-lengths rest (bump 0 1 (change s c (λ _. val (cell_of s.cells) e))) only ∙ lengths-with_cell s.cells c (λ _. val (cell_of s.cells) e)
-piece-lengths (Next (Add c e) rest) s only =
-    piece-lengths rest (bump 0 1 (change s c (λ n. (n + val (cell_of s.cells) e) % 2 ^ 64))) only ∙ lengths-with_cell s.cells c (λ n. (n + val (cell_of s.cells) e) % 2 ^ 64)
+piece-lengths (Next (Fold op c e) rest) s only =
+    piece-lengths rest (bump 0 1 (change s c (λ n. join_by op n (val (cell_of s.cells) e)))) only ∙ lengths-with_cell s.cells c (λ n. join_by op n (val (cell_of s.cells) e))
 piece-lengths (Next (If e a b) rest) s only = absurd only
 piece-lengths (Next (Task d b) rest) s only = absurd only
 piece-lengths (Next Wait rest) s only = absurd only
-piece-lengths (Next (Group cs b) rest) s only = absurd only
+piece-lengths (Next (Group op cs b) rest) s only = absurd only
 
 same-state : (s t : State) → s.cells ≡ t.cells → s.tasks ≡ t.tasks → s.units ≡ t.units → s ≡ t
 same-state s t a b c =
@@ -117,10 +118,10 @@ settled-state piece rest cells counts only =
         ≡ state_of (serial_run piece cells).cells (counts_after counts piece b)
     by End = same-state _ (state_of (serial_run piece cells).cells (counts_after counts piece End)) refl (omega arith) (omega arith)
     by (Next (Set c e) r) = one counts.tasks
-    by (Next (Add c e) r) = one counts.tasks
+    by (Next (Fold op c e) r) = one counts.tasks
     by (Next (If e a b) r) = one counts.tasks
     by (Next Wait r) = one counts.tasks
-    by (Next (Group cs b) r) = one counts.tasks
+    by (Next (Group op cs b) r) = one counts.tasks
     by (Next (Task d b) r) =
         same-state (record { cells = (serial_run piece cells).cells; tasks = counts.tasks + 1; units = counts.units + leading_len piece + 1 })
         (state_of (serial_run piece cells).cells (counts_after counts piece (Next (Task d b) r))) refl refl (omega arith)

@@ -4,7 +4,7 @@ use Rattle.std.specs.Prelude.{◌==◌, None, is_some}
 use Rattle.std.specs.List.{list_any, count_by}
 use Rattle.std.proofs.lemmas.Bool.Decides.{nat_tests}
 use Rattle.std.proofs.lemmas.List.Sums.{sum_by-cons, sum_by_push, count_by-le-length}
-use Rattle.ot_model.specs.Tree.{Set, Add, If, Task as Fork, Wait, Group, Body, End, Next}
+use Rattle.ot_model.specs.Tree.{Set, Fold, If, Task as Fork, Wait, Group, Body, End, Next}
 use Rattle.ot_model.specs.declared.stmt.Use.{Use}
 use Rattle.ot_model.specs.Cells.{updated}
 use Rattle.ot_owner.specs.Leases.{Lease}
@@ -147,11 +147,11 @@ stepped-runs taken g r = by r.rest
     by : (b : Body) → is_some (stepped_from taken g b r).running ≡ is_some r.running
     by End = refl
     by (Next (Set c e) rest) = refl
-    by (Next (Add c e) rest) = refl
+    by (Next (Fold op c e) rest) = refl
     by (Next (If e a b) rest) = refl
     by (Next (Fork d b) rest) = refl
     by (Next Wait rest) = refl
-    by (Next (Group cs b) rest) = refl
+    by (Next (Group op cs b) rest) = refl
 
 pub stepped-goes : (taken : Bool) (g : ℕ) (r : Region) → goes (stepped taken g r) ≡ goes r
 stepped-goes taken g r = by r.rest
@@ -159,11 +159,11 @@ stepped-goes taken g r = by r.rest
     by : (b : Body) → goes (stepped_from taken g b r) ≡ goes r
     by End = refl
     by (Next (Set c e) rest) = refl
-    by (Next (Add c e) rest) = refl
+    by (Next (Fold op c e) rest) = refl
     by (Next (If e a b) rest) = refl
     by (Next (Fork d b) rest) = refl
     by (Next Wait rest) = refl
-    by (Next (Group cs b) rest) = refl
+    by (Next (Group op cs b) rest) = refl
 
 pub counted-stepped : (taken : Bool) (g : ℕ) (rs : List Region) (i out unended : ℕ) → AreCounted rs out unended → AreCounted (updated rs i (stepped taken g)) out unended
 counted-stepped taken g rs i out unended c = record {

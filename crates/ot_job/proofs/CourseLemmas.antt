@@ -15,10 +15,11 @@ use Rattle.ot_model.specs.Uses.{AreInOrder}
 use Rattle.ot_model.specs.Serial.{State, serial, serial_run}
 use Rattle.ot_model.specs.Runs.{state_of}
 use Rattle.ot_model.specs.declared.expr.Cell.{Cell}
+use Rattle.ot_model.specs.declared.fold.Fold.{Fold as Operation}
 use Rattle.ot_model.specs.declared.stmt.Use.{Use}
 use Rattle.ot_model.proofs.CellsLemmas.{length-updated}
 use Rattle.ot_check.specs.Paths.{use_as}
-use Rattle.ot_check.specs.Offences.{adds_to, allows}
+use Rattle.ot_check.specs.Offences.{folds_to}
 use Rattle.ot_model.specs.declared.stmt.Mode.TheVariants.{Reads}
 use Rattle.ot_check.specs.Touches.{EachTouch}
 use Rattle.ot_check.specs.walk.Fine.{IsFine}
@@ -35,9 +36,9 @@ use Rattle.ot_task.specs.Copies.{assigned}
 use Rattle.ot_job.proofs.Given.{Lets}
 use Rattle.ot_task.specs.Place.{todo}
 use Rattle.ot_job.specs.Awaiting.{opened, children_of, unawaited, IsFineAt}
-use Rattle.ot_task.specs.Regions.{Region, Run, with_rest, next_task, cells_next}
+use Rattle.ot_task.specs.Regions.{Region, Run, with_rest, next_task, group_next}
 use Rattle.ot_job.specs.Numbered.{at, todo_at, parents, left_of}
-use Rattle.ot_job.specs.Sound.{IsBegun, IsSound}
+use Rattle.ot_job.specs.Sound.{IsBegun, IsSound, OnlyFolds}
 use Rattle.ot_task.specs.Pieces.{leading, leading_len, test_of}
 use Rattle.ot_task.specs.Modes.{held}
 use Rattle.ot_task.specs.Touched.{piece_touches}
@@ -80,7 +81,7 @@ module _ (j : Live) (w : IsWell j) (working : j.failing ≡ false) (d : Came) (o
     (made : (c : Cell) → value_at d.lent c ≡ assigned d.assigns (first_at d.lent) c) (told : d.answer ≡ option_map (λ e. val (value_at d.lent) e) d.test)
     (cells : List (List ℕ)) (owned : Owned) (back : AreJoined d.lent (worth j.owned j.cells) (worth owned cells)) (long : lengths cells ≡ lengths j.cells)
     (ended : IsPermutation j.owned.out (loan_of out.0.0 d.lent ∷ owned.out))
-    (groups : Opens (cells_next (at j.regions d.task).rest) j.counts.units (all_back out.0.0 d.lent j.owned.groups) owned.groups)
+    (groups : Opens (group_next (at j.regions d.task).rest) j.counts.units (all_back out.0.0 d.lent j.owned.groups) owned.groups)
     (ordered : (child : List Use × Body) → next_task (at j.regions d.task).rest ≡ Some child → AreInOrder child.0) where
   abbrev i : ℕ
   i = d.task
@@ -160,8 +161,8 @@ module _ (j : Live) (w : IsWell j) (working : j.failing ≡ false) (d : Came) (o
       subst (IsFine r.own (opened r.groups) (children_of (unawaited r.waiting r.children))) (ap (λ p. append (assigns_out p) r.rest) out.0.1)
       (fine-innermost r.own (unawaited r.waiting r.children) (whole r).rest r.groups f)
 
-  exclusive : (c : Cell) → adds_to r.own c ≡ true → allows r.own (use_as Reads c) ≡ false
-  exclusive = subst (λ (x : Region). (c : Cell) → adds_to x.own c ≡ true → allows x.own (use_as Reads c) ≡ false) (at-whole j.regions i) (o.sound.placed i).exclusive
+  exclusive : (o : Operation) (c : Cell) → folds_to r.own o c ≡ true → OnlyFolds o r.own c
+  exclusive = subst (λ (x : Region). (o : Operation) (c : Cell) → folds_to x.own o c ≡ true → OnlyFolds o x.own c) (at-whole j.regions i) (o.sound.placed i).exclusive
 
   may : EachTouch (Lets (mode_at d.lent)) d.assigns
   may = lets-piece lens r.own (opened r.groups) (children_of (unawaited r.waiting r.children)) d.assigns r.rest well.assigns named-all fine-here exclusive d.lent well.modes
@@ -288,13 +289,13 @@ module _ (j : Live) (w : IsWell j) (working : j.failing ≡ false) (d : Came) (o
   older-now =
       each-settled (λ g. g.group < settles.counts.units) (taken_by d.answer) j.counts.units i j.regions
       (λ k. All-weaker (λ g. g.group < j.counts.units) (λ g. g.group < settles.counts.units) (λ g lt. omega (arith, lt)) (at j.regions k).groups (o.older k))
-      (λ cs b rest was. let more : units_of d.assigns r.rest ≡ leading_len d.assigns + 1 = ap (units_of d.assigns) was in omega (arith, more))
+      (λ op cs b rest was. let more : units_of d.assigns r.rest ≡ leading_len d.assigns + 1 = ap (units_of d.assigns) was in omega (arith, more))
 
   there-now : (k : ℕ) → All (λ g. AreInShape (lengths cells) g.cells) (at settles.regions k).groups
   there-now =
       each-settled (λ g. AreInShape (lengths cells) g.cells) (taken_by d.answer) j.counts.units i j.regions
       (λ k. subst (λ l. All (λ g. AreInShape l g.cells) (at j.regions k).groups) (sym long) (o.there k))
-      (λ cs b rest was. subst (λ l. AreInShape l cs) (sym long) (subst (NamedIn lens) was (named-back lens d.assigns r.rest named-all)).0.0)
+      (λ op cs b rest was. subst (λ l. AreInShape l cs) (sym long) (subst (NamedIn lens) was (named-back lens d.assigns r.rest named-all)).0.0)
 
   pub settle-course : IsOnCourse settles
   settle-course = record {

@@ -2,17 +2,18 @@
 use Rattle.std.proofs.Common.{◌≡◌, ◌≢◌, ◌<◌, ℕ, zero, suc, ◌+◌, Bool, true, false, List, [], ◌∷◌, ◌++◌, map, refl, sym, ap, subst, ◌∙◌, inl, inr, arith, true≢false}
 use Rattle.std.specs.Prelude.{Option, Some, None, IsSome, cond, option_map, if◌then◌else◌}
 use Rattle.std.specs.List.{fold, find, range_with_len}
-use Rattle.ot_model.specs.Tree.{E, Literal, CellAt, Apply, PickFrom, Set, Add, If, Task, Wait, Group, Body, End, Next}
+use Rattle.ot_model.specs.Tree.{E, Literal, CellAt, Apply, PickFrom, Set, Fold, If, Task, Wait, Group, Body, End, Next}
 use Rattle.ot_model.specs.Names.{NamedIn, ValueNamedIn}
 use Rattle.ot_model.specs.Value.{cell_at, HasAll}
 use Rattle.ot_model.specs.declared.expr.Cell.{Cell}
+use Rattle.ot_model.specs.declared.fold.Fold.{Fold as Operation}
 use Rattle.ot_model.specs.declared.expr.Section.{Section}
 use Rattle.ot_model.specs.declared.stmt.Mode.{Mode}
-use Rattle.ot_model.specs.declared.stmt.Mode.TheVariants.{Reads, Writes, Adds}
+use Rattle.ot_model.specs.declared.stmt.Mode.TheVariants.{Reads, Writes, Folds}
 use Rattle.ot_model.specs.declared.stmt.Use.{Use}
 use Rattle.ot_check.specs.Paths.{use_as, touches}
 use Rattle.ot_model.specs.Value.{cells_named}
-use Rattle.ot_check.specs.Offences.{Declared, adds_to}
+use Rattle.ot_check.specs.Offences.{Declared, folds_to}
 use Rattle.ot_model.specs.Cells.{same_cell}
 use Rattle.ot_owner.specs.Leases.{lent_from, copy_of}
 use Rattle.ot_owner.specs.Lending.{first_at, value_at, is_at, MayChange}
@@ -20,9 +21,9 @@ use Rattle.ot_check.proofs.SameLemmas.{same_is}
 use Rattle.ot_task.proofs.CellLemmas.{same_self}
 use Rattle.ot_check.specs.walk.Fine.{AreAssigns}
 use Rattle.ot_task.specs.Assigns.{CanAssign}
-use Rattle.ot_model.specs.Uses.{mode_in}
+use Rattle.ot_model.specs.Uses.{mode_in, same_fold}
 use Rattle.ot_task.specs.Touched.{assign_touches}
-use Rattle.ot_task.specs.Modes.{held, noted, with_mode, mode_held}
+use Rattle.ot_task.specs.Modes.{held, noted, stronger, with_mode, mode_held}
 use Rattle.ot_task.proofs.HeldLemmas.{reads-append}
 use Rattle.ot_job.proofs.HoldsLemmas.{Among}
 
@@ -33,29 +34,37 @@ Covers (Some Reads) Reads = Unit {0}
 Covers (Some Reads) m = ⊥
 Covers (Some held) m = Unit {0}
 
+-- folds by one operation, or by two, cover any touch
+two-folds : (o p : Operation) (w : Mode) → Covers (Some (stronger (Folds o) (Folds p))) w
+two-folds o p w = by (same_fold o p)
+  where
+    by : (b : Bool) → Covers (Some (if b then Folds o else Writes)) w
+    by true = tt
+    by false = tt
+
 grow : (o : Option Mode) (n w : Mode) → Covers o w → Covers (Some (with_mode o n)) w
 grow None n w h = absurd h
 grow (Some Reads) Reads Reads h = tt
 grow (Some Reads) Writes Reads h = tt
-grow (Some Reads) Adds Reads h = tt
+grow (Some Reads) (Folds o) Reads h = tt
 grow (Some Reads) n Writes h = absurd h
-grow (Some Reads) n Adds h = absurd h
+grow (Some Reads) n (Folds o) h = absurd h
 grow (Some Writes) n w h = tt
-grow (Some Adds) Reads w h = tt
-grow (Some Adds) Writes w h = tt
-grow (Some Adds) Adds w h = tt
+grow (Some (Folds o)) Reads w h = tt
+grow (Some (Folds o)) Writes w h = tt
+grow (Some (Folds o)) (Folds p) w h = two-folds o p w
 
 itself : (o : Option Mode) (n : Mode) → Covers (Some (with_mode o n)) n
 itself None Reads = tt
 itself None Writes = tt
-itself None Adds = tt
+itself None (Folds o) = tt
 itself (Some Reads) Reads = tt
 itself (Some Reads) Writes = tt
-itself (Some Reads) Adds = tt
+itself (Some Reads) (Folds o) = tt
 itself (Some Writes) n = tt
-itself (Some Adds) Reads = tt
-itself (Some Adds) Writes = tt
-itself (Some Adds) Adds = tt
+itself (Some (Folds o)) Reads = tt
+itself (Some (Folds o)) Writes = tt
+itself (Some (Folds o)) (Folds p) = two-folds o p (Folds p)
 
 module _ (own : Declared) where
   stays : (c : Cell) (us : List Use) (o : Option Mode) (w : Mode) → Covers o w → Covers (fold (noted own c) o us) w
@@ -98,9 +107,9 @@ changes cells (u ∷ d) c w other h = by (changes cells d c w other) (same_cell 
     writes : (m w : Mode) → w ≢ Reads → Covers (Some m) w → m ≢ Reads
     writes Reads Reads other h e = other refl
     writes Reads Writes other h e = absurd h
-    writes Reads Adds other h e = absurd h
+    writes Reads (Folds o) other h e = absurd h
     writes Writes w other h e = cc
-    writes Adds w other h e = cc
+    writes (Folds o) w other h e = cc
 
     by : (Covers (mode_in d c) w → MayChange (lent_from cells d) c) → (b : Bool) → same_cell c u.cell ≡ b → MayChange (lent_from cells (u ∷ d)) c
     by more true e = (0, copy_of cells u, omega arith, refl, (sym (same_is c u.cell e), writes u.mode w other (rw e at h)))
@@ -148,11 +157,11 @@ module _ (lens : List ℕ) (own : Declared) (cells : List (List ℕ)) (d : List 
   pub reads-ready : (e : E) (more : List Use) → ValueNamedIn lens e → Ready (map (use_as Reads) (cells_named e) ++ more) → HasAll (value_at (lent_from cells d)) e
   reads-ready e more n f = value-all lens (value_at (lent_from cells d)) e n (λ c k. valued cells d c Reads (f (use_as Reads c) (among-left (use_as Reads c) (map (use_as Reads) (cells_named e)) more k)))
 
-  held-adds : (c : Cell) → mode_held own (use_as Adds c) ≢ Reads
-  held-adds c = by (adds_to own c) refl
+  held-fold : (o : Operation) (c : Cell) → mode_held own (use_as (Folds o) c) ≢ Reads
+  held-fold o c = by (folds_to own o c) refl
     where
-      by : (b : Bool) → adds_to own c ≡ b → mode_held own (use_as Adds c) ≢ Reads
-      by true e h = let k : Adds ≡ Reads = (rw e at h) in cc
+      by : (b : Bool) → folds_to own o c ≡ b → mode_held own (use_as (Folds o) c) ≢ Reads
+      by true e h = let k : Folds o ≡ Reads = (rw e at h) in cc
       by false e h = let k : Writes ≡ Reads = (rw e at h) in cc
 
   can-assign : (b : Body) → AreAssigns b → NamedIn lens b → Ready (assign_touches b) → CanAssign b (lent_from cells d)
@@ -164,17 +173,17 @@ module _ (lens : List ℕ) (own : Declared) (cells : List (List ℕ)) (d : List 
         changes cells d c Writes (λ h. cc) (first (use_as Writes c) (among-right (use_as Writes c) reads (use_as Writes c ∷ []) (inl refl))),
         can-assign rest only n.1 (λ u k. f u (among-right u (touches (Set c e)) (assign_touches rest) k)),
       )
-  can-assign (Next (Add c e) rest) only n f =
+  can-assign (Next (Fold op c e) rest) only n f =
       let reads = map (use_as Reads) (cells_named e) in
-      let first : Ready (touches (Add c e)) = λ u k. f u (among-left u (touches (Add c e)) (assign_touches rest) k) in (
-        reads-ready e (use_as Adds c ∷ []) n.0.1 first,
-        changes cells d c (mode_held own (use_as Adds c)) (held-adds c) (first (use_as Adds c) (among-right (use_as Adds c) reads (use_as Adds c ∷ []) (inl refl))),
-        can-assign rest only n.1 (λ u k. f u (among-right u (touches (Add c e)) (assign_touches rest) k)),
+      let first : Ready (touches (Fold op c e)) = λ u k. f u (among-left u (touches (Fold op c e)) (assign_touches rest) k) in (
+        reads-ready e (use_as (Folds op) c ∷ []) n.0.1 first,
+        changes cells d c (mode_held own (use_as (Folds op) c)) (held-fold op c) (first (use_as (Folds op) c) (among-right (use_as (Folds op) c) reads (use_as (Folds op) c ∷ []) (inl refl))),
+        can-assign rest only n.1 (λ u k. f u (among-right u (touches (Fold op c e)) (assign_touches rest) k)),
       )
   can-assign (Next (If e a b) rest) only n f = absurd only
   can-assign (Next (Task u b) rest) only n f = absurd only
   can-assign (Next Wait rest) only n f = absurd only
-  can-assign (Next (Group cs b) rest) only n f = absurd only
+  can-assign (Next (Group op cs b) rest) only n f = absurd only
 
 -- a piece that holds what its touches ask may make its assigns
 pub piece-can : (lens : List ℕ) (own : Declared) (cells : List (List ℕ)) (d : List Use) (piece : Body) (more : List Use) → AreAssigns piece → NamedIn lens piece

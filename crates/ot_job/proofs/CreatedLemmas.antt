@@ -7,22 +7,26 @@ use Rattle.std.proofs.lemmas.Option.{same_Some}
 use Rattle.std.proofs.lemmas.List.Folds.{list_any-append}
 use Rattle.ot_model.specs.Tree.{Body, End, Next, Task}
 use Rattle.ot_model.specs.declared.expr.Cell.{Cell}
-use Rattle.ot_model.specs.declared.stmt.Mode.TheVariants.{Reads}
+use Rattle.ot_model.specs.declared.fold.Fold.{Fold as Operation}
+use Rattle.ot_model.specs.declared.stmt.Mode.{Mode}
+use Rattle.ot_model.specs.declared.stmt.Mode.TheVariants.{Reads, Writes, Folds}
+use Rattle.ot_model.specs.Uses.{same_fold}
 use Rattle.ot_model.specs.declared.stmt.Use.{Use}
 use Rattle.ot_depend.specs.Siblings.{Sibling, created, is_unfinished, is_in}
 use Rattle.ot_check.specs.Paths.{use_as}
 use Rattle.ot_check.specs.Touches.{EachTouch, EachTask}
-use Rattle.ot_check.specs.Offences.{Declared, allows, adds_to, exceeds, misfits, has_cell}
+use Rattle.ot_check.specs.Offences.{Declared, allows, folds_to, exceeds, misfits, has_cell}
 use Rattle.ot_check.specs.declared.fault.Offence.TheVariants.{ChildBeyond, ReductionMisuse}
-use Rattle.ot_check.proofs.Bits.{or_true, true_or, or_right, and_left, and_true}
+use Rattle.ot_check.proofs.Bits.{or_true, true_or, or_right, and_left, and_right, and_true}
 use Rattle.ot_check.proofs.OffenceLemmas.{is_offence-ChildBeyond, is_offence-ReductionMisuse}
 use Rattle.ot_check.proofs.InsideLemmas.{child_fits}
-use Rattle.ot_check.proofs.SumLemmas.{fits-adds, fits-reads}
+use Rattle.ot_check.proofs.FoldLemmas.{fits-folds, fits-reads}
 use Rattle.ot_check.specs.walk.Fine.{IsClean}
 use Rattle.ot_task.specs.Place.{Open, todo}
 use Rattle.ot_job.specs.Awaiting.{opened, children_of, IsFineAt, AwaitsAll, unawaited}
 use Rattle.ot_task.specs.Regions.{Region, with_rest, with_child}
-use Rattle.ot_job.specs.Sound.{DontMix, LetsAll, IsPlaced, sums_in}
+use Rattle.ot_job.specs.Sound.{DontMix, LetsAll, NamedOnce, OnlyFolds, IsPlaced, sums_in}
+use Rattle.ot_job.proofs.FoldLemmas.{one-op, writes-all, declares-fold, only-unwritten}
 use Rattle.ot_job.proofs.KeptLemmas.{todo-next}
 
 -- ---- the groups that are open at the creation
@@ -31,23 +35,38 @@ pub group_self : (n : ℕ) → (n == n) ≡ true
 group_self n = grind (arith, nat_tests)
 
 -- a child is created in each open group that names a cell
-opened-sums : (gs : List Open) (d : List Use) (groups : List ℕ) (c : Cell) → ((g : ℕ) → list_any (λ h. h == g) (map (λ o. o.group) gs) ≡ true → list_any (λ h. h == g) groups ≡ true)
-    → opened gs c ≡ true → sums_in gs (created d groups) c ≡ true
-opened-sums [] d groups c in_all h = h
-opened-sums (o ∷ os) d groups c in_all h =
-    elim (or_true (opened os c) (has_cell o.cells c) h) [
-      | inl outer ↦ or_right (has_cell o.cells c && is_in o.group (created d groups)) (sums_in os (created d groups) c)
-          (opened-sums os d groups c (λ g there. in_all g (or_right (o.group == g) (list_any (λ h. h == g) (map (λ o. o.group) os)) there)) outer)
-      | inr here ↦ true_or (has_cell o.cells c && is_in o.group (created d groups)) (sums_in os (created d groups) c)
-          (and_true (has_cell o.cells c) (is_in o.group (created d groups)) here (in_all o.group (true_or (o.group == o.group) _ (group_self o.group))))
+opened-sums : (gs : List Open) (d : List Use) (groups : List ℕ) (o : Operation) (c : Cell) → ((g : ℕ) → list_any (λ h. h == g) (map (λ o. o.group) gs) ≡ true → list_any (λ h. h == g) groups ≡ true)
+    → opened gs o c ≡ true → sums_in gs (created d groups) o c ≡ true
+opened-sums [] d groups o c in_all h = h
+opened-sums (g ∷ gs) d groups o c in_all h =
+    elim (or_true (opened gs o c) (same_fold g.op o && has_cell g.cells c) h) [
+      | inl outer ↦ or_right ((same_fold g.op o && has_cell g.cells c) && is_in g.group (created d groups)) (sums_in gs (created d groups) o c)
+          (opened-sums gs d groups o c (λ n there. in_all n (or_right (g.group == n) (list_any (λ h. h == n) (map (λ o. o.group) gs)) there)) outer)
+      | inr here ↦ true_or ((same_fold g.op o && has_cell g.cells c) && is_in g.group (created d groups)) (sums_in gs (created d groups) o c)
+          (and_true (same_fold g.op o && has_cell g.cells c) (is_in g.group (created d groups)) here (in_all g.group (true_or (g.group == g.group) _ (group_self g.group))))
     ]
 
-pub sums-opened : (gs : List Open) (s : Sibling) (c : Cell) → sums_in gs s c ≡ true → opened gs c ≡ true
-sums-opened [] s c h = h
-sums-opened (o ∷ os) s c h =
-    elim (or_true (has_cell o.cells c && is_in o.group s) (sums_in os s c) h) [
-      | inl here ↦ or_right (opened os c) (has_cell o.cells c) (and_left (has_cell o.cells c) (is_in o.group s) here)
-      | inr outer ↦ true_or (opened os c) (has_cell o.cells c) (sums-opened os s c outer)
+pub sums-opened : (gs : List Open) (s : Sibling) (o : Operation) (c : Cell) → sums_in gs s o c ≡ true → opened gs o c ≡ true
+sums-opened [] s o c h = h
+sums-opened (g ∷ gs) s o c h =
+    elim (or_true ((same_fold g.op o && has_cell g.cells c) && is_in g.group s) (sums_in gs s o c) h) [
+      | inl here ↦ or_right (opened gs o c) (same_fold g.op o && has_cell g.cells c) (and_left (same_fold g.op o && has_cell g.cells c) (is_in g.group s) here)
+      | inr outer ↦ true_or (opened gs o c) (same_fold g.op o && has_cell g.cells c) (sums-opened gs s o c outer)
+    ]
+
+-- groups of which no two name one cell name it by one operation
+pub opened-alike : (gs : List Open) → NamedOnce gs → (o p : Operation) (c : Cell) → opened gs o c ≡ true → opened gs p c ≡ true → o ≡ p
+opened-alike [] once o p c h k = absurd (true≢false (sym h))
+opened-alike (g ∷ gs) once o p c h k =
+    elim (or_true (opened gs o c) (same_fold g.op o && has_cell g.cells c) h) [
+      | inl outer ↦ elim (or_true (opened gs p c) (same_fold g.op p && has_cell g.cells c) k) [
+        | inl other ↦ opened-alike gs once.1 o p c outer other
+        | inr here ↦ absurd (true≢false (sym outer ∙ once.0 o c (and_right (same_fold g.op p) (has_cell g.cells c) here)))
+      ]
+      | inr here ↦ elim (or_true (opened gs p c) (same_fold g.op p && has_cell g.cells c) k) [
+        | inl outer ↦ absurd (true≢false (sym outer ∙ once.0 p c (and_right (same_fold g.op o) (has_cell g.cells c) here)))
+        | inr other ↦ sym (one-op g.op o (and_left (same_fold g.op o) (has_cell g.cells c) here)) ∙ one-op g.op p (and_left (same_fold g.op p) (has_cell g.cells c) other)
+      ]
     ]
 
 -- ---- the children, one more
@@ -76,7 +95,7 @@ kids-more waiting kids new test h =
 
 module _ (r : Region) (p : IsPlaced r) (d : List Use) (b rest : Body) (was : r.rest ≡ Next (Task d b) rest)
     (clean : (own : Declared) → own ≡ r.own → IsClean own (opened r.groups) (children_of (unawaited r.waiting r.children)) (Task d b))
-    (exclusive : (c : Cell) → adds_to (Some d) c ≡ true → allows (Some d) (use_as Reads c) ≡ false)
+    (exclusive : (o : Operation) (c : Cell) → folds_to (Some d) o c ≡ true → OnlyFolds o (Some d) c)
   where
     abbrev pub next : Region
     next = with_child d (with_rest rest r)
@@ -93,25 +112,41 @@ module _ (r : Region) (p : IsPlaced r) (d : List Use) (b rest : Body) (was : r.r
     may : (u : Use) → allows (Some d) u ≡ true → allows r.own u ≡ true
     may u h = child_fits r.own (opened r.groups) d p.writes exceed misfit u h
 
-    sum_new : (c : Cell) → adds_to (Some d) c ≡ true → (adds_to r.own c ≡ true) ⊎ (sums_in r.groups new c ≡ true)
-    sum_new c h = ⊎_elim (λ e. inl e) (λ e. inr (opened-sums r.groups d (map (λ o. o.group) r.groups) c (λ g k. k) e)) (fits-adds r.own (opened r.groups) d c misfit h)
+    fits : (o : Operation) (c : Cell) → folds_to (Some d) o c ≡ true → (folds_to r.own o c ≡ true) ⊎ (opened r.groups o c ≡ true)
+    fits o c h = fits-folds r.own (opened r.groups) d o c misfit h
 
-    -- the new child reads nothing that an older one adds to
+    sum_new : (o : Operation) (c : Cell) → folds_to (Some d) o c ≡ true → (folds_to r.own o c ≡ true) ⊎ (sums_in r.groups new o c ≡ true)
+    sum_new o c h = ⊎_elim (λ e. inl e) (λ e. inr (opened-sums r.groups d (map (λ o. o.group) r.groups) o c (λ g k. k) e)) (fits o c h)
+
+    -- of a cell of an open group the new child may do no more than fold by the group's operation
+    only_new : (o : Operation) (c : Cell) → opened r.groups o c ≡ true → OnlyFolds o (Some d) c
+    only_new o c here m h = by m h
+      where
+        unread : allows (Some d) (use_as Reads c) ≡ false
+        unread = fits-reads r.own (opened r.groups) d o c misfit here
+
+        by : (m : Mode) → allows (Some d) (use_as m c) ≡ true → m ≡ Folds o
+        by Reads h = absurd (true≢false (sym h ∙ unread))
+        by Writes h = absurd (true≢false (sym (writes-all (Some d) c Reads h) ∙ unread))
+        by (Folds q) h = ⊎_elim (λ own. absurd (only-unwritten q r.own c (p.exclusive q c own) (p.writes o c here)))
+            (λ grouped. ap Folds (opened-alike r.groups p.once q o c grouped here)) (fits q c (declares-fold d q c h unread))
+
+    -- the new child folds by the same operation what an older one folds, and does nothing else with it
     new_old : (k : ℕ) (s : Sibling) → slice_get r.children k ≡ Some s → s.finished ≡ false → DontMix d s.uses
-    new_old k s there alive c reads adds =
-        ⊎_elim (λ own. true≢false (sym (may (use_as Reads c) reads) ∙ p.exclusive c own))
-        (λ grouped. true≢false (sym reads ∙ fits-reads r.own (opened r.groups) d c misfit (sums-opened r.groups s c grouped)))
-        (p.sums k s there alive c adds)
+    new_old k s there alive o c folds m h =
+        ⊎_elim (λ own. p.exclusive o c own m (may (use_as m c) h))
+        (λ grouped. only_new o c (sums-opened r.groups s o c grouped) m h)
+        (p.sums k s there alive o c folds)
 
-    -- and adds to nothing that an older one reads
+    -- and folds nothing that an older one uses otherwise
     old_new : (k : ℕ) (s : Sibling) → slice_get r.children k ≡ Some s → s.finished ≡ false → DontMix s.uses d
-    old_new k s there alive c reads adds =
-        ⊎_elim (λ own. true≢false (sym (p.within k s there (use_as Reads c) reads) ∙ p.exclusive c own))
-        (λ grouped. true≢false (sym reads ∙ p.reduced k s there alive c grouped))
-        (fits-adds r.own (opened r.groups) d c misfit adds)
+    old_new k s there alive o c folds m h =
+        ⊎_elim (λ own. p.exclusive o c own m (p.within k s there (use_as m c) h))
+        (λ grouped. p.reduced k s there alive o c grouped m h)
+        (fits o c folds)
 
     own_new : DontMix d d
-    own_new c reads adds = true≢false (sym reads ∙ exclusive c adds)
+    own_new = exclusive
 
     pub placed-parent : IsFineAt next.own (unawaited next.waiting next.children) next.rest next.groups
         → ((uses : List Use) → r.own ≡ Some uses → AwaitsAll (unawaited next.waiting next.children) next.rest next.groups) → IsPlaced next
@@ -126,9 +161,8 @@ module _ (r : Region) (p : IsPlaced r) (d : List Use) (b rest : Body) (was : r.r
       shut = p.shut;
       once = p.once;
       writes = p.writes;
-      sums = more-place (λ k s. s.finished ≡ false → (c : Cell) → adds_to (Some s.uses) c ≡ true → (adds_to r.own c ≡ true) ⊎ (sums_in r.groups s c ≡ true)) r.children new p.sums (λ alive. sum_new);
-      reduced = more-place (λ k s. s.finished ≡ false → (c : Cell) → opened r.groups c ≡ true → allows (Some s.uses) (use_as Reads c) ≡ false) r.children new p.reduced
-          (λ alive c. fits-reads r.own (opened r.groups) d c misfit);
+      sums = more-place (λ k s. s.finished ≡ false → (o : Operation) (c : Cell) → folds_to (Some s.uses) o c ≡ true → (folds_to r.own o c ≡ true) ⊎ (sums_in r.groups s o c ≡ true)) r.children new p.sums (λ alive. sum_new);
+      reduced = more-place (λ k s. s.finished ≡ false → (o : Operation) (c : Cell) → opened r.groups o c ≡ true → OnlyFolds o (Some s.uses) c) r.children new p.reduced (λ alive. only_new);
       exclusive = p.exclusive;
     }
       where

@@ -2,10 +2,11 @@
 use Rattle.std.proofs.Common.{◌≡◌, ℕ, zero, suc, Bool, true, false, List, [], ◌∷◌, ◌++◌, refl}
 use Rattle.std.specs.Prelude.{Option, Some, None, if◌then◌else◌, nat_lt, All}
 use Rattle.std.proofs.lemmas.List.Elements.{All-nil, All-cons, All-tail}
-use Rattle.ot_model.specs.Tree.{Set, Add, If, Task, Wait, Group, Body, End, Next}
+use Rattle.ot_model.specs.Tree.{Set, Fold, If, Task, Wait, Group, Body, End, Next}
 use Rattle.ot_model.specs.Cells.{updated}
 use Rattle.ot_model.specs.declared.stmt.Use.{Use}
 use Rattle.ot_model.specs.declared.expr.Cell.{Cell}
+use Rattle.ot_model.specs.declared.fold.Fold.{Fold as Operation}
 use Rattle.ot_owner.specs.Leases.{Lease}
 use Rattle.ot_task.specs.Place.{Open}
 use Rattle.ot_task.specs.Regions.{Region, with_child, new_region, with_created, stepped, stepped_from, executed, next_task, rest_at, children_at, over, stopped, without}
@@ -42,7 +43,7 @@ module _ (P : Open → Type 0) where
   each-begun worker lease rs i old = at-each Each rs i (begun worker lease) old (each-passed (at rs i).rest (at rs i).groups (old i))
 
   module _ (taken : Bool) (g i : ℕ) (rs : List Region) (old : (k : ℕ) → All P (at rs k).groups)
-      (new : (cs : List Cell) (b rest : Body) → (at rs i).rest ≡ Next (Group cs b) rest → P (record { group = g; cells = cs; behind = rest })) where
+      (new : (op : Operation) (cs : List Cell) (b rest : Body) → (at rs i).rest ≡ Next (Group op cs b) rest → P (record { group = g; op = op; cells = cs; behind = rest })) where
     each-told : (k : ℕ) → All P (at (told_parent i rs) k).groups
     each-told = by (nat_lt 0 i)
       where
@@ -56,11 +57,11 @@ module _ (P : Open → Type 0) where
         by : (b : Body) → (at rs i).rest ≡ b → All P (stepped_from taken g b (at rs i)).groups
         by End was = old i
         by (Next (Set c e) rest) was = old i
-        by (Next (Add c e) rest) was = old i
+        by (Next (Fold op c e) rest) was = old i
         by (Next (If e a b) rest) was = old i
         by (Next (Task d b) rest) was = old i
         by (Next Wait rest) was = old i
-        by (Next (Group cs b) rest) was = All-cons P (record { group = g; cells = cs; behind = rest }) (at rs i).groups (new cs b rest was) (old i)
+        by (Next (Group op cs b) rest) was = All-cons P (record { group = g; op = op; cells = cs; behind = rest }) (at rs i).groups (new op cs b rest was) (old i)
 
     each-created : (child : Option (List Use × Body)) (k : ℕ) → All P (at (with_created i child (updated rs i (stepped taken g))) k).groups
     each-created None = each-stepped

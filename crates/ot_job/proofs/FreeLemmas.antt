@@ -4,20 +4,21 @@ use Rattle.std.specs.Prelude.{Some, None, slice_get, if◌then◌else◌, IsTrue
 use Rattle.std.specs.List.{list_any}
 use Rattle.std.proofs.lemmas.Bool.{cases_lt}
 use Rattle.ot_check.specs.declared.fault.Offence.TheVariants.{NotDeclared}
-use Rattle.ot_model.specs.Tree.{Set, Add, If, Task, Wait, Group, Body, End, Next, append}
+use Rattle.ot_model.specs.Tree.{Set, Fold, If, Task, Wait, Group, Body, End, Next, append}
 use Rattle.ot_model.specs.Names.{NamedIn}
-use Rattle.ot_model.specs.Uses.{Precedes, AreInOrder, Conflict, conflicts, is_adds, mode_in}
+use Rattle.ot_model.specs.Uses.{Precedes, AreInOrder, Conflict, conflicts, mode_in}
 use Rattle.ot_model.specs.declared.expr.Cell.{Cell}
+use Rattle.ot_model.specs.declared.fold.Fold.{Fold as Operation}
 use Rattle.ot_model.specs.declared.stmt.Mode.{Mode}
-use Rattle.ot_model.specs.declared.stmt.Mode.TheVariants.{Reads, Writes, Adds}
+use Rattle.ot_model.specs.declared.stmt.Mode.TheVariants.{Reads, Writes, Folds}
 use Rattle.ot_model.specs.declared.stmt.Use.{Use}
 use Rattle.ot_depend.specs.Siblings.{Sibling, is_unfinished, is_in}
 use Rattle.ot_check.specs.Paths.{use_as}
-use Rattle.ot_check.specs.Offences.{Declared, allows, covers, adds_to, has_cell}
+use Rattle.ot_check.specs.Offences.{Declared, Openings, allows, covers, folds_by, folds_to}
 use Rattle.ot_check.specs.walk.Walk.{Children}
 use Rattle.ot_model.specs.Cells.{same_cell}
 use Rattle.ot_check.specs.Touches.{Agree}
-use Rattle.ot_check.proofs.Bits.{or_true, true_or, or_right, and_left}
+use Rattle.ot_check.proofs.Bits.{or_true, true_or, or_right}
 use Rattle.ot_check.specs.walk.Fine.{IsFine}
 use Rattle.ot_job.specs.Rights.{IsRight}
 use Rattle.ot_task.specs.Place.{Open, todo}
@@ -31,13 +32,15 @@ use Rattle.ot_task.proofs.CellLemmas.{same_self}
 use Rattle.ot_job.proofs.RightsLemmas.{right_apart, right_may, rights_apart}
 use Rattle.ot_task.specs.Regions.{Region, Run}
 use Rattle.ot_job.specs.Numbered.{at, parent_of, todo_at, ended_at, parents}
-use Rattle.ot_job.specs.Sound.{may_at, sums_in, IsBegun, IsPlaced, IsSound}
+use Rattle.ot_job.specs.Sound.{may_at, IsBegun, IsPlaced, IsSound}
 use Rattle.ot_task.specs.Pieces.{test_of}
 use Rattle.ot_task.specs.Touched.{piece_touches, assign_touches, test_touches}
 use Rattle.ot_job.specs.Running.{RunsWell}
 use Rattle.ot_job.specs.Whole.{assigns_out, whole, wholes}
 use Rattle.ot_job.proofs.SoundLemmas.{sound, at-past}
 use Rattle.ot_job.proofs.KeptLemmas.{here, family_of}
+use Rattle.ot_job.proofs.CreatedLemmas.{sums-opened}
+use Rattle.ot_job.proofs.FoldLemmas.{held-alike}
 use Rattle.ot_job.proofs.GroupLemmas.{kid-none}
 use Rattle.ot_job.proofs.HoldsLemmas.{Among, among-split, held-right, each-assign, each-test}
 
@@ -113,13 +116,13 @@ none-conflict us vs ou ov agree c =
 
 -- ---- what a body may do
 
-allowed-writes : (own : Declared) (c : Cell) → allows own (use_as Adds c) ≡ true → adds_to own c ≡ false → allows own (use_as Writes c) ≡ true
-allowed-writes None c may none = refl
-allowed-writes (Some []) c may none = may
-allowed-writes (Some (d ∷ us)) c may none =
-    elim (or_true (same_cell d.cell c && covers d.mode Adds) (allows (Some us) (use_as Adds c)) may) [
-      | inl h ↦ true_or (same_cell d.cell c && covers d.mode Writes) (allows (Some us) (use_as Writes c)) (one (same_cell d.cell c) d.mode h (left (same_cell d.cell c && is_adds d.mode) (adds_to (Some us) c) none))
-      | inr h ↦ or_right (same_cell d.cell c && covers d.mode Writes) (allows (Some us) (use_as Writes c)) (allowed-writes (Some us) c h (right (same_cell d.cell c && is_adds d.mode) (adds_to (Some us) c) none))
+allowed-writes : (own : Declared) (o : Operation) (c : Cell) → allows own (use_as (Folds o) c) ≡ true → folds_to own o c ≡ false → allows own (use_as Writes c) ≡ true
+allowed-writes None o c may none = refl
+allowed-writes (Some []) o c may none = may
+allowed-writes (Some (d ∷ us)) o c may none =
+    elim (or_true (same_cell d.cell c && covers d.mode (Folds o)) (allows (Some us) (use_as (Folds o) c)) may) [
+      | inl h ↦ true_or (same_cell d.cell c && covers d.mode Writes) (allows (Some us) (use_as Writes c)) (one (same_cell d.cell c) d.mode h (left (same_cell d.cell c && folds_by o d.mode) (folds_to (Some us) o c) none))
+      | inr h ↦ or_right (same_cell d.cell c && covers d.mode Writes) (allows (Some us) (use_as Writes c)) (allowed-writes (Some us) o c h (right (same_cell d.cell c && folds_by o d.mode) (folds_to (Some us) o c) none))
     ]
   where
     left : (a b : Bool) → (a || b) ≡ false → a ≡ false
@@ -130,49 +133,41 @@ allowed-writes (Some (d ∷ us)) c may none =
     right true b h = absurd (true≢false h)
     right false b h = h
 
-    one : (b : Bool) (m : Mode) → (b && covers m Adds) ≡ true → (b && is_adds m) ≡ false → (b && covers m Writes) ≡ true
+    one : (b : Bool) (m : Mode) → (b && covers m (Folds o)) ≡ true → (b && folds_by o m) ≡ false → (b && covers m Writes) ≡ true
     one true Reads h n = absurd (true≢false (sym h))
     one true Writes h n = refl
-    one true Adds h n = absurd (true≢false n)
+    one true (Folds p) h n = absurd (true≢false (sym h ∙ n))
     one false m h n = h
-
-sums-opened : (gs : List Open) (s : Sibling) (c : Cell) → sums_in gs s c ≡ true → opened gs c ≡ true
-sums-opened [] s c h = absurd (true≢false (sym h))
-sums-opened (o ∷ os) s c h =
-    elim (or_true (has_cell o.cells c && is_in o.group s) (sums_in os s c) h) [
-      | inl e ↦ or_right (opened os c) (has_cell o.cells c) (and_left (has_cell o.cells c) (is_in o.group s) e)
-      | inr e ↦ true_or (opened os c) (has_cell o.cells c) (sums-opened os s c e)
-    ]
 
 -- ---- a piece's touches are no offence
 
-module _ (lens : List ℕ) (own : Declared) (op : Cell → Bool) (ch : Children) where
-  test-safe : (b : Body) → NamedIn lens b → IsFine own op ch b → (u : Use) → Among u (test_touches (test_of b)) → IsHarmless own op ch u
+module _ (lens : List ℕ) (own : Declared) (groups : Openings) (ch : Children) where
+  test-safe : (b : Body) → NamedIn lens b → IsFine own groups ch b → (u : Use) → Among u (test_touches (test_of b)) → IsHarmless own groups ch u
   test-safe End n f u k = absurd k
   test-safe (Next (Set c e) rest) n f u k = absurd k
-  test-safe (Next (Add c e) rest) n f u k = absurd k
-  test-safe (Next (If e a b) rest) n f u k = each-test (IsHarmless own op ch) e (harmless_if lens own op ch e a b rest n.0.0 f) u k
+  test-safe (Next (Fold op c e) rest) n f u k = absurd k
+  test-safe (Next (If e a b) rest) n f u k = each-test (IsHarmless own groups ch) e (harmless_if lens own groups ch e a b rest n.0.0 f) u k
   test-safe (Next (Task d b) rest) n f u k = absurd k
   test-safe (Next Wait rest) n f u k = absurd k
-  test-safe (Next (Group cs b) rest) n f u k = absurd k
+  test-safe (Next (Group op cs b) rest) n f u k = absurd k
 
-  pub fine-behind : (piece rest : Body) → AreAssigns piece → IsFine own op ch (append piece rest) → IsFine own op ch rest
+  pub fine-behind : (piece rest : Body) → AreAssigns piece → IsFine own groups ch (append piece rest) → IsFine own groups ch rest
   fine-behind End rest only f = f
   fine-behind (Next (Set c e) more) rest only f = fine-behind more rest only f.2
-  fine-behind (Next (Add c e) more) rest only f = fine-behind more rest only f.2
+  fine-behind (Next (Fold op c e) more) rest only f = fine-behind more rest only f.2
   fine-behind (Next (If e a b) more) rest only f = absurd only
   fine-behind (Next (Task d b) more) rest only f = absurd only
   fine-behind (Next Wait more) rest only f = absurd only
-  fine-behind (Next (Group cs b) more) rest only f = absurd only
+  fine-behind (Next (Group op cs b) more) rest only f = absurd only
 
   pub named-both : (piece rest : Body) → NamedIn lens (append piece rest) → NamedIn lens piece × NamedIn lens rest
   named-both End rest n = (tt, n)
   named-both (Next x more) rest n = let w = named-both more rest n.1 in ((n.0, w.0), w.1)
 
-  pub piece-safe : (piece rest : Body) → AreAssigns piece → NamedIn lens (append piece rest) → IsFine own op ch (append piece rest) → (u : Use) → Among u (piece_touches piece (test_of rest)) → IsHarmless own op ch u
+  pub piece-safe : (piece rest : Body) → AreAssigns piece → NamedIn lens (append piece rest) → IsFine own groups ch (append piece rest) → (u : Use) → Among u (piece_touches piece (test_of rest)) → IsHarmless own groups ch u
   piece-safe piece rest only n f u k =
       let w = named-both piece rest n in
-      ⊎_elim (each-assign (IsHarmless own op ch) piece (harmless lens own op ch piece rest only w.0 f) u)
+      ⊎_elim (each-assign (IsHarmless own groups ch) piece (harmless lens own groups ch piece rest only w.0 f) u)
       (test-safe rest w.1 (fine-behind piece rest only f) u)
       (among-split u (assign_touches piece) (test_touches (test_of rest)) k)
 
@@ -219,7 +214,7 @@ module _ (lens : List ℕ) (r : Region) (p : IsPlaced (whole r)) (named : NamedI
       by false h = absurd (true≢false h)
 
   pub right-of : (u : Use) → mode_in run.lease.uses u.cell ≡ Some u.mode → IsRight r.own Touched u
-  right-of u h = held-right r.own u.cell (piece_touches run.assigns (test_of r.rest)) u.mode (sym (w.modes u.cell) ∙ h)
+  right-of u h = held-right r.own u.cell (held-alike r.own u.cell (λ o. p.exclusive o u.cell)) (piece_touches run.assigns (test_of r.rest)) u.mode (sym (w.modes u.cell) ∙ h)
 
   pub piece-may : (u : Use) → mode_in run.lease.uses u.cell ≡ Some u.mode → allows r.own u ≡ true
   piece-may u h =
@@ -229,7 +224,7 @@ module _ (lens : List ℕ) (r : Region) (p : IsPlaced (whole r)) (named : NamedI
   piece-meets k s there alive u v h may =
       right_apart r.own (opened r.groups) (children_of (unawaited r.waiting r.children)) Touched safe s.uses
       (λ test none. kid-none r.children (λ x. test x.uses) k s (subst (λ b. (not b && list_any (λ x. is_unfinished x && test x.uses) r.children) ≡ false) w.calm none) there alive)
-      (λ c adds. ⊎_elim inl (λ e. inr (sums-opened r.groups s c e)) (p.sums k s there alive c adds))
+      (λ o c folds. ⊎_elim inl (λ e. inr (sums-opened r.groups s o c e)) (p.sums k s there alive o c folds))
       u.cell u.mode v (right-of u h) may
 
 -- ---- two pieces

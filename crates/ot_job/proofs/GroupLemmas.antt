@@ -4,19 +4,21 @@ use Rattle.std.specs.Prelude.{Some, slice_get}
 use Rattle.std.specs.List.{list_any}
 use Rattle.ot_model.specs.Tree.{S, Body, End, Next, Group, append}
 use Rattle.ot_model.specs.declared.expr.Cell.{Cell}
-use Rattle.ot_model.specs.Uses.{conflicts}
+use Rattle.ot_model.specs.declared.fold.Fold.{Fold as Operation}
+use Rattle.ot_model.specs.Uses.{conflicts, same_fold}
 use Rattle.ot_model.specs.declared.stmt.Mode.{Mode}
-use Rattle.ot_model.specs.declared.stmt.Mode.TheVariants.{Reads, Writes, Adds}
+use Rattle.ot_model.specs.declared.stmt.Mode.TheVariants.{Reads, Writes, Folds}
 use Rattle.ot_model.specs.declared.stmt.Use.{Use}
 use Rattle.ot_depend.specs.Siblings.{Sibling, is_unfinished, is_in}
 use Rattle.ot_check.specs.Paths.{use_as}
 use Rattle.ot_check.specs.Touches.{EachTouch, EachTask}
-use Rattle.ot_check.specs.Offences.{Declared, allows, clashes, has_cell}
+use Rattle.ot_check.specs.Offences.{allows, clashes, has_cell, opened_by_any}
 use Rattle.ot_model.specs.Cells.{same_cell}
 use Rattle.ot_check.specs.declared.fault.Offence.TheVariants.{ReductionMisuse, ConflictsWithChild}
-use Rattle.ot_check.proofs.Bits.{or_true, true_or, or_right, or_false_left, or_false_right}
+use Rattle.ot_check.proofs.Bits.{or_true, true_or, or_right, and_right, or_false_left, or_false_right}
 use Rattle.ot_check.proofs.OffenceLemmas.{is_offence-Group}
-use Rattle.ot_check.proofs.InsideLemmas.{groups_inside}
+use Rattle.ot_check.proofs.InsideLemmas.{group_free, groups_inside}
+use Rattle.ot_check.proofs.OpeningLemmas.{opened-none}
 use Rattle.ot_check.specs.walk.Fine.{IsClean}
 use Rattle.ot_task.specs.Place.{Open, todo}
 use Rattle.ot_job.specs.Awaiting.{opened, children_of, IsFineAt, AwaitsAll, unawaited}
@@ -49,7 +51,7 @@ kid-none (x ∷ kids) test (suc k) s free there alive = kid-none kids test k s (
 pub writes-agree : (m : Mode) → conflicts Writes m ≡ false → ⊥
 writes-agree Reads h = true≢false h
 writes-agree Writes h = true≢false h
-writes-agree Adds h = true≢false h
+writes-agree (Folds o) h = true≢false h
 
 -- a group names no cell that an unfinished child may use
 pub unused : (cs : List Cell) (kids : List Sibling) (k : ℕ) (s : Sibling) (c : Cell) → list_any (λ c. unawaited false kids (λ s. clashes (use_as Writes c) s.uses)) cs ≡ false
@@ -68,49 +70,41 @@ unused (d ∷ cs) kids k s c free there alive named m =
     never true h = absurd (h refl)
     never false h = refl
 
--- a group names no cell that an open one names
-pub unopened : (own : Declared) (op : Cell → Bool) (cs : List Cell) (c : Cell) → list_any (λ d. not (allows own (use_as Writes d)) || op d) cs ≡ false → has_cell cs c ≡ true → op c ≡ false
-unopened own op [] c free named = absurd (true≢false (sym named))
-unopened own op (d ∷ cs) c free named =
-    elim (or_true (same_cell d c) (has_cell cs c) named) [
-      | inl here ↦ subst (λ (e : Cell). op e ≡ false) (same_is d c here)
-          (or_false_right (not (allows own (use_as Writes d))) (op d) (or_false_left (not (allows own (use_as Writes d)) || op d) (list_any (λ d. not (allows own (use_as Writes d)) || op d) cs) free))
-      | inr later ↦ unopened own op cs c (or_false_right (not (allows own (use_as Writes d)) || op d) (list_any (λ d. not (allows own (use_as Writes d)) || op d) cs) free) later
-    ]
-
 module _ (r : Region) (p : IsPlaced r) where
-  pub placed-enter : (g : ℕ) (cs : List Cell) (b rest : Body) → r.rest ≡ Next (Group cs b) rest → r.waiting ≡ false
-      → IsClean r.own (opened r.groups) (children_of (unawaited r.waiting r.children)) (Group cs b)
-      → IsFineAt r.own (unawaited r.waiting r.children) b (record { group = g; cells = cs; behind = rest } ∷ r.groups)
-      → ((uses : List Use) → r.own ≡ Some uses → AwaitsAll (unawaited r.waiting r.children) b (record { group = g; cells = cs; behind = rest } ∷ r.groups))
-      → IsPlaced (inside g cs b (with_rest rest r))
-  placed-enter g cs b rest was calm clean fine awaits = record {
+  pub placed-enter : (g : ℕ) (op : Operation) (cs : List Cell) (b rest : Body) → r.rest ≡ Next (Group op cs b) rest → r.waiting ≡ false
+      → IsClean r.own (opened r.groups) (children_of (unawaited r.waiting r.children)) (Group op cs b)
+      → IsFineAt r.own (unawaited r.waiting r.children) b (record { group = g; op = op; cells = cs; behind = rest } ∷ r.groups)
+      → ((uses : List Use) → r.own ≡ Some uses → AwaitsAll (unawaited r.waiting r.children) b (record { group = g; op = op; cells = cs; behind = rest } ∷ r.groups))
+      → IsPlaced (inside g op cs b (with_rest rest r))
+  placed-enter g op cs b rest was calm clean fine awaits = record {
     fine = fine;
-    inside = let t = subst (EachTouch (λ u. allows r.own u ≡ true)) (ap (λ x. todo x r.groups) was ∙ todo-next (Group cs b) rest r.groups) p.inside in
+    inside = let t = subst (EachTouch (λ u. allows r.own u ≡ true)) (ap (λ x. todo x r.groups) was ∙ todo-next (Group op cs b) rest r.groups) p.inside in
         touch-append (λ u. allows r.own u ≡ true) b (todo rest r.groups) t.0 t.1;
-    tasks = let t = subst (EachTask LetsAll) (ap (λ x. todo x r.groups) was ∙ todo-next (Group cs b) rest r.groups) p.tasks in
+    tasks = let t = subst (EachTask LetsAll) (ap (λ x. todo x r.groups) was ∙ todo-next (Group op cs b) rest r.groups) p.tasks in
         task-append LetsAll b (todo rest r.groups) t.0 t.1;
     awaits = awaits;
     within = p.within;
     apart = p.apart;
-    over = λ e. absurd (never (sym (sym (ap (λ x. todo x r.groups) was ∙ todo-next (Group cs b) rest r.groups) ∙ p.over e)));
-    shut = λ e. absurd (never (sym (sym (ap (λ x. todo x r.groups) was ∙ todo-next (Group cs b) rest r.groups) ∙ p.over e)));
-    once = ((λ c. unopened r.own (opened r.groups) cs c fits), p.once);
-    writes = groups_inside r.own (opened r.groups) cs p.writes fits;
-    sums = λ k s there alive c adds. ⊎_elim (λ e. inl e) (λ e. inr (or_right (has_cell cs c && is_in g s) (sums_in r.groups s c) e)) (p.sums k s there alive c adds);
-    reduced = λ k s there alive c here. ⊎_elim (λ e. p.reduced k s there alive c e) (λ e. unused cs r.children k s c awaited there alive e Reads) (or_true (opened r.groups c) (has_cell cs c) here);
+    over = λ e. absurd (never (sym (sym (ap (λ x. todo x r.groups) was ∙ todo-next (Group op cs b) rest r.groups) ∙ p.over e)));
+    shut = λ e. absurd (never (sym (sym (ap (λ x. todo x r.groups) was ∙ todo-next (Group op cs b) rest r.groups) ∙ p.over e)));
+    once = ((λ o c named. opened-none (opened r.groups) o c (group_free r.own (opened r.groups) cs c fits named)), p.once);
+    writes = groups_inside r.own (opened r.groups) op cs p.writes fits;
+    sums = λ k s there alive o c folds. ⊎_elim (λ e. inl e) (λ e. inr (or_right ((same_fold op o && has_cell cs c) && is_in g s) (sums_in r.groups s o c) e)) (p.sums k s there alive o c folds);
+    reduced = λ k s there alive o c here. ⊎_elim (λ e. p.reduced k s there alive o c e)
+        (λ e m may. absurd (true≢false (sym may ∙ unused cs r.children k s c awaited there alive (and_right (same_fold op o) (has_cell cs c) e) m)))
+        (or_true (opened r.groups o c) (same_fold op o && has_cell cs c) here);
     exclusive = p.exclusive;
   }
     where
       never : {x : S} {y : Body} → End ≡ Next x y → ⊥
       never e = cc
 
-      fits : list_any (λ c. not (allows r.own (use_as Writes c)) || opened r.groups c) cs ≡ false
-      fits = sym (is_offence-Group r.own (opened r.groups) (children_of (unawaited r.waiting r.children)) cs b ReductionMisuse) ∙ clean ReductionMisuse
+      fits : list_any (λ c. not (allows r.own (use_as Writes c)) || opened_by_any (opened r.groups) c) cs ≡ false
+      fits = sym (is_offence-Group r.own (opened r.groups) (children_of (unawaited r.waiting r.children)) op cs b ReductionMisuse) ∙ clean ReductionMisuse
 
       awaited : list_any (λ c. unawaited false r.children (λ s. clashes (use_as Writes c) s.uses)) cs ≡ false
       awaited = ap (λ w. list_any (λ c. unawaited w r.children (λ s. clashes (use_as Writes c) s.uses)) cs) (sym calm)
-          ∙ sym (is_offence-Group r.own (opened r.groups) (children_of (unawaited r.waiting r.children)) cs b ConflictsWithChild) ∙ clean ConflictsWithChild
+          ∙ sym (is_offence-Group r.own (opened r.groups) (children_of (unawaited r.waiting r.children)) op cs b ConflictsWithChild) ∙ clean ConflictsWithChild
 
   pub placed-leave : (o : Open) (os : List Open) → r.rest ≡ End → r.groups ≡ o ∷ os
       → ((k : ℕ) (s : Sibling) → slice_get r.children k ≡ Some s → s.finished ≡ false → is_in o.group s ≡ false)
@@ -126,10 +120,10 @@ module _ (r : Region) (p : IsPlaced r) where
     over = λ e. sym same ∙ p.over e;
     shut = λ e. absurd (some-groups (sym here ∙ p.shut e));
     once = (subst NamedOnce here p.once).1;
-    writes = λ c h. p.writes c (ap (λ gs. opened gs c) here ∙ true_or (opened os c) (has_cell o.cells c) h);
-    sums = λ k s there alive c adds. ⊎_elim (λ e. inl e)
-        (λ e. inr (outer (has_cell o.cells c) (is_in o.group s) (sums_in os s c) (none k s there alive) (sym (ap (λ gs. sums_in gs s c) here) ∙ e))) (p.sums k s there alive c adds);
-    reduced = λ k s there alive c h. p.reduced k s there alive c (ap (λ gs. opened gs c) here ∙ true_or (opened os c) (has_cell o.cells c) h);
+    writes = λ by c h. p.writes by c (ap (λ gs. opened gs by c) here ∙ true_or (opened os by c) (same_fold o.op by && has_cell o.cells c) h);
+    sums = λ k s there alive by c folds. ⊎_elim (λ e. inl e)
+        (λ e. inr (outer (same_fold o.op by && has_cell o.cells c) (is_in o.group s) (sums_in os s by c) (none k s there alive) (sym (ap (λ gs. sums_in gs s by c) here) ∙ e))) (p.sums k s there alive by c folds);
+    reduced = λ k s there alive by c h. p.reduced k s there alive by c (ap (λ gs. opened gs by c) here ∙ true_or (opened os by c) (same_fold o.op by && has_cell o.cells c) h);
     exclusive = p.exclusive;
   }
     where

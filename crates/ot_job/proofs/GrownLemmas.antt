@@ -28,7 +28,7 @@ use Rattle.ot_job.proofs.ChangedLemmas.{sound-changed, begun-changed}
 use Rattle.ot_job.proofs.FreeLemmas.{fine-innermost}
 use Rattle.ot_job.proofs.CreatedLemmas.{group_self, kids-more, placed-parent}
 use Rattle.ot_job.proofs.KinLemmas.{child, more, long, at-fresh, at-parent, at-others, same-field, get-within, kin-more, begun-more}
-use Rattle.ot_job.proofs.OwnLemmas.{adds-alone}
+use Rattle.ot_job.proofs.OwnLemmas.{folds-alone}
 
 first_group : (gs : List Open) (o : Open) (more : List Open) (uses : List Use) → gs ≡ o ∷ more → is_in o.group (created uses (map (λ p. p.group) gs)) ≡ true
 first_group gs o os uses is = subst (λ ps. is_in o.group (created uses (map (λ p. p.group) ps)) ≡ true) (sym is) (true_or (o.group == o.group) _ (group_self o.group))
@@ -75,7 +75,7 @@ module _ (r : Region) (p : IsPlaced r) (alive : r.ended ≡ false) (uses : List 
   -- the child is noted
   pub placed-noted : IsPlaced (with_child uses (with_rest rest r))
   placed-noted =
-      placed-parent r p uses body rest was (λ own is. subst (λ o. IsClean o (opened r.groups) (children_of (unawaited r.waiting r.children)) (Task uses body)) (sym is) innermost.0) (adds-alone uses ordered)
+      placed-parent r p uses body rest was (λ own is. subst (λ o. IsClean o (opened r.groups) (children_of (unawaited r.waiting r.children)) (Task uses body)) (sym is) innermost.0) (folds-alone uses ordered)
       (at-fewer r.own (unawaited r.waiting (r.children ++ new ∷ [])) (λ test. unawaited r.waiting r.children test || test new) rest r.groups (kids-more r.waiting r.children new) fine-next)
       (λ own is. awaits-fewer (unawaited r.waiting (r.children ++ new ∷ [])) (λ test. unawaited r.waiting r.children test || test new) rest r.groups (kids-more r.waiting r.children new) (awaits-next own is))
 
@@ -91,10 +91,10 @@ module _ (r : Region) (p : IsPlaced r) (alive : r.ended ≡ false) (uses : List 
     over = λ e. absurd (true≢false (sym e));
     shut = λ e. refl;
     once = tt;
-    writes = λ c h. absurd (true≢false (sym h));
+    writes = λ o c h. absurd (true≢false (sym h));
     sums = λ k s h. cc;
     reduced = λ k s h. cc;
-    exclusive = adds-alone uses ordered;
+    exclusive = folds-alone uses ordered;
   }
 
 -- ---- all regions

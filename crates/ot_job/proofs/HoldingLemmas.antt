@@ -3,26 +3,27 @@ use Rattle.std.proofs.Common.{◌≡◌, ℕ, zero, suc, Bool, true, false, not,
 use Rattle.std.specs.Prelude.{Option, Some, None, Contains, if◌then◌else◌}
 use Rattle.ot_model.specs.Names.{NamedIn}
 use Rattle.ot_model.specs.Cells.{lengths}
-use Rattle.ot_model.specs.Uses.{is_adds, mode_in}
+use Rattle.ot_model.specs.Uses.{mode_in}
 use Rattle.ot_model.specs.declared.expr.Cell.{Cell}
+use Rattle.ot_model.specs.declared.fold.Fold.{Fold as Operation}
 use Rattle.ot_model.specs.declared.stmt.Mode.{Mode}
-use Rattle.ot_model.specs.declared.stmt.Mode.TheVariants.{Reads, Writes, Adds}
+use Rattle.ot_model.specs.declared.stmt.Mode.TheVariants.{Reads, Writes, Folds}
 use Rattle.ot_model.specs.declared.stmt.Use.{Use}
 use Rattle.ot_check.specs.Paths.{use_as}
-use Rattle.ot_check.specs.Offences.{Declared, allows, adds_to}
+use Rattle.ot_check.specs.Offences.{Declared, allows, folds_to}
 use Rattle.ot_task.specs.Regions.{Region}
-use Rattle.ot_task.specs.Modes.{held, mode_held}
-use Rattle.ot_job.specs.Holding.{Touches, OnlyReads, Holds, touches_out, AllHold, AreApart}
+use Rattle.ot_task.specs.Modes.{held, held_as, mode_held}
+use Rattle.ot_job.specs.Holding.{Touches, OnlyReads, FoldsNone, Holds, touches_out, AllHold, AreApart}
 use Rattle.ot_job.specs.Live.{Live}
 use Rattle.ot_job.specs.Rights.{IsRight}
 use Rattle.ot_job.specs.Numbered.{at}
-use Rattle.ot_job.specs.Sound.{IsPlaced}
+use Rattle.ot_job.specs.Sound.{OnlyFolds, IsPlaced}
 use Rattle.ot_job.specs.Well.{IsOnCourse}
 use Rattle.ot_job.specs.Whole.{whole, wholes}
 use Rattle.ot_job.proofs.CoverLemmas.{Covers, covered}
+use Rattle.ot_job.proofs.FoldLemmas.{one-fold, held-alike, only-unread, only-unwritten}
 use Rattle.ot_job.proofs.FreeLemmas.{at-whole, named-front, touch-may, pieces_apart}
 use Rattle.ot_job.proofs.HoldsLemmas.{Among, held-right}
-use Rattle.ot_job.proofs.LetsLemmas.{writes-reads}
 
 -- ---- touches in a list
 
@@ -40,16 +41,19 @@ contained u (v ∷ us) (inr h) = let r = contained u us h in (suc r.0, omega (ar
 
 -- of a touch that is covered by what is read, the mode is Reads
 only-reads : (own : Declared) (u : Use) → Covers (Some Reads) (mode_held own u) → u.mode ≡ Reads
-only-reads own u h = by u.mode (adds_to own u.cell) refl h
+only-reads own u h = by u.mode refl h
   where
-    by : (m : Mode) (b : Bool) → u.mode ≡ m → Covers (Some Reads) (if is_adds m && not b then Writes else m) → u.mode ≡ Reads
-    by Reads b e h = e
-    by Writes b e h = absurd h
-    by Adds true e h = absurd h
-    by Adds false e h = absurd h
+    fold : (o : Operation) (b : Bool) → Covers (Some Reads) (if b then Folds o else Writes) → ⊥
+    fold o true h = h
+    fold o false h = h
+
+    by : (m : Mode) → u.mode ≡ m → Covers (Some Reads) (held_as own u.cell m) → u.mode ≡ Reads
+    by Reads e h = e
+    by Writes e h = absurd h
+    by (Folds o) e h = absurd (fold o (folds_to own o u.cell) h)
 
 module _ (own : Declared) (us d : List Use) (modes : (c : Cell) → mode_in d c ≡ held own us c)
-    (may : (u : Use) → Among u us → allows own u ≡ true) (exclusive : (c : Cell) → adds_to own c ≡ true → allows own (use_as Reads c) ≡ false) where
+    (may : (u : Use) → Among u us → allows own u ≡ true) (exclusive : (o : Operation) (c : Cell) → folds_to own o c ≡ true → OnlyFolds o own c) where
   abbrev Right : Mode → Cell → Type 0
   Right m c = IsRight own (λ u. Among u us) (use_as m c)
 
@@ -61,47 +65,48 @@ module _ (own : Declared) (us d : List Use) (modes : (c : Cell) → mode_in d c 
       by None e h = absurd h
       by (Some m) e h = (m, e)
 
-  never-reads : (c : Cell) → adds_to own c ≡ true → allows own (use_as Reads c) ≡ true → ⊥
-  never-reads c adds reads = true≢false (sym reads ∙ exclusive c adds)
+  is-right : (c : Cell) (m : Mode) → held own us c ≡ Some m → Right m c
+  is-right c = held-right own c (held-alike own c (λ o. exclusive o c)) us
 
-  held-adds : (c : Cell) (m : Mode) → adds_to own c ≡ true → Right m c → m ≡ Adds
-  held-adds c Reads adds t = absurd (never-reads c adds (may (use_as Reads c) t))
-  held-adds c Writes adds (inl t) = absurd (never-reads c adds (writes-reads own c (may (use_as Writes c) t)))
-  held-adds c Writes adds (inr t) = absurd (true≢false (sym adds ∙ t.1))
-  held-adds c Adds adds t = refl
+  held-folds : (o : Operation) (c : Cell) (m : Mode) → folds_to own o c ≡ true → Right m c → m ≡ Folds o
+  held-folds o c Reads folds t = absurd (only-unread o own c (exclusive o c folds) (may (use_as Reads c) t))
+  held-folds o c Writes folds (inl t) = absurd (only-unwritten o own c (exclusive o c folds) (may (use_as Writes c) t))
+  held-folds o c Writes folds (inr t) =
+      absurd (true≢false (sym folds ∙ subst (λ (p : Operation). folds_to own p c ≡ false) (one-fold t.0 o (exclusive o c folds (Folds t.0) (may (use_as (Folds t.0) c) t.1))) t.2))
+  held-folds o c (Folds p) folds t = exclusive o c folds (Folds p) (may (use_as (Folds p) c) t.0)
 
-  held-reads : (c : Cell) (m : Mode) → adds_to own c ≡ false → OnlyReads us c → Right m c → m ≡ Reads
+  held-reads : (c : Cell) (m : Mode) → FoldsNone own c → OnlyReads us c → Right m c → m ≡ Reads
   held-reads c Reads none only t = refl
   held-reads c Writes none only (inl t) = only (use_as Writes c) (contained (use_as Writes c) us t) refl
-  held-reads c Writes none only (inr t) = absurd (let same : Adds ≡ Reads = only (use_as Adds c) (contained (use_as Adds c) us t.0) refl in cc)
-  held-reads c Adds none only t = absurd (true≢false (sym t.1 ∙ none))
+  held-reads c Writes none only (inr t) = absurd (let same : Folds t.0 ≡ Reads = only (use_as (Folds t.0) c) (contained (use_as (Folds t.0) c) us t.1) refl in cc)
+  held-reads c (Folds o) none only t = absurd (true≢false (sym t.1 ∙ none o))
 
-  held-writes : (c : Cell) (m : Mode) → adds_to own c ≡ false → ¬ OnlyReads us c → held own us c ≡ Some m → Right m c → m ≡ Writes
+  held-writes : (c : Cell) (m : Mode) → FoldsNone own c → ¬ OnlyReads us c → held own us c ≡ Some m → Right m c → m ≡ Writes
   held-writes c Reads none other e t =
       absurd (other (λ u has is. only-reads own u (subst (λ o. Covers o (mode_held own u)) (ap (held own us) is ∙ e) (covered own us None u (among u us has)))))
   held-writes c Writes none other e t = refl
-  held-writes c Adds none other e t = absurd (true≢false (sym t.1 ∙ none))
+  held-writes c (Folds o) none other e t = absurd (true≢false (sym t.1 ∙ none o))
 
   untouched : (c : Cell) (m : Mode) → ¬ Touches us c → Right m c → ⊥
   untouched c Reads none t = none (use_as Reads c, contained (use_as Reads c) us t, refl)
   untouched c Writes none (inl t) = none (use_as Writes c, contained (use_as Writes c) us t, refl)
-  untouched c Writes none (inr t) = none (use_as Adds c, contained (use_as Adds c) us t.0, refl)
-  untouched c Adds none t = none (use_as Adds c, contained (use_as Adds c) us t.0, refl)
+  untouched c Writes none (inr t) = none (use_as (Folds t.0) c, contained (use_as (Folds t.0) c) us t.1, refl)
+  untouched c (Folds o) none t = none (use_as (Folds o) c, contained (use_as (Folds o) c) us t.0, refl)
 
   as-mode : (c : Cell) (m n : Mode) → held own us c ≡ Some m → m ≡ n → mode_in d c ≡ Some n
   as-mode c m n e same = modes c ∙ e ∙ ap Some same
 
   pub fold-holds : Holds own us d
   fold-holds = record {
-    adds = λ c t adds. let m = touched c t in as-mode c m.0 Adds m.1 (held-adds c m.0 adds (held-right own c us m.0 m.1));
-    reads = λ c t none only. let m = touched c t in as-mode c m.0 Reads m.1 (held-reads c m.0 none only (held-right own c us m.0 m.1));
-    writes = λ c t none other. let m = touched c t in as-mode c m.0 Writes m.1 (held-writes c m.0 none other m.1 (held-right own c us m.0 m.1));
+    folds = λ o c t folds. let m = touched c t in as-mode c m.0 (Folds o) m.1 (held-folds o c m.0 folds (is-right c m.0 m.1));
+    reads = λ c t none only. let m = touched c t in as-mode c m.0 Reads m.1 (held-reads c m.0 none only (is-right c m.0 m.1));
+    writes = λ c t none other. let m = touched c t in as-mode c m.0 Writes m.1 (held-writes c m.0 none other m.1 (is-right c m.0 m.1));
     others = λ c none. modes c ∙ by c none (held own us c) refl;
   }
     where
       by : (c : Cell) → ¬ Touches us c → (o : Option Mode) → held own us c ≡ o → o ≡ None
       by c none None e = refl
-      by c none (Some m) e = absurd (untouched c m none (held-right own c us m e))
+      by c none (Some m) e = absurd (untouched c m none (is-right c m e))
 
 -- ---- a job on its course
 

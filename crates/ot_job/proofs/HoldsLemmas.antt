@@ -4,23 +4,26 @@ use Rattle.std.specs.Prelude.{Option, Some, None, if◌then◌else◌}
 use Rattle.std.specs.List.{fold, range_with_len}
 use Rattle.std.proofs.lemmas.Option.{same_Some, none-some}
 use Rattle.std.proofs.Math.Nat.{mod-eq_of_lt}
-use Rattle.ot_model.specs.Tree.{E, Literal, CellAt, Apply, PickFrom, Set, Add, If, Task, Wait, Group, Body, End, Next}
+use Rattle.ot_model.specs.Tree.{E, Literal, CellAt, Apply, PickFrom, Set, Fold, If, Task, Wait, Group, Body, End, Next}
 use Rattle.ot_model.specs.Value.{cell_at}
 use Rattle.ot_model.specs.declared.expr.Cell.{Cell}
+use Rattle.ot_model.specs.declared.fold.Fold.{Fold as Operation}
 use Rattle.ot_model.specs.declared.expr.Section.{Section}
 use Rattle.ot_model.specs.declared.stmt.Mode.{Mode}
-use Rattle.ot_model.specs.declared.stmt.Mode.TheVariants.{Reads, Writes, Adds}
+use Rattle.ot_model.specs.declared.stmt.Mode.TheVariants.{Reads, Writes, Folds}
 use Rattle.ot_model.specs.declared.stmt.Use.{Use}
 use Rattle.ot_check.specs.Paths.{use_as, touches}
 use Rattle.ot_model.specs.Value.{cells_named}
-use Rattle.ot_check.specs.Offences.{Declared, adds_to}
+use Rattle.ot_check.specs.Offences.{Declared, folds_to}
 use Rattle.ot_model.specs.Cells.{same_cell}
+use Rattle.ot_model.specs.Uses.{same_fold}
 use Rattle.ot_check.specs.Touches.{EachRead, EachTouch}
 use Rattle.ot_job.specs.Rights.{IsRight}
 use Rattle.ot_check.proofs.SameLemmas.{same_is}
 use Rattle.ot_task.specs.Touched.{assign_touches, test_touches}
-use Rattle.ot_task.specs.Modes.{held, noted, with_mode, stronger, mode_held}
+use Rattle.ot_task.specs.Modes.{held, held_as, noted, with_mode, stronger, mode_held}
 use Rattle.ot_task.proofs.HeldLemmas.{reads-append}
+use Rattle.ot_job.proofs.FoldLemmas.{same-op}
 
 abbrev pub Among : Use → List Use → Type 0
 Among u [] = ⊥
@@ -33,44 +36,89 @@ among-split u (v ∷ us) vs (inr h) = ⊎_elim (λ k. inl (inr k)) inr (among-sp
 
 -- ---- the mode is that of a touch
 
-one-of : (e n : Mode) → (stronger e n ≡ e) ⊎ (stronger e n ≡ n)
-one-of Reads n = inr refl
-one-of Writes n = inl refl
-one-of Adds Reads = inl refl
-one-of Adds Writes = inr refl
-one-of Adds Adds = inl refl
+-- folds of the two are by one operation
+abbrev Alike : Mode → Mode → Type 0
+Alike (Folds p) (Folds q) = p ≡ q
+Alike e n = Unit {0}
 
-module _ (own : Declared) (c : Cell) where
+one-of : (e n : Mode) → Alike e n → (stronger e n ≡ e) ⊎ (stronger e n ≡ n)
+one-of Reads n like = inr refl
+one-of Writes n like = inl refl
+one-of (Folds p) Reads like = inl refl
+one-of (Folds p) Writes like = inr refl
+one-of (Folds p) (Folds q) like = inl (rw (subst (λ (o : Operation). same_fold p o ≡ true) like (same-op p)) refl)
+
+module _ (own : Declared) (c : Cell) (alike : (p q : Operation) → folds_to own p c ≡ true → folds_to own q c ≡ true → p ≡ q) where
   abbrev HeldBy : List Use → Mode → Type 0
   HeldBy us m = (u : Use) × Among u us × (u.cell ≡ c) × (mode_held own u ≡ m)
+
+  -- a fold that is held is the body's own
+  abbrev IsOwn : Mode → Type 0
+  IsOwn Reads = Unit {0}
+  IsOwn Writes = Unit {0}
+  IsOwn (Folds p) = folds_to own p c ≡ true
+
+  abbrev IsOwnIf : Option Mode → Type 0
+  IsOwnIf None = Unit {0}
+  IsOwnIf (Some m) = IsOwn m
+
+  own-held : (u : Use) → u.cell ≡ c → IsOwn (mode_held own u)
+  own-held u same = subst (λ (d : Cell). IsOwn (held_as own d u.mode)) (sym same) (by u.mode)
+    where
+      fold : (p : Operation) (b : Bool) → folds_to own p c ≡ b → IsOwn (if b then Folds p else Writes)
+      fold p true e = e
+      fold p false e = tt
+
+      by : (m : Mode) → IsOwn (held_as own c m)
+      by Reads = tt
+      by Writes = tt
+      by (Folds p) = fold p (folds_to own p c) refl
+
+  both-alike : (e n : Mode) → IsOwn e → IsOwn n → Alike e n
+  both-alike Reads n h g = tt
+  both-alike Writes n h g = tt
+  both-alike (Folds p) Reads h g = tt
+  both-alike (Folds p) Writes h g = tt
+  both-alike (Folds p) (Folds q) h g = alike p q h g
+
+  own-mixed : (o : Option Mode) (n : Mode) → IsOwnIf o → IsOwn n → IsOwn (with_mode o n)
+  own-mixed None n h g = g
+  own-mixed (Some e) n h g =
+      ⊎_elim (λ k. subst IsOwn (sym k) h) (λ k. subst IsOwn (sym k) g) (one-of e n (both-alike e n h g))
 
   later : (us : List Use) (v : Use) (m : Mode) → HeldBy us m → HeldBy (v ∷ us) m
   later us v m h = (h.0, inr h.1, h.2, h.3)
 
-  held-by : (us : List Use) (o : Option Mode) (m : Mode) → fold (noted own c) o us ≡ Some m → (o ≡ Some m) ⊎ HeldBy us m
-  held-by [] o m h = inl h
-  held-by (u ∷ us) o m h = ⊎_elim (λ e. here (same_cell u.cell c) refl o e) (λ k. inr (later us u m k)) (held-by us (noted own c o u) m h)
+  held-by : (us : List Use) (o : Option Mode) (m : Mode) → IsOwnIf o → fold (noted own c) o us ≡ Some m → (o ≡ Some m) ⊎ HeldBy us m
+  held-by [] o m ours h = inl h
+  held-by (u ∷ us) o m ours h =
+      ⊎_elim (λ e. here (same_cell u.cell c) refl o ours e) (λ k. inr (later us u m k)) (held-by us (noted own c o u) m (still (same_cell u.cell c) refl o ours) h)
     where
-      mixed : (o : Option Mode) (n : Mode) → with_mode o n ≡ m → (o ≡ Some m) ⊎ (n ≡ m)
-      mixed None n e = inr e
-      mixed (Some x) n e = ⊎_elim (λ k. inl (ap Some (sym k ∙ e))) (λ k. inr (sym k ∙ e)) (one-of x n)
+      still : (b : Bool) → same_cell u.cell c ≡ b → (o : Option Mode) → IsOwnIf o → IsOwnIf (if same_cell u.cell c then Some (with_mode o (mode_held own u)) else o)
+      still true same o ours = rw same (own-mixed o (mode_held own u) ours (own-held u (same_is u.cell c same)))
+      still false same o ours = rw same ours
 
-      here : (b : Bool) → same_cell u.cell c ≡ b → (o : Option Mode) → (if same_cell u.cell c then Some (with_mode o (mode_held own u)) else o) ≡ Some m → (o ≡ Some m) ⊎ HeldBy (u ∷ us) m
-      here true same o e =
-          ⊎_elim inl (λ k. inr (u, inl refl, same_is u.cell c same, k)) (mixed o (mode_held own u) (same_Some (with_mode o (mode_held own u)) m (rw same at e)))
-      here false same o e = inl (rw same at e)
+      mixed : (o : Option Mode) (n : Mode) → IsOwnIf o → IsOwn n → with_mode o n ≡ m → (o ≡ Some m) ⊎ (n ≡ m)
+      mixed None n ours is e = inr e
+      mixed (Some x) n ours is e = ⊎_elim (λ k. inl (ap Some (sym k ∙ e))) (λ k. inr (sym k ∙ e)) (one-of x n (both-alike x n ours is))
+
+      here : (b : Bool) → same_cell u.cell c ≡ b → (o : Option Mode) → IsOwnIf o → (if same_cell u.cell c then Some (with_mode o (mode_held own u)) else o) ≡ Some m → (o ≡ Some m) ⊎ HeldBy (u ∷ us) m
+      here true same o ours e =
+          let at_c = same_is u.cell c same in
+          ⊎_elim inl (λ k. inr (u, inl refl, at_c, k)) (mixed o (mode_held own u) ours (own-held u at_c) (same_Some (with_mode o (mode_held own u)) m (rw same at e)))
+      here false same o ours e = inl (rw same at e)
 
   right-by : (Touched : Use → Type 0) (k : Mode) (m : Mode) → Touched (use_as k c) → mode_held own (use_as k c) ≡ m → IsRight own Touched (use_as m c)
   right-by Touched Reads m t e = subst (λ n. IsRight own Touched (use_as n c)) e t
   right-by Touched Writes m t e = subst (λ n. IsRight own Touched (use_as n c)) e (inl t)
-  right-by Touched Adds m t e = by (adds_to own c) refl
+  right-by Touched (Folds p) m t e = by (folds_to own p c) refl
     where
-      by : (b : Bool) → adds_to own c ≡ b → IsRight own Touched (use_as m c)
+      by : (b : Bool) → folds_to own p c ≡ b → IsRight own Touched (use_as m c)
       by true a = subst (λ n. IsRight own Touched (use_as n c)) (rw a at e) (t, a)
-      by false a = subst (λ n. IsRight own Touched (use_as n c)) (rw a at e) (inr (t, a))
+      by false a = subst (λ n. IsRight own Touched (use_as n c)) (rw a at e) (inr (p, t, a))
 
   pub held-right : (us : List Use) (m : Mode) → held own us c ≡ Some m → IsRight own (λ u. Among u us) (use_as m c)
-  held-right us m h = ⊎_elim (λ e. absurd (none-some m e)) found (held-by us None m h)
+  held-right us m h = ⊎_elim (λ e. absurd (none-some m e)) found (held-by us None m tt h)
     where
       found : HeldBy us m → IsRight own (λ u. Among u us) (use_as m c)
       found k =
@@ -111,9 +159,9 @@ module _ (Q : Use → Type 0) where
       one : (c : Cell) (m : Mode) → Q (use_as m c) → (u : Use) → Among u (use_as m c ∷ []) → Q u
       one c m q u (inl e) = subst Q e q
       one c m q u (inr k) = absurd k
-  each-assign (Next (Add c e) rest) h u k =
-      ⊎_elim (λ w. ⊎_elim (each-read e h.0.0 u) (one c Adds h.0.1 u) (among-split u (map (use_as Reads) (cells_named e)) (use_as Adds c ∷ []) w)) (each-assign rest h.1 u)
-      (among-split u (touches (Add c e)) (assign_touches rest) k)
+  each-assign (Next (Fold op c e) rest) h u k =
+      ⊎_elim (λ w. ⊎_elim (each-read e h.0.0 u) (one c (Folds op) h.0.1 u) (among-split u (map (use_as Reads) (cells_named e)) (use_as (Folds op) c ∷ []) w)) (each-assign rest h.1 u)
+      (among-split u (touches (Fold op c e)) (assign_touches rest) k)
     where
       one : (c : Cell) (m : Mode) → Q (use_as m c) → (u : Use) → Among u (use_as m c ∷ []) → Q u
       one c m q u (inl e) = subst Q e q
@@ -121,7 +169,7 @@ module _ (Q : Use → Type 0) where
   each-assign (Next (If e a b) rest) h u k = ⊎_elim (each-read e h.0.0 u) (each-assign rest h.1 u) (among-split u (map (use_as Reads) (cells_named e)) (assign_touches rest) k)
   each-assign (Next (Task d b) rest) h u k = each-assign rest h.1 u k
   each-assign (Next Wait rest) h u k = each-assign rest h.1 u k
-  each-assign (Next (Group cs b) rest) h u k = each-assign rest h.1 u k
+  each-assign (Next (Group op cs b) rest) h u k = each-assign rest h.1 u k
 
   -- of a condition
   pub each-test : (e : E) → EachTouch Q (Next (If e End End) End) → (u : Use) → Among u (test_touches (Some e)) → Q u

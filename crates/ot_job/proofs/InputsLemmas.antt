@@ -1,14 +1,15 @@
 -- The inputs of a piece that is out stay what they were: what comes back changes no cell that another piece reads or writes.
-use Rattle.std.proofs.Common.{◌≡◌, ◌≢◌, ℕ, suc, Bool, true, false, cond, List, [], ◌∷◌, map, refl, sym, ap, subst, ◌∙◌, inl, inr, arith, true≢false}
+use Rattle.std.proofs.Common.{◌≡◌, ℕ, suc, Bool, true, false, cond, List, [], ◌∷◌, map, refl, sym, ap, subst, ◌∙◌, inl, inr, arith, true≢false}
 use Rattle.std.specs.Prelude.{Option, Some, None, IsSome, IsTrue, option_map, unwrap_or, Any}
 use Rattle.std.specs.List.{All, find}
 use Rattle.std.proofs.lemmas.List.Elements.{All-nil, All-cons, All-head, All-tail}
 use Rattle.std.proofs.lemmas.Option.{same_Some}
 use Rattle.ot_model.specs.Cells.{cell_of}
-use Rattle.ot_model.specs.Uses.{conflicts, joined, first_of, Conflict}
+use Rattle.ot_model.specs.Uses.{conflicts, is_fold, joined, first_of, Conflict}
 use Rattle.ot_model.specs.declared.expr.Cell.{Cell}
+use Rattle.ot_model.specs.declared.fold.Fold.{Fold as Operation}
 use Rattle.ot_model.specs.declared.stmt.Mode.{Mode}
-use Rattle.ot_model.specs.declared.stmt.Mode.TheVariants.{Reads, Writes, Adds}
+use Rattle.ot_model.specs.declared.stmt.Mode.TheVariants.{Reads, Writes, Folds}
 use Rattle.ot_model.specs.declared.stmt.Use.{Use}
 use Rattle.ot_owner.specs.Leases.{lent_from, copy_of}
 use Rattle.ot_owner.specs.Lending.{is_at, use_of, uses_of}
@@ -24,17 +25,17 @@ one-input : (cells : List (List ℕ)) (l : LentCell) → IsSome (cell_of cells l
 one-input cells l there first = record {
   there = there;
   same = λ other. by l.mode other first (cell_of cells l.cell) refl there;
-  unit = λ adds. first ∙ ap (λ m. first_of m (unwrap_or (cell_of cells l.cell) 0)) adds;
+  unit = λ op folds. first ∙ ap (λ m. first_of m (unwrap_or (cell_of cells l.cell) 0)) folds;
 }
   where
     stored : (o : Option ℕ) → cell_of cells l.cell ≡ o → IsSome o → l.first ≡ unwrap_or (cell_of cells l.cell) 0 → cell_of cells l.cell ≡ Some l.first
     stored None e h f = absurd (true≢false (sym h))
     stored (Some n) e h f = e ∙ ap Some (sym (f ∙ ap (λ o. unwrap_or o 0) e))
 
-    by : (m : Mode) → m ≢ Adds → l.first ≡ first_of m (unwrap_or (cell_of cells l.cell) 0) → (o : Option ℕ) → cell_of cells l.cell ≡ o → IsSome (cell_of cells l.cell) → cell_of cells l.cell ≡ Some l.first
+    by : (m : Mode) → is_fold m ≡ false → l.first ≡ first_of m (unwrap_or (cell_of cells l.cell) 0) → (o : Option ℕ) → cell_of cells l.cell ≡ o → IsSome (cell_of cells l.cell) → cell_of cells l.cell ≡ Some l.first
     by Reads other f o e h = stored o e (subst IsSome e h) f
     by Writes other f o e h = stored o e (subst IsSome e h) f
-    by Adds other f o e h = absurd (other refl)
+    by (Folds op) other f o e h = absurd (true≢false other)
 
 -- what is lent has the inputs of a lease that would be the same now
 pub has-inputs : (cells : List (List ℕ)) (lent : List LentCell) → map (λ l. l.first) lent ≡ map (λ l. l.first) (lent_from cells (uses_of lent))
@@ -71,19 +72,19 @@ module _ (lent : List LentCell) (before after : List (List ℕ)) (back : AreJoin
           (among-any (λ v. (l.cell ≡ v.cell) × IsTrue (conflicts l.mode v.mode)) us u k (at, e))))
 
   -- a cell that it reads or writes stays
-  stays : (u : Use) → Among u us → u.mode ≢ Adds → cell_of after u.cell ≡ cell_of before u.cell
+  stays : (u : Use) → Among u us → is_fold u.mode ≡ false → cell_of after u.cell ≡ cell_of before u.cell
   stays u k other = pick (find (is_at u.cell) lent) refl
     where
       as_is : (o : Option ℕ) → option_map (λ (n : ℕ). n) o ≡ o
       as_is None = refl
       as_is (Some n) = refl
 
-      reads : (m n : Mode) → n ≢ Adds → conflicts m n ≡ false → m ≡ Reads
+      reads : (m n : Mode) → is_fold n ≡ false → conflicts m n ≡ false → m ≡ Reads
       reads Reads n other h = refl
       reads Writes n other h = absurd (true≢false h)
-      reads Adds Reads other h = absurd (true≢false h)
-      reads Adds Writes other h = absurd (true≢false h)
-      reads Adds Adds other h = absurd (other refl)
+      reads (Folds op) Reads other h = absurd (true≢false h)
+      reads (Folds op) Writes other h = absurd (true≢false h)
+      reads (Folds op) (Folds by) other h = absurd (true≢false other)
 
       pick : (o : Option LentCell) → find (is_at u.cell) lent ≡ o → cell_of after u.cell ≡ cell_of before u.cell
       pick None e = back.others u.cell (λ is. none (find (is_at u.cell) lent) e ((found-lent lent u.cell).1 is))
@@ -100,9 +101,9 @@ module _ (lent : List LentCell) (before after : List (List ℕ)) (back : AreJoin
   same-copy u k = ap (λ n. record { cell = u.cell; mode = u.mode; first = n; value = n }) (by u.mode refl)
     where
       by : (m : Mode) → u.mode ≡ m → first_of m (unwrap_or (cell_of after u.cell) 0) ≡ first_of m (unwrap_or (cell_of before u.cell) 0)
-      by Adds e = refl
-      by Reads e = ap (λ o. unwrap_or o 0) (stays u k (λ a. let z : Reads ≡ Adds = sym e ∙ a in cc))
-      by Writes e = ap (λ o. unwrap_or o 0) (stays u k (λ a. let z : Writes ≡ Adds = sym e ∙ a in cc))
+      by (Folds op) e = refl
+      by Reads e = ap (λ o. unwrap_or o 0) (stays u k (ap is_fold e))
+      by Writes e = ap (λ o. unwrap_or o 0) (stays u k (ap is_fold e))
 
   copies-kept : (vs : List Use) → ((u : Use) → Among u vs → Among u us) → lent_from after vs ≡ lent_from before vs
   copies-kept [] some = refl

@@ -8,7 +8,7 @@ use Rattle.ot_model.proofs.CountsLemmas.{tasks_in-≤-size}
 use Rattle.ot_owner.specs.Back.{all_back}
 use Rattle.ot_owner.specs.Owning.{Owned, loan_of}
 use Rattle.ot_owner.specs.Worth.{AreJoined, worth}
-use Rattle.ot_task.specs.Regions.{Region, cells_next, is_control, tasks_next}
+use Rattle.ot_task.specs.Regions.{Region, group_next, is_control, tasks_next}
 use Rattle.ot_task.specs.Weighing.{weight_of}
 use Rattle.ot_job.specs.Numbered.{at}
 use Rattle.ot_job.specs.Live.{Live}
@@ -18,6 +18,7 @@ use Rattle.ot_job.specs.Taken.{Came, IsOut, IsRun, taken_by}
 use Rattle.ot_job.specs.Opened.{IsRoomFor, opened_under}
 use Rattle.ot_job.specs.Opening.{Opens}
 use Rattle.ot_model.specs.declared.expr.Cell.{Cell}
+use Rattle.ot_model.specs.declared.fold.Fold.{Fold as Operation}
 use Rattle.ot_model.specs.declared.stmt.Use.{Use}
 use Rattle.ot_job.specs.Well.{MaySettle}
 use Rattle.ot_job.specs.Settling.{CreatesInOrder, settled, units_of}
@@ -83,11 +84,11 @@ pub record CameBack (s : Inside) (d : Came) (worker : ℕ) (cells : List (List �
   pub back : AreJoined d.lent (worth s.owners.owned s.cells) (worth owned cells)
   pub long : lengths cells ≡ lengths s.cells
   pub ended : IsPermutation s.owners.owned.out (loan_of worker d.lent ∷ owned.out)
-  pub groups : Opens (cells_next (at s.tasks d.task).rest) s.counts.units (all_back worker d.lent s.owners.owned.groups) owned.groups
+  pub groups : Opens (group_next (at s.tasks d.task).rest) s.counts.units (all_back worker d.lent s.owners.owned.groups) owned.groups
 
 -- by what its calls tell
-pub came-back : (s : Inside) (d : Came) (worker : ℕ) (before : Owned) → before ≡ s.owners.owned → (t : Region) (next : Option (Bor (List Cell))) → at s.tasks d.task ≡ t
-    → option_map (λ cells. cells.now) next ≡ cells_next t.rest → (room : Option (List Use)) → IsRoomFor (option_map (λ cells. cells.now) next) room → (cells : List (List ℕ)) (owned : Owned)
+pub came-back : (s : Inside) (d : Came) (worker : ℕ) (before : Owned) → before ≡ s.owners.owned → (t : Region) (next : Option (Operation × Bor (List Cell))) → at s.tasks d.task ≡ t
+    → option_map (λ g. (g.0, g.1.now)) next ≡ group_next t.rest → (room : Option (Operation × List Use)) → IsRoomFor (option_map (λ g. (g.0, g.1.now)) next) room → (cells : List (List ℕ)) (owned : Owned)
     → AreJoined d.lent (worth before s.cells) (worth owned cells) → lengths cells ≡ lengths s.cells → IsPermutation before.out (loan_of worker d.lent ∷ owned.out)
     → owned.groups ≡ all_back worker d.lent before.groups ++ opened_under s.counts.units room → CameBack s d worker cells owned
 came-back s d worker before is t next here told room names cells owned back long ended groups = record {
@@ -95,8 +96,8 @@ came-back s d worker before is t next here told room names cells owned back long
   long = long;
   ended = subst (λ (b : Owned). IsPermutation b.out (loan_of worker d.lent ∷ owned.out)) is ended;
   groups =
-      opens (cells_next (at s.tasks d.task).rest) room s.counts.units (all_back worker d.lent s.owners.owned.groups) owned.groups
-      (subst (λ (n : Option (List Cell)). IsRoomFor n room) (told ∙ ap (λ (r : Region). cells_next r.rest) (sym here)) names)
+      opens (group_next (at s.tasks d.task).rest) room s.counts.units (all_back worker d.lent s.owners.owned.groups) owned.groups
+      (subst (λ (n : Option (Operation × List Cell)). IsRoomFor n room) (told ∙ ap (λ (r : Region). group_next r.rest) (sym here)) names)
       (groups ∙ ap (λ (b : Owned). all_back worker d.lent b.groups ++ opened_under s.counts.units room) is);
 }
 

@@ -2,7 +2,7 @@
 use Rattle.std.proofs.Common.{◌≡◌, ◌≢◌, ℕ, suc, ◌+◌, ◌<◌, List, [], ◌∷◌, ◌++◌, length, Bool, true, false, cond, refl, sym, ◌∙◌, ap, subst, inl, inr, ⊎_elim, ◌⊎◌, arith, true≢false, ◌==◌}
 use Rattle.std.proofs.lemmas.Bool.{cases_eq}
 use Rattle.std.proofs.lemmas.Bool.Decides.{nat_tests}
-use Rattle.ot_model.specs.Tree.{E, S, Set, Add, If, Task, Wait, Group, Body, End, Next, append}
+use Rattle.ot_model.specs.Tree.{E, S, Set, Fold, If, Task, Wait, Group, Body, End, Next, append}
 use Rattle.ot_model.specs.Value.{val}
 use Rattle.ot_model.specs.Cells.{cell_of}
 use Rattle.ot_model.specs.Serial.{State, bump, either, serial}
@@ -43,11 +43,11 @@ bool_cases false = inr refl
 mutual
   one-all : (P : Use → Type 0) → ((u : Use) → P u) → (x : S) → EachTouchOne P x
   one-all P h (Set c e) = (read-all _ (λ d. h (use_as Reads d)) e, h _)
-  one-all P h (Add c e) = (read-all _ (λ d. h (use_as Reads d)) e, h _)
+  one-all P h (Fold op c e) = (read-all _ (λ d. h (use_as Reads d)) e, h _)
   one-all P h (If e a b) = (read-all _ (λ d. h (use_as Reads d)) e, touch-all P h a, touch-all P h b)
   one-all P h (Task d b) = touch-all P h b
   one-all P h Wait = tt
-  one-all P h (Group cs b) = touch-all P h b
+  one-all P h (Group op cs b) = touch-all P h b
 
   pub touch-all : (P : Use → Type 0) → ((u : Use) → P u) → (b : Body) → EachTouch P b
   touch-all P h End = tt
@@ -123,7 +123,7 @@ module _ (par : ℕ → ℕ) (todo todo' : ℕ → Body) (i : ℕ) (effect : Sta
 
 module _ (par : ℕ → ℕ) (may : ℕ → Uses) (todo todo' : ℕ → Body) (ended : ℕ → Bool) (begun : ℕ → Type 0) (s : Sound par may todo ended begun)
     (i : ℕ) (others : (j : ℕ) → j ≢ i → todo' j ≡ todo j) (parents : List ℕ) (ps : AreParents par 1 parents) (here : In i (order parents)) where
-  -- a piece of sets and adds, in front of all that stands before it
+  -- a piece of sets and folds, in front of all that stands before it
   pub left-piece : (piece rest : Body) (t : State) → todo i ≡ append piece rest → todo' i ≡ rest → MayRun par may ended begun i piece
       → left todo' parents (serial piece t) ≡ left todo parents t
   left-piece piece rest t was is run =

@@ -11,6 +11,7 @@ use Rattle.ot_model.proofs.CellsLemmas.{length-updated, updated-updated}
 use Rattle.ot_model.specs.Serial.{State, bump, either, serial}
 use Rattle.ot_model.specs.declared.stmt.Use.{Use}
 use Rattle.ot_model.specs.declared.expr.Cell.{Cell}
+use Rattle.ot_model.specs.declared.fold.Fold.{Fold as Operation}
 use Rattle.ot_model.proofs.TreeLemmas as tree
 use Rattle.ot_model.proofs.SerialLemmas.{serial-append}
 use Rattle.ot_job.specs.Left.{left}
@@ -143,7 +144,7 @@ module _ (rs : List Region) (s : IsSound rs) (i : ℕ) (h : i < length rs) where
   left-parents : (f : Region → Region) → ((r : Region) → (f r).parent ≡ r.parent) → (t : State) → left_of (updated rs i f) t ≡ left (todo_at (updated rs i f)) (parents rs) t
   left-parents f same t = ap (λ ps. left (todo_at (updated rs i f)) ps t) (parents-updated rs i f same)
 
-  -- a piece of sets and adds
+  -- a piece of sets and folds
   pub kept-piece : (piece rest : Body) (t : State) → (at rs i).rest ≡ append piece rest → MayRun (parent_of rs) (may_at rs) (ended_at rs) (IsBegun rs) i piece
       → left_of (updated rs i (with_rest rest)) (serial piece t) ≡ left_of rs t
   kept-piece piece rest t was run =
@@ -168,12 +169,12 @@ module _ (rs : List Region) (s : IsSound rs) (i : ℕ) (h : i < length rs) where
       (λ u. sym (ap (λ b. serial b u) (ap (λ b. todo b (at rs i).groups) was ∙ todo-next Wait rest (at rs i).groups)))
 
   -- the entry into a group
-  pub kept-group : (g : ℕ) (cs : List Cell) (b rest : Body) (t : State) → (at rs i).rest ≡ Next (Group cs b) rest
-      → left_of (updated rs i (λ r. inside g cs b (with_rest rest r))) (bump 0 1 t) ≡ left_of rs t
-  kept-group g cs b rest t was =
-      counted (λ r. inside g cs b (with_rest rest r)) (λ r. refl) t
+  pub kept-group : (g : ℕ) (op : Operation) (cs : List Cell) (b rest : Body) (t : State) → (at rs i).rest ≡ Next (Group op cs b) rest
+      → left_of (updated rs i (λ r. inside g op cs b (with_rest rest r))) (bump 0 1 t) ≡ left_of rs t
+  kept-group g op cs b rest t was =
+      counted (λ r. inside g op cs b (with_rest rest r)) (λ r. refl) t
       (λ u. serial-append b (todo rest (at rs i).groups) (bump 0 1 u)
-      ∙ sym (ap (λ c. serial c u) (ap (λ c. todo c (at rs i).groups) was ∙ todo-next (Group cs b) rest (at rs i).groups)))
+      ∙ sym (ap (λ c. serial c u) (ap (λ c. todo c (at rs i).groups) was ∙ todo-next (Group op cs b) rest (at rs i).groups)))
 
   -- an `if`, taken by the value that its condition has in the cells now
   pub kept-if : (e : E) (a b rest : Body) (t : State) → (at rs i).rest ≡ Next (If e a b) rest → MayRun (parent_of rs) (may_at rs) (ended_at rs) (IsBegun rs) i (Next (If e End End) End)

@@ -1,21 +1,23 @@
 -- What a job asks of its owners, where a piece is lent and where it comes back.
-use Rattle.std.proofs.Common.{◌≡◌, ◌≢◌, ℕ, zero, suc, ◌<◌, true, inl, inr, List, [], ◌∷◌, ◌++◌, get_or, length, refl, sym, ap, subst, ◌∙◌, arith}
-use Rattle.std.specs.Prelude.{Option, Some, None, All, Any, Contains, IsSome, IfSome}
+use Rattle.std.proofs.Common.{◌≡◌, ℕ, zero, suc, ◌<◌, true, false, inl, inr, List, [], ◌∷◌, ◌++◌, get_or, length, refl, sym, ap, subst, ◌∙◌, arith}
+use Rattle.std.specs.Prelude.{Option, Some, None, All, Any, Contains, IsSome, IfSome, replicate}
 use Rattle.std.proofs.lemmas.List.{append-nil}
 use Rattle.std.proofs.lemmas.List.Elements.{All-contains}
 use Rattle.std.proofs.lemmas.List.Sorted.{All-permutation, IsPermutation-sym}
 use Rattle.ot_model.specs.Cells.{cell_of, lengths, updated}
 use Rattle.ot_model.specs.Tree.{End}
-use Rattle.ot_model.specs.Uses.{AreInOrder, mode_in}
+use Rattle.ot_model.specs.Uses.{AreInOrder, is_fold, mode_in}
 use Rattle.ot_model.specs.declared.expr.Cell.{Cell}
+use Rattle.ot_model.specs.declared.fold.Fold.{Fold as Operation}
 use Rattle.ot_model.specs.declared.stmt.Mode.{Mode}
-use Rattle.ot_model.specs.declared.stmt.Mode.TheVariants.{Writes, Adds}
+use Rattle.ot_model.specs.declared.stmt.Mode.TheVariants.{Writes, Folds}
 use Rattle.ot_model.specs.declared.stmt.Use.{Use}
 use Rattle.ot_check.specs.Offences.{has_cell}
 use Rattle.ot_owner.specs.Leases.{Lease, lease_of, lent_from}
 use Rattle.ot_owner.specs.Lending.{use_of, uses_of}
 use Rattle.ot_owner.specs.Owning.{Loan, Owned, IsFreeFor}
-use Rattle.ot_owner.specs.Rows.{Summed, IsSummed, begun_for}
+use Rattle.ot_owner.specs.Back.{IsByOwn}
+use Rattle.ot_owner.specs.Rows.{Summed, IsSummed, IsSummedBy, IsOnlyBy, IsByOne, begun_for}
 use Rattle.ot_owner.specs.Worth.{AreWorthSame, worths}
 use Rattle.ot_owner.specs.declared.lent.LentCell.{LentCell}
 use Rattle.ot_owner.proofs.WorthLemmas.{worths-same}
@@ -23,6 +25,7 @@ use Rattle.ot_task.specs.Modes.{AreHeld}
 use Rattle.ot_task.specs.Pieces.{begun, group_passed}
 use Rattle.ot_task.specs.Place.{Open}
 use Rattle.ot_task.specs.Regions.{Region, Run}
+use Rattle.ot_job.specs.Awaiting.{opened}
 use Rattle.ot_job.specs.Claiming.{is_claimable}
 use Rattle.ot_job.specs.Live.{Live}
 use Rattle.ot_job.specs.Numbered.{at}
@@ -32,8 +35,9 @@ use Rattle.ot_job.specs.Well.{IsWell, IsOnCourse}
 use Rattle.ot_job.specs.Whole.{loans_out}
 use Rattle.ot_job.proofs.FreeLemmas.{mode-once}
 use Rattle.ot_job.proofs.HoldsLemmas.{Among}
-use Rattle.ot_job.proofs.OpenedLemmas.{claim-unopened, claim-summed, group_free, groups-there, held-unopened}
-use Rattle.ot_job.proofs.OpeningLemmas.{innermost, is-open, lent-worths, not_summed, free-out, open-grown, open-passed, open-summed, passed-open, there as there-of}
+use Rattle.ot_job.proofs.OpenLemmas.{groups-alike}
+use Rattle.ot_job.proofs.OpenedLemmas.{claim-unopened, claim-folded, group_free, groups-there, held-unopened, held-folded}
+use Rattle.ot_job.proofs.OpeningLemmas.{innermost, is-open, lent-worths, not_summed, only-by, by-one, one-opened, free-out, open-grown, open-passed, open-summed, passed-open, there as there-of}
 use Rattle.ot_job.proofs.WholeLemmas.{loans-each}
 
 among-at : (uses : List Use) (k : ℕ) (d : Use) → k < length uses → Among (get_or uses k d) uses
@@ -78,6 +82,9 @@ module _ (j : Live) (w : IsWell j) (o : IsOnCourse j) (i : ℕ) (h : i < length 
   some-passed None is f = tt
   some-passed (Some group) is f = f group (sym is)
 
+  pub claim-alone : (told : Option ℕ) → told ≡ group_passed (at j.regions i) → IfSome told (λ group. IsByOne group gs)
+  claim-alone told is = some-passed told is (λ group passed. by-one j.regions gs group o.copies (groups-alike j.regions o.sound))
+
   pub claim-open : (told : Option ℕ) → told ≡ group_passed (at j.regions i) → IfSome told (λ group. Any (λ g. g.group ≡ group) gs)
   claim-open told is = some-passed told is passed-is-open
 
@@ -94,13 +101,13 @@ module _ (j : Live) (w : IsWell j) (o : IsOnCourse j) (i : ℕ) (h : i < length 
     open-now : AreOpen now (left_open (group_passed (at j.regions i)) gs)
     open-now = open-passed j.regions gs i (begun worker lease) h (λ r. refl) o.copies
 
-    -- copies are kept of the cells to which it adds
-    pub claim-sums : All (λ u. u.mode ≡ Adds → IsSummed (left_open (group_passed (at j.regions i)) gs) u.cell) lease.uses
-    claim-sums k d within adds =
+    -- copies are kept of the cells that it folds, by its operations
+    pub claim-sums : All (λ u. (op : Operation) → u.mode ≡ Folds op → IsSummedBy (left_open (group_passed (at j.regions i)) gs) op u.cell) lease.uses
+    claim-sums k d within op folds =
         let u = get_or lease.uses k d in
-        let held = mode-once lease.uses ordered u (among-at lease.uses k d within) ∙ ap Some adds in
-        let (n, g, there, named) = claim-summed j o i h can worker lease are ordered u.cell held in
-        open-summed now (left_open (group_passed (at j.regions i)) gs) n g u.cell open-now there named
+        let held = mode-once lease.uses ordered u (among-at lease.uses k d within) ∙ ap Some folds in
+        let (n, g, there, by, named) = claim-folded j o i h can worker lease are ordered op u.cell held in
+        subst (λ p. IsSummedBy (left_open (group_passed (at j.regions i)) gs) p u.cell) by (open-summed now (left_open (group_passed (at j.regions i)) gs) n g u.cell open-now there named)
 
     -- and of those that it reads or writes there are none, so that it is lent what they are worth
     pub claim-fresh : (cells : List (List ℕ)) (owned : Owned) → lengths cells ≡ lengths j.cells → AreWorthSame j.owned owned j.cells cells
@@ -108,7 +115,7 @@ module _ (j : Live) (w : IsWell j) (o : IsOnCourse j) (i : ℕ) (h : i < length 
     claim-fresh cells owned long same groups =
         lent-worths owned cells lease.uses (λ k d within other. none k d within other) ∙ ap (λ c. lent_from c lease.uses) (worths-same j.owned owned j.cells cells long same)
       where
-        none : (k : ℕ) (d : Use) → k < length lease.uses → (get_or lease.uses k d).mode ≢ Adds → ¬ IsSummed owned.groups (get_or lease.uses k d).cell
+        none : (k : ℕ) (d : Use) → k < length lease.uses → is_fold (get_or lease.uses k d).mode ≡ false → ¬ IsSummed owned.groups (get_or lease.uses k d).cell
         none k d within other =
             let u = get_or lease.uses k d in
             not_summed now owned.groups u.cell
@@ -116,6 +123,11 @@ module _ (j : Live) (w : IsWell j) (o : IsOnCourse j) (i : ℕ) (h : i < length 
             (claim-unopened j o i h can worker lease are ordered u.cell u.mode (mode-once lease.uses ordered u (among-at lease.uses k d within)) other)
 
 -- ---- a piece comes back
+
+lent-among : (lent : List LentCell) (k : ℕ) (d : LentCell) → k < length lent → Among (use_of (get_or lent k d)) (uses_of lent)
+lent-among [] k d within = absurd (omega (arith, within))
+lent-among (x ∷ xs) zero d within = inl refl
+lent-among (x ∷ xs) (suc k) d within = inr (lent-among xs k d (omega (arith, within)))
 
 -- of no cell that it wrote a copy is kept
 pub back-unsummed : (j : Live) → IsOnCourse j → (i : ℕ) (run : Run) → (at j.regions i).running ≡ Some run → (lent : List LentCell) → run.lease ≡ lease_of lent
@@ -125,19 +137,22 @@ back-unsummed j o i run out lent is k d within writes =
     let ordered = subst AreInOrder (ap (λ (x : Lease). x.uses) is) (o.runs i run out).ordered in
     let held = ap (λ (x : Lease). mode_in x.uses l.cell) is ∙ mode-once (uses_of lent) ordered (use_of l) (lent-among lent k d within) ∙ ap Some writes in
     not_summed j.regions j.owned.groups l.cell o.copies
-    (held-unopened j.regions o.sound (lengths j.cells) o.named o.runs o.begun i run out l.cell Writes held differ)
-  where
-    differ : Writes ≢ Adds
-    differ e = cc
+    (held-unopened j.regions o.sound (lengths j.cells) o.named o.runs o.begun i run out l.cell Writes held refl)
 
-    lent-among : (lent : List LentCell) (k : ℕ) (d : LentCell) → k < length lent → Among (use_of (get_or lent k d)) (uses_of lent)
-    lent-among [] k d within = absurd (omega (arith, within))
-    lent-among (x ∷ xs) zero d within = inl refl
-    lent-among (x ∷ xs) (suc k) d within = inr (lent-among xs k d (omega (arith, within)))
+-- the cells that it folded are of groups by its operations alone
+pub back-own : (j : Live) → IsOnCourse j → (i : ℕ) (run : Run) → (at j.regions i).running ≡ Some run → (lent : List LentCell) → run.lease ≡ lease_of lent → IsByOwn lent j.owned.groups
+back-own j o i run out lent is k d within op folds =
+    let l = get_or lent k d in
+    let ordered = subst AreInOrder (ap (λ (x : Lease). x.uses) is) (o.runs i run out).ordered in
+    let held = ap (λ (x : Lease). mode_in x.uses l.cell) is ∙ mode-once (uses_of lent) ordered (use_of l) (lent-among lent k d within) ∙ ap Some folds in
+    let (n, g, there, by, named) = held-folded j.regions o.sound (lengths j.cells) o.named o.runs o.begun i run out op l.cell held in
+    only-by j.regions j.owned.groups op l.cell o.copies
+    (λ m p opens. groups-alike j.regions o.sound m n p op l.cell opens (ap (λ q. opened (at j.regions n).groups q l.cell) (sym by) ∙ one-opened (at j.regions n).groups g l.cell there named))
 
 -- a group is opened where one comes next
-pub opens : (next : Option (List Cell)) (room : Option (List Use)) (number : ℕ) (before after : List Summed) → IsRoomFor next room → after ≡ before ++ opened_under number room → Opens next number before after
+pub opens : (next : Option (Operation × List Cell)) (room : Option (Operation × List Use)) (number : ℕ) (before after : List Summed) → IsRoomFor next room → after ≡ before ++ opened_under number room → Opens next number before after
 opens None None number before after names is = is ∙ append-nil before
 opens None (Some room) number before after names is = absurd names
-opens (Some cells) None number before after names is = absurd names
-opens (Some cells) (Some room) number before after names is = (room, names, is)
+opens (Some group) None number before after names is = absurd names
+opens (Some group) (Some room) number before after names is =
+    (room.1, names.1, is ∙ ap (λ op. before ++ record { group = number; op = op; uses = room.1; rows = replicate 17 None } ∷ []) names.0)

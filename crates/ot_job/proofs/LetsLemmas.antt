@@ -1,20 +1,21 @@
--- The copies that a piece was lent let each of its touches be made as it is meant: what is read is no sum, what is written
+-- The copies that a piece was lent let each of its touches be made as it is meant: what is read is no fold, what is written
 -- is lent to be written.
 use Rattle.std.proofs.Common.{◌≡◌, ◌<◌, ℕ, ◌+◌, ◌%◌, Bool, true, false, not, cond, ◌&&◌, List, [], ◌∷◌, map, refl, sym, ap, subst, ◌∙◌, inl, inr, arith, true≢false}
 use Rattle.std.specs.Prelude.{Option, Some, None, option_map, if◌then◌else◌}
 use Rattle.std.specs.List.{find, range_with_len}
 use Rattle.std.proofs.Math.Nat.{mod-lt}
-use Rattle.ot_model.specs.Tree.{E, Literal, CellAt, Apply, PickFrom, Set, Add, If, Task, Wait, Group, Body, End, Next, append}
+use Rattle.ot_model.specs.Tree.{E, Literal, CellAt, Apply, PickFrom, Set, Fold, If, Task, Wait, Group, Body, End, Next, append}
 use Rattle.ot_model.specs.Names.{NamedIn, ValueNamedIn}
 use Rattle.ot_model.specs.Value.{cell_at, cells_named}
 use Rattle.ot_model.specs.Cells.{same_cell}
-use Rattle.ot_model.specs.Uses.{is_adds, mode_in}
+use Rattle.ot_model.specs.Uses.{mode_in}
 use Rattle.ot_model.specs.declared.expr.Cell.{Cell}
+use Rattle.ot_model.specs.declared.fold.Fold.{Fold as Operation}
 use Rattle.ot_model.specs.declared.stmt.Mode.{Mode}
-use Rattle.ot_model.specs.declared.stmt.Mode.TheVariants.{Reads, Writes, Adds}
+use Rattle.ot_model.specs.declared.stmt.Mode.TheVariants.{Reads, Writes, Folds}
 use Rattle.ot_model.specs.declared.stmt.Use.{Use}
 use Rattle.ot_check.specs.Paths.{use_as, touches}
-use Rattle.ot_check.specs.Offences.{Declared, allows, adds_to, covers}
+use Rattle.ot_check.specs.Offences.{Declared, Openings, allows, folds_to, covers}
 use Rattle.ot_check.specs.Touches.{EachRead, EachTouch}
 use Rattle.ot_check.specs.walk.Walk.{Children}
 use Rattle.ot_check.specs.walk.Fine.{IsFine, AreAssigns}
@@ -24,11 +25,13 @@ use Rattle.ot_owner.specs.Lending.{is_at, uses_of}
 use Rattle.ot_owner.specs.declared.lent.LentCell.{LentCell}
 use Rattle.ot_job.proofs.Given.{Lets, LetsMode}
 use Rattle.ot_job.specs.Rights.{IsRight}
+use Rattle.ot_job.specs.Sound.{OnlyFolds}
 use Rattle.ot_task.specs.Pieces.{test_of}
 use Rattle.ot_task.specs.Touched.{assign_touches, test_touches, piece_touches}
-use Rattle.ot_task.specs.Modes.{held, mode_held}
+use Rattle.ot_task.specs.Modes.{held, held_as, mode_held}
 use Rattle.ot_job.proofs.BackLemmas.{mode_at}
 use Rattle.ot_job.proofs.CoverLemmas.{Covers, covered, flip, in-section, among-left, among-right}
+use Rattle.ot_job.proofs.FoldLemmas.{one-fold, held-alike, only-unread, only-unwritten}
 use Rattle.ot_job.proofs.FreeLemmas.{piece-safe}
 use Rattle.ot_task.proofs.HeldLemmas.{reads-append}
 use Rattle.ot_job.proofs.HoldsLemmas.{Among, held-right}
@@ -64,19 +67,19 @@ touch-from P lens (Next (Set c e) rest) only n f =
       ),
       touch-from P lens rest only n.1 (λ u k. f u (among-right u (touches (Set c e)) (assign_touches rest) k)),
     )
-touch-from P lens (Next (Add c e) rest) only n f =
+touch-from P lens (Next (Fold op c e) rest) only n f =
     let reads = map (use_as Reads) (cells_named e) in
-    let first : (u : Use) → Among u (touches (Add c e)) → P u = λ u k. f u (among-left u (touches (Add c e)) (assign_touches rest) k) in (
+    let first : (u : Use) → Among u (touches (Fold op c e)) → P u = λ u k. f u (among-left u (touches (Fold op c e)) (assign_touches rest) k) in (
       (
-        read-from (λ d. P (use_as Reads d)) lens e n.0.1 (λ d k. first (use_as Reads d) (among-left (use_as Reads d) reads (use_as Adds c ∷ []) k)),
-        first (use_as Adds c) (among-right (use_as Adds c) reads (use_as Adds c ∷ []) (inl refl)),
+        read-from (λ d. P (use_as Reads d)) lens e n.0.1 (λ d k. first (use_as Reads d) (among-left (use_as Reads d) reads (use_as (Folds op) c ∷ []) k)),
+        first (use_as (Folds op) c) (among-right (use_as (Folds op) c) reads (use_as (Folds op) c ∷ []) (inl refl)),
       ),
-      touch-from P lens rest only n.1 (λ u k. f u (among-right u (touches (Add c e)) (assign_touches rest) k)),
+      touch-from P lens rest only n.1 (λ u k. f u (among-right u (touches (Fold op c e)) (assign_touches rest) k)),
     )
 touch-from P lens (Next (If e a b) rest) only n f = absurd only
 touch-from P lens (Next (Task d b) rest) only n f = absurd only
 touch-from P lens (Next Wait rest) only n f = absurd only
-touch-from P lens (Next (Group cs b) rest) only n f = absurd only
+touch-from P lens (Next (Group op cs b) rest) only n f = absurd only
 
 -- ---- the mode of a copy
 
@@ -103,10 +106,10 @@ writes-reads (Some (d ∷ us)) c h =
     all : (m : Mode) → covers m Writes ≡ true → covers m Reads ≡ true
     all Writes h = refl
     all Reads h = absurd (true≢false (sym h))
-    all Adds h = absurd (true≢false (sym h))
+    all (Folds o) h = absurd (true≢false (sym h))
 
-module _ (lens : List ℕ) (own : Declared) (opened : Cell → Bool) (children : Children) (piece rest : Body) (only : AreAssigns piece) (named : NamedIn lens (append piece rest))
-    (fine : IsFine own opened children (append piece rest)) (exclusive : (c : Cell) → adds_to own c ≡ true → allows own (use_as Reads c) ≡ false)
+module _ (lens : List ℕ) (own : Declared) (opened : Openings) (children : Children) (piece rest : Body) (only : AreAssigns piece) (named : NamedIn lens (append piece rest))
+    (fine : IsFine own opened children (append piece rest)) (exclusive : (o : Operation) (c : Cell) → folds_to own o c ≡ true → OnlyFolds o own c)
     (lent : List LentCell) (modes : (c : Cell) → mode_in (uses_of lent) c ≡ held own (piece_touches piece (test_of rest)) c) where
   abbrev all : List Use
   all = piece_touches piece (test_of rest)
@@ -121,7 +124,7 @@ module _ (lens : List ℕ) (own : Declared) (opened : Cell → Bool) (children :
   lets : (u : Use) → Among u all → Lets (mode_at lent) u
   lets u k =
       subst (LetsMode u.mode) (sym (mode-lent lent u.cell ∙ modes u.cell))
-      (by u.mode refl (held own all u.cell) (covered own all None u k) (held-right own u.cell all))
+      (by u.mode refl (held own all u.cell) (covered own all None u k) (held-right own u.cell (held-alike own u.cell (λ o. exclusive o u.cell)) all))
     where
       reads : u.mode ≡ Reads → allows own (use_as Reads u.cell) ≡ true
       reads e = subst (λ m. allows own (use_as m u.cell) ≡ true) e (may u k)
@@ -130,12 +133,13 @@ module _ (lens : List ℕ) (own : Declared) (opened : Cell → Bool) (children :
       writes e = subst (λ m. allows own (use_as m u.cell) ≡ true) e (may u k)
 
       held-writes : u.mode ≡ Writes → mode_held own u ≡ Writes
-      held-writes e = ap (λ m. if is_adds m && not (adds_to own u.cell) then Writes else m) e
+      held-writes e = ap (held_as own u.cell) e
 
-      held-adds : u.mode ≡ Adds → Covers (Some Reads) (mode_held own u) → ⊥
-      held-adds e h = bit (adds_to own u.cell) (subst (Covers (Some Reads)) (ap (λ m. if is_adds m && not (adds_to own u.cell) then Writes else m) e) h)
+      -- a fold is held as what the body declares, or as a write
+      held-fold : (o : Operation) → u.mode ≡ Folds o → Covers (Some Reads) (mode_held own u) → ⊥
+      held-fold o e h = bit (folds_to own o u.cell) (subst (Covers (Some Reads)) (ap (held_as own u.cell) e) h)
         where
-          bit : (b : Bool) → Covers (Some Reads) (if not b then Writes else Adds) → ⊥
+          bit : (b : Bool) → Covers (Some Reads) (if b then Folds o else Writes) → ⊥
           bit true h = h
           bit false h = h
 
@@ -143,13 +147,13 @@ module _ (lens : List ℕ) (own : Declared) (opened : Cell → Bool) (children :
       by m e None h right = absurd h
       by Reads e (Some Reads) h right = tt
       by Reads e (Some Writes) h right = tt
-      by Reads e (Some Adds) h right = absurd (true≢false (sym (reads e) ∙ exclusive u.cell (right Adds refl).1))
+      by Reads e (Some (Folds o)) h right = absurd (only-unread o own u.cell (exclusive o u.cell (right (Folds o) refl).1) (reads e))
       by Writes e (Some Reads) h right = subst (Covers (Some Reads)) (held-writes e) h
       by Writes e (Some Writes) h right = tt
-      by Writes e (Some Adds) h right = absurd (true≢false (sym (writes-reads own u.cell (writes e)) ∙ exclusive u.cell (right Adds refl).1))
-      by Adds e (Some Reads) h right = absurd (held-adds e h)
-      by Adds e (Some Writes) h right = tt
-      by Adds e (Some Adds) h right = tt
+      by Writes e (Some (Folds o)) h right = absurd (only-unwritten o own u.cell (exclusive o u.cell (right (Folds o) refl).1) (writes e))
+      by (Folds p) e (Some Reads) h right = absurd (held-fold p e h)
+      by (Folds p) e (Some Writes) h right = tt
+      by (Folds p) e (Some (Folds o)) h right = one-fold p o (sym e ∙ exclusive o u.cell (right (Folds o) refl).1 u.mode (may u k))
 
   front : (a b : Body) → NamedIn lens (append a b) → NamedIn lens a
   front End b n = tt
@@ -172,8 +176,8 @@ module _ (lens : List ℕ) (own : Declared) (opened : Cell → Bool) (children :
       value-named : (b : Body) → test_of b ≡ Some e → NamedIn lens b → ValueNamedIn lens e
       value-named End is n = cc
       value-named (Next (Set c x) r) is n = cc
-      value-named (Next (Add c x) r) is n = cc
+      value-named (Next (Fold op c x) r) is n = cc
       value-named (Next (If x a b) r) is n = let same : x ≡ e = cc in subst (ValueNamedIn lens) same n.0.0
       value-named (Next (Task d b) r) is n = cc
       value-named (Next Wait r) is n = cc
-      value-named (Next (Group cs b) r) is n = cc
+      value-named (Next (Group op cs b) r) is n = cc

@@ -19,6 +19,7 @@ pub mod HoldsLemmas
 pub mod ChangedLemmas
 pub mod WholeLemmas
 pub mod AwakeLemmas
+pub mod FoldLemmas
 pub mod FreeLemmas
 pub mod OpenLemmas
 pub mod EnteredLemmas

@@ -3,7 +3,7 @@ use Rattle.std.proofs.Common.{◌≡◌, ℕ, zero, suc, ◌<◌, ◌≤◌, Boo
 use Rattle.std.specs.Prelude.{Some, None, nat_lt, ◌==◌, if◌then◌else◌}
 use Rattle.std.proofs.lemmas.Bool.{cases_eq, cases_lt}
 use Rattle.std.proofs.lemmas.Bool.Decides.{nat_tests}
-use Rattle.ot_model.specs.Tree.{E, S, Set, Add, If, Task, Wait, Group, Body, End, Next, append}
+use Rattle.ot_model.specs.Tree.{E, S, Set, Fold, If, Task, Wait, Group, Body, End, Next, append}
 use Rattle.ot_model.specs.Value.{val}
 use Rattle.ot_model.specs.Names.{NamedIn}
 use Rattle.ot_model.specs.Cells.{cell_of, updated}
@@ -11,6 +11,7 @@ use Rattle.ot_model.specs.Uses.{AreInOrder}
 use Rattle.ot_model.specs.Serial.{State, bump, either}
 use Rattle.ot_model.specs.declared.stmt.Use.{Use}
 use Rattle.ot_model.specs.declared.expr.Cell.{Cell}
+use Rattle.ot_model.specs.declared.fold.Fold.{Fold as Operation}
 use Rattle.ot_model.proofs.CellsLemmas.{length-updated}
 use Rattle.ot_model.proofs.NamesLemmas.{NamedIn-append}
 use Rattle.ot_job.specs.Left.{left}
@@ -102,15 +103,15 @@ module _ (lens : List ℕ) (ws : List Region) (s : IsSound ws) (i : ℕ) (h : i 
         long = omega (arith, length-updated ws i (waits rest));
       })
 
-  goes-group : (taken : Bool) (g : ℕ) (cs : List Cell) (b rest : Body) → (at ws i).rest ≡ Next (Group cs b) rest → Goes lens ws (executed taken g i ws) t (bump 0 1 t)
-  goes-group taken g cs b rest was =
-      let n = named-next (Group cs b) rest was in
-      subst (λ now. Goes lens ws now t (bump 0 1 t)) (sym (stepped-is taken g (Next (Group cs b) rest) (λ r. inside g cs b (with_rest rest r)) was refl refl)) (record {
-        sound = sound-enter ws s i h calm started g cs b rest was;
-        same = kept-group ws s i h g cs b rest t was;
-        named = named-changed (λ r. inside g cs b (with_rest rest r)) (NamedIn-append lens b (todo rest (at ws i).groups) n.0.1 n.1);
-        begun = λ k below w. begun-changed ws i (λ r. inside g cs b (with_rest rest r)) h (record { parent = λ r. refl; child = λ r. refl; own = λ r. refl; children = λ r. refl; ended = λ r. refl }) k w;
-        long = omega (arith, length-updated ws i (λ r. inside g cs b (with_rest rest r)));
+  goes-group : (taken : Bool) (g : ℕ) (op : Operation) (cs : List Cell) (b rest : Body) → (at ws i).rest ≡ Next (Group op cs b) rest → Goes lens ws (executed taken g i ws) t (bump 0 1 t)
+  goes-group taken g op cs b rest was =
+      let n = named-next (Group op cs b) rest was in
+      subst (λ now. Goes lens ws now t (bump 0 1 t)) (sym (stepped-is taken g (Next (Group op cs b) rest) (λ r. inside g op cs b (with_rest rest r)) was refl refl)) (record {
+        sound = sound-enter ws s i h calm started g op cs b rest was;
+        same = kept-group ws s i h g op cs b rest t was;
+        named = named-changed (λ r. inside g op cs b (with_rest rest r)) (NamedIn-append lens b (todo rest (at ws i).groups) n.0.1 n.1);
+        begun = λ k below w. begun-changed ws i (λ r. inside g op cs b (with_rest rest r)) h (record { parent = λ r. refl; child = λ r. refl; own = λ r. refl; children = λ r. refl; ended = λ r. refl }) k w;
+        long = omega (arith, length-updated ws i (λ r. inside g op cs b (with_rest rest r)));
       })
 
   goes-if : (g : ℕ) (e : E) (a b rest : Body) → (at ws i).rest ≡ Next (If e a b) rest → Goes lens ws (executed (nat_lt 0 (val (cell_of t.cells) e)) g i ws) t (bump 0 1 t)
@@ -216,11 +217,11 @@ module _ (lens : List ℕ) (ws : List Region) (s : IsSound ws) (i : ℕ) (h : i 
         where
           never : leading (Next (Set c e) rest) ≡ End → ⊥
           never e = cc
-      by (Next (Add c e) rest) was = absurd (never (ap leading (sym was) ∙ stops))
+      by (Next (Fold op c e) rest) was = absurd (never (ap leading (sym was) ∙ stops))
         where
-          never : leading (Next (Add c e) rest) ≡ End → ⊥
+          never : leading (Next (Fold op c e) rest) ≡ End → ⊥
           never e = cc
       by (Next (If e a b) rest) was = rw was (subst (λ k. Goes lens ws (executed k g i ws) t (bump 0 1 t)) (sym (told e (ap test_of was))) (goes-if g e a b rest was))
       by (Next (Task d b) rest) was = rw was (goes-task taken g d b rest was (ordered (d, b) (ap next_task was)))
       by (Next Wait rest) was = rw was (goes-wait taken g rest was)
-      by (Next (Group cs b) rest) was = rw was (goes-group taken g cs b rest was)
+      by (Next (Group op cs b) rest) was = rw was (goes-group taken g op cs b rest was)

@@ -4,7 +4,7 @@ use Rattle.std.specs.Prelude.{Option, Some, None, nat_lt, if◌then◌else◌, I
 use Rattle.std.proofs.lemmas.Bool.{cases_eq, cases_lt}
 use Rattle.std.proofs.lemmas.List.{length-map}
 use Rattle.std.proofs.lemmas.List.Sorted.{IsPermutation-refl, IsPermutation-trans, IsPermutation-cons, IsPermutation-swap}
-use Rattle.ot_model.specs.Tree.{Set, Add, If, Task, Wait, Group, Body, End, Next}
+use Rattle.ot_model.specs.Tree.{Set, Fold, If, Task, Wait, Group, Body, End, Next}
 use Rattle.ot_model.specs.Cells.{updated}
 use Rattle.ot_model.specs.declared.stmt.Use.{Use}
 use Rattle.ot_model.proofs.CellsLemmas.{length-updated, updated-updated}
@@ -194,11 +194,11 @@ loans-more (r ∷ rs) new none = ap (with_loan r.running) (loans-more rs new non
 steps-run : (taken : Bool) (g : ℕ) (b : Body) (r : Region) → (stepped_from taken g b r).running ≡ r.running
 steps-run taken g End r = refl
 steps-run taken g (Next (Set c e) rest) r = refl
-steps-run taken g (Next (Add c e) rest) r = refl
+steps-run taken g (Next (Fold op c e) rest) r = refl
 steps-run taken g (Next (If e a b) rest) r = refl
 steps-run taken g (Next (Task d b) rest) r = refl
 steps-run taken g (Next Wait rest) r = refl
-steps-run taken g (Next (Group cs b) rest) r = refl
+steps-run taken g (Next (Group op cs b) rest) r = refl
 
 loans-created : (i : ℕ) (child : Option (List Use × Body)) (rs : List Region) → loans_out (with_created i child rs) ≡ loans_out rs
 loans-created i None rs = refl
@@ -258,10 +258,10 @@ length-settled taken g i rs h = length-updated (moved_on taken g i rs) i stopped
     created : (b : Body) → length (with_created i (next_task b) (updated rs i (stepped taken g))) ≡ length rs + tasks_next b
     created End = omega (arith, length-updated rs i (stepped taken g))
     created (Next (Set c e) rest) = omega (arith, length-updated rs i (stepped taken g))
-    created (Next (Add c e) rest) = omega (arith, length-updated rs i (stepped taken g))
+    created (Next (Fold op c e) rest) = omega (arith, length-updated rs i (stepped taken g))
     created (Next (If e a b) rest) = omega (arith, length-updated rs i (stepped taken g))
     created (Next Wait rest) = omega (arith, length-updated rs i (stepped taken g))
-    created (Next (Group cs b) rest) = omega (arith, length-updated rs i (stepped taken g))
+    created (Next (Group op cs b) rest) = omega (arith, length-updated rs i (stepped taken g))
     created (Next (Task d b) rest) =
         let xs = updated rs i (stepped taken g) in
         let more = length-append (updated xs i (with_child d)) (new_region i (children_at xs i) d b ∷ []) in

@@ -1,20 +1,21 @@
--- What pieces hold of the cells of open groups: nothing of their own task's, and of another task's they only add to.
+-- What pieces hold of the cells of open groups: nothing of their own task's, and of another task's they only fold.
 use Rattle.std.proofs.Common.{◌≡◌, ◌≢◌, ℕ, ◌<◌, ◌≤◌, Bool, true, false, List, [], ◌∷◌, length, refl, sym, ap, subst, ◌∙◌, ◌⊎◌, inl, inr, true≢false, ◌&&◌}
 use Rattle.std.specs.Prelude.{Some, None, slice_get}
-use Rattle.std.proofs.lemmas.Bool.{cases_lt}
+use Rattle.std.proofs.lemmas.Bool.{cases_eq, cases_lt}
 use Rattle.ot_model.specs.Names.{NamedIn}
-use Rattle.ot_model.specs.Uses.{conflicts, is_adds, mode_in}
-use Rattle.ot_model.specs.Cells.{same_cell}
+use Rattle.ot_model.specs.Uses.{conflicts, mode_in, same_fold}
 use Rattle.ot_model.specs.declared.expr.Cell.{Cell}
+use Rattle.ot_model.specs.declared.fold.Fold.{Fold as Operation}
 use Rattle.ot_model.specs.declared.stmt.Mode.{Mode}
-use Rattle.ot_model.specs.declared.stmt.Mode.TheVariants.{Reads, Writes, Adds}
+use Rattle.ot_model.specs.declared.stmt.Mode.TheVariants.{Reads, Writes, Folds}
 use Rattle.ot_model.specs.declared.stmt.Use.{Use}
 use Rattle.ot_depend.specs.Siblings.{Sibling, is_in}
 use Rattle.ot_check.specs.Paths.{use_as}
-use Rattle.ot_check.specs.Offences.{Declared, allows, covers, adds_to, has_cell}
+use Rattle.ot_check.specs.Offences.{Declared, allows, folds_to, has_cell}
 use Rattle.ot_check.specs.Touches.{Agree}
 use Rattle.ot_check.specs.declared.fault.Offence.TheVariants.{ReductionMisuse}
-use Rattle.ot_check.proofs.Bits.{or_true, true_or, or_right, or_false_left, or_false_right}
+use Rattle.ot_check.proofs.Bits.{or_true, or_right, and_true}
+use Rattle.ot_check.proofs.OpeningLemmas.{opened-none}
 use Rattle.ot_task.specs.Place.{Open}
 use Rattle.ot_task.specs.Regions.{Region, Run}
 use Rattle.ot_task.specs.Pieces.{test_of}
@@ -25,66 +26,13 @@ use Rattle.ot_job.specs.Numbered.{at, parent_of, todo_at, ended_at}
 use Rattle.ot_job.specs.Sound.{may_at, sums_in, NamedOnce, IsBegun, IsPlaced, IsSound}
 use Rattle.ot_job.specs.Running.{RunsWell}
 use Rattle.ot_job.specs.Whole.{whole, wholes}
+use Rattle.ot_job.proofs.FoldLemmas.{same-op, one-fold, agrees-with, agrees-before, both-fold, writes-all, only-declares, only-unwritten}
 use Rattle.ot_job.proofs.HoldsLemmas.{Among}
 use Rattle.ot_job.proofs.SoundLemmas.{sound, at-past}
 use Rattle.ot_job.proofs.RightsLemmas.{rights_apart}
 use Rattle.ot_job.proofs.GroupLemmas.{writes-agree}
-use Rattle.ot_job.proofs.CreatedLemmas.{sums-opened}
+use Rattle.ot_job.proofs.CreatedLemmas.{sums-opened, opened-alike}
 use Rattle.ot_job.proofs.FreeLemmas.{total, at-whole, named-front, piece-may, piece-meets, safe, right-of}
-
--- ---- what a declaration lets a body do
-
--- who may write a cell may do anything with it
-writes-all : (uses : List Use) (c : Cell) (m : Mode) → allows (Some uses) (use_as Writes c) ≡ true → allows (Some uses) (use_as m c) ≡ true
-writes-all [] c m may = may
-writes-all (d ∷ uses) c m may =
-    elim (or_true (same_cell d.cell c && covers d.mode Writes) (allows (Some uses) (use_as Writes c)) may) [
-      | inl here ↦ true_or (same_cell d.cell c && covers d.mode m) (allows (Some uses) (use_as m c)) (one (same_cell d.cell c) d.mode here)
-      | inr later ↦ or_right (same_cell d.cell c && covers d.mode m) (allows (Some uses) (use_as m c)) (writes-all uses c m later)
-    ]
-  where
-    one : (b : Bool) (n : Mode) → (b && covers n Writes) ≡ true → (b && covers n m) ≡ true
-    one true Reads h = absurd (true≢false (sym h))
-    one true Writes h = refl
-    one true Adds h = absurd (true≢false (sym h))
-    one false n h = absurd (true≢false (sym h))
-
-own-all : (own : Declared) (c : Cell) (m : Mode) → allows own (use_as Writes c) ≡ true → allows own (use_as m c) ≡ true
-own-all None c m may = refl
-own-all (Some uses) c m may = writes-all uses c m may
-
--- a body that doesn't read a cell may only add to it
-only-sums : (uses : List Use) (c : Cell) (m : Mode) → allows (Some uses) (use_as m c) ≡ true → allows (Some uses) (use_as Reads c) ≡ false → conflicts Adds m ≡ false
-only-sums uses c Reads may none = absurd (true≢false (sym may ∙ none))
-only-sums uses c Writes may none = absurd (true≢false (sym (writes-all uses c Reads may) ∙ none))
-only-sums uses c Adds may none = refl
-
--- and declares the sum, where it may add to it
-declares-sum : (uses : List Use) (c : Cell) → allows (Some uses) (use_as Adds c) ≡ true → allows (Some uses) (use_as Reads c) ≡ false → adds_to (Some uses) c ≡ true
-declares-sum [] c may none = may
-declares-sum (d ∷ uses) c may none =
-    elim (or_true (same_cell d.cell c && covers d.mode Adds) (allows (Some uses) (use_as Adds c)) may) [
-      | inl here ↦ true_or (same_cell d.cell c && is_adds d.mode) (adds_to (Some uses) c)
-          (one (same_cell d.cell c) d.mode here (or_false_left (same_cell d.cell c && covers d.mode Reads) (allows (Some uses) (use_as Reads c)) none))
-      | inr later ↦ or_right (same_cell d.cell c && is_adds d.mode) (adds_to (Some uses) c)
-          (declares-sum uses c later (or_false_right (same_cell d.cell c && covers d.mode Reads) (allows (Some uses) (use_as Reads c)) none))
-    ]
-  where
-    one : (b : Bool) (m : Mode) → (b && covers m Adds) ≡ true → (b && covers m Reads) ≡ false → (b && is_adds m) ≡ true
-    one true Reads h g = absurd (true≢false (sym h))
-    one true Writes h g = absurd (true≢false g)
-    one true Adds h g = refl
-    one false m h g = absurd (true≢false (sym h))
-
-sum-of : (uses : List Use) (c : Cell) (m : Mode) → allows (Some uses) (use_as m c) ≡ true → allows (Some uses) (use_as Reads c) ≡ false → adds_to (Some uses) c ≡ true
-sum-of uses c Reads may none = absurd (true≢false (sym may ∙ none))
-sum-of uses c Writes may none = absurd (true≢false (sym (writes-all uses c Reads may) ∙ none))
-sum-of uses c Adds may none = declares-sum uses c may none
-
-adds-agree : (m : Mode) → conflicts m Adds ≡ false → m ≡ Adds
-adds-agree Reads h = absurd (true≢false h)
-adds-agree Writes h = absurd (true≢false h)
-adds-agree Adds h = refl
 
 -- ---- who may hold a cell
 
@@ -132,49 +80,59 @@ module _ (rs : List Region) (s : IsSound (wholes rs)) where
   placed i = subst IsPlaced (at-whole rs i) (s.placed i)
 
   -- who has an open group has begun, and has not ended
-  pub opened-begun : (i : ℕ) (c : Cell) → opened (at rs i).groups c ≡ true → IsBegun ws i
-  opened-begun i c is = by (at rs i).groups refl
+  pub opened-begun : (i : ℕ) (op : Operation) (c : Cell) → opened (at rs i).groups op c ≡ true → IsBegun ws i
+  opened-begun i op c is = by (at rs i).groups refl
     where
       by : (gs : List Open) → (at rs i).groups ≡ gs → IsBegun ws i
-      by [] none = absurd (true≢false (sym is ∙ ap (λ (gs : List Open). opened gs c) none))
+      by [] none = absurd (true≢false (sym is ∙ ap (λ (gs : List Open). opened gs op c) none))
       by (o ∷ os) some = s.entered i o os (ap (λ (r : Region). r.groups) (at-whole rs i) ∙ some)
 
-  pub opened-alive : (i : ℕ) (c : Cell) → opened (at rs i).groups c ≡ true → (at rs i).ended ≡ false
-  opened-alive i c is = by (at rs i).ended refl
+  pub opened-alive : (i : ℕ) (op : Operation) (c : Cell) → opened (at rs i).groups op c ≡ true → (at rs i).ended ≡ false
+  opened-alive i op c is = by (at rs i).ended refl
     where
       by : (b : Bool) → (at rs i).ended ≡ b → b ≡ false
-      by true over = absurd (true≢false (sym is ∙ ap (λ (gs : List Open). opened gs c) ((placed i).shut over)))
+      by true over = absurd (true≢false (sym is ∙ ap (λ (gs : List Open). opened gs op c) ((placed i).shut over)))
       by false alive = refl
 
-  -- the cells of an open group are its task's to add to
-  pub group-holds : (i : ℕ) (c : Cell) → opened (at rs i).groups c ≡ true → MayHold rs i (use_as Adds c)
-  group-holds i c is = record {
-    begun = opened-begun i c is;
-    alive = opened-alive i c is;
-    may = own-all (at rs i).own c Adds ((placed i).writes c is);
-    alone = λ k x there unfinished m may. only-sums x.uses c m may ((placed i).reduced k x there unfinished c is);
+  -- the cells of an open group are its task's to fold by the group's operation
+  pub group-holds : (i : ℕ) (op : Operation) (c : Cell) → opened (at rs i).groups op c ≡ true → MayHold rs i (use_as (Folds op) c)
+  group-holds i op c is = record {
+    begun = opened-begun i op c is;
+    alive = opened-alive i op c is;
+    may = writes-all (at rs i).own c (Folds op) ((placed i).writes op c is);
+    alone = λ k x there unfinished m may. both-fold op (Folds op) m refl ((placed i).reduced k x there unfinished op c is m may);
   }
+
+  -- a cell that two open groups name, of one task or of two, they fold by one operation
+  pub groups-alike : (i j : ℕ) (op by : Operation) (c : Cell) → opened (at rs i).groups op c ≡ true → opened (at rs j).groups by c ≡ true → op ≡ by
+  groups-alike i j op by c one two = pick (cases_eq i j)
+    where
+      pick : (i ≡ j) ⊎ (i ≡ j → ⊥) → op ≡ by
+      pick (inl same) = opened-alike (at rs i).groups (placed i).once op by c one (ap (λ n. opened (at rs n).groups by c) same ∙ two)
+      pick (inr other) =
+          sym (one-fold by op (agrees-with op (Folds by) (holders-agree i j (use_as (Folds op) c) (use_as (Folds by) c) (group-holds i op c one) (group-holds j by c two) other refl)))
 
   -- those of the innermost are its to write, where none of the children created in it is unfinished
   module _ (i : ℕ) (o : Open) (os : List Open) (innermost : (at rs i).groups ≡ o ∷ os)
       (none_in : (k : ℕ) (x : Sibling) → slice_get (at rs i).children k ≡ Some x → x.finished ≡ false → is_in o.group x ≡ false)
       (c : Cell) (named : has_cell o.cells c ≡ true) where
-    is_open : opened (at rs i).groups c ≡ true
-    is_open = ap (λ (gs : List Open). opened gs c) innermost ∙ or_right (opened os c) (has_cell o.cells c) named
+    is_open : opened (at rs i).groups o.op c ≡ true
+    is_open = ap (λ (gs : List Open). opened gs o.op c) innermost
+        ∙ or_right (opened os o.op c) (same_fold o.op o.op && has_cell o.cells c) (and_true (same_fold o.op o.op) (has_cell o.cells c) (same-op o.op) named)
 
     may_write : allows (at rs i).own (use_as Writes c) ≡ true
-    may_write = (placed i).writes c is_open
+    may_write = (placed i).writes o.op c is_open
 
-    -- an unfinished child has nothing to do with the cell: its sum would be the task's own, or of an outer group
+    -- an unfinished child has nothing to do with the cell: its fold would be the task's own, or of an outer group
     child_free : (k : ℕ) (x : Sibling) → slice_get (at rs i).children k ≡ Some x → x.finished ≡ false → (m : Mode) → allows (Some x.uses) (use_as m c) ≡ true → ⊥
     child_free k x there unfinished m may =
         let p = placed i in
-        let sum = sum-of x.uses c m may (p.reduced k x there unfinished c is_open) in
-        elim (p.sums k x there unfinished c sum) [
-          | inl own ↦ true≢false (sym (own-all (at rs i).own c Reads may_write) ∙ p.exclusive c own)
-          | inr in_one ↦ elim (or_true (has_cell o.cells c && is_in o.group x) (sums_in os x c) (sym (ap (λ (gs : List Open). sums_in gs x c) innermost) ∙ in_one)) [
-            | inl here ↦ both (has_cell o.cells c) (is_in o.group x) here (none_in k x there unfinished)
-            | inr outer ↦ true≢false (sym (sums-opened os x c outer) ∙ (subst NamedOnce innermost p.once).0 c named)
+        let sum = only-declares x.uses o.op c (p.reduced k x there unfinished o.op c is_open) m may in
+        elim (p.sums k x there unfinished o.op c sum) [
+          | inl own ↦ only-unwritten o.op (at rs i).own c (p.exclusive o.op c own) may_write
+          | inr in_one ↦ elim (or_true ((same_fold o.op o.op && has_cell o.cells c) && is_in o.group x) (sums_in os x o.op c) (sym (ap (λ (gs : List Open). sums_in gs x o.op c) innermost) ∙ in_one)) [
+            | inl here ↦ both (same_fold o.op o.op && has_cell o.cells c) (is_in o.group x) here (none_in k x there unfinished)
+            | inr outer ↦ true≢false (sym (sums-opened os x o.op c outer) ∙ (subst NamedOnce innermost p.once).0 o.op c named)
           ]
         ]
       where
@@ -184,8 +142,8 @@ module _ (rs : List Region) (s : IsSound (wholes rs)) where
 
     pub end-holds : MayHold rs i (use_as Writes c)
     end-holds = record {
-      begun = opened-begun i c is_open;
-      alive = opened-alive i c is_open;
+      begun = opened-begun i o.op c is_open;
+      alive = opened-alive i o.op c is_open;
       may = may_write;
       alone = λ k x there unfinished m may. absurd (child_free k x there unfinished m may);
     }
@@ -206,30 +164,30 @@ module _ (rs : List Region) (s : IsSound (wholes rs)) (lens : List ℕ) (named :
       alone = λ k x there unfinished n may. piece-meets lens (at rs i) (placed rs s i) (named-at i) run out (well i run out) k x there unfinished (use_as m c) (use_as n c) held may refl;
     }
 
-    -- where it holds the sum, its body declares it
-    pub piece-adds : (i : ℕ) (run : Run) (c : Cell) → (at rs i).running ≡ Some run → mode_in run.lease.uses c ≡ Some Adds → adds_to (at rs i).own c ≡ true
-    piece-adds i run c out held = (right-of lens (at rs i) (placed rs s i) (named-at i) run out (well i run out) (use_as Adds c) held).1
+    -- where it holds a fold, its body declares it
+    pub piece-folds : (i : ℕ) (run : Run) (op : Operation) (c : Cell) → (at rs i).running ≡ Some run → mode_in run.lease.uses c ≡ Some (Folds op) → folds_to (at rs i).own op c ≡ true
+    piece-folds i run op c out held = (right-of lens (at rs i) (placed rs s i) (named-at i) run out (well i run out) (use_as (Folds op) c) held).1
 
-    -- of a cell that another task's open group names, a piece holds the sum alone
-    pub adds_alone : (i j : ℕ) (c : Cell) (m : Mode) (run : Run) → (at rs i).running ≡ Some run → mode_in run.lease.uses c ≡ Some m → opened (at rs j).groups c ≡ true → i ≢ j → m ≡ Adds
-    adds_alone i j c m run out held is other =
-        adds-agree m (holders-agree rs s i j (use_as m c) (use_as Adds c) (piece-holds i run c m out held) (group-holds rs s j c is) other refl)
+    -- of a cell that another task's open group names, a piece holds the fold by the group's operation alone
+    pub folds_alone : (i j : ℕ) (op : Operation) (c : Cell) (m : Mode) (run : Run) → (at rs i).running ≡ Some run → mode_in run.lease.uses c ≡ Some m → opened (at rs j).groups op c ≡ true → i ≢ j → m ≡ Folds op
+    folds_alone i j op c m run out held is other =
+        agrees-before op m (holders-agree rs s i j (use_as m c) (use_as (Folds op) c) (piece-holds i run c m out held) (group-holds rs s j op c is) other refl)
 
     -- of a cell that an open group of its own task names, a piece holds nothing
-    pub own_untouched : (i : ℕ) (c : Cell) (m : Mode) (run : Run) → (at rs i).running ≡ Some run → mode_in run.lease.uses c ≡ Some m → opened (at rs i).groups c ≡ false
-    own_untouched i c m run out held = by m (right-of lens (at rs i) (placed rs s i) (named-at i) run out (well i run out) (use_as m c) held)
+    pub own_untouched : (i : ℕ) (op : Operation) (c : Cell) (m : Mode) (run : Run) → (at rs i).running ≡ Some run → mode_in run.lease.uses c ≡ Some m → opened (at rs i).groups op c ≡ false
+    own_untouched i op c m run out held = by m (right-of lens (at rs i) (placed rs s i) (named-at i) run out (well i run out) (use_as m c) held)
       where
         Touched : Use → Type 0
         Touched u = Among u (piece_touches run.assigns (test_of (at rs i).rest))
 
-        touch : (u : Use) → Touched u → opened (at rs i).groups u.cell ≡ false
-        touch u t = safe lens (at rs i) (placed rs s i) (named-at i) run out (well i run out) u t ReductionMisuse
+        touch : (u : Use) → Touched u → opened (at rs i).groups op u.cell ≡ false
+        touch u t = opened-none (opened (at rs i).groups) op u.cell (safe lens (at rs i) (placed rs s i) (named-at i) run out (well i run out) u t ReductionMisuse)
 
-        by : (m : Mode) → IsRight (at rs i).own Touched (use_as m c) → opened (at rs i).groups c ≡ false
+        by : (m : Mode) → IsRight (at rs i).own Touched (use_as m c) → opened (at rs i).groups op c ≡ false
         by Reads right = touch (use_as Reads c) right
         by Writes (inl right) = touch (use_as Writes c) right
-        by Writes (inr right) = touch (use_as Adds c) right.0
-        by Adds right = touch (use_as Adds c) right.0
+        by Writes (inr right) = touch (use_as (Folds right.0) c) right.1
+        by (Folds p) right = touch (use_as (Folds p) c) right.0
 
     -- at the end of an innermost group of which no child is unfinished, no piece of another task holds a cell of the group
     pub none_out : (i j : ℕ) (o : Open) (os : List Open) → (at rs i).groups ≡ o ∷ os

@@ -1,18 +1,19 @@
--- What pieces hold beside open groups, at each call of a job: what a sum goes into, and which cells are free where a group begins and ends.
-use Rattle.std.proofs.Common.{◌≡◌, ◌≢◌, ℕ, zero, suc, ◌+◌, ◌<◌, Bool, true, false, List, [], ◌∷◌, length, refl, sym, ap, ◌∙◌, ◌⊎◌, inl, inr, arith, true≢false}
+-- What pieces hold beside open groups, at each call of a job: what a fold goes into, and which cells are free where a group begins and ends.
+use Rattle.std.proofs.Common.{◌≡◌, ℕ, zero, suc, ◌+◌, ◌<◌, Bool, true, false, ◌&&◌, List, [], ◌∷◌, length, refl, sym, ap, ◌∙◌, ◌⊎◌, inl, inr, arith, true≢false}
 use Rattle.std.specs.Prelude.{Option, Some, None, All, Contains, IsSome}
 use Rattle.std.proofs.lemmas.Bool.{cases_eq}
 use Rattle.std.proofs.lemmas.List.Elements.{All-weaker}
 use Rattle.ot_model.specs.Tree.{End}
 use Rattle.ot_model.specs.Names.{NamedIn, AreInShape, IsInShape}
 use Rattle.ot_model.specs.Cells.{cell_of, lengths, updated}
-use Rattle.ot_model.specs.Uses.{AreInOrder, mode_in}
+use Rattle.ot_model.specs.Uses.{AreInOrder, is_fold, mode_in, same_fold}
 use Rattle.ot_model.specs.declared.expr.Cell.{Cell}
+use Rattle.ot_model.specs.declared.fold.Fold.{Fold as Operation}
 use Rattle.ot_model.specs.declared.stmt.Mode.{Mode}
-use Rattle.ot_model.specs.declared.stmt.Mode.TheVariants.{Adds}
+use Rattle.ot_model.specs.declared.stmt.Mode.TheVariants.{Folds}
 use Rattle.ot_model.proofs.NamesLemmas.{found_from_in}
-use Rattle.ot_check.specs.Offences.{Declared, adds_to, has_cell}
-use Rattle.ot_check.proofs.Bits.{or_true, true_or, or_right}
+use Rattle.ot_check.specs.Offences.{Declared, folds_to, has_cell}
+use Rattle.ot_check.proofs.Bits.{or_true, and_left, and_right}
 use Rattle.ot_owner.specs.Leases.{Lease}
 use Rattle.ot_task.specs.Place.{Open}
 use Rattle.ot_task.specs.Regions.{Region, Run}
@@ -29,49 +30,45 @@ use Rattle.ot_job.specs.Well.{IsOnCourse}
 use Rattle.ot_job.proofs.KeptLemmas.{at-updated}
 use Rattle.ot_job.proofs.CreatedLemmas.{sums-opened}
 use Rattle.ot_job.proofs.AwakeLemmas.{none-in-group}
+use Rattle.ot_job.proofs.FoldLemmas.{one-op}
 use Rattle.ot_job.proofs.FreeLemmas.{at-whole}
-use Rattle.ot_job.proofs.OpenLemmas.{known, piece-adds, adds_alone, own_untouched, none_out}
+use Rattle.ot_job.proofs.OpenLemmas.{known, piece-folds, folds_alone, own_untouched, none_out}
 use Rattle.ot_job.proofs.WellLemmas.{claimable-idle, claimable-goes, sound-now, named-now, well-now, started-now}
 
 -- ---- groups by their cells
 
-pub group-in : (gs : List Open) (c : Cell) → opened gs c ≡ true → (o : Open) × Contains gs o × (has_cell o.cells c ≡ true)
-group-in [] c is = absurd (true≢false (sym is))
-group-in (o ∷ os) c is =
-    elim (or_true (opened os c) (has_cell o.cells c) is) [
-      | inl outer ↦ (let g = group-in os c outer in (g.0, (suc g.1.0, omega (arith, g.1.1), g.1.2), g.2))
-      | inr here ↦ (o, (0, omega arith, refl), here)
+pub group-in : (gs : List Open) (op : Operation) (c : Cell) → opened gs op c ≡ true → (g : Open) × Contains gs g × (g.op ≡ op) × (has_cell g.cells c ≡ true)
+group-in [] op c is = absurd (true≢false (sym is))
+group-in (g ∷ gs) op c is =
+    elim (or_true (opened gs op c) (same_fold g.op op && has_cell g.cells c) is) [
+      | inl outer ↦ (let h = group-in gs op c outer in (h.0, (suc h.1.0, omega (arith, h.1.1), h.1.2), h.2, h.3))
+      | inr here ↦ (g, (0, omega arith, refl), one-op g.op op (and_left (same_fold g.op op) (has_cell g.cells c) here), and_right (same_fold g.op op) (has_cell g.cells c) here)
     ]
 
-pub in-group : (gs : List Open) (o : Open) (c : Cell) → Contains gs o → has_cell o.cells c ≡ true → opened gs c ≡ true
-in-group [] o c (k, within, is) named = absurd (omega (arith, within))
-in-group (p ∷ ps) o c (zero, within, is) named = or_right (opened ps c) (has_cell p.cells c) (ap (λ (x : Open). has_cell x.cells c) is ∙ named)
-in-group (p ∷ ps) o c (suc k, within, is) named = true_or (opened ps c) (has_cell p.cells c) (in-group ps o c (k, omega (arith, within), is) named)
+-- some task has an open group by this operation that names the cell
+abbrev pub IsFolded : List Region → Operation → Cell → Type 0
+IsFolded rs op c = (k : ℕ) × (g : Open) × Contains (at rs k).groups g × (g.op ≡ op) × (has_cell g.cells c ≡ true)
 
--- some task has an open group that names the cell
-abbrev pub IsSummed : List Region → Cell → Type 0
-IsSummed rs c = (k : ℕ) × (o : Open) × Contains (at rs k).groups o × (has_cell o.cells c ≡ true)
-
--- ---- who adds has a group
+-- ---- who folds has a group
 
 module _ (rs : List Region) (s : IsSound (wholes rs)) where
   abbrev ws : List Region
   ws = wholes rs
 
-  root-adds-none : (c : Cell) → adds_to (at rs 0).own c ≡ true → ⊥
-  root-adds-none c adds = true≢false (sym adds ∙ sym (ap (λ (r : Region). adds_to r.own c) (at-whole rs 0)) ∙ ap (λ (d : Declared). adds_to d c) s.root)
+  root-folds-none : (op : Operation) (c : Cell) → folds_to (at rs 0).own op c ≡ true → ⊥
+  root-folds-none op c folds = true≢false (sym folds ∙ sym (ap (λ (r : Region). folds_to r.own op c) (at-whole rs 0)) ∙ ap (λ (d : Declared). folds_to d op c) s.root)
 
   zero_or : (n : ℕ) → (n ≡ 0) ⊎ (0 < n)
   zero_or zero = inl refl
   zero_or (suc n) = inr (omega arith)
 
-  -- a sum is of an open group of the parent's, or the parent, which has not ended either, declares it
-  adds-up : (i : ℕ) → 0 < i → (c : Cell) → (at rs i).ended ≡ false → adds_to (at rs i).own c ≡ true
-      → ((at rs (parent_of ws i)).ended ≡ false → adds_to (at rs (parent_of ws i)).own c ≡ true → IsSummed rs c) → IsSummed rs c
-  adds-up i pos c alive adds above =
-      elim ((s.placed p).sums (at ws i).child kin.entry kin.there unfinished c sum) [
-        | inl own ↦ (let mine = ap (λ (r : Region). adds_to r.own c) (sym (at-whole rs p)) ∙ own in above (going mine (at rs p).ended refl) mine)
-        | inr summed ↦ (let g = group-in (at rs p).groups c (ap (λ (r : Region). opened r.groups c) (sym (at-whole rs p)) ∙ sums-opened (at ws p).groups kin.entry c summed) in (p, g.0, g.1, g.2))
+  -- a fold is of an open group of the parent's, or the parent, which has not ended either, declares it
+  folds-up : (i : ℕ) → 0 < i → (op : Operation) (c : Cell) → (at rs i).ended ≡ false → folds_to (at rs i).own op c ≡ true
+      → ((at rs (parent_of ws i)).ended ≡ false → folds_to (at rs (parent_of ws i)).own op c ≡ true → IsFolded rs op c) → IsFolded rs op c
+  folds-up i pos op c alive folds above =
+      elim ((s.placed p).sums (at ws i).child kin.entry kin.there unfinished op c sum) [
+        | inl own ↦ (let mine = ap (λ (r : Region). folds_to r.own op c) (sym (at-whole rs p)) ∙ own in above (going mine (at rs p).ended refl) mine)
+        | inr summed ↦ (let g = group-in (at rs p).groups op c (ap (λ (r : Region). opened r.groups op c) (sym (at-whole rs p)) ∙ sums-opened (at ws p).groups kin.entry op c summed) in (p, g.0, g.1, g.2, g.3))
       ]
     where
       p : ℕ
@@ -83,28 +80,28 @@ module _ (rs : List Region) (s : IsSound (wholes rs)) where
       unfinished : kin.entry.finished ≡ false
       unfinished = kin.finished ∙ ap (λ (r : Region). r.ended) (at-whole rs i) ∙ alive
 
-      sum : adds_to (Some kin.entry.uses) c ≡ true
-      sum = ap (λ (d : Declared). adds_to d c) (sym kin.uses ∙ ap (λ (r : Region). r.own) (at-whole rs i)) ∙ adds
+      sum : folds_to (Some kin.entry.uses) op c ≡ true
+      sum = ap (λ (d : Declared). folds_to d op c) (sym kin.uses ∙ ap (λ (r : Region). r.own) (at-whole rs i)) ∙ folds
 
-      going : adds_to (at rs p).own c ≡ true → (b : Bool) → (at rs p).ended ≡ b → b ≡ false
+      going : folds_to (at rs p).own op c ≡ true → (b : Bool) → (at rs p).ended ≡ b → b ≡ false
       going own false e = refl
       going own true e = up (zero_or p)
         where
           up : (p ≡ 0) ⊎ (0 < p) → true ≡ false
-          up (inl root) = absurd (root-adds-none c (ap (λ m. adds_to (at rs m).own c) (sym root) ∙ own))
+          up (inl root) = absurd (root-folds-none op c (ap (λ m. folds_to (at rs m).own op c) (sym root) ∙ own))
           up (inr higher) = absurd (true≢false (sym (s.done p higher (ap (λ (r : Region). r.ended) (at-whole rs p) ∙ e) (at ws i).child kin.entry kin.there) ∙ unfinished))
 
-  adds-below : (n i : ℕ) → i < n → (c : Cell) → (at rs i).ended ≡ false → adds_to (at rs i).own c ≡ true → IsSummed rs c
-  adds-below zero i below c alive adds = absurd (omega (arith, below))
-  adds-below (suc n) i below c alive adds =
+  folds-below : (n i : ℕ) → i < n → (op : Operation) (c : Cell) → (at rs i).ended ≡ false → folds_to (at rs i).own op c ≡ true → IsFolded rs op c
+  folds-below zero i below op c alive folds = absurd (omega (arith, below))
+  folds-below (suc n) i below op c alive folds =
       elim (zero_or i) [
-        | inl root ↦ absurd (root-adds-none c (ap (λ m. adds_to (at rs m).own c) (sym root) ∙ adds))
-        | inr pos ↦ adds-up i pos c alive adds (adds-below n (parent_of ws i) (omega (arith, below, s.down i pos)) c)
+        | inl root ↦ absurd (root-folds-none op c (ap (λ m. folds_to (at rs m).own op c) (sym root) ∙ folds))
+        | inr pos ↦ folds-up i pos op c alive folds (folds-below n (parent_of ws i) (omega (arith, below, s.down i pos)) op c)
       ]
 
-  -- what a task that has not ended declares as a sum goes into an open group
-  pub who_adds : (i : ℕ) (c : Cell) → (at rs i).ended ≡ false → adds_to (at rs i).own c ≡ true → IsSummed rs c
-  who_adds i c alive adds = adds-below (i + 1) i (omega arith) c alive adds
+  -- what a task that has not ended declares as a fold goes into an open group
+  pub who_folds : (i : ℕ) (op : Operation) (c : Cell) → (at rs i).ended ≡ false → folds_to (at rs i).own op c ≡ true → IsFolded rs op c
+  who_folds i op c alive folds = folds-below (i + 1) i (omega arith) op c alive folds
 
 -- ---- pieces that are out
 
@@ -113,20 +110,20 @@ module _ (rs : List Region) (s : IsSound (wholes rs)) (lens : List ℕ) (named :
     (started : (i : ℕ) (run : Run) → (at rs i).running ≡ Some run → IsBegun (wholes rs) i)
   where
     -- a cell that a piece reads or writes is in no open group
-    pub held-unopened : (i : ℕ) (run : Run) → (at rs i).running ≡ Some run → (c : Cell) (m : Mode) → mode_in run.lease.uses c ≡ Some m → m ≢ Adds → (k : ℕ) → opened (at rs k).groups c ≡ false
-    held-unopened i run out c m held other k = by (opened (at rs k).groups c) refl
+    pub held-unopened : (i : ℕ) (run : Run) → (at rs i).running ≡ Some run → (c : Cell) (m : Mode) → mode_in run.lease.uses c ≡ Some m → is_fold m ≡ false → (k : ℕ) (op : Operation) → opened (at rs k).groups op c ≡ false
+    held-unopened i run out c m held other k op = by (opened (at rs k).groups op c) refl
       where
-        by : (b : Bool) → opened (at rs k).groups c ≡ b → b ≡ false
+        by : (b : Bool) → opened (at rs k).groups op c ≡ b → b ≡ false
         by false e = refl
         by true e = pick (cases_eq i k)
           where
             pick : (i ≡ k) ⊎ (i ≡ k → ⊥) → true ≡ false
-            pick (inl same) = sym e ∙ ap (λ n. opened (at rs n).groups c) (sym same) ∙ own_untouched rs s lens named well started i c m run out held
-            pick (inr differs) = absurd (other (adds_alone rs s lens named well started i k c m run out held e differs))
+            pick (inl same) = sym e ∙ ap (λ n. opened (at rs n).groups op c) (sym same) ∙ own_untouched rs s lens named well started i op c m run out held
+            pick (inr differs) = sym (ap is_fold (folds_alone rs s lens named well started i k op c m run out held e differs)) ∙ other
 
-    -- a cell of which it holds the sum is in one
-    pub held-summed : (i : ℕ) (run : Run) → (at rs i).running ≡ Some run → (c : Cell) → mode_in run.lease.uses c ≡ Some Adds → IsSummed rs c
-    held-summed i run out c held = who_adds rs s i c (well i run out).alive (piece-adds rs s lens named well started i run c out held)
+    -- a cell of which it holds the fold is in one by that operation
+    pub held-folded : (i : ℕ) (run : Run) → (at rs i).running ≡ Some run → (op : Operation) (c : Cell) → mode_in run.lease.uses c ≡ Some (Folds op) → IsFolded rs op c
+    held-folded i run out op c held = who_folds rs s i op c (well i run out).alive (piece-folds rs s lens named well started i run op c out held)
 
     -- ---- a claim that passes the end of a group
 
@@ -157,16 +154,16 @@ module _ (j : Live) (o : IsOnCourse j) (i : ℕ) (h : i < length j.regions) (can
   out : (at now i).running ≡ Some run
   out = ap (λ (r : Region). r.running) (at-updated j.regions i (begun worker lease) h)
 
-  pub claim-unopened : (c : Cell) (m : Mode) → mode_in lease.uses c ≡ Some m → m ≢ Adds → (k : ℕ) → opened (at now k).groups c ≡ false
+  pub claim-unopened : (c : Cell) (m : Mode) → mode_in lease.uses c ≡ Some m → is_fold m ≡ false → (k : ℕ) (op : Operation) → opened (at now k).groups op c ≡ false
   claim-unopened =
       held-unopened now (sound-now (lengths j.cells) j.regions o.sound o.named o.runs o.begun i h can worker lease are ordered) (lengths j.cells)
       (named-now (lengths j.cells) j.regions o.sound o.named o.runs o.begun i h can worker lease are ordered)
       (well-now (lengths j.cells) j.regions o.sound o.named o.runs o.begun i h can worker lease are ordered)
       (started-now (lengths j.cells) j.regions o.sound o.named o.runs o.begun i h can worker lease are ordered) i run out
 
-  pub claim-summed : (c : Cell) → mode_in lease.uses c ≡ Some Adds → IsSummed now c
-  claim-summed =
-      held-summed now (sound-now (lengths j.cells) j.regions o.sound o.named o.runs o.begun i h can worker lease are ordered) (lengths j.cells)
+  pub claim-folded : (op : Operation) (c : Cell) → mode_in lease.uses c ≡ Some (Folds op) → IsFolded now op c
+  claim-folded =
+      held-folded now (sound-now (lengths j.cells) j.regions o.sound o.named o.runs o.begun i h can worker lease are ordered) (lengths j.cells)
       (named-now (lengths j.cells) j.regions o.sound o.named o.runs o.begun i h can worker lease are ordered)
       (well-now (lengths j.cells) j.regions o.sound o.named o.runs o.begun i h can worker lease are ordered)
       (started-now (lengths j.cells) j.regions o.sound o.named o.runs o.begun i h can worker lease are ordered) i run out

@@ -1,5 +1,5 @@
 -- Copies are kept of the cells of the open groups and of no others, as tasks go on and as pieces come back.
-use Rattle.std.proofs.Common.{◌≡◌, ◌≢◌, ◌<◌, ◌+◌, ◌↔◌, ◌⊎◌, ℕ, zero, suc, Bool, true, false, true≢false, cond, List, [], ◌∷◌, ◌++◌, map, length, get_or, refl, sym, ap, subst, ◌∙◌, inl, inr, arith, Contains, IsPermutation}
+use Rattle.std.proofs.Common.{◌≡◌, ◌≢◌, ◌<◌, ◌+◌, ◌↔◌, ◌⊎◌, ℕ, zero, suc, Bool, true, false, ◌&&◌, true≢false, cond, List, [], ◌∷◌, ◌++◌, map, length, get_or, refl, sym, ap, subst, ◌∙◌, inl, inr, arith, Contains, IsPermutation}
 use Rattle.std.specs.Prelude.{Option, Some, None, IsSome, is_some, option_map, unwrap_or, replicate, nat_lt, if◌then◌else◌, ◌==◌}
 use Rattle.std.specs.List.{All, Any, position_from}
 use Rattle.std.proofs.lemmas.Bool.{cases_eq, eqb-true, eq-eqb}
@@ -11,33 +11,35 @@ use Rattle.std.proofs.lemmas.List.Quantifiers.{position-Some}
 use Rattle.std.proofs.lemmas.List.Sorted.{Contains-permutation, IsPermutation-refl, IsPermutation-sym, IsPermutation-trans, IsPermutation-cons, IsPermutation-middle, IsPermutation-to_front, IsPermutation-append_right}
 use Rattle.std.proofs.lemmas.Option.{same_Some, none-some}
 use Rattle.ot_model.specs.Cells.{cell_of, same_cell, updated}
-use Rattle.ot_model.specs.Tree.{Set, Add, If, Task, Wait, Group, Body, End, Next}
-use Rattle.ot_model.specs.Uses.{Conflict, is_adds, mode_in, first_of}
+use Rattle.ot_model.specs.Tree.{Set, Fold, If, Task, Wait, Group, Body, End, Next}
+use Rattle.ot_model.specs.Uses.{Conflict, is_fold, mode_in, first_of, same_fold}
 use Rattle.ot_model.specs.declared.expr.Cell.{Cell}
+use Rattle.ot_model.specs.declared.fold.Fold.{Fold as Operation}
 use Rattle.ot_model.specs.declared.stmt.Mode.{Mode}
-use Rattle.ot_model.specs.declared.stmt.Mode.TheVariants.{Reads, Writes, Adds}
+use Rattle.ot_model.specs.declared.stmt.Mode.TheVariants.{Reads, Writes, Folds}
 use Rattle.ot_model.specs.declared.stmt.Use.{Use}
 use Rattle.ot_model.proofs.EqualLemmas.{cell-decides}
 use Rattle.ot_check.specs.Offences.{has_cell}
-use Rattle.ot_check.proofs.Bits.{or_true, true_or, or_right}
+use Rattle.ot_check.proofs.Bits.{true_or, or_right, and_true}
 use Rattle.ot_owner.specs.Back.{taken_back, all_back}
 use Rattle.ot_owner.specs.Leases.{copy_of, lent_from}
 use Rattle.ot_owner.specs.Owning.{Loan, Owned, IsFreeFor}
-use Rattle.ot_owner.specs.Rows.{Summed, is_of, place_in, names, IsNamed, IsSummed, adds_in, added_in, added, begun_in, begun_for, without as without_group}
-use Rattle.ot_owner.specs.Worth.{combined, worth_over, worth, worths, IsCombined}
+use Rattle.ot_owner.specs.Rows.{Summed, is_of, place_in, names, IsNamed, IsSummed, IsSummedBy, IsOnlyBy, IsByOne, folds_in, folded_in, folded, begun_in, begun_for, without as without_group}
+use Rattle.ot_owner.specs.Worth.{worth_over, worth, worths, IsCombined}
 use Rattle.ot_owner.specs.declared.lent.LentCell.{LentCell}
-use Rattle.ot_owner.proofs.OpenLemmas.{unsummed, worth-with}
+use Rattle.ot_owner.proofs.OpenLemmas.{same_worth, worth-unsummed as over-unsummed}
 use Rattle.ot_owner.proofs.OutLemmas.{permutation_rest}
 use Rattle.ot_owner.proofs.WorthLemmas.{cell_of-worths}
 use Rattle.ot_task.specs.Pieces.{passed, awake, ended_group, group_passed}
 use Rattle.ot_task.specs.Place.{Open}
-use Rattle.ot_task.specs.Regions.{Region, cells_next, with_child, new_region, with_created, stepped, stepped_from, executed, next_task, rest_at, children_at, over, stopped}
+use Rattle.ot_task.specs.Regions.{Region, group_next, with_child, new_region, with_created, stepped, stepped_from, executed, next_task, rest_at, children_at, over, stopped}
 use Rattle.ot_task.specs.Standing.{is_at_end}
 use Rattle.ot_job.specs.Awaiting.{opened}
 use Rattle.ot_job.specs.Numbered.{at, parent_of}
 use Rattle.ot_job.specs.Opened.{numbers_in, AreOpen}
 use Rattle.ot_job.specs.Opening.{left_open, Opens}
 use Rattle.ot_job.specs.Settling.{told_parent, closed, moved_on, settled}
+use Rattle.ot_job.proofs.FoldLemmas.{same-op}
 use Rattle.ot_job.proofs.KeptLemmas.{at-updated, at-updated-other}
 use Rattle.ot_job.proofs.MovesLemmas.{tell-field}
 
@@ -117,21 +119,14 @@ of-cells cells c has =
     let (k, d, within, is, same) = Any-from_list_any (λ (d : Cell). same_cell d c) cells has in
     subst (Contains cells) ((cell-decides d c).0 same) (k, within, is)
 
-opened-one : (os : List Open) (c : Cell) → opened os c ≡ true → (o : Open) × Contains os o × (has_cell o.cells c ≡ true)
-opened-one [] c is = absurd (true≢false (sym is))
-opened-one (o ∷ os) c is = by (or_true (opened os c) (has_cell o.cells c) is) (λ outer. opened-one os c outer)
-  where
-    by : (opened os c ≡ true) ⊎ (has_cell o.cells c ≡ true) → (opened os c ≡ true → (o : Open) × Contains os o × (has_cell o.cells c ≡ true)) → (p : Open) × Contains (o ∷ os) p × (has_cell p.cells c ≡ true)
-    by (inl outer) rest = let (p, there, has) = rest outer in (p, later o p os there, has)
-    by (inr own) rest = (o, here o os, own)
-
-one-opened : (os : List Open) (o : Open) (c : Cell) → Contains os o → has_cell o.cells c ≡ true → opened os c ≡ true
+pub one-opened : (os : List Open) (o : Open) (c : Cell) → Contains os o → has_cell o.cells c ≡ true → opened os o.op c ≡ true
 one-opened [] o c (k, within, is) has = absurd (omega (arith, within))
 one-opened (p ∷ os) o c there has = by (one_of p o os there) (λ outer. one-opened os o c outer has)
   where
-    by : (p ≡ o) ⊎ Contains os o → (Contains os o → opened os c ≡ true) → opened (p ∷ os) c ≡ true
-    by (inl is) rest = or_right (opened os c) (has_cell p.cells c) (ap (λ (q : Open). has_cell q.cells c) is ∙ has)
-    by (inr outer) rest = true_or (opened os c) (has_cell p.cells c) (rest outer)
+    by : (p ≡ o) ⊎ Contains os o → (Contains os o → opened os o.op c ≡ true) → opened (p ∷ os) o.op c ≡ true
+    by (inl is) rest = or_right (opened os o.op c) (same_fold p.op o.op && has_cell p.cells c)
+        (ap (λ (q : Open). same_fold q.op o.op && has_cell q.cells c) is ∙ and_true (same_fold o.op o.op) (has_cell o.cells c) (same-op o.op) has)
+    by (inr outer) rest = true_or (opened os o.op c) (same_fold p.op o.op && has_cell p.cells c) (rest outer)
 
 -- a use tells the mode of its cell, or an earlier one does
 mode-there : (uses : List Use) (u : Use) → Contains uses u → (m : Mode) × (mode_in uses u.cell ≡ Some m)
@@ -183,26 +178,40 @@ kept-open rs gs i o are among =
 
 -- ---- which cells copies are kept of
 
--- a cell that copies are kept of is named by an open group
-pub summed-opened : (rs : List Region) (gs : List Summed) (c : Cell) → AreOpen rs gs → IsSummed gs c → (i : ℕ) × (opened (at rs i).groups c ≡ true)
-summed-opened rs gs c are (k, g, within, is, named) =
-    let (i, o, among, same) = open-kept rs gs g are (k, within, is) in
-    (i, one-opened (at rs i).groups o c among (sym (are.cells i o g among (k, within, is) (sym same) c) ∙ named))
+-- a group of which copies are kept is open, and names each of its cells by its operation
+kept-opened : (rs : List Region) (gs : List Summed) (g : Summed) (c : Cell) → AreOpen rs gs → Contains gs g → names c g ≡ true → (i : ℕ) × (opened (at rs i).groups g.op c ≡ true)
+kept-opened rs gs g c are there named =
+    let (i, o, among, same) = open-kept rs gs g are there in
+    let opens = one-opened (at rs i).groups o c among (sym (are.cells i o g among there (sym same) c) ∙ named) in
+    (i, ap (λ p. opened (at rs i).groups p c) (are.ops i o g among there (sym same)) ∙ opens)
 
-pub open-summed : (rs : List Region) (gs : List Summed) (i : ℕ) (o : Open) (c : Cell) → AreOpen rs gs → Contains (at rs i).groups o → has_cell o.cells c ≡ true → IsSummed gs c
+-- copies are kept of each cell that an open group names, by its operation
+pub open-summed : (rs : List Region) (gs : List Summed) (i : ℕ) (o : Open) (c : Cell) → AreOpen rs gs → Contains (at rs i).groups o → has_cell o.cells c ≡ true → IsSummedBy gs o.op c
 open-summed rs gs i o c are among has =
     let (g, there, same) = kept-open rs gs i o are among in
-    any-of (λ g. names c g ≡ true) gs g there (are.cells i o g among there same c ∙ has)
-
--- copies are kept of each cell that an open group names
-pub opened-summed : (rs : List Region) (gs : List Summed) (i : ℕ) (c : Cell) → AreOpen rs gs → opened (at rs i).groups c ≡ true → IsSummed gs c
-opened-summed rs gs i c are is =
-    let (o, among, has) = opened-one (at rs i).groups c is in
-    open-summed rs gs i o c are among has
+    any-of (λ g. (names c g ≡ true) × (g.op ≡ o.op)) gs g there (are.cells i o g among there same c ∙ has, are.ops i o g among there same)
 
 -- and of none that no open group names
-pub not_summed : (rs : List Region) (gs : List Summed) (c : Cell) → AreOpen rs gs → ((i : ℕ) → opened (at rs i).groups c ≡ false) → ¬ IsSummed gs c
-not_summed rs gs c are none there = let (i, is) = summed-opened rs gs c are there in true≢false (sym is ∙ none i)
+pub not_summed : (rs : List Region) (gs : List Summed) (c : Cell) → AreOpen rs gs → ((i : ℕ) (op : Operation) → opened (at rs i).groups op c ≡ false) → ¬ IsSummed gs c
+not_summed rs gs c are none (k, g, within, is, named) =
+    let (i, opens) = kept-opened rs gs g c are (k, within, is) named in true≢false (sym opens ∙ none i g.op)
+
+-- by one operation alone, where all open groups that name the cell are by it
+pub only-by : (rs : List Region) (gs : List Summed) (op : Operation) (c : Cell) → AreOpen rs gs
+    → ((i : ℕ) (by : Operation) → opened (at rs i).groups by c ≡ true → by ≡ op) → IsOnlyBy gs op c
+only-by rs gs op c are one = all-of (λ g. names c g ≡ true → g.op ≡ op) gs each
+  where
+    each : (g : Summed) → Contains gs g → names c g ≡ true → g.op ≡ op
+    each g there named = let (i, opens) = kept-opened rs gs g c are there named in one i g.op opens
+
+-- the cells of a group are of groups by one operation, where no two open groups that name a cell are by two
+pub by-one : (rs : List Region) (gs : List Summed) (group : ℕ) → AreOpen rs gs
+    → ((i j : ℕ) (op by : Operation) (c : Cell) → opened (at rs i).groups op c ≡ true → opened (at rs j).groups by c ≡ true → op ≡ by) → IsByOne group gs
+by-one rs gs group are alike = all-of (λ g. g.group ≡ group → (c : Cell) → names c g ≡ true → IsOnlyBy gs g.op c) gs each
+  where
+    each : (g : Summed) → Contains gs g → g.group ≡ group → (c : Cell) → names c g ≡ true → IsOnlyBy gs g.op c
+    each g there same c named =
+        let (i, opens) = kept-opened rs gs g c are there named in only-by rs gs g.op c are (λ j by other. alike j i by g.op c other opens)
 
 -- ---- where the open groups are the same
 
@@ -234,6 +243,7 @@ open-fewer : (rs now : List Region) (gs new : List Summed) → IsPermutation (gr
     → ((g : Summed) → Contains new g → Contains gs g) → AreOpen rs gs → AreOpen now new
 open-fewer rs now gs new numbers fewer less are = record {
   numbers = numbers;
+  ops = λ i o g among there same. are.ops i o g (fewer i o among) (less g there) same;
   cells = λ i o g among there same c. are.cells i o g (fewer i o among) (less g there) same c;
 }
 
@@ -323,49 +333,58 @@ open-passed rs gs i f within goes are = by (at rs i).rest (at rs i).groups refl 
 
 -- ---- rows begin and grow
 
-abbrev pub head_of : Summed → ℕ × List Use
-head_of g = (g.group, g.uses)
+abbrev pub Head : Type 0
+Head = ℕ × Operation × List Use
 
-abbrev pub heads : List Summed → List (ℕ × List Use)
+abbrev pub head_of : Summed → Head
+head_of g = (g.group, g.op, g.uses)
+
+abbrev pub heads : List Summed → List Head
 heads gs = map head_of gs
 
-groups-heads : (gs : List Summed) → groups_of gs ≡ map (λ (h : ℕ × List Use). h.0) (heads gs)
+groups-heads : (gs : List Summed) → groups_of gs ≡ map (λ (h : Head). h.0) (heads gs)
 groups-heads [] = refl
 groups-heads (g ∷ gs) = ap (λ ns. g.group ∷ ns) (groups-heads gs)
 
 -- where the groups are the same but for their rows
 pub open-alike : (rs : List Region) (gs new : List Summed) → heads new ≡ heads gs → AreOpen rs gs → AreOpen rs new
 open-alike rs gs new same are = record {
-  numbers = subst (λ ns. IsPermutation ns (numbers_in rs)) (groups-heads gs ∙ ap (map (λ (h : ℕ × List Use). h.0)) (sym same) ∙ sym (groups-heads new)) are.numbers;
+  numbers = subst (λ ns. IsPermutation ns (numbers_in rs)) (groups-heads gs ∙ ap (map (λ (h : Head). h.0)) (sym same) ∙ sym (groups-heads new)) are.numbers;
+  ops = ops;
   cells = cells;
 }
   where
+    ops : (i : ℕ) (o : Open) (g : Summed) → Contains (at rs i).groups o → Contains new g → g.group ≡ o.group → g.op ≡ o.op
+    ops i o g among there number =
+        let (before, old, is) = mapped-of head_of gs (head_of g) (subst (λ hs. Contains hs (head_of g)) same (mapped head_of new g there)) in
+        sym (ap (λ (h : Head). h.1) is) ∙ are.ops i o before among old (ap (λ (h : Head). h.0) is ∙ number)
+
     cells : (i : ℕ) (o : Open) (g : Summed) → Contains (at rs i).groups o → Contains new g → g.group ≡ o.group → (c : Cell) → names c g ≡ has_cell o.cells c
     cells i o g among there number c =
         let (before, old, is) = mapped-of head_of gs (head_of g) (subst (λ hs. Contains hs (head_of g)) same (mapped head_of new g there)) in
-        sym (ap (λ (h : ℕ × List Use). is_some (place_in h.1 c)) is) ∙ are.cells i o before among old (ap (λ (h : ℕ × List Use). h.0) is ∙ number) c
+        sym (ap (λ (h : Head). is_some (place_in h.2 c)) is) ∙ are.cells i o before among old (ap (λ (h : Head). h.0) is ∙ number) c
 
 heads-begun : (worker : ℕ) (uses : List Use) (gs : List Summed) → heads (begun_for worker uses gs) ≡ heads gs
 heads-begun worker uses [] = refl
-heads-begun worker uses (g ∷ gs) = ap (λ h. h ∷ heads (begun_for worker uses gs)) (by (adds_in g.uses uses)) ∙ ap (λ hs. head_of g ∷ hs) (heads-begun worker uses gs)
+heads-begun worker uses (g ∷ gs) = ap (λ h. h ∷ heads (begun_for worker uses gs)) (by (folds_in g.uses uses)) ∙ ap (λ hs. head_of g ∷ hs) (heads-begun worker uses gs)
   where
     by : (b : Bool) → head_of (if b then begun_in worker g else g) ≡ head_of g
     by true = refl
     by false = refl
 
-heads-added : (worker : ℕ) (c : Cell) (number : ℕ) (gs : List Summed) → heads (added worker c number gs) ≡ heads gs
-heads-added worker c number [] = refl
-heads-added worker c number (g ∷ gs) = by (place_in g.uses c) (heads-added worker c number gs)
+heads-folded : (worker : ℕ) (c : Cell) (number : ℕ) (gs : List Summed) → heads (folded worker c number gs) ≡ heads gs
+heads-folded worker c number [] = refl
+heads-folded worker c number (g ∷ gs) = by (place_in g.uses c) (heads-folded worker c number gs)
   where
-    by : (o : Option ℕ) → heads (added worker c number gs) ≡ heads gs → heads (if is_some o then added_in worker number g o ∷ gs else g ∷ added worker c number gs) ≡ heads (g ∷ gs)
+    by : (o : Option ℕ) → heads (folded worker c number gs) ≡ heads gs → heads (if is_some o then folded_in worker number g o ∷ gs else g ∷ folded worker c number gs) ≡ heads (g ∷ gs)
     by None rest = ap (λ hs. head_of g ∷ hs) rest
     by (Some p) rest = refl
 
 heads-taken : (worker : ℕ) (l : LentCell) (gs : List Summed) → heads (taken_back worker l gs) ≡ heads gs
-heads-taken worker l gs = by (is_adds l.mode)
+heads-taken worker l gs = by (is_fold l.mode)
   where
-    by : (b : Bool) → heads (if b then added worker l.cell l.value gs else gs) ≡ heads gs
-    by true = heads-added worker l.cell l.value gs
+    by : (b : Bool) → heads (if b then folded worker l.cell l.value gs else gs) ≡ heads gs
+    by true = heads-folded worker l.cell l.value gs
     by false = refl
 
 heads-back : (worker : ℕ) (lent : List LentCell) (gs : List Summed) → heads (all_back worker lent gs) ≡ heads gs
@@ -385,8 +404,8 @@ abbrev pub AreBelow : List Region → ℕ → Type 0
 AreBelow rs number = (k : ℕ) → All (λ o. o.group < number) (at rs k).groups
 
 -- a group as it is opened, with no row
-abbrev pub summed_new : ℕ → List Use → Summed
-summed_new number uses = record { group = number; uses = uses; rows = replicate 17 None }
+abbrev pub summed_new : ℕ → Operation → List Use → Summed
+summed_new number op uses = record { group = number; op = op; uses = uses; rows = replicate 17 None }
 
 numbers-entered : (rs : List Region) (i : ℕ) (f : Region → Region) (o : Open) → i < length rs → (f (at rs i)).groups ≡ o ∷ (at rs i).groups
     → IsPermutation (o.group ∷ numbers_in rs) (numbers_in (updated rs i f))
@@ -401,10 +420,10 @@ numbers-entered (r ∷ rs) (suc i) f o within now =
 
 module _ (rs : List Region) (gs : List Summed) (i : ℕ) (f : Region → Region) (o : Open) (uses : List Use) (within : i < length rs)
     (now : (f (at rs i)).groups ≡ o ∷ (at rs i).groups) (below : AreBelow rs o.group) (named : (c : Cell) → IsNamed uses c ↔ Contains o.cells c) (are : AreOpen rs gs) where
-  numbers-opened : IsPermutation (groups_of (gs ++ summed_new o.group uses ∷ [])) (numbers_in (updated rs i f))
+  numbers-opened : IsPermutation (groups_of (gs ++ summed_new o.group o.op uses ∷ [])) (numbers_in (updated rs i f))
   numbers-opened =
       let all = numbers_in (updated rs i f) in
-      subst (λ ns. IsPermutation ns all) (sym (map-append (λ (g : Summed). g.group) gs (summed_new o.group uses ∷ [])))
+      subst (λ ns. IsPermutation ns all) (sym (map-append (λ (g : Summed). g.group) gs (summed_new o.group o.op uses ∷ [])))
       (IsPermutation-trans (groups_of gs ++ o.group ∷ []) (o.group ∷ groups_of gs) all (IsPermutation-to_front (groups_of gs) o.group)
       (IsPermutation-trans (o.group ∷ groups_of gs) (o.group ∷ numbers_in rs) all (IsPermutation-cons o.group (groups_of gs) (numbers_in rs) are.numbers) (numbers-entered rs i f o within now)))
 
@@ -427,10 +446,20 @@ module _ (rs : List Region) (gs : List Summed) (i : ℕ) (f : Region → Region)
   kept-below g there = let (k, p, among, same) = open-kept rs gs g are there in let less = old-below k p among in omega (arith, less, same)
 
   -- the new group's number is no other's
-  pub open-entered : AreOpen (updated rs i f) (gs ++ summed_new o.group uses ∷ [])
-  open-entered = record { numbers = numbers-opened; cells = λ k p g among there same c. by k p g (open-now k p among) (Contains-push_cases gs (summed_new o.group uses) g there) same c }
+  pub open-entered : AreOpen (updated rs i f) (gs ++ summed_new o.group o.op uses ∷ [])
+  open-entered = record {
+    numbers = numbers-opened;
+    ops = λ k p g among there same. op-by k p g (open-now k p among) (Contains-push_cases gs (summed_new o.group o.op uses) g there) same;
+    cells = λ k p g among there same c. by k p g (open-now k p among) (Contains-push_cases gs (summed_new o.group o.op uses) g there) same c;
+  }
     where
-      by : (k : ℕ) (p : Open) (g : Summed) → Contains (at rs k).groups p ⊎ (o ≡ p) → Contains gs g ⊎ (summed_new o.group uses ≡ g) → g.group ≡ p.group → (c : Cell) → names c g ≡ has_cell p.cells c
+      op-by : (k : ℕ) (p : Open) (g : Summed) → Contains (at rs k).groups p ⊎ (o ≡ p) → Contains gs g ⊎ (summed_new o.group o.op uses ≡ g) → g.group ≡ p.group → g.op ≡ p.op
+      op-by k p g (inl old) (inl kept) same = are.ops k p g old kept same
+      op-by k p g (inl old) (inr fresh) same = let less = old-below k p old in let number = ap (λ (g : Summed). g.group) fresh in absurd (omega (arith, less, same, number))
+      op-by k p g (inr entered) (inl kept) same = let less = kept-below g kept in let number = ap (λ (p : Open). p.group) entered in absurd (omega (arith, less, same, number))
+      op-by k p g (inr entered) (inr fresh) same = sym (ap (λ (g : Summed). g.op) fresh) ∙ ap (λ (p : Open). p.op) entered
+
+      by : (k : ℕ) (p : Open) (g : Summed) → Contains (at rs k).groups p ⊎ (o ≡ p) → Contains gs g ⊎ (summed_new o.group o.op uses ≡ g) → g.group ≡ p.group → (c : Cell) → names c g ≡ has_cell p.cells c
       by k p g (inl old) (inl kept) same c = are.cells k p g old kept same c
       by k p g (inl old) (inr fresh) same c = let less = old-below k p old in let number = ap (λ (g : Summed). g.group) fresh in absurd (omega (arith, less, same, number))
       by k p g (inr entered) (inl kept) same c = let less = kept-below g kept in let number = ap (λ (p : Open). p.group) entered in absurd (omega (arith, less, same, number))
@@ -455,23 +484,23 @@ module _ (taken : Bool) (number i : ℕ) (rs : List Region) (gs new : List Summe
       subst (AreOpen (updated rs i (stepped taken number))) (sym is)
       (open-same rs (updated rs i (stepped taken number)) gs (groups-at rs i (stepped taken number) (ap (λ b. (stepped_from taken number b (at rs i)).groups) was ∙ same)) are)
 
-  open-stepped : (b : Body) → (at rs i).rest ≡ b → Opens (cells_next b) number gs new → AreOpen (updated rs i (stepped taken number)) new
+  open-stepped : (b : Body) → (at rs i).rest ≡ b → Opens (group_next b) number gs new → AreOpen (updated rs i (stepped taken number)) new
   open-stepped End was opens = same-stepped End was refl opens
   open-stepped (Next (Set c e) rest) was opens = same-stepped (Next (Set c e) rest) was refl opens
-  open-stepped (Next (Add c e) rest) was opens = same-stepped (Next (Add c e) rest) was refl opens
+  open-stepped (Next (Fold op c e) rest) was opens = same-stepped (Next (Fold op c e) rest) was refl opens
   open-stepped (Next (If e a b) rest) was opens = same-stepped (Next (If e a b) rest) was refl opens
   open-stepped (Next (Task d b) rest) was opens = same-stepped (Next (Task d b) rest) was refl opens
   open-stepped (Next Wait rest) was opens = same-stepped (Next Wait rest) was refl opens
-  open-stepped (Next (Group cs b) rest) was (uses, named, is) =
+  open-stepped (Next (Group op cs b) rest) was (uses, named, is) =
       subst (AreOpen (updated rs i (stepped taken number))) (sym is)
-      (open-entered rs gs i (stepped taken number) (record { group = number; cells = cs; behind = rest }) uses within (ap (λ b. (stepped_from taken number b (at rs i)).groups) was) below named are)
+      (open-entered rs gs i (stepped taken number) (record { group = number; op = op; cells = cs; behind = rest }) uses within (ap (λ b. (stepped_from taken number b (at rs i)).groups) was) below named are)
 
-  open-executed : Opens (cells_next (at rs i).rest) number gs new → AreOpen (executed taken number i rs) new
+  open-executed : Opens (group_next (at rs i).rest) number gs new → AreOpen (executed taken number i rs) new
   open-executed opens =
       open-same (updated rs i (stepped taken number)) (executed taken number i rs) new (groups-created i (next_task (rest_at rs i)) (updated rs i (stepped taken number)))
       (open-stepped (at rs i).rest refl opens)
 
-  open-moved : Opens (cells_next (at rs i).rest) number gs new → AreOpen (moved_on taken number i rs) new
+  open-moved : Opens (group_next (at rs i).rest) number gs new → AreOpen (moved_on taken number i rs) new
   open-moved opens = by (at rs i).rest (at rs i).groups refl refl
     where
       goes : is_at_end (at rs i).rest (at rs i).groups ≡ false → AreOpen (moved_on taken number i rs) new
@@ -479,7 +508,7 @@ module _ (taken : Bool) (number i : ℕ) (rs : List Region) (gs new : List Summe
 
       ends : (at rs i).rest ≡ End → is_at_end (at rs i).rest (at rs i).groups ≡ true → AreOpen (moved_on taken number i rs) new
       ends was over =
-          let is : new ≡ gs = subst (λ b. Opens (cells_next b) number gs new) was opens in
+          let is : new ≡ gs = subst (λ b. Opens (group_next b) number gs new) was opens in
           subst (λ b. AreOpen (if b then closed i rs else executed taken number i rs) new) (sym over) (open-same rs (closed i rs) new (groups-closed i rs) (subst (AreOpen rs) (sym is) are))
 
       by : (b : Body) (os : List Open) → (at rs i).rest ≡ b → (at rs i).groups ≡ os → AreOpen (moved_on taken number i rs) new
@@ -488,7 +517,7 @@ module _ (taken : Bool) (number i : ℕ) (rs : List Region) (gs new : List Summe
       by (Next x rest) os was some = goes (ap (λ b. is_at_end b (at rs i).groups) was)
 
   -- what becomes of the open groups as a piece comes back
-  pub open-settled : Opens (cells_next (at rs i).rest) number gs new → AreOpen (settled taken number i rs) new
+  pub open-settled : Opens (group_next (at rs i).rest) number gs new → AreOpen (settled taken number i rs) new
   open-settled opens =
       open-same (moved_on taken number i rs) (settled taken number i rs) new (groups-at (moved_on taken number i rs) i stopped refl) (open-moved opens)
 
@@ -506,6 +535,7 @@ none-open rs (g ∷ gs) none are =
 pub open-none : (rs : List Region) → ((i : ℕ) → (at rs i).groups ≡ []) → AreOpen rs []
 open-none rs none = record {
   numbers = subst (IsPermutation []) (sym (no-numbers rs none)) (IsPermutation-refl []);
+  ops = λ i o g among (k, within, is). absurd (omega (arith, within));
   cells = λ i o g among (k, within, is). absurd (omega (arith, within));
 }
 
@@ -561,10 +591,10 @@ module _ (rs : List Region) (gs : List Summed) (i : ℕ) (o : Open) (among : Con
 -- a cell that no copies are kept of is worth its stored number
 pub worth-unsummed : (owned : Owned) (cells : List (List ℕ)) (c : Cell) → ¬ IsSummed owned.groups c → worth owned cells c ≡ cell_of cells c
 worth-unsummed owned cells c none =
-    worth-with owned cells c ∙ ap (λ copies. option_map (λ n. combined n copies) (cell_of cells c)) (unsummed owned.groups c none) ∙ option-same (cell_of cells c)
+    same_worth (worth_over owned.groups c) (λ (n : ℕ). n) (cell_of cells c) (over-unsummed owned.groups c none) ∙ option-same (cell_of cells c)
 
--- what is lent is as it was from the cells as they are worth, where only those who add meet copies
-pub lent-worths : (owned : Owned) (cells : List (List ℕ)) (uses : List Use) → All (λ u. u.mode ≢ Adds → ¬ IsSummed owned.groups u.cell) uses → lent_from cells uses ≡ lent_from (worths owned cells) uses
+-- what is lent is as it was from the cells as they are worth, where only those who fold meet copies
+pub lent-worths : (owned : Owned) (cells : List (List ℕ)) (uses : List Use) → All (λ u. is_fold u.mode ≡ false → ¬ IsSummed owned.groups u.cell) uses → lent_from cells uses ≡ lent_from (worths owned cells) uses
 lent-worths owned cells [] apart = refl
 lent-worths owned cells (u ∷ uses) apart =
     ap (λ l. l ∷ lent_from cells uses) (by u.mode refl) ∙ ap (λ ls. copy_of (worths owned cells) u ∷ ls) (lent-worths owned cells uses (λ k d within. apart (suc k) d (omega (arith, within))))
@@ -572,18 +602,12 @@ lent-worths owned cells (u ∷ uses) apart =
     lends : ℕ → LentCell
     lends first = record { cell = u.cell; mode = u.mode; first = first; value = first }
 
-    now : u.mode ≢ Adds → cell_of cells u.cell ≡ cell_of (worths owned cells) u.cell
+    now : is_fold u.mode ≡ false → cell_of cells u.cell ≡ cell_of (worths owned cells) u.cell
     now other = sym (worth-unsummed owned cells u.cell (apart 0 u (omega arith) other)) ∙ sym (cell_of-worths owned cells u.cell)
 
-    reads : Reads ≢ Adds
-    reads e = cc
-
-    writes : Writes ≢ Adds
-    writes e = cc
-
     by : (m : Mode) → u.mode ≡ m → copy_of cells u ≡ copy_of (worths owned cells) u
-    by Reads is = ap (λ o. lends (first_of u.mode (unwrap_or o 0))) (now (λ adds. reads (sym is ∙ adds)))
-    by Writes is = ap (λ o. lends (first_of u.mode (unwrap_or o 0))) (now (λ adds. writes (sym is ∙ adds)))
-    by Adds is =
+    by Reads is = ap (λ o. lends (first_of u.mode (unwrap_or o 0))) (now (ap is_fold is))
+    by Writes is = ap (λ o. lends (first_of u.mode (unwrap_or o 0))) (now (ap is_fold is))
+    by (Folds op) is =
         ap (λ m. lends (first_of m (unwrap_or (cell_of cells u.cell) 0))) is
         ∙ sym (ap (λ m. lends (first_of m (unwrap_or (cell_of (worths owned cells) u.cell) 0))) is)

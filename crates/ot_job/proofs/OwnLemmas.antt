@@ -1,18 +1,21 @@
--- What a declaration in order lets a body do with a cell that it adds to.
+-- What a declaration in order lets a body do with a cell that it folds.
 use Rattle.std.proofs.Common.{◌≡◌, Bool, true, false, ◌&&◌, ◌||◌, List, [], ◌∷◌, refl, sym, ap, subst, ◌∙◌, inl, inr, true≢false}
 use Rattle.std.specs.Prelude.{Some}
 use Rattle.std.specs.List.{list_any}
 use Rattle.ot_model.specs.Cells.{same_cell}
-use Rattle.ot_model.specs.Uses.{Precedes, AreInOrder, is_adds}
+use Rattle.ot_model.specs.Uses.{Precedes, AreInOrder}
 use Rattle.ot_model.specs.declared.expr.Cell.{Cell}
+use Rattle.ot_model.specs.declared.fold.Fold.{Fold as Operation}
 use Rattle.ot_model.specs.declared.stmt.Mode.{Mode}
-use Rattle.ot_model.specs.declared.stmt.Mode.TheVariants.{Reads, Writes, Adds}
+use Rattle.ot_model.specs.declared.stmt.Mode.TheVariants.{Reads, Writes, Folds}
 use Rattle.ot_model.specs.declared.stmt.Use.{Use}
 use Rattle.ot_model.proofs.OrderLemmas.{precedes_trans, precedes_apart, rest_in_order}
 use Rattle.ot_check.specs.Paths.{use_as}
-use Rattle.ot_check.specs.Offences.{allows, adds_to, covers}
+use Rattle.ot_check.specs.Offences.{allows, folds_by, folds_to, covers}
 use Rattle.ot_check.proofs.Bits.{or_true, and_left, and_right}
 use Rattle.ot_check.proofs.SameLemmas.{same_is}
+use Rattle.ot_job.specs.Sound.{OnlyFolds}
+use Rattle.ot_job.proofs.FoldLemmas.{one-op, covered-fold}
 
 skip : (u v : Use) (us : List Use) → AreInOrder (u ∷ v ∷ us) → AreInOrder (u ∷ us)
 skip u v [] order = tt
@@ -32,27 +35,35 @@ behind_none u (v ∷ us) test (before, later) =
     ap (λ b. b || list_any (λ d. same_cell d.cell u.cell && test d) us) (other_cell u.cell v.cell before (test v))
     ∙ behind_none u us test (skip u v us (before, later))
 
--- a cell that it adds to it doesn't read
-pub adds-alone : (uses : List Use) → AreInOrder uses → (c : Cell) → adds_to (Some uses) c ≡ true → allows (Some uses) (use_as Reads c) ≡ false
-adds-alone [] order c adds = absurd (true≢false (sym adds))
-adds-alone (u ∷ us) order c adds =
-    elim (or_true (same_cell u.cell c && is_adds u.mode) (adds_to (Some us) c) adds) [
+-- a cell that it folds it uses in no other way
+pub folds-alone : (uses : List Use) → AreInOrder uses → (o : Operation) (c : Cell) → folds_to (Some uses) o c ≡ true → OnlyFolds o (Some uses) c
+folds-alone [] order o c folds m may = absurd (true≢false (sym folds))
+folds-alone (u ∷ us) order o c folds m may =
+    elim (or_true (same_cell u.cell c && folds_by o u.mode) (folds_to (Some us) o c) folds) [
       | inl here ↦
-          let same = same_is u.cell c (and_left (same_cell u.cell c) (is_adds u.mode) here) in
-          ap (λ b. b || allows (Some us) (use_as Reads c)) (unread (same_cell u.cell c) u.mode (and_right (same_cell u.cell c) (is_adds u.mode) here))
-          ∙ subst (λ d. list_any (λ v. same_cell v.cell d && covers v.mode Reads) us ≡ false) same (behind_none u us (λ v. covers v.mode Reads) order)
+          let same = same_is u.cell c (and_left (same_cell u.cell c) (folds_by o u.mode) here) in
+          let none = subst (λ d. list_any (λ v. same_cell v.cell d && covers v.mode m) us ≡ false) same (behind_none u us (λ v. covers v.mode m) order) in
+          only u.mode (and_right (same_cell u.cell c) (folds_by o u.mode) here) (either (same_cell u.cell c) (covers u.mode m) (allows (Some us) (use_as m c)) none may)
       | inr later ↦
-          ap (λ b. (b && covers u.mode Reads) || allows (Some us) (use_as Reads c)) (elsewhere (same_cell u.cell c) refl later)
-          ∙ adds-alone us (rest_in_order u us order) c later
+          folds-alone us (rest_in_order u us order) o c later m
+          (rest (same_cell u.cell c) (covers u.mode m) (allows (Some us) (use_as m c)) (elsewhere (same_cell u.cell c) refl later) may)
     ]
   where
-    unread : (same : Bool) (m : Mode) → is_adds m ≡ true → (same && covers m Reads) ≡ false
-    unread true Adds h = refl
-    unread true Reads h = absurd (true≢false (sym h))
-    unread true Writes h = absurd (true≢false (sym h))
-    unread false m h = refl
+    only : (n : Mode) → folds_by o n ≡ true → covers n m ≡ true → m ≡ Folds o
+    only Reads h g = absurd (true≢false (sym h))
+    only Writes h g = absurd (true≢false (sym h))
+    only (Folds p) h g = covered-fold p m g ∙ ap Folds (one-op p o h)
 
-    elsewhere : (same : Bool) → same_cell u.cell c ≡ same → adds_to (Some us) c ≡ true → same_cell u.cell c ≡ false
+    either : (a b more : Bool) → more ≡ false → ((a && b) || more) ≡ true → b ≡ true
+    either true true more none h = refl
+    either true false more none h = absurd (true≢false (sym h ∙ none))
+    either false b more none h = absurd (true≢false (sym h ∙ none))
+
+    rest : (a b more : Bool) → a ≡ false → ((a && b) || more) ≡ true → more ≡ true
+    rest true b more none h = absurd (true≢false none)
+    rest false b more none h = h
+
+    elsewhere : (same : Bool) → same_cell u.cell c ≡ same → folds_to (Some us) o c ≡ true → same_cell u.cell c ≡ false
     elsewhere false e later = e
     elsewhere true e later =
-        absurd (true≢false (sym later ∙ subst (λ d. list_any (λ v. same_cell v.cell d && is_adds v.mode) us ≡ false) (same_is u.cell c e) (behind_none u us (λ v. is_adds v.mode) order)))
+        absurd (true≢false (sym later ∙ subst (λ d. list_any (λ v. same_cell v.cell d && folds_by o v.mode) us ≡ false) (same_is u.cell c e) (behind_none u us (λ v. folds_by o v.mode) order)))

@@ -1,7 +1,8 @@
 -- How what is left stays fine, step by step.
 use Rattle.std.proofs.Common.{◌≡◌, ℕ, Bool, true, false, not, ◌&&◌, ◌||◌, List, [], ◌∷◌, refl, sym, subst, ◌∙◌}
-use Rattle.ot_model.specs.Tree.{E, Set, Add, If, Task, Wait, Group, Body, End, Next, append}
+use Rattle.ot_model.specs.Tree.{E, Set, Fold, If, Task, Wait, Group, Body, End, Next, append}
 use Rattle.ot_model.specs.declared.expr.Cell.{Cell}
+use Rattle.ot_model.specs.declared.fold.Fold.{Fold as Operation}
 use Rattle.ot_model.specs.declared.stmt.Use.{Use}
 use Rattle.ot_depend.specs.Siblings.{Sibling, is_in}
 use Rattle.ot_check.specs.Offences.{Declared}
@@ -43,8 +44,8 @@ at-step own before now rest next (o ∷ os) moves le h =
 pub at-set : (own : Declared) (kids : Kids) (c : Cell) (e : E) (rest : Body) (os : List Open) → IsFineAt own kids (Next (Set c e) rest) os → IsFineAt own kids rest os
 at-set own kids c e rest os h = at-step own kids kids (Next (Set c e) rest) rest os (λ f. f.2) (λ g o more is T k. k) h
 
-pub at-add : (own : Declared) (kids : Kids) (c : Cell) (e : E) (rest : Body) (os : List Open) → IsFineAt own kids (Next (Add c e) rest) os → IsFineAt own kids rest os
-at-add own kids c e rest os h = at-step own kids kids (Next (Add c e) rest) rest os (λ f. f.2) (λ g o more is T k. k) h
+pub at-fold : (own : Declared) (kids : Kids) (op : Operation) (c : Cell) (e : E) (rest : Body) (os : List Open) → IsFineAt own kids (Next (Fold op c e) rest) os → IsFineAt own kids rest os
+at-fold own kids op c e rest os h = at-step own kids kids (Next (Fold op c e) rest) rest os (λ f. f.2) (λ g o more is T k. k) h
 
 and_more : (p q r : Bool) → (p ≡ true → q ≡ true) → (p && r) ≡ true → (q && r) ≡ true
 and_more p q r le h = and_true q r (le (and_left p r h)) (and_right p r h)
@@ -92,17 +93,17 @@ at-task own kids d b rest os new is inside h =
     first_true false false t here k = here
 
 -- a group is entered
-pub at-enter : (own : Declared) (kids : Kids) (cs : List Cell) (b rest : Body) (g : ℕ) (os : List Open) → Monotone kids
-    → IsFineAt own kids (Next (Group cs b) rest) os → IsFineAt own kids b (record { group = g; cells = cs; behind = rest } ∷ os)
-at-enter own kids cs b rest g [] mono h =
-    (h.1, fine-fewer own nothing_open (children_of (kids_behind kids b g)) (behind_one (children_of kids) (Group cs b)) (λ T k. swap (through b) _ _ (mono _ _ (λ s. and_right (not (is_in g s)) (T s.uses))) k) rest h.2)
+pub at-enter : (own : Declared) (kids : Kids) (op : Operation) (cs : List Cell) (b rest : Body) (g : ℕ) (os : List Open) → Monotone kids
+    → IsFineAt own kids (Next (Group op cs b) rest) os → IsFineAt own kids b (record { group = g; op = op; cells = cs; behind = rest } ∷ os)
+at-enter own kids op cs b rest g [] mono h =
+    (h.1, fine-fewer own nothing_open (children_of (kids_behind kids b g)) (behind_one (children_of kids) (Group op cs b)) (λ T k. swap (through b) _ _ (mono _ _ (λ s. and_right (not (is_in g s)) (T s.uses))) k) rest h.2)
   where
     swap : (t p q : Bool) → (p ≡ true → q ≡ true) → (t && p) ≡ true → (q && t) ≡ true
     swap t p q le k = and_true q t (le (and_right t p k)) (and_left t p k)
-at-enter own kids cs b rest g (o ∷ os) mono h = (
+at-enter own kids op cs b rest g (o ∷ os) mono h = (
   h.0.1,
-  at-step own kids (kids_behind kids b g) (Next (Group cs b) rest) rest (o ∷ os)
-      (λ f. fine-fewer own (opened (o ∷ os)) (children_of (kids_behind kids b g)) (behind_one (children_of kids) (Group cs b)) (λ T k. swap (through b) _ _ (mono _ _ (λ s. and_right (not (is_in g s)) (T s.uses))) k) rest f.2)
+  at-step own kids (kids_behind kids b g) (Next (Group op cs b) rest) rest (o ∷ os)
+      (λ f. fine-fewer own (opened (o ∷ os)) (children_of (kids_behind kids b g)) (behind_one (children_of kids) (Group op cs b)) (λ T k. swap (through b) _ _ (mono _ _ (λ s. and_right (not (is_in g s)) (T s.uses))) k) rest f.2)
       (λ n p more e T k. again (through b) (through rest) _ _ (mono _ _ (λ s. and_right (not (is_in g s)) (not (is_in p.group s) && T s))) k) h,
 )
   where

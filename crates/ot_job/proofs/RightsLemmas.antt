@@ -2,19 +2,22 @@
 use Rattle.std.proofs.Common.{◌≡◌, ℕ, ◌<◌, Bool, true, false, refl, sym, ap, subst, ◌∙◌, ◌⊎◌, inl, inr, ⊎_elim, List, [], ◌∷◌, ◌&&◌, true≢false, arith}
 use Rattle.std.specs.Prelude.{Some}
 use Rattle.ot_model.specs.Tree.{Body}
-use Rattle.ot_model.specs.Uses.{conflicts, is_adds}
+use Rattle.ot_model.specs.Uses.{conflicts}
 use Rattle.ot_model.specs.declared.expr.Cell.{Cell}
+use Rattle.ot_model.specs.declared.fold.Fold.{Fold as Operation}
 use Rattle.ot_model.specs.declared.stmt.Mode.{Mode}
-use Rattle.ot_model.specs.declared.stmt.Mode.TheVariants.{Reads, Writes, Adds}
+use Rattle.ot_model.specs.declared.stmt.Mode.TheVariants.{Reads, Writes, Folds}
 use Rattle.ot_model.specs.declared.stmt.Use.{Use}
 use Rattle.ot_check.specs.Paths.{use_as}
-use Rattle.ot_check.specs.Offences.{Declared, allows, covers, adds_to, clashes}
+use Rattle.ot_check.specs.Offences.{Declared, Openings, allows, covers, folds_by, folds_to, clashes}
 use Rattle.ot_check.specs.walk.Walk.{Children}
 use Rattle.ot_model.specs.Cells.{same_cell}
 use Rattle.ot_check.specs.Touches.{Agree}
 use Rattle.ot_check.specs.declared.fault.Offence.TheVariants.{ReductionMisuse, ConflictsWithChild}
 use Rattle.ot_check.proofs.Bits.{or_true, true_or, or_right, or_false_left, or_false_right}
+use Rattle.ot_check.proofs.OpeningLemmas.{opened-none}
 use Rattle.ot_job.specs.Rights.{IsRight}
+use Rattle.ot_job.proofs.FoldLemmas.{agrees-with, turned}
 use Rattle.ot_job.proofs.Order.{IsBefore, branch}
 use Rattle.ot_job.proofs.Kept.{Sound, Uses, up_to, alive_up, begun_anc}
 use Rattle.ot_check.specs.walk.Fine.{IsHarmless}
@@ -23,69 +26,54 @@ use Rattle.ot_check.proofs.TouchLemmas.{clash_free}
 abbrev pub Allowed : Declared → Use → Type 0
 Allowed own u = allows own u ≡ true
 
--- a use that is declared as Writes or as Adds lets the body add; nobody else does
-adds_or_clashes : (c : Cell) (uses : List Use) → allows (Some uses) (use_as Adds c) ≡ true → clashes (use_as Adds c) uses ≡ false → adds_to (Some uses) c ≡ true
-adds_or_clashes c [] may free = may
-adds_or_clashes c (d ∷ uses) may free =
-    elim (or_true (same_cell d.cell c && covers d.mode Adds) (allows (Some uses) (use_as Adds c)) may) [
-      | inl here ↦ true_or (same_cell d.cell c && is_adds d.mode) (adds_to (Some uses) c)
-          (one (same_cell d.cell c) d.mode here (or_false_left (same_cell d.cell c && conflicts d.mode Adds) (clashes (use_as Adds c) uses) free))
-      | inr later ↦ or_right (same_cell d.cell c && is_adds d.mode) (adds_to (Some uses) c)
-          (adds_or_clashes c uses later (or_false_right (same_cell d.cell c && conflicts d.mode Adds) (clashes (use_as Adds c) uses) free))
+-- a use that is declared as Writes or as Folds lets the body fold; nobody else does
+folds_or_clashes : (o : Operation) (c : Cell) (uses : List Use) → allows (Some uses) (use_as (Folds o) c) ≡ true → clashes (use_as (Folds o) c) uses ≡ false → folds_to (Some uses) o c ≡ true
+folds_or_clashes o c [] may free = may
+folds_or_clashes o c (d ∷ uses) may free =
+    elim (or_true (same_cell d.cell c && covers d.mode (Folds o)) (allows (Some uses) (use_as (Folds o) c)) may) [
+      | inl here ↦ true_or (same_cell d.cell c && folds_by o d.mode) (folds_to (Some uses) o c)
+          (one (same_cell d.cell c) d.mode here (or_false_left (same_cell d.cell c && conflicts d.mode (Folds o)) (clashes (use_as (Folds o) c) uses) free))
+      | inr later ↦ or_right (same_cell d.cell c && folds_by o d.mode) (folds_to (Some uses) o c)
+          (folds_or_clashes o c uses later (or_false_right (same_cell d.cell c && conflicts d.mode (Folds o)) (clashes (use_as (Folds o) c) uses) free))
     ]
   where
-    one : (b : Bool) (m : Mode) → (b && covers m Adds) ≡ true → (b && conflicts m Adds) ≡ false → (b && is_adds m) ≡ true
+    one : (b : Bool) (m : Mode) → (b && covers m (Folds o)) ≡ true → (b && conflicts m (Folds o)) ≡ false → (b && folds_by o m) ≡ true
     one true Reads h g = cc
     one true Writes h g = cc
-    one true Adds h g = refl
+    one true (Folds p) h g = h
     one false m h g = cc
 
--- A piece without an offence, and a child that hasn't ended, each of whose sums is one of the body's own or of a group that
+-- A piece without an offence, and a child that hasn't ended, each of whose folds is one of the body's own or of a group that
 -- is open in it: what the piece holds and what the child may do don't conflict.
-module _ (own : Declared) (opened : Cell → Bool) (children : Children) (Touched : Use → Type 0)
+module _ (own : Declared) (opened : Openings) (children : Children) (Touched : Use → Type 0)
     (safe : (u : Use) → Touched u → IsHarmless own opened children u)
     (child : List Use) (there : (test : List Use → Bool) → children test ≡ false → test child ≡ false)
-    (sums : (c : Cell) → adds_to (Some child) c ≡ true → (adds_to own c ≡ true) ⊎ (opened c ≡ true))
+    (sums : (o : Operation) (c : Cell) → folds_to (Some child) o c ≡ true → (folds_to own o c ≡ true) ⊎ (opened o c ≡ true))
   where
     pub right_apart : (c : Cell) (m : Mode) (v : Use) → IsRight own Touched (use_as m c) → Allowed (Some child) v → Agree (use_as m c) v
     right_apart c Reads v held may = clash_free (use_as Reads c) v child (there (clashes (use_as Reads c)) (safe (use_as Reads c) held ConflictsWithChild)) may
-    right_apart c Adds v held may = clash_free (use_as Adds c) v child (there (clashes (use_as Adds c)) (safe (use_as Adds c) held.0 ConflictsWithChild)) may
+    right_apart c (Folds o) v held may = clash_free (use_as (Folds o) c) v child (there (clashes (use_as (Folds o) c)) (safe (use_as (Folds o) c) held.0 ConflictsWithChild)) may
     right_apart c Writes v (inl held) may = clash_free (use_as Writes c) v child (there (clashes (use_as Writes c)) (safe (use_as Writes c) held ConflictsWithChild)) may
     right_apart c Writes v (inr held) may = λ same.
-        let free = there (clashes (use_as Adds c)) (safe (use_as Adds c) held.0 ConflictsWithChild) in
-        let adds : v.mode ≡ Adds = only_adds v.mode (clash_free (use_as Adds c) v child free may same) in
-        let sum : adds_to (Some child) c ≡ true = adds_or_clashes c child (subst (λ (u : Use). Allowed (Some child) u) (use_is v c (sym same) adds) may) free in
-        absurd (⊎_elim (λ e. true≢false (sym e ∙ held.1)) (λ e. true≢false (sym e ∙ safe (use_as Adds c) held.0 ReductionMisuse)) (sums c sum))
+        let o = held.0 in
+        let free = there (clashes (use_as (Folds o) c)) (safe (use_as (Folds o) c) held.1 ConflictsWithChild) in
+        let folds : v.mode ≡ Folds o = agrees-with o v.mode (clash_free (use_as (Folds o) c) v child free may same) in
+        let sum : folds_to (Some child) o c ≡ true = folds_or_clashes o c child (subst (λ (u : Use). Allowed (Some child) u) (use_is o v c (sym same) folds) may) free in
+        absurd (⊎_elim (λ e. true≢false (sym e ∙ held.2)) (λ e. true≢false (sym e ∙ opened-none opened o c (safe (use_as (Folds o) c) held.1 ReductionMisuse))) (sums o c sum))
       where
-        only_adds : (m : Mode) → conflicts Adds m ≡ false → m ≡ Adds
-        only_adds Reads h = cc
-        only_adds Writes h = cc
-        only_adds Adds h = refl
-
-        use_is : (v : Use) (c : Cell) → v.cell ≡ c → v.mode ≡ Adds → v ≡ use_as Adds c
-        use_is v c p q = ap (λ (x : Cell). use_as v.mode x) p ∙ ap (λ (m : Mode). use_as m c) q
+        use_is : (o : Operation) (v : Use) (c : Cell) → v.cell ≡ c → v.mode ≡ Folds o → v ≡ use_as (Folds o) c
+        use_is o v c p q = ap (λ (x : Cell). use_as v.mode x) p ∙ ap (λ (m : Mode). use_as m c) q
 
 -- what a piece holds its body may do
 pub right_may : (own : Declared) (Touched : Use → Type 0) → ((u : Use) → Touched u → Allowed own u) → (c : Cell) (m : Mode)
-    → ((c : Cell) → Allowed own (use_as Adds c) → adds_to own c ≡ false → Allowed own (use_as Writes c)) → IsRight own Touched (use_as m c) → Allowed own (use_as m c)
+    → ((o : Operation) (c : Cell) → Allowed own (use_as (Folds o) c) → folds_to own o c ≡ false → Allowed own (use_as Writes c)) → IsRight own Touched (use_as m c) → Allowed own (use_as m c)
 right_may own Touched may c Reads all held = may (use_as Reads c) held
 right_may own Touched may c Writes all (inl held) = may (use_as Writes c) held
-right_may own Touched may c Writes all (inr held) = all c (may (use_as Adds c) held.0) held.1
-right_may own Touched may c Adds all held = may (use_as Adds c) held.0
+right_may own Touched may c Writes all (inr held) = all held.0 c (may (use_as (Folds held.0) c) held.1) held.2
+right_may own Touched may c (Folds o) all held = may (use_as (Folds o) c) held.0
 
 agree_back : (u v : Use) → Agree u v → Agree v u
-agree_back u v h same = turn u.mode v.mode (h (sym same))
-  where
-    turn : (m n : Mode) → conflicts m n ≡ false → conflicts n m ≡ false
-    turn Reads Reads h = h
-    turn Reads Writes h = h
-    turn Reads Adds h = h
-    turn Writes Reads h = h
-    turn Writes Writes h = h
-    turn Writes Adds h = h
-    turn Adds Reads h = h
-    turn Adds Writes h = h
-    turn Adds Adds h = h
+agree_back u v h same = turned u.mode v.mode (h (sym same))
 
 -- two tasks with pieces: what they hold is what they may do, and meets no child of theirs that hasn't ended
 module _ (par : ℕ → ℕ) (may : ℕ → Uses) (todo : ℕ → Body) (ended : ℕ → Bool) (begun : ℕ → Type 0) (s : Sound par may todo ended begun)

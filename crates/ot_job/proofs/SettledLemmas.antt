@@ -2,7 +2,7 @@
 use Rattle.std.proofs.Common.{◌≡◌, ℕ, zero, suc, ◌<◌, Bool, List, [], ◌∷◌, ◌++◌, length, refl, sym, ap, ◌∙◌, arith}
 use Rattle.std.specs.Prelude.{Option, Some, None}
 use Rattle.std.proofs.lemmas.List.{map-append, length-map}
-use Rattle.ot_model.specs.Tree.{Set, Add, If, Task, Wait, Group, Body, End, Next}
+use Rattle.ot_model.specs.Tree.{Set, Fold, If, Task, Wait, Group, Body, End, Next}
 use Rattle.ot_model.specs.Cells.{updated}
 use Rattle.ot_model.proofs.CellsLemmas.{length-updated, updated-updated}
 use Rattle.ot_model.specs.declared.stmt.Use.{Use}
@@ -14,11 +14,11 @@ use Rattle.ot_job.specs.Whole.{whole, wholes}
 step-stopped : (taken : Bool) (g : ℕ) (b : Body) (r : Region) → r.rest ≡ b → stopped (stepped_from taken g b r) ≡ stepped_from taken g b (stopped r)
 step-stopped taken g End r is = refl
 step-stopped taken g (Next (Set c e) rest) r is = refl
-step-stopped taken g (Next (Add c e) rest) r is = refl
+step-stopped taken g (Next (Fold op c e) rest) r is = refl
 step-stopped taken g (Next (If e a b) rest) r is = refl
 step-stopped taken g (Next (Task d b) rest) r is = refl
 step-stopped taken g (Next Wait rest) r is = refl
-step-stopped taken g (Next (Group cs b) rest) r is = refl
+step-stopped taken g (Next (Group op cs b) rest) r is = refl
 
 pub changed : (rs : List Region) (i : ℕ) (f F : Region → Region) → whole (f (at rs i)) ≡ F (whole (at rs i)) → wholes (updated rs i f) ≡ updated (wholes rs) i F
 changed [] i f F same = refl

@@ -7,14 +7,18 @@ use Rattle.std.proofs.lemmas.List.Folds.{Any-from_list_any, list_any-from_Any}
 use Rattle.ot_check.proofs.Bits.{and_left, and_right, and_true}
 use Rattle.ot_check.proofs.SameLemmas.{same_is}
 use Rattle.ot_task.proofs.CellLemmas.{same_self}
-use Rattle.ot_model.specs.Uses.{DependsOn, one_writes, conflicts, is_adds}
+use Rattle.ot_model.specs.Uses.{DependsOn, one_writes, conflicts}
+use Rattle.ot_model.specs.declared.expr.Cell.{Cell}
+use Rattle.ot_model.specs.declared.fold.Fold.{Fold as Operation}
 use Rattle.ot_model.specs.declared.stmt.Mode.{Mode}
-use Rattle.ot_model.specs.declared.stmt.Mode.TheVariants.{Reads, Writes, Adds}
+use Rattle.ot_model.specs.declared.stmt.Mode.TheVariants.{Reads, Writes, Folds}
 use Rattle.ot_model.specs.declared.stmt.Use.{Use}
 use Rattle.ot_depend.specs.Siblings.{Sibling, IsReady}
-use Rattle.ot_check.specs.Offences.{Declared, allows, covers}
+use Rattle.ot_check.specs.Paths.{use_as}
+use Rattle.ot_check.specs.Offences.{Declared, allows, covers, folds_by}
 use Rattle.ot_model.specs.Cells.{same_cell}
 use Rattle.ot_check.specs.Touches.{Agree}
+use Rattle.ot_job.proofs.FoldLemmas.{same-op, both-fold, covered-fold}
 use Rattle.ot_job.proofs.Kept.{Sound}
 use Rattle.ot_task.specs.Regions.{Region}
 use Rattle.ot_job.specs.Numbered.{at, gone, parent_of, todo_at, ended_at}
@@ -25,40 +29,38 @@ at-past [] i h = refl
 at-past (r ∷ rs) zero h = absurd (omega (arith, h))
 at-past (r ∷ rs) (suc i) h = at-past rs i (omega (arith, h))
 
--- siblings of which the later doesn't depend on the earlier, and neither reads what the other adds to
+-- siblings of which the later doesn't depend on the earlier, and neither uses otherwise what the other folds
 agree-siblings : (us vs : List Use) → (DependsOn vs us → ⊥) → DontMix us vs → DontMix vs us → (u v : Use) → allows (Some us) u ≡ true → allows (Some vs) v ≡ true → Agree u v
 agree-siblings us vs free one two u v mu mv same =
     let d = Any-from_list_any (λ d. same_cell d.cell u.cell && covers d.mode u.mode) us mu in
     let e = Any-from_list_any (λ d. same_cell d.cell v.cell && covers d.mode v.mode) vs mv in
     let at_d = same_is d.1.cell u.cell (and_left (same_cell d.1.cell u.cell) (covers d.1.mode u.mode) d.4) in
     let at_e = same_is e.1.cell v.cell (and_left (same_cell e.1.cell v.cell) (covers e.1.mode v.mode) e.4) in
+    let mu_v : allows (Some us) (use_as u.mode v.cell) ≡ true = subst (λ (c : Cell). allows (Some us) (use_as u.mode c) ≡ true) same mu in
+    let mv_u : allows (Some vs) (use_as v.mode u.cell) ≡ true = subst (λ (c : Cell). allows (Some vs) (use_as v.mode c) ≡ true) (sym same) mv in
     modes d.1.mode e.1.mode u.mode v.mode
     (and_right (same_cell d.1.cell u.cell) (covers d.1.mode u.mode) d.4)
     (and_right (same_cell e.1.cell v.cell) (covers e.1.mode v.mode) e.4)
     (λ w. free (e.0, e.1, e.2, e.3, (d.0, d.1, d.2, d.3, (at_e ∙ sym same ∙ sym at_d, w))))
-    (λ reads adds. one u.cell (list_any-from_Any (λ x. same_cell x.cell u.cell && covers x.mode Reads) us (d.0, d.1, d.2, d.3, and_true (same_cell d.1.cell u.cell) (covers d.1.mode Reads) (same_self d.1.cell u.cell at_d) reads))
-    (list_any-from_Any (λ x. same_cell x.cell u.cell && is_adds x.mode) vs (e.0, e.1, e.2, e.3, and_true (same_cell e.1.cell u.cell) (is_adds e.1.mode) (same_self e.1.cell u.cell (at_e ∙ sym same)) adds)))
-    (λ reads adds. two u.cell (list_any-from_Any (λ x. same_cell x.cell u.cell && covers x.mode Reads) vs (e.0, e.1, e.2, e.3, and_true (same_cell e.1.cell u.cell) (covers e.1.mode Reads) (same_self e.1.cell u.cell (at_e ∙ sym same)) reads))
-    (list_any-from_Any (λ x. same_cell x.cell u.cell && is_adds x.mode) us (d.0, d.1, d.2, d.3, and_true (same_cell d.1.cell u.cell) (is_adds d.1.mode) (same_self d.1.cell u.cell at_d) adds)))
+    (λ o by. two o u.cell (list_any-from_Any (λ x. same_cell x.cell u.cell && folds_by o x.mode) us
+    (d.0, d.1, d.2, d.3, and_true (same_cell d.1.cell u.cell) (folds_by o d.1.mode) (same_self d.1.cell u.cell at_d) by)) v.mode mv_u)
+    (λ o by. one o v.cell (list_any-from_Any (λ x. same_cell x.cell v.cell && folds_by o x.mode) vs
+    (e.0, e.1, e.2, e.3, and_true (same_cell e.1.cell v.cell) (folds_by o e.1.mode) (same_self e.1.cell v.cell at_e) by)) u.mode mu_v)
   where
-    modes : (d e m n : Mode) → covers d m ≡ true → covers e n ≡ true → (one_writes e d ≡ true → ⊥) → (covers d Reads ≡ true → is_adds e ≡ true → ⊥) → (covers e Reads ≡ true → is_adds d ≡ true → ⊥) → conflicts m n ≡ false
+    modes : (d e m n : Mode) → covers d m ≡ true → covers e n ≡ true → (one_writes e d ≡ true → ⊥)
+        → ((o : Operation) → folds_by o d ≡ true → n ≡ Folds o) → ((o : Operation) → folds_by o e ≡ true → m ≡ Folds o) → conflicts m n ≡ false
     modes Writes Reads m n p q f g h = absurd (f refl)
     modes Writes Writes m n p q f g h = absurd (f refl)
-    modes Writes Adds m n p q f g h = absurd (f refl)
+    modes Writes (Folds o) m n p q f g h = absurd (f refl)
     modes Reads Writes m n p q f g h = absurd (f refl)
-    modes Adds Writes m n p q f g h = absurd (f refl)
-    modes Reads Adds m n p q f g h = absurd (g refl refl)
-    modes Adds Reads m n p q f g h = absurd (h refl refl)
+    modes (Folds o) Writes m n p q f g h = absurd (f refl)
+    modes Reads (Folds o) m n p q f g h = both-fold o m n (h o (same-op o)) (covered-fold o n q)
+    modes (Folds o) e m n p q f g h = both-fold o m n (covered-fold o m p) (g o (same-op o))
     modes Reads Reads Reads Reads p q f g h = refl
     modes Reads Reads Reads Writes p q f g h = cc
-    modes Reads Reads Reads Adds p q f g h = cc
+    modes Reads Reads Reads (Folds o) p q f g h = cc
     modes Reads Reads Writes n p q f g h = cc
-    modes Reads Reads Adds n p q f g h = cc
-    modes Adds Adds Adds Adds p q f g h = refl
-    modes Adds Adds Adds Writes p q f g h = cc
-    modes Adds Adds Adds Reads p q f g h = cc
-    modes Adds Adds Writes n p q f g h = cc
-    modes Adds Adds Reads n p q f g h = cc
+    modes Reads Reads (Folds o) n p q f g h = cc
 
 module _ (rs : List Region) (s : IsSound rs) where
   inside_or : (i : ℕ) → (i < length rs) ⊎ (length rs ≤ i)

@@ -60,10 +60,10 @@ placed-gone = record {
   over = λ e. refl;
   shut = λ e. refl;
   once = tt;
-  writes = λ c h. absurd (true≢false (sym h));
+  writes = λ o c h. absurd (true≢false (sym h));
   sums = λ k s h. cc;
   reduced = λ k s h. cc;
-  exclusive = λ c h. absurd (true≢false (sym h));
+  exclusive = λ o c h. absurd (true≢false (sym h));
 }
 
 module _ (program : Expanded) (disciplined : IsDisciplined program) (lens : List ℕ) (named : NamedIn lens program.body) where
@@ -81,10 +81,10 @@ module _ (program : Expanded) (disciplined : IsDisciplined program) (lens : List
     over = λ e. absurd (true≢false (sym e));
     shut = λ e. refl;
     once = tt;
-    writes = λ c h. absurd (true≢false (sym h));
+    writes = λ o c h. absurd (true≢false (sym h));
     sums = λ k s h. cc;
     reduced = λ k s h. cc;
-    exclusive = λ c h. absurd (true≢false (sym h));
+    exclusive = λ o c h. absurd (true≢false (sym h));
   }
 
   placed-each : (i : ℕ) → IsPlaced (at root i)

@@ -4,7 +4,7 @@ use Rattle.std.specs.Prelude.{Option, Some, None, option_map, nat_lt, if◌then�
 use Rattle.ot_model.proofs.CellsLemmas.{length-updated, updated-updated}
 use Rattle.ot_job.proofs.ClaimableLemmas.{field-kept}
 use Rattle.ot_job.proofs.KeptLemmas.{at-more}
-use Rattle.ot_model.specs.Tree.{Set, Add, If, Task as Fork, Wait, Group, Body, End, Next}
+use Rattle.ot_model.specs.Tree.{Set, Fold, If, Task as Fork, Wait, Group, Body, End, Next}
 use Rattle.ot_model.specs.Cells.{updated}
 use Rattle.ot_model.specs.declared.stmt.Use.{Use}
 use Rattle.ot_task.specs.Regions.{Region, with_child, new_region, children_at, stepped, stepped_from, next_task, rest_at, with_created, executed, tasks_next, over, without, child_of, with_noted}
@@ -19,11 +19,11 @@ stepped-parent taken g r = by r.rest
     by : (b : Body) → (stepped_from taken g b r).parent ≡ r.parent
     by End = refl
     by (Next (Set c e) rest) = refl
-    by (Next (Add c e) rest) = refl
+    by (Next (Fold op c e) rest) = refl
     by (Next (If e a b) rest) = refl
     by (Next (Fork d b) rest) = refl
     by (Next Wait rest) = refl
-    by (Next (Group cs b) rest) = refl
+    by (Next (Group op cs b) rest) = refl
 
 pub stepped-child : (taken : Bool) (g : ℕ) (r : Region) → (stepped taken g r).child ≡ r.child
 stepped-child taken g r = by r.rest
@@ -31,11 +31,11 @@ stepped-child taken g r = by r.rest
     by : (b : Body) → (stepped_from taken g b r).child ≡ r.child
     by End = refl
     by (Next (Set c e) rest) = refl
-    by (Next (Add c e) rest) = refl
+    by (Next (Fold op c e) rest) = refl
     by (Next (If e a b) rest) = refl
     by (Next (Fork d b) rest) = refl
     by (Next Wait rest) = refl
-    by (Next (Group cs b) rest) = refl
+    by (Next (Group op cs b) rest) = refl
 
 pub stepped-children : (taken : Bool) (g : ℕ) (r : Region) → (stepped taken g r).children ≡ r.children
 stepped-children taken g r = by r.rest
@@ -43,11 +43,11 @@ stepped-children taken g r = by r.rest
     by : (b : Body) → (stepped_from taken g b r).children ≡ r.children
     by End = refl
     by (Next (Set c e) rest) = refl
-    by (Next (Add c e) rest) = refl
+    by (Next (Fold op c e) rest) = refl
     by (Next (If e a b) rest) = refl
     by (Next (Fork d b) rest) = refl
     by (Next Wait rest) = refl
-    by (Next (Group cs b) rest) = refl
+    by (Next (Group op cs b) rest) = refl
 
 -- ---- the task that comes next
 
@@ -59,20 +59,20 @@ rest-of (r ∷ rs) (suc i) = rest-of rs i
 none-next : (b : Body) → tasks_next b ≡ 0 → next_task b ≡ None
 none-next End h = refl
 none-next (Next (Set c e) rest) h = refl
-none-next (Next (Add c e) rest) h = refl
+none-next (Next (Fold op c e) rest) h = refl
 none-next (Next (If e a b) rest) h = refl
 none-next (Next (Fork d b) rest) h = absurd (omega (arith, h))
 none-next (Next Wait rest) h = refl
-none-next (Next (Group cs b) rest) h = refl
+none-next (Next (Group op cs b) rest) h = refl
 
 some-next : (b : Body) → (tasks_next b ≡ 0 → ⊥) → (child : List Use × Body) × (next_task b ≡ Some child)
 some-next End h = absurd (h refl)
 some-next (Next (Set c e) rest) h = absurd (h refl)
-some-next (Next (Add c e) rest) h = absurd (h refl)
+some-next (Next (Fold op c e) rest) h = absurd (h refl)
 some-next (Next (If e a b) rest) h = absurd (h refl)
 some-next (Next (Fork d b) rest) h = ((d, b), refl)
 some-next (Next Wait rest) h = absurd (h refl)
-some-next (Next (Group cs b) rest) h = absurd (h refl)
+some-next (Next (Group op cs b) rest) h = absurd (h refl)
 
 -- where no task comes next, none is created
 pub executed-none : (taken : Bool) (g i : ℕ) (rs : List Region) → tasks_next (at rs i).rest ≡ 0 → executed taken g i rs ≡ updated rs i (stepped taken g)
@@ -132,11 +132,11 @@ stepped-running taken g r = by r.rest
     by : (b : Body) → (stepped_from taken g b r).running ≡ r.running
     by End = refl
     by (Next (Set c e) rest) = refl
-    by (Next (Add c e) rest) = refl
+    by (Next (Fold op c e) rest) = refl
     by (Next (If e a b) rest) = refl
     by (Next (Fork d b) rest) = refl
     by (Next Wait rest) = refl
-    by (Next (Group cs b) rest) = refl
+    by (Next (Group op cs b) rest) = refl
 
 abbrev told_if : Bool → ℕ → List Region → List Region
 told_if b i rs = if b then updated rs (parent_of rs i) (without (at rs i).child) else rs

@@ -3,7 +3,7 @@ use Rattle.std.proofs.Common.{◌≡◌, ℕ, ◌<◌, ◌≤◌, true, false, n
 use Rattle.std.specs.Prelude.{Some, slice_get}
 use Rattle.std.specs.List.{list_any}
 use Rattle.std.proofs.lemmas.Bool.{cases_lt}
-use Rattle.ot_model.specs.Tree.{E, Set, Add, If, Task, Wait, Group, Body, End, Next, append}
+use Rattle.ot_model.specs.Tree.{E, Set, Fold, If, Task, Wait, Group, Body, End, Next, append}
 use Rattle.ot_model.specs.Names.{NamedIn}
 use Rattle.ot_model.specs.Cells.{updated}
 use Rattle.ot_model.specs.declared.stmt.Use.{Use}
@@ -14,7 +14,7 @@ use Rattle.ot_check.specs.declared.fault.Offence.TheVariants.{ConflictsWithChild
 use Rattle.ot_check.proofs.ApartLemmas.{touch-weaker}
 use Rattle.ot_task.specs.Place.{Open, todo}
 use Rattle.ot_job.specs.Awaiting.{opened, children_of, IsFineAt, AwaitsAll, unawaited, Kids}
-use Rattle.ot_job.proofs.PlaceLemmas.{at-set, at-add}
+use Rattle.ot_job.proofs.PlaceLemmas.{at-set, at-fold}
 use Rattle.ot_job.proofs.AwaitsLemmas.{awaits-piece}
 use Rattle.ot_job.proofs.Kept.{MayRun}
 use Rattle.ot_check.specs.walk.Fine.{IsHarmless, AreAssigns}
@@ -31,11 +31,11 @@ use Rattle.ot_job.proofs.FreeLemmas.{fine-innermost, named-both}
 fine-piece : (own : Declared) (kids : Kids) (piece rest : Body) (gs : List Open) → AreAssigns piece → IsFineAt own kids (append piece rest) gs → IsFineAt own kids rest gs
 fine-piece own kids End rest gs only f = f
 fine-piece own kids (Next (Set c e) more) rest gs only f = fine-piece own kids more rest gs only (at-set own kids c e (append more rest) gs f)
-fine-piece own kids (Next (Add c e) more) rest gs only f = fine-piece own kids more rest gs only (at-add own kids c e (append more rest) gs f)
+fine-piece own kids (Next (Fold op c e) more) rest gs only f = fine-piece own kids more rest gs only (at-fold own kids op c e (append more rest) gs f)
 fine-piece own kids (Next (If e a b) more) rest gs only f = absurd only
 fine-piece own kids (Next (Task d b) more) rest gs only f = absurd only
 fine-piece own kids (Next Wait more) rest gs only f = absurd only
-fine-piece own kids (Next (Group cs b) more) rest gs only f = absurd only
+fine-piece own kids (Next (Group op cs b) more) rest gs only f = absurd only
 
 touch-front : (P : Use → Type 0) (a b : Body) → EachTouch P (append a b) → EachTouch P a
 touch-front P End b t = tt

@@ -1,7 +1,7 @@
 -- A piece that is claimed may be run on its copies.
 use Rattle.std.proofs.Common.{◌≡◌, ℕ, List, sym, subst}
 use Rattle.std.specs.Prelude.{IfSome}
-use Rattle.ot_model.specs.Tree.{Set, Add, If, Task, Wait, Group, Body, End, Next, append}
+use Rattle.ot_model.specs.Tree.{Set, Fold, If, Task, Wait, Group, Body, End, Next, append}
 use Rattle.ot_model.specs.Names.{NamedIn}
 use Rattle.ot_model.specs.Value.{HasAll}
 use Rattle.ot_model.specs.Cells.{lengths}
@@ -44,11 +44,11 @@ module _ (j : Live) (o : IsOnCourse j) (i : ℕ) (lent : List LentCell) (are : A
       → IfSome (test_of b) (λ e. HasAll (value_at (lent_from cells (uses_of lent))) e)
   readable End n modes = tt
   readable (Next (Set c e) rest) n modes = tt
-  readable (Next (Add c e) rest) n modes = tt
+  readable (Next (Fold op c e) rest) n modes = tt
   readable (Next (If e a b) rest) n modes = piece-reads (lengths j.cells) r.own cells (uses_of lent) (leading ahead) e n.0.0 modes
   readable (Next (Task d b) rest) n modes = tt
   readable (Next Wait rest) n modes = tt
-  readable (Next (Group cs b) rest) n modes = tt
+  readable (Next (Group op cs b) rest) n modes = tt
 
   pub claim-can : CanRun (leading ahead) (test_of (behind ahead)) lent
   claim-can = record {

@@ -1,7 +1,7 @@
 -- Each settle makes a job lighter, and nothing makes it heavier.
 use Rattle.std.proofs.Common.{◌≡◌, ℕ, zero, suc, ◌+◌, ◌*◌, ◌<◌, ◌≤◌, max, Bool, true, false, List, [], ◌∷◌, ◌++◌, length, refl, sym, ap, ◌∙◌, arith, true≢false}
 use Rattle.std.specs.Prelude.{Option, Some, None, is_some, nat_lt, if◌then◌else◌}
-use Rattle.ot_model.specs.Tree.{Set, Add, If, Task, Wait, Group, Body, End, Next, append}
+use Rattle.ot_model.specs.Tree.{Set, Fold, If, Task, Wait, Group, Body, End, Next, append}
 use Rattle.ot_model.specs.Counts.{size}
 use Rattle.ot_model.specs.Cells.{updated}
 use Rattle.ot_model.specs.declared.stmt.Use.{Use}
@@ -24,21 +24,21 @@ weight-append (Next x a) b = let h = weight-append a b in omega (arith, h)
 weight-after : (b : Body) → weight (behind b) ≡ weight b
 weight-after End = refl
 weight-after (Next (Set c e) rest) = omega (arith, weight-after rest)
-weight-after (Next (Add c e) rest) = omega (arith, weight-after rest)
+weight-after (Next (Fold op c e) rest) = omega (arith, weight-after rest)
 weight-after (Next (If e a b) rest) = refl
 weight-after (Next (Task d b) rest) = refl
 weight-after (Next Wait rest) = refl
-weight-after (Next (Group cs b) rest) = refl
+weight-after (Next (Group op cs b) rest) = refl
 
 -- at most twice the statements
 pub weight-few : (b : Body) → weight b ≤ 2 * size b
 weight-few End = omega arith
 weight-few (Next (Set c e) rest) = omega (arith, weight-few rest)
-weight-few (Next (Add c e) rest) = omega (arith, weight-few rest)
+weight-few (Next (Fold op c e) rest) = omega (arith, weight-few rest)
 weight-few (Next (If e a b) rest) = omega (arith, weight-few rest, weight-few a, weight-few b)
 weight-few (Next (Task d b) rest) = omega (arith, weight-few rest, weight-few b)
 weight-few (Next Wait rest) = omega (arith, weight-few rest)
-weight-few (Next (Group cs b) rest) = omega (arith, weight-few rest, weight-few b)
+weight-few (Next (Group op cs b) rest) = omega (arith, weight-few rest, weight-few b)
 
 left-≤ : (out : Bool) (rest : Body) (os : List Open) → weight_left out rest os ≤ weight rest + weight_behind os
 left-≤ true rest os = omega arith
@@ -116,7 +116,7 @@ step-lighter taken g End (o ∷ os) r was groups alive stops goes =
     ap (λ b. if b then 0 else 1 + weight_left false r.rest r.groups) alive ∙ ap (λ b. 1 + weight_left false b r.groups) was ∙ ap (λ gs. 1 + weight_left false End gs) groups in
     omega (arith, e)
 step-lighter taken g (Next (Set c e) rest) gs r was groups alive stops goes = cc
-step-lighter taken g (Next (Add c e) rest) gs r was groups alive stops goes = cc
+step-lighter taken g (Next (Fold op c e) rest) gs r was groups alive stops goes = cc
 step-lighter taken g (Next (If e a b) rest) gs r was groups alive stops goes = by taken
   where
     by : (t : Bool) → region_weight (stopped (stepped_from t g (Next (If e a b) rest) r)) + 0 < 1 + (1 + max (weight a) (weight b) + weight rest) + weight_behind gs
@@ -124,8 +124,8 @@ step-lighter taken g (Next (If e a b) rest) gs r was groups alive stops goes = b
     by false = omega (arith, stopped-weight (record r { rest = append b rest }) alive, weight-append b rest, ap weight_behind groups)
 step-lighter taken g (Next (Task d b) rest) gs r was groups alive stops goes = omega (arith, stopped-weight (record r { rest = rest }) alive, ap weight_behind groups)
 step-lighter taken g (Next Wait rest) gs r was groups alive stops goes = omega (arith, stopped-weight (record r { rest = rest; waiting = true }) alive, ap weight_behind groups)
-step-lighter taken g (Next (Group cs b) rest) gs r was groups alive stops goes =
-    omega (arith, stopped-weight (record r { rest = b; groups = record { group = g; cells = cs; behind = rest } ∷ r.groups }) alive, ap weight_behind groups)
+step-lighter taken g (Next (Group op cs b) rest) gs r was groups alive stops goes =
+    omega (arith, stopped-weight (record r { rest = b; groups = record { group = g; op = op; cells = cs; behind = rest } ∷ r.groups }) alive, ap weight_behind groups)
 
 created-weight : (i : ℕ) (child : Option (List Use × Body)) (xs : List Region) → i < length xs
     → weight_of (updated (with_created i child xs) i stopped) ≡ weight_of (updated xs i stopped) + new_weight child

@@ -6,7 +6,7 @@ use Rattle.std.proofs.lemmas.Bool.Decides.{nat_tests}
 use Rattle.std.proofs.lemmas.Option.{same_Some}
 use Rattle.std.proofs.lemmas.List.{length-map}
 use Rattle.std.proofs.lemmas.List.Sorted.{Contains-permutation, All-permutation, IsPermutation-sym, IsPermutation-trans, IsPermutation-cons}
-use Rattle.ot_model.specs.Tree.{Set, Add, If, Task, Wait, Group, Body, End, Next, append}
+use Rattle.ot_model.specs.Tree.{Set, Fold, If, Task, Wait, Group, Body, End, Next, append}
 use Rattle.ot_model.specs.Names.{NamedIn, AreInShape}
 use Rattle.ot_model.specs.Cells.{updated, lengths, cell_of}
 use Rattle.ot_model.specs.Uses.{AreInOrder, Conflict}
@@ -22,6 +22,7 @@ use Rattle.ot_task.specs.Place.{Open, todo}
 use Rattle.ot_check.specs.walk.Fine.{AreAssigns}
 use Rattle.ot_task.specs.Regions.{Region, Run}
 use Rattle.ot_job.specs.Numbered.{at, parent_of, todo_at, parents, left_of}
+use Rattle.ot_model.specs.declared.fold.Fold.TheVariants.{Plus}
 use Rattle.ot_job.specs.Sound.{IsBegun, IsSound}
 use Rattle.ot_model.proofs.CellsLemmas.{length-updated}
 use Rattle.ot_task.specs.Pieces.{leading, behind, test_of, passed, awake, begun, group_passed}
@@ -56,20 +57,20 @@ use Rattle.ot_task.proofs.HeldLemmas.{AllIn, all-append, reads-in, held-there}
 pub leading-assigns : (b : Body) → AreAssigns (leading b)
 leading-assigns End = tt
 leading-assigns (Next (Set c e) rest) = leading-assigns rest
-leading-assigns (Next (Add c e) rest) = leading-assigns rest
+leading-assigns (Next (Fold op c e) rest) = leading-assigns rest
 leading-assigns (Next (If e a b) rest) = tt
 leading-assigns (Next (Task d b) rest) = tt
 leading-assigns (Next Wait rest) = tt
-leading-assigns (Next (Group cs b) rest) = tt
+leading-assigns (Next (Group op cs b) rest) = tt
 
 leading-behind : (b : Body) → leading (behind b) ≡ End
 leading-behind End = refl
 leading-behind (Next (Set c e) rest) = leading-behind rest
-leading-behind (Next (Add c e) rest) = leading-behind rest
+leading-behind (Next (Fold op c e) rest) = leading-behind rest
 leading-behind (Next (If e a b) rest) = refl
 leading-behind (Next (Task d b) rest) = refl
 leading-behind (Next Wait rest) = refl
-leading-behind (Next (Group cs b) rest) = refl
+leading-behind (Next (Group op cs b) rest) = refl
 
 -- passing a group's end leaves what is left
 todo-passed : (rest : Body) (gs : List Open) → todo (passed rest gs).rest (passed rest gs).groups ≡ todo rest gs
@@ -301,20 +302,20 @@ out-contained (r ∷ rs) (suc i) run h = by r.running (out-contained rs i run h)
 piece-named : (lens : List ℕ) (piece : Body) → AreAssigns piece → NamedIn lens piece → AllIn lens (assign_touches piece)
 piece-named lens End only n = tt
 piece-named lens (Next (Set c e) rest) only n = all-append lens _ _ (all-append lens _ _ (reads-in lens e n.0.1) (n.0.0, tt)) (piece-named lens rest only n.1)
-piece-named lens (Next (Add c e) rest) only n = all-append lens _ _ (all-append lens _ _ (reads-in lens e n.0.1) (n.0.0, tt)) (piece-named lens rest only n.1)
+piece-named lens (Next (Fold op c e) rest) only n = all-append lens _ _ (all-append lens _ _ (reads-in lens e n.0.1) (n.0.0, tt)) (piece-named lens rest only n.1)
 piece-named lens (Next (If e a b) rest) only n = absurd only
 piece-named lens (Next (Task d b) rest) only n = absurd only
 piece-named lens (Next Wait rest) only n = absurd only
-piece-named lens (Next (Group cs b) rest) only n = absurd only
+piece-named lens (Next (Group op cs b) rest) only n = absurd only
 
 test-named : (lens : List ℕ) (b : Body) → NamedIn lens b → AllIn lens (test_touches (test_of b))
 test-named lens End n = tt
 test-named lens (Next (Set c e) rest) n = tt
-test-named lens (Next (Add c e) rest) n = tt
+test-named lens (Next (Fold op c e) rest) n = tt
 test-named lens (Next (If e a b) rest) n = reads-in lens e n.0.0
 test-named lens (Next (Task d b) rest) n = tt
 test-named lens (Next Wait rest) n = tt
-test-named lens (Next (Group cs b) rest) n = tt
+test-named lens (Next (Group op cs b) rest) n = tt
 
 pub settle-may : (j : Live) → IsWell j → IsOnCourse j → MaySettle j
 settle-may j v w = record { out = out; kin = kin }
@@ -328,7 +329,7 @@ settle-may j v w = record { out = out; kin = kin }
         let both = subst (NamedIn lens) (ap (λ o. append (assigns_out o) r.rest) is) whole-named in (
           Contains-permutation (loans_out j.regions) j.owned.out (loan_in run) (IsPermutation-sym j.owned.out (loans_out j.regions) v.rights) (out-contained j.regions i run is),
           held-there j.cells r.own (piece_touches run.assigns (test_of r.rest)) run.lease.uses
-              (all-append lens (assign_touches run.assigns) (test_touches (test_of r.rest)) (piece-named lens run.assigns well.assigns (named-front lens run.assigns (record { group = 0; cells = []; behind = r.rest } ∷ []) both)) (test-named lens r.rest (named-back lens run.assigns r.rest both)))
+              (all-append lens (assign_touches run.assigns) (test_touches (test_of r.rest)) (piece-named lens run.assigns well.assigns (named-front lens run.assigns (record { group = 0; op = Plus; cells = []; behind = r.rest } ∷ []) both)) (test-named lens r.rest (named-back lens run.assigns r.rest both)))
               well.modes,
         )
 

@@ -3,7 +3,7 @@ use Rattle.std.proofs.Common.{◌≡◌, ℕ, zero, suc, ◌<◌, false, List, [
 use Rattle.std.specs.Prelude.{Option, Some, None, All, IsPermutation}
 use Rattle.std.proofs.lemmas.List.Elements.{All-nil, All-cons}
 use Rattle.std.proofs.lemmas.List.Sorted.{IsPermutation-refl, IsPermutation-trans, IsPermutation-cons, IsPermutation-swap}
-use Rattle.ot_model.specs.Tree.{Set, Add, If, Task, Wait, Group, Body, End, Next, append}
+use Rattle.ot_model.specs.Tree.{Set, Fold, If, Task, Wait, Group, Body, End, Next, append}
 use Rattle.ot_model.specs.Cells.{updated}
 use Rattle.ot_owner.specs.Leases.{Lease}
 use Rattle.ot_owner.specs.Owning.{Loan}
@@ -15,11 +15,11 @@ use Rattle.ot_job.specs.Whole.{assigns_out, whole, wholes, loan_in, with_loan, l
 pub whole-again : (b : Body) → append (leading b) (behind b) ≡ b
 whole-again End = refl
 whole-again (Next (Set c e) rest) = ap (Next (Set c e)) (whole-again rest)
-whole-again (Next (Add c e) rest) = ap (Next (Add c e)) (whole-again rest)
+whole-again (Next (Fold op c e) rest) = ap (Next (Fold op c e)) (whole-again rest)
 whole-again (Next (If e a b) rest) = refl
 whole-again (Next (Task d b) rest) = refl
 whole-again (Next Wait rest) = refl
-whole-again (Next (Group cs b) rest) = refl
+whole-again (Next (Group op cs b) rest) = refl
 
 -- the region that begins a piece goes on as a whole
 whole-begun : (worker : ℕ) (lease : Lease) (r : Region) → r.running ≡ None → whole (begun worker lease r) ≡ awake (whole r)

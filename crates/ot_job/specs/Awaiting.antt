@@ -2,17 +2,16 @@
 use Rattle.std.specs.Prelude.{◌≡◌, ℕ, Bool, false, not, ◌&&◌, List, [], ◌∷◌}
 use Rattle.std.specs.List.{list_any}
 use Rattle.ot_model.specs.Tree.{Body}
-use Rattle.ot_model.specs.declared.expr.Cell.{Cell}
 use Rattle.ot_depend.specs.Siblings.{Sibling, is_unfinished, is_in}
-use Rattle.ot_check.specs.Offences.{Declared}
+use Rattle.ot_check.specs.Offences.{Declared, Openings}
 use Rattle.ot_check.specs.walk.Walk.{Children, anyone, nothing_open, with_group, through, after}
 use Rattle.ot_check.specs.walk.Fine.{IsFine}
 use Rattle.ot_task.specs.Place.{Open}
 
--- whether an open group names the cell
-abbrev pub opened : List Open → Cell → Bool
+-- whether an open group by an operation names a cell
+abbrev pub opened : List Open → Openings
 opened [] = nothing_open
-opened (o ∷ os) = with_group (opened os) o.cells
+opened (o ∷ os) = with_group (opened os) o.op o.cells
 
 -- children, with the groups that each was created in, told by what is true of some of them
 abbrev pub Kids : Type 0

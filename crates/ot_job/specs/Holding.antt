@@ -2,9 +2,10 @@
 use Rattle.std.specs.Prelude.{◌≡◌, ◌≢◌, ℕ, true, false, List, Some, None, Contains}
 use Rattle.ot_model.specs.Uses.{Conflict, mode_in}
 use Rattle.ot_model.specs.declared.expr.Cell.{Cell}
-use Rattle.ot_model.specs.declared.stmt.Mode.TheVariants.{Reads, Writes, Adds}
+use Rattle.ot_model.specs.declared.fold.Fold.{Fold as Operation}
+use Rattle.ot_model.specs.declared.stmt.Mode.TheVariants.{Reads, Writes, Folds}
 use Rattle.ot_model.specs.declared.stmt.Use.{Use}
-use Rattle.ot_check.specs.Offences.{Declared, adds_to}
+use Rattle.ot_check.specs.Offences.{Declared, folds_to}
 use Rattle.ot_owner.specs.Leases.{lease_of, lent_from}
 use Rattle.ot_owner.specs.Worth.{worths}
 use Rattle.ot_task.specs.Pieces.{test_of}
@@ -21,12 +22,16 @@ Touches us c = (u : Use) × Contains us u × (u.cell ≡ c)
 abbrev pub OnlyReads : List Use → Cell → Type 0
 OnlyReads us c = (u : Use) → Contains us u → u.cell ≡ c → u.mode ≡ Reads
 
--- A piece with these touches holds each cell that it touches: as Adds where its body declares Adds, else as Reads where it
--- only reads it, else as Writes. It holds no other cell.
+-- the body declares no fold of the cell
+abbrev pub FoldsNone : Declared → Cell → Type 0
+FoldsNone own c = (o : Operation) → folds_to own o c ≡ false
+
+-- A piece with these touches holds each cell that it touches: as Folds of the operation where its body declares one, else as
+-- Reads where it only reads it, else as Writes. It holds no other cell.
 pub record Holds (own : Declared) (us held : List Use) : Type 0 where
-  pub adds : (c : Cell) → Touches us c → adds_to own c ≡ true → mode_in held c ≡ Some Adds
-  pub reads : (c : Cell) → Touches us c → adds_to own c ≡ false → OnlyReads us c → mode_in held c ≡ Some Reads
-  pub writes : (c : Cell) → Touches us c → adds_to own c ≡ false → ¬ OnlyReads us c → mode_in held c ≡ Some Writes
+  pub folds : (o : Operation) (c : Cell) → Touches us c → folds_to own o c ≡ true → mode_in held c ≡ Some (Folds o)
+  pub reads : (c : Cell) → Touches us c → FoldsNone own c → OnlyReads us c → mode_in held c ≡ Some Reads
+  pub writes : (c : Cell) → Touches us c → FoldsNone own c → ¬ OnlyReads us c → mode_in held c ≡ Some Writes
   pub others : (c : Cell) → ¬ Touches us c → mode_in held c ≡ None
 
 -- what a region's piece touches: the cells of its assignments and of its condition
@@ -37,7 +42,7 @@ touches_out r run = piece_touches run.assigns (test_of r.rest)
 abbrev pub AllHold : Live → Type 0
 AllHold j = (i : ℕ) (run : Run) → (at j.regions i).running ≡ Some run → Holds (at j.regions i).own (touches_out (at j.regions i) run) run.lease.uses
 
--- what it was lent are the cells as they are worth now, and 0 under Adds
+-- what it was lent are the cells as they are worth now, and under Folds the unit of the operation
 abbrev pub HavePresent : Live → Type 0
 HavePresent j = (i : ℕ) (run : Run) → (at j.regions i).running ≡ Some run → run.lease ≡ lease_of (lent_from (worths j.owned j.cells) run.lease.uses)
 

@@ -1,6 +1,7 @@
 -- The open groups of a job's tasks, and the copies that are kept of their cells.
 use Rattle.std.specs.Prelude.{◌≡◌, ◌↔◌, ℕ, List, [], ◌∷◌, ◌++◌, map, replicate, Option, Some, None, Contains, IsPermutation}
 use Rattle.ot_model.specs.declared.expr.Cell.{Cell}
+use Rattle.ot_model.specs.declared.fold.Fold.{Fold as Operation}
 use Rattle.ot_model.specs.declared.stmt.Use.{Use}
 use Rattle.ot_check.specs.Offences.{has_cell}
 use Rattle.ot_owner.specs.Rows.{Summed, names, IsNamed}
@@ -13,19 +14,20 @@ abbrev pub numbers_in : List Region → List ℕ
 numbers_in [] = []
 numbers_in (r ∷ rs) = map (λ o. o.group) r.groups ++ numbers_in rs
 
--- copies are kept for each open group of a task and for no other, of the cells that it names
+-- copies are kept for each open group of a task and for no other, by its operation, of the cells that it names
 pub record AreOpen (rs : List Region) (gs : List Summed) : Type 0 where
   pub numbers : IsPermutation (map (λ g. g.group) gs) (numbers_in rs)
+  pub ops : (i : ℕ) (o : Open) (g : Summed) → Contains (at rs i).groups o → Contains gs g → g.group ≡ o.group → g.op ≡ o.op
   pub cells : (i : ℕ) (o : Open) (g : Summed) → Contains (at rs i).groups o → Contains gs g → g.group ≡ o.group → (c : Cell) → names c g ≡ has_cell o.cells c
 
--- the room names the cells of the group that comes next, and there is one where one does
-abbrev pub IsRoomFor : Option (List Cell) → Option (List Use) → Type 0
+-- the room is for the operation of the group that comes next, and names its cells; there is one where one comes next
+abbrev pub IsRoomFor : Option (Operation × List Cell) → Option (Operation × List Use) → Type 0
 IsRoomFor None None = Unit {0}
 IsRoomFor None (Some room) = ⊥
-IsRoomFor (Some cells) None = ⊥
-IsRoomFor (Some cells) (Some room) = (c : Cell) → IsNamed room c ↔ Contains cells c
+IsRoomFor (Some group) None = ⊥
+IsRoomFor (Some group) (Some room) = (room.0 ≡ group.0) × ((c : Cell) → IsNamed room.1 c ↔ Contains group.1 c)
 
 -- the group that is opened under this number, if there is room for one
-abbrev pub opened_under : ℕ → Option (List Use) → List Summed
+abbrev pub opened_under : ℕ → Option (Operation × List Use) → List Summed
 opened_under number None = []
-opened_under number (Some room) = record { group = number; uses = room; rows = replicate 17 None } ∷ []
+opened_under number (Some room) = record { group = number; op = room.0; uses = room.1; rows = replicate 17 None } ∷ []

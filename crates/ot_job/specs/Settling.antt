@@ -10,7 +10,7 @@ use Rattle.ot_owner.specs.Back.{AreStored, all_back}
 use Rattle.ot_owner.specs.Owning.{loan_of}
 use Rattle.ot_owner.specs.Worth.{AreJoined, worth}
 use Rattle.ot_task.specs.Standing.{is_at_end}
-use Rattle.ot_task.specs.Regions.{Region, cells_next, executed, is_control, next_task, over, stopped, tasks_next, without}
+use Rattle.ot_task.specs.Regions.{Region, group_next, executed, is_control, next_task, over, stopped, tasks_next, without}
 use Rattle.ot_job.specs.Opening.{Opens}
 use Rattle.ot_job.specs.Numbered.{at, parent_of}
 use Rattle.ot_job.specs.Live.{Live}
@@ -55,7 +55,7 @@ units_of assigns rest = leading_len assigns + (if is_control rest then 1 else 0)
 abbrev pub counts_after : Counts → Body → Body → Counts
 counts_after counts assigns rest = record { tasks = counts.tasks + tasks_next rest; units = counts.units + units_of assigns rest }
 
--- A written cell has its present value; what was added is in the row of the worker to whom the piece was out; and where a
+-- A written cell has its present value; what was folded is in the row of the worker to whom the piece was out; and where a
 -- group comes next, it is open with no row.
 pub record Settles (old : Live) (d : Came) (number : ℕ) (new : Live) : Type 0 where
   pub out : IsOut old.regions d
@@ -63,7 +63,7 @@ pub record Settles (old : Live) (d : Came) (number : ℕ) (new : Live) : Type 0 
   pub units : number ≡ units_of d.assigns (at old.regions d.task).rest
   pub stored : AreStored d.lent (cell_of old.cells) (cell_of new.cells)
   pub lengths : lengths new.cells ≡ lengths old.cells
-  pub groups : Opens (cells_next (at old.regions d.task).rest) old.counts.units (all_back (worker_in (at old.regions d.task)) d.lent old.owned.groups) new.owned.groups
+  pub groups : Opens (group_next (at old.regions d.task).rest) old.counts.units (all_back (worker_in (at old.regions d.task)) d.lent old.owned.groups) new.owned.groups
   pub worth : AreJoined d.lent (worth old.owned old.cells) (worth new.owned new.cells)
   pub ended : IsPermutation old.owned.out (loan_of (worker_in (at old.regions d.task)) d.lent ∷ new.owned.out)
   pub lighter : weight_of new.regions < weight_of old.regions

@@ -2,11 +2,14 @@
 use Rattle.std.specs.Prelude.{◌≡◌, ◌<◌, ◌⊎◌, ℕ, ◌&&◌, ◌||◌, Bool, true, false, List, [], ◌∷◌, length, Some, None, slice_get}
 use Rattle.ot_model.specs.Tree.{Body, End}
 use Rattle.ot_model.specs.declared.expr.Cell.{Cell}
-use Rattle.ot_model.specs.declared.stmt.Mode.TheVariants.{Reads, Writes}
+use Rattle.ot_model.specs.declared.fold.Fold.{Fold as Operation}
+use Rattle.ot_model.specs.declared.stmt.Mode.{Mode}
+use Rattle.ot_model.specs.declared.stmt.Mode.TheVariants.{Writes, Folds}
 use Rattle.ot_model.specs.declared.stmt.Use.{Use}
+use Rattle.ot_model.specs.Uses.{same_fold}
 use Rattle.ot_depend.specs.Siblings.{Sibling, IsReady, is_in}
 use Rattle.ot_check.specs.Paths.{use_as}
-use Rattle.ot_check.specs.Offences.{allows, adds_to, has_cell}
+use Rattle.ot_check.specs.Offences.{Declared, Openings, allows, folds_to, has_cell}
 use Rattle.ot_check.specs.Touches.{EachTouch, EachTask}
 use Rattle.ot_job.specs.Numbered.{at, parent_of, ended_at}
 use Rattle.ot_task.specs.Place.{Open, todo}
@@ -27,19 +30,23 @@ pub record IsKin (rs : List Region) (i : ℕ) : Type 0 where
   pub uses : (at rs i).own ≡ Some entry.uses
   pub finished : entry.finished ≡ (at rs i).ended
 
--- no cell is read by the one and added to by the other
-abbrev pub DontMix : List Use → List Use → Type 0
-DontMix us vs = (c : Cell) → allows (Some us) (use_as Reads c) ≡ true → adds_to (Some vs) c ≡ true → ⊥
+-- the body may use the cell to fold by this operation, and in no other way
+abbrev pub OnlyFolds : Operation → Declared → Cell → Type 0
+OnlyFolds o own c = (m : Mode) → allows own (use_as m c) ≡ true → m ≡ Folds o
 
--- whether the child was created in an open group that names the cell
-abbrev pub sums_in : List Open → Sibling → Cell → Bool
-sums_in [] s c = false
-sums_in (o ∷ os) s c = (has_cell o.cells c && is_in o.group s) || sums_in os s c
+-- what the second declares to fold, the first may fold by the same operation, and use in no other way
+abbrev pub DontMix : List Use → List Use → Type 0
+DontMix us vs = (o : Operation) (c : Cell) → folds_to (Some vs) o c ≡ true → OnlyFolds o (Some us) c
+
+-- whether the child was created in an open group by this operation that names the cell
+abbrev pub sums_in : List Open → Sibling → Openings
+sums_in [] s o c = false
+sums_in (g ∷ gs) s o c = ((same_fold g.op o && has_cell g.cells c) && is_in g.group s) || sums_in gs s o c
 
 -- no cell is named by two of the groups
 abbrev pub NamedOnce : List Open → Type 0
 NamedOnce [] = Unit {0}
-NamedOnce (o ∷ os) = ((c : Cell) → has_cell o.cells c ≡ true → opened os c ≡ false) × NamedOnce os
+NamedOnce (g ∷ gs) = ((o : Operation) (c : Cell) → has_cell g.cells c ≡ true → opened gs o c ≡ false) × NamedOnce gs
 
 -- the declaration lets the body make each of its touches
 abbrev pub LetsAll : List Use → Body → Type 0
@@ -56,10 +63,10 @@ pub record IsPlaced (r : Region) : Type 0 where
   pub over : r.ended ≡ true → todo r.rest r.groups ≡ End
   pub shut : r.ended ≡ true → r.groups ≡ []
   pub once : NamedOnce r.groups
-  pub writes : (c : Cell) → opened r.groups c ≡ true → allows r.own (use_as Writes c) ≡ true
-  pub sums : (k : ℕ) (s : Sibling) → slice_get r.children k ≡ Some s → s.finished ≡ false → (c : Cell) → adds_to (Some s.uses) c ≡ true → (adds_to r.own c ≡ true) ⊎ (sums_in r.groups s c ≡ true)
-  pub reduced : (k : ℕ) (s : Sibling) → slice_get r.children k ≡ Some s → s.finished ≡ false → (c : Cell) → opened r.groups c ≡ true → allows (Some s.uses) (use_as Reads c) ≡ false
-  pub exclusive : (c : Cell) → adds_to r.own c ≡ true → allows r.own (use_as Reads c) ≡ false
+  pub writes : (o : Operation) (c : Cell) → opened r.groups o c ≡ true → allows r.own (use_as Writes c) ≡ true
+  pub sums : (k : ℕ) (s : Sibling) → slice_get r.children k ≡ Some s → s.finished ≡ false → (o : Operation) (c : Cell) → folds_to (Some s.uses) o c ≡ true → (folds_to r.own o c ≡ true) ⊎ (sums_in r.groups s o c ≡ true)
+  pub reduced : (k : ℕ) (s : Sibling) → slice_get r.children k ≡ Some s → s.finished ≡ false → (o : Operation) (c : Cell) → opened r.groups o c ≡ true → OnlyFolds o (Some s.uses) c
+  pub exclusive : (o : Operation) (c : Cell) → folds_to r.own o c ≡ true → OnlyFolds o r.own c
 
 -- the task of an entry in a table
 pub record HasTask (rs : List Region) (parent child : ℕ) : Type 0 where

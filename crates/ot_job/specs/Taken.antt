@@ -10,7 +10,7 @@ use Rattle.ot_task.specs.Pieces.{Runs}
 use Rattle.ot_task.specs.Regions.{Region}
 use Rattle.ot_job.specs.Numbered.{at}
 
--- its task, its sets and adds, the condition behind them, and the copies that it was lent
+-- its task, its sets and folds, the condition behind them, and the copies that it was lent
 pub record Taken : Type 0 where
   pub task : ℕ
   pub assigns : Body

@@ -136,7 +136,7 @@ impl Job {
     }
 
     /// Hands out the next piece of the claimable task at `pick` modulo their count to a worker, 1 to 16.
-    /// Where the task passes a group's end, what was added in the group goes to the stored numbers first
+    /// Where the task passes a group's end, what was folded in the group goes to the stored numbers first
     /// (OpenMP API 5.2, section 5.5). Memory is refused only where a task is claimable, and then nothing
     /// changes.
     pub fn claim(
@@ -169,7 +169,7 @@ impl Job {
         Ok(Some(Piece::new(task as u32, assigns, condition, lent)))
     }
 
-    /// Takes a piece back: its cells have their present values from now on, what it added is in the row of
+    /// Takes a piece back: its cells have their present values from now on, what it folded is in the row of
     /// the worker to whom it was handed out, and the control statement that ended it takes effect. The answer
     /// is the units. Where it is refused, nothing changes.
     pub fn settle(&mut self, alloc: Global, done: Done) -> Result<u32, (Done, Refused)>

@@ -8,7 +8,7 @@ use ot_owner::{Lent, Owners};
 use ot_task::{Assigns, Task, assign_all};
 use std::marker::Model;
 
-/// A piece of a task's body that was claimed: sets and adds, the condition of an `if` that comes
+/// A piece of a task's body that was claimed: sets and folds, the condition of an `if` that comes
 /// behind them, and copies of the cells that these touch. What it does, it does to its copies alone.
 #[derive(Debug)]
 pub struct Piece {
@@ -141,7 +141,7 @@ impl Done {
     ghost use Rattle.std.specs.Prelude.{◌≡◌, ◌∷◌, ◌↔◌, IsTrue, All, Contains, IsSome, IsPermutation};
     ghost use Rattle.ot_model.specs.Cells.{cell_of, lengths};
     ghost use Rattle.ot_model.specs.declared.stmt.Mode.TheVariants.{Writes};
-    ghost use Rattle.ot_owner.specs.Back.{AreStored, all_back};
+    ghost use Rattle.ot_owner.specs.Back.{AreStored, IsByOwn, all_back};
     ghost use Rattle.ot_owner.specs.Keeping.{IsOpenable};
     ghost use Rattle.ot_owner.specs.Owning.{loan_of};
     ghost use Rattle.ot_owner.specs.Rows.{IsSummed};
@@ -156,7 +156,7 @@ impl Done {
         self.task
     }
 
-    /// How many sets and adds it has.
+    /// How many sets and folds it has.
     pub(crate) fn assigns(&self) -> usize
         ensures { result ≡ leading_len self.now.assigns }
     {
@@ -181,13 +181,13 @@ impl Done {
     }
 
     /// Gives back its copies, which are out to the worker: its cells have their present values from now on,
-    /// what was added is in the worker's row, and its right ends.
+    /// what was folded is in the worker's row, and its right ends.
     pub(crate) fn give_back(self, owners: &mut Owners, cells: &mut Cells, worker: u32)
         requires out { Contains owners.old.owned.out (loan_of worker self.lent) }
         requires there { All (λ l. IsSome (cell_of cells.old l.cell)) self.lent }
         ensures stored { AreStored self.lent (cell_of cells.old) (cell_of cells.new) }
         ensures groups { owners.new.owned.groups ≡ all_back worker self.lent owners.old.owned.groups }
-        ensures worth { All (λ l. l.mode ≡ Writes → ¬ IsSummed owners.old.owned.groups l.cell) self.lent → AreJoined self.lent (worth owners.old.owned cells.old) (worth owners.new.owned cells.new) }
+        ensures worth { All (λ l. l.mode ≡ Writes → ¬ IsSummed owners.old.owned.groups l.cell) self.lent → IsByOwn self.lent owners.old.owned.groups → AreJoined self.lent (worth owners.old.owned cells.old) (worth owners.new.owned cells.new) }
         ensures lengths { lengths cells.new ≡ lengths cells.old }
         ensures ended { IsPermutation owners.old.owned.out (loan_of worker self.lent ∷ owners.new.owned.out) }
         ensures rooms { IsOpenable owners.old → IsOpenable owners.new }

@@ -1,5 +1,6 @@
 -- Programs of the first profile mean what they meant, and count what they counted.
-use Rattle.std.proofs.Common.{◌≡◌, ◌+◌, refl, ap, ◌∙◌}
+use Rattle.std.proofs.Common.{◌≡◌, ◌+◌, Bool, ◌||◌, List, [], ◌∷◌, map, refl, ap, ◌∙◌}
+use Rattle.std.specs.List.{list_any}
 use Rattle.ot_model.specs.Cells.{cell_of}
 use Rattle.ot_model.specs.Value.{val}
 use Rattle.ot_model.specs.Counts.{size, size_one, tasks_in, tasks_in_one}
@@ -48,3 +49,13 @@ mutual
   pub serial-up : (b : Body1) (s : State) → serial (up b) s ≡ serial1 b s
   serial-up End1 s = refl
   serial-up (Next1 x rest) s = ap (serial (up rest)) (serial_one-up x s) ∙ serial-up rest (serial_one1 x s)
+
+-- ---- one test of some and another of what they become, for the crates above
+
+pub any-map : {A B : Type 0} (f : A → B) (p : B → Bool) (q : A → Bool) → ((x : A) → p (f x) ≡ q x) → (xs : List A) → list_any p (map f xs) ≡ list_any q xs
+any-map f p q h [] = refl
+any-map f p q h (x ∷ xs) = ap (λ w. w || list_any p (map f xs)) (h x) ∙ ap (λ w. q x || w) (any-map f p q h xs)
+
+pub any-same : {A : Type 0} (p q : A → Bool) → ((x : A) → p x ≡ q x) → (xs : List A) → list_any p xs ≡ list_any q xs
+any-same p q h [] = refl
+any-same p q h (x ∷ xs) = ap (λ w. w || list_any p xs) (h x) ∙ ap (λ w. q x || w) (any-same p q h xs)

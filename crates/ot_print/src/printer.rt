@@ -1,6 +1,17 @@
 //! Statements as people who write OpenMP read them.
-use ot_model::{ArrayShape, Cell, Decl, Expr, Mode, Op, Section, Stmt};
+use ot_model::{ArrayShape, Cell, Decl, Expr, Fold, Mode, Op, Section, Stmt};
 use std::alloc::{AllocError, Global};
+
+/// The operations of reductions, in the order in which a task's clauses name them.
+const OPERATIONS: [Fold; 7] = [
+    Fold::Plus,
+    Fold::Times,
+    Fold::And,
+    Fold::Or,
+    Fold::Xor,
+    Fold::Min,
+    Fold::Max,
+];
 
 /// A text that is being written, with the arrays whose names it uses.
 #[derive(Drop)]
@@ -85,7 +96,7 @@ impl<'a> Printer<'a> {
     pub fn statement(&mut self, stmt: &Stmt) -> Result<(), AllocError> {
         match stmt {
             Stmt::Set(cell, expr) => self.assignment(*cell, " = ", expr),
-            Stmt::Add(cell, expr) => self.assignment(*cell, " += ", expr),
+            Stmt::Fold(op, cell, expr) => self.fold(*op, *cell, expr),
             Stmt::If(expr, _, _) => {
                 self.words("if (")?;
                 self.value(expr)?;
@@ -93,7 +104,23 @@ impl<'a> Printer<'a> {
             }
             Stmt::Task(decl, _) => self.task(decl),
             Stmt::Wait => self.words("taskwait"),
-            Stmt::Group(cells, _) => self.group(cells),
+            Stmt::Group(op, cells, _) => self.group(*op, cells),
+        }
+    }
+
+    /// `a[0] += 2`, or `a[0] = max(a[0], 2)` where the operation is written as a function.
+    fn fold(&mut self, op: Fold, cell: Cell, expr: &Expr) -> Result<(), AllocError> {
+        match fold_sign(op) {
+            Ok(sign) => self.assignment(cell, sign, expr),
+            Err(name) => {
+                self.cell(cell)?;
+                self.words(" = ")?;
+                self.words(name)?;
+                self.cell(cell)?;
+                self.words(", ")?;
+                self.value(expr)?;
+                self.words(")")
+            }
         }
     }
 
@@ -108,32 +135,44 @@ impl<'a> Printer<'a> {
         self.words("task")?;
         self.clause(" in(", decl, Mode::Reads)?;
         self.clause(" out(", decl, Mode::Writes)?;
-        self.clause(" in_reduction(+: ", decl, Mode::Adds)
+        for op in &OPERATIONS {
+            let sections = declared_in(self.alloc, decl, Mode::Folds(*op))?;
+            self.reduction(" in_reduction(", *op, &sections)?;
+        }
+        Ok(())
     }
 
     /// The cells that are declared in this mode, if any.
     fn clause(&mut self, words: &str, decl: &Decl, mode: Mode) -> Result<(), AllocError> {
-        let mut sections = Vec::new(self.alloc);
-        for used in decl.uses() {
-            if used.mode == mode {
-                put_cell(&mut sections, used.cell)?;
-            }
-        }
-        self.list(words, &sections)
-    }
-
-    /// The beginning of a group: `taskgroup task_reduction(+: a[0])`.
-    pub fn group(&mut self, cells: &[Cell]) -> Result<(), AllocError> {
-        let sections = sections_of(self.alloc, cells)?;
-        self.words("taskgroup")?;
-        self.list(" task_reduction(+: ", &sections)
-    }
-
-    fn list(&mut self, words: &str, sections: &[Section]) -> Result<(), AllocError> {
+        let sections = declared_in(self.alloc, decl, mode)?;
         if sections.is_empty() {
             return Ok(());
         }
         self.words(words)?;
+        self.sections(&sections)?;
+        self.words(")")
+    }
+
+    /// The beginning of a group: `taskgroup task_reduction(+: a[0])`.
+    pub fn group(&mut self, op: Fold, cells: &[Cell]) -> Result<(), AllocError> {
+        let sections = sections_of(self.alloc, cells)?;
+        self.words("taskgroup")?;
+        self.reduction(" task_reduction(", op, &sections)
+    }
+
+    /// What the operation of a reduction is called in a clause: `+`, or `max`.
+    pub fn operation(&mut self, op: Fold) -> Result<(), AllocError> {
+        self.words(identifier(op))
+    }
+
+    /// A clause that names the operation and the cells, if any.
+    fn reduction(&mut self, words: &str, op: Fold, sections: &[Section]) -> Result<(), AllocError> {
+        if sections.is_empty() {
+            return Ok(());
+        }
+        self.words(words)?;
+        self.operation(op)?;
+        self.words(": ")?;
         self.sections(sections)?;
         self.words(")")
     }
@@ -203,6 +242,43 @@ fn sign(op: Op) -> Result<&'static str, &'static str> {
         Op::Min => Err("min("),
         Op::Max => Err("max("),
     }
+}
+
+/// What an operation is called in a clause (OpenMP API 5.2, section 5.5.3).
+fn identifier(op: Fold) -> &'static str {
+    match op {
+        Fold::Plus => "+",
+        Fold::Times => "*",
+        Fold::And => "&",
+        Fold::Or => "|",
+        Fold::Xor => "^",
+        Fold::Min => "min",
+        Fold::Max => "max",
+    }
+}
+
+/// The sign of a fold by an operation, or the name of the one that is written as a function.
+fn fold_sign(op: Fold) -> Result<&'static str, &'static str> {
+    match op {
+        Fold::Plus => Ok(" += "),
+        Fold::Times => Ok(" *= "),
+        Fold::And => Ok(" &= "),
+        Fold::Or => Ok(" |= "),
+        Fold::Xor => Ok(" ^= "),
+        Fold::Min => Err("min("),
+        Fold::Max => Err("max("),
+    }
+}
+
+/// The cells that are declared in this mode, those in a row as one section.
+fn declared_in(alloc: Global, decl: &Decl, mode: Mode) -> Result<Vec<Section>, AllocError> {
+    let mut sections = Vec::new(alloc);
+    for used in decl.uses() {
+        if used.mode == mode {
+            put_cell(&mut sections, used.cell)?;
+        }
+    }
+    Ok(sections)
 }
 
 /// The cells as sections, those in a row as one.

@@ -11,19 +11,18 @@ use Rattle.std.specs.declared.cmp.Ordering.TheVariants.{Less, Equal, Greater}
 use Rattle.std.proofs.lemmas.Bool.{cases_lt}
 use Rattle.ot_model.specs.declared.expr.Cell.{Cell}
 use Rattle.ot_model.specs.declared.stmt.Mode.{Mode}
-use Rattle.ot_model.specs.declared.stmt.Mode.TheVariants.{Reads, Writes, Adds}
 use Rattle.ot_model.specs.declared.stmt.Use.{Use}
 use Rattle.ot_model.specs.Cells.{same_cell, is_before}
 use Rattle.ot_model.specs.Value.{cells_of}
 use Rattle.ot_program.specs.declared.fault.Refusal.TheVariants.{MixedReduction}
-use Rattle.ot_program.specs.Declarations.{placed, named_cells, named_as, mode_among, is_mixed, uses}
+use Rattle.ot_program.specs.Declarations.{placed, named_cells, mode_among, is_mixed, uses}
 use Rattle.ot_program.specs.Faults.{unless, mixed}
 use Rattle.ot_program.specs.Meanings.{Clause}
 use Rattle.ot_program.specs.walk.Clauses.{uses_of, declaration}
 use Rattle.ot_program.specs.walk.Namings.{cell_order, Named, name_cell, name_clause}
 use Rattle.ot_program.proofs.CellLists.{cell_of_key, precedes}
 use Rattle.ot_program.proofs.Coded.{code_clause}
-use Rattle.ot_program.proofs.Declared.{key, same_from, at_itself, mode_at, summary, clauses_named}
+use Rattle.ot_program.proofs.Declared.{key, same_from, at_itself, mode_at, clauses_named, declared_as}
 use Rattle.ot_program.proofs.Firsts.{Reads as IsRead, reads_right, reads_made}
 
 -- one more in its place, unless it is there
@@ -206,43 +205,19 @@ all_found (e ∷ es) s = (rw (at_itself e.0) refl, found_behind e es es s.0 (all
 
 -- ---- readings
 
-none_mixed : (w r a : Bool) → Some None ≡ summary w r a → a && (w || r) ≡ true
-unfolding summary
-none_mixed true true true h = refl
-none_mixed true true false h = absurd cc
-none_mixed true false true h = refl
-none_mixed true false false h = absurd cc
-none_mixed false true true h = refl
-none_mixed false true false h = absurd cc
-none_mixed false false true h = absurd cc
-none_mixed false false false h = absurd cc
-
-some_mode : (m : Mode) (w r a : Bool) → Some (Some m) ≡ summary w r a → (a && (w || r) ≡ false) × (m ≡ cond w Writes (cond r Reads Adds))
-unfolding summary
-some_mode m true true true h = absurd cc
-some_mode m true true false h = (refl, cc)
-some_mode m true false true h = absurd cc
-some_mode m true false false h = (refl, cc)
-some_mode m false true true h = absurd cc
-some_mode m false true false h = (refl, cc)
-some_mode m false false true h = (refl, cc)
-some_mode m false false false h = absurd cc
-
 use_at : List Clause → ℕ × ℕ → Use
 use_at clauses k = record { cell = cell_of_key k; mode = mode_among clauses (cell_of_key k) }
 
 uses_read : (clauses : List Clause) (es : Named) → AreFound (fold name_clause [] (map code_clause clauses)) es
     → IsRead 7 (uses_of es) (map (use_at clauses) (keys_of es)) (unless (not (list_any (λ k. is_mixed clauses (cell_of_key k)) (keys_of es))) MixedReduction)
-unfolding AreFound summary mode_at use_at
+unfolding AreFound mode_at use_at
 uses_read clauses [] h = reads_right 7 []
 uses_read clauses ((k, None) ∷ es) h =
     let c = cell_of_key k in
-    let is = sym h.0 ∙ clauses_named c clauses [] false false false refl in
-    rw (none_mixed (named_as Writes clauses c) (named_as Reads clauses c) (named_as Adds clauses c) is) (record { is = refl; up_to = omega arith })
+    rw (declared_as c clauses None (sym h.0 ∙ clauses_named c clauses [])) (record { is = refl; up_to = omega arith })
 uses_read clauses ((k, Some m) ∷ es) h =
     let c = cell_of_key k in
-    let is = sym h.0 ∙ clauses_named c clauses [] false false false refl in
-    let s = some_mode m (named_as Writes clauses c) (named_as Reads clauses c) (named_as Adds clauses c) is in
+    let s = declared_as c clauses (Some m) (sym h.0 ∙ clauses_named c clauses []) in
     rw (s.0, ← s.1)
     (reads_made 7 (uses_of es) (λ us. record { cell = c; mode = m } ∷ us) (map (use_at clauses) (keys_of es))
     (unless (not (list_any (λ k. is_mixed clauses (cell_of_key k)) (keys_of es))) MixedReduction) (uses_read clauses es h.1))

@@ -1,7 +1,9 @@
 -- What was collected of a cell is what the clauses naming it ask for.
-use Rattle.std.proofs.Common.{◌≡◌, ℕ, Bool, true, false, cond, ◌&&◌, ◌||◌, List, [], ◌∷◌, map, Option, Some, None, nat_eq, refl, sym, ap, ◌∙◌, arith, inl, inr}
+use Rattle.std.proofs.Common.{◌≡◌, ℕ, Bool, true, false, cond, ◌&&◌, ◌||◌, List, [], ◌∷◌, map, Option, Some, None, nat_eq, refl, sym, ap, subst, ◌∙◌, arith, inl, inr}
+use Rattle.std.specs.Prelude.{not, is_some, unwrap_or}
 use Rattle.std.specs.List.{list_any, fold}
 use Rattle.std.specs.Map.{lookup}
+use Rattle.std.specs.Option.{option_or}
 use Rattle.std.specs.BTreeMap.{insert_entry, is_at}
 use Rattle.std.specs.Ordering.{is_eq, nat_cmp, ordering_then, match_ordering}
 use Rattle.std.specs.Cmp.{nat_cmp_is}
@@ -10,14 +12,17 @@ use Rattle.std.specs.declared.cmp.Ordering.TheVariants.{Less, Equal, Greater}
 use Rattle.std.proofs.lemmas.Bool.{cases_lt}
 use Rattle.std.proofs.lemmas.Bool.Decides.{eqb_tells}
 use Rattle.ot_model.specs.declared.expr.Cell.{Cell}
+use Rattle.ot_model.specs.declared.fold.Fold.{Fold}
+use Rattle.ot_model.specs.declared.fold.Fold.TheVariants.{Plus}
 use Rattle.ot_model.specs.declared.stmt.Mode.{Mode}
-use Rattle.ot_model.specs.declared.stmt.Mode.TheVariants.{Reads, Writes, Adds}
+use Rattle.ot_model.specs.declared.stmt.Mode.TheVariants.{Reads, Writes, Folds}
 use Rattle.ot_model.specs.Cells.{same_cell}
-use Rattle.ot_model.specs.Uses.{same_mode}
+use Rattle.ot_model.specs.Uses.{is_fold, same_fold, same_mode}
 use Rattle.ot_model.specs.Value.{cells_of}
-use Rattle.ot_program.specs.Declarations.{named_as}
+use Rattle.ot_model.proofs.EqualLemmas.{fold-decides}
+use Rattle.ot_program.specs.Declarations.{names, named_as, operation_in, first_fold, mode_among, named_otherwise, is_mixed}
 use Rattle.ot_program.specs.Meanings.{Clause}
-use Rattle.ot_program.specs.walk.Namings.{cell_order, Named, with_mode, name_cell, name_clause}
+use Rattle.ot_program.specs.walk.Namings.{cell_order, Named, together, with_mode, name_cell, name_clause}
 use Rattle.ot_program.proofs.Coded.{code_clause}
 
 -- ---- keys
@@ -119,20 +124,24 @@ insert_at q k v (e ∷ es) = insert_by q k v e es (cell_order k e.0) refl (inser
 abbrev pub key : Cell → ℕ × ℕ
 key c = (c.array, c.index)
 
+again_by : (a b : Fold) (same : Bool) → same_fold a b ≡ same → together (cond same (Some (Folds a)) None) (Folds b) ≡ cond same (Some (Folds a)) None
+again_by a b true is = rw is refl
+again_by a b false is = refl
+
 again : (s : Option (Option Mode)) (m : Mode) → with_mode (Some (with_mode s m)) m ≡ with_mode s m
 again None Reads = refl
 again None Writes = refl
-again None Adds = refl
+again None (Folds op) = rw ((fold-decides op op).1 refl) refl
 again (Some None) m = refl
 again (Some (Some Reads)) Reads = refl
 again (Some (Some Reads)) Writes = refl
-again (Some (Some Reads)) Adds = refl
+again (Some (Some Reads)) (Folds op) = refl
 again (Some (Some Writes)) Reads = refl
 again (Some (Some Writes)) Writes = refl
-again (Some (Some Writes)) Adds = refl
-again (Some (Some Adds)) Reads = refl
-again (Some (Some Adds)) Writes = refl
-again (Some (Some Adds)) Adds = refl
+again (Some (Some Writes)) (Folds op) = refl
+again (Some (Some (Folds a))) Reads = refl
+again (Some (Some (Folds a))) Writes = refl
+again (Some (Some (Folds a))) (Folds b) = again_by a b (same_fold a b) refl
 
 cell_by : (b rest : Bool) (s : Option (Option Mode)) (m : Mode)
     → cond rest (Some (with_mode (cond b (Some (with_mode s m)) s) m)) (cond b (Some (with_mode s m)) s)
@@ -164,64 +173,206 @@ cells_named q m (c ∷ cs) named =
 
 -- ---- all clauses
 
--- the mode of a cell that is written, read and added to by some clauses, or by none
-unfoldable pub summary : Bool → Bool → Bool → Option (Option Mode)
-summary w r a =
-    cond (a && (w || r)) (Some None) (cond w (Some (Some Writes)) (cond r (Some (Some Reads)) (cond a (Some (Some Adds)) None)))
+-- what is collected of a cell, with the clauses that follow
+abbrev pub after : Option (Option Mode) → List Clause → Cell → Option (Option Mode)
+after s [] c = s
+after s (k ∷ ks) c = after (cond (names c k) (Some (with_mode s k.mode)) s) ks c
 
-step_named : (m : Mode) (w r a : Bool)
-    → Some (with_mode (summary w r a) m) ≡ summary (w || same_mode Writes m) (r || same_mode Reads m) (a || same_mode Adds m)
-unfolding summary
-step_named Reads true true true = refl
-step_named Reads true true false = refl
-step_named Reads true false true = refl
-step_named Reads true false false = refl
-step_named Reads false true true = refl
-step_named Reads false true false = refl
-step_named Reads false false true = refl
-step_named Reads false false false = refl
-step_named Writes true true true = refl
-step_named Writes true true false = refl
-step_named Writes true false true = refl
-step_named Writes true false false = refl
-step_named Writes false true true = refl
-step_named Writes false true false = refl
-step_named Writes false false true = refl
-step_named Writes false false false = refl
-step_named Adds true true true = refl
-step_named Adds true true false = refl
-step_named Adds true false true = refl
-step_named Adds true false false = refl
-step_named Adds false true true = refl
-step_named Adds false true false = refl
-step_named Adds false false true = refl
-step_named Adds false false false = refl
+pub clauses_named : (q : Cell) (clauses : List Clause) (named : Named)
+    → mode_at (key q) (fold name_clause named (map code_clause clauses)) ≡ after (mode_at (key q) named) clauses q
+clauses_named q [] named = refl
+clauses_named q (c ∷ cs) named =
+    clauses_named q cs (name_clause named (code_clause c))
+    ∙ ap (λ (s : Option (Option Mode)). after s cs q) (cells_named q c.mode (cells_of c.section) named)
 
-or_false : (b : Bool) → b || false ≡ b
-or_false true = refl
-or_false false = refl
+-- a cell that is mixed stays so
+after_mixed : (c : Cell) (ks : List Clause) → after (Some None) ks c ≡ Some None
+after_mixed c [] = refl
+after_mixed c (k ∷ ks) = by (names c k) (after_mixed c ks)
+  where
+    by : (b : Bool) → after (Some None) ks c ≡ Some None → after (cond b (Some None) (Some None)) ks c ≡ Some None
+    by true h = h
+    by false h = h
 
-or_or : (a b c : Bool) → (a || b) || c ≡ a || (b || c)
-or_or true b c = refl
-or_or false b c = refl
+-- ---- what it is after the first clause that names it
 
-step : (named : Bool) (m : Mode) (w r a : Bool)
-    → cond named (Some (with_mode (summary w r a) m)) (summary w r a)
-    ≡ summary (w || (named && same_mode Writes m)) (r || (named && same_mode Reads m)) (a || (named && same_mode Adds m))
-step true m w r a = step_named m w r a
-step false m w r a = sym (rw (or_false w, or_false r, or_false a) refl)
+-- under `red` with an operation it is mixed where a clause names it otherwise
+abbrev FoldKept : Fold → Cell → List Clause → Bool → Option (Option Mode) → Type 0
+FoldKept op c ks other s = s ≡ cond (other || named_otherwise (Folds op) ks c) (Some None) (Some (Some (Folds op)))
 
--- whether a clause of this mode names the cell
-abbrev pub names_as : Mode → Cell → Clause → Bool
-names_as mode c clause = list_any (same_cell c) (cells_of clause.section) && same_mode mode clause.mode
+fold_same : (op : Fold) (c : Cell) (ks : List Clause) (same : Bool) → FoldKept op c ks false (after (Some (Some (Folds op))) ks c)
+    → FoldKept op c ks (not same) (after (Some (cond same (Some (Folds op)) None)) ks c)
+fold_same op c ks true h = h
+fold_same op c ks false h = after_mixed c ks
 
-pub clauses_named : (q : Cell) (clauses : List Clause) (named : Named) (w r a : Bool) → mode_at (key q) named ≡ summary w r a
-    → mode_at (key q) (fold name_clause named (map code_clause clauses))
-    ≡ summary (w || named_as Writes clauses q) (r || named_as Reads clauses q) (a || named_as Adds clauses q)
-clauses_named q [] named w r a h = h ∙ sym (rw (or_false w, or_false r, or_false a) refl)
-clauses_named q (c ∷ cs) named w r a h =
-    let here = list_any (same_cell q) (cells_of c.section) in
-    let one = cells_named q c.mode (cells_of c.section) named
-    ∙ ap (λ (s : Option (Option Mode)). cond here (Some (with_mode s c.mode)) s) h ∙ step here c.mode w r a in
-    clauses_named q cs (name_clause named (code_clause c)) (w || names_as Writes q c) (r || names_as Reads q c) (a || names_as Adds q c) one
-    ∙ rw (or_or w (names_as Writes q c) (named_as Writes cs q), or_or r (names_as Reads q c) (named_as Reads cs q), or_or a (names_as Adds q c) (named_as Adds cs q)) refl
+fold_by : (op : Fold) (c : Cell) (ks : List Clause) (b : Bool) (m : Mode) → FoldKept op c ks false (after (Some (Some (Folds op))) ks c)
+    → FoldKept op c ks (b && not (same_mode (Folds op) m)) (after (cond b (Some (with_mode (Some (Some (Folds op))) m)) (Some (Some (Folds op)))) ks c)
+fold_by op c ks false m h = h
+fold_by op c ks true Reads h = after_mixed c ks
+fold_by op c ks true Writes h = after_mixed c ks
+fold_by op c ks true (Folds p) h = fold_same op c ks (same_fold op p) h
+
+after_fold : (op : Fold) (c : Cell) (ks : List Clause) → FoldKept op c ks false (after (Some (Some (Folds op))) ks c)
+after_fold op c [] = refl
+after_fold op c (k ∷ ks) = fold_by op c ks (names c k) k.mode (after_fold op c ks)
+
+-- written it is mixed where a clause folds it
+abbrev WritesKept : Option Fold → Option (Option Mode) → Type 0
+WritesKept f s = s ≡ cond (is_some f) (Some None) (Some (Some Writes))
+
+writes_by : (c : Cell) (ks : List Clause) (b : Bool) (m : Mode) → WritesKept (first_fold ks c) (after (Some (Some Writes)) ks c)
+    → WritesKept (cond b (option_or (operation_in m) (first_fold ks c)) (first_fold ks c)) (after (cond b (Some (with_mode (Some (Some Writes)) m)) (Some (Some Writes))) ks c)
+writes_by c ks false m h = h
+writes_by c ks true Reads h = h
+writes_by c ks true Writes h = h
+writes_by c ks true (Folds op) h = after_mixed c ks
+
+after_writes : (c : Cell) (ks : List Clause) → WritesKept (first_fold ks c) (after (Some (Some Writes)) ks c)
+after_writes c [] = refl
+after_writes c (k ∷ ks) = writes_by c ks (names c k) k.mode (after_writes c ks)
+
+-- read it is mixed where a clause folds it, and written where one writes it
+abbrev ReadsKept : Option Fold → Bool → Option (Option Mode) → Type 0
+ReadsKept f w s = s ≡ cond (is_some f) (Some None) (cond w (Some (Some Writes)) (Some (Some Reads)))
+
+reads_by : (c : Cell) (ks : List Clause) (b : Bool) (m : Mode) → ReadsKept (first_fold ks c) (named_as Writes ks c) (after (Some (Some Reads)) ks c)
+    → ReadsKept (cond b (option_or (operation_in m) (first_fold ks c)) (first_fold ks c)) ((b && same_mode Writes m) || named_as Writes ks c)
+    (after (cond b (Some (with_mode (Some (Some Reads)) m)) (Some (Some Reads))) ks c)
+reads_by c ks false m h = h
+reads_by c ks true Reads h = h
+reads_by c ks true Writes h = after_writes c ks
+reads_by c ks true (Folds op) h = after_mixed c ks
+
+after_reads : (c : Cell) (ks : List Clause) → ReadsKept (first_fold ks c) (named_as Writes ks c) (after (Some (Some Reads)) ks c)
+after_reads c [] = refl
+after_reads c (k ∷ ks) = reads_by c ks (names c k) k.mode (after_reads c ks)
+
+-- ---- what is told of it
+
+-- that it is mixed, or its mode
+abbrev pub Told : Bool → Mode → Option Mode → Type 0
+Told mixed mode None = mixed ≡ true
+Told mixed mode (Some m) = (mixed ≡ false) × (m ≡ mode)
+
+told_reads : (f : Option Fold) (w : Bool) (v : Option Mode) → ReadsKept f w (Some v) → Told (is_some f && true) (cond w Writes Reads) v
+told_reads None w None h = absurd (none_is_some w h)
+  where
+    none_is_some : (w : Bool) → Some None ≡ cond w (Some (Some Writes)) (Some (Some Reads)) → ⊥
+    none_is_some true h = cc
+    none_is_some false h = cc
+told_reads None true (Some m) h = (refl, cc)
+told_reads None false (Some m) h = (refl, cc)
+told_reads (Some op) w None h = refl
+told_reads (Some op) w (Some m) h = absurd cc
+
+told_writes : (f : Option Fold) (v : Option Mode) → WritesKept f (Some v) → Told (is_some f && true) Writes v
+told_writes None None h = absurd cc
+told_writes None (Some m) h = (refl, cc)
+told_writes (Some op) None h = refl
+told_writes (Some op) (Some m) h = absurd cc
+
+told_folds : (op : Fold) (other w r : Bool) (v : Option Mode) → (other ≡ false → w ≡ false) → (other ≡ false → r ≡ false)
+    → Some v ≡ cond other (Some None) (Some (Some (Folds op))) → Told other (cond w Writes (cond r Reads (Folds op))) v
+told_folds op true w r None k l h = refl
+told_folds op true w r (Some m) k l h = absurd cc
+told_folds op false w r None k l h = absurd cc
+told_folds op false w r (Some m) k l h = rw (k refl, l refl) (refl, cc)
+
+or_first : (a b : Bool) → a || b ≡ false → a ≡ false
+or_first true b h = h
+or_first false b h = refl
+
+or_second : (a b : Bool) → a || b ≡ false → b ≡ false
+or_second true b h = absurd cc
+or_second false b h = h
+
+none_of : (test weaker : Clause → Bool) (ks : List Clause) → ((k : Clause) → test k ≡ false → weaker k ≡ false)
+    → list_any test ks ≡ false → list_any weaker ks ≡ false
+none_of test weaker [] each h = refl
+none_of test weaker (k ∷ ks) each h =
+    rw (each k (or_first (test k) (list_any test ks) h)) (none_of test weaker ks each (or_second (test k) (list_any test ks) h))
+
+not_written : (op : Fold) (b : Bool) (m : Mode) → b && not (same_mode (Folds op) m) ≡ false → b && same_mode Writes m ≡ false
+not_written op false m h = refl
+not_written op true Reads h = refl
+not_written op true Writes h = h
+not_written op true (Folds p) h = refl
+
+not_read : (op : Fold) (b : Bool) (m : Mode) → b && not (same_mode (Folds op) m) ≡ false → b && same_mode Reads m ≡ false
+not_read op false m h = refl
+not_read op true Reads h = h
+not_read op true Writes h = refl
+not_read op true (Folds p) h = refl
+
+-- mixed, by the first clause that folds it
+abbrev mixed_by : Option Fold → List Clause → Cell → Bool
+mixed_by f ks c = is_some f && named_otherwise (Folds (unwrap_or f Plus)) ks c
+
+told_by : (c : Cell) (ks : List Clause) (b : Bool) (m : Mode) (v : Option Mode)
+    → (Some v ≡ after None ks c → Told (mixed_by (first_fold ks c) ks c) (mode_among ks c) v)
+    → Some v ≡ after (cond b (Some (with_mode None m)) None) ks c
+    → let f = cond b (option_or (operation_in m) (first_fold ks c)) (first_fold ks c) in
+    let op = unwrap_or f Plus in
+    Told (is_some f && ((b && not (same_mode (Folds op) m)) || named_otherwise (Folds op) ks c))
+    (cond ((b && same_mode Writes m) || named_as Writes ks c) Writes (cond ((b && same_mode Reads m) || named_as Reads ks c) Reads (Folds op))) v
+told_by c ks false m v rest h = rest h
+told_by c ks true Reads v rest h = told_reads (first_fold ks c) (named_as Writes ks c) v (h ∙ after_reads c ks)
+told_by c ks true Writes v rest h = told_writes (first_fold ks c) v (h ∙ after_writes c ks)
+told_by c ks true (Folds op) v rest h =
+    rw ((fold-decides op op).1 refl)
+    (told_folds op (named_otherwise (Folds op) ks c) (named_as Writes ks c) (named_as Reads ks c) v
+    (none_of (λ k. names c k && not (same_mode (Folds op) k.mode)) (λ k. names c k && same_mode Writes k.mode) ks (λ k. not_written op (names c k) k.mode))
+    (none_of (λ k. names c k && not (same_mode (Folds op) k.mode)) (λ k. names c k && same_mode Reads k.mode) ks (λ k. not_read op (names c k) k.mode))
+    (h ∙ after_fold op c ks))
+
+told_of : (c : Cell) (ks : List Clause) (v : Option Mode) → Some v ≡ after None ks c → Told (mixed_by (first_fold ks c) ks c) (mode_among ks c) v
+told_of c [] v h = absurd cc
+told_of c (k ∷ ks) v h = told_by c ks (names c k) k.mode v (told_of c ks v) h
+
+-- ---- two clauses that differ are one that folds by the first operation and one that doesn't
+
+abbrev some_fold : (Mode → Bool) → List Clause → Cell → Bool
+some_fold test ks c = list_any (λ k. names c k && (is_fold k.mode && test k.mode)) ks
+
+not_another : (test : Mode → Bool) (op : Fold) (b : Bool) (m : Mode) → test (Folds op) ≡ false → b && not (same_mode (Folds op) m) ≡ false
+    → b && (is_fold m && test m) ≡ false
+not_another test op false m none h = refl
+not_another test op true Reads none h = refl
+not_another test op true Writes none h = refl
+not_another test op true (Folds p) none h = subst (λ (q : Fold). test (Folds q) ≡ false) ((fold-decides op p).0 (same (same_fold op p) h)) none
+  where
+    same : (b : Bool) → not b ≡ false → b ≡ true
+    same true h = refl
+    same false h = absurd cc
+
+or_self : (a b : Bool) → (a ≡ false → b ≡ false) → a || b ≡ a
+or_self true b h = refl
+or_self false b h = h refl
+
+first_by : (test : Mode → Bool) (c : Cell) (ks : List Clause) (b : Bool) (m : Mode)
+    → (((op : Fold) → first_fold ks c ≡ Some op → test (Folds op) ≡ false → named_otherwise (Folds op) ks c ≡ false)
+    → some_fold test ks c ≡ is_some (first_fold ks c) && test (Folds (unwrap_or (first_fold ks c) Plus)))
+    → let f = cond b (option_or (operation_in m) (first_fold ks c)) (first_fold ks c) in
+    ((op : Fold) → f ≡ Some op → test (Folds op) ≡ false → (b && not (same_mode (Folds op) m)) || named_otherwise (Folds op) ks c ≡ false)
+    → (b && (is_fold m && test m)) || some_fold test ks c ≡ is_some f && test (Folds (unwrap_or f Plus))
+first_by test c ks false m rest h = rest h
+first_by test c ks true Reads rest h = rest (λ op is none. absurd (let e : true ≡ false = h op is none in cc))
+first_by test c ks true Writes rest h = rest (λ op is none. absurd (let e : true ≡ false = h op is none in cc))
+first_by test c ks true (Folds op) rest h =
+    or_self (test (Folds op)) (some_fold test ks c)
+    (λ none. none_of (λ k. names c k && not (same_mode (Folds op) k.mode)) (λ k. names c k && (is_fold k.mode && test k.mode)) ks
+    (λ k. not_another test op (names c k) k.mode none)
+    (or_second (not (same_fold op op)) (named_otherwise (Folds op) ks c) (h op refl none)))
+
+first_is : (test : Mode → Bool) (c : Cell) (ks : List Clause)
+    → ((op : Fold) → first_fold ks c ≡ Some op → test (Folds op) ≡ false → named_otherwise (Folds op) ks c ≡ false)
+    → some_fold test ks c ≡ is_some (first_fold ks c) && test (Folds (unwrap_or (first_fold ks c) Plus))
+first_is test c [] h = refl
+first_is test c (k ∷ ks) h = first_by test c ks (names c k) k.mode (first_is test c ks) h
+
+mixed_is : (c : Cell) (ks : List Clause) → is_mixed ks c ≡ mixed_by (first_fold ks c) ks c
+mixed_is c ks = first_is (λ m. named_otherwise m ks c) c ks (λ op is none. none)
+
+-- what is collected of a cell is what the clauses declare it as, or that it is mixed
+pub declared_as : (c : Cell) (ks : List Clause) (v : Option Mode) → Some v ≡ after None ks c → Told (is_mixed ks c) (mode_among ks c) v
+declared_as c ks v h = rw (mixed_is c ks) (told_of c ks v h)

@@ -12,6 +12,7 @@ use Rattle.std.proofs.lemmas.List.{map-append}
 use Rattle.ot_program.specs.declared.counts.Counts.{Counts}
 use Rattle.ot_program.specs.declared.fault.ProgramFault.{ProgramFault}
 use Rattle.ot_program.specs.declared.fault.ProgramFault.TheVariants.{Memory, Refused}
+use Rattle.ot_program.specs.declared.profile.Profile.{Profile}
 use Rattle.ot_program.specs.Meanings.{Bindings}
 use Rattle.ot_program.specs.walk.Reading.{◌>>=◌}
 use Rattle.ot_program.specs.walk.Statements.{Read, Reader, one_then, one_in, all_in}
@@ -76,30 +77,30 @@ added_behind_none old new n read none a =
     a.is ∙ ap (λ (xs : List S). Ok (xs, n)) (sym (a.list ∙ ap (λ (vs : List Stmt). map stmt_of vs ++ a.added) none))
 
 -- the same over a list of values from an index on
-all_in-drop : (shape : Arrays) (level : ℕ) (variables : Bindings) (vs : List Value) (i : ℕ) (v : Value) (n : Counts) → i < length vs → v ≡ get_or vs i v
-    → all_in shape level (items_view (drop i vs)) variables n ≡ one_then (one_in shape level (view v) variables)
-    (all_in shape level (items_view (drop (i + 1) vs)) variables) n
+all_in-drop : (shape : Arrays) (profile : Profile) (level : ℕ) (variables : Bindings) (vs : List Value) (i : ℕ) (v : Value) (n : Counts) → i < length vs → v ≡ get_or vs i v
+    → all_in shape profile level (items_view (drop i vs)) variables n ≡ one_then (one_in shape profile level (view v) variables)
+    (all_in shape profile level (items_view (drop (i + 1) vs)) variables) n
 unfolding all_in
-all_in-drop shape level variables vs i v n within is = rw (drop-cons vs i v within, ← is, add-one) refl
+all_in-drop shape profile level variables vs i v n within is = rw (drop-cons vs i v within, ← is, add-one) refl
 
-pub all_step : (old now next : List S) (shape : Arrays) (level : ℕ) (variables : Bindings) (vs : List Value) (i : ℕ) (v : Value) (n m : Counts) (whole : Read)
-    → i < length vs → v ≡ get_or vs i v → Front old now (all_in shape level (items_view (drop i vs)) variables n) whole
-    → Added now next m (one_in shape level (view v) variables n) → Front old next (all_in shape level (items_view (drop (i + 1) vs)) variables m) whole
-all_step old now next shape level variables vs i v n m whole within is h a =
-    front_more old now next (one_in shape level (view v) variables) (all_in shape level (items_view (drop (i + 1) vs)) variables) n m whole
-    (rw (all_in-drop shape level variables vs i v n within is) at h) a
+pub all_step : (old now next : List S) (shape : Arrays) (profile : Profile) (level : ℕ) (variables : Bindings) (vs : List Value) (i : ℕ) (v : Value) (n m : Counts) (whole : Read)
+    → i < length vs → v ≡ get_or vs i v → Front old now (all_in shape profile level (items_view (drop i vs)) variables n) whole
+    → Added now next m (one_in shape profile level (view v) variables n) → Front old next (all_in shape profile level (items_view (drop (i + 1) vs)) variables m) whole
+all_step old now next shape profile level variables vs i v n m whole within is h a =
+    front_more old now next (one_in shape profile level (view v) variables) (all_in shape profile level (items_view (drop (i + 1) vs)) variables) n m whole
+    (rw (all_in-drop shape profile level variables vs i v n within is) at h) a
 
-pub all_fails : (old now : List S) (shape : Arrays) (level : ℕ) (variables : Bindings) (vs : List Value) (i : ℕ) (v : Value) (n : Counts) (whole : Read)
+pub all_fails : (old now : List S) (shape : Arrays) (profile : Profile) (level : ℕ) (variables : Bindings) (vs : List Value) (i : ℕ) (v : Value) (n : Counts) (whole : Read)
     (e : ProgramFault)
-    → i < length vs → v ≡ get_or vs i v → Front old now (all_in shape level (items_view (drop i vs)) variables n) whole
-    → Fails e (one_in shape level (view v) variables n) → Fails e whole
-all_fails old now shape level variables vs i v n whole e within is h f =
-    front_fails old now (one_in shape level (view v) variables) (all_in shape level (items_view (drop (i + 1) vs)) variables) n whole e
-    (rw (all_in-drop shape level variables vs i v n within is) at h) f
+    → i < length vs → v ≡ get_or vs i v → Front old now (all_in shape profile level (items_view (drop i vs)) variables n) whole
+    → Fails e (one_in shape profile level (view v) variables n) → Fails e whole
+all_fails old now shape profile level variables vs i v n whole e within is h f =
+    front_fails old now (one_in shape profile level (view v) variables) (all_in shape profile level (items_view (drop (i + 1) vs)) variables) n whole e
+    (rw (all_in-drop shape profile level variables vs i v n within is) at h) f
 
-pub all_ends : (old now : List S) (shape : Arrays) (level : ℕ) (variables : Bindings) (vs : List Value) (i : ℕ) (n : Counts) (whole : Read)
-    → length vs ≤ i → Front old now (all_in shape level (items_view (drop i vs)) variables n) whole → Added old now n whole
+pub all_ends : (old now : List S) (shape : Arrays) (profile : Profile) (level : ℕ) (variables : Bindings) (vs : List Value) (i : ℕ) (n : Counts) (whole : Read)
+    → length vs ≤ i → Front old now (all_in shape profile level (items_view (drop i vs)) variables n) whole → Added old now n whole
 unfolding all_in
-all_ends old now shape level variables vs i n whole past h = front_all old now n whole (rw (drop_all i vs past) at h)
+all_ends old now shape profile level variables vs i n whole past h = front_all old now n whole (rw (drop_all i vs past) at h)
 
 pub ruleset fronts = (front_none, all_step, all_fails, all_ends)

@@ -41,10 +41,6 @@ join_reads view (Err e) (Err f) r p is h = absurd cc
 
 -- ---- a fault that is passed on
 
-pub passed_on : {A : Type 0} (r : Result A Refusal) (c : Refusal) → IsErrAnd r (λ e. e ≡ c) → r ≡ Err c
-passed_on (Ok x) c h = absurd h
-passed_on (Err e) c h = ap Err h
-
 pub gives_refused : {X A : Type 0} (see : X → A) (result : Result X ProgramFault) (c : Refusal) (read : Result A Refusal)
     → IsErrAnd result (λ e. e ≡ Refused c) → read ≡ Err c → Gives see result read
 gives_refused see (Ok x) c read h is = absurd h

@@ -25,3 +25,4 @@ pub mod PartsFit
 pub mod ProgramsWalked
 pub mod Accepted
 pub mod PrintedBack
+pub mod OneLemmas

@@ -1,7 +1,7 @@
 -- Where no statement has a fault, each cell that the tree names is in the shape.
-use Rattle.std.proofs.Common.{◌≡◌, ℕ, zero, suc, ◌+◌, ◌<◌, ◌≤◌, ◌^◌, Bool, true, false, cond, ◌||◌, List, [], ◌∷◌, ◌++◌, map, Option, Some, None, IfOk, nat_le, nat_lt, nat_eq, codes, refl, sym, ap, ◌∙◌, arith, All}
+use Rattle.std.proofs.Common.{◌≡◌, ℕ, zero, suc, ◌+◌, ◌<◌, ◌≤◌, ◌^◌, Bool, true, false, cond, ◌||◌, List, [], ◌∷◌, ◌++◌, map, Option, Some, nat_le, nat_lt, nat_eq, codes, refl, sym, ap, ◌∙◌, arith}
 use Rattle.std.specs.Prelude.{slice_get, find, fold, flat_map, option_map, unwrap_or, is_some, not}
-use Rattle.std.specs.List.{list_any, position_or_len, range_with_len, AllByRecursion}
+use Rattle.std.specs.List.{list_any, range_with_len, AllByRecursion}
 use Rattle.std.proofs.lemmas.Bool.{ltb-true, leb-true, eqb-false}
 use Rattle.std.proofs.lemmas.List.Elements.{recursion_from_All, All-from_recursion}
 use Rattle.std.proofs.lemmas.List.Folds.{find_at}
@@ -10,19 +10,21 @@ use Rattle.serde_json.specs.Data.{Data, number, string, array, Items, no_items, 
 use Rattle.ot_model.specs.Cells.{same_cell, is_before}
 use Rattle.ot_model.specs.Names.{IsInShape, FitsShape, AreInShape, AreDeclaredIn, ValueNamedIn, NamedIn}
 use Rattle.ot_model.specs.Shapes.{Arrays, AreShort, array_lengths}
-use Rattle.ot_model.specs.Tree.{E, CellAt, Apply, PickFrom, S, body_of}
+use Rattle.ot_model.specs.Tree.{CellAt, Apply, PickFrom, S, body_of}
 use Rattle.ot_model.specs.Value.{cell_at, cells_of}
 use Rattle.ot_model.specs.declared.expr.Cell.{Cell}
 use Rattle.ot_model.specs.declared.expr.Op.TheVariants.{Plus}
 use Rattle.ot_model.specs.declared.expr.Section.{Section}
 use Rattle.ot_model.specs.declared.stmt.Use.{Use}
 use Rattle.ot_program.specs.declared.fault.Refusal.{Refusal}
-use Rattle.ot_program.specs.declared.fault.Refusal.TheVariants.{Form, Size, UnknownArray, OutOfRange, EmptySection}
-use Rattle.ot_program.specs.Copies.{Text, SetText, AddText, IfText, ForText, Turn, TaskText, WaitText, GroupText, ProgramText, NoForm, Placed, Copy, At, Copies, Done, Then, in_copy, in_order, statement, statement_of, statements_of}
+use Rattle.ot_program.specs.declared.fault.Refusal.TheVariants.{Form, UnknownArray, OutOfRange, EmptySection}
+use Rattle.ot_program.specs.declared.profile.Profile.{Profile}
+use Rattle.ot_program.specs.declared.profile.Profile.TheVariants.{One, Two}
+use Rattle.ot_program.specs.Copies.{Text, SetText, AddText, FoldText, IfText, ForText, Turn, TaskText, WaitText, GroupText, GroupByText, ProgramText, NoForm, Copy, At, Copies, Done, Then, in_copy, in_order, statement, statement_of, statements_of}
 use Rattle.ot_program.specs.Declarations.{placed, named_cells, mode_among, uses}
-use Rattle.ot_program.specs.Faults.{unless, no_list, list_faults, deep, name_faults, size_faults, array_faults, indexed_faults, cell_faults, section_faults, value_faults, expression_faults, clause_faults, nested, text_faults}
+use Rattle.ot_program.specs.Faults.{unless, no_list, list_faults, deep, name_faults, size_faults, array_faults, indexed_faults, cell_faults, section_faults, value_faults, expression_faults, clause_faults, fold_faults, nested, text_faults}
 use Rattle.ot_program.specs.Limits.{size_depth, depth_of}
-use Rattle.ot_program.specs.Meanings.{each, items, Bindings, size, op_of, mode_of, is_called, position_of, length_of, Clause, indexed, cell, section, value, clause}
+use Rattle.ot_program.specs.Meanings.{each, items, Bindings, size, op_of, mode_of, red_by, is_called, position_of, length_of, Clause, indexed, cell, section, value, clause}
 use Rattle.ot_program.specs.Names.{is_word}
 use Rattle.ot_program.proofs.Tallies.{append-none, unless-none, AreClean, clean-append}
 
@@ -193,22 +195,25 @@ expression_named : (shape : Arrays) → AreShort shape.arrays → (variables : B
 expression_named shape short variables d clean =
     value_named shape short variables d (append-none (value_faults shape variables d) (deep (depth_of (value shape variables d))) clean).0
 
-clause_named : (shape : Arrays) → AreShort shape.arrays → (variables : Bindings) (d : Data) → clause_faults shape variables d ≡ []
-    → FitsShape (array_lengths shape) (clause shape variables d).section
-clause_named shape short variables (array (item t (item a no_items))) clean =
-    section_named shape short variables a (append-none (unless (is_some (mode_of t)) Form) (section_faults shape variables a) clean).1
-clause_named shape short variables _ clean = absurd (no_faults Form clean)
+clause_named : (shape : Arrays) → AreShort shape.arrays → (profile : Profile) (variables : Bindings) (d : Data) → clause_faults shape profile variables d ≡ []
+    → FitsShape (array_lengths shape) (clause shape profile variables d).section
+clause_named shape short profile variables (array (item t (item a no_items))) clean =
+    section_named shape short variables a (append-none (unless (is_some (mode_of profile t)) Form) (section_faults shape variables a) clean).1
+clause_named shape short Two variables (array (item t (item op (item a no_items)))) clean =
+    section_named shape short variables a (append-none (unless (is_some (red_by t op)) Form) (section_faults shape variables a) clean).1
+clause_named shape short One variables _ clean = absurd (no_faults Form clean)
+clause_named shape short Two variables _ clean = absurd (no_faults Form clean)
 
 pub sections_named : (shape : Arrays) → AreShort shape.arrays → (variables : Bindings) (d : Data) → list_faults (section_faults shape variables) d ≡ []
     → AllByRecursion (FitsShape (array_lengths shape)) (map (section shape variables) (items d))
 sections_named shape short variables d clean =
     list_named (FitsShape (array_lengths shape)) (section_faults shape variables) (section shape variables) (section_named shape short variables) d clean
 
-pub clauses_named : (shape : Arrays) → AreShort shape.arrays → (variables : Bindings) (d : Data) → list_faults (clause_faults shape variables) d ≡ []
-    → AllByRecursion (λ c. FitsShape (array_lengths shape) c.section) (map (clause shape variables) (items d))
-clauses_named shape short variables d clean =
-    list_named (λ (c : Clause). FitsShape (array_lengths shape) c.section) (clause_faults shape variables) (clause shape variables)
-    (clause_named shape short variables) d clean
+pub clauses_named : (shape : Arrays) → AreShort shape.arrays → (profile : Profile) (variables : Bindings) (d : Data) → list_faults (clause_faults shape profile variables) d ≡ []
+    → AllByRecursion (λ c. FitsShape (array_lengths shape) c.section) (map (clause shape profile variables) (items d))
+clauses_named shape short profile variables d clean =
+    list_named (λ (c : Clause). FitsShape (array_lengths shape) c.section) (clause_faults shape profile variables) (clause shape profile variables)
+    (clause_named shape short profile variables) d clean
 
 -- ---- statements
 
@@ -216,6 +221,18 @@ NamedIn-append : (lens : List ℕ) (xs ys : List S) → NamedIn lens (body_of xs
     → NamedIn lens (body_of (xs ++ ys))
 NamedIn-append lens [] ys h k = k
 NamedIn-append lens (x ∷ xs) ys h k = (h.0, NamedIn-append lens xs ys h.1 k)
+
+-- the cells of a group
+grouped_named : (shape : Arrays) → AreShort shape.arrays → (level : ℕ) (variables : Bindings) (a b : Data)
+    → (list_faults (section_faults shape variables) a ++ no_list b) ++ nested level ≡ []
+    → AreInShape (array_lengths shape) (flat_map cells_of (map (section shape variables) (items a)))
+grouped_named shape short level variables a b clean =
+    let lens = array_lengths shape in
+    let parts = append-none (list_faults (section_faults shape variables) a ++ no_list b) (nested level) clean in
+    let list = append-none (list_faults (section_faults shape variables) a) (no_list b) parts.0 in
+    let sections = map (section shape variables) (items a) in
+    All-from_recursion (IsInShape lens) (flat_map cells_of sections)
+    (all_cells_named lens (λ (s : Section). s) sections (sections_named shape short variables a list.0))
 
 statement_named : (shape : Arrays) → AreShort shape.arrays → (level : ℕ) (variables : Bindings) (text : Text) (ss ts : List S)
     → text_faults shape level variables text ≡ [] → NamedIn (array_lengths shape) (body_of ss) → NamedIn (array_lengths shape) (body_of ts)
@@ -226,30 +243,27 @@ statement_named shape short level variables (SetText a b) ss ts clean h k =
 statement_named shape short level variables (AddText a b) ss ts clean h k =
     let both = append-none (cell_faults shape variables a) (expression_faults shape variables b) clean in
     ((cell_named shape variables a both.0, expression_named shape short variables b both.1), tt)
+statement_named shape short level variables (FoldText op a b) ss ts clean h k =
+    let parts = append-none (fold_faults op) (cell_faults shape variables a ++ expression_faults shape variables b) clean in
+    let both = append-none (cell_faults shape variables a) (expression_faults shape variables b) parts.1 in
+    ((cell_named shape variables a both.0, expression_named shape short variables b both.1), tt)
 statement_named shape short level variables (IfText a b c) ss ts clean h k =
     let parts = append-none (expression_faults shape variables a ++ (no_list b ++ no_list c)) (nested level) clean in
     let value = append-none (expression_faults shape variables a) (no_list b ++ no_list c) parts.0 in
     ((expression_named shape short variables a value.0, h, k), tt)
 statement_named shape short level variables (ForText a b c d) ss ts clean h k = h
 statement_named shape short level variables Turn ss ts clean h k = h
-statement_named shape short level variables (TaskText a b) ss ts clean h k =
-    let parts = append-none (list_faults (clause_faults shape variables) a ++ no_list b) _ clean in
-    let list = append-none (list_faults (clause_faults shape variables) a) (no_list b) parts.0 in
-    let cs = map (clause shape variables) (items a) in
-    ((uses_named (array_lengths shape) cs (clauses_named shape short variables a list.0), h), tt)
+statement_named shape short level variables (TaskText profile a b) ss ts clean h k =
+    let parts = append-none (list_faults (clause_faults shape profile variables) a ++ no_list b) _ clean in
+    let list = append-none (list_faults (clause_faults shape profile variables) a) (no_list b) parts.0 in
+    let cs = map (clause shape profile variables) (items a) in
+    ((uses_named (array_lengths shape) cs (clauses_named shape short profile variables a list.0), h), tt)
 statement_named shape short level variables WaitText ss ts clean h k = (tt, tt)
 statement_named shape short level variables (GroupText a b) ss ts clean h k =
-    let lens = array_lengths shape in
-    let parts = append-none (list_faults (section_faults shape variables) a ++ no_list b) (nested level) clean in
-    let list = append-none (list_faults (section_faults shape variables) a) (no_list b) parts.0 in
-    let sections = map (section shape variables) (items a) in (
-      (
-        All-from_recursion (IsInShape lens) (flat_map cells_of sections)
-            (all_cells_named lens (λ (s : Section). s) sections (sections_named shape short variables a list.0)),
-        h,
-      ),
-      tt,
-    )
+    ((grouped_named shape short level variables a b clean, h), tt)
+statement_named shape short level variables (GroupByText op a b) ss ts clean h k =
+    let parts = append-none (fold_faults op) ((list_faults (section_faults shape variables) a ++ no_list b) ++ nested level) clean in
+    ((grouped_named shape short level variables a b parts.1, h), tt)
 statement_named shape short level variables (ProgramText a b) ss ts clean h k = h
 statement_named shape short level variables NoForm ss ts clean h k = tt
 

@@ -1,5 +1,5 @@
 -- Sections that were read have indexes of 32 bits.
-use Rattle.std.proofs.Common.{◌≡◌, ℕ, List, [], ◌∷◌, map, Option, Some, None, Result, Ok, Err, refl, sym, ◌∙◌, All}
+use Rattle.std.proofs.Common.{◌≡◌, ℕ, List, [], ◌∷◌, map, Option, Some, None, Result, Ok, refl, sym, ◌∙◌, All}
 use Rattle.std.specs.List.{AllByRecursion}
 use Rattle.std.proofs.lemmas.List.Elements.{All-from_recursion}
 use Rattle.serde_json.specs.Data.{Data}
@@ -8,6 +8,7 @@ use Rattle.ot_model.specs.Shapes.{Arrays, AreShort, array_lengths}
 use Rattle.ot_model.specs.declared.expr.Section.{Section}
 use Rattle.ot_program.specs.declared.clause.Clause.{Clause as CodeClause}
 use Rattle.ot_program.specs.declared.fault.Refusal.{Refusal}
+use Rattle.ot_program.specs.declared.profile.Profile.{Profile}
 use Rattle.ot_program.specs.Faults.{list_faults, section_faults, clause_faults}
 use Rattle.ot_program.specs.Meanings.{items, Bindings, Clause, section, clause}
 use Rattle.ot_program.specs.Programs.{told_or}
@@ -44,10 +45,10 @@ read_sections_fit shape short variables d ss is =
     let t = read_ok (sections_of shape variables d) xs ss (list_faults (section_faults shape variables) d) (sections_reads shape variables d) is in
     All-from_recursion fits ss (rw t.1 at (sections_fit (array_lengths shape) xs (sections_named shape short variables d t.0)))
 
-pub read_clauses_fit : (shape : Arrays) → AreShort shape.arrays → (variables : Bindings) (d : Data) (cs : List CodeClause)
-    → clauses_of shape variables d ≡ Ok cs → All (λ c. fits c.section) cs
-read_clauses_fit shape short variables d cs is =
-    let xs = map (clause shape variables) (items d) in
-    let t = read_ok (clauses_of shape variables d) (map code_clause xs) cs (list_faults (clause_faults shape variables) d) (clauses_reads shape variables d) is in
+pub read_clauses_fit : (shape : Arrays) → AreShort shape.arrays → (profile : Profile) (variables : Bindings) (d : Data) (cs : List CodeClause)
+    → clauses_of shape profile variables d ≡ Ok cs → All (λ c. fits c.section) cs
+read_clauses_fit shape short profile variables d cs is =
+    let xs = map (clause shape profile variables) (items d) in
+    let t = read_ok (clauses_of shape profile variables d) (map code_clause xs) cs (list_faults (clause_faults shape profile variables) d) (clauses_reads shape profile variables d) is in
     All-from_recursion (λ (c : CodeClause). fits c.section) cs
-    (rw t.1 at (clauses_fit (array_lengths shape) xs (clauses_named shape short variables d t.0)))
+    (rw t.1 at (clauses_fit (array_lengths shape) xs (clauses_named shape short profile variables d t.0)))

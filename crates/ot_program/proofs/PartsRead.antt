@@ -1,6 +1,6 @@
 -- A part of a statement is read as what it denotes, or the first of its faults is told.
 use Rattle.std.proofs.Common.{◌≡◌, ℕ, suc, ◌+◌, ◌-◌, ◌*◌, ◌^◌, ◌≤◌, Bool, true, false, cond, ◌||◌, List, [], ◌∷◌, ◌++◌, map, Option, Some, None, Result, Ok, Err, nat_le, nat_lt, nat_eq, bytes_eq, codes, refl, sym, ap, ◌∙◌, subst, arith, zero-add, add-zero}
-use Rattle.std.specs.Prelude.{is_some, not, unwrap_or, option_map, find, flat_map}
+use Rattle.std.specs.Prelude.{is_some, not, unwrap_or, option_map, find}
 use Rattle.std.specs.List.{list_any, position_or_len}
 use Rattle.serde_json.specs.Data.{Data, number, string, array, no_items, item}
 use Rattle.ot_model.specs.Shapes.{Arrays}
@@ -15,8 +15,10 @@ use Rattle.ot_program.specs.declared.size.Sign.{Sign}
 use Rattle.ot_program.specs.declared.size.Sign.TheVariants.{Plus, Minus, Times}
 use Rattle.ot_program.specs.declared.fault.Refusal.{Refusal}
 use Rattle.ot_program.specs.declared.fault.Refusal.TheVariants.{Form, Size, UnknownArray, OutOfRange, EmptySection, TooLarge}
+use Rattle.ot_program.specs.declared.profile.Profile.{Profile}
+use Rattle.ot_program.specs.declared.profile.Profile.TheVariants.{One, Two}
 use Rattle.ot_program.specs.Limits.{max_depth, size_depth, depth_of}
-use Rattle.ot_program.specs.Meanings.{each, items, letters, Bindings, bound, sign_of, op_of, mode_of, in_range, exact, size, is_called, position_of, length_of, indexed, cell, section, value, clause}
+use Rattle.ot_program.specs.Meanings.{each, items, Bindings, bound, sign_of, op_of, mode_of, red_by, in_range, exact, size, is_called, position_of, indexed, cell, section, value, clause}
 use Rattle.ot_program.specs.Names.{whole_number, is_name, is_word}
 use Rattle.ot_program.specs.Faults.{unless, list_faults, deep, variable_faults, size_faults, array_faults, indexed_faults, cell_faults, section_faults, value_faults, expression_faults, clause_faults}
 use Rattle.ot_program.specs.walk.Reading.{◌>>=◌, both_of}
@@ -295,19 +297,23 @@ clause_at-reads : (o : Option Mode) (r : Result Section Refusal) (s : Section) (
 clause_at-reads None r s fs h = reads_form_first 5 _ fs
 clause_at-reads (Some mode) r s fs h = reads_made 5 r (λ z. record { mode = mode; section = z }) s fs h
 
-clause_reads : (shape : Arrays) (variables : Bindings) (d : Data)
-    → Reads 5 (clause_of shape variables d) (code_clause (clause shape variables d)) (clause_faults shape variables d)
-clause_reads shape variables (array (item t (item a no_items))) =
-    clause_at-reads (mode_of t) (section_of shape variables a) (section shape variables a) (section_faults shape variables a) (section_reads shape variables a)
-clause_reads shape variables _ = reads_no_form 5 _
+clause_reads : (shape : Arrays) (profile : Profile) (variables : Bindings) (d : Data)
+    → Reads 5 (clause_of shape profile variables d) (code_clause (clause shape profile variables d)) (clause_faults shape profile variables d)
+clause_reads shape profile variables (array (item t (item a no_items))) =
+    clause_at-reads (mode_of profile t) (section_of shape variables a) (section shape variables a) (section_faults shape variables a) (section_reads shape variables a)
+clause_reads shape Two variables (array (item t (item op (item a no_items)))) =
+    clause_at-reads (red_by t op) (section_of shape variables a) (section shape variables a) (section_faults shape variables a) (section_reads shape variables a)
+clause_reads shape One variables (array (item t (item op (item a no_items)))) = reads_no_form 5 _
+clause_reads shape One variables _ = reads_no_form 5 _
+clause_reads shape Two variables _ = reads_no_form 5 _
 
 map_map : {A B C : Type 0} (f : A → B) (g : B → C) (xs : List A) → map (λ x. g (f x)) xs ≡ map g (map f xs)
 map_map f g [] = refl
 map_map {A} {B} {C} f g (x ∷ xs) = ap (λ (ys : List C). g (f x) ∷ ys) (map_map f g xs)
 
-pub clauses_reads : (shape : Arrays) (variables : Bindings) (d : Data)
-    → Reads 5 (clauses_of shape variables d) (map code_clause (map (clause shape variables) (items d))) (list_faults (clause_faults shape variables) d)
-clauses_reads shape variables (array ds) =
-    rw (← map_map (clause shape variables) code_clause (each ds))
-    (reads_each 5 (clause_of shape variables) (λ d. code_clause (clause shape variables d)) (clause_faults shape variables) (clause_reads shape variables) ds)
-clauses_reads shape variables _ = reads_no_form 5 _
+pub clauses_reads : (shape : Arrays) (profile : Profile) (variables : Bindings) (d : Data)
+    → Reads 5 (clauses_of shape profile variables d) (map code_clause (map (clause shape profile variables) (items d))) (list_faults (clause_faults shape profile variables) d)
+clauses_reads shape profile variables (array ds) =
+    rw (← map_map (clause shape profile variables) code_clause (each ds))
+    (reads_each 5 (clause_of shape profile variables) (λ d. code_clause (clause shape profile variables d)) (clause_faults shape profile variables) (clause_reads shape profile variables) ds)
+clauses_reads shape profile variables _ = reads_no_form 5 _

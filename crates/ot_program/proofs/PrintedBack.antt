@@ -1,20 +1,24 @@
 -- What is printed of a tree denotes the tree.
-use Rattle.std.proofs.Common.{◌≡◌, ℕ, ◌+◌, ◌<◌, ◌^◌, List, [], ◌∷◌, map, refl, ap, ◌∙◌, arith, add-zero}
+use Rattle.std.proofs.Common.{◌≡◌, ℕ, ◌+◌, ◌<◌, ◌^◌, List, [], ◌∷◌, map, Some, refl, ap, ◌∙◌, arith, add-zero}
 use Rattle.std.specs.Prelude.{flat_map}
 use Rattle.std.proofs.lemmas.Bool.{lt-ltb}
 use Rattle.serde_json.specs.Data.{string, array}
 use Rattle.ot_model.specs.Shapes.{Arrays}
-use Rattle.ot_model.specs.Tree.{E, Literal, CellAt, Apply, PickFrom, S, Set, Add, If, Task, Wait, Group, Body, End, Next, body_of}
+use Rattle.ot_model.specs.Tree.{E, Literal, CellAt, Apply, PickFrom, S, Set, Fold, If, Task, Wait, Group, Body, End, Next, body_of}
 use Rattle.ot_model.specs.declared.expr.Cell.{Cell}
 use Rattle.ot_model.specs.declared.expr.Section.{Section}
 use Rattle.ot_model.specs.declared.expr.Op.TheVariants.{Plus, Minus, Times, And, Or, Xor, Less, Equal, Min, Max}
+use Rattle.ot_model.specs.declared.fold.Fold.{Fold as Operation}
+use Rattle.ot_model.specs.declared.fold.Fold.TheVariants as by
 use Rattle.ot_model.specs.declared.stmt.Mode.{Mode}
-use Rattle.ot_model.specs.declared.stmt.Mode.TheVariants.{Reads, Writes, Adds}
+use Rattle.ot_model.specs.declared.stmt.Mode.TheVariants.{Reads, Writes, Folds}
 use Rattle.ot_model.specs.declared.stmt.Use.{Use}
 use Rattle.ot_model.specs.Value.{cells_of}
+use Rattle.ot_program.specs.declared.profile.Profile.{Profile}
+use Rattle.ot_program.specs.declared.profile.Profile.TheVariants.{One, Two}
 use Rattle.ot_program.specs.Copies.{copies, copy, statement_of, statements_of}
-use Rattle.ot_program.specs.Meanings.{each, Bindings, size, Clause, cell, section, value, clause}
-use Rattle.ot_program.specs.Printed.{IsFound, two, mode_word, num, cell_text, section_text, value_text, alone, cells_text, uses_text, statement_text, body_text, IsCell, IsValue, AreCells, as_clause, IsStatement, IsBody}
+use Rattle.ot_program.specs.Meanings.{each, fold_of, Bindings, size, Clause, cell, section, value, clause}
+use Rattle.ot_program.specs.Printed.{IsFound, fold_word, num, cell_text, section_text, value_text, alone, cells_text, clause_text, uses_text, statement_text, body_text, IsCell, IsValue, AreCells, as_clause, IsModeOf, AreUsesOf, IsStatement, IsBody}
 
 size_back : (variables : Bindings) (n : ℕ) → n < 2 ^ 64 → size variables (num n) ≡ n
 unfolding size
@@ -57,36 +61,52 @@ cells_back : (shape : Arrays) (variables : Bindings) (cs : List Cell) → AreCel
     → flat_map cells_of (map (section shape variables) (each (cells_text shape cs))) ≡ cs
 cells_back shape variables cs h = ap (flat_map cells_of) (sections_back shape variables cs h) ∙ alone_cells cs
 
-clause_back : (shape : Arrays) (variables : Bindings) (c : Cell) (m : Mode) (rest : List Clause) → IsCell shape c
-    → clause shape variables (array (two (string (mode_word m)) (section_text shape (alone c)))) ∷ rest
-    ≡ record { mode = m; section = alone c } ∷ rest
-clause_back shape variables c Reads rest h = rw (section_back shape variables (alone c) h.0 h.1 (omega arith)) refl
-clause_back shape variables c Writes rest h = rw (section_back shape variables (alone c) h.0 h.1 (omega arith)) refl
-clause_back shape variables c Adds rest h = rw (section_back shape variables (alone c) h.0 h.1 (omega arith)) refl
+fold_back : (op : Operation) → fold_of (string (fold_word op)) ≡ Some op
+fold_back by.Plus = refl
+fold_back by.Times = refl
+fold_back by.And = refl
+fold_back by.Or = refl
+fold_back by.Xor = refl
+fold_back by.Min = refl
+fold_back by.Max = refl
 
-uses_back : (shape : Arrays) (variables : Bindings) (us : List Use) → AreCells shape (map (λ u. u.cell) us)
-    → map (clause shape variables) (each (uses_text shape us)) ≡ map as_clause us
-uses_back shape variables [] h = refl
-uses_back shape variables (u ∷ us) h =
-    rw (uses_back shape variables us h.1) (clause_back shape variables u.cell u.mode (map as_clause us) h.0)
+clause_back : (shape : Arrays) (profile : Profile) (variables : Bindings) (c : Cell) (m : Mode) (rest : List Clause) → IsCell shape c → IsModeOf profile m
+    → clause shape profile variables (clause_text profile m (section_text shape (alone c))) ∷ rest
+    ≡ record { mode = m; section = alone c } ∷ rest
+clause_back shape profile variables c Reads rest h j = rw (section_back shape variables (alone c) h.0 h.1 (omega arith)) refl
+clause_back shape profile variables c Writes rest h j = rw (section_back shape variables (alone c) h.0 h.1 (omega arith)) refl
+clause_back shape One variables c (Folds op) rest h j = rw (section_back shape variables (alone c) h.0 h.1 (omega arith), j) refl
+clause_back shape Two variables c (Folds op) rest h j = rw (section_back shape variables (alone c) h.0 h.1 (omega arith), fold_back op) refl
+
+uses_back : (shape : Arrays) (profile : Profile) (variables : Bindings) (us : List Use) → AreUsesOf shape profile us
+    → map (clause shape profile variables) (each (uses_text shape profile us)) ≡ map as_clause us
+uses_back shape profile variables [] h = refl
+uses_back shape profile variables (u ∷ us) h =
+    rw (uses_back shape profile variables us h.2) (clause_back shape profile variables u.cell u.mode (map as_clause us) h.0 h.1)
 
 mutual
   unfolding copies
 
-  pub body_back : (shape : Arrays) (level : ℕ) (variables : Bindings) (b : Body) → IsBody shape b
-      → body_of (statements_of shape (copies level (array (body_text shape b)) variables)) ≡ b
-  body_back shape level variables End h = refl
-  body_back shape level variables (Next s rest) h =
-      rw (one_back shape level variables s h.0, body_back shape level variables rest h.1) refl
+  pub body_back : (shape : Arrays) (profile : Profile) (level : ℕ) (variables : Bindings) (b : Body) → IsBody shape profile b
+      → body_of (statements_of shape (copies profile level (array (body_text shape profile b)) variables)) ≡ b
+  body_back shape profile level variables End h = refl
+  body_back shape profile level variables (Next s rest) h =
+      rw (one_back shape profile level variables s h.0, body_back shape profile level variables rest h.1) refl
 
-  one_back : (shape : Arrays) (level : ℕ) (variables : Bindings) (s : S) → IsStatement shape s
-      → statement_of shape (copy level (statement_text shape s) variables) ≡ s ∷ []
-  one_back shape level variables (Set c e) h = rw (cell_back shape variables c h.0, value_back shape variables e h.1) refl
-  one_back shape level variables (Add c e) h = rw (cell_back shape variables c h.0, value_back shape variables e h.1) refl
-  one_back shape level variables (If e a b) h =
-      rw (value_back shape variables e h.0, body_back shape (level + 1) variables a h.1, body_back shape (level + 1) variables b h.2) refl
-  one_back shape level variables (Task us b) h =
-      rw (uses_back shape variables us h.0.0, h.0.1, body_back shape (level + 1) variables b h.1) refl
-  one_back shape level variables Wait h = refl
-  one_back shape level variables (Group cs b) h =
-      rw (cells_back shape variables cs h.0, body_back shape (level + 1) variables b h.1) refl
+  one_back : (shape : Arrays) (profile : Profile) (level : ℕ) (variables : Bindings) (s : S) → IsStatement shape profile s
+      → statement_of shape (copy profile level (statement_text shape profile s) variables) ≡ s ∷ []
+  one_back shape profile level variables (Set c e) h = rw (cell_back shape variables c h.0, value_back shape variables e h.1) refl
+  one_back shape One level variables (Fold op c e) h = rw (h.0, cell_back shape variables c h.1, value_back shape variables e h.2) refl
+  one_back shape Two level variables (Fold op c e) h =
+      rw (fold_back op, cell_back shape variables c h.1, value_back shape variables e h.2) refl
+  one_back shape One level variables (If e a b) h =
+      rw (value_back shape variables e h.0, body_back shape One (level + 1) variables a h.1, body_back shape One (level + 1) variables b h.2) refl
+  one_back shape Two level variables (If e a b) h =
+      rw (value_back shape variables e h.0, body_back shape Two (level + 1) variables a h.1, body_back shape Two (level + 1) variables b h.2) refl
+  one_back shape profile level variables (Task us b) h =
+      rw (uses_back shape profile variables us h.0.0, h.0.1, body_back shape profile (level + 1) variables b h.1) refl
+  one_back shape profile level variables Wait h = refl
+  one_back shape One level variables (Group op cs b) h =
+      rw (h.0, cells_back shape variables cs h.1, body_back shape One (level + 1) variables b h.2) refl
+  one_back shape Two level variables (Group op cs b) h =
+      rw (fold_back op, cells_back shape variables cs h.1, body_back shape Two (level + 1) variables b h.2) refl

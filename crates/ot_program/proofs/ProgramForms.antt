@@ -1,9 +1,9 @@
 -- What a text is read as, where a program is wanted.
-use Rattle.std.proofs.Common.{◌≡◌, ℕ, ◌+◌, ◌-◌, ◌^◌, ◌<◌, ◌≤◌, min, Bool, true, false, cond, ◌&&◌, List, [], ◌∷◌, length, Result, Ok, Err, nat_le, refl, sym, arith, inl, inr}
-use Rattle.std.specs.Prelude.{⊤, ◌≢◌}
+use Rattle.std.proofs.Common.{◌≡◌, ℕ, ◌+◌, ◌-◌, ◌^◌, ◌<◌, min, Bool, true, false, cond, ◌&&◌, List, [], ◌∷◌, length, get_or, Ok, Err, nat_le, refl, sym, arith, inl, inr}
+use Rattle.std.specs.Prelude.{◌≢◌}
 use Rattle.std.proofs.lemmas.Bool.{cases_lt, lt-leb}
 use Rattle.serde_json.specs.Data.{Data, array}
-use Rattle.serde_json.specs.View.{items_view}
+use Rattle.serde_json.specs.View.{view, items_view}
 use Rattle.serde_json.specs.declared.value.Value.{Value}
 use Rattle.ot_model.specs.Shapes.{Arrays}
 use Rattle.ot_model.specs.Tree.{S}
@@ -12,19 +12,28 @@ use Rattle.ot_program.specs.declared.counts.Counts.{Counts}
 use Rattle.ot_program.specs.declared.fault.ProgramFault.{ProgramFault}
 use Rattle.ot_program.specs.declared.fault.Refusal.{Refusal}
 use Rattle.ot_program.specs.declared.fault.Refusal.TheVariants.{Form, TooLarge}
+use Rattle.ot_program.specs.declared.profile.Profile.{Profile}
 use Rattle.ot_program.specs.Limits.{max_statements, max_nodes, max_cells, cells_in}
+use Rattle.ot_program.specs.Profiles.{profile_of}
 use Rattle.ot_program.specs.Returned.{Fails}
-use Rattle.ot_program.specs.walk.Reading.{◌>>=◌, both_of}
+use Rattle.ot_program.specs.walk.Reading.{both_of}
 use Rattle.ot_program.specs.walk.Counting.{no_counts, counted, within_limits}
 use Rattle.ot_program.specs.walk.Parts.{sections_of}
 use Rattle.ot_program.specs.walk.Statements.{list_of, body_in}
-use Rattle.ot_program.specs.walk.Programs.{expanded, first_level, program_at, walk_of}
+use Rattle.ot_program.specs.walk.Programs.{expanded, first_level, program_at, walk_in, walk_of}
 use Rattle.ot_program.proofs.Joins.{Fails-then}
 
 pub no_program_but_three : (shape : Arrays) (vs : List Value) → length vs ≢ 3
     → walk_of shape (array (items_view vs)) ≡ Err Form
 no_program_but_three shape (a ∷ b ∷ c ∷ []) other = absurd (other refl)
 no_program_but_three shape _ other = refl
+
+pub program_of_three : (shape : Arrays) (vs : List Value) (t a b : Value) → length vs ≡ 3 → t ≡ get_or vs 0 t → a ≡ get_or vs 1 a → b ≡ get_or vs 2 b
+    → walk_of shape (array (items_view vs)) ≡ walk_in shape (profile_of (view t)) (view a) (view b)
+program_of_three shape (x ∷ y ∷ z ∷ []) t a b three p q r = rw (sym p, sym q, sym r) refl
+program_of_three shape _ t a b three p q r = absurd (omega arith)
+
+pub ruleset program_forms = (no_program_but_three, program_of_three)
 
 -- ---- counts of 32 bits
 
@@ -50,18 +59,18 @@ capped n statements nodes cells =
 
 -- ---- a program, by what its parts are read as
 
-pub program_fails_counts : (shape : Arrays) (a b : Data) (ss : List Section) (c : Refusal)
+pub program_fails_counts : (shape : Arrays) (profile : Profile) (a b : Data) (ss : List Section) (c : Refusal)
     → both_of (sections_of shape [] a) (list_of b) ≡ Ok (ss, tt) → Err c ≡ within_limits (counted no_counts 0 0 (min (cells_in ss) (2 ^ 32 - 1)))
-    → program_at shape a b ≡ Err c
-program_fails_counts shape a b ss c parts counts = rw (parts, ← capped no_counts 0 0 (cells_in ss), ← counts) refl
+    → program_at shape profile a b ≡ Err c
+program_fails_counts shape profile a b ss c parts counts = rw (parts, ← capped no_counts 0 0 (cells_in ss), ← counts) refl
 
-pub program_fails_body : (shape : Arrays) (a b : Data) (ss : List Section) (n : Counts) (f : ProgramFault)
+pub program_fails_body : (shape : Arrays) (profile : Profile) (a b : Data) (ss : List Section) (n : Counts) (f : ProgramFault)
     → both_of (sections_of shape [] a) (list_of b) ≡ Ok (ss, tt) → Ok n ≡ within_limits (counted no_counts 0 0 (min (cells_in ss) (2 ^ 32 - 1)))
-    → Fails f (body_in shape first_level b [] n) → Fails f (program_at shape a b)
-program_fails_body shape a b ss n f parts counts h =
-    rw (parts, ← capped no_counts 0 0 (cells_in ss), ← counts) (Fails-then f (body_in shape first_level b [] n) _ h)
+    → Fails f (body_in shape profile first_level b [] n) → Fails f (program_at shape profile a b)
+program_fails_body shape profile a b ss n f parts counts h =
+    rw (parts, ← capped no_counts 0 0 (cells_in ss), ← counts) (Fails-then f (body_in shape profile first_level b [] n) _ h)
 
-pub program_reads : (shape : Arrays) (a b : Data) (ss : List Section) (n m : Counts) (xs : List S)
+pub program_reads : (shape : Arrays) (profile : Profile) (a b : Data) (ss : List Section) (n m : Counts) (xs : List S)
     → both_of (sections_of shape [] a) (list_of b) ≡ Ok (ss, tt) → Ok n ≡ within_limits (counted no_counts 0 0 (min (cells_in ss) (2 ^ 32 - 1)))
-    → body_in shape first_level b [] n ≡ Ok (xs, m) → program_at shape a b ≡ Ok (expanded ss (xs, m))
-program_reads shape a b ss n m xs parts counts body = rw (parts, ← capped no_counts 0 0 (cells_in ss), ← counts, body) refl
+    → body_in shape profile first_level b [] n ≡ Ok (xs, m) → program_at shape profile a b ≡ Ok (expanded ss (xs, m))
+program_reads shape profile a b ss n m xs parts counts body = rw (parts, ← capped no_counts 0 0 (cells_in ss), ← counts, body) refl

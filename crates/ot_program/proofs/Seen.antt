@@ -8,6 +8,7 @@ use Rattle.ot_model.specs.Tree.{If, Task, Group}
 use Rattle.ot_model.specs.View.{expr_of, stmt_of, stmts_of}
 use Rattle.ot_model.specs.declared.expr.Cell.{Cell}
 use Rattle.ot_model.specs.declared.expr.Expr.{Expr}
+use Rattle.ot_model.specs.declared.fold.Fold.{Fold}
 use Rattle.ot_model.specs.declared.stmt.Stmt as stmt
 use Rattle.ot_model.specs.declared.stmt.Stmt.{Stmt, the_lemmas}
 use Rattle.ot_model.specs.declared.stmt.Use.{Use}
@@ -21,5 +22,5 @@ stmt_of-If e a b = search (rules, the_lemmas)
 pub stmt_of-Task : (uses : List Use) (b : Vec Stmt Global) → stmt_of (stmt.Task uses b) ≡ Task uses (stmts_of b.items)
 stmt_of-Task uses b = search (rules, the_lemmas)
 
-pub stmt_of-Group : (cells : Vec Cell Global) (b : Vec Stmt Global) → stmt_of (stmt.Group cells b) ≡ Group cells.items (stmts_of b.items)
-stmt_of-Group cells b = search (rules, the_lemmas)
+pub stmt_of-Group : (op : Fold) (cells : Vec Cell Global) (b : Vec Stmt Global) → stmt_of (stmt.Group op cells b) ≡ Group op cells.items (stmts_of b.items)
+stmt_of-Group op cells b = search (rules, the_lemmas)

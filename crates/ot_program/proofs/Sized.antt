@@ -1,18 +1,19 @@
 -- What the copies of a text count is what their tree has.
-use Rattle.std.proofs.Common.{◌≡◌, ℕ, zero, suc, ◌+◌, ◌-◌, ◌≤◌, Bool, true, false, cond, List, [], ◌∷◌, ◌++◌, map, length, codes, refl, sym, ap, ◌∙◌, arith, length-append}
+use Rattle.std.proofs.Common.{◌≡◌, ℕ, zero, suc, ◌+◌, ◌-◌, ◌≤◌, Bool, true, false, cond, ◌&&◌, List, [], ◌∷◌, ◌++◌, length, codes, refl, arith, length-append}
 use Rattle.std.specs.Prelude.{flat_map}
 use Rattle.std.proofs.lemmas.List.FromFn.{length-map-range_with_len}
 use Rattle.serde_json.specs.Data.{Data, array, Items, no_items, item}
 use Rattle.ot_model.specs.Counts.{size, tasks_in}
 use Rattle.ot_model.specs.Shapes.{Arrays}
-use Rattle.ot_model.specs.Tree.{E, Literal, CellAt, Apply, PickFrom, S, Set, Add, If, Task, Wait, Group, Body, body_of}
+use Rattle.ot_model.specs.Tree.{E, Literal, CellAt, Apply, PickFrom, S, If, body_of}
 use Rattle.ot_model.specs.Value.{cell_at, cells_of}
-use Rattle.ot_model.specs.declared.expr.Cell.{Cell}
 use Rattle.ot_program.specs.Accepted.{parts, choices, sum_in}
-use Rattle.ot_program.specs.Copies.{SetText, AddText, IfText, ForText, Turn, TaskText, WaitText, GroupText, NoForm, Copy, Copies, Done, at, turns, copies, copies_of, copy, in_copy, in_order, statement_of, statements_of}
+use Rattle.ot_program.specs.Copies.{SetText, AddText, FoldText, IfText, ForText, Turn, TaskText, WaitText, GroupText, GroupByText, NoForm, Copy, Copies, Done, at, turns, copies, copies_of, copy, in_copy, in_order, statement_of, statements_of}
 use Rattle.ot_program.specs.Limits.{Tally, tally, plus, nodes_of, picked_of, with_value, total}
 use Rattle.ot_program.specs.Meanings.{letters, Bindings, size as size_text, value}
 use Rattle.ot_program.specs.Names.{is_word}
+use Rattle.ot_program.specs.Profiles.{is_one, is_two}
+use Rattle.ot_program.specs.declared.profile.Profile.{Profile}
 use Rattle.ot_program.proofs.Tallies.{nothing, total-append}
 
 -- ---- values
@@ -73,7 +74,7 @@ sized_then n m ss ts h k = record {
   cells = omega (arith, sum-append choice_count ss ts, h.cells, k.cells);
 }
 
--- a `set` and an `add`
+-- a `set` and a fold
 sized_value : (e : E) (s : S) → size (body_of (s ∷ [])) ≡ 1 → tasks_in (body_of (s ∷ [])) ≡ 0
     → ((f : E → ℕ) → sum_in f (body_of (s ∷ [])) ≡ f e) → Sized (plus (with_value e) nothing) (s ∷ [])
 sized_value e s one none values = record {
@@ -143,60 +144,73 @@ sized_turns shape level variables body h first (suc more) =
 mutual
   unfolding copies
 
-  pub sized_copies : (shape : Arrays) (level : ℕ) (d : Data) (variables : Bindings) → AreSized shape (copies level d variables)
-  sized_copies shape level (array ds) variables = sized_all shape level ds variables
-  sized_copies shape level _ variables = sized_none
+  pub sized_copies : (shape : Arrays) (profile : Profile) (level : ℕ) (d : Data) (variables : Bindings) → AreSized shape (copies profile level d variables)
+  sized_copies shape profile level (array ds) variables = sized_all shape profile level ds variables
+  sized_copies shape profile level _ variables = sized_none
 
-  sized_all : (shape : Arrays) (level : ℕ) (ds : Items) (variables : Bindings) → AreSized shape (copies_of level ds variables)
-  sized_all shape level no_items variables = sized_none
-  sized_all shape level (item d ds) variables =
-      let c = copy level d variables in
-      let cs = copies_of level ds variables in
+  sized_all : (shape : Arrays) (profile : Profile) (level : ℕ) (ds : Items) (variables : Bindings) → AreSized shape (copies_of profile level ds variables)
+  sized_all shape profile level no_items variables = sized_none
+  sized_all shape profile level (item d ds) variables =
+      let c = copy profile level d variables in
+      let cs = copies_of profile level ds variables in
       rw (total-append shape (in_copy c) (in_order cs))
       (sized_then (total shape (in_copy c)) (total shape (in_order cs)) (statement_of shape c) (statements_of shape cs)
-      (sized_one shape level d variables) (sized_all shape level ds variables))
+      (sized_one shape profile level d variables) (sized_all shape profile level ds variables))
 
-  sized_one : (shape : Arrays) (level : ℕ) (d : Data) (variables : Bindings) → IsSized shape (copy level d variables)
-  sized_one shape level (array (item t no_items)) variables =
+  sized_one : (shape : Arrays) (profile : Profile) (level : ℕ) (d : Data) (variables : Bindings) → IsSized shape (copy profile level d variables)
+  sized_one shape profile level (array (item t no_items)) variables =
       sized_test shape (is_word t (codes "wait")) (at level variables WaitText Done Done) (at level variables NoForm Done Done)
       (record { statements = refl; tasks = refl; nodes = refl; cells = omega arith }) sized_none
-  sized_one shape level (array (item t (item a (item b no_items)))) variables =
+  sized_one shape profile level (array (item t (item a (item b no_items)))) variables =
       let e = value shape variables b in
-      let cs = copies (level + 1) b variables in
+      let cs = copies profile (level + 1) b variables in
       let n = total shape (in_order cs) in
       let ss = statements_of shape cs in
-      let inside = sized_copies shape (level + 1) b variables in
+      let inside = sized_copies shape profile (level + 1) b variables in
       let set = at level variables (SetText a b) Done Done in
       let add = at level variables (AddText a b) Done Done in
-      let task = at level variables (TaskText a b) cs Done in
+      let task = at level variables (TaskText profile a b) cs Done in
       let group = at level variables (GroupText a b) cs Done in
       let none = at level variables NoForm Done Done in
-      let groups = cond (is_word t (codes "group")) group none in
+      let is_group = is_one profile && is_word t (codes "group") in
+      let groups = cond is_group group none in
       let tasks = cond (is_word t (codes "task")) task groups in
       let adds = cond (is_word t (codes "add")) add tasks in
       sized_test shape (is_word t (codes "set")) set adds (sized_value e _ refl refl (λ f. omega arith))
       (sized_test shape (is_word t (codes "add")) add tasks (sized_value e _ refl refl (λ f. omega arith))
       (sized_test shape (is_word t (codes "task")) task groups
       (rw (total-append shape (in_order cs) []) (sized_body 1 _ n ss _ (omega arith) (omega arith) (λ f. omega arith) inside))
-      (sized_test shape (is_word t (codes "group")) group none
+      (sized_test shape is_group group none
       (rw (total-append shape (in_order cs) []) (sized_body 0 _ n ss _ (omega arith) (omega arith) (λ f. omega arith) inside))
       sized_none)))
-  sized_one shape level (array (item t (item a (item b (item c no_items))))) variables =
-      let one = copies (level + 1) b variables in
-      let two = copies (level + 1) c variables in
-      sized_test shape (is_word t (codes "if")) (at level variables (IfText a b c) one two) (at level variables NoForm Done Done)
+  sized_one shape profile level (array (item t (item a (item b (item c no_items))))) variables =
+      let one = copies profile (level + 1) b variables in
+      let two = copies profile (level + 1) c variables in
+      let m = total shape (in_order two) in
+      let ss = statements_of shape two in
+      let fold = at level variables (FoldText a b c) Done Done in
+      let group = at level variables (GroupByText a b c) two Done in
+      let none = at level variables NoForm Done Done in
+      let is_fold = is_two profile && is_word t (codes "fold") in
+      let is_group = is_two profile && is_word t (codes "group") in
+      let ifs = cond (is_word t (codes "if")) (at level variables (IfText a b c) one two) none in
+      sized_test shape is_fold fold (cond is_group group ifs) (sized_value (value shape variables c) _ refl refl (λ f. omega arith))
+      (sized_test shape is_group group ifs
+      (rw (total-append shape (in_order two) []) (sized_body 0 _ m ss _ (omega arith) (omega arith) (λ f. omega arith)
+      (sized_copies shape profile (level + 1) c variables)))
+      (sized_test shape (is_word t (codes "if")) (at level variables (IfText a b c) one two) none
       (rw (total-append shape (in_order one) (in_order two))
       (sized_if (value shape variables a) (total shape (in_order one)) (total shape (in_order two)) (statements_of shape one) (statements_of shape two)
-      (sized_copies shape (level + 1) b variables) (sized_copies shape (level + 1) c variables)))
-      sized_none
-  sized_one shape level (array (item t (item a (item b (item c (item d no_items)))))) variables =
-      let body : ℕ → Copies = λ k. copies (level + 1) d ((letters a, k) ∷ variables) in
+      (sized_copies shape profile (level + 1) b variables) (sized_copies shape profile (level + 1) c variables)))
+      sized_none))
+  sized_one shape profile level (array (item t (item a (item b (item c (item d no_items)))))) variables =
+      let body : ℕ → Copies = λ k. copies profile (level + 1) d ((letters a, k) ∷ variables) in
       let first = size_text variables b in
       let many = size_text variables c - size_text variables b in
       let one = turns level variables body first many in
       sized_test shape (is_word t (codes "for")) (at level variables (ForText a b c d) one Done) (at level variables NoForm Done Done)
       (rw (total-append shape (in_order one) [])
       (sized_around 0 (total shape (in_order one)) (statements_of shape one)
-      (sized_turns shape level variables body (λ k. sized_copies shape (level + 1) d ((letters a, k) ∷ variables)) first many)))
+      (sized_turns shape level variables body (λ k. sized_copies shape profile (level + 1) d ((letters a, k) ∷ variables)) first many)))
       sized_none
-  sized_one shape level _ variables = sized_none
+  sized_one shape profile level _ variables = sized_none

@@ -13,6 +13,7 @@ use Rattle.ot_program.specs.declared.clause.Clause.{Clause as CodeClause}
 use Rattle.ot_program.specs.declared.counts.Counts.{Counts}
 use Rattle.ot_program.specs.declared.fault.Refusal.{Refusal}
 use Rattle.ot_program.specs.declared.fault.Refusal.TheVariants.{Form, Size, UnknownArray, OutOfRange, EmptySection, TooLarge, TooManyTasks, MixedReduction}
+use Rattle.ot_program.specs.declared.profile.Profile.{Profile}
 use Rattle.ot_program.specs.Declarations.{uses}
 use Rattle.ot_program.specs.Faults.{unless, no_list, list_faults, deep, name_faults, size_faults, cell_faults, section_faults, expression_faults, clause_faults, mixed, nested, past_limits}
 use Rattle.ot_program.specs.Limits.{max_nesting, max_statements, max_turns, max_nodes, max_cells, size_depth, nodes_of, picked_of, cells_in, Tally, tally, plus}
@@ -180,7 +181,7 @@ deeper_reads level = reads_test 5 (nat_lt level max_nesting) tt TooLarge (omega 
 nested-from : (level : ℕ) → AreFrom 5 (nested level)
 nested-from level = unless-from 5 (nat_lt level max_nesting) TooLarge (omega arith)
 
--- of `set` and `add`
+-- of `set` and of a fold
 pub target_reads : (shape : Arrays) (variables : Bindings) (a b : Data) (n : Tally) → AreWithin shape.tasks n
     → let m = plus n (tally 1 0 0 (nodes_of (value shape variables b)) (picked_of (value shape variables b))) in
     Reads 5 (target_of shape variables a b (code_counts n)) ((cell shape variables a, value shape variables b), code_counts m)
@@ -256,23 +257,23 @@ bind-assoc (Ok x) k j = refl
 bind-assoc (Err c) k j = refl
 
 -- of `task`
-pub declared_reads : (shape : Arrays) (variables : Bindings) (level : ℕ) (a b : Data) (n : Tally) → AreWithin shape.tasks n
-    → let cs = map (clause shape variables) (items a) in
+pub declared_reads : (shape : Arrays) (profile : Profile) (variables : Bindings) (level : ℕ) (a b : Data) (n : Tally) → AreWithin shape.tasks n
+    → let cs = map (clause shape profile variables) (items a) in
     let m = plus n (tally 1 1 0 0 (cells_in (map (λ c. c.section) cs))) in
-    Reads 7 (declared_of shape variables level a b (code_counts n)) (uses cs, code_counts m)
-    ((list_faults (clause_faults shape variables) a ++ no_list b) ++ (nested level ++ (past_limits shape.tasks m ++ mixed cs)))
-declared_reads shape variables level a b n w =
-    let cs = map (clause shape variables) (items a) in
+    Reads 7 (declared_of shape profile variables level a b (code_counts n)) (uses cs, code_counts m)
+    ((list_faults (clause_faults shape profile variables) a ++ no_list b) ++ (nested level ++ (past_limits shape.tasks m ++ mixed cs)))
+declared_reads shape profile variables level a b n w =
+    let cs = map (clause shape profile variables) (items a) in
     let ds = map code_clause cs in
     let cells = cells_in (map (λ c. c.section) ds) in
     let m = plus n (tally 1 1 0 0 cells) in
-    let fs = list_faults (clause_faults shape variables) a ++ no_list b in
+    let fs = list_faults (clause_faults shape profile variables) a ++ no_list b in
     rw (← sections_coded cs)
-    (behind_parts {A = List CodeClause × ⊤} {B = List Use × Counts} (both_of (clauses_of shape variables a) (list_of b)) (ds, tt) fs level 7
+    (behind_parts {A = List CodeClause × ⊤} {B = List Use × Counts} (both_of (clauses_of shape profile variables a) (list_of b)) (ds, tt) fs level 7
     (λ p. within_limits (counted (code_counts n) 1 0 (cells_in (map (λ c. c.section) p.0))) >>= λ k. one_task shape.tasks k >>= λ j. declaration p.0 >>= λ us. Ok (us, j))
     (uses cs, code_counts m) (past_limits shape.tasks m ++ mixed cs) (omega arith)
-    (reads_both 5 (clauses_of shape variables a) (list_of b) ds tt (list_faults (clause_faults shape variables) a) (no_list b)
-    (clauses_reads shape variables a) (list_reads b))
+    (reads_both 5 (clauses_of shape profile variables a) (list_of b) ds tt (list_faults (clause_faults shape profile variables) a) (no_list b)
+    (clauses_reads shape profile variables a) (list_reads b))
     (append-from 5 (past_limits shape.tasks m) (mixed cs) (past-from shape.tasks m) (mixed-from 5 (omega arith) cs))
     (rw (← bind-assoc {C = List Use × Counts} (within_limits (counted (code_counts n) 1 0 cells)) (one_task shape.tasks) (λ j. declaration ds >>= λ us. Ok (us, j)))
     (reads_then {A = Counts} {B = List Use × Counts} 6 7 (within_limits (counted (code_counts n) 1 0 cells) >>= one_task shape.tasks) (λ j. declaration ds >>= λ us. Ok (us, j)) (code_counts m) (uses cs, code_counts m)

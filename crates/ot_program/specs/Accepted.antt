@@ -3,7 +3,7 @@ use Rattle.std.specs.Prelude.{ℕ, ◌+◌, ◌≤◌, List, [], ◌∷◌, ◌+
 use Rattle.serde_json.specs.Data.{Data}
 use Rattle.ot_model.specs.Counts.{size, tasks_in}
 use Rattle.ot_model.specs.Shapes.{Arrays}
-use Rattle.ot_model.specs.Tree.{E, Literal, CellAt, Apply, PickFrom, S, Set, Add, If, Task, Wait, Group, Body, End, Next}
+use Rattle.ot_model.specs.Tree.{E, Literal, CellAt, Apply, PickFrom, S, Set, Fold, If, Task, Wait, Group, Body, End, Next}
 use Rattle.ot_model.specs.Value.{cells_of}
 use Rattle.ot_model.specs.declared.expr.Cell.{Cell}
 use Rattle.ot_program.specs.Limits.{max_statements, max_nodes, max_cells}
@@ -25,11 +25,11 @@ choices e = []
 abbrev mutual
   pub sum_one : (E → ℕ) → S → ℕ
   sum_one f (Set c e) = f e
-  sum_one f (Add c e) = f e
+  sum_one f (Fold o c e) = f e
   sum_one f (If e a b) = f e + sum_in f a + sum_in f b
   sum_one f (Task us b) = sum_in f b
   sum_one f Wait = 0
-  sum_one f (Group cs b) = sum_in f b
+  sum_one f (Group o cs b) = sum_in f b
 
   pub sum_in : (E → ℕ) → Body → ℕ
   sum_in f End = 0

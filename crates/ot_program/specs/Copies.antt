@@ -1,24 +1,29 @@
 -- The statements of a text as copies, of the body of a `for` one for each turn; their order; and the tree that they
 -- are (docs/LANGUAGE.md, "Forms", on statements and loops).
-use Rattle.std.specs.Prelude.{ℕ, zero, suc, ◌+◌, ◌-◌, List, [], ◌∷◌, ◌++◌, map, flat_map, if◌then◌else◌, codes}
+use Rattle.std.specs.Prelude.{ℕ, zero, suc, ◌+◌, ◌-◌, List, [], ◌∷◌, ◌++◌, map, flat_map, ◌&&◌, if◌then◌else◌, codes}
 use Rattle.serde_json.specs.Data.{Data, array, Items, no_items, item}
 use Rattle.ot_model.specs.Shapes.{Arrays}
-use Rattle.ot_model.specs.Tree.{S, Set, Add, If, Task, Wait, Group, body_of}
+use Rattle.ot_model.specs.Tree.{S, Set, Fold, If, Task, Wait, Group, body_of}
+use Rattle.ot_model.specs.declared.fold.Fold.TheVariants.{Plus}
 use Rattle.ot_model.specs.Value.{cells_of}
 use Rattle.ot_program.specs.Declarations.{uses}
-use Rattle.ot_program.specs.Meanings.{items, letters, Bindings, size, cell, section, value, clause}
+use Rattle.ot_program.specs.Meanings.{items, letters, operation, Bindings, size, cell, section, value, clause}
 use Rattle.ot_program.specs.Names.{is_word}
+use Rattle.ot_program.specs.Profiles.{is_one, is_two}
+use Rattle.ot_program.specs.declared.profile.Profile.{Profile}
 
 -- a statement's own parts as they stand in the text, its bodies among them; one turn of a `for`; or what has no form
 pub data Text : Type 0 where
   SetText : (cell value : Data) → Text
   AddText : (cell value : Data) → Text
+  FoldText : (op cell value : Data) → Text
   IfText : (condition one two : Data) → Text
   ForText : (variable first behind body : Data) → Text
   Turn : Text
-  TaskText : (clauses body : Data) → Text
+  TaskText : Profile → (clauses body : Data) → Text
   WaitText : Text
   GroupText : (sections body : Data) → Text
+  GroupByText : (op sections body : Data) → Text
   ProgramText : (shows body : Data) → Text
   NoForm : Text
 
@@ -48,36 +53,41 @@ turns level variables body first (suc more) =
 
 unfoldable mutual
   -- `[statement, ..]`
-  pub copies : ℕ → Data → Bindings → Copies
-  copies level (array ds) variables = copies_of level ds variables
-  copies level _ variables = Then (at level variables NoForm Done Done) Done
+  pub copies : Profile → ℕ → Data → Bindings → Copies
+  copies profile level (array ds) variables = copies_of profile level ds variables
+  copies profile level _ variables = Then (at level variables NoForm Done Done) Done
 
-  pub copies_of : ℕ → Items → Bindings → Copies
-  copies_of level no_items variables = Done
-  copies_of level (item d ds) variables = Then (copy level d variables) (copies_of level ds variables)
+  pub copies_of : Profile → ℕ → Items → Bindings → Copies
+  copies_of profile level no_items variables = Done
+  copies_of profile level (item d ds) variables = Then (copy profile level d variables) (copies_of profile level ds variables)
 
   -- `["wait"]`, `["set", cell, value]`, `["add", cell, value]`, `["task", [clause, ..], body]`,
-  -- `["group", [section, ..], body]`, `["if", value, body, body]` and `["for", variable, size, size, body]`
-  pub copy : ℕ → Data → Bindings → Copy
-  copy level (array (item t no_items)) variables =
+  -- `["if", value, body, body]` and `["for", variable, size, size, body]`; in profile 1 `["group", [section, ..], body]`,
+  -- in profile 2 `["fold", op, cell, value]` and `["group", op, [section, ..], body]`
+  pub copy : Profile → ℕ → Data → Bindings → Copy
+  copy profile level (array (item t no_items)) variables =
       if is_word t (codes "wait") then at level variables WaitText Done Done else
       at level variables NoForm Done Done
-  copy level (array (item t (item a (item b no_items)))) variables =
+  copy profile level (array (item t (item a (item b no_items)))) variables =
       if is_word t (codes "set") then at level variables (SetText a b) Done Done else
       (if is_word t (codes "add") then at level variables (AddText a b) Done Done else
-      (if is_word t (codes "task") then at level variables (TaskText a b) (copies (level + 1) b variables) Done else
-      (if is_word t (codes "group") then at level variables (GroupText a b) (copies (level + 1) b variables) Done else
+      (if is_word t (codes "task") then at level variables (TaskText profile a b) (copies profile (level + 1) b variables) Done else
+      (if is_one profile && is_word t (codes "group")
+      then at level variables (GroupText a b) (copies profile (level + 1) b variables) Done else
       at level variables NoForm Done Done)))
-  copy level (array (item t (item a (item b (item c no_items))))) variables =
-      if is_word t (codes "if")
-      then at level variables (IfText a b c) (copies (level + 1) b variables) (copies (level + 1) c variables)
-      else at level variables NoForm Done Done
-  copy level (array (item t (item a (item b (item c (item d no_items)))))) variables =
+  copy profile level (array (item t (item a (item b (item c no_items))))) variables =
+      if is_two profile && is_word t (codes "fold") then at level variables (FoldText a b c) Done Done else
+      (if is_two profile && is_word t (codes "group")
+      then at level variables (GroupByText a b c) (copies profile (level + 1) c variables) Done else
+      (if is_word t (codes "if")
+      then at level variables (IfText a b c) (copies profile (level + 1) b variables) (copies profile (level + 1) c variables) else
+      at level variables NoForm Done Done))
+  copy profile level (array (item t (item a (item b (item c (item d no_items)))))) variables =
       if is_word t (codes "for")
-      then at level variables (ForText a b c d) (turns level variables (λ n. copies (level + 1) d ((letters a, n) ∷ variables))
+      then at level variables (ForText a b c d) (turns level variables (λ n. copies profile (level + 1) d ((letters a, n) ∷ variables))
       (size variables b) (size variables c - size variables b)) Done
       else at level variables NoForm Done Done
-  copy level _ variables = at level variables NoForm Done Done
+  copy profile level _ variables = at level variables NoForm Done Done
 
 -- Expanded order: a statement before its bodies, and the first body before the second.
 abbrev mutual
@@ -94,13 +104,18 @@ module _ (shape : Arrays) where
   -- a statement, its bodies given; a `for` is what its turns are
   abbrev pub statement : Bindings → Text → List S → List S → List S
   statement variables (SetText a b) one two = Set (cell shape variables a) (value shape variables b) ∷ []
-  statement variables (AddText a b) one two = Add (cell shape variables a) (value shape variables b) ∷ []
+  statement variables (AddText a b) one two = Fold Plus (cell shape variables a) (value shape variables b) ∷ []
+  statement variables (FoldText op a b) one two = Fold (operation op) (cell shape variables a) (value shape variables b) ∷ []
   statement variables (IfText a b c) one two = If (value shape variables a) (body_of one) (body_of two) ∷ []
   statement variables (ForText a b c d) one two = one
   statement variables Turn one two = one
-  statement variables (TaskText a b) one two = Task (uses (map (clause shape variables) (items a))) (body_of one) ∷ []
+  statement variables (TaskText profile a b) one two =
+      Task (uses (map (clause shape profile variables) (items a))) (body_of one) ∷ []
   statement variables WaitText one two = Wait ∷ []
-  statement variables (GroupText a b) one two = Group (flat_map cells_of (map (section shape variables) (items a))) (body_of one) ∷ []
+  statement variables (GroupText a b) one two =
+      Group Plus (flat_map cells_of (map (section shape variables) (items a))) (body_of one) ∷ []
+  statement variables (GroupByText op a b) one two =
+      Group (operation op) (flat_map cells_of (map (section shape variables) (items a))) (body_of one) ∷ []
   statement variables (ProgramText a b) one two = one
   statement variables NoForm one two = []
 

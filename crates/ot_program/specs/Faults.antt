@@ -5,13 +5,15 @@ use Rattle.std.specs.Prelude.{ℕ, ◌+◌, ◌==◌, nat_lt, nat_le, Bool, true
 use Rattle.std.specs.List.{list_any}
 use Rattle.serde_json.specs.Data.{Data, number, string, array, no_items, item}
 use Rattle.ot_model.specs.Shapes.{Arrays}
-use Rattle.ot_program.specs.Copies.{Text, SetText, AddText, IfText, ForText, Turn, TaskText, WaitText, GroupText, ProgramText, NoForm, Placed}
+use Rattle.ot_program.specs.Copies.{Text, SetText, AddText, FoldText, IfText, ForText, Turn, TaskText, WaitText, GroupText, GroupByText, ProgramText, NoForm, Placed}
 use Rattle.ot_program.specs.Declarations.{named_cells, is_mixed}
 use Rattle.ot_program.specs.Limits.{max_nesting, max_depth, max_statements, max_turns, max_nodes, max_cells, size_depth, depth_of, Tally}
-use Rattle.ot_program.specs.Meanings.{items, Bindings, bound, sign_of, in_range, exact, size, is_called, length_of, op_of, value, mode_of, Clause, clause}
+use Rattle.ot_program.specs.Meanings.{items, Bindings, bound, sign_of, in_range, exact, size, is_called, length_of, op_of, fold_of, value, mode_of, red_by, Clause, clause}
 use Rattle.ot_program.specs.Names.{whole_number, is_name, is_word}
 use Rattle.ot_program.specs.declared.fault.Refusal.{Refusal}
 use Rattle.ot_program.specs.declared.fault.Refusal.TheVariants.{Form, Size, UnknownArray, OutOfRange, EmptySection, TooLarge, TooManyTasks, MixedReduction}
+use Rattle.ot_program.specs.declared.profile.Profile.{Profile}
+use Rattle.ot_program.specs.declared.profile.Profile.TheVariants.{Two}
 
 -- a fault where a test fails
 abbrev pub unless : Bool → Refusal → List Refusal
@@ -88,9 +90,16 @@ module _ (shape : Arrays) (variables : Bindings) where
   abbrev pub expression_faults : Data → List Refusal
   expression_faults d = value_faults d ++ deep (depth_of (value shape variables d))
 
-  abbrev pub clause_faults : Data → List Refusal
-  clause_faults (array (item t (item a no_items))) = unless (is_some (mode_of t)) Form ++ section_faults a
-  clause_faults _ = Form ∷ []
+abbrev pub clause_faults : Arrays → Profile → Bindings → Data → List Refusal
+clause_faults shape profile variables (array (item t (item a no_items))) =
+    unless (is_some (mode_of profile t)) Form ++ section_faults shape variables a
+clause_faults shape Two variables (array (item t (item op (item a no_items)))) =
+    unless (is_some (red_by t op)) Form ++ section_faults shape variables a
+clause_faults shape profile variables _ = Form ∷ []
+
+-- an operation of a fold or a group
+abbrev pub fold_faults : Data → List Refusal
+fold_faults op = unless (is_some (fold_of op)) Form
 
 -- ---- statements
 
@@ -105,16 +114,20 @@ module _ (shape : Arrays) where
   abbrev pub text_faults : ℕ → Bindings → Text → List Refusal
   text_faults level variables (SetText a b) = cell_faults shape variables a ++ expression_faults shape variables b
   text_faults level variables (AddText a b) = cell_faults shape variables a ++ expression_faults shape variables b
+  text_faults level variables (FoldText op a b) =
+      fold_faults op ++ (cell_faults shape variables a ++ expression_faults shape variables b)
   text_faults level variables (IfText a b c) = (expression_faults shape variables a ++ (no_list b ++ no_list c)) ++ nested level
   text_faults level variables (ForText a b c d) =
       (name_faults a ++ ((size_faults variables b ++ size_faults variables c) ++ no_list d))
       ++ (nested level ++ (deep (size_depth b) ++ deep (size_depth c)))
   text_faults level variables Turn = []
-  text_faults level variables (TaskText a b) =
-      (list_faults (clause_faults shape variables) a ++ no_list b)
-      ++ (nested level ++ mixed (map (clause shape variables) (items a)))
+  text_faults level variables (TaskText profile a b) =
+      (list_faults (clause_faults shape profile variables) a ++ no_list b)
+      ++ (nested level ++ mixed (map (clause shape profile variables) (items a)))
   text_faults level variables WaitText = []
   text_faults level variables (GroupText a b) = (list_faults (section_faults shape variables) a ++ no_list b) ++ nested level
+  text_faults level variables (GroupByText op a b) =
+      fold_faults op ++ ((list_faults (section_faults shape variables) a ++ no_list b) ++ nested level)
   text_faults level variables (ProgramText a b) = (list_faults (section_faults shape variables) a ++ no_list b) ++ nested level
   text_faults level variables NoForm = Form ∷ []
 

@@ -1,4 +1,5 @@
 pub mod Names
+pub mod Profiles
 pub mod Meanings
 pub mod Declarations
 pub mod Copies
@@ -10,3 +11,4 @@ pub mod Returned
 pub mod Printed
 pub mod Accepted
 pub mod walk
+pub mod one

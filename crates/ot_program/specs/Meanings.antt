@@ -9,9 +9,13 @@ use Rattle.ot_model.specs.declared.expr.Cell.{Cell}
 use Rattle.ot_model.specs.declared.expr.Op.{Op}
 use Rattle.ot_model.specs.declared.expr.Op.TheVariants.{Plus, Minus, Times, And, Or, Xor, Less, Equal, Min, Max}
 use Rattle.ot_model.specs.declared.expr.Section.{Section}
+use Rattle.ot_model.specs.declared.fold.Fold.{Fold}
+use Rattle.ot_model.specs.declared.fold.Fold.TheVariants as by
 use Rattle.ot_model.specs.declared.stmt.Mode.{Mode}
-use Rattle.ot_model.specs.declared.stmt.Mode.TheVariants.{Reads, Writes, Adds}
+use Rattle.ot_model.specs.declared.stmt.Mode.TheVariants.{Reads, Writes, Folds}
 use Rattle.ot_program.specs.Names.{whole_number, is_word}
+use Rattle.ot_program.specs.declared.profile.Profile.{Profile}
+use Rattle.ot_program.specs.declared.profile.Profile.TheVariants.{One, Two}
 
 -- the items of a list
 abbrev pub each : Items → List Data
@@ -45,14 +49,36 @@ op_of t =
     (if is_word t (codes "min") then Some Min else
     (if is_word t (codes "max") then Some Max else None)))))))))
 
+-- an operation of folds and reductions (OpenMP API 5.2, section 5.5.3)
+abbrev pub fold_of : Data → Option Fold
+fold_of t =
+    if is_word t (codes "+") then Some by.Plus else
+    (if is_word t (codes "*") then Some by.Times else
+    (if is_word t (codes "&") then Some by.And else
+    (if is_word t (codes "|") then Some by.Or else
+    (if is_word t (codes "^") then Some by.Xor else
+    (if is_word t (codes "min") then Some by.Min else
+    (if is_word t (codes "max") then Some by.Max else None))))))
+
+abbrev pub operation : Data → Fold
+operation t = unwrap_or (fold_of t) by.Plus
+
+-- `red` without an operation, which profile 1 has alone: it folds by `+`
+abbrev pub red_of : Profile → Data → Option Mode
+red_of One t = if is_word t (codes "red") then Some (Folds by.Plus) else None
+red_of Two t = None
+
 -- the kind of a clause: `in`, `out` and `inout` stand for depend, `red` for in_reduction (OpenMP API 5.2, sections
 -- 15.9.5 and 5.5.10)
-abbrev pub mode_of : Data → Option Mode
-mode_of t =
+abbrev pub mode_of : Profile → Data → Option Mode
+mode_of profile t =
     if is_word t (codes "in") then Some Reads else
     (if is_word t (codes "out") then Some Writes else
-    (if is_word t (codes "inout") then Some Writes else
-    (if is_word t (codes "red") then Some Adds else None)))
+    (if is_word t (codes "inout") then Some Writes else red_of profile t))
+
+-- `red` with an operation, which profile 2 has alone
+abbrev pub red_by : Data → Data → Option Mode
+red_by t op = if is_word t (codes "red") then option_map Folds (fold_of op) else None
 
 -- ---- variables
 
@@ -133,7 +159,10 @@ module _ (shape : Arrays) (variables : Bindings) where
       Apply (unwrap_or (op_of t) Plus) (value a) (value b))
   value _ = Literal 0
 
-  -- `[word, section]`
-  abbrev pub clause : Data → Clause
-  clause (array (item t (item a no_items))) = record { mode = unwrap_or (mode_of t) Reads; section = section a }
-  clause d = record { mode = Reads; section = section d }
+-- `[word, section]`, and in profile 2 `["red", op, section]`
+abbrev pub clause : Arrays → Profile → Bindings → Data → Clause
+clause shape profile variables (array (item t (item a no_items))) =
+    record { mode = unwrap_or (mode_of profile t) Reads; section = section shape variables a }
+clause shape Two variables (array (item t (item op (item a no_items)))) =
+    record { mode = unwrap_or (red_by t op) Reads; section = section shape variables a }
+clause shape profile variables d = record { mode = Reads; section = section shape variables d }

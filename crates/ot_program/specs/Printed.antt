@@ -2,17 +2,21 @@
 use Rattle.std.specs.Prelude.{◌≡◌, ℕ, ◌<◌, ◌^◌, List, [], ◌∷◌, map, slice_get, option_map, unwrap_or, codes}
 use Rattle.serde_json.specs.Data.{Data, number, string, array, Items, no_items, item, unsigned}
 use Rattle.ot_model.specs.Shapes.{Arrays}
-use Rattle.ot_model.specs.Tree.{E, Literal, CellAt, Apply, PickFrom, S, Set, Add, If, Task, Wait, Group, Body, End, Next, body_of}
+use Rattle.ot_model.specs.Tree.{E, Literal, CellAt, Apply, PickFrom, S, Set, Fold, If, Task, Wait, Group, Body, End, Next, body_of}
 use Rattle.ot_model.specs.declared.expr.Cell.{Cell}
 use Rattle.ot_model.specs.declared.expr.Section.{Section}
 use Rattle.ot_model.specs.declared.expr.Op.{Op}
 use Rattle.ot_model.specs.declared.expr.Op.TheVariants.{Plus, Minus, Times, And, Or, Xor, Less, Equal, Min, Max}
+use Rattle.ot_model.specs.declared.fold.Fold.{Fold as Operation}
+use Rattle.ot_model.specs.declared.fold.Fold.TheVariants as by
 use Rattle.ot_model.specs.declared.stmt.Mode.{Mode}
-use Rattle.ot_model.specs.declared.stmt.Mode.TheVariants.{Reads, Writes, Adds}
+use Rattle.ot_model.specs.declared.stmt.Mode.TheVariants.{Reads, Writes, Folds}
 use Rattle.ot_model.specs.declared.stmt.Use.{Use}
 use Rattle.ot_program.specs.Copies.{copies, statements_of}
 use Rattle.ot_program.specs.Declarations.{uses}
 use Rattle.ot_program.specs.Meanings.{Bindings, position_of, Clause}
+use Rattle.ot_program.specs.declared.profile.Profile.{Profile}
+use Rattle.ot_program.specs.declared.profile.Profile.TheVariants.{One, Two}
 
 abbrev pub one : Data → Items
 one a = item a no_items
@@ -41,10 +45,14 @@ word Equal = codes "="
 word Min = codes "min"
 word Max = codes "max"
 
-abbrev pub mode_word : Mode → List ℕ
-mode_word Reads = codes "in"
-mode_word Writes = codes "out"
-mode_word Adds = codes "red"
+abbrev pub fold_word : Operation → List ℕ
+fold_word by.Plus = codes "+"
+fold_word by.Times = codes "*"
+fold_word by.And = codes "&"
+fold_word by.Or = codes "|"
+fold_word by.Xor = codes "^"
+fold_word by.Min = codes "min"
+fold_word by.Max = codes "max"
 
 abbrev pub name_at : Arrays → ℕ → Data
 name_at shape i = string (unwrap_or (option_map (λ a. a.0) (slice_get shape.arrays i)) [])
@@ -68,24 +76,37 @@ abbrev pub cells_text : Arrays → List Cell → Items
 cells_text shape [] = no_items
 cells_text shape (c ∷ cs) = item (section_text shape (alone c)) (cells_text shape cs)
 
-abbrev pub uses_text : Arrays → List Use → Items
-uses_text shape [] = no_items
-uses_text shape (u ∷ us) = item (array (two (string (mode_word u.mode)) (section_text shape (alone u.cell)))) (uses_text shape us)
+-- a clause of one section, its text given
+abbrev pub clause_text : Profile → Mode → Data → Data
+clause_text profile Reads s = array (two (string (codes "in")) s)
+clause_text profile Writes s = array (two (string (codes "out")) s)
+clause_text One (Folds op) s = array (two (string (codes "red")) s)
+clause_text Two (Folds op) s = array (three (string (codes "red")) (string (fold_word op)) s)
+
+abbrev pub uses_text : Arrays → Profile → List Use → Items
+uses_text shape profile [] = no_items
+uses_text shape profile (u ∷ us) = item (clause_text profile u.mode (section_text shape (alone u.cell))) (uses_text shape profile us)
 
 abbrev mutual
-  pub statement_text : Arrays → S → Data
-  statement_text shape (Set c e) = array (three (string (codes "set")) (cell_text shape c) (value_text shape e))
-  statement_text shape (Add c e) = array (three (string (codes "add")) (cell_text shape c) (value_text shape e))
-  statement_text shape (If e a b) = array (four (string (codes "if")) (value_text shape e) (array (body_text shape a)) (array (body_text shape b)))
-  statement_text shape (Task us b) = array (three (string (codes "task")) (array (uses_text shape us)) (array (body_text shape b)))
-  statement_text shape Wait = array (one (string (codes "wait")))
-  statement_text shape (Group cs b) = array (three (string (codes "group")) (array (cells_text shape cs)) (array (body_text shape b)))
+  pub statement_text : Arrays → Profile → S → Data
+  statement_text shape profile (Set c e) = array (three (string (codes "set")) (cell_text shape c) (value_text shape e))
+  statement_text shape One (Fold op c e) = array (three (string (codes "add")) (cell_text shape c) (value_text shape e))
+  statement_text shape Two (Fold op c e) = array (four (string (codes "fold")) (string (fold_word op)) (cell_text shape c) (value_text shape e))
+  statement_text shape profile (If e a b) =
+      array (four (string (codes "if")) (value_text shape e) (array (body_text shape profile a)) (array (body_text shape profile b)))
+  statement_text shape profile (Task us b) =
+      array (three (string (codes "task")) (array (uses_text shape profile us)) (array (body_text shape profile b)))
+  statement_text shape profile Wait = array (one (string (codes "wait")))
+  statement_text shape One (Group op cs b) =
+      array (three (string (codes "group")) (array (cells_text shape cs)) (array (body_text shape One b)))
+  statement_text shape Two (Group op cs b) =
+      array (four (string (codes "group")) (string (fold_word op)) (array (cells_text shape cs)) (array (body_text shape Two b)))
 
-  pub body_text : Arrays → Body → Items
-  body_text shape End = no_items
-  body_text shape (Next s rest) = item (statement_text shape s) (body_text shape rest)
+  pub body_text : Arrays → Profile → Body → Items
+  body_text shape profile End = no_items
+  body_text shape profile (Next s rest) = item (statement_text shape profile s) (body_text shape profile rest)
 
--- ---- what can be printed: arrays that are found by their names, and numbers of 64 bits
+-- ---- what can be printed: arrays that are found by their names, numbers of 64 bits, and in profile 1 folds by `+` alone
 
 abbrev pub IsFound : Arrays → ℕ → Type 0
 IsFound shape i = position_of shape (name_at shape i) ≡ i
@@ -106,24 +127,37 @@ AreCells shape (c ∷ cs) = IsCell shape c × AreCells shape cs
 abbrev pub as_clause : Use → Clause
 as_clause u = record { mode = u.mode; section = alone u.cell }
 
+abbrev pub IsFoldOf : Profile → Operation → Type 0
+IsFoldOf One op = op ≡ by.Plus
+IsFoldOf Two op = Unit {0}
+
+abbrev pub IsModeOf : Profile → Mode → Type 0
+IsModeOf profile Reads = Unit {0}
+IsModeOf profile Writes = Unit {0}
+IsModeOf profile (Folds op) = IsFoldOf profile op
+
+abbrev pub AreUsesOf : Arrays → Profile → List Use → Type 0
+AreUsesOf shape profile [] = Unit {0}
+AreUsesOf shape profile (u ∷ us) = IsCell shape u.cell × IsModeOf profile u.mode × AreUsesOf shape profile us
+
 -- the uses are in order, each cell once: so a clause for each declares them
-abbrev pub AreUses : Arrays → List Use → Type 0
-AreUses shape us = AreCells shape (map (λ u. u.cell) us) × (uses (map as_clause us) ≡ us)
+abbrev pub AreUses : Arrays → Profile → List Use → Type 0
+AreUses shape profile us = AreUsesOf shape profile us × (uses (map as_clause us) ≡ us)
 
 abbrev mutual
-  pub IsStatement : Arrays → S → Type 0
-  IsStatement shape (Set c e) = IsCell shape c × IsValue shape e
-  IsStatement shape (Add c e) = IsCell shape c × IsValue shape e
-  IsStatement shape (If e a b) = IsValue shape e × IsBody shape a × IsBody shape b
-  IsStatement shape (Task us b) = AreUses shape us × IsBody shape b
-  IsStatement shape Wait = Unit {0}
-  IsStatement shape (Group cs b) = AreCells shape cs × IsBody shape b
+  pub IsStatement : Arrays → Profile → S → Type 0
+  IsStatement shape profile (Set c e) = IsCell shape c × IsValue shape e
+  IsStatement shape profile (Fold op c e) = IsFoldOf profile op × IsCell shape c × IsValue shape e
+  IsStatement shape profile (If e a b) = IsValue shape e × IsBody shape profile a × IsBody shape profile b
+  IsStatement shape profile (Task us b) = AreUses shape profile us × IsBody shape profile b
+  IsStatement shape profile Wait = Unit {0}
+  IsStatement shape profile (Group op cs b) = IsFoldOf profile op × AreCells shape cs × IsBody shape profile b
 
-  pub IsBody : Arrays → Body → Type 0
-  IsBody shape End = Unit {0}
-  IsBody shape (Next s rest) = IsStatement shape s × IsBody shape rest
+  pub IsBody : Arrays → Profile → Body → Type 0
+  IsBody shape profile End = Unit {0}
+  IsBody shape profile (Next s rest) = IsStatement shape profile s × IsBody shape profile rest
 
 abbrev pub PrintedReadsAsItself : Type 0
 PrintedReadsAsItself =
-    (shape : Arrays) (level : ℕ) (variables : Bindings) (b : Body) → IsBody shape b
-    → body_of (statements_of shape (copies level (array (body_text shape b)) variables)) ≡ b
+    (shape : Arrays) (profile : Profile) (level : ℕ) (variables : Bindings) (b : Body) → IsBody shape profile b
+    → body_of (statements_of shape (copies profile level (array (body_text shape profile b)) variables)) ≡ b

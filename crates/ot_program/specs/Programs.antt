@@ -1,6 +1,6 @@
 -- What a text is as a program over a shape: its expansion, or the fault that is told (docs/LANGUAGE.md, "Refusals",
 -- which fault is told).
-use Rattle.std.specs.Prelude.{List, [], ◌∷◌, ◌++◌, map, fold, Option, Some, None, Result, Ok, Err, if◌then◌else◌, codes}
+use Rattle.std.specs.Prelude.{List, [], ◌∷◌, ◌++◌, map, fold, Option, Some, None, Result, Ok, Err}
 use Rattle.std.specs.Option.{option_or}
 use Rattle.serde_json.specs.Data.{Data, array, no_items, item}
 use Rattle.ot_model.specs.Counts.{size, tasks_in}
@@ -12,10 +12,11 @@ use Rattle.ot_program.specs.Copies.{ProgramText, Placed, Copy, Done, at, copies,
 use Rattle.ot_program.specs.Faults.{own_faults, past_limits}
 use Rattle.ot_program.specs.Limits.{total}
 use Rattle.ot_program.specs.Meanings.{items, section}
-use Rattle.ot_program.specs.Names.{is_word}
+use Rattle.ot_program.specs.Profiles.{profile_of}
 use Rattle.ot_program.specs.Refusals.{least}
 use Rattle.ot_program.specs.declared.fault.Refusal.{Refusal}
 use Rattle.ot_program.specs.declared.fault.Refusal.TheVariants.{Form}
+use Rattle.ot_program.specs.declared.profile.Profile.{Profile}
 
 -- ---- what is told
 
@@ -45,13 +46,16 @@ abbrev pub expansion : List Section → List S → Expanded
 expansion shows ss = record { shows = shows; body = body_of ss; statements = size (body_of ss); tasks = tasks_in (body_of ss) }
 
 -- The program with its shows is a statement before all others. Its body is one deeper, as every body is.
-abbrev pub program_copy : Data → Data → Copy
-program_copy shows body = at 0 [] (ProgramText shows body) (copies 1 body []) Done
+abbrev pub program_copy : Profile → Data → Data → Copy
+program_copy profile shows body = at 0 [] (ProgramText shows body) (copies profile 1 body []) Done
 
--- `["program", [section, ..], body]`
+abbrev pub program_in : Arrays → Option Profile → Data → Data → Result Expanded Refusal
+program_in shape None shows body = Err Form
+program_in shape (Some profile) shows body =
+    told_or (expansion (map (section shape []) (items shows)) (statement_of shape (program_copy profile shows body)))
+    (told shape [] (in_copy (program_copy profile shows body)))
+
+-- `["program", [section, ..], body]` and `["program2", [section, ..], body]`
 abbrev pub program_of : Arrays → Data → Result Expanded Refusal
-program_of shape (array (item t (item a (item b no_items)))) =
-    if is_word t (codes "program")
-    then told_or (expansion (map (section shape []) (items a)) (statement_of shape (program_copy a b))) (told shape [] (in_copy (program_copy a b)))
-    else Err Form
+program_of shape (array (item t (item a (item b no_items)))) = program_in shape (profile_of t) a b
 program_of shape _ = Err Form

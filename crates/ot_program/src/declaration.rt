@@ -1,18 +1,19 @@
-ghost use Rattle.std.specs.Prelude.{◌≡◌, ◌++◌, All, OnOk, IfOk, flat_map};
-ghost use Rattle.ot_model.specs.Uses.{AreInOrder};
+ghost use Rattle.std.specs.Prelude.{◌≡◌, ◌++◌, All, OnOk, IfOk, Some, None, if◌then◌else◌, flat_map};
+ghost use Rattle.ot_model.specs.Uses.{AreInOrder, same_fold};
 ghost use Rattle.ot_model.specs.Value.{cells_of};
+ghost use Rattle.ot_model.specs.declared.stmt.Mode.TheVariants.{Folds};
 ghost use Rattle.ot_program.specs.Returned.{Gives};
 ghost use Rattle.ot_program.specs.walk.Namings.{fits, together, with_mode, name_cell, name_clause};
 ghost use Rattle.ot_program.specs.walk.Clauses.{uses_of, declaration};
 
 use crate::clause::Clause;
 use crate::fault::{ProgramFault, Refusal};
-use ot_model::{Cell, Decl, Mode, Section, Use};
+use ot_model::{Cell, Decl, Fold, Mode, Section, Use};
 use std::alloc::{AllocError, Global};
 use std::collections::BTreeMap;
 
 // Cells by array and then by index, each with its mode, or with none where one clause that names it
-// is `red` and another isn't.
+// is `red` and another isn't, or is `red` with another operation.
 type Named = BTreeMap<(u32, u32), Option<Mode>>;
 
 /// The declaration of a task with these clauses.
@@ -67,10 +68,21 @@ fn together(earlier: Option<Mode>, mode: Mode) -> Option<Mode>
     ensures { result ≡ together earlier mode }
 {
     match (earlier?, mode) {
-        (Mode::Adds, Mode::Adds) => Some(Mode::Adds),
-        (Mode::Adds, _) | (_, Mode::Adds) => None,
+        (Mode::Folds(one), Mode::Folds(two)) => one_fold(one, two),
+        (Mode::Folds(_), _) | (_, Mode::Folds(_)) => None,
         (Mode::Reads, Mode::Reads) => Some(Mode::Reads),
         (_, _) => Some(Mode::Writes),
+    }
+}
+
+// One fold for two.
+fn one_fold(one: Fold, two: Fold) -> Option<Mode>
+    ensures { result ≡ if same_fold one two then Some (Folds one) else None }
+{
+    if one == two {
+        Some(Mode::Folds(one))
+    } else {
+        None
     }
 }
 

@@ -17,7 +17,7 @@ pub enum Refusal {
     TooLarge,
     /// A task statement is one more than the limit.
     TooManyTasks,
-    /// A cell is declared under `red` and in another way.
+    /// A cell is declared under `red` and in another way, or under `red` with two operations.
     MixedReduction,
 }
 

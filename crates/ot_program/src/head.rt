@@ -49,7 +49,7 @@ fn check_level(level: u32) -> Result<(), Refusal>
     }
 }
 
-/// Of `set` and `add`: the cell, and the value.
+/// Of `set` and of a fold: the cell, and the value.
 pub(crate) fn read_target(
     alloc: Global,
     scope: &Scope,
@@ -97,7 +97,8 @@ pub(crate) fn read_declared(
     counts: &mut Counts,
 ) -> Result<Decl, ProgramFault>
     ensures reads { Gives (λ d. (d, counts.new)) result
-        (declared_of scope.now.shape.now (bindings_of scope.now.variables.now) scope.now.level
+        (declared_of scope.now.shape.now scope.now.profile
+        (bindings_of scope.now.variables.now) scope.now.level
         (view clauses.now) (view body.now) counts.old) }
     ensures shallow { OnOk result (scope.now.level < max_nesting) }
 {

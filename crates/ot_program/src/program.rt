@@ -5,13 +5,13 @@ ghost use Rattle.ot_model.specs.Shapes.{array_lengths};
 ghost use Rattle.ot_model.specs.Programs.{expanded_of, IsNamedIn};
 ghost use Rattle.ot_program.specs.Returned.{Gives};
 ghost use Rattle.ot_program.specs.Programs.{program_of};
-ghost use Rattle.ot_program.specs.walk.Programs.{walk_of, program_at};
+ghost use Rattle.ot_program.specs.walk.Programs.{walk_of, walk_in, program_at};
 
 use crate::both::join;
 use crate::counts::{Counts, cells};
 use crate::fault::{ProgramFault, Refusal};
 use crate::head::read_list;
-use crate::name::is_word;
+use crate::profile::{Profile, read_profile};
 use crate::scope::{Scope, Variables};
 use crate::section::read_sections;
 use crate::statement::read_body;
@@ -35,7 +35,7 @@ pub fn read_program(alloc: Global, text: &Value, shape: &Shape) -> Result<Progra
     }
 }
 
-#[tactic(auto, using(crate::proofs::ProgramForms::no_program_but_three))]
+#[tactic(auto, using(crate::proofs::ProgramForms::program_forms))]
 fn program_form(alloc: Global, shape: &Shape, items: &[Value]) -> Result<Program, ProgramFault>
     ensures { Gives expanded_of result (walk_of shape.now (array (items_view items.now))) }
 {
@@ -43,22 +43,41 @@ fn program_form(alloc: Global, shape: &Shape, items: &[Value]) -> Result<Program
         return Err(ProgramFault::Refused(Refusal::Form));
     }
     match items {
-        [tag, shows, body] if is_word(tag, "program") => program_at(alloc, shape, shows, body),
-        [_, _, _] => Err(ProgramFault::Refused(Refusal::Form)),
+        [tag, shows, body] => program_in(alloc, shape, read_profile(tag), shows, body),
         _ => unreachable!(),
+    }
+}
+
+// No profile is that of a first word that names none.
+fn program_in(
+    alloc: Global,
+    shape: &Shape,
+    profile: Option<Profile>,
+    shows: &Value,
+    body: &Value,
+) -> Result<Program, ProgramFault>
+    ensures { Gives expanded_of result (walk_in shape.now profile (view shows.now)
+        (view body.now)) }
+{
+    match profile {
+        Some(profile) => program_at(alloc, shape, profile, shows, body),
+        None => Err(ProgramFault::Refused(Refusal::Form)),
     }
 }
 
 fn program_at(
     alloc: Global,
     shape: &Shape,
+    profile: Profile,
     shows: &Value,
     body: &Value,
 ) -> Result<Program, ProgramFault>
-    ensures { Gives expanded_of result (program_at shape.now (view shows.now) (view body.now)) }
+    ensures { Gives expanded_of result (program_at shape.now profile (view shows.now)
+        (view body.now)) }
 {
     let scope = Scope {
         shape,
+        profile,
         variables: &Variables::None,
         level: 1,
     };

@@ -3,6 +3,7 @@ ghost use Rattle.ot_program.specs.walk.Variables.{bindings_of, variable_of};
 
 use crate::fault::Refusal;
 use crate::name::is_name;
+use crate::profile::Profile;
 use ot_model::Shape;
 
 /// A variable of a `for`, and its number in this turn.
@@ -43,11 +44,12 @@ fn bound(variables: &Variables, name: &str) -> Option<u32>
     }
 }
 
-/// Where statements stand: the arrays that they may name, the variables around them, and the level
-/// of their body, the program's own being at 1.
+/// Where statements stand: the arrays that they may name, the profile of their forms, the variables
+/// around them, and the level of their body, the program's own being at 1.
 #[derive(Clone, Copy)]
 pub(crate) struct Scope<'a> {
     pub(crate) shape: &'a Shape,
+    pub(crate) profile: Profile,
     pub(crate) variables: &'a Variables<'a>,
     pub(crate) level: u32,
 }

@@ -1,11 +1,12 @@
 ghost use Rattle.std.specs.Prelude.{◌≡◌, ◌+◌, ◌-◌, ◌<◌, ◌∷◌, length, map};
 ghost use Rattle.serde_json.specs.Data.{array};
 ghost use Rattle.serde_json.specs.View.{view, items_view};
-ghost use Rattle.ot_model.specs.Tree.{Task, Group};
+ghost use Rattle.ot_model.specs.Tree.{Task};
 ghost use Rattle.ot_model.specs.View.{stmt_of};
 ghost use Rattle.ot_program.specs.Limits.{max_nesting};
+ghost use Rattle.ot_program.specs.Meanings.{fold_of};
 ghost use Rattle.ot_program.specs.walk.Variables.{bindings_of};
-ghost use Rattle.ot_program.specs.walk.Statements.{body_in, all_in, one_in, set_in, add_in, wait_form, with_body, declared_of, grouped_of, turn, turns};
+ghost use Rattle.ot_program.specs.walk.Statements.{body_in, all_in, one_in, by_operation, set_in, fold_in, wait_form, with_body, group_in, declared_of, turn, turns};
 ghost use Rattle.ot_program.specs.Returned.{Gives};
 ghost use Rattle.ot_program.specs.walk.Returned.{Adds};
 
@@ -13,8 +14,9 @@ use crate::counts::Counts;
 use crate::fault::{ProgramFault, Refusal};
 use crate::head::{Turns, read_condition, read_declared, read_grouped, read_target, read_turns};
 use crate::name::is_word;
+use crate::operation::read_operation;
 use crate::scope::{Scope, Variable, Variables};
-use ot_model::Stmt;
+use ot_model::{Fold, Stmt};
 use serde_json::Value;
 use std::alloc::Global;
 
@@ -29,7 +31,7 @@ pub(crate) fn read_body(
     out: &mut Vec<Stmt>,
 ) -> Result<(), ProgramFault>
     ensures { Adds (map stmt_of out.old.items) (map stmt_of out.new.items) counts.new result
-        (body_in scope.now.shape.now scope.now.level (view body.now)
+        (body_in scope.now.shape.now scope.now.profile scope.now.level (view body.now)
         (bindings_of scope.now.variables.now) counts.old) }
 {
     match body {
@@ -48,7 +50,7 @@ fn read_all(
     out: &mut Vec<Stmt>,
 ) -> Result<(), ProgramFault>
     ensures { Adds (map stmt_of out.old.items) (map stmt_of out.new.items) counts.new result
-        (all_in scope.now.shape.now scope.now.level (items_view items.now)
+        (all_in scope.now.shape.now scope.now.profile scope.now.level (items_view items.now)
         (bindings_of scope.now.variables.now) counts.old) }
 {
     for statement in items {
@@ -69,7 +71,7 @@ fn read_one(
     out: &mut Vec<Stmt>,
 ) -> Result<(), ProgramFault>
     ensures { Adds (map stmt_of out.old.items) (map stmt_of out.new.items) counts.new result
-        (one_in scope.now.shape.now scope.now.level (view statement.now)
+        (one_in scope.now.shape.now scope.now.profile scope.now.level (view statement.now)
         (bindings_of scope.now.variables.now) counts.old) }
 {
     match statement {
@@ -89,7 +91,7 @@ fn read_form(
     out: &mut Vec<Stmt>,
 ) -> Result<(), ProgramFault>
     ensures { Adds (map stmt_of out.old.items) (map stmt_of out.new.items) counts.new result
-        (one_in scope.now.shape.now scope.now.level (array (items_view items.now))
+        (one_in scope.now.shape.now scope.now.profile scope.now.level (array (items_view items.now))
         (bindings_of scope.now.variables.now) counts.old) }
 {
     if let [tag] = items {
@@ -120,7 +122,7 @@ fn read_wait(tag: &Value, counts: &mut Counts, out: &mut Vec<Stmt>) -> Result<()
     Ok(())
 }
 
-// `["set", cell, value]`, `["add", cell, value]`, `["task", [clause, ..], body]`,
+// `["set", cell, value]`, `["add", cell, value]`, `["task", [clause, ..], body]`, and in profile 1
 // `["group", [section, ..], body]`
 #[cycle(statements)]
 #[tactic(auto, using(crate::proofs::StatementForms::forms_of_three))]
@@ -133,7 +135,7 @@ fn read_three(
 ) -> Result<(), ProgramFault>
     requires { length items.now ≡ 3 }
     ensures { Adds (map stmt_of out.old.items) (map stmt_of out.new.items) counts.new result
-        (one_in scope.now.shape.now scope.now.level (array (items_view items.now))
+        (one_in scope.now.shape.now scope.now.profile scope.now.level (array (items_view items.now))
         (bindings_of scope.now.variables.now) counts.old) }
 {
     let [tag, one, two] = items else {
@@ -143,13 +145,13 @@ fn read_three(
         return read_set(alloc, scope, one, two, counts, out);
     }
     if is_word(tag, "add") {
-        return read_add(alloc, scope, one, two, counts, out);
+        return read_fold(alloc, scope, one, two, Fold::Plus, counts, out);
     }
     if is_word(tag, "task") {
         return read_task(alloc, scope, two, one, counts, out);
     }
-    if is_word(tag, "group") {
-        return read_group(alloc, scope, two, one, counts, out);
+    if scope.profile.one_has(tag, "group") {
+        return read_group(alloc, scope, two, one, Fold::Plus, counts, out);
     }
     Err(ProgramFault::Refused(Refusal::Form))
 }
@@ -171,20 +173,21 @@ fn read_set(
     Ok(())
 }
 
-fn read_add(
+fn read_fold(
     alloc: Global,
     scope: &Scope,
     cell: &Value,
     value: &Value,
+    op: Fold,
     counts: &mut Counts,
     out: &mut Vec<Stmt>,
 ) -> Result<(), ProgramFault>
     ensures { Adds (map stmt_of out.old.items) (map stmt_of out.new.items) counts.new result
-        (add_in scope.now.shape.now (bindings_of scope.now.variables.now) (view cell.now)
-        (view value.now) counts.old) }
+        (fold_in scope.now.shape.now (bindings_of scope.now.variables.now) (view cell.now)
+        (view value.now) op counts.old) }
 {
     let (cell, value) = read_target(alloc, scope, cell, value, counts)?;
-    out.push(Stmt::Add(cell, value))?;
+    out.push(Stmt::Fold(op, cell, value))?;
     Ok(())
 }
 
@@ -198,9 +201,9 @@ fn read_task(
     out: &mut Vec<Stmt>,
 ) -> Result<(), ProgramFault>
     ensures { Adds (map stmt_of out.old.items) (map stmt_of out.new.items) counts.new result
-        (with_body Task (declared_of scope.now.shape.now (bindings_of scope.now.variables.now)
+        (with_body Task (declared_of scope.now.shape.now scope.now.profile (bindings_of scope.now.variables.now)
         scope.now.level (view clauses.now) (view body.now))
-        (body_in scope.now.shape.now (scope.now.level + 1) (view body.now)
+        (body_in scope.now.shape.now scope.now.profile (scope.now.level + 1) (view body.now)
         (bindings_of scope.now.variables.now)) counts.old) }
 {
     let decl = read_declared(alloc, scope, clauses, body, counts)?;
@@ -215,22 +218,24 @@ fn read_group(
     scope: &Scope,
     body: &Value,
     sections: &Value,
+    op: Fold,
     counts: &mut Counts,
     out: &mut Vec<Stmt>,
 ) -> Result<(), ProgramFault>
     ensures { Adds (map stmt_of out.old.items) (map stmt_of out.new.items) counts.new result
-        (with_body Group (grouped_of scope.now.shape.now (bindings_of scope.now.variables.now)
-        scope.now.level (view sections.now) (view body.now))
-        (body_in scope.now.shape.now (scope.now.level + 1) (view body.now)
-        (bindings_of scope.now.variables.now)) counts.old) }
+        (group_in scope.now.shape.now (bindings_of scope.now.variables.now) scope.now.level
+        (view sections.now) (view body.now)
+        (body_in scope.now.shape.now scope.now.profile (scope.now.level + 1) (view body.now)
+        (bindings_of scope.now.variables.now)) op counts.old) }
 {
     let cells = read_grouped(alloc, scope, sections, body, counts)?;
     let inside = read_inner(alloc, scope, body, counts)?;
-    out.push(Stmt::Group(cells, inside))?;
+    out.push(Stmt::Group(op, cells, inside))?;
     Ok(())
 }
 
-// `["if", value, body, body]`
+// `["if", value, body, body]`, and in profile 2 `["fold", op, cell, value]` and
+// `["group", op, [section, ..], body]`
 #[cycle(statements)]
 #[tactic(auto, using(crate::proofs::StatementForms::forms_of_four))]
 fn read_four(
@@ -242,20 +247,67 @@ fn read_four(
 ) -> Result<(), ProgramFault>
     requires { length items.now ≡ 4 }
     ensures { Adds (map stmt_of out.old.items) (map stmt_of out.new.items) counts.new result
-        (one_in scope.now.shape.now scope.now.level (array (items_view items.now))
+        (one_in scope.now.shape.now scope.now.profile scope.now.level (array (items_view items.now))
         (bindings_of scope.now.variables.now) counts.old) }
 {
-    let [tag, value, one, two] = items else {
+    let [tag, one, two, three] = items else {
         unreachable!()
     };
+    if scope.profile.two_has(tag, "fold") {
+        return fold_by(alloc, scope, two, three, one, counts, out);
+    }
+    if scope.profile.two_has(tag, "group") {
+        return group_by(alloc, scope, three, two, one, counts, out);
+    }
     if !is_word(tag, "if") {
         return Err(ProgramFault::Refused(Refusal::Form));
     }
-    let condition = read_condition(alloc, scope, value, one, two, counts)?;
-    let first = read_inner(alloc, scope, one, counts)?;
-    let second = read_inner(alloc, scope, two, counts)?;
+    let condition = read_condition(alloc, scope, one, two, three, counts)?;
+    let first = read_inner(alloc, scope, two, counts)?;
+    let second = read_inner(alloc, scope, three, counts)?;
     out.push(Stmt::If(condition, first, second))?;
     Ok(())
+}
+
+fn fold_by(
+    alloc: Global,
+    scope: &Scope,
+    cell: &Value,
+    value: &Value,
+    op: &Value,
+    counts: &mut Counts,
+    out: &mut Vec<Stmt>,
+) -> Result<(), ProgramFault>
+    ensures { Adds (map stmt_of out.old.items) (map stmt_of out.new.items) counts.new result
+        (by_operation (fold_of (view op.now)) (fold_in scope.now.shape.now
+        (bindings_of scope.now.variables.now) (view cell.now) (view value.now)) counts.old) }
+{
+    let Some(op) = read_operation(op) else {
+        return Err(ProgramFault::Refused(Refusal::Form));
+    };
+    read_fold(alloc, scope, cell, value, op, counts, out)
+}
+
+#[cycle(statements)]
+fn group_by(
+    alloc: Global,
+    scope: &Scope,
+    body: &Value,
+    sections: &Value,
+    op: &Value,
+    counts: &mut Counts,
+    out: &mut Vec<Stmt>,
+) -> Result<(), ProgramFault>
+    ensures { Adds (map stmt_of out.old.items) (map stmt_of out.new.items) counts.new result
+        (by_operation (fold_of (view op.now)) (group_in scope.now.shape.now
+        (bindings_of scope.now.variables.now) scope.now.level (view sections.now) (view body.now)
+        (body_in scope.now.shape.now scope.now.profile (scope.now.level + 1) (view body.now)
+        (bindings_of scope.now.variables.now))) counts.old) }
+{
+    let Some(op) = read_operation(op) else {
+        return Err(ProgramFault::Refused(Refusal::Form));
+    };
+    read_group(alloc, scope, body, sections, op, counts, out)
 }
 
 // `["for", variable, size, size, body]`
@@ -270,7 +322,7 @@ fn read_five(
 ) -> Result<(), ProgramFault>
     requires { length items.now ≡ 5 }
     ensures { Adds (map stmt_of out.old.items) (map stmt_of out.new.items) counts.new result
-        (one_in scope.now.shape.now scope.now.level (array (items_view items.now))
+        (one_in scope.now.shape.now scope.now.profile scope.now.level (array (items_view items.now))
         (bindings_of scope.now.variables.now) counts.old) }
 {
     let [tag, variable, first, behind, body] = items else {
@@ -296,7 +348,7 @@ fn take_turns(
 ) -> Result<(), ProgramFault>
     requires { scope.now.level < max_nesting }
     ensures { Adds (map stmt_of out.old.items) (map stmt_of out.new.items) counts.new result
-        (turns (λ number. body_in scope.now.shape.now (scope.now.level + 1) (view body.now)
+        (turns (λ number. body_in scope.now.shape.now scope.now.profile (scope.now.level + 1) (view body.now)
         ((range.entry.variable.now, number) ∷ bindings_of scope.now.variables.now))
         range.entry.first (range.entry.behind - range.entry.first) counts.old) }
 {
@@ -324,13 +376,14 @@ fn take_turn(
 ) -> Result<(), ProgramFault>
     requires { scope.now.level < max_nesting }
     ensures { Adds (map stmt_of out.old.items) (map stmt_of out.new.items) counts.new result
-        (turn (body_in scope.now.shape.now (scope.now.level + 1) (view body.now)
+        (turn (body_in scope.now.shape.now scope.now.profile (scope.now.level + 1) (view body.now)
         ((variable.entry.name.now, variable.entry.number) ∷ bindings_of scope.now.variables.now))
         counts.old) }
 {
     *counts = counts.turn()?;
     let inner = Scope {
         shape: scope.shape,
+        profile: scope.profile,
         variables: &Variables::Bound(variable, scope.variables),
         level: scope.level + 1,
     };
@@ -347,7 +400,7 @@ fn read_inner(
 ) -> Result<Vec<Stmt>, ProgramFault>
     requires { scope.now.level < max_nesting }
     ensures { Gives (λ v. (map stmt_of v.items, counts.new)) result
-        (body_in scope.now.shape.now (scope.now.level + 1) (view body.now)
+        (body_in scope.now.shape.now scope.now.profile (scope.now.level + 1) (view body.now)
         (bindings_of scope.now.variables.now) counts.old) }
 {
     let inner = Scope {

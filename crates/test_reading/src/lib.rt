@@ -20,26 +20,45 @@ pub fn one_array(alloc: Global, len: u32, tasks: u32) -> Result<Shape, AllocErro
     Ok(Shape::new(arrays, tasks))
 }
 
-/// Reads a program of these shows and this body, a comma between them.
-pub fn read(alloc: Global, text: &str, shape: &Shape) -> Result<Program, ProgramFault>
+/// The word that a program of this text begins with, and the rest of the text: `program2` where the text begins with
+/// this word and a space, else `program`.
+fn profile(text: &str) -> (&str, &str) {
+    match text.split_once("program2 ") {
+        Some((before, rest)) if before.is_empty() => ("program2", rest),
+        _ => ("program", text),
+    }
+}
+
+/// Reads a program that begins with this word, of these shows and this body, a comma between them.
+fn read_as(alloc: Global, word: &str, text: &str, shape: &Shape) -> Result<Program, ProgramFault>
     ensures { IfOk result (λ program. IsNamedIn (array_lengths shape.now) (expanded_of program)) }
 {
-    let text = format!(in alloc; "[\"program\",{text}]")?;
+    let text = format!(in alloc; "[\"{word}\",{text}]")?;
     match Value::from_str(alloc, text.as_str()) {
         Ok(value) => read_program(alloc, &value, shape),
         Err(_) => Err(ProgramFault::Memory),
     }
 }
 
-/// The job of a body over an array of at most 65,536 cells. What is refused, but for the reader's
-/// refusals, is told as want of memory.
+/// Reads a program of these shows and this body, a comma between them. One of `program2` has this word and a space
+/// before it.
+pub fn read(alloc: Global, text: &str, shape: &Shape) -> Result<Program, ProgramFault>
+    ensures { IfOk result (λ program. IsNamedIn (array_lengths shape.now) (expanded_of program)) }
+{
+    let (word, text) = profile(text);
+    read_as(alloc, word, text, shape)
+}
+
+/// The job of a body over an array of at most 65,536 cells. The body of a `program2` has this word and a space before
+/// it. What is refused, but for the reader's refusals, is told as want of memory.
 pub fn job_over(alloc: Global, array: Vec<u64>, body: &str) -> Result<JobSpec, ProgramFault> {
     if array.len() > 65536 {
         return Err(ProgramFault::Memory);
     }
     let shape = one_array(alloc, array.len() as u32, 1024)?;
+    let (word, body) = profile(body);
     let text = format!(in alloc; "[],{body}")?;
-    let program = read(alloc, text.as_str(), &shape)?;
+    let program = read_as(alloc, word, text.as_str(), &shape)?;
     let Ok(checked) = check(alloc, program, &shape) else {
         return Err(ProgramFault::Memory);
     };
@@ -47,7 +66,7 @@ pub fn job_over(alloc: Global, array: Vec<u64>, body: &str) -> Result<JobSpec, P
     Ok(JobSpec::new(checked, before))
 }
 
-/// The job of a body over this number, 2, 3.
+/// The job of a body over this number, 2, 3, as by `job_over`.
 pub fn job_of(alloc: Global, first: u64, body: &str) -> Result<JobSpec, ProgramFault> {
     let array = vec![in alloc; first, 2, 3]?;
     job_over(alloc, array, body)

@@ -1,15 +1,16 @@
 -- One naming of a cell after the other, as they are collected.
-use Rattle.std.specs.Prelude.{ℕ, ◌+◌, ◌^◌, ◌≤◌, List, Option, Some, None}
+use Rattle.std.specs.Prelude.{ℕ, ◌+◌, ◌^◌, ◌≤◌, if◌then◌else◌, List, Option, Some, None}
 use Rattle.std.specs.List.{fold}
 use Rattle.std.specs.Map.{lookup}
 use Rattle.std.specs.BTreeMap.{insert_entry, is_at}
 use Rattle.std.specs.Ordering.{nat_cmp, ordering_then}
 use Rattle.std.specs.declared.cmp.Ordering.{Ordering}
+use Rattle.ot_model.specs.Uses.{same_fold}
 use Rattle.ot_model.specs.Value.{cells_of}
 use Rattle.ot_model.specs.declared.expr.Cell.{Cell}
 use Rattle.ot_model.specs.declared.expr.Section.{Section}
 use Rattle.ot_model.specs.declared.stmt.Mode.{Mode}
-use Rattle.ot_model.specs.declared.stmt.Mode.TheVariants.{Reads, Writes, Adds}
+use Rattle.ot_model.specs.declared.stmt.Mode.TheVariants.{Reads, Writes, Folds}
 use Rattle.ot_program.specs.declared.clause.Clause.{Clause}
 
 -- its cells have indexes of 32 bits
@@ -20,16 +21,16 @@ abbrev pub cell_order : ℕ × ℕ → ℕ × ℕ → Ordering
 cell_order a b = ordering_then (nat_cmp a.0 b.0) (nat_cmp a.1 b.1)
 
 -- The cells that are named, by array and then by index, each with its mode, or with none where one
--- clause that names it is `red` and another isn't.
+-- clause that names it is `red` and another isn't, or is `red` with another operation.
 abbrev pub Named : Type 0
 Named = List ((ℕ × ℕ) × Option Mode)
 
 -- one mode for two: a cell is only read where it is named as read alone
 abbrev pub together : Option Mode → Mode → Option Mode
 together None mode = None
-together (Some Adds) Adds = Some Adds
-together (Some Adds) mode = None
-together (Some earlier) Adds = None
+together (Some (Folds a)) (Folds b) = if same_fold a b then Some (Folds a) else None
+together (Some (Folds a)) mode = None
+together (Some earlier) (Folds b) = None
 together (Some Reads) Reads = Some Reads
 together (Some earlier) mode = Some Writes
 

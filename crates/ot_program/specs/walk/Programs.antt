@@ -4,14 +4,15 @@ use Rattle.ot_model.specs.Shapes.{Arrays}
 use Rattle.ot_model.specs.Tree.{S, body_of}
 use Rattle.ot_model.specs.declared.expr.Section.{Section}
 use Rattle.ot_program.specs.Limits.{cells_in}
-use Rattle.ot_program.specs.Names.{is_word}
+use Rattle.ot_program.specs.Profiles.{profile_of}
 use Rattle.ot_program.specs.walk.Parts.{sections_of}
 use Rattle.ot_program.specs.walk.Reading.{◌>>=◌, both_of}
 use Rattle.ot_program.specs.declared.counts.Counts.{Counts}
 use Rattle.ot_program.specs.declared.fault.Refusal.TheVariants.{Form}
 use Rattle.ot_program.specs.declared.fault.Refusal.{Refusal}
+use Rattle.ot_program.specs.declared.profile.Profile.{Profile}
 use Rattle.serde_json.specs.Data.{Data, array, no_items, item}
-use Rattle.std.specs.Prelude.{ℕ, [], List, Result, Ok, Err, if◌then◌else◌, codes}
+use Rattle.std.specs.Prelude.{ℕ, [], List, Option, Some, None, Result, Ok, Err}
 use Rattle.ot_program.specs.walk.Counting.{counted, within_limits, no_counts}
 use Rattle.ot_program.specs.walk.Statements.{body_in, list_of}
 
@@ -31,15 +32,18 @@ expanded shows read =
 abbrev pub first_level : ℕ
 first_level = 1
 
-abbrev pub program_at : Arrays → Data → Data → Result Expanded Refusal
-program_at shape shows body = do
+abbrev pub program_at : Arrays → Profile → Data → Data → Result Expanded Refusal
+program_at shape profile shows body = do
   p ← shows_of shape shows body
-  read ← body_in shape first_level body [] p.1
+  read ← body_in shape profile first_level body [] p.1
   Ok (expanded p.0 read)
 
+abbrev pub walk_in : Arrays → Option Profile → Data → Data → Result Expanded Refusal
+walk_in shape None shows body = Err Form
+walk_in shape (Some profile) shows body = program_at shape profile shows body
+
 -- What a text is as a program over a shape: its expansion, or why it is refused. It has the form
--- `["program", [section, ..], body]`.
+-- `["program", [section, ..], body]` or `["program2", [section, ..], body]`.
 abbrev pub walk_of : Arrays → Data → Result Expanded Refusal
-walk_of shape (array (item t (item a (item b no_items)))) =
-    if is_word t (codes "program") then program_at shape a b else Err Form
+walk_of shape (array (item t (item a (item b no_items)))) = walk_in shape (profile_of t) a b
 walk_of shape _ = Err Form

@@ -2,7 +2,6 @@
 use Rattle.ot_model.specs.Tree.{S}
 use Rattle.ot_program.specs.Refusals.{least}
 use Rattle.ot_program.specs.declared.counts.Counts.{Counts}
-use Rattle.ot_program.specs.declared.fault.Refusal.{Refusal}
 use Rattle.std.specs.Prelude.{List, Result, Ok, Err, ◌++◌, ⊤, ◌≡◌}
 use Rattle.ot_program.specs.Returned.{Fails}
 use Rattle.ot_program.specs.walk.Statements.{Read, Range}

@@ -1,20 +1,24 @@
 -- Statements and bodies, in expanded order.
 use Rattle.ot_model.specs.Shapes.{Arrays}
-use Rattle.ot_model.specs.Tree.{E, S, Set, Add, If, Task, Wait, Group, body_of, Body}
+use Rattle.ot_model.specs.Tree.{E, S, Set, Fold, If, Task, Wait, Group, body_of, Body}
 use Rattle.ot_model.specs.declared.expr.Cell.{Cell}
+use Rattle.ot_model.specs.declared.fold.Fold.{Fold as Operation}
+use Rattle.ot_model.specs.declared.fold.Fold.TheVariants.{Plus}
 use Rattle.ot_model.specs.declared.stmt.Use.{Use}
 use Rattle.ot_model.specs.Value.{cells_of}
 use Rattle.ot_program.specs.Limits.{cells_in}
-use Rattle.ot_program.specs.Meanings.{Bindings}
+use Rattle.ot_program.specs.Meanings.{Bindings, fold_of}
 use Rattle.ot_program.specs.Names.{is_name, is_word}
+use Rattle.ot_program.specs.Profiles.{is_one, is_two}
 use Rattle.ot_program.specs.walk.Parts.{cell_of, sections_of}
 use Rattle.ot_program.specs.walk.Reading.{◌>>=◌, both_of}
 use Rattle.ot_program.specs.walk.Sizes.{size_of, shallow}
 use Rattle.ot_program.specs.declared.counts.Counts.{Counts}
 use Rattle.ot_program.specs.declared.fault.Refusal.TheVariants.{Form}
 use Rattle.ot_program.specs.declared.fault.Refusal.{Refusal}
+use Rattle.ot_program.specs.declared.profile.Profile.{Profile}
 use Rattle.serde_json.specs.Data.{Data, array, no_items, item, string, Items}
-use Rattle.std.specs.Prelude.{[], ℕ, List, ◌∷◌, Result, Ok, Err, if◌then◌else◌, suc, ◌+◌, codes, zero, ◌++◌, map, flat_map, ◌-◌, ⊤}
+use Rattle.std.specs.Prelude.{[], ℕ, List, ◌∷◌, Option, Some, None, Result, Ok, Err, ◌&&◌, if◌then◌else◌, suc, ◌+◌, codes, zero, ◌++◌, map, flat_map, ◌-◌, ⊤}
 use Rattle.ot_program.specs.walk.Counting.{counted, within_limits, with_expression, one_turn, one_task, deeper}
 use Rattle.ot_program.specs.walk.Values.{expression_of}
 use Rattle.ot_program.specs.walk.Clauses.{clauses_of, declaration}
@@ -45,7 +49,7 @@ list_of _ = Err Form
 
 -- ---- a statement's own parts, and then its counts
 
--- of `set` and `add`: the cell, and the value
+-- of `set` and of a fold: the cell, and the value
 abbrev pub target_of : Arrays → Bindings → Data → Data → Counts → Result ((Cell × E) × Counts) Refusal
 target_of shape variables cell value n = do
   p ← both_of (cell_of shape variables cell) (expression_of shape variables value)
@@ -61,9 +65,9 @@ condition_of shape variables level value one two n = do
   Ok (p.0, m)
 
 -- of `task`: what it declares
-abbrev pub declared_of : Arrays → Bindings → ℕ → Data → Data → Counts → Result (List Use × Counts) Refusal
-declared_of shape variables level clauses body n = do
-  p ← both_of (clauses_of shape variables clauses) (list_of body)
+abbrev pub declared_of : Arrays → Profile → Bindings → ℕ → Data → Data → Counts → Result (List Use × Counts) Refusal
+declared_of shape profile variables level clauses body n = do
+  p ← both_of (clauses_of shape profile variables clauses) (list_of body)
   fits ← deeper level
   m ← within_limits (counted n 1 0 (cells_in (map (λ c. c.section) p.0)))
   k ← one_task shape.tasks m
@@ -102,10 +106,15 @@ set_in shape variables cell value n = do
   p ← target_of shape variables cell value n
   Ok (Set p.0.0 p.0.1 ∷ [], p.1)
 
-abbrev pub add_in : Arrays → Bindings → Data → Data → Reader
-add_in shape variables cell value n = do
+-- a reader that wants an operation
+abbrev pub by_operation : Option Operation → (Operation → Reader) → Reader
+by_operation None reader = refused Form
+by_operation (Some op) reader = reader op
+
+abbrev pub fold_in : Arrays → Bindings → Data → Data → Operation → Reader
+fold_in shape variables cell value op n = do
   p ← target_of shape variables cell value n
-  Ok (Add p.0.0 p.0.1 ∷ [], p.1)
+  Ok (Fold op p.0.0 p.0.1 ∷ [], p.1)
 
 abbrev pub wait_in : Reader
 wait_in n = do
@@ -130,6 +139,10 @@ with_body statement own body n = do
   b ← body p.1
   Ok (statement p.0 (body_of b.0) ∷ [], b.1)
 
+abbrev pub group_in : Arrays → Bindings → ℕ → Data → Data → Reader → Operation → Reader
+group_in shape variables level sections body inside op =
+    with_body (Group op) (grouped_of shape variables level sections body) inside
+
 -- one turn of a `for`
 abbrev pub turn : Reader → Reader
 turn body n = do
@@ -150,31 +163,34 @@ for_in variables range body n = do
 
 unfoldable mutual
   -- `[statement, ..]`, a body at a level
-  pub body_in : Arrays → ℕ → Data → Bindings → Reader
-  body_in shape level (array ds) variables = all_in shape level ds variables
-  body_in shape level _ variables = refused Form
+  pub body_in : Arrays → Profile → ℕ → Data → Bindings → Reader
+  body_in shape profile level (array ds) variables = all_in shape profile level ds variables
+  body_in shape profile level _ variables = refused Form
 
-  pub all_in : Arrays → ℕ → Items → Bindings → Reader
-  all_in shape level no_items variables = λ n. Ok ([], n)
-  all_in shape level (item d ds) variables = one_then (one_in shape level d variables) (all_in shape level ds variables)
+  pub all_in : Arrays → Profile → ℕ → Items → Bindings → Reader
+  all_in shape profile level no_items variables = λ n. Ok ([], n)
+  all_in shape profile level (item d ds) variables = one_then (one_in shape profile level d variables) (all_in shape profile level ds variables)
 
   -- the forms of statements, by how many items they have
-  pub one_in : Arrays → ℕ → Data → Bindings → Reader
-  one_in shape level (array (item t no_items)) variables = wait_form t
-  one_in shape level (array (item t (item a (item b no_items)))) variables =
+  pub one_in : Arrays → Profile → ℕ → Data → Bindings → Reader
+  one_in shape profile level (array (item t no_items)) variables = wait_form t
+  one_in shape profile level (array (item t (item a (item b no_items)))) variables =
       if is_word t (codes "set") then set_in shape variables a b else
-      (if is_word t (codes "add") then add_in shape variables a b else
+      (if is_word t (codes "add") then fold_in shape variables a b Plus else
       (if is_word t (codes "task")
-      then with_body Task (declared_of shape variables level a b) (body_in shape (level + 1) b variables) else
-      (if is_word t (codes "group")
-      then with_body Group (grouped_of shape variables level a b) (body_in shape (level + 1) b variables) else
+      then with_body Task (declared_of shape profile variables level a b) (body_in shape profile (level + 1) b variables) else
+      (if is_one profile && is_word t (codes "group")
+      then group_in shape variables level a b (body_in shape profile (level + 1) b variables) Plus else
       refused Form)))
-  one_in shape level (array (item t (item a (item b (item c no_items))))) variables =
-      if is_word t (codes "if")
-      then if_in (condition_of shape variables level a b c) (body_in shape (level + 1) b variables) (body_in shape (level + 1) c variables)
-      else refused Form
-  one_in shape level (array (item t (item a (item b (item c (item d no_items)))))) variables =
+  one_in shape profile level (array (item t (item a (item b (item c no_items))))) variables =
+      if is_two profile && is_word t (codes "fold") then by_operation (fold_of a) (fold_in shape variables b c) else
+      (if is_two profile && is_word t (codes "group")
+      then by_operation (fold_of a) (group_in shape variables level b c (body_in shape profile (level + 1) c variables)) else
+      (if is_word t (codes "if")
+      then if_in (condition_of shape variables level a b c) (body_in shape profile (level + 1) b variables) (body_in shape profile (level + 1) c variables) else
+      refused Form))
+  one_in shape profile level (array (item t (item a (item b (item c (item d no_items)))))) variables =
       if is_word t (codes "for")
-      then for_in variables (range_of variables level a b c d) (body_in shape (level + 1) d)
+      then for_in variables (range_of variables level a b c d) (body_in shape profile (level + 1) d)
       else refused Form
-  one_in shape level _ variables = refused Form
+  one_in shape profile level _ variables = refused Form

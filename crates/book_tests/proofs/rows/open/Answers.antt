@@ -7,5 +7,5 @@ use Rattle.book_tests.proofs.rows.open.Goals as goal
 
 pub returns-clause-opened : goal.returns-clause-opened
 returns-clause-opened c =
-    let g : Summed = record { group = c.args.group; uses = c.in_ok-room.room; rows = replicate 17 None } in
-    (g, over-opened c.args.group c.args.index c.in_ok-room.room c.in_ok-room.ensures.names, c.open_group.ensures.groups ∙ ap (λ (o : Owned). o.groups ++ g ∷ []) c.in_ok-room.ensures.owned)
+    let g : Summed = record { group = c.args.group; op = c.args.op; uses = c.in_ok-room.room; rows = replicate 17 None } in
+    (g, over-opened c.args.group c.args.op c.args.index c.in_ok-room.room c.in_ok-room.ensures.names, c.open_group.ensures.groups ∙ ap (λ (o : Owned). o.groups ++ g ∷ []) c.in_ok-room.ensures.owned)

@@ -3,9 +3,9 @@ use Rattle.ot_model.specs.Tree.{If, Task, Group}
 use Rattle.ot_model.specs.View.{expr_of, stmt_of, stmts_of}
 use Rattle.ot_model.specs.Counts.{size, size_one}
 use Rattle.ot_check.specs.Paths.{PassesOne, Passes}
-use Rattle.ot_check.proofs.WalkLemmas.{if_ok, stmt_of-Set, stmt_of-Add, stmt_of-If, stmt_of-Task, stmt_of-Group, rest_is}
+use Rattle.ot_check.proofs.WalkLemmas.{if_ok, stmt_of-Set, stmt_of-Fold, stmt_of-If, stmt_of-Task, stmt_of-Group, rest_is}
 use Rattle.ot_explain.specs.Walk.{pending_of, Carries, Arrives, ArrivesOne}
-use Rattle.ot_explain.proofs.WalkLemmas.{if_err, carries-set, carries-add, carries-none, carries-first, carries-second, carries-task, carries-made, carries-group, carries-next, arrives-here, arrives-first, arrives-second, arrives-task, arrives-group, arrives-next, arrives-later}
+use Rattle.ot_explain.proofs.WalkLemmas.{if_err, carries-set, carries-fold, carries-none, carries-first, carries-second, carries-task, carries-made, carries-group, carries-next, arrives-here, arrives-first, arrives-second, arrives-task, arrives-group, arrives-next, arrives-later}
 use Rattle.ot_explain.proofs.walk.+walk.Goals as goal
 
 pub walk-returns-in-Err-clause-arrives : goal.walk-returns-in-Err-clause-arrives
@@ -50,16 +50,16 @@ walk-loop-stmt-preserved t c =
     )
 
 pub walk_group-returns-in-Ok-clause-carries : goal.walk_group-returns-in-Ok-clause-carries
-walk_group-returns-in-Ok-clause-carries t c = λ cells.
+walk_group-returns-in-Ok-clause-carries t c = λ op cells.
     let b = stmts_of c.args.body.now.items in
     elim c.kept.ensures [
-      | inl none ↦ subst (λ q. Carries (PassesOne c.args.place (Group cells b)) (pending_of c.args.child) q) (sym none) (carries-none c.args.place (Group cells b) (pending_of c.args.child))
-      | inr same ↦ subst (λ q. Carries (PassesOne c.args.place (Group cells b)) (pending_of c.args.child) q) (sym same.0) (carries-group c.args.place cells b (pending_of c.args.child) same.1)
+      | inl none ↦ subst (λ q. Carries (PassesOne c.args.place (Group op cells b)) (pending_of c.args.child) q) (sym none) (carries-none c.args.place (Group op cells b) (pending_of c.args.child))
+      | inr same ↦ subst (λ q. Carries (PassesOne c.args.place (Group op cells b)) (pending_of c.args.child) q) (sym same.0) (carries-group c.args.place op cells b (pending_of c.args.child) same.1)
     ]
 
 pub walk_group-returns-in-Err-clause-arrives : goal.walk_group-returns-in-Err-clause-arrives
-walk_group-returns-in-Err-clause-arrives t c = λ cells.
-    arrives-group c.args.place cells (stmts_of c.args.body.now.items) (pending_of c.args.child) c.args.search.now.place
+walk_group-returns-in-Err-clause-arrives t c = λ op cells.
+    arrives-group c.args.place op cells (stmts_of c.args.body.now.items) (pending_of c.args.child) c.args.search.now.place
     (stmt_of c.in-Err.arrived.stmt.now) (pending_of c.in-Err.arrived.child) c.in-Err.ensures.arrives
 
 pub walk_one-returns-then-place-search-clause-arrives : goal.walk_one-returns-then-place-search-clause-arrives
@@ -84,19 +84,19 @@ walk_one-returns-in-Wait-clause-carries t c = carries-none c.args.place (stmt_of
 pub walk_one-returns-in-Group-clause-carries : goal.walk_one-returns-in-Group-clause-carries
 walk_one-returns-in-Group-clause-carries t c =
     subst (λ x. IfOk c.walk_group.result (λ behind. Carries (PassesOne c.args.place x) (pending_of c.args.child) (pending_of behind.child)))
-    (sym (stmt_of-Group _ _ _ c.in-Group.is)) (c.walk_group.ensures.carries c.in-Group.field-0.items)
+    (sym (stmt_of-Group _ _ _ _ c.in-Group.is)) (c.walk_group.ensures.carries c.in-Group.field-0 c.in-Group.field-1.items)
 
 pub walk_one-returns-in-Group-clause-arrives : goal.walk_one-returns-in-Group-clause-arrives
 walk_one-returns-in-Group-clause-arrives t c =
     subst (λ x. IfErr c.walk_group.result (λ at. ArrivesOne c.args.place x (pending_of c.args.child) c.args.search.now.place (stmt_of at.stmt.now) (pending_of at.child)))
-    (sym (stmt_of-Group _ _ _ c.in-Group.is)) (c.walk_group.ensures.arrives c.in-Group.field-0.items)
+    (sym (stmt_of-Group _ _ _ _ c.in-Group.is)) (c.walk_group.ensures.arrives c.in-Group.field-0 c.in-Group.field-1.items)
 
 pub walk_one-returns-in-Set-clause-carries : goal.walk_one-returns-in-Set-clause-carries
 walk_one-returns-in-Set-clause-carries t c =
     let p = pending_of c.args.child in
     elim c.in-Set.is [
       | inl s ↦ subst (λ x. Carries (PassesOne c.args.place x) p p) (sym (stmt_of-Set _ _ _ s.2)) (carries-set c.args.place s.0 (expr_of s.1) p)
-      | inr s ↦ subst (λ x. Carries (PassesOne c.args.place x) p p) (sym (stmt_of-Add _ _ _ s.2)) (carries-add c.args.place s.0 (expr_of s.1) p)
+      | inr s ↦ subst (λ x. Carries (PassesOne c.args.place x) p p) (sym (stmt_of-Fold _ _ _ _ s.3)) (carries-fold c.args.place s.0 s.1 (expr_of s.2) p)
     ]
 
 pub walk_task-returns-in-Ok-clause-carries : goal.walk_task-returns-in-Ok-clause-carries

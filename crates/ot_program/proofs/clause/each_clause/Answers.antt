@@ -1,4 +1,3 @@
-use Rattle.std.proofs.Common.{subst}
 use Rattle.ot_program.specs.walk.Variables.{bindings_of}
 use Rattle.ot_program.specs.walk.Clauses.{clause_of}
 use Rattle.ot_program.proofs.Lists.{part_put}
@@ -7,5 +6,5 @@ use Rattle.ot_program.proofs.clause.each_clause.Goals as goal
 pub loop-item-preserved : goal.loop-item-preserved
 loop-item-preserved c =
     rw (c.in_ok-put.ensures, c.read_clause.ensures)
-    (part_put (clause_of c.args.scope.now.shape.now (bindings_of c.args.scope.now.variables.now)) _ c.args.items.now _ _ _
+    (part_put (clause_of c.args.scope.now.shape.now c.args.scope.now.profile (bindings_of c.args.scope.now.variables.now)) _ c.args.items.now _ _ _
     c.loop-item-test.true c.item-item.is c.loop-item.invariant)

@@ -9,5 +9,5 @@ use Rattle.ot_program.proofs.clause.each_clause.Given as goal
 -- what was read, with what is left, is all
 abbrev pub invariant-loop-item : goal.invariant-loop-item
 invariant-loop-item l =
-    then_more l.clauses (each_of (clause_of l.scope.shape.now (bindings_of l.scope.variables.now)) (items_view (drop l.item-index l.items)))
-    ≡ each_of (clause_of l.scope.shape.now (bindings_of l.scope.variables.now)) (items_view l.items)
+    then_more l.clauses (each_of (clause_of l.scope.shape.now l.scope.profile (bindings_of l.scope.variables.now)) (items_view (drop l.item-index l.items)))
+    ≡ each_of (clause_of l.scope.shape.now l.scope.profile (bindings_of l.scope.variables.now)) (items_view l.items)

@@ -12,7 +12,7 @@ pub declare-requires : goal.declare-requires
 declare-requires c =
     let scope = c.args.scope.now in
     rw c.deref-2.ensures.value
-    (read_clauses_fit scope.shape.now c.arrays-arrays.ensures.short (bindings_of scope.variables.now) (view c.args.clauses.now)
+    (read_clauses_fit scope.shape.now c.arrays-arrays.ensures.short scope.profile (bindings_of scope.variables.now) (view c.args.clauses.now)
     c.in_ok-clauses.clauses.items
     (join_reads (λ v. v.items) c.read_clauses.result c.map_err-list.result _ (c.in_ok-clauses.clauses, c.in_ok-clauses.field-0-1)
     c.in_ok-clauses.ensures c.read_clauses.ensures))
@@ -23,5 +23,5 @@ returns-in_err-clauses-clause-reads c =
     let p = err_from_is_err_and c.from_residual.result c.from_residual.ensures.1 in
     rw (p.1, p.2)
     (join_fails (λ v. v.items) (λ u. u) c.read_clauses.result c.map_err-list.result
-    (clauses_of scope.shape.now (bindings_of scope.variables.now) (view c.args.clauses.now)) (list_of (view c.args.body.now)) _ _
+    (clauses_of scope.shape.now scope.profile (bindings_of scope.variables.now) (view c.args.clauses.now)) (list_of (view c.args.body.now)) _ _
     (sym c.join.ensures ∙ c.in_err-clauses.was) c.read_clauses.ensures (search rules))

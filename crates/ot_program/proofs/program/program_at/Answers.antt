@@ -14,7 +14,7 @@ use Rattle.ot_program.proofs.program.program_at.Goals as goal
 
 pub invariant_of-result : goal.invariant_of-result
 invariant_of-result c =
-    let counts = program_counts c.args.shape.now (view c.args.body.now) _ _ _ _ _ _ c.none.ensures (ap (map stmt_of) c.new-statements.ensures.items)
+    let counts = program_counts c.args.shape.now c.args.profile (view c.args.body.now) _ _ _ _ _ _ c.none.ensures (ap (map stmt_of) c.new-statements.ensures.items)
     c.in_ok-counts.ensures c.in_ok-read_body.ensures in
     record { statements_are = counts.statements; tasks_are = counts.tasks; few = counts.few }
 
@@ -32,7 +32,7 @@ pub returns-in_err-counts : goal.returns-in_err-counts
 returns-in_err-counts c =
     let shape = c.args.shape.now in
     gives_refused expanded_of c.from_residual-in_err-counts.result c.in_err-counts.field-0.0 _ c.from_residual-in_err-counts.ensures.1
-    (program_fails_counts shape (view c.args.shows.now) (view c.args.body.now) c.in_ok-shows.shows.items _
+    (program_fails_counts shape c.args.profile (view c.args.shows.now) (view c.args.body.now) c.in_ok-shows.shows.items _
     (rw (← c.in_ok-shows.ensures) at (join_gives (λ v. v.items) (λ u. u) c.read_sections.result c.map_err-list.result
     (sections_of shape [] (view c.args.shows.now)) (list_of (view c.args.body.now)) c.read_sections.ensures (search rules)))
     (rw (c.none.ensures, c.cells.ensures, c.deref.ensures.value) at c.in_err-counts.ensures))
@@ -42,7 +42,7 @@ returns-in_err-read_body c =
     let shape = c.args.shape.now in
     let p = err_from_is_err_and c.from_residual-in_err-read_body.result c.from_residual-in_err-read_body.ensures.1 in
     rw (p.1, p.2)
-    (program_fails_body shape (view c.args.shows.now) (view c.args.body.now) c.in_ok-shows.shows.items c.in_ok-counts.counts _
+    (program_fails_body shape c.args.profile (view c.args.shows.now) (view c.args.body.now) c.in_ok-shows.shows.items c.in_ok-counts.counts _
     (rw (← c.in_ok-shows.ensures) at (join_gives (λ v. v.items) (λ u. u) c.read_sections.result c.map_err-list.result
     (sections_of shape [] (view c.args.shows.now)) (list_of (view c.args.body.now)) c.read_sections.ensures (search rules)))
     (rw (c.none.ensures, c.cells.ensures, c.deref.ensures.value) at c.in_ok-counts.ensures) c.in_err-read_body.ensures)
@@ -52,7 +52,7 @@ returns c =
     let shape = c.args.shape.now in
     let added = c.in_ok-read_body.ensures in
     let all = sym (added.list ∙ ap (λ (ys : List S). ys ++ added.added) (ap (map stmt_of) c.new-statements.ensures.items)) in
-    program_reads shape (view c.args.shows.now) (view c.args.body.now) c.in_ok-shows.shows.items c.in_ok-counts.counts _ _
+    program_reads shape c.args.profile (view c.args.shows.now) (view c.args.body.now) c.in_ok-shows.shows.items c.in_ok-counts.counts _ _
     (rw (← c.in_ok-shows.ensures) at (join_gives (λ v. v.items) (λ u. u) c.read_sections.result c.map_err-list.result
     (sections_of shape [] (view c.args.shows.now)) (list_of (view c.args.body.now)) c.read_sections.ensures (search rules)))
     (rw (c.none.ensures, c.cells.ensures, c.deref.ensures.value) at c.in_ok-counts.ensures) added.is

@@ -1,4 +1,3 @@
-use Rattle.std.proofs.Common.{subst}
 use Rattle.ot_program.specs.walk.Variables.{bindings_of}
 use Rattle.ot_program.specs.walk.Parts.{section_of}
 use Rattle.ot_program.proofs.Lists.{part_put}

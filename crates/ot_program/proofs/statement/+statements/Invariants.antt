@@ -10,14 +10,14 @@ use Rattle.ot_program.proofs.statement.+statements.Given as goal
 abbrev pub invariant-read_all-loop-statement : goal.invariant-read_all-loop-statement
 invariant-read_all-loop-statement l =
     Front (map stmt_of l.initial.out.items) (map stmt_of l.out.items)
-    (all_in l.scope.shape.now l.scope.level (items_view (drop l.statement-index l.items)) (bindings_of l.scope.variables.now) l.counts)
-    (all_in l.scope.shape.now l.scope.level (items_view l.items) (bindings_of l.scope.variables.now) l.initial.counts)
+    (all_in l.scope.shape.now l.scope.profile l.scope.level (items_view (drop l.statement-index l.items)) (bindings_of l.scope.variables.now) l.counts)
+    (all_in l.scope.shape.now l.scope.profile l.scope.level (items_view l.items) (bindings_of l.scope.variables.now) l.initial.counts)
 
 -- the turns so far were read
 abbrev pub invariant-take_turns-loop-number : goal.invariant-take_turns-loop-number
 invariant-take_turns-loop-number l =
     Front (map stmt_of l.initial.out.items) (map stmt_of l.out.items)
-    (turns (λ number. body_in l.scope.shape.now (l.scope.level + 1) (view l.body) ((l.range.variable.now, number) ∷ bindings_of l.scope.variables.now))
+    (turns (λ number. body_in l.scope.shape.now l.scope.profile (l.scope.level + 1) (view l.body) ((l.range.variable.now, number) ∷ bindings_of l.scope.variables.now))
     l.number (l.range.behind - l.number) l.counts)
-    (turns (λ number. body_in l.scope.shape.now (l.scope.level + 1) (view l.body) ((l.range.variable.now, number) ∷ bindings_of l.scope.variables.now))
+    (turns (λ number. body_in l.scope.shape.now l.scope.profile (l.scope.level + 1) (view l.body) ((l.range.variable.now, number) ∷ bindings_of l.scope.variables.now))
     l.range.first (l.range.behind - l.range.first) l.initial.counts)

@@ -1,4 +1,4 @@
-use Rattle.std.proofs.Common.{rules, sym}
+use Rattle.std.proofs.Common.{rules}
 use Rattle.ot_model.specs.View.{expr_of}
 use Rattle.ot_program.specs.walk.Variables.{bindings_of}
 use Rattle.ot_program.proofs.Joins.{gives_refused}

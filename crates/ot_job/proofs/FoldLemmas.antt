@@ -1,0 +1,137 @@
+-- Modes that fold, and what a declaration lets a body fold.
+use Rattle.std.proofs.Common.{◌≡◌, Bool, true, false, not, ◌&&◌, ◌||◌, List, [], ◌∷◌, refl, sym, ap, subst, ◌∙◌, inl, inr, true≢false}
+use Rattle.std.specs.Prelude.{Some, None}
+use Rattle.std.specs.List.{list_any}
+use Rattle.ot_model.specs.Cells.{same_cell}
+use Rattle.ot_model.specs.Uses.{conflicts, same_fold}
+use Rattle.ot_model.specs.declared.expr.Cell.{Cell}
+use Rattle.ot_model.specs.declared.fold.Fold.{Fold as Operation}
+use Rattle.ot_model.specs.declared.stmt.Mode.{Mode}
+use Rattle.ot_model.specs.declared.stmt.Mode.TheVariants.{Reads, Writes, Folds}
+use Rattle.ot_model.specs.declared.stmt.Use.{Use}
+use Rattle.ot_model.proofs.EqualLemmas.{fold-decides}
+use Rattle.ot_check.specs.Paths.{use_as}
+use Rattle.ot_check.specs.Offences.{Declared, allows, covers, folds_by, folds_to}
+use Rattle.ot_check.proofs.Bits.{or_true, true_or, or_right, or_false_left, or_false_right, not_false}
+use Rattle.ot_check.proofs.InsideLemmas.{folded}
+use Rattle.ot_job.specs.Sound.{OnlyFolds}
+
+-- ---- operations
+
+pub one-op : (o p : Operation) → same_fold o p ≡ true → o ≡ p
+one-op o p h = (fold-decides o p).0 h
+
+pub same-op : (o : Operation) → same_fold o o ≡ true
+same-op o = (fold-decides o o).1 refl
+
+abbrev operation_or : Operation → Mode → Operation
+operation_or o Reads = o
+operation_or o Writes = o
+operation_or o (Folds p) = p
+
+pub one-fold : (o p : Operation) → Folds o ≡ Folds p → o ≡ p
+one-fold o p e = ap (operation_or o) e
+
+-- ---- two modes
+
+-- what doesn't conflict with a fold is a fold by the same operation
+pub agrees-with : (o : Operation) (m : Mode) → conflicts (Folds o) m ≡ false → m ≡ Folds o
+agrees-with o Reads h = absurd (true≢false h)
+agrees-with o Writes h = absurd (true≢false h)
+agrees-with o (Folds p) h = ap Folds (sym (one-op o p (not_false (same_fold o p) h)))
+
+pub agrees-before : (o : Operation) (m : Mode) → conflicts m (Folds o) ≡ false → m ≡ Folds o
+agrees-before o Reads h = absurd (true≢false h)
+agrees-before o Writes h = absurd (true≢false h)
+agrees-before o (Folds p) h = ap Folds (one-op p o (not_false (same_fold p o) h))
+
+pub agrees-itself : (o : Operation) → conflicts (Folds o) (Folds o) ≡ false
+agrees-itself o = ap not (same-op o)
+
+-- two folds by one operation don't conflict
+pub both-fold : (o : Operation) (m n : Mode) → m ≡ Folds o → n ≡ Folds o → conflicts m n ≡ false
+both-fold o m n p q = ap (λ (k : Mode). conflicts k n) p ∙ ap (conflicts (Folds o)) q ∙ agrees-itself o
+
+pub turned : (m n : Mode) → conflicts m n ≡ false → conflicts n m ≡ false
+turned Reads Reads h = h
+turned Reads Writes h = h
+turned Reads (Folds p) h = h
+turned Writes Reads h = h
+turned Writes Writes h = h
+turned Writes (Folds p) h = h
+turned (Folds o) n h = both-fold o n (Folds o) (agrees-with o n h) refl
+
+-- what a declared fold covers is a fold by the same operation
+pub covered-fold : (o : Operation) (m : Mode) → covers (Folds o) m ≡ true → m ≡ Folds o
+covered-fold o Reads h = absurd (true≢false (sym h))
+covered-fold o Writes h = absurd (true≢false (sym h))
+covered-fold o (Folds p) h = ap Folds (sym (one-op o p h))
+
+-- ---- declarations
+
+-- who may write a cell may do anything with it
+writes-any : (uses : List Use) (c : Cell) (m : Mode) → allows (Some uses) (use_as Writes c) ≡ true → allows (Some uses) (use_as m c) ≡ true
+writes-any [] c m may = may
+writes-any (d ∷ uses) c m may =
+    elim (or_true (same_cell d.cell c && covers d.mode Writes) (allows (Some uses) (use_as Writes c)) may) [
+      | inl here ↦ true_or (same_cell d.cell c && covers d.mode m) (allows (Some uses) (use_as m c)) (one (same_cell d.cell c) d.mode here)
+      | inr later ↦ or_right (same_cell d.cell c && covers d.mode m) (allows (Some uses) (use_as m c)) (writes-any uses c m later)
+    ]
+  where
+    one : (b : Bool) (n : Mode) → (b && covers n Writes) ≡ true → (b && covers n m) ≡ true
+    one true Reads h = absurd (true≢false (sym h))
+    one true Writes h = refl
+    one true (Folds p) h = absurd (true≢false (sym h))
+    one false n h = absurd (true≢false (sym h))
+
+pub writes-all : (own : Declared) (c : Cell) (m : Mode) → allows own (use_as Writes c) ≡ true → allows own (use_as m c) ≡ true
+writes-all None c m may = refl
+writes-all (Some uses) c m may = writes-any uses c m may
+
+-- who may fold, and not read, declares the fold
+pub declares-fold : (uses : List Use) (o : Operation) (c : Cell) → allows (Some uses) (use_as (Folds o) c) ≡ true → allows (Some uses) (use_as Reads c) ≡ false → folds_to (Some uses) o c ≡ true
+declares-fold [] o c may none = may
+declares-fold (d ∷ uses) o c may none =
+    elim (or_true (same_cell d.cell c && covers d.mode (Folds o)) (allows (Some uses) (use_as (Folds o) c)) may) [
+      | inl here ↦ true_or (same_cell d.cell c && folds_by o d.mode) (folds_to (Some uses) o c)
+          (one (same_cell d.cell c) d.mode here (or_false_left (same_cell d.cell c && covers d.mode Reads) (allows (Some uses) (use_as Reads c)) none))
+      | inr later ↦ or_right (same_cell d.cell c && folds_by o d.mode) (folds_to (Some uses) o c)
+          (declares-fold uses o c later (or_false_right (same_cell d.cell c && covers d.mode Reads) (allows (Some uses) (use_as Reads c)) none))
+    ]
+  where
+    one : (b : Bool) (m : Mode) → (b && covers m (Folds o)) ≡ true → (b && covers m Reads) ≡ false → (b && folds_by o m) ≡ true
+    one true Reads h g = absurd (true≢false (sym h))
+    one true Writes h g = absurd (true≢false g)
+    one true (Folds p) h g = h
+    one false m h g = absurd (true≢false (sym h))
+
+-- ---- cells that are folded and not used otherwise
+
+-- such a cell is folded by one operation
+pub held-alike : (own : Declared) (c : Cell) → ((o : Operation) → folds_to own o c ≡ true → OnlyFolds o own c)
+    → (o p : Operation) → folds_to own o c ≡ true → folds_to own p c ≡ true → o ≡ p
+held-alike own c only o p h g = sym (one-fold p o (only o h (Folds p) (folded own p c g)))
+
+-- it isn't read
+pub only-unread : (o : Operation) (own : Declared) (c : Cell) → OnlyFolds o own c → allows own (use_as Reads c) ≡ true → ⊥
+only-unread o own c only may = never (only Reads may)
+  where
+    never : Reads ≡ Folds o → ⊥
+    never e = cc
+
+-- nor written
+pub only-unwritten : (o : Operation) (own : Declared) (c : Cell) → OnlyFolds o own c → allows own (use_as Writes c) ≡ true → ⊥
+only-unwritten o own c only may = never (only Writes may)
+  where
+    never : Writes ≡ Folds o → ⊥
+    never e = cc
+
+-- whatever the body may do with it, it declares to fold it
+pub only-declares : (uses : List Use) (o : Operation) (c : Cell) → OnlyFolds o (Some uses) c → (m : Mode) → allows (Some uses) (use_as m c) ≡ true → folds_to (Some uses) o c ≡ true
+only-declares uses o c only m may =
+    declares-fold uses o c (subst (λ (n : Mode). allows (Some uses) (use_as n c) ≡ true) (only m may) may)
+    (unread (allows (Some uses) (use_as Reads c)) (only-unread o (Some uses) c only))
+  where
+    unread : (b : Bool) → (b ≡ true → ⊥) → b ≡ false
+    unread true h = absurd (h refl)
+    unread false h = refl
