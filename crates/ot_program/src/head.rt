@@ -126,7 +126,8 @@ pub(crate) fn read_waited(
     // The shape's lengths fit 32 bits.
     let _arrays = scope.shape.arrays();
     let clauses = read_wait_clauses(alloc, scope, clauses)?;
-    *counts = counts.plus(1, 0, clause::cells(&clauses))?;
+    let cells = clause::cells(&clauses);
+    *counts = counts.plus(1, 0, cells)?;
     declare(alloc, &clauses)
 }
 

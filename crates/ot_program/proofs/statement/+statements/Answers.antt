@@ -54,7 +54,7 @@ read_form-returns-in-len1 t c =
 pub read_form-returns-in-len2 : goal.read_form-returns-in-len2
 read_form-returns-in-len2 t c =
     let scope = c.args.scope.now in
-    rw (form_wait_for scope.shape.now scope.profile scope.level c.args.items.now (bindings_of scope.variables.now) c.args.counts.now _ _ (omega arith) c.tag-item-2.is c.clauses-item.is)
+    rw (form_wait_for scope.shape.now scope.profile scope.level c.args.items.now (bindings_of scope.variables.now) c.args.counts.now _ _ (omega arith) c.tag-item-then-items-lt3.is c.clauses-item.is)
     c.read_wait_for.ensures
 
 pub read_form-returns : goal.read_form-returns
