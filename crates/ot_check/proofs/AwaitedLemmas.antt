@@ -91,23 +91,12 @@ block-awaited block mode k bits is =
     second : Bool
     second = (k / 64 == block.place) && ((bit_at block.writes (k % 64) == 1) && one_writes Writes mode)
 
--- ---- one after the other
+-- ---- one block after the other
 
 twice : (a b c : Bool) → ((a && not b) && not c) ≡ (a && not (b || c))
 twice true true c = refl
 twice true false c = refl
 twice false b c = refl
-
-pub kept-first : (a : Bool) → a ≡ (a && not false)
-kept-first true = refl
-kept-first false = refl
-
--- what the next of a list takes out
-pub kept-more : {A : Type 0} (test : A → Bool) (list : List A) (i : ℕ) (d : A) (old now new : Bool) → i < length list
-    → now ≡ (old && not (list_any test (take i list))) → new ≡ (now && not (test (get_or list i d))) → new ≡ (old && not (list_any test (take (i + 1) list)))
-kept-more test list i d old now new l was is =
-    is ∙ ap (λ b. b && not (test (get_or list i d))) was ∙ twice old (list_any test (take i list)) (test (get_or list i d))
-    ∙ ap (λ b. old && not b) (sym (list_any_more test list i d l))
 
 pub kept-both : (old now new b c : Bool) → now ≡ (old && not b) → new ≡ (now && not c) → new ≡ (old && not (b || c))
 kept-both old now new b c was is = is ∙ ap (λ n. n && not c) was ∙ twice old b c

@@ -1,5 +1,5 @@
 -- What stands at a place, as the walk goes on.
-use Rattle.std.proofs.Common.{◌≡◌, ◌==◌, ℕ, ◌+◌, ◌<◌, ◌≤◌, ◌++◌, ◌&&◌, ◌||◌, Bool, true, false, List, [], ◌∷◌, length, refl, sym, ap, subst, ◌∙◌, inl, inr, arith, append_assoc, append-nil}
+use Rattle.std.proofs.Common.{◌≡◌, ◌==◌, ℕ, ◌+◌, ◌<◌, ◌≤◌, ◌++◌, ◌&&◌, ◌||◌, Bool, true, false, not, List, [], ◌∷◌, length, refl, sym, ap, subst, ◌∙◌, inl, inr, arith, append_assoc, append-nil}
 use Rattle.std.specs.Prelude.{Some, slice_get}
 use Rattle.std.proofs.lemmas.Bool.{cases_lt}
 use Rattle.std.proofs.lemmas.Option.{slice_get_within}
@@ -10,12 +10,12 @@ use Rattle.ot_model.specs.declared.stmt.Use.{Use}
 use Rattle.ot_check.specs.Offences.{Declared, Openings, clashes, has_cell}
 use Rattle.ot_check.specs.walk.Walk.{Children, anyone, nobody, nothing_open, with_group}
 use Rattle.ot_check.specs.walk.Bits.{has}
-use Rattle.ot_check.specs.walk.States.{is_open, met, AreOf, Stands, IsBehind, Represents, among, one_more, of_both, with_children}
+use Rattle.ot_check.specs.walk.States.{is_open, met, AreOf, Stands, IsBehind, Leads, Represents, among, one_more, of_both, with_children, with_others}
 use Rattle.ot_check.specs.declared.numbers.Numbers.{Numbers}
 use Rattle.ot_check.specs.declared.standing.Region.{Region}
 use Rattle.ot_check.specs.declared.standing.Standing.{Standing}
 use Rattle.ot_check.specs.declared.tasks.Tasks.{Tasks}
-use Rattle.ot_check.proofs.Bits.{or_none, or_yes}
+use Rattle.ot_check.proofs.Bits.{and_one, or_none, or_yes}
 use Rattle.ot_check.proofs.SameLemmas.{eq_itself, eq_apart}
 use Rattle.ot_check.proofs.SetLemmas.{slice_get-more, some-append, some-both, some-earlier, some-none, some-same, some-there}
 use Rattle.ot_check.proofs.TaskLemmas.{AreEntered, met-told, tells-added}
@@ -62,11 +62,31 @@ pub stands-some : (own : Declared) (opened : Openings) (children : Children) (de
     → Stands own opened children decls region tasks → (k : ℕ) × (has region.unawaited k ≡ true) → children anyone ≡ true
 stands-some own opened children decls region tasks h (k, is) =
     h.those anyone ∙ elim (cases_lt k (length decls)) [
-      | inl below ↦ some-there (λ k d. has region.unawaited k && true) 0 decls k below (λ d. ap (λ b. b && true) is)
+      | inl below ↦
+          let at : 0 + k ≡ k = omega arith in
+          some-there (λ k d. has region.unawaited k && true) 0 decls k below (λ d. ap (λ n. has region.unawaited n && true) at ∙ ap (λ b. b && true) is)
       | inr above ↦ let no : false ≡ true = sym (h.passed k above) ∙ is in cc
     ]
 
+pub stands-told : (own : Declared) (opened : Openings) (children : Children) (decls : List (List Use)) (region : Region) (tasks : Tasks)
+    → Stands own opened children decls region tasks → (empty : Bool) → (empty ≡ true → (k : ℕ) → has region.unawaited k ≡ false)
+    → (empty ≡ false → (k : ℕ) × (has region.unawaited k ≡ true)) → not empty ≡ children anyone
+stands-told own opened children decls region tasks h true none some = sym (stands-none own opened children decls region tasks h (none refl))
+stands-told own opened children decls region tasks h false none some = sym (stands-some own opened children decls region tasks h (some refl))
+
 -- ---- going on
+
+-- the same in another standing
+pub stands-as : (own : Declared) (opened : Openings) (children : Children) (decls : List (List Use)) (old region : Region) (before tasks : Tasks)
+    → Stands own opened children decls old before → region.own ≡ old.own → region.opened ≡ old.opened → region.unawaited ≡ old.unawaited → tasks ≡ before
+    → Stands own opened children decls region tasks
+stands-as own opened children decls old region before tasks h declares shut same is = record {
+  declares = declares ∙ h.declares;
+  grouped = λ o c. ap (λ opened. is_open opened o c) shut ∙ h.grouped o c;
+  those = λ test. h.those test ∙ ap (λ n. among n decls test) (sym same);
+  passed = λ k l. ap (λ n. has n k) same ∙ h.passed k l;
+  known = subst (AreOf decls) (sym is) h.known;
+}
 
 -- the same children once later tasks have been passed
 pub stands-later : (own : Declared) (opened : Openings) (children : Children) (decls later : List (List Use)) (old region : Region) (before tasks : Tasks)
@@ -155,7 +175,7 @@ behind-here own opened children stay decls new h stays = record {
   stays = stays;
 }
 
-and_bits : (o k l : Bool) → ((o && k) && l) ≡ (o && (k && l))
+pub and_bits : (o k l : Bool) → ((o && k) && l) ≡ (o && (k && l))
 and_bits true k l = refl
 and_bits false k l = refl
 
@@ -169,6 +189,22 @@ behind-then own opened children others was keep too decls mid new first second =
   stands = subst (λ decls. Stands own opened others decls new.region new.tasks) (append_assoc decls first.later second.later) second.stands;
   stays = λ k d is.
       second.stays k d (slice_get-more decls first.later k d is) ∙ ap (λ b. b && too d) (first.stays k d is) ∙ and_bits (was k) (keep d) (too d);
+}
+
+-- the children as told otherwise
+pub behind-same : (own : Declared) (opened : Openings) (children others : Children) (was : ℕ → Bool) (keep too : List Use → Bool) (decls : List (List Use)) (new : Standing)
+    → ((test : List Use → Bool) → children test ≡ others test) → ((d : List Use) → keep d ≡ too d)
+    → IsBehind own opened children (λ k d. was k && keep d) decls new → IsBehind own opened others (λ k d. was k && too d) decls new
+behind-same own opened children others was keep too decls new same kept h = record {
+  later = h.later;
+  stands = record {
+    declares = h.stands.declares;
+    grouped = h.stands.grouped;
+    those = λ test. sym (same test) ∙ h.stands.those test;
+    passed = h.stands.passed;
+    known = h.stands.known;
+  };
+  stays = λ k d is. h.stays k d is ∙ ap (λ b. was k && b) (kept d);
 }
 
 -- one child more
@@ -211,3 +247,89 @@ module _ (own : Declared) (opened : Openings) (children : Children) (decls : Lis
     };
     stays = λ k d is. before k (slice_get_within decls k d is);
   }
+
+-- ---- a whole statement
+
+-- no change
+pub leads-none : (old : Standing) → Leads old old (λ children. children) (λ d. true)
+leads-none old own opened children decls h =
+    behind-here own opened children (λ k d. has old.region.unawaited k && true) decls old h (λ k d is. sym (and_one (has old.region.unawaited k)))
+
+ways_bits : (o a b : Bool) → ((o && b) || (o && a)) ≡ (o && (a || b))
+ways_bits true true true = refl
+ways_bits true true false = refl
+ways_bits true false true = refl
+ways_bits true false false = refl
+ways_bits false a b = refl
+
+-- the second of two ways begins with the children from before
+pub begun-again : (own : Declared) (opened : Openings) (children one : Children) (stay : ℕ → List Use → Bool) (decls : List (List Use)) (old mid begun : Standing) (before : Numbers)
+    → Represents own opened children decls old → (first : IsBehind own opened one stay decls mid)
+    → ((k : ℕ) → has before k ≡ has old.region.unawaited k) → begun ≡ with_others mid before → Represents own opened children (decls ++ first.later) begun
+begun-again own opened children one stay decls old mid begun before h first same begins =
+    subst (Represents own opened children (decls ++ first.later)) (sym begins)
+    (stands-later own opened children decls first.later old.region (with_children mid.region before) old.tasks mid.tasks h first.stands.known
+    first.stands.declares first.stands.grouped same)
+
+-- two ways
+pub behind-if : (own : Declared) (opened : Openings) (children one two : Children) (a b : List Use → Bool) (decls : List (List Use)) (old mid begun late new : Standing)
+    (before way : Numbers) → Represents own opened children decls old → (first : IsBehind own opened one (λ k d. has old.region.unawaited k && a d) decls mid)
+    → ((k : ℕ) → has before k ≡ has old.region.unawaited k) → begun ≡ with_others mid before
+    → ((decls : List (List Use)) → Represents own opened children decls begun → IsBehind own opened two (λ k d. has begun.region.unawaited k && b d) decls late)
+    → way ≡ mid.region.unawaited → new.region.own ≡ late.region.own → new.region.opened ≡ late.region.opened
+    → ((k : ℕ) → has new.region.unawaited k ≡ (has late.region.unawaited k || has way k)) → new.tasks ≡ late.tasks
+    → IsBehind own opened (of_both one two) (λ k d. has old.region.unawaited k && (a d || b d)) decls new
+behind-if own opened children one two a b decls old mid begun late new before way h first same begins second is declares shut both tasks =
+    let other = second (decls ++ first.later)
+    (begun-again own opened children one (λ k d. has old.region.unawaited k && a d) decls old mid begun before h first same begins) in
+    let one_stands : Stands own opened one ((decls ++ first.later) ++ other.later) (with_children late.region way) late.tasks =
+    stands-later own opened one (decls ++ first.later) other.later mid.region (with_children late.region way) mid.tasks late.tasks first.stands other.stands.known
+    other.stands.declares other.stands.grouped (λ k. ap (λ n. has n k) is) in
+    let joined = stands-joined own opened one two ((decls ++ first.later) ++ other.later) late.region way new.region.unawaited late.tasks one_stands other.stands both in record {
+      later = first.later ++ other.later;
+      stands =
+          subst (λ decls. Stands own opened (of_both one two) decls new.region new.tasks) (append_assoc decls first.later other.later)
+          (stands-as own opened (of_both one two) ((decls ++ first.later) ++ other.later) (with_children late.region new.region.unawaited) new.region late.tasks new.tasks
+          joined declares shut refl tasks);
+      stays = λ k d at.
+          both k
+          ∙ ap (λ b. b || has way k) (other.stays k d (slice_get-more decls first.later k d at)
+          ∙ ap (λ n. n && b d) (ap (λ s. has s.region.unawaited k) begins ∙ same k))
+          ∙ ap (λ n. (has old.region.unawaited k && b d) || n) (ap (λ n. has n k) is ∙ first.stays k d at)
+          ∙ ways_bits (has old.region.unawaited k) (a d) (b d);
+    }
+
+-- a task, whose body has children of its own
+pub behind-task : (own inner : Declared) (opened closed : Openings) (children others : Children) (stay : ℕ → List Use → Bool) (uses : List Use) (decls : List (List Use)) (old inside new : Standing)
+    (outer : Region) → Represents own opened children decls old → (body : IsBehind inner closed others stay decls inside) → outer ≡ old.region
+    → ((decls : List (List Use)) → Stands own opened children decls outer inside.tasks → IsBehind own opened (one_more children uses) (λ k d. has outer.unawaited k) decls new)
+    → IsBehind own opened (one_more children uses) (λ k d. has old.region.unawaited k && true) decls new
+behind-task own inner opened closed children others stay uses decls old inside new outer h body is ends =
+    let ended = ends (decls ++ body.later)
+    (stands-later own opened children decls body.later old.region outer old.tasks inside.tasks h body.stands.known
+    (ap (λ r. r.own) is ∙ h.declares) (λ o c. ap (λ r. is_open r.opened o c) is ∙ h.grouped o c) (λ k. ap (λ r. has r.unawaited k) is)) in record {
+      later = body.later ++ ended.later;
+      stands = subst (λ decls. Stands own opened (one_more children uses) decls new.region new.tasks) (append_assoc decls body.later ended.later) ended.stands;
+      stays = λ k d at.
+          ended.stays k d (slice_get-more decls body.later k d at) ∙ ap (λ r. has r.unawaited k) is ∙ sym (and_one (has old.region.unawaited k));
+    }
+
+-- a group, behind which those of later numbers are gone
+pub behind-group : (own : Declared) (opened grouped : Openings) (children others : Children) (keep : List Use → Bool) (decls : List (List Use)) (old inside new : Standing)
+    (number : ℕ) → number ≡ old.tasks.passed → Represents own opened children decls old
+    → (body : IsBehind own grouped others (λ k d. has old.region.unawaited k && keep d) decls inside)
+    → new.region.own ≡ inside.region.own → ((o : Operation) (c : Cell) → is_open new.region.opened o c ≡ is_open old.region.opened o c)
+    → ((k : ℕ) → k < number → has new.region.unawaited k ≡ has inside.region.unawaited k) → ((k : ℕ) → number ≤ k → has new.region.unawaited k ≡ false)
+    → new.tasks ≡ inside.tasks
+    → IsBehind own opened (λ test. children (λ d. test d && keep d)) (λ k d. has old.region.unawaited k && keep d) decls new
+behind-group own opened grouped children others keep decls old inside new number is h body declares shut below rest tasks =
+    let stays : (k : ℕ) (d : List Use) → slice_get decls k ≡ Some d → has new.region.unawaited k ≡ (has old.region.unawaited k && keep d) =
+    λ k d at. let l = slice_get_within decls k d at in below k (omega (arith, l, is, h.known.counted)) ∙ body.stays k d at in record {
+      later = body.later;
+      stands =
+          stands-later own opened (λ test. children (λ d. test d && keep d)) decls body.later (with_children old.region new.region.unawaited) new.region old.tasks new.tasks
+          (stands-kept own opened children decls old.region new.region.unawaited old.tasks keep h stays (λ k l. rest k (omega (arith, l, is, h.known.counted))))
+          (subst (AreOf (decls ++ body.later)) (sym tasks) body.stands.known)
+          (declares ∙ body.stands.declares) (λ o c. shut o c ∙ h.grouped o c) (λ k. refl);
+      stays = stays;
+    }

@@ -64,68 +64,73 @@ min_one a b l is = omega (arith, l, is)
 min_none : (a b : ℕ) → b ≡ 0 → min a b ≡ 0
 min_none a b is = omega (arith, is)
 
--- the words up to a place, of whose word there the bits below a number are kept
-module _ (words : List ℕ) (place w n : ℕ) (within : place < length (take (place + 1) words)) (read : w ≡ get_or (take (place + 1) words) place w) where
-  abbrev cut : List ℕ
-  cut = set (take (place + 1) words) place (bit_and w (2 ^ n - 1))
+shorter : {A : Type 0} (n : ℕ) (xs : List A) → length (take n xs) ≤ n
+shorter zero xs = omega arith
+shorter (suc n) [] = omega arith
+shorter (suc n) (x ∷ xs) = let l = shorter n xs in omega (arith, l)
 
-  here : get_or cut place 0 ≡ bit_and w (2 ^ n - 1)
-  here = get_or-set_same (take (place + 1) words) place (bit_and w (2 ^ n - 1)) 0 within
+within-take : {A : Type 0} (n i : ℕ) (xs : List A) → i < n → i < length xs → i < length (take n xs)
+within-take zero i xs l m = absurd (omega (arith, l))
+within-take (suc n) i [] l m = absurd (omega (arith, m))
+within-take (suc n) zero (x ∷ xs) l m = omega arith
+within-take (suc n) (suc i) (x ∷ xs) l m = let k = within-take n i xs (omega (arith, l)) (omega (arith, m)) in omega (arith, k)
 
-  was : w ≡ get_or words place 0
-  was = read ∙ get_or_default (take (place + 1) words) place w 0 within ∙ get_or-take (place + 1) words place 0 (omega arith)
+-- the words up to that of a number, where the bits below the number are kept
+module _ (words cut : List ℕ) (number w mask : ℕ) (is : cut ≡ take (number / 64 + 1) words) (there : number / 64 < length words)
+    (read : w ≡ get_or cut (number / 64) w) (ones : mask ≡ 2 ^ (number % 64) - 1) where
+  abbrev new : List ℕ
+  new = set cut (number / 64) (bit_and w mask)
 
-  pub cut-below : (k : ℕ) → k < place * 64 + n → n < 64 → bit_in cut k ≡ bit_in words k
-  cut-below k l m =
-      elim (cases_eq (k / 64) place) [
+  within : number / 64 < length cut
+  within = let l = within-take (number / 64 + 1) (number / 64) words (omega arith) there in omega (arith, ap length is, l)
+
+  here : get_or new (number / 64) 0 ≡ bit_and w (2 ^ (number % 64) - 1)
+  here = get_or-set_same cut (number / 64) (bit_and w mask) 0 within ∙ ap (bit_and w) ones
+
+  kept : (i : ℕ) → i < number / 64 + 1 → get_or cut i 0 ≡ get_or words i 0
+  kept i l = ap (λ ws. get_or ws i 0) is ∙ get_or-take (number / 64 + 1) words i 0 l
+
+  was : w ≡ get_or words (number / 64) 0
+  was = read ∙ get_or_default cut (number / 64) w 0 within ∙ kept (number / 64) (omega arith)
+
+  pub cut-below : (k : ℕ) → k < number → bit_in new k ≡ bit_in words k
+  cut-below k l =
+      elim (cases_eq (k / 64) (number / 64)) [
         | inl same ↦
-            let low : k % 64 < n = omega (arith, l, same) in
-            ap (λ i. bit_at (get_or cut i 0) (k % 64) == 1) same ∙ ap (λ v. bit_at v (k % 64) == 1) here
-            ∙ ap (λ b. b == 1) (bit_at_and w (2 ^ n - 1) (k % 64) ∙ min_one (bit_at w (k % 64)) (bit_at (2 ^ n - 1) (k % 64)) (bit_at-lt w (k % 64)) (bit_at_ones n (k % 64) low))
+            let low : k % 64 < number % 64 = omega (arith, l, same) in
+            ap (λ i. bit_at (get_or new i 0) (k % 64) == 1) same ∙ ap (λ v. bit_at v (k % 64) == 1) here
+            ∙ ap (λ b. b == 1) (bit_at_and w (2 ^ (number % 64) - 1) (k % 64)
+            ∙ min_one (bit_at w (k % 64)) (bit_at (2 ^ (number % 64) - 1) (k % 64)) (bit_at-lt w (k % 64)) (bit_at_ones (number % 64) (k % 64) low))
             ∙ ap (λ v. bit_at v (k % 64) == 1) was ∙ ap (λ i. bit_at (get_or words i 0) (k % 64) == 1) (sym same)
         | inr apart ↦
-            ap (λ v. bit_at v (k % 64) == 1) (get_or-set_other (take (place + 1) words) place (k / 64) (bit_and w (2 ^ n - 1)) 0 apart
-            ∙ get_or-take (place + 1) words (k / 64) 0 (omega (arith, l, m)))
+            ap (λ v. bit_at v (k % 64) == 1) (get_or-set_other cut (number / 64) (k / 64) (bit_and w mask) 0 apart ∙ kept (k / 64) (omega (arith, l)))
       ]
 
-  pub cut-rest : (k : ℕ) → place * 64 + n ≤ k → length (take (place + 1) words) ≤ place + 1 → bit_in cut k ≡ false
-  cut-rest k l short =
-      elim (cases_eq (k / 64) place) [
+  pub cut-rest : (k : ℕ) → number ≤ k → bit_in new k ≡ false
+  cut-rest k l =
+      elim (cases_eq (k / 64) (number / 64)) [
         | inl same ↦
-            let high : n ≤ k % 64 = omega (arith, l, same) in
-            ap (λ i. bit_at (get_or cut i 0) (k % 64) == 1) same ∙ ap (λ v. bit_at v (k % 64) == 1) here
-            ∙ ap (λ b. b == 1) (bit_at_and w (2 ^ n - 1) (k % 64) ∙ min_none (bit_at w (k % 64)) (bit_at (2 ^ n - 1) (k % 64)) (bit_at_ones_above n (k % 64) high))
+            let high : number % 64 ≤ k % 64 = omega (arith, l, same) in
+            ap (λ i. bit_at (get_or new i 0) (k % 64) == 1) same ∙ ap (λ v. bit_at v (k % 64) == 1) here
+            ∙ ap (λ b. b == 1) (bit_at_and w (2 ^ (number % 64) - 1) (k % 64)
+            ∙ min_none (bit_at w (k % 64)) (bit_at (2 ^ (number % 64) - 1) (k % 64)) (bit_at_ones_above (number % 64) (k % 64) high))
         | inr apart ↦
-            ap (λ v. bit_at v (k % 64) == 1) (get_or-set_other (take (place + 1) words) place (k / 64) (bit_and w (2 ^ n - 1)) 0 apart
-            ∙ get_or_past (take (place + 1) words) (k / 64) 0 (omega (arith, l, short, apart)))
+            let short = shorter (number / 64 + 1) words in
+            ap (λ v. bit_at v (k % 64) == 1) (get_or-set_other cut (number / 64) (k / 64) (bit_and w mask) 0 apart
+            ∙ get_or_past cut (k / 64) 0 (omega (arith, l, short, ap length is, apart)))
             ∙ ap (λ b. b == 1) (bit_at-zero (k % 64))
       ]
 
 -- ---- words without a bit
 
 -- a bit of a word that isn't zero
-pub bit-there : (words : List ℕ) (place w : ℕ) → place < length words → w ≡ get_or words place w → w < 2 ^ 64 → w ≢ 0 → (k : ℕ) × (bit_in words k ≡ true)
-bit-there words place w within read fits some =
+pub bit-there : (words : List ℕ) (place w : ℕ) → w ≡ get_or words place 0 → w < 2 ^ 64 → w ≢ 0 → (k : ℕ) × (bit_in words k ≡ true)
+bit-there words place w is fits some =
     let t = bit_at-trailing_zeros w64 w (omega (arith, some)) fits in
     let j : ℕ = trailing_zeros w64 w in
     let d : (place * 64 + j) / 64 ≡ place = omega (arith, t.0) in
-    let r : (place * 64 + j) % 64 ≡ j = omega (arith, t.0) in
-    let was : get_or words place 0 ≡ w = sym (read ∙ get_or_default words place w 0 within) in
-    (place * 64 + j,
-      ap (λ i. bit_at (get_or words i 0) ((place * 64 + j) % 64) == 1) d ∙ ap (λ v. bit_at v ((place * 64 + j) % 64) == 1) was
-          ∙ ap (λ i. bit_at w i == 1) r ∙ ap (λ b. b == 1) t.1)
-
-pub none-more : (words : List ℕ) (place w : ℕ) → ((i : ℕ) → i < place → get_or words i 0 ≡ 0) → place < length words → w ≡ get_or words place w → w ≡ 0
-    → (i : ℕ) → i < place + 1 → get_or words i 0 ≡ 0
-none-more words place w none within read is i l =
-    elim (cases_eq i place) [
-      | inl same ↦ ap (λ i. get_or words i 0) same ∙ sym (read ∙ get_or_default words place w 0 within) ∙ is
-      | inr apart ↦ none i (omega (arith, l, apart))
-    ]
-
-pub no-bits : (words : List ℕ) (place : ℕ) → ((i : ℕ) → i < place → get_or words i 0 ≡ 0) → length words ≤ place → (k : ℕ) → bit_in words k ≡ false
-no-bits words place none all k =
-    ap (λ w. bit_at w (k % 64) == 1) (elim (cases_lt (k / 64) place) [
-      | inl below ↦ none (k / 64) below
-      | inr above ↦ get_or_past words (k / 64) 0 (omega (arith, all, above))
-    ]) ∙ ap (λ b. b == 1) (bit_at-zero (k % 64))
+    let r : (place * 64 + j) % 64 ≡ j = omega (arith, t.0) in (
+      place * 64 + j,
+      ap (λ i. bit_at (get_or words i 0) ((place * 64 + j) % 64) == 1) d ∙ ap (λ v. bit_at v ((place * 64 + j) % 64) == 1) (sym is)
+          ∙ ap (λ i. bit_at w i == 1) r ∙ ap (λ b. b == 1) t.1,
+    )

@@ -81,7 +81,7 @@ impl Block {
     pub(crate) fn clashes(&self, tasks: &Numbers, mode: Mode) -> bool
         ensures { result ≡ list_any (λ v. has tasks.now v.task && conflicts v.mode mode) (users_of_block self.now) }
     {
-        tasks.word(self.place) & self.against(mode) != 0
+        tasks.word(self.place as usize) & self.against(mode) != 0
     }
 
     /// Those that a wait awaits that declares the cell in this mode, as bits.

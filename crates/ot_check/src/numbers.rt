@@ -32,10 +32,10 @@ impl Numbers {
     }
 
     /// The numbers from 64 times this place on, as the bits of a word.
-    pub(crate) fn word(&self, place: u32) -> u64
+    pub(crate) fn word(&self, place: usize) -> u64
         ensures { result ≡ get_or self.now.words.items place 0 }
     {
-        match self.words.get(place as usize) {
+        match self.words.get(place) {
             Some(word) => *word,
             None => 0,
         }
@@ -67,8 +67,8 @@ impl Numbers {
         ensures none { result ≡ true → (k : ℕ) → has self.now k ≡ false }
         ensures some { result ≡ false → (k : ℕ) × (has self.now k ≡ true) }
     {
-        for word in &self.words {
-            if *word != 0 {
+        for place in 0..self.words.len() {
+            if self.word(place) != 0 {
                 return false;
             }
         }

@@ -1,5 +1,14 @@
-use Rattle.std.proofs.Common.{None, sym, ◌∙◌}
+use Rattle.std.proofs.Common.{None, [], sym, ◌∙◌}
 use Rattle.ot_model.specs.View.{stmts_of}
 use Rattle.ot_check.specs.walk.Walk.{nobody, nothing_open}
 use Rattle.ot_check.proofs.TellingLemmas.{tells-first}
 use Rattle.ot_check.proofs.checking.check.Goals as goal
+
+pub invariant_of-result : goal.invariant_of-result
+invariant_of-result c = record {
+  disciplined = tells-first (stmts_of c.args.program.body.items) None
+      (sym c.in-None.is ∙ c.in_ok-walked.ensures.told None nothing_open nobody [] c.in_ok-standing.ensures.stands);
+}
+
+pub returns-in-Some-clause-told : goal.returns-in-Some-clause-told
+returns-in-Some-clause-told c = ?

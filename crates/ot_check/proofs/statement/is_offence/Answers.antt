@@ -46,14 +46,14 @@ returns-in-If c = λ own opened children decls h.
 
 pub returns-in-ChildBeyond : goal.returns-in-ChildBeyond
 returns-in-ChildBeyond c = λ own opened children decls h.
-    let is : stmt_of c.args.stmt.now ≡ Task c.in-Task.decl (stmts_of c.in-Task.body.items) = search (rules, the_lemmas) in
+    let is : stmt_of c.args.stmt.now ≡ Task c.in-Task.decl (stmts_of c.in-Task.field-1.items) = search (rules, the_lemmas) in
     c.exceeds.ensures own opened children decls h
     ∙ sym (ap (λ o. is_marked own opened children (stmt_of c.args.stmt.now) o) c.in-ChildBeyond.is ∙ ap (λ x. is_marked own opened children x ChildBeyond) is
-    ∙ is_marked-ChildBeyond own opened children c.in-Task.decl (stmts_of c.in-Task.body.items))
+    ∙ is_marked-ChildBeyond own opened children c.in-Task.decl (stmts_of c.in-Task.field-1.items))
 
 pub returns-in-ReductionMisuse : goal.returns-in-ReductionMisuse
 returns-in-ReductionMisuse c = λ own opened children decls h.
-    let is : stmt_of c.args.stmt.now ≡ Task c.in-Task.decl (stmts_of c.in-Task.body.items) = search (rules, the_lemmas) in
+    let is : stmt_of c.args.stmt.now ≡ Task c.in-Task.decl (stmts_of c.in-Task.field-1.items) = search (rules, the_lemmas) in
     c.misfits.ensures own opened children decls h
     ∙ sym (ap (λ o. is_marked own opened children (stmt_of c.args.stmt.now) o) c.in-ReductionMisuse.is ∙ ap (λ x. is_marked own opened children x ReductionMisuse) is
-    ∙ is_marked-ReductionMisuse own opened children c.in-Task.decl (stmts_of c.in-Task.body.items))
+    ∙ is_marked-ReductionMisuse own opened children c.in-Task.decl (stmts_of c.in-Task.field-1.items))
