@@ -1,14 +1,15 @@
 -- What stands at a place, as the walk goes on.
 use Rattle.std.proofs.Common.{◌≡◌, ◌==◌, ℕ, ◌+◌, ◌<◌, ◌≤◌, ◌++◌, ◌&&◌, ◌||◌, Bool, true, false, not, List, [], ◌∷◌, length, refl, sym, ap, subst, ◌∙◌, inl, inr, arith, append_assoc, append-nil}
-use Rattle.std.specs.Prelude.{Some, slice_get}
+use Rattle.std.specs.Prelude.{Option, Some, slice_get}
 use Rattle.std.proofs.lemmas.Bool.{cases_lt}
 use Rattle.std.proofs.lemmas.Option.{slice_get_within}
 use Rattle.ot_model.specs.declared.expr.Cell.{Cell}
+use Rattle.ot_model.specs.Tree.{Wait}
 use Rattle.ot_model.specs.Uses.{same_fold}
 use Rattle.ot_model.specs.declared.fold.Fold.{Fold as Operation}
 use Rattle.ot_model.specs.declared.stmt.Use.{Use}
-use Rattle.ot_check.specs.Offences.{Declared, Openings, clashes, has_cell}
-use Rattle.ot_check.specs.walk.Walk.{Children, anyone, nobody, nothing_open, with_group}
+use Rattle.ot_check.specs.Offences.{Declared, Openings, awaits, clashes, has_cell}
+use Rattle.ot_check.specs.walk.Walk.{Children, anyone, behind_one, nobody, nothing_open, with_group}
 use Rattle.ot_check.specs.walk.Bits.{has}
 use Rattle.ot_check.specs.walk.States.{is_open, met, AreOf, Stands, IsBehind, Leads, Represents, among, one_more, of_both, with_children, with_others}
 use Rattle.ot_check.specs.declared.numbers.Numbers.{Numbers}
@@ -261,6 +262,16 @@ ways_bits true true false = refl
 ways_bits true false true = refl
 ways_bits true false false = refl
 ways_bits false a b = refl
+
+-- a wait, which takes out whom it awaits
+pub behind-wait : (own : Declared) (opened : Openings) (children : Children) (decls : List (List Use)) (old : Standing) (w : Option (List Use)) (left : Numbers)
+    → Represents own opened children decls old
+    → ((k : ℕ) (d : List Use) → slice_get decls k ≡ Some d → has left k ≡ (has old.region.unawaited k && not (awaits w d)))
+    → ((k : ℕ) → length decls ≤ k → has left k ≡ false)
+    → IsBehind own opened (behind_one children (Wait w)) (λ k d. has old.region.unawaited k && not (awaits w d)) decls (with_others old left)
+behind-wait own opened children decls old w left h stays passed =
+    behind-here own opened (behind_one children (Wait w)) (λ k d. has old.region.unawaited k && not (awaits w d)) decls (with_others old left)
+    (stands-kept own opened children decls old.region left old.tasks (λ d. not (awaits w d)) h stays passed) stays
 
 -- the second of two ways begins with the children from before
 pub begun-again : (own : Declared) (opened : Openings) (children one : Children) (stay : ℕ → List Use → Bool) (decls : List (List Use)) (old mid begun : Standing) (before : Numbers)

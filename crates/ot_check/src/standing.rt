@@ -68,7 +68,7 @@ impl Standing {
     ghost use Rattle.std.specs.Prelude.{◌≡◌, ◌+◌, ◌<◌, ◌≤◌, ◌^◌, ◌||◌, ◌∷◌, List, ℕ, [], IfOk, OnOk, None, Some, false, true, not};
     ghost use Rattle.std.specs.List.{list_any};
     ghost use Rattle.ot_model.specs.Shapes.{array_lengths};
-    ghost use Rattle.ot_model.specs.Names.{IsInShape, AreInShape, AreDeclaredIn};
+    ghost use Rattle.ot_model.specs.Names.{IsInShape, OneNamedIn, AreInShape, AreDeclaredIn};
     ghost use Rattle.ot_check.specs.Paths.{Touch, Enter};
     ghost use Rattle.ot_model.specs.Tree.{Wait};
     ghost use Rattle.ot_model.specs.declared.expr.Cell.{Cell};
@@ -163,21 +163,17 @@ impl Standing {
         self.region.unawaited.truncate(outside.passed);
     }
 
-    /// Comes to a wait that declares nothing, and so awaits all children. It takes no memory.
-    pub(crate) fn await_all(&mut self)
-        ensures behind { Leads self.old self.new (λ children. behind_one children (Wait None)) (λ d. not (awaits None d)) }
+    /// Comes to a wait, which awaits all children, or where it declares cells those on which an empty
+    /// task with its declaration would depend (OpenMP API 5.2, section 15.5). It takes no memory.
+    pub(crate) fn await_children(&mut self, wait: &Option<Decl>)
+        requires { OneNamedIn (lens_of self.old) (Wait wait.now) }
+        ensures behind { Leads self.old self.new (λ children. behind_one children (Wait wait.now)) (λ d. not (awaits wait.now d)) }
         ensures tasks { self.new.tasks ≡ self.old.tasks }
     {
-        self.region.unawaited.clear();
-    }
-
-    /// Comes to a wait with this declaration. It takes no memory.
-    pub(crate) fn await_declared(&mut self, decl: &Decl)
-        requires { AreDeclaredIn (lens_of self.old) decl.now }
-        ensures behind { Leads self.old self.new (λ children. behind_one children (Wait (Some decl.now))) (λ d. not (awaits (Some decl.now) d)) }
-        ensures tasks { self.new.tasks ≡ self.old.tasks }
-    {
-        self.tasks.take_awaited(&mut self.region.unawaited, decl);
+        match wait {
+            None => self.region.unawaited.clear(),
+            Some(decl) => self.tasks.take_awaited(&mut self.region.unawaited, decl),
+        }
     }
 
     /// Whether a child may be unawaited.

@@ -125,51 +125,24 @@ fn walk_within(
     let next = place + 1;
     match stmt {
         Stmt::Set(_, _) | Stmt::Fold(_, _, _) => Ok(Walked { next, first: None }),
-        Stmt::If(_, one, two) => walk_if(alloc, one, two, standing, next),
-        Stmt::Task(decl, body) => walk_task(alloc, decl, body, standing, place),
-        Stmt::Wait(None) => {
-            standing.await_all();
-            Ok(Walked { next, first: None })
+        Stmt::If(_, one, two) => {
+            let before = standing.region.unawaited.copy(alloc)?;
+            let first = walk(alloc, one, standing, next)?;
+            let behind_first = standing.begin_other(before);
+            let second = walk(alloc, two, standing, first.next)?;
+            standing.end_other(&behind_first)?;
+            Ok(Walked {
+                next: second.next,
+                first: earlier(first.first, second.first),
+            })
         }
-        Stmt::Wait(Some(decl)) => {
-            standing.await_declared(decl);
+        Stmt::Task(decl, body) => walk_task(alloc, decl, body, standing, place),
+        Stmt::Wait(wait) => {
+            standing.await_children(wait);
             Ok(Walked { next, first: None })
         }
         Stmt::Group(op, cells, body) => walk_group(alloc, *op, cells, body, standing, next),
     }
-}
-
-/// The bodies of an `if`, from the place of the first on. Each begins with the children from before.
-#[cycle(walk)]
-fn walk_if(
-    alloc: Global,
-    one: &Vec<Stmt>,
-    two: &Vec<Stmt>,
-    standing: &mut Standing,
-    place: u32,
-) -> Result<Walked, AllocError>
-    requires one { NamedIn (lens_of standing.old) (stmts_of one.now.items) }
-    requires two { NamedIn (lens_of standing.old) (stmts_of two.now.items) }
-    requires counted { standing.old.tasks.passed ≤ place }
-    requires short { place + size (stmts_of one.now.items) + size (stmts_of two.now.items) < 2 ^ 32 }
-    ensures told { IfOk result (λ w. Whatever standing.old (λ own opened children.
-        w.first ≡ option_or (first own opened children place (stmts_of one.now.items)) (first own opened children (place + size (stmts_of one.now.items)) (stmts_of two.now.items)))) }
-    ensures behind { IfOk result (λ _. Leads standing.old standing.new
-        (λ children. of_both (behind children (stmts_of one.now.items)) (behind children (stmts_of two.now.items)))
-        (λ d. through d (stmts_of one.now.items) || through d (stmts_of two.now.items))) }
-    ensures lens { IfOk result (λ _. lens_of standing.new ≡ lens_of standing.old) }
-    ensures counted { IfOk result (λ w. standing.new.tasks.passed + place ≤ standing.old.tasks.passed + w.next) }
-    ensures place { IfOk result (λ w. w.next ≡ place + size (stmts_of one.now.items) + size (stmts_of two.now.items)) }
-{
-    let before = standing.region.unawaited.copy(alloc)?;
-    let first = walk(alloc, one, standing, place)?;
-    let behind_first = standing.begin_other(before);
-    let second = walk(alloc, two, standing, first.next)?;
-    standing.end_other(&behind_first)?;
-    Ok(Walked {
-        next: second.next,
-        first: earlier(first.first, second.first),
-    })
 }
 
 /// The body of the task at this place, and whether it leaves children.

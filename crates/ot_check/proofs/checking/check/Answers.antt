@@ -1,4 +1,4 @@
-use Rattle.std.proofs.Common.{None, [], sym, ◌∙◌}
+use Rattle.std.proofs.Common.{None, Some, [], sym, ◌∙◌}
 use Rattle.ot_model.specs.View.{stmts_of}
 use Rattle.ot_check.specs.walk.Walk.{nobody, nothing_open}
 use Rattle.ot_check.proofs.TellingLemmas.{tells-first}
@@ -11,4 +11,6 @@ invariant_of-result c = record {
 }
 
 pub returns-in-Some-clause-told : goal.returns-in-Some-clause-told
-returns-in-Some-clause-told c = ?
+returns-in-Some-clause-told c =
+    tells-first (stmts_of c.args.program.body.items) (Some (c.in-Some.place, c.in-Some.offence))
+    (sym c.in-Some.is ∙ c.in_ok-walked.ensures.told None nothing_open nobody [] c.in_ok-standing.ensures.stands)

@@ -1,4 +1,4 @@
-use Rattle.std.proofs.Common.{rules, ◌≡◌, ◌≤◌, ◌<◌, ◌+◌, ◌++◌, ◌&&◌, ◌||◌, true, None, Some, drop, refl, sym, ap, subst, ◌∙◌, arith}
+use Rattle.std.proofs.Common.{rules, inl, inr, ◌≡◌, ◌≤◌, ◌<◌, ◌+◌, ◌++◌, ◌&&◌, ◌||◌, true, None, Some, drop, refl, sym, ap, subst, ◌∙◌, arith}
 use Rattle.std.specs.Option.{option_or}
 use Rattle.ot_model.specs.View.{expr_of, stmt_of, stmts_of}
 use Rattle.ot_model.specs.Tree.{Set, Fold, If, Task, Wait, Group}
@@ -90,44 +90,6 @@ walk_group-returns-clause-behind t c = λ own opened children decls h.
     c.end_group.ensures.own (λ o cell. ap (λ opened. is_open opened o cell) c.end_group.ensures.opened ∙ c.in_ok-outside.ensures.opened o cell)
     c.end_group.ensures.below c.end_group.ensures.rest c.end_group.ensures.tasks
 
-pub walk_if-walk-requires-2 : goal.walk_if-walk-requires-2
-walk_if-walk-requires-2 t c =
-    let begins = c.begin_other-behind_first.ensures.before in
-    let lens = ap lens_of begins ∙ c.in_ok-first.ensures.lens in
-    let passed = ap (λ s. s.tasks.passed) begins in (
-      search (rules, the_lemmas, c.decreases),
-      (
-        subst (λ lens. NamedIn lens (stmts_of c.args.two.now.items)) (sym lens) c.requires.two,
-        (
-          omega (arith, passed, c.in_ok-first.ensures.counted, c.requires.counted),
-          omega (arith, c.in_ok-first.ensures.place, c.requires.short),
-        ),
-      ),
-    )
-
-pub walk_if-returns-clause-told : goal.walk_if-returns-clause-told
-walk_if-returns-clause-told t c = λ own opened children decls h.
-    let a = stmts_of c.args.one.now.items in
-    let b = stmts_of c.args.two.now.items in
-    let way = c.in_ok-first.ensures.behind own opened children decls h in
-    let begun = begun-again own opened children (behind children a) _ decls c.args.standing.now c.walk.new.standing c.begin_other-behind_first.new.self c.in_ok-before.before h way
-    (λ k. ap (λ words. bit_in words k) c.in_ok-before.ensures) c.begin_other-behind_first.ensures.before in
-    c.earlier.ensures
-    ∙ ap (λ o. option_or o c.in_ok-second.second.first) (c.in_ok-first.ensures.told own opened children decls h)
-    ∙ ap (option_or (first own opened children c.args.place a))
-    (c.in_ok-second.ensures.told own opened children (decls ++ way.later) begun ∙ ap (λ k. first own opened children k b) c.in_ok-first.ensures.place)
-
-pub walk_if-returns-clause-behind : goal.walk_if-returns-clause-behind
-walk_if-returns-clause-behind t c = λ own opened children decls h.
-    let a = stmts_of c.args.one.now.items in
-    let b = stmts_of c.args.two.now.items in
-    behind-if own opened children (behind children a) (behind children b) (λ d. through d a) (λ d. through d b) decls
-    c.args.standing.now c.walk.new.standing c.begin_other-behind_first.new.self c.walk-2.new.standing c.end_other.new.self
-    c.in_ok-before.before c.begin_other-behind_first.result h (c.in_ok-first.ensures.behind own opened children decls h)
-    (λ k. ap (λ words. bit_in words k) c.in_ok-before.ensures) c.begin_other-behind_first.ensures.before
-    (λ decls. c.in_ok-second.ensures.behind own opened children decls) c.begin_other-behind_first.ensures.behind
-    c.end_other.ensures.own c.end_other.ensures.opened c.in_ok-end_other.ensures.both c.end_other.ensures.tasks
-
 pub walk_one-returns-clause-told : goal.walk_one-returns-clause-told
 walk_one-returns-clause-told t c = λ own opened children decls h.
     let x = stmt_of c.args.stmt.now in
@@ -154,8 +116,32 @@ walk_task-returns-clause-behind t c = λ own opened children decls h.
     (c.in_ok-walked.ensures.behind _ nothing_open nobody decls (c.in_ok-outer.ensures.stands own opened children decls h)) c.in_ok-outer.ensures.outer
     (λ decls. c.in_ok-end_task.ensures.behind own opened children decls)
 
-pub walk_within-returns-in-If-clause-behind : goal.walk_within-returns-in-If-clause-behind
-walk_within-returns-in-If-clause-behind t c = leads-as c.walk_if.result _ _ _ _ (stmt_of-If _ _ _ _ c.in-If.is) c.walk_if.ensures.behind
+pub walk_within-returns-in_ok-end_other-in-If-clause-told : goal.walk_within-returns-in_ok-end_other-in-If-clause-told
+walk_within-returns-in_ok-end_other-in-If-clause-told t c = λ own opened children decls h.
+    let a = stmts_of c.in-If.one.items in
+    let b = stmts_of c.in-If.two.items in
+    let is : stmt_of c.args.stmt.now ≡ If (expr_of c.in-If.field-0) a b = stmt_of-If _ _ _ _ c.in-If.is in
+    let way = c.in_ok-first-in-If.ensures.behind own opened children decls h in
+    let begun = begun-again own opened children (behind children a) _ decls c.args.standing.now c.walk.new.standing c.begin_other-behind_first.new.self c.in_ok-before-in-If.before h way
+    (λ k. ap (λ words. bit_in words k) c.in_ok-before-in-If.ensures) c.begin_other-behind_first.ensures.before in
+    c.earlier.ensures
+    ∙ ap (λ o. option_or o c.in_ok-second-in-If.second.first) (c.in_ok-first-in-If.ensures.told own opened children decls h)
+    ∙ ap (option_or (first own opened children (c.args.place + 1) a))
+    (c.in_ok-second-in-If.ensures.told own opened children (decls ++ way.later) begun ∙ ap (λ k. first own opened children k b) c.in_ok-first-in-If.ensures.place)
+    ∙ ap (first_within own opened children c.args.place) (sym is)
+
+pub walk_within-returns-in_ok-end_other-in-If-clause-behind : goal.walk_within-returns-in_ok-end_other-in-If-clause-behind
+walk_within-returns-in_ok-end_other-in-If-clause-behind t c = λ own opened children decls h.
+    let a = stmts_of c.in-If.one.items in
+    let b = stmts_of c.in-If.two.items in
+    let is : stmt_of c.args.stmt.now ≡ If (expr_of c.in-If.field-0) a b = stmt_of-If _ _ _ _ c.in-If.is in
+    subst (λ x. IsBehind own opened (behind_one children x) (λ k d. has c.args.standing.now.region.unawaited k && through_one d x) decls c.end_other.new.self) (sym is)
+    (behind-if own opened children (behind children a) (behind children b) (λ d. through d a) (λ d. through d b) decls
+    c.args.standing.now c.walk.new.standing c.begin_other-behind_first.new.self c.walk-in-If.new.standing c.end_other.new.self
+    c.in_ok-before-in-If.before c.begin_other-behind_first.result h (c.in_ok-first-in-If.ensures.behind own opened children decls h)
+    (λ k. ap (λ words. bit_in words k) c.in_ok-before-in-If.ensures) c.begin_other-behind_first.ensures.before
+    (λ decls. c.in_ok-second-in-If.ensures.behind own opened children decls) c.begin_other-behind_first.ensures.behind
+    c.end_other.ensures.own c.end_other.ensures.opened c.in_ok-end_other-in-If.ensures.both c.end_other.ensures.tasks)
 
 pub walk_within-returns-in-Task-clause-told : goal.walk_within-returns-in-Task-clause-told
 walk_within-returns-in-Task-clause-told t c = within-as c.walk_task.result _ _ _ _ (stmt_of-Task _ _ _ c.in-Task.is) c.walk_task.ensures.told
@@ -163,25 +149,32 @@ walk_within-returns-in-Task-clause-told t c = within-as c.walk_task.result _ _ _
 pub walk_within-returns-in-Task-clause-behind : goal.walk_within-returns-in-Task-clause-behind
 walk_within-returns-in-Task-clause-behind t c = leads-as c.walk_task.result _ _ _ _ (stmt_of-Task _ _ _ c.in-Task.is) c.walk_task.ensures.behind
 
-pub walk_within-returns-in-Wait-None-clause-behind : goal.walk_within-returns-in-Wait-None-clause-behind
-walk_within-returns-in-Wait-None-clause-behind t c =
-    let is : stmt_of c.args.stmt.now ≡ Wait None = stmt_of-Wait _ _ c.in-Wait-None.is ∙ ap Wait c.in-Wait-None.field-0-is in
-    subst (λ x. Leads c.args.standing.now c.await_all.new.self (λ children. behind_one children x) (λ d. through_one d x)) (sym is) c.await_all.ensures.behind
-
-pub walk_within-returns-in-Wait-Some-clause-behind : goal.walk_within-returns-in-Wait-Some-clause-behind
-walk_within-returns-in-Wait-Some-clause-behind t c =
-    let is : stmt_of c.args.stmt.now ≡ Wait (Some c.in-Wait-Some.decl) = stmt_of-Wait _ _ c.in-Wait-Some.is ∙ ap Wait c.in-Wait-Some.field-0-is in
-    subst (λ x. Leads c.args.standing.now c.await_declared.new.self (λ children. behind_one children x) (λ d. through_one d x)) (sym is) c.await_declared.ensures.behind
+pub walk_within-returns-in-Wait-clause-behind : goal.walk_within-returns-in-Wait-clause-behind
+walk_within-returns-in-Wait-clause-behind t c =
+    let is = stmt_of-Wait _ _ c.in-Wait.is in
+    subst (λ x. Leads c.args.standing.now c.await_children.new.self (λ children. behind_one children x) (λ d. through_one d x)) (sym is) c.await_children.ensures.behind
 
 pub walk_within-returns-in-Group-clause-behind : goal.walk_within-returns-in-Group-clause-behind
 walk_within-returns-in-Group-clause-behind t c = leads-as c.walk_group.result _ _ _ _ (stmt_of-Group _ _ _ _ c.in-Group.is) c.walk_group.ensures.behind
 
 pub walk_within-returns-in-Set-clause-behind : goal.walk_within-returns-in-Set-clause-behind
 walk_within-returns-in-Set-clause-behind t c =
-    let is = stmt_of-Set _ _ _ c.in-Set.is in
-    subst (λ x. Leads c.args.standing.now c.args.standing.now (λ children. behind_one children x) (λ d. through_one d x)) (sym is) (leads-none c.args.standing.now)
+    elim c.in-Set.is [
+      | inl p ↦
+          let is : stmt_of c.args.stmt.now ≡ Set p.0 (expr_of p.1) = stmt_of-Set _ _ _ p.2 in
+          subst (λ x. Leads c.args.standing.now c.args.standing.now (λ children. behind_one children x) (λ d. through_one d x)) (sym is) (leads-none c.args.standing.now)
+      | inr p ↦
+          let is : stmt_of c.args.stmt.now ≡ Fold p.0 p.1 (expr_of p.2) = stmt_of-Fold _ _ _ _ p.3 in
+          subst (λ x. Leads c.args.standing.now c.args.standing.now (λ children. behind_one children x) (λ d. through_one d x)) (sym is) (leads-none c.args.standing.now)
+    ]
 
 pub walk_within-returns-in-Set-2-clause-behind : goal.walk_within-returns-in-Set-2-clause-behind
 walk_within-returns-in-Set-2-clause-behind t c =
-    let is = stmt_of-Fold _ _ _ _ c.in-Set.is in
-    subst (λ x. Leads c.args.standing.now c.args.standing.now (λ children. behind_one children x) (λ d. through_one d x)) (sym is) (leads-none c.args.standing.now)
+    elim c.in-Set.is [
+      | inl p ↦
+          let is : stmt_of c.args.stmt.now ≡ Set p.0 (expr_of p.1) = stmt_of-Set _ _ _ p.2 in
+          subst (λ x. Leads c.args.standing.now c.args.standing.now (λ children. behind_one children x) (λ d. through_one d x)) (sym is) (leads-none c.args.standing.now)
+      | inr p ↦
+          let is : stmt_of c.args.stmt.now ≡ Fold p.0 p.1 (expr_of p.2) = stmt_of-Fold _ _ _ _ p.3 in
+          subst (λ x. Leads c.args.standing.now c.args.standing.now (λ children. behind_one children x) (λ d. through_one d x)) (sym is) (leads-none c.args.standing.now)
+    ]
