@@ -106,7 +106,7 @@ kept-test test path d h = and_left (test d) (not (is_awaited d path)) h
 kept-none : (test : List Use → Bool) (path : List Step) (d : List Use) → kept test path d ≡ true → is_awaited d path ≡ false
 kept-none test path d h = not_true (is_awaited d path) (and_right (test d) (not (is_awaited d path)) h)
 
-pub kept-is : (test : List Use → Bool) (path : List Step) (d : List Use) → test d ≡ true → is_awaited d path ≡ false → kept test path d ≡ true
+kept-is : (test : List Use → Bool) (path : List Step) (d : List Use) → test d ≡ true → is_awaited d path ≡ false → kept test path d ≡ true
 kept-is test path d h none = and_true (test d) (not (is_awaited d path)) h (true_not (is_awaited d path) none)
 
 -- the children that may be unawaited behind a path, where these may be before it
@@ -114,10 +114,14 @@ pub left_by : Children → List Step → Children
 left_by before path test = before (kept test path) || some_unawaited test path
 
 -- those from before, or those made on it
-pub Left : Children → List Step → (List Use → Bool) → Type 0
+Left : Children → List Step → (List Use → Bool) → Type 0
 Left before path test = (before (kept test path) ≡ true) ⊎ (some_unawaited test path ≡ true)
 
-pub left-parts : (before : Children) (path : List Step) (test : List Use → Bool) → left_by before path test ≡ true → Left before path test
+pub left-is : (before : Children) (path : List Step) (test : List Use → Bool) → left_by before path test ≡ (before (kept test path) || some_unawaited test path)
+unfolding left_by
+left-is before path test = refl
+
+left-parts : (before : Children) (path : List Step) (test : List Use → Bool) → left_by before path test ≡ true → Left before path test
 unfolding left_by Left
 left-parts before path test h = or_true (before (kept test path)) (some_unawaited test path) h
 
