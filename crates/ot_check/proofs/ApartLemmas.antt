@@ -34,7 +34,7 @@ mutual
   touch_one-weaker P Q (If e a b) f h =
       (read-weaker (λ d. P (use_as Reads d)) (λ d. Q (use_as Reads d)) e (λ d. f (use_as Reads d)) h.0, touch-weaker P Q a f h.1, touch-weaker P Q b f h.2)
   touch_one-weaker P Q (Task d b) f h = touch-weaker P Q b f h
-  touch_one-weaker P Q Wait f h = h
+  touch_one-weaker P Q (Wait w) f h = h
   touch_one-weaker P Q (Group o cs b) f h = touch-weaker P Q b f h
 
   pub touch-weaker : (P Q : Use → Type 0) (b : Body) → ((u : Use) → P u → Q u) → EachTouch P b → EachTouch Q b
@@ -109,7 +109,7 @@ mutual
       ∙ either-same (val (cell_of s.cells) e) (val (cell_of s.cells) e) _ _ (cell_of s.cells c) (cell_of s.cells c) refl (frame c p (bump 0 1 s) h.1) (frame c q (bump 0 1 s) h.2)
       ∙ either-one (val (cell_of s.cells) e) (cell_of s.cells c)
   frame_one c (Task d p) s h = frame c p (bump 1 1 s) h
-  frame_one c Wait s h = refl
+  frame_one c (Wait w) s h = refl
   frame_one c (Group o cs p) s h = frame c p (bump 0 1 s) h
 
   frame : (c : Cell) (p : Body) (s : State) → EachTouch (Spares c) p → cell_of (serial p s).cells c ≡ cell_of s.cells c
@@ -165,7 +165,7 @@ mutual
       (serial-change p (bump 0 1 s) c f h.1) (serial-change q (bump 0 1 s) c f h.2)
       ∙ sym (either-both (λ t. change t c f) (val (cell_of s.cells) e) (serial p (bump 0 1 s)) (serial q (bump 0 1 s)))
   change_one (Task d p) s c f h = serial-change p (bump 1 1 s) c f h
-  change_one Wait s c f h = refl
+  change_one (Wait w) s c f h = refl
   change_one (Group o cs p) s c f h = serial-change p (bump 0 1 s) c f h
 
   serial-change : (p : Body) (s : State) (c : Cell) (f : ℕ → ℕ) → EachTouch (Commutes c f) p → serial p (change s c f) ≡ change (serial p s) c f
@@ -219,7 +219,7 @@ mutual
       ∙ either-same (val (cell_of s.cells) e) (val (cell_of (serial b s).cells) e) _ _ _ _ (read-behind s b e h.0)
       (apart p b (bump 0 1 s) h.1 ∙ ap (serial p) (serial-bump b 0 1 s)) (apart q b (bump 0 1 s) h.2 ∙ ap (serial q) (serial-bump b 0 1 s))
   apart_one (Task d p) b s h = apart p b (bump 1 1 s) h ∙ ap (serial p) (serial-bump b 1 1 s)
-  apart_one Wait b s h = serial-bump b 0 1 s
+  apart_one (Wait w) b s h = serial-bump b 0 1 s
   apart_one (Group o cs p) b s h = apart p b (bump 0 1 s) h ∙ ap (serial p) (serial-bump b 0 1 s)
 
   pub apart : (a b : Body) (s : State) → AreApart a b → serial b (serial a s) ≡ serial a (serial b s)

@@ -1,20 +1,20 @@
 -- Bodies in which nothing is an offence, statement by statement.
-use Rattle.std.proofs.Common.{◌≡◌, ℕ, ◌+◌, Bool, true, false, ◌&&◌, List, refl, sym, ap, ◌∙◌, true≢false}
+use Rattle.std.proofs.Common.{◌≡◌, ℕ, ◌+◌, Bool, true, false, not, ◌&&◌, List, refl, sym, ap, ◌∙◌, true≢false}
 use Rattle.std.specs.Prelude.{if◌then◌else◌, Option, Some, None}
 use Rattle.std.specs.List.{list_any}
 use Rattle.std.specs.Option.{option_or}
 use Rattle.ot_model.specs.Tree.{S, Set, Fold, If, Task, Wait, Group, Body, End, Next, append}
 use Rattle.ot_model.specs.Counts.{size, size_one}
 use Rattle.ot_model.specs.declared.stmt.Use.{Use}
-use Rattle.ot_check.specs.Offences.{Declared, Openings, Offends, IsFirstOf}
+use Rattle.ot_check.specs.Offences.{Declared, Openings, awaits, Offends, IsFirstOf}
 use Rattle.ot_check.specs.Disciplined.{OffendsNowhere}
-use Rattle.ot_check.specs.walk.Walk.{Children, nobody, nothing_open, behind_one, behind, after, after_one, through, through_one, with_group, may_break, is_offence, ends_with_children, marks, leading, placed, first, first_inside, first_one}
+use Rattle.ot_check.specs.walk.Walk.{Children, nobody, nothing_open, behind_one, behind, through, through_one, with_group, may_break, is_offence, ends_with_children, marks, leading, placed, first, first_inside, first_one}
 use Rattle.ot_check.specs.walk.Fine.{IsClean, IsFineInside, IsFine, AreFewer}
 use Rattle.ot_check.specs.declared.fault.Offence.{Offence}
 use Rattle.ot_check.specs.declared.fault.Offence.TheVariants.{NotDeclared, ChildBeyond, ReductionMisuse, ConflictsWithChild, EndsWithChildren}
 use Rattle.ot_check.proofs.PathsTold.{may_break-more}
 use Rattle.ot_check.proofs.PathsMet.{first-is_first}
-use Rattle.ot_check.proofs.Bits.{and_left, and_right, and_true, or_more, any-more, or_false_left, or_false_right, false_or}
+use Rattle.ot_check.proofs.Bits.{or_more, any-more, or_false_left, or_false_right, false_or}
 
 -- ---- where the walk tells nothing
 
@@ -62,7 +62,7 @@ mutual
     fine-first own opened children (k + 1 + size a) b (none_right (first own opened children (k + 1) a) _ h),
   )
   fine_inside-first own opened children k (Task d b) h = fine-first (Some d) nothing_open nobody (k + 1) b h
-  fine_inside-first own opened children k Wait h = tt
+  fine_inside-first own opened children k (Wait w) h = tt
   fine_inside-first own opened children k (Group o cs b) h = fine-first own (with_group opened o cs) children (k + 1) b h
 
   pub fine-first : (own : Declared) (opened : Openings) (children : Children) (k : ℕ) (b : Body) → first own opened children k b ≡ None
@@ -103,18 +103,19 @@ clean-fewer own opened few many le x h offence =
     (or_false_right marked (ends_with_children x offence) (h offence))
 
 mutual
-  after_one-more : (test : List Use → Bool) (x : S) (p q : Bool) → (p ≡ true → q ≡ true) → after_one test p x ≡ true → after_one test q x ≡ true
-  after_one-more test (Set c e) p q le h = le h
-  after_one-more test (Fold o c e) p q le h = le h
-  after_one-more test (If e a b) p q le h =
-      or_more (after test p a) (after test p b) (after test q a) (after test q b) (after-more test a p q le) (after-more test b p q le) h
-  after_one-more test (Task d b) p q le h = or_more p (test d) q (test d) le (λ g. g) h
-  after_one-more test Wait p q le h = h
-  after_one-more test (Group o cs b) p q le h = and_true q (through b) (le (and_left p (through b) h)) (and_right p (through b) h)
+  pub behind_one-more : (few many : Children) → AreFewer few many → (x : S) → AreFewer (behind_one few x) (behind_one many x)
+  behind_one-more few many le (Set c e) test h = le test h
+  behind_one-more few many le (Fold o c e) test h = le test h
+  behind_one-more few many le (If e a b) test h =
+      or_more (behind few a test) (behind few b test) (behind many a test) (behind many b test)
+      (behind-more few many le a test) (behind-more few many le b test) h
+  behind_one-more few many le (Task d b) test h = or_more (few test) (test d) (many test) (test d) (le test) (λ g. g) h
+  behind_one-more few many le (Wait w) test h = le (λ d. test d && not (awaits w d)) h
+  behind_one-more few many le (Group o cs b) test h = le (λ d. test d && through d b) h
 
-  pub after-more : (test : List Use → Bool) (b : Body) (p q : Bool) → (p ≡ true → q ≡ true) → after test p b ≡ true → after test q b ≡ true
-  after-more test End p q le h = le h
-  after-more test (Next x rest) p q le h = after-more test rest (after_one test p x) (after_one test q x) (after_one-more test x p q le) h
+  pub behind-more : (few many : Children) → AreFewer few many → (b : Body) → AreFewer (behind few b) (behind many b)
+  behind-more few many le End test h = le test h
+  behind-more few many le (Next x rest) test h = behind-more (behind_one few x) (behind_one many x) (behind_one-more few many le x) rest test h
 
 mutual
   fine_inside-fewer : (own : Declared) (opened : Openings) (few many : Children) → AreFewer few many → (x : S)
@@ -123,7 +124,7 @@ mutual
   fine_inside-fewer own opened few many le (Fold o c e) h = tt
   fine_inside-fewer own opened few many le (If e a b) h = (fine-fewer own opened few many le a h.0, fine-fewer own opened few many le b h.1)
   fine_inside-fewer own opened few many le (Task d b) h = h
-  fine_inside-fewer own opened few many le Wait h = tt
+  fine_inside-fewer own opened few many le (Wait w) h = tt
   fine_inside-fewer own opened few many le (Group o cs b) h = fine-fewer own (with_group opened o cs) few many le b h
 
   pub fine-fewer : (own : Declared) (opened : Openings) (few many : Children) → AreFewer few many → (b : Body)
@@ -132,7 +133,7 @@ mutual
   fine-fewer own opened few many le (Next x rest) h = (
     clean-fewer own opened few many le x h.0,
     fine_inside-fewer own opened few many le x h.1,
-    fine-fewer own opened (behind_one few x) (behind_one many x) (λ test. after_one-more test x (few test) (many test) (le test)) rest h.2,
+    fine-fewer own opened (behind_one few x) (behind_one many x) (behind_one-more few many le x) rest h.2,
   )
 
 -- ---- one body, then the other
@@ -146,6 +147,6 @@ and_assoc : (p q r : Bool) → (p && (q && r)) ≡ ((p && q) && r)
 and_assoc true q r = refl
 and_assoc false q r = refl
 
-pub through-append : (a b : Body) → through (append a b) ≡ (through a && through b)
-through-append End b = refl
-through-append (Next x rest) b = ap (λ t. through_one x && t) (through-append rest b) ∙ and_assoc (through_one x) (through rest) (through b)
+pub through-append : (d : List Use) (a b : Body) → through d (append a b) ≡ (through d a && through d b)
+through-append d End b = refl
+through-append d (Next x rest) b = ap (λ t. through_one d x && t) (through-append d rest b) ∙ and_assoc (through_one d x) (through d rest) (through d b)

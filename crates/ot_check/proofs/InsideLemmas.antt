@@ -176,7 +176,7 @@ mutual
             (sym (is_offence-ReductionMisuse own opened children d b) ∙ clean ReductionMisuse)) p.0,
         (p.0, p.1),
       )
-  inside_one lens own opened children Wait named groups clean fine = (tt, tt)
+  inside_one lens own opened children (Wait w) named groups clean fine = (tt, tt)
   inside_one lens own opened children (Group o cs b) named groups clean fine =
       inside_body lens own (with_group opened o cs) children b named.1
       (groups_inside own opened o cs groups (sym (is_offence-Group own opened children o cs b ReductionMisuse) ∙ clean ReductionMisuse)) fine

@@ -17,7 +17,7 @@ abbrev mutual
   MeetsInside own opened children k (If e a b) place offence =
       Meets own opened children (k + 1) a place offence ⊎ Meets own opened children (k + 1 + size a) b place offence
   MeetsInside own opened children k (Task d b) place offence = Meets (Some d) nothing_open nobody (k + 1) b place offence
-  MeetsInside own opened children k Wait place offence = ⊥
+  MeetsInside own opened children k (Wait w) place offence = ⊥
   MeetsInside own opened children k (Group o cs b) place offence = Meets own (with_group opened o cs) children (k + 1) b place offence
 
   pub Meets : Declared → Openings → Children → ℕ → Body → ℕ → Offence → Type 0
@@ -38,7 +38,7 @@ size_one-positive (Set c e) = omega arith
 size_one-positive (Fold o c e) = omega arith
 size_one-positive (If e a b) = omega arith
 size_one-positive (Task d b) = omega arith
-size_one-positive Wait = omega arith
+size_one-positive (Wait w) = omega arith
 size_one-positive (Group o cs b) = omega arith
 
 mutual
@@ -52,7 +52,7 @@ mutual
       let p = meets-places own opened children (k + 1 + size a) b place offence h in (omega (arith, p.0), omega (arith, p.1))
   inside-places own opened children k (Task d b) place offence h =
       let p = meets-places (Some d) nothing_open nobody (k + 1) b place offence h in (omega (arith, p.0), omega (arith, p.1))
-  inside-places own opened children k Wait place offence h = absurd h
+  inside-places own opened children k (Wait w) place offence h = absurd h
   inside-places own opened children k (Group o cs b) place offence h =
       let p = meets-places own (with_group opened o cs) children (k + 1) b place offence h in (omega (arith, p.0), omega (arith, p.1))
 
@@ -164,7 +164,7 @@ mutual
       (λ p c q d h g. let l = meets-places own opened children (k + 1) a p c h in
       let r = meets-places own opened children (k + 1 + size a) b q d g in omega (arith, l.1, r.0))
   inside-first own opened children k (Task d b) = meets-first (Some d) nothing_open nobody (k + 1) b
-  inside-first own opened children k Wait = none_first
+  inside-first own opened children k (Wait w) = none_first
   inside-first own opened children k (Group o cs b) = meets-first own (with_group opened o cs) children (k + 1) b
 
   pub meets-first : (own : Declared) (opened : Openings) (children : Children) (k : ℕ) (b : Body)

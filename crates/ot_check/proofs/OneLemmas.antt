@@ -16,7 +16,7 @@ use Rattle.ot_model.specs.one.Tree.{S1, Set1, Add1, If1, Task1, Wait1, Group1, B
 use Rattle.ot_model.specs.one.Upward.{up_mode, up_use, up_uses, up_one, up}
 use Rattle.ot_model.proofs.OneLemmas.{any-map, any-same, size-up, size_one-up}
 use Rattle.ot_check.specs.Paths.{Mark, Touch, Enter, Leave, Step, At, use_as, touches, touched, PassesOne, Passes}
-use Rattle.ot_check.specs.Offences.{has_cell, covers, folds_by, Declared, allows, folds_to, exceeds, opened_by_any, misfits_as, misfits, clashes, stays_within, has_wait, unawaited, is_open, breaks, OnPath, CanEndWithChildren, InTasksOfOne, InTasks, Offends, IsFirstOf}
+use Rattle.ot_check.specs.Offences.{has_cell, covers, folds_by, Declared, allows, folds_to, exceeds, opened_by_any, misfits_as, misfits, clashes, stays_within, is_awaited, unawaited, is_open, breaks, OnPath, CanEndWithChildren, InTasksOfOne, InTasks, Offends, IsFirstOf}
 use Rattle.ot_check.specs.declared.fault.Offence.{Offence}
 use Rattle.ot_check.specs.declared.fault.Offence.TheVariants.{NotDeclared, ChildBeyond, ReductionMisuse, ConflictsWithChild, EndsWithChildren}
 use Rattle.ot_check.specs.one.Paths.{Mark1, Touch1, Create1, Await1, Enter1, Leave1, Step1, At1, use_as1, touches1, touched1, PassesOne1, Passes1}
@@ -123,13 +123,13 @@ within-up n (At1 k (Enter1 cs) ∷ path) = within-up (suc n) path
 within-up zero (At1 k Leave1 ∷ path) = refl
 within-up (suc n) (At1 k Leave1 ∷ path) = within-up n path
 
-wait-up : (path : List Step1) → has_wait (up_path path) ≡ has_wait1 path
-wait-up [] = refl
-wait-up (At1 k (Touch1 u) ∷ path) = wait-up path
-wait-up (At1 k (Create1 e) ∷ path) = wait-up path
-wait-up (At1 k Await1 ∷ path) = refl
-wait-up (At1 k (Enter1 cs) ∷ path) = wait-up path
-wait-up (At1 k Leave1 ∷ path) = wait-up path
+awaited-up : (d : List Use) (path : List Step1) → is_awaited d (up_path path) ≡ has_wait1 path
+awaited-up d [] = refl
+awaited-up d (At1 k (Touch1 u) ∷ path) = awaited-up d path
+awaited-up d (At1 k (Create1 e) ∷ path) = awaited-up d path
+awaited-up d (At1 k Await1 ∷ path) = refl
+awaited-up d (At1 k (Enter1 cs) ∷ path) = awaited-up d path
+awaited-up d (At1 k Leave1 ∷ path) = awaited-up d path
 
 kept-up : (b : Bool) (d : List Use1) (ds : List (List Use1)) → map up_uses (if b then d ∷ ds else ds) ≡ (if b then up_uses d ∷ map up_uses ds else map up_uses ds)
 kept-up true d ds = refl
@@ -139,8 +139,8 @@ unawaited-up : (path : List Step1) → unawaited (up_path path) ≡ map up_uses 
 unawaited-up [] = refl
 unawaited-up (At1 k (Touch1 u) ∷ path) = unawaited-up path
 unawaited-up (At1 k (Create1 d) ∷ path) =
-    ap (λ w. if w && not (has_wait (up_path path)) then up_uses d ∷ unawaited (up_path path) else unawaited (up_path path)) (within-up 0 path)
-    ∙ ap (λ a. if stays_within1 0 path && not a then up_uses d ∷ unawaited (up_path path) else unawaited (up_path path)) (wait-up path)
+    ap (λ w. if w && not (is_awaited (up_uses d) (up_path path)) then up_uses d ∷ unawaited (up_path path) else unawaited (up_path path)) (within-up 0 path)
+    ∙ ap (λ a. if stays_within1 0 path && not a then up_uses d ∷ unawaited (up_path path) else unawaited (up_path path)) (awaited-up (up_uses d) path)
     ∙ ap (λ ds. if stays_within1 0 path && not (has_wait1 path) then up_uses d ∷ ds else ds) (unawaited-up path)
     ∙ sym (kept-up (stays_within1 0 path && not (has_wait1 path)) d (unawaited1 path))
 unawaited-up (At1 k Await1 ∷ path) = unawaited-up path

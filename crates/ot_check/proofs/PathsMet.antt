@@ -9,12 +9,12 @@ use Rattle.ot_model.specs.Uses.{same_fold}
 use Rattle.ot_model.specs.declared.fold.Fold.{Fold as Operation}
 use Rattle.ot_model.specs.declared.stmt.Use.{Use}
 use Rattle.ot_check.specs.Paths.{Mark, Touch, Create, Await, Enter, Leave, Step, At, touched, touches, PassesOne, Passes}
-use Rattle.ot_check.specs.Offences.{Declared, Openings, has_cell, has_wait, unawaited, is_open, OnPath, InTasks, InTasksOfOne, Offends, IsFirstOf}
+use Rattle.ot_check.specs.Offences.{Declared, Openings, has_cell, unawaited, is_open, OnPath, InTasks, InTasksOfOne, Offends, IsFirstOf}
 use Rattle.ot_check.specs.walk.Walk.{Children, may_break, anyone, nobody, nothing_open, behind_one, with_group, ends_with_children, first}
 use Rattle.ot_check.proofs.Steps.{some_unawaited, passes_one-closed, unawaited-append}
 use Rattle.ot_check.specs.declared.fault.Offence.{Offence}
 use Rattle.ot_check.specs.declared.fault.Offence.TheVariants.{NotDeclared, ChildBeyond, ReductionMisuse, ConflictsWithChild, EndsWithChildren}
-use Rattle.ot_check.proofs.After.{left_by, after-to, after-to_one, some_path, some_path_one}
+use Rattle.ot_check.proofs.After.{IsListed, listed-nobody, listed-behind_one, kept, left_by, behind-to, behind-to_one, some_path, some_path_one}
 use Rattle.ot_check.proofs.Meeting.{Meets, MeetsOne, meets-first}
 use Rattle.ot_check.proofs.PathsTold.{may_break-breaks, may_break-more, there_someone, BreaksBehind, quiet-open, quiet-unawaited, entered-open, entered-unawaited, passed-open, meets-on_path, meets-in_tasks}
 use Rattle.ot_check.proofs.Bits.{or_true, true_or, or_false, or_right, and_left, and_right, and_true}
@@ -25,6 +25,7 @@ use Rattle.ot_check.proofs.Bits.{or_true, true_or, or_false, or_right, and_left,
 pub record Reaches (I : Type 0) (prefix : I → List Step) (opened : Openings) (children : Children) : Type 0 where
   pub groups : (i : I) (o : Operation) (c : Cell) → opened o c ≡ is_open (prefix i) o c
   pub unawaited : (test : List Use → Bool) → children test ≡ true → (i : I) × (some_unawaited test (prefix i) ≡ true)
+  pub listed : IsListed children
   pub someone : I
 
 any-member : {I : Type 0} (F : I → Children) (all : Children) (test : Cell → List Use → Bool) (cs : List Cell)
@@ -44,7 +45,7 @@ may_break-member : {I : Type 0} (F : I → Children) (all : Children) (own : Dec
 may_break-member F all own o (Touch u) ConflictsWithChild member i h = member _ h
 may_break-member F all own o (Create d) ConflictsWithChild member i h = (i, h)
 may_break-member F all own o (Enter by cs) ConflictsWithChild member i h = any-member F all _ cs member h
-may_break-member F all own o Await ConflictsWithChild member i h = (i, h)
+may_break-member F all own o (Await w) ConflictsWithChild member i h = (i, h)
 may_break-member F all own o Leave ConflictsWithChild member i h = (i, h)
 may_break-member F all own o mark offence member i h = (i, h)
 
@@ -64,6 +65,7 @@ reaches-touched : {I : Type 0} (prefix : I → List Step) (opened : Openings) (c
 reaches-touched prefix opened children k uses h = record {
   groups = λ i o c. h.groups i o c ∙ sym (quiet-open o c (prefix i) k uses);
   unawaited = λ test is. let q = h.unawaited test is in (q.0, quiet-unawaited test (prefix q.0) k uses ∙ q.1);
+  listed = h.listed;
   someone = h.someone;
 }
 
@@ -72,6 +74,7 @@ reaches-entered : {I : Type 0} (prefix : I → List Step) (opened : Openings) (c
 reaches-entered prefix opened children k by cs h = record {
   groups = λ i o c. ap (λ b. b || (same_fold by o && has_cell cs c)) (h.groups i o c) ∙ sym (entered-open o c (prefix i) k by cs);
   unawaited = λ test is. let q = h.unawaited test is in (q.0, entered-unawaited test (prefix q.0) k by cs ∙ q.1);
+  listed = h.listed;
   someone = h.someone;
 }
 
@@ -86,22 +89,27 @@ reaches-passed : {I : Type 0} (prefix : I → List Step) (opened : Openings) (ch
     → Reaches I prefix opened children → Reaches (Further I k x) (further prefix k x) opened (behind_one children x)
 reaches-passed {I} prefix opened children k x h = record {
   groups = λ f o c. h.groups f.0 o c ∙ sym (passed-open o c (prefix f.0) k x f.1.0 f.1.1);
-  unawaited = λ test is. found test (after-to_one test k x (children test) is);
+  unawaited = λ test is. found test (behind-to_one k x children h.listed test is);
+  listed = listed-behind_one children x h.listed;
   someone = (h.someone, some_path_one k x);
 }
   where
-    found : (test : List Use → Bool) → ((path : List Step) × PassesOne k x path × (left_by test (children test) path ≡ true))
+    found : (test : List Use → Bool) → ((path : List Step) × PassesOne k x path × (left_by children path test ≡ true))
         → (f : Further I k x) × (some_unawaited test (further prefix k x f) ≡ true)
     found test p =
-        elim (or_true (children test && not (has_wait p.0)) (some_unawaited test p.0) p.2) [
-          | inl both ↦
-              let q = h.unawaited test (and_left (children test) (not (has_wait p.0)) both) in (
+        elim (or_true (children (kept test p.0)) (some_unawaited test p.0) p.2) [
+          | inl old ↦
+              let q = h.unawaited (kept test p.0) old in (
                 (q.0, (p.0, p.1)),
                 unawaited-append test (prefix q.0) p.0 (passes_one-closed k x p.0 p.1)
-                    ∙ true_or _ _ (and_true (some_unawaited test (prefix q.0)) (not (has_wait p.0)) q.1 (and_right (children test) (not (has_wait p.0)) both)),
+                    ∙ true_or (some_unawaited (kept test p.0) (prefix q.0)) (some_unawaited test p.0) q.1,
               )
           | inr made ↦
-              ((h.someone, (p.0, p.1)), unawaited-append test (prefix h.someone) p.0 (passes_one-closed k x p.0 p.1) ∙ or_right _ _ made)
+              (
+                (h.someone, (p.0, p.1)),
+                unawaited-append test (prefix h.someone) p.0 (passes_one-closed k x p.0 p.1)
+                    ∙ or_right (some_unawaited (kept test p.0) (prefix h.someone)) (some_unawaited test p.0) made,
+              )
         ]
 
 -- ---- an offence on a path, behind a prefix
@@ -166,7 +174,7 @@ ends-are d b k place NotDeclared here h = cc
 ends-are d b k place ChildBeyond here h = cc
 ends-are d b k place ReductionMisuse here h = cc
 ends-are d b k place ConflictsWithChild here h = cc
-ends-are d b k place EndsWithChildren here h = let p = after-to anyone (k + 1) b false h in inl (here, refl, (p.0, p.1, there_someone (unawaited p.0) p.2))
+ends-are d b k place EndsWithChildren here h = let p = behind-to (k + 1) b nobody listed-nobody anyone h in inl (here, refl, (p.0, p.1, there_someone (unawaited p.0) p.2))
 
 -- behind nothing it stands on the path itself
 stands-on_path : (k : ℕ) (b : Body) (own : Declared) (place : ℕ) (offence : Offence) → Stands [] (Passes k b) own place offence → OnPath k b own place offence
@@ -174,7 +182,7 @@ stands-on_path k b own place offence (before, later, mark, way, h) =
     (before, later, mark, way, sym (may_break-breaks own (is_open before) (unawaited before) mark offence) ∙ h)
 
 reaches-nothing : Reaches (Unit {0}) (λ (i : Unit {0}). []) nothing_open nobody
-reaches-nothing = record { groups = λ i o c. refl; unawaited = λ test h. (tt, h); someone = tt }
+reaches-nothing = record { groups = λ i o c. refl; unawaited = λ test h. (tt, h); listed = listed-nobody; someone = tt }
 
 mutual
   found_one : {I : Type 0} (prefix : I → List Step) (own : Declared) (opened : Openings) (children : Children) (k : ℕ) (x : S) (place : ℕ) (offence : Offence)
@@ -225,8 +233,8 @@ mutual
         | inl q ↦ inr (inr (inl (stands-on_path (k + 1) b (Some d) place offence q.1)))
         | inr t ↦ inr (inr (inr t))
       ]
-  found_one prefix own opened children k Wait place offence reaches (inl (here, h)) = cc
-  found_one prefix own opened children k Wait place offence reaches (inr h) = absurd h
+  found_one prefix own opened children k (Wait w) place offence reaches (inl (here, h)) = cc
+  found_one prefix own opened children k (Wait w) place offence reaches (inr h) = absurd h
   found_one prefix own opened children k (Group o cs b) place offence reaches (inl (here, h)) =
       let way = some_path (k + 1) b in
       let q = here-behind prefix opened children own (Enter o cs) offence reaches (or_false _ (or_false _ h)) in

@@ -1,6 +1,6 @@
 -- What stands on some path is met by the walk.
 use Rattle.std.proofs.Common.{◌≡◌, ◌≢◌, ℕ, ◌+◌, ◌++◌, Bool, true, false, not, ◌&&◌, ◌||◌, List, [], ◌∷◌, map, refl, sym, ap, subst, inl, inr, ◌∙◌, append_assoc, append-nil}
-use Rattle.std.specs.Prelude.{◌⊎◌, Some}
+use Rattle.std.specs.Prelude.{◌⊎◌, Option, Some}
 use Rattle.ot_model.specs.Uses.{same_fold}
 use Rattle.std.specs.List.{list_any}
 use Rattle.ot_model.specs.Tree.{S, Set, Fold, If, Task, Wait, Group, Body, End, Next}
@@ -11,13 +11,13 @@ use Rattle.ot_model.specs.declared.stmt.Mode.{Mode}
 use Rattle.ot_model.specs.declared.stmt.Mode.TheVariants.{Reads, Writes, Folds}
 use Rattle.ot_model.specs.declared.stmt.Use.{Use}
 use Rattle.ot_check.specs.Paths.{Mark, Touch, Create, Await, Enter, Leave, Step, At, touched, touches, use_as, PassesOne, Passes}
-use Rattle.ot_check.specs.Offences.{Declared, Openings, folds_to, allows, breaks, misfits, misfits_as, has_cell, unawaited, is_open, OnPath, InTasks, InTasksOfOne}
-use Rattle.ot_check.specs.walk.Walk.{Children, may_break, anyone, nobody, nothing_open, behind_one, with_group, is_offence, marks, after}
-use Rattle.ot_check.proofs.Steps.{some_unawaited, closed_of, touched-balanced, touched-open, touched-unawaited, touched-waits, passes_one-closed, passes_one-open, unawaited-append, open-append}
+use Rattle.ot_check.specs.Offences.{Declared, Openings, folds_to, allows, breaks, misfits, misfits_as, has_cell, is_awaited, unawaited, is_open, OnPath, InTasks, InTasksOfOne}
+use Rattle.ot_check.specs.walk.Walk.{Children, may_break, anyone, nobody, nothing_open, behind_one, with_group, is_offence, marks, behind}
+use Rattle.ot_check.proofs.Steps.{some_unawaited, closed_of, touched-balanced, touched-open, touched-unawaited, touched-awaited, passes_one-closed, passes_one-open, unawaited-append, open-append}
 use Rattle.ot_check.specs.declared.fault.Offence.{Offence}
 use Rattle.ot_check.specs.declared.fault.Offence.TheVariants.{ReductionMisuse, ConflictsWithChild, EndsWithChildren}
 use Rattle.ot_check.proofs.OpeningLemmas.{opened-same}
-use Rattle.ot_check.proofs.After.{after-from, after-from_one}
+use Rattle.ot_check.proofs.After.{IsListed, listed-list, listed-nobody, listed-behind_one, left_by, behind-from, behind-from_one}
 use Rattle.ot_check.proofs.Meeting.{Meets, MeetsOne}
 use Rattle.ot_check.proofs.Bits.{true_or, or_right, or_none, and_one, any-same, any-more}
 
@@ -55,7 +55,7 @@ pub may_break-breaks : (own : Declared) (opened : Openings) (children : List (Li
 may_break-breaks own opened children (Touch u) ConflictsWithChild = refl
 may_break-breaks own opened children (Create d) ConflictsWithChild = refl
 may_break-breaks own opened children (Enter o cs) ConflictsWithChild = refl
-may_break-breaks own opened children Await ConflictsWithChild = refl
+may_break-breaks own opened children (Await w) ConflictsWithChild = refl
 may_break-breaks own opened children Leave ConflictsWithChild = refl
 may_break-breaks own opened children mark offence = refl
 
@@ -69,7 +69,7 @@ may_break-more own o p few many same more (Create d) ReductionMisuse h =
     sym (any-same (misfits own o) (misfits own p) d (λ u. misfits-same own o p u same)) ∙ h
 may_break-more own o p few many same more (Enter by cs) ReductionMisuse h = sym (any-same _ _ cs (λ c. ap (λ b. not (allows own (use_as Writes c)) || b) (opened-same o p same c))) ∙ h
 may_break-more own o p few many same more (Enter by cs) ConflictsWithChild h = any-more _ _ cs (λ c. more _) h
-may_break-more own o p few many same more Await ConflictsWithChild h = h
+may_break-more own o p few many same more (Await w) ConflictsWithChild h = h
 may_break-more own o p few many same more Leave ConflictsWithChild h = h
 may_break-more own o p few many same more mark offence h = h
 
@@ -79,6 +79,7 @@ may_break-more own o p few many same more mark offence h = h
 pub record Holds (prefix : List Step) (opened : Openings) (children : Children) : Type 0 where
   pub groups : (o : Operation) (c : Cell) → is_open prefix o c ≡ opened o c
   pub unawaited : (test : List Use → Bool) → some_unawaited test prefix ≡ true → children test ≡ true
+  pub listed : IsListed children
 
 -- a step of a touch changes neither
 pub quiet-open : (o : Operation) (c : Cell) (prefix : List Step) (k : ℕ) (uses : List Use) → is_open (prefix ++ touched k uses) o c ≡ is_open prefix o c
@@ -90,15 +91,17 @@ pub quiet-unawaited : (test : List Use → Bool) (prefix : List Step) (k : ℕ) 
     → some_unawaited test (prefix ++ touched k uses) ≡ some_unawaited test prefix
 quiet-unawaited test prefix k uses =
     unawaited-append test prefix (touched k uses) (closed_of (touched k uses) (touched-balanced k uses))
-    ∙ ap (λ w. (some_unawaited test prefix && not w) || some_unawaited test (touched k uses)) (touched-waits k uses)
-    ∙ ap (λ b. (some_unawaited test prefix && true) || b) (ap (some_unawaited test) (sym (append-nil (touched k uses))) ∙ touched-unawaited test k uses [])
-    ∙ or_none (some_unawaited test prefix && true) ∙ and_one (some_unawaited test prefix)
+    ∙ ap (λ b. b || some_unawaited test (touched k uses)) (any-same _ test (unawaited prefix) (λ d.
+    ap (λ w. test d && not w) (touched-awaited d k uses) ∙ and_one (test d)))
+    ∙ ap (λ b. some_unawaited test prefix || b) (ap (some_unawaited test) (sym (append-nil (touched k uses))) ∙ touched-unawaited test k uses [])
+    ∙ or_none (some_unawaited test prefix)
 
 holds-touched : (prefix : List Step) (opened : Openings) (children : Children) (k : ℕ) (uses : List Use) → Holds prefix opened children
     → Holds (prefix ++ touched k uses) opened children
 holds-touched prefix opened children k uses h = record {
   groups = λ o c. quiet-open o c prefix k uses ∙ h.groups o c;
   unawaited = λ test is. h.unawaited test (sym (quiet-unawaited test prefix k uses) ∙ is);
+  listed = h.listed;
 }
 
 pub entered-open : (o : Operation) (c : Cell) (prefix : List Step) (k : ℕ) (by : Operation) (cs : List Cell)
@@ -110,13 +113,14 @@ pub entered-unawaited : (test : List Use → Bool) (prefix : List Step) (k : ℕ
     → some_unawaited test (prefix ++ At k (Enter by cs) ∷ []) ≡ some_unawaited test prefix
 entered-unawaited test prefix k by cs =
     unawaited-append test prefix (At k (Enter by cs) ∷ []) (λ n. refl)
-    ∙ or_none (some_unawaited test prefix && true) ∙ and_one (some_unawaited test prefix)
+    ∙ or_none (some_unawaited (λ d. test d && true) prefix) ∙ any-same _ test (unawaited prefix) (λ d. and_one (test d))
 
 holds-entered : (prefix : List Step) (opened : Openings) (children : Children) (k : ℕ) (by : Operation) (cs : List Cell) → Holds prefix opened children
     → Holds (prefix ++ At k (Enter by cs) ∷ []) (with_group opened by cs) children
 holds-entered prefix opened children k by cs h = record {
   groups = λ o c. entered-open o c prefix k by cs ∙ ap (λ b. b || (same_fold by o && has_cell cs c)) (h.groups o c);
   unawaited = λ test is. h.unawaited test (sym (entered-unawaited test prefix k by cs) ∙ is);
+  listed = h.listed;
 }
 
 pub passed-open : (o : Operation) (c : Cell) (prefix : List Step) (k : ℕ) (x : S) (one : List Step) → PassesOne k x one → is_open (prefix ++ one) o c ≡ is_open prefix o c
@@ -128,8 +132,9 @@ holds-passed : (prefix : List Step) (opened : Openings) (children : Children) (k
     → Holds prefix opened children → Holds (prefix ++ one) opened (behind_one children x)
 holds-passed prefix opened children k x one passes h = record {
   groups = λ o c. passed-open o c prefix k x one passes ∙ h.groups o c;
-  unawaited = λ test is. after-from_one test k x one passes (some_unawaited test prefix) (children test) (h.unawaited test)
+  unawaited = λ test is. behind-from_one k x one passes (λ test. some_unawaited test prefix) children (listed-list (unawaited prefix)) h.listed h.unawaited test
       (sym (unawaited-append test prefix one (passes_one-closed k x one passes)) ∙ is);
+  listed = listed-behind_one children x h.listed;
 }
 
 -- a mark behind a prefix and some steps is an offence
@@ -174,9 +179,9 @@ touched-meets own opened children k (u ∷ uses) prefix (b ∷ before) later pla
 abbrev pub MeetsHere : Declared → Openings → Children → ℕ → S → ℕ → Offence → Type 0
 MeetsHere own opened children k x place offence = (place ≡ k) × (is_offence own opened children x offence ≡ true)
 
-pub nothing-breaks : (own : Declared) (o : Openings) (p : Children) (offence : Offence) → may_break own o p Await offence ≡ true → ⊥
-nothing-breaks own o p ConflictsWithChild h = cc
-nothing-breaks own o p offence h = cc
+pub nothing-breaks : (own : Declared) (o : Openings) (p : Children) (w : Option (List Use)) (offence : Offence) → may_break own o p (Await w) offence ≡ true → ⊥
+nothing-breaks own o p w ConflictsWithChild h = cc
+nothing-breaks own o p w offence h = cc
 
 pub end-breaks : (own : Declared) (o : Openings) (p : Children) (offence : Offence) → may_break own o p Leave offence ≡ true → ⊥
 end-breaks own o p ConflictsWithChild h = cc
@@ -223,10 +228,10 @@ mutual
         true_or _ _ (true_or _ _ (ap (λ m. may_break own opened children m offence) what
             ∙ here-breaks prefix opened children own mark offence holds (subst (λ b. BreaksBehind prefix b own mark offence) o.0 h))),
       )
-  meets-from_one own opened children k Wait prefix before later place mark offence holds is h =
-      let o = only (At k Await) before (At place mark) later (sym is) in
-      let what : mark ≡ Await = cc in
-      absurd (nothing-breaks own opened children offence (ap (λ m. may_break own opened children m offence) (sym what)
+  meets-from_one own opened children k (Wait w) prefix before later place mark offence holds is h =
+      let o = only (At k (Await w)) before (At place mark) later (sym is) in
+      let what : mark ≡ Await w = cc in
+      absurd (nothing-breaks own opened children w offence (ap (λ m. may_break own opened children m offence) (sym what)
       ∙ here-breaks prefix opened children own mark offence holds (subst (λ b. BreaksBehind prefix b own mark offence) o.0 h)))
   meets-from_one own opened children k (Group o cs b) prefix [] later place mark offence holds (inside, is, way) h =
       let at_place : k ≡ place = cc in
@@ -265,7 +270,7 @@ mutual
       ]
 
 holds-nothing : Holds [] nothing_open nobody
-holds-nothing = record { groups = λ o c. refl; unawaited = λ test h. h }
+holds-nothing = record { groups = λ o c. refl; unawaited = λ test h. h; listed = listed-nobody }
 
 pub meets-on_path : (k : ℕ) (b : Body) (own : Declared) (place : ℕ) (offence : Offence) → OnPath k b own place offence
     → Meets own nothing_open nobody k b place offence
@@ -290,11 +295,12 @@ mutual
   meets-in_tasks_one own opened children k (If e a b) place offence (inl h) = inr (inl (meets-in_tasks own opened children (k + 1) a place offence h))
   meets-in_tasks_one own opened children k (If e a b) place offence (inr h) = inr (inr (meets-in_tasks own opened children (k + 1 + size a) b place offence h))
   meets-in_tasks_one own opened children k (Task d b) place offence (inl (here, is, left)) =
-      let ends : after anyone false b ≡ true = after-from anyone (k + 1) b left.0 left.1 false false (λ e. e) (someone_there (unawaited left.0) left.2) in
-      inl (here, subst (λ c. is_offence own opened children (Task d b) c ≡ true) (sym is) (or_right (list_any (λ m. may_break own opened children m EndsWithChildren) (marks (Task d b))) (after anyone false b) ends))
+      let ends : behind nobody b anyone ≡ true =
+      behind-from (k + 1) b left.0 left.1 nobody nobody listed-nobody listed-nobody (λ test e. e) anyone (someone_there (unawaited left.0) left.2) in
+      inl (here, subst (λ c. is_offence own opened children (Task d b) c ≡ true) (sym is) (or_right (list_any (λ m. may_break own opened children m EndsWithChildren) (marks (Task d b))) (behind nobody b anyone) ends))
   meets-in_tasks_one own opened children k (Task d b) place offence (inr (inl h)) = inr (meets-on_path (k + 1) b (Some d) place offence h)
   meets-in_tasks_one own opened children k (Task d b) place offence (inr (inr h)) = inr (meets-in_tasks (Some d) nothing_open nobody (k + 1) b place offence h)
-  meets-in_tasks_one own opened children k Wait place offence h = absurd h
+  meets-in_tasks_one own opened children k (Wait w) place offence h = absurd h
   meets-in_tasks_one own opened children k (Group o cs b) place offence h = inr (meets-in_tasks own (with_group opened o cs) children (k + 1) b place offence h)
 
   pub meets-in_tasks : (own : Declared) (opened : Openings) (children : Children) (k : ℕ) (b : Body) (place : ℕ) (offence : Offence)

@@ -10,7 +10,7 @@ use Rattle.ot_model.specs.declared.expr.Cell.{Cell}
 use Rattle.ot_model.specs.declared.fold.Fold.{Fold as Operation}
 use Rattle.ot_model.specs.declared.stmt.Use.{Use}
 use Rattle.ot_check.specs.Paths.{Touch, Create, Await, Enter, Leave, Step, At, touched, touches, PassesOne, Passes}
-use Rattle.ot_check.specs.Offences.{stays_within, is_wait, has_wait, unawaited, is_open, has_cell}
+use Rattle.ot_check.specs.Offences.{stays_within, is_wait_for, is_awaited, unawaited, is_open, has_cell}
 use Rattle.ot_check.proofs.Bits.{and_one}
 
 -- these steps leave no group that they don't enter
@@ -28,17 +28,18 @@ pub within-closed : (path closed : List Step) → IsClosed closed → (n : ℕ) 
 within-closed [] closed h n = h n
 within-closed (At k (Touch u) ∷ path) closed h n = within-closed path closed h n
 within-closed (At k (Create d) ∷ path) closed h n = within-closed path closed h n
-within-closed (At k Await ∷ path) closed h n = within-closed path closed h n
+within-closed (At k (Await w) ∷ path) closed h n = within-closed path closed h n
 within-closed (At k (Enter o cs) ∷ path) closed h n = within-closed path closed h (suc n)
 within-closed (At k Leave ∷ path) closed h zero = refl
 within-closed (At k Leave ∷ path) closed h (suc n) = within-closed path closed h n
 
-bits-unawaited : (t w h g u v : Bool) → ((t && (w && not (h || g))) || ((u && not g) || v)) ≡ ((((t && (w && not h)) || u) && not g) || v)
+bits-unawaited : (t w h g u v : Bool) → ((t && (w && not (h || g))) || (u || v)) ≡ ((((t && not g) && (w && not h)) || u) || v)
 bits-unawaited false w h g u v = refl
-bits-unawaited true false h g u v = refl
-bits-unawaited true true true g u v = refl
-bits-unawaited true true false true false v = refl
-bits-unawaited true true false true true v = refl
+bits-unawaited true false h true u v = refl
+bits-unawaited true false h false u v = refl
+bits-unawaited true true true true u v = refl
+bits-unawaited true true true false u v = refl
+bits-unawaited true true false true u v = refl
 bits-unawaited true true false false u v = refl
 
 bits-open : (a w u v : Bool) → ((a && w) || (u || v)) ≡ (((a && w) || u) || v)
@@ -61,22 +62,26 @@ some_kept test d children false = sym (bits-out (test d) (list_any test children
 
 -- the child that is created first, or a later one
 pub unawaited-created : (test : List Use → Bool) (k : ℕ) (d : List Use) (path : List Step)
-    → some_unawaited test (At k (Create d) ∷ path) ≡ ((test d && (stays_within 0 path && not (has_wait path))) || some_unawaited test path)
-unawaited-created test k d path = some_kept test d (unawaited path) (stays_within 0 path && not (has_wait path))
+    → some_unawaited test (At k (Create d) ∷ path) ≡ ((test d && (stays_within 0 path && not (is_awaited d path))) || some_unawaited test path)
+unawaited-created test k d path = some_kept test d (unawaited path) (stays_within 0 path && not (is_awaited d path))
 
--- children that are unawaited behind steps that leave no group: those from before, where nothing waits, and those made in them
+-- a wait that awaits a child, in one of two parts
+pub awaited-append : (d : List Use) (one later : List Step) → is_awaited d (one ++ later) ≡ (is_awaited d one || is_awaited d later)
+awaited-append d one later = list_any-append (is_wait_for d) one later
+
+-- children that are unawaited behind steps that leave no group: those from before that they don't await, and those made in them
 pub unawaited-append : (test : List Use → Bool) (path closed : List Step) → IsClosed closed
-    → some_unawaited test (path ++ closed) ≡ ((some_unawaited test path && not (has_wait closed)) || some_unawaited test closed)
+    → some_unawaited test (path ++ closed) ≡ (some_unawaited (λ d. test d && not (is_awaited d closed)) path || some_unawaited test closed)
 unawaited-append test [] closed h = refl
 unawaited-append test (At k (Touch u) ∷ path) closed h = unawaited-append test path closed h
 unawaited-append test (At k (Create d) ∷ path) closed h =
     unawaited-created test k d (path ++ closed)
-    ∙ ap (λ w. (test d && (w && not (has_wait (path ++ closed)))) || some_unawaited test (path ++ closed)) (within-closed path closed h 0)
-    ∙ ap (λ b. (test d && (stays_within 0 path && not b)) || some_unawaited test (path ++ closed)) (list_any-append is_wait path closed)
-    ∙ ap (λ b. (test d && (stays_within 0 path && not (has_wait path || has_wait closed))) || b) (unawaited-append test path closed h)
-    ∙ bits-unawaited (test d) (stays_within 0 path) (has_wait path) (has_wait closed) (some_unawaited test path) (some_unawaited test closed)
-    ∙ ap (λ b. (b && not (has_wait closed)) || some_unawaited test closed) (sym (unawaited-created test k d path))
-unawaited-append test (At k Await ∷ path) closed h = unawaited-append test path closed h
+    ∙ ap (λ w. (test d && (w && not (is_awaited d (path ++ closed)))) || some_unawaited test (path ++ closed)) (within-closed path closed h 0)
+    ∙ ap (λ b. (test d && (stays_within 0 path && not b)) || some_unawaited test (path ++ closed)) (awaited-append d path closed)
+    ∙ ap (λ b. (test d && (stays_within 0 path && not (is_awaited d path || is_awaited d closed))) || b) (unawaited-append test path closed h)
+    ∙ bits-unawaited (test d) (stays_within 0 path) (is_awaited d path) (is_awaited d closed) (some_unawaited (λ e. test e && not (is_awaited e closed)) path) (some_unawaited test closed)
+    ∙ ap (λ b. b || some_unawaited test closed) (sym (unawaited-created (λ e. test e && not (is_awaited e closed)) k d path))
+unawaited-append test (At k (Await w) ∷ path) closed h = unawaited-append test path closed h
 unawaited-append test (At k (Enter o cs) ∷ path) closed h = unawaited-append test path closed h
 unawaited-append test (At k Leave ∷ path) closed h = unawaited-append test path closed h
 
@@ -84,7 +89,7 @@ pub open-append : (o : Operation) (c : Cell) (path closed : List Step) → IsClo
 open-append o c [] closed h = refl
 open-append o c (At k (Touch u) ∷ path) closed h = open-append o c path closed h
 open-append o c (At k (Create d) ∷ path) closed h = open-append o c path closed h
-open-append o c (At k Await ∷ path) closed h = open-append o c path closed h
+open-append o c (At k (Await w) ∷ path) closed h = open-append o c path closed h
 open-append o c (At k (Enter by cs) ∷ path) closed h =
     ap (λ w. ((same_fold by o && has_cell cs c) && w) || is_open (path ++ closed) o c) (within-closed path closed h 0)
     ∙ ap (λ b. ((same_fold by o && has_cell cs c) && stays_within 0 path) || b) (open-append o c path closed h)
@@ -97,9 +102,9 @@ pub touched-balanced : (k : ℕ) (uses : List Use) → IsBalanced (touched k use
 touched-balanced k [] n later = refl
 touched-balanced k (u ∷ uses) n later = touched-balanced k uses n later
 
-pub touched-waits : (k : ℕ) (uses : List Use) → has_wait (touched k uses) ≡ false
-touched-waits k [] = refl
-touched-waits k (u ∷ uses) = touched-waits k uses
+pub touched-awaited : (d : List Use) (k : ℕ) (uses : List Use) → is_awaited d (touched k uses) ≡ false
+touched-awaited d k [] = refl
+touched-awaited d k (u ∷ uses) = touched-awaited d k uses
 
 pub touched-unawaited : (test : List Use → Bool) (k : ℕ) (uses : List Use) (later : List Step)
     → some_unawaited test (touched k uses ++ later) ≡ some_unawaited test later
@@ -124,7 +129,7 @@ mutual
   passes_one-balanced k (If e a b) path (inside, is, inr h) =
       subst IsBalanced (sym is) (both-balanced (touched k (touches (If e a b))) inside (touched-balanced k (touches (If e a b))) (passes-balanced (k + 1 + size a) b inside h))
   passes_one-balanced k (Task d b) path is = subst IsBalanced (sym is) (λ n later. refl)
-  passes_one-balanced k Wait path is = subst IsBalanced (sym is) (λ n later. refl)
+  passes_one-balanced k (Wait w) path is = subst IsBalanced (sym is) (λ n later. refl)
   passes_one-balanced k (Group o cs b) path (inside, is, h) =
       subst IsBalanced (sym is) (λ n later. ap (stays_within (suc n)) (append_assoc inside (At k Leave ∷ []) later)
       ∙ passes-balanced (k + 1) b inside h (suc n) (At k Leave ∷ later))
@@ -159,8 +164,8 @@ mutual
   unawaited-left_one test k (Task d b) path is later left =
       subst (λ p. some_unawaited test (p ++ later) ≡ some_unawaited test later) (sym is)
       (unawaited-created test k d later
-      ∙ ap (λ w. (test d && (w && not (has_wait later))) || some_unawaited test later) left ∙ bits-out (test d) (some_unawaited test later))
-  unawaited-left_one test k Wait path is later left = subst (λ p. some_unawaited test (p ++ later) ≡ some_unawaited test later) (sym is) refl
+      ∙ ap (λ w. (test d && (w && not (is_awaited d later))) || some_unawaited test later) left ∙ bits-out (test d) (some_unawaited test later))
+  unawaited-left_one test k (Wait w) path is later left = subst (λ p. some_unawaited test (p ++ later) ≡ some_unawaited test later) (sym is) refl
   unawaited-left_one test k (Group o cs b) path (inside, is, h) later left =
       subst (λ p. some_unawaited test (p ++ later) ≡ some_unawaited test later) (sym is)
       (ap (some_unawaited test) (append_assoc inside (At k Leave ∷ []) later) ∙ unawaited-left test (k + 1) b inside h (At k Leave ∷ later) refl)
@@ -196,7 +201,7 @@ mutual
       (ap (λ p. is_open p o c) (append_assoc (touched k (touches (If e a b))) inside later)
       ∙ touched-open o c k (touches (If e a b)) (inside ++ later) ∙ passes-open o c (k + 1 + size a) b inside h later)
   passes_one-open o c k (Task d b) path is later = subst (λ p. is_open (p ++ later) o c ≡ is_open later o c) (sym is) refl
-  passes_one-open o c k Wait path is later = subst (λ p. is_open (p ++ later) o c ≡ is_open later o c) (sym is) refl
+  passes_one-open o c k (Wait w) path is later = subst (λ p. is_open (p ++ later) o c ≡ is_open later o c) (sym is) refl
   passes_one-open o c k (Group by cs b) path (inside, is, h) later =
       subst (λ p. is_open (p ++ later) o c ≡ is_open later o c) (sym is)
       (ap (λ p. ((same_fold by o && has_cell cs c) && stays_within 0 p) || is_open p o c) (append_assoc inside (At k Leave ∷ []) later)

@@ -90,7 +90,7 @@ harmless lens own opened children (Next (Fold o c e) more) rest only named h =
     )
 harmless lens own opened children (Next (If e a b) more) rest only named h = absurd only
 harmless lens own opened children (Next (Task d b) more) rest only named h = absurd only
-harmless lens own opened children (Next Wait more) rest only named h = absurd only
+harmless lens own opened children (Next (Wait w) more) rest only named h = absurd only
 harmless lens own opened children (Next (Group o cs b) more) rest only named h = absurd only
 
 -- the condition of an `if` that comes next

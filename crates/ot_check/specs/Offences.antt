@@ -4,7 +4,7 @@ use Rattle.std.specs.List.{list_any}
 use Rattle.ot_model.specs.Tree.{S, Set, Fold, If, Task, Wait, Group, Body, End, Next}
 use Rattle.ot_model.specs.Cells.{same_cell}
 use Rattle.ot_model.specs.Counts.{size, size_one}
-use Rattle.ot_model.specs.Uses.{conflicts, is_fold, same_fold}
+use Rattle.ot_model.specs.Uses.{conflicts, depends_on, is_fold, same_fold}
 use Rattle.ot_model.specs.declared.expr.Cell.{Cell}
 use Rattle.ot_model.specs.declared.fold.Fold.{Fold as Operation}
 use Rattle.ot_model.specs.declared.fold.Fold.TheVariants.{Plus, Times, And, Or, Xor, Min, Max}
@@ -80,25 +80,32 @@ abbrev pub stays_within : ℕ → List Step → Bool
 stays_within n [] = true
 stays_within n (At k (Touch u) ∷ path) = stays_within n path
 stays_within n (At k (Create d) ∷ path) = stays_within n path
-stays_within n (At k Await ∷ path) = stays_within n path
+stays_within n (At k (Await w) ∷ path) = stays_within n path
 stays_within n (At k (Enter o cs) ∷ path) = stays_within (suc n) path
 stays_within zero (At k Leave ∷ path) = false
 stays_within (suc n) (At k Leave ∷ path) = stays_within n path
 
-abbrev pub is_wait : Step → Bool
-is_wait (At k Await) = true
-is_wait _ = false
+-- whether a wait awaits a child with this declaration: one that declares nothing awaits each, one that declares
+-- cells those on which an empty task with its declaration would depend (OpenMP API 5.2, sections 15.5, 15.9.5)
+abbrev pub awaits : Option (List Use) → List Use → Bool
+awaits None child = true
+awaits (Some uses) child = depends_on child uses
 
-abbrev pub has_wait : List Step → Bool
-has_wait path = list_any is_wait path
+abbrev pub is_wait_for : List Use → Step → Bool
+is_wait_for child (At k (Await w)) = awaits w child
+is_wait_for child _ = false
 
--- the children that are unawaited behind these steps, each by what it declares: neither a wait nor the
--- end of a group in which it was created stands behind its creation (OpenMP API 5.2, sections 15.4, 15.5)
+-- whether one of these steps is a wait that awaits it
+abbrev pub is_awaited : List Use → List Step → Bool
+is_awaited child path = list_any (is_wait_for child) path
+
+-- the children that are unawaited behind these steps, each by what it declares: neither a wait that awaits it nor
+-- the end of a group in which it was created stands behind its creation (OpenMP API 5.2, sections 15.4, 15.5)
 abbrev pub unawaited : List Step → List (List Use)
 unawaited [] = []
 unawaited (At k (Touch u) ∷ path) = unawaited path
-unawaited (At k (Create d) ∷ path) = if stays_within 0 path && not (has_wait path) then d ∷ unawaited path else unawaited path
-unawaited (At k Await ∷ path) = unawaited path
+unawaited (At k (Create d) ∷ path) = if stays_within 0 path && not (is_awaited d path) then d ∷ unawaited path else unawaited path
+unawaited (At k (Await w) ∷ path) = unawaited path
 unawaited (At k (Enter o cs) ∷ path) = unawaited path
 unawaited (At k Leave ∷ path) = unawaited path
 
@@ -107,7 +114,7 @@ abbrev pub is_open : List Step → Openings
 is_open [] o c = false
 is_open (At k (Touch u) ∷ path) o c = is_open path o c
 is_open (At k (Create d) ∷ path) o c = is_open path o c
-is_open (At k Await ∷ path) o c = is_open path o c
+is_open (At k (Await w) ∷ path) o c = is_open path o c
 is_open (At k (Enter by cs) ∷ path) o c = (same_fold by o && has_cell cs c && stays_within 0 path) || is_open path o c
 is_open (At k Leave ∷ path) o c = is_open path o c
 
@@ -144,7 +151,7 @@ abbrev mutual
   InTasksOfOne k (Task d b) place offence =
       ((place ≡ k) × (offence ≡ EndsWithChildren) × CanEndWithChildren (k + 1) b)
       ⊎ (OnPath (k + 1) b (Some d) place offence ⊎ InTasks (k + 1) b place offence)
-  InTasksOfOne k Wait place offence = ⊥
+  InTasksOfOne k (Wait w) place offence = ⊥
   InTasksOfOne k (Group o cs b) place offence = InTasks (k + 1) b place offence
 
   pub InTasks : ℕ → Body → ℕ → Offence → Type 0

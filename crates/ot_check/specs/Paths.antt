@@ -1,5 +1,5 @@
 -- The paths of a body: runs through it that take either body of each `if`, whatever the values.
-use Rattle.std.specs.Prelude.{◌≡◌, ℕ, ◌+◌, ◌++◌, ◌⊎◌, List, [], ◌∷◌, map}
+use Rattle.std.specs.Prelude.{◌≡◌, ℕ, ◌+◌, ◌++◌, ◌⊎◌, List, [], ◌∷◌, map, Option}
 use Rattle.ot_model.specs.Tree.{S, Set, Fold, If, Task, Wait, Group, Body, End, Next}
 use Rattle.ot_model.specs.Value.{cells_named}
 use Rattle.ot_model.specs.Counts.{size, size_one}
@@ -9,11 +9,11 @@ use Rattle.ot_model.specs.declared.stmt.Mode.{Mode}
 use Rattle.ot_model.specs.declared.stmt.Mode.TheVariants.{Reads, Writes, Folds}
 use Rattle.ot_model.specs.declared.stmt.Use.{Use}
 
--- what a path passes: a use of a cell, a child's creation, a wait, the beginning and the end of a group
+-- what a path passes: a use of a cell, a child's creation, a wait and what it declares, if it does, the beginning and the end of a group
 pub data Mark : Type 0 where
   Touch : Use → Mark
   Create : List Use → Mark
-  Await : Mark
+  Await : Option (List Use) → Mark
   Enter : Operation → List Cell → Mark
   Leave : Mark
 
@@ -45,7 +45,7 @@ abbrev mutual
   PassesOne k (If e a b) path =
       (inside : List Step) × (path ≡ touched k (touches (If e a b)) ++ inside) × (Passes (k + 1) a inside ⊎ Passes (k + 1 + size a) b inside)
   PassesOne k (Task d b) path = path ≡ At k (Create d) ∷ []
-  PassesOne k Wait path = path ≡ At k Await ∷ []
+  PassesOne k (Wait w) path = path ≡ At k (Await w) ∷ []
   PassesOne k (Group o cs b) path = (inside : List Step) × (path ≡ At k (Enter o cs) ∷ (inside ++ At k Leave ∷ [])) × Passes (k + 1) b inside
 
   pub Passes : ℕ → Body → List Step → Type 0

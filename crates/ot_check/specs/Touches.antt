@@ -22,7 +22,7 @@ abbrev mutual
   EachTouchOne P (Fold o c e) = EachRead (λ d. P (use_as Reads d)) e × P (use_as (Folds o) c)
   EachTouchOne P (If e a b) = EachRead (λ d. P (use_as Reads d)) e × EachTouch P a × EachTouch P b
   EachTouchOne P (Task d b) = EachTouch P b
-  EachTouchOne P Wait = Unit {0}
+  EachTouchOne P (Wait w) = Unit {0}
   EachTouchOne P (Group o cs b) = EachTouch P b
 
   pub EachTouch : (Use → Type 0) → Body → Type 0
@@ -36,7 +36,7 @@ abbrev mutual
   EachTaskOne P (Fold o c e) = Unit {0}
   EachTaskOne P (If e a b) = EachTask P a × EachTask P b
   EachTaskOne P (Task d b) = P d b × EachTask P b
-  EachTaskOne P Wait = Unit {0}
+  EachTaskOne P (Wait w) = Unit {0}
   EachTaskOne P (Group o cs b) = EachTask P b
 
   pub EachTask : (List Use → Body → Type 0) → Body → Type 0

@@ -4,3 +4,4 @@ pub mod LineLemmas
 pub mod ReplyLemmas
 pub mod JoinLemmas
 pub mod ExplainLemmas
+pub mod AwaitsLemmas

@@ -1,44 +1,50 @@
 -- Steps of the walk: what it carries, and where it comes.
 use Rattle.std.proofs.Common.{◌≡◌, ℕ, ◌+◌, ◌++◌, true, false, not, ◌||◌, List, [], ◌∷◌, refl, sym, ap, subst, inl, inr, ◌∙◌, append_assoc, append-nil}
 use Rattle.std.specs.Prelude.{⊤, Option, Some, None, Result, Ok, Err, IfSome, IfErr}
-use Rattle.std.specs.List.{list_any}
-use Rattle.std.proofs.lemmas.List.Folds.{list_any-append}
 use Rattle.ot_model.specs.Tree.{E, S, Set, Fold, If, Task, Wait, Group, Body, End, Next}
 use Rattle.ot_model.specs.Counts.{size, size_one}
 use Rattle.ot_model.specs.declared.expr.Cell.{Cell}
 use Rattle.ot_model.specs.declared.fold.Fold.{Fold as Operation}
 use Rattle.ot_model.specs.declared.stmt.Use.{Use}
-use Rattle.ot_check.specs.Paths.{Create, Enter, Leave, Step, At, touched, touches, PassesOne, Passes}
-use Rattle.ot_check.specs.Offences.{stays_within, is_wait, has_wait, unawaited}
+use Rattle.ot_check.specs.Paths.{Create, Await, Enter, Leave, Step, At, touched, touches, PassesOne, Passes}
+use Rattle.ot_check.specs.Offences.{stays_within, awaits, is_awaited}
 use Rattle.ot_check.specs.walk.Walk.{through}
 use Rattle.ot_check.proofs.Bits.{and_true, and_left, and_right, true_not, not_true, false_or, or_none}
-use Rattle.ot_check.proofs.Steps.{IsClosed, closed_of, within-closed, touched-balanced, touched-waits, passes_one-closed}
-use Rattle.ot_check.proofs.After.{some_path, some_path_one, after-to_one}
+use Rattle.ot_check.proofs.Steps.{IsClosed, closed_of, within-closed, awaited-append, touched-balanced, touched-awaited, passes_one-closed}
+use Rattle.ot_check.proofs.After.{some_path, some_path_one, through-to}
 use Rattle.ot_explain.specs.declared.child.Child.{Child}
 use Rattle.ot_explain.specs.Races.{IsPending, Stands, Somewhere, InTask, InTaskOne, IsAt}
-use Rattle.ot_explain.specs.Walk.{Pending, pending_of, Carried, Carries, Reaches, Comes, Arrives, ArrivesOne}
+use Rattle.ot_explain.specs.Walk.{Pending, pending_of, Declares, Carried, Carries, Reaches, Comes, Arrives, ArrivesOne}
 
 -- ---- who stays pending
 
-pending_past : (steps path : List Step) (child : ℕ) (declared : List Use) → IsClosed path → has_wait path ≡ false
+pending_past : (steps path : List Step) (child : ℕ) (declared : List Use) → IsClosed path → is_awaited declared path ≡ false
     → IsPending steps child declared → IsPending (steps ++ path) child declared
 pending_past steps path child declared closed none h = record {
   before = h.before;
   behind = h.behind ++ path;
   created = ap (λ s. s ++ path) h.created ∙ append_assoc h.before (At child (Create declared) ∷ h.behind) path;
-  unawaited = and_true (stays_within 0 (h.behind ++ path)) (not (has_wait (h.behind ++ path)))
-      (within-closed h.behind path closed 0 ∙ and_left (stays_within 0 h.behind) (not (has_wait h.behind)) h.unawaited)
-      (true_not (has_wait (h.behind ++ path)) (list_any-append is_wait h.behind path
-      ∙ false_or (has_wait h.behind) (has_wait path)
-      (not_true (has_wait h.behind) (and_right (stays_within 0 h.behind) (not (has_wait h.behind)) h.unawaited)) none));
+  unawaited = and_true (stays_within 0 (h.behind ++ path)) (not (is_awaited declared (h.behind ++ path)))
+      (within-closed h.behind path closed 0 ∙ and_left (stays_within 0 h.behind) (not (is_awaited declared h.behind)) h.unawaited)
+      (true_not (is_awaited declared (h.behind ++ path)) (awaited-append declared h.behind path
+      ∙ false_or (is_awaited declared h.behind) (is_awaited declared path)
+      (not_true (is_awaited declared h.behind) (and_right (stays_within 0 h.behind) (not (is_awaited declared h.behind)) h.unawaited)) none));
 }
 
-pub carried_past : (steps path : List Step) (p : Pending) → IsClosed path → has_wait path ≡ false → Carried steps p → Carried (steps ++ path) p
+pub carried_past : (steps path : List Step) (p : Pending) → IsClosed path → Declares (λ d. is_awaited d path ≡ false) p
+    → Carried steps p → Carried (steps ++ path) p
 carried_past steps path None closed none h = tt
 carried_past steps path (Some child) closed none h = pending_past steps path child.0 child.1 closed none h
 
+-- what is true of each declaration
+of_each : (P : List Use → Type 0) (p : Pending) → ((d : List Use) → P d) → Declares P p
+of_each P None each = tt
+of_each P (Some child) each = each child.1
+
 carried_touched : (steps : List Step) (k : ℕ) (uses : List Use) (p : Pending) → Carried steps p → Carried (steps ++ touched k uses) p
-carried_touched steps k uses p h = carried_past steps (touched k uses) p (closed_of (touched k uses) (touched-balanced k uses)) (touched-waits k uses) h
+carried_touched steps k uses p h =
+    carried_past steps (touched k uses) p (closed_of (touched k uses) (touched-balanced k uses))
+    (of_each (λ d. is_awaited d (touched k uses) ≡ false) p (λ d. touched-awaited d k uses)) h
 
 -- ---- what is carried behind a statement
 
@@ -64,26 +70,32 @@ carries-second k e a b p q two steps h =
     (t ++ w.0, (w.0, refl, inr w.1), subst (λ s. Carried s q) (append_assoc steps t w.0) w.2)
 
 pub carries-task : (k : ℕ) (d : List Use) (b : Body) (p : Pending) → Carries (PassesOne k (Task d b)) p p
-carries-task k d b p steps h = (At k (Create d) ∷ [], refl, carried_past steps (At k (Create d) ∷ []) p (λ n. refl) refl h)
+carries-task k d b p steps h =
+    let path : List Step = At k (Create d) ∷ [] in
+    (path, refl, carried_past steps path p (λ n. refl) (of_each (λ e. is_awaited e path ≡ false) p (λ e. refl)) h)
 
 pub carries-made : (k : ℕ) (d : List Use) (b : Body) (p : Pending) → Carries (PassesOne k (Task d b)) p (Some (k, d))
 carries-made k d b p steps h = (At k (Create d) ∷ [], refl, record { before = steps; behind = []; created = refl; unawaited = refl })
 
-none_passes : (children : List (List Use)) → list_any (λ (d : List Use). false) children ≡ false
-none_passes [] = refl
-none_passes (d ∷ children) = none_passes children
+pub carries-wait : (k : ℕ) (w : Option (List Use)) (p : Pending) → Declares (λ d. awaits w d ≡ false) p → Carries (PassesOne k (Wait w)) p p
+carries-wait k w None free steps h = (At k (Await w) ∷ [], refl, tt)
+carries-wait k w (Some child) free steps h =
+    let path : List Step = At k (Await w) ∷ [] in
+    (path, refl, pending_past steps path child.0 child.1 (λ n. refl) (or_none (awaits w child.1) ∙ free) h)
 
--- a path through a group without a wait
-no_wait : (k : ℕ) (o : Operation) (cells : List Cell) (b : Body) → through b ≡ true → (path : List Step) × PassesOne k (Group o cells b) path × (has_wait path ≡ false)
-no_wait k o cells b h =
-    let w = after-to_one (λ (d : List Use). false) k (Group o cells b) true h in
-    let free : (not (has_wait w.0) || list_any (λ (d : List Use). false) (unawaited w.0)) ≡ true = w.2 in
-    (w.0, w.1, not_true (has_wait w.0) (sym (ap (λ u. not (has_wait w.0) || u) (none_passes (unawaited w.0)) ∙ or_none (not (has_wait w.0))) ∙ free))
+-- a path through a group that doesn't await it
+through_group : (d : List Use) (k : ℕ) (o : Operation) (cells : List Cell) (b : Body) → through d b ≡ true
+    → (path : List Step) × PassesOne k (Group o cells b) path × (is_awaited d path ≡ false)
+through_group d k o cells b h =
+    let w = through-to d (k + 1) b h in
+    (At k (Enter o cells) ∷ (w.0 ++ At k Leave ∷ []), (w.0, refl, w.1), awaited-append d w.0 (At k Leave ∷ []) ∙ or_none (is_awaited d w.0) ∙ w.2)
 
-pub carries-group : (k : ℕ) (o : Operation) (cells : List Cell) (b : Body) (p : Pending) → through b ≡ true → Carries (PassesOne k (Group o cells b)) p p
-carries-group k o cells b p free steps h =
-    let w = no_wait k o cells b free in
-    (w.0, w.1, carried_past steps w.0 p (passes_one-closed k (Group o cells b) w.0 w.1) w.2 h)
+pub carries-group : (k : ℕ) (o : Operation) (cells : List Cell) (b : Body) (p : Pending) → Declares (λ d. through d b ≡ true) p
+    → Carries (PassesOne k (Group o cells b)) p p
+carries-group k o cells b None free steps h = let w = some_path_one k (Group o cells b) in (w.0, w.1, tt)
+carries-group k o cells b (Some child) free steps h =
+    let w = through_group child.1 k o cells b free in
+    (w.0, w.1, pending_past steps w.0 child.0 child.1 (passes_one-closed k (Group o cells b) w.0 w.1) w.2 h)
 
 -- ---- what is carried behind a body
 
@@ -167,7 +179,12 @@ pub arrives-group : (k : ℕ) (o : Operation) (cells : List Cell) (b : Body) (p 
 arrives-group k o cells b p place x now (inl reaches) =
     let Inside : List Step → Type 0 = λ path. (inside : List Step) × (path ≡ inside ++ At k Leave ∷ []) × Passes (k + 1) b inside in
     inl (reaches-behind Inside (PassesOne k (Group o cells b)) p p place x now
-    (λ steps h. (At k (Enter o cells) ∷ [], carried_past steps (At k (Enter o cells) ∷ []) p (λ n. refl) refl h, λ path way. (way.0, ap (λ s. At k (Enter o cells) ∷ s) way.1, way.2)))
+    (λ steps h. (
+      At k (Enter o cells) ∷ [],
+      carried_past steps (At k (Enter o cells) ∷ []) p (λ n. refl)
+          (of_each (λ d. is_awaited d (At k (Enter o cells) ∷ []) ≡ false) p (λ d. refl)) h,
+      λ path way. (way.0, ap (λ s. At k (Enter o cells) ∷ s) way.1, way.2),
+    ))
     (reaches-before (Passes (k + 1) b) Inside p place x now (At k Leave ∷ []) (λ path way. (path, refl, way)) reaches))
 arrives-group k o cells b p place x now (inr inside) = inr inside
 
@@ -198,7 +215,7 @@ mutual
   in_task_one P Q more k (If e a b) (inr h) = inr (in_task P Q more (k + 1 + size a) b h)
   in_task_one P Q more k (Task d b) (inl h) = inl (more (k + 1) b h)
   in_task_one P Q more k (Task d b) (inr h) = inr (in_task P Q more (k + 1) b h)
-  in_task_one P Q more k Wait h = absurd h
+  in_task_one P Q more k (Wait w) h = absurd h
   in_task_one P Q more k (Group o cs b) h = in_task P Q more (k + 1) b h
 
   in_task : (P Q : ℕ → Body → Type 0) → ((k : ℕ) (b : Body) → P k b → Q k b) → (k : ℕ) (b : Body) → InTask P k b → InTask Q k b

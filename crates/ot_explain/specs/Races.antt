@@ -8,20 +8,21 @@ use Rattle.ot_model.specs.declared.expr.Cell.{Cell}
 use Rattle.ot_model.specs.declared.stmt.Mode.TheVariants.{Writes}
 use Rattle.ot_model.specs.declared.stmt.Use.{Use}
 use Rattle.ot_check.specs.Paths.{Create, Step, At, touches, use_as, PassesOne, Passes}
-use Rattle.ot_check.specs.Offences.{clashes, stays_within, has_wait}
+use Rattle.ot_check.specs.Offences.{clashes, stays_within, is_awaited}
 
 -- ---- who is pending
 
--- whether neither a wait nor the end of a group that is open before them stands in these steps
-abbrev pub awaits_none : List Step → Bool
-awaits_none steps = stays_within 0 steps && not (has_wait steps)
+-- whether neither a wait that awaits a child with this declaration nor the end of a group that is open before them
+-- stands in these steps
+abbrev pub leaves_unawaited : List Use → List Step → Bool
+leaves_unawaited declared steps = stays_within 0 steps && not (is_awaited declared steps)
 
 -- the child that is created at this place, with this declaration, is unawaited behind these steps
 pub record IsPending (steps : List Step) (child : ℕ) (declared : List Use) : Type 0 where
   pub before : List Step
   pub behind : List Step
   pub created : steps ≡ before ++ At child (Create declared) ∷ behind
-  pub unawaited : awaits_none behind ≡ true
+  pub unawaited : leaves_unawaited declared behind ≡ true
 
 -- on some path of the body the statement stands at the place, and this holds of the steps before it
 pub record Stands (place : ℕ) (x : S) (Before : List Step → Type 0) (k : ℕ) (body : Body) : Type 0 where
@@ -43,7 +44,7 @@ abbrev mutual
   InTaskOne P k (Fold o c e) = ⊥
   InTaskOne P k (If e a b) = InTask P (k + 1) a ⊎ InTask P (k + 1 + size a) b
   InTaskOne P k (Task d b) = P (k + 1) b ⊎ InTask P (k + 1) b
-  InTaskOne P k Wait = ⊥
+  InTaskOne P k (Wait w) = ⊥
   InTaskOne P k (Group o cs b) = InTask P (k + 1) b
 
   pub InTask : (ℕ → Body → Type 0) → ℕ → Body → Type 0

@@ -17,6 +17,11 @@ Pending = Option (ℕ × List Use)
 abbrev pub pending_of : Option Child → Pending
 pending_of child = option_map (λ (c : Child). (c.place, c.decl.now)) child
 
+-- this holds of what the child, if any, declares
+abbrev pub Declares : (List Use → Type 0) → Pending → Type 0
+Declares P None = Unit {0}
+Declares P (Some child) = P child.1
+
 -- the child, if any, is unawaited behind these steps
 abbrev pub Carried : List Step → Pending → Type 0
 Carried steps None = Unit {0}

@@ -9,6 +9,7 @@ mod left;
 mod race;
 mod remarks;
 mod sentences;
+mod tasks;
 mod telling;
 mod through;
 mod touch;

@@ -1,14 +1,16 @@
 //! The child with which a statement conflicts.
-ghost use Rattle.std.specs.Prelude.{◌≡◌, ◌+◌, ◌<◌, ◌≤◌, ◌^◌, IfSome, true};
+ghost use Rattle.std.specs.Prelude.{◌≡◌, ◌+◌, ◌<◌, ◌≤◌, ◌^◌, IfOk, IfSome, true};
 ghost use Rattle.ot_model.specs.View.{stmt_of, stmts_of};
 ghost use Rattle.ot_model.specs.Counts.{size, size_one};
 ghost use Rattle.ot_explain.specs.Races.{IsAt, Races, conflicts_at};
 
 use crate::child::Child;
+use crate::tasks::tasks_wanted;
 use crate::touch::conflicts_at;
 use crate::walk::{Search, walk};
 use crate::wanted::Wanted;
 use ot_model::{Cell, Decl, Stmt};
+use std::alloc::{AllocError, Global};
 
 /// A statement, a child that may be unawaited there, and a cell at which they conflict.
 #[derive(Clone, Copy, Debug)]
@@ -24,29 +26,46 @@ pub(crate) fn statement_at<'a>(body: &'a Vec<Stmt>, place: u32) -> Option<&'a St
     ensures stands { IfSome result (λ stmt. IsAt place (stmt_of stmt.now) (stmts_of body.now.items)) }
     ensures within { IfSome result (λ stmt. place + size_one (stmt_of stmt.now) ≤ 1 + size (stmts_of body.now.items)) }
 {
-    let search = Search {
-        place,
-        wanted: Wanted::Each,
-    };
+    // No statement has the place 0, so the walk carries no child.
+    let search = Search { place, child: 0 };
     match walk(body, &search, 1, None) {
         Ok(_) => None,
         Err(arrived) => Some(arrived.stmt),
     }
 }
 
-/// A child with which the statement at a place of a program conflicts, the latest that the walk meets.
-pub(crate) fn find_race<'a>(body: &'a Vec<Stmt>, place: u32, wanted: Wanted) -> Option<Race<'a>>
+/// A child with which the statement at a place of a program conflicts, the latest of them. There is a walk for
+/// each task that is wanted, since a wait may await one of them and not another.
+pub(crate) fn find_race<'a>(
+    alloc: Global,
+    body: &'a Vec<Stmt>,
+    place: u32,
+    wanted: &Wanted,
+) -> Result<Option<Race<'a>>, AllocError>
     requires short { 1 + size (stmts_of body.now.items) < 2 ^ 32 }
-    ensures { IfSome result (λ race. Races (stmts_of body.now.items) place (stmt_of race.stmt.now) race.child.place race.child.decl.now race.cell) }
+    ensures { IfOk result (λ found. IfSome found (λ race. Races (stmts_of body.now.items) place (stmt_of race.stmt.now) race.child.place race.child.decl.now race.cell)) }
 {
-    let search = Search { place, wanted };
+    let mut tasks = tasks_wanted(alloc, body, wanted, 1)?;
+    while let Some(child) = tasks.pop() {
+        if let Some(race) = race_with(body, Search { place, child }, wanted) {
+            return Ok(Some(race));
+        }
+    }
+    Ok(None)
+}
+
+/// The child that a walk carries to the statement to which it goes, where the two conflict.
+fn race_with<'a>(body: &'a Vec<Stmt>, search: Search, wanted: &Wanted) -> Option<Race<'a>>
+    requires short { 1 + size (stmts_of body.now.items) < 2 ^ 32 }
+    ensures { IfSome result (λ race. Races (stmts_of body.now.items) search.place (stmt_of race.stmt.now) race.child.place race.child.decl.now race.cell) }
+{
     let arrived = match walk(body, &search, 1, None) {
         Ok(_) => return None,
         Err(arrived) => arrived,
     };
     match arrived.child {
         None => None,
-        Some(child) => match conflict(arrived.stmt, child.decl, &search.wanted) {
+        Some(child) => match conflict(arrived.stmt, child.decl, wanted) {
             None => None,
             Some(cell) => Some(Race {
                 stmt: arrived.stmt,

@@ -114,21 +114,28 @@ fn explained(
     match offence {
         Offence::ConflictsWithChild => {
             let touched = Touched::by(alloc, shape.arrays(), stmt)?;
-            conflict(&mut printer, program, place, Wanted::Touching(touched))?;
+            conflict(
+                alloc,
+                &mut printer,
+                program,
+                place,
+                &Wanted::Touching(touched),
+            )?;
         }
-        Offence::EndsWithChildren => left(&mut printer, program, place)?,
+        Offence::EndsWithChildren => left(alloc, &mut printer, program, place)?,
         _ => wrong(alloc, &mut printer, stmt, offence, has_operations)?,
     }
     Ok(printer.into_text())
 }
 
 fn conflict(
+    alloc: Global,
     printer: &mut Printer<'_>,
     program: &Program,
     place: u32,
-    wanted: Wanted,
+    wanted: &Wanted,
 ) -> Result<(), AllocError> {
-    let Some(race) = find_race(&program.body, place, wanted) else {
+    let Some(race) = find_race(alloc, &program.body, place, wanted)? else {
         return printer.words(wrong_by(Offence::ConflictsWithChild));
     };
     printer.words("conflicts at ")?;
@@ -139,8 +146,13 @@ fn conflict(
     printer.task(race.child.decl)
 }
 
-fn left(printer: &mut Printer<'_>, program: &Program, place: u32) -> Result<(), AllocError> {
-    let Some(child) = find_left(&program.body, place) else {
+fn left(
+    alloc: Global,
+    printer: &mut Printer<'_>,
+    program: &Program,
+    place: u32,
+) -> Result<(), AllocError> {
+    let Some(child) = find_left(alloc, &program.body, place)? else {
         return printer.words(wrong_by(Offence::EndsWithChildren));
     };
     printer.words("can end before its child, statement ")?;

@@ -43,7 +43,7 @@ fn uses_against(mode: Mode, cell: Cell, stmt: &Stmt) -> bool
         }
         Stmt::If(expr, _, _) => value_against(mode, cell, expr),
         Stmt::Group(_, cells, _) => mode.conflicts(Mode::Writes) && has(cells, cell),
-        Stmt::Task(_, _) | Stmt::Wait => false,
+        Stmt::Task(_, _) | Stmt::Wait(_) => false,
     }
 }
 

@@ -1,26 +1,26 @@
-//! A walk through a body to a statement of it, with a child that may be unawaited there.
-ghost use Rattle.std.specs.Prelude.{◌≡◌, ◌+◌, ◌<◌, ◌≤◌, ◌^◌, ◌⊎◌, IfOk, IfErr, List, Some, None, true};
+//! A walk through a body to a statement of it, with one task as a child that may be unawaited there.
+ghost use Rattle.std.specs.Prelude.{◌≡◌, ◌+◌, ◌<◌, ◌≤◌, ◌^◌, ◌⊎◌, IfOk, IfErr, List, Some, None, true, false};
 ghost use Rattle.ot_model.specs.Tree.{Task, Group};
 ghost use Rattle.ot_model.specs.declared.expr.Cell.{Cell};
 ghost use Rattle.ot_model.specs.declared.fold.Fold.{Fold};
+ghost use Rattle.ot_check.specs.Offences.{awaits};
 ghost use Rattle.ot_check.specs.walk.Walk.{through};
 ghost use Rattle.ot_model.specs.View.{stmt_of, stmts_of};
 ghost use Rattle.ot_model.specs.Counts.{size, size_one};
 ghost use Rattle.ot_check.specs.Paths.{PassesOne, Passes};
-ghost use Rattle.ot_explain.specs.Walk.{pending_of, Carries, Arrives, ArrivesOne};
+ghost use Rattle.ot_explain.specs.Walk.{pending_of, Declares, Carries, Arrives, ArrivesOne};
 
 use crate::child::Child;
-use crate::through::through;
-use crate::wanted::Wanted;
+use crate::through::{awaits, through};
 use ot_model::{Decl, Stmt};
 
 /// What a walk looks for.
-#[derive(Drop)]
+#[derive(Clone, Copy, Debug)]
 pub(crate) struct Search {
     /// The place of the statement to which it goes.
     pub(crate) place: u32,
-    /// The children that it carries.
-    pub(crate) wanted: Wanted,
+    /// The place of the one task that it carries as a child.
+    pub(crate) child: u32,
 }
 
 /// The statement to which a walk came, and a child that may be unawaited there.
@@ -85,7 +85,10 @@ fn walk_one<'a>(
             Err(arrived) => Err(arrived),
         },
         Stmt::Task(decl, body) => walk_task(decl, body, search, place, child),
-        Stmt::Wait => Ok(Behind { next, child: None }),
+        Stmt::Wait(wait) => Ok(Behind {
+            next,
+            child: passed(wait, child),
+        }),
         Stmt::Group(_, _, body) => walk_group(body, search, place, child),
     }
 }
@@ -148,7 +151,7 @@ fn walk_task<'a>(
     }
 }
 
-/// The child that a task is, where it is wanted, or else the one from before.
+/// The child that a task is, where it is the one to carry, or else the one from before.
 fn made<'a>(
     decl: &'a Decl,
     search: &Search,
@@ -157,7 +160,7 @@ fn made<'a>(
 ) -> Option<Child<'a>>
     ensures { (pending_of result ≡ pending_of child.entry) ⊎ (pending_of result ≡ Some (place, decl.now)) }
 {
-    if search.wanted.takes(decl) {
+    if place == search.child {
         Some(Child { place, decl })
     } else {
         child
@@ -187,9 +190,22 @@ fn walk_group<'a>(
     }
 }
 
-/// The child from before a body, where some path of it has no wait.
-fn kept<'a>(body: &Vec<Stmt>, child: Option<Child<'a>>) -> Option<Child<'a>>
-    ensures { (pending_of result ≡ None) ⊎ ((pending_of result ≡ pending_of child.entry) × (through (stmts_of body.now.items) ≡ true)) }
+/// The child from before a wait, where the wait doesn't await it.
+fn passed<'a>(wait: &Option<Decl>, child: Option<Child<'a>>) -> Option<Child<'a>>
+    ensures { (pending_of result ≡ None) ⊎ ((pending_of result ≡ pending_of child.entry) × Declares (λ d. awaits wait.now d ≡ false) (pending_of child.entry)) }
 {
-    if through(body) { child } else { None }
+    match child {
+        Some(one) if !awaits(wait, one.decl) => child,
+        _ => None,
+    }
+}
+
+/// The child from before a body, where some path of it has no wait that awaits it.
+fn kept<'a>(body: &Vec<Stmt>, child: Option<Child<'a>>) -> Option<Child<'a>>
+    ensures { (pending_of result ≡ None) ⊎ ((pending_of result ≡ pending_of child.entry) × Declares (λ d. through d (stmts_of body.now.items) ≡ true) (pending_of child.entry)) }
+{
+    match child {
+        Some(one) if through(one.decl, body) => child,
+        _ => None,
+    }
 }

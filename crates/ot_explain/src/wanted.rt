@@ -58,7 +58,7 @@ impl Touched {
                     self.mark(*cell, WRITES);
                 }
             }
-            Stmt::Task(_, _) | Stmt::Wait => {}
+            Stmt::Task(_, _) | Stmt::Wait(_) => {}
         }
     }
 
@@ -112,7 +112,7 @@ impl Touched {
     }
 }
 
-/// The children that a walk carries. Whether it carries one says nothing yet: what it tells is looked at again.
+/// The children that are looked for. Whether one is wanted says nothing yet: what it declares is looked at again.
 #[derive(Drop)]
 pub(crate) enum Wanted {
     /// Each child.

@@ -12,7 +12,8 @@ use Rattle.ot_program.specs.Names.{is_word}
 use Rattle.ot_program.specs.Profiles.{is_one, is_two}
 use Rattle.ot_program.specs.declared.profile.Profile.{Profile}
 
--- a statement's own parts as they stand in the text, its bodies among them; one turn of a `for`; or what has no form
+-- a statement's own parts as they stand in the text, its bodies among them, and of a `task` the profile by which its clauses
+-- are read; one turn of a `for`; or what has no form
 pub data Text : Type 0 where
   SetText : (cell value : Data) → Text
   AddText : (cell value : Data) → Text

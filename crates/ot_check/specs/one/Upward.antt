@@ -1,5 +1,5 @@
 -- What is kept of the offences of programs of the first profile, read as programs of the second.
-use Rattle.std.specs.Prelude.{◌≡◌, ◌↔◌, ℕ, List, map, Option}
+use Rattle.std.specs.Prelude.{◌≡◌, ◌↔◌, ℕ, List, map, Option, None}
 use Rattle.ot_model.specs.declared.fold.Fold.TheVariants.{Plus}
 use Rattle.ot_model.specs.one.Tree.{Body1}
 use Rattle.ot_model.specs.one.Upward.{up, up_use, up_uses}
@@ -13,7 +13,7 @@ use Rattle.ot_check.specs.one.Offences.{Offends1}
 abbrev pub up_mark : Mark1 → Mark
 up_mark (Touch1 u) = Touch (up_use u)
 up_mark (Create1 d) = Create (up_uses d)
-up_mark Await1 = Await
+up_mark Await1 = Await None
 up_mark (Enter1 cs) = Enter Plus cs
 up_mark Leave1 = Leave
 

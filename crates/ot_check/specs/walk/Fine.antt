@@ -19,7 +19,7 @@ abbrev mutual
   IsFineInside own opened children (Fold o c e) = Unit {0}
   IsFineInside own opened children (If e a b) = IsFine own opened children a × IsFine own opened children b
   IsFineInside own opened children (Task d b) = IsFine (Some d) nothing_open nobody b
-  IsFineInside own opened children Wait = Unit {0}
+  IsFineInside own opened children (Wait w) = Unit {0}
   IsFineInside own opened children (Group o cs b) = IsFine own (with_group opened o cs) children b
 
   pub IsFine : Declared → Openings → Children → Body → Type 0

@@ -1,5 +1,5 @@
 -- The offences of a body in one walk, which carries the children that may be unawaited.
-use Rattle.std.specs.Prelude.{ℕ, ◌+◌, Bool, true, false, ◌&&◌, ◌||◌, if◌then◌else◌, List, [], ◌∷◌, Option, Some, None, map}
+use Rattle.std.specs.Prelude.{ℕ, ◌+◌, Bool, true, false, not, ◌&&◌, ◌||◌, if◌then◌else◌, List, [], ◌∷◌, Option, Some, None, map}
 use Rattle.std.specs.List.{list_any}
 use Rattle.std.specs.Option.{option_or}
 use Rattle.ot_model.specs.Tree.{S, Set, Fold, If, Task, Wait, Group, Body, End, Next}
@@ -10,7 +10,7 @@ use Rattle.ot_model.specs.declared.fold.Fold.{Fold as Operation}
 use Rattle.ot_model.specs.declared.stmt.Mode.TheVariants.{Writes}
 use Rattle.ot_model.specs.declared.stmt.Use.{Use}
 use Rattle.ot_check.specs.Paths.{Mark, Touch, Create, Enter, touches, use_as}
-use Rattle.ot_check.specs.Offences.{Declared, Openings, breaks, clashes, has_cell}
+use Rattle.ot_check.specs.Offences.{Declared, Openings, awaits, breaks, clashes, has_cell}
 use Rattle.ot_check.specs.declared.fault.Offence.{Offence}
 use Rattle.ot_check.specs.declared.fault.Offence.TheVariants.{NotDeclared, ChildBeyond, ReductionMisuse, ConflictsWithChild, EndsWithChildren}
 
@@ -28,40 +28,33 @@ anyone child = true
 abbrev pub nobody : Children
 nobody test = false
 
--- whether some path has no wait
+-- whether some path has no wait that awaits a child with this declaration
 abbrev mutual
-  pub through_one : S → Bool
-  through_one (Set c e) = true
-  through_one (Fold o c e) = true
-  through_one (If e a b) = through a || through b
-  through_one (Task d b) = true
-  through_one Wait = false
-  through_one (Group o cs b) = through b
+  pub through_one : List Use → S → Bool
+  through_one d (Set c e) = true
+  through_one d (Fold o c e) = true
+  through_one d (If e a b) = through d a || through d b
+  through_one d (Task uses b) = true
+  through_one d (Wait w) = not (awaits w d)
+  through_one d (Group o cs b) = through d b
 
-  pub through : Body → Bool
-  through End = true
-  through (Next x rest) = through_one x && through rest
-
--- whether some path leaves a child unawaited that passes the test, where one may be unawaited before it or not
-abbrev mutual
-  pub after_one : (List Use → Bool) → Bool → S → Bool
-  after_one test before (Set c e) = before
-  after_one test before (Fold o c e) = before
-  after_one test before (If e a b) = after test before a || after test before b
-  after_one test before (Task d b) = before || test d
-  after_one test before Wait = false
-  after_one test before (Group o cs b) = before && through b
-
-  pub after : (List Use → Bool) → Bool → Body → Bool
-  after test before End = before
-  after test before (Next x rest) = after test (after_one test before x) rest
+  pub through : List Use → Body → Bool
+  through d End = true
+  through d (Next x rest) = through_one d x && through d rest
 
 -- the children that may be unawaited behind a statement, behind a body
-abbrev pub behind_one : Children → S → Children
-behind_one children x test = after_one test (children test) x
+abbrev mutual
+  pub behind_one : Children → S → Children
+  behind_one children (Set c e) test = children test
+  behind_one children (Fold o c e) test = children test
+  behind_one children (If e a b) test = behind children a test || behind children b test
+  behind_one children (Task d b) test = children test || test d
+  behind_one children (Wait w) test = children (λ d. test d && not (awaits w d))
+  behind_one children (Group o cs b) test = children (λ d. test d && through d b)
 
-abbrev pub behind : Children → Body → Children
-behind children body test = after test (children test) body
+  pub behind : Children → Body → Children
+  behind children End test = children test
+  behind children (Next x rest) test = behind (behind_one children x) rest test
 
 -- ---- groups
 
@@ -90,7 +83,7 @@ marks x = map Touch (touches x)
 
 -- whether a task's body can end with a child unawaited
 abbrev pub ends_with_children : S → Offence → Bool
-ends_with_children (Task d b) EndsWithChildren = after anyone false b
+ends_with_children (Task d b) EndsWithChildren = behind nobody b anyone
 ends_with_children x offence = false
 
 -- whether the statement itself is this offence
@@ -118,7 +111,7 @@ abbrev mutual
   first_inside own opened children k (Fold o c e) = None
   first_inside own opened children k (If e a b) = option_or (first own opened children (k + 1) a) (first own opened children (k + 1 + size a) b)
   first_inside own opened children k (Task d b) = first (Some d) nothing_open nobody (k + 1) b
-  first_inside own opened children k Wait = None
+  first_inside own opened children k (Wait w) = None
   first_inside own opened children k (Group o cs b) = first own (with_group opened o cs) children (k + 1) b
 
   pub first : Declared → Openings → Children → ℕ → Body → Option (ℕ × Offence)

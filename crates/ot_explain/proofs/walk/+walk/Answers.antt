@@ -1,11 +1,11 @@
 use Rattle.std.proofs.Common.{◌≡◌, ◌+◌, IfOk, IfErr, drop, sym, ap, subst, inl, inr, arith}
-use Rattle.ot_model.specs.Tree.{If, Task, Group}
+use Rattle.ot_model.specs.Tree.{S, If, Task, Wait, Group}
 use Rattle.ot_model.specs.View.{expr_of, stmt_of, stmts_of}
 use Rattle.ot_model.specs.Counts.{size, size_one}
 use Rattle.ot_check.specs.Paths.{PassesOne, Passes}
-use Rattle.ot_check.proofs.WalkLemmas.{if_ok, stmt_of-Set, stmt_of-Fold, stmt_of-If, stmt_of-Task, stmt_of-Group, rest_is}
-use Rattle.ot_explain.specs.Walk.{pending_of, Carries, Arrives, ArrivesOne}
-use Rattle.ot_explain.proofs.WalkLemmas.{if_err, carries-set, carries-fold, carries-none, carries-first, carries-second, carries-task, carries-made, carries-group, carries-next, arrives-here, arrives-first, arrives-second, arrives-task, arrives-group, arrives-next, arrives-later}
+use Rattle.ot_check.proofs.WalkLemmas.{if_ok, stmt_of-Set, stmt_of-Fold, stmt_of-If, stmt_of-Task, stmt_of-Wait, stmt_of-Group, rest_is}
+use Rattle.ot_explain.specs.Walk.{Pending, pending_of, Carries, Arrives, ArrivesOne}
+use Rattle.ot_explain.proofs.WalkLemmas.{if_err, carries-set, carries-fold, carries-none, carries-first, carries-second, carries-task, carries-made, carries-wait, carries-group, carries-next, arrives-here, arrives-first, arrives-second, arrives-task, arrives-group, arrives-next, arrives-later}
 use Rattle.ot_explain.proofs.walk.+walk.Goals as goal
 
 pub walk-returns-in-Err-clause-arrives : goal.walk-returns-in-Err-clause-arrives
@@ -79,7 +79,16 @@ walk_one-returns-in-Task-clause-arrives t c =
     (sym (stmt_of-Task _ _ _ c.in-Task.is)) c.walk_task.ensures.arrives
 
 pub walk_one-returns-in-Wait-clause-carries : goal.walk_one-returns-in-Wait-clause-carries
-walk_one-returns-in-Wait-clause-carries t c = carries-none c.args.place (stmt_of c.args.stmt.now) (pending_of c.args.child)
+walk_one-returns-in-Wait-clause-carries t c =
+    let k = c.args.place in
+    let w = c.in-Wait.wait in
+    let p = pending_of c.args.child in
+    let Behind : S → Pending → Type 0 = λ x q. Carries (PassesOne k x) p q in
+    elim c.passed.ensures [
+      | inl none ↦ subst (Behind (stmt_of c.args.stmt.now)) (sym none) (carries-none k (stmt_of c.args.stmt.now) p)
+      | inr same ↦ subst (λ x. Behind x (pending_of c.passed.result)) (sym (stmt_of-Wait _ w c.in-Wait.is))
+          (subst (Behind (Wait w)) (sym same.0) (carries-wait k w p same.1))
+    ]
 
 pub walk_one-returns-in-Group-clause-carries : goal.walk_one-returns-in-Group-clause-carries
 walk_one-returns-in-Group-clause-carries t c =

@@ -3,14 +3,14 @@ use Rattle.ot_model.specs.declared.stmt.Use.{Use}
 use Rattle.ot_model.specs.View.{stmt_of, stmts_of}
 use Rattle.ot_explain.specs.Walk.{pending_of, Arrives}
 use Rattle.ot_explain.proofs.WalkLemmas.{somewhere_of}
-use Rattle.ot_explain.proofs.race.find_race.Goals as goal
+use Rattle.ot_explain.proofs.race.race_with.Goals as goal
 
-pub returns : goal.returns
-returns c =
+pub returns-in-Some-conflict : goal.returns-in-Some-conflict
+returns-in-Some-conflict c =
     let body = stmts_of c.args.body.now.items in
     let x = stmt_of c.in-Err.arrived.stmt.now in
     let child : ℕ × List Use = (c.in-Some.child.place, c.in-Some.child.decl.now) in record {
-      meets = somewhere_of c.args.place x (Some child) 1 body
-          (subst (λ now. Arrives 1 body None c.args.place x now) (ap pending_of c.in-Some.is) c.in-Err.ensures.arrives);
+      meets = somewhere_of c.args.search.place x (Some child) 1 body
+          (subst (λ now. Arrives 1 body None c.args.search.place x now) (ap pending_of c.in-Some.is) c.in-Err.ensures.arrives);
       conflicts = c.in-Some-conflict.ensures;
     }
