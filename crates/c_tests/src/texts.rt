@@ -131,8 +131,8 @@ const BODIES: [(&str, &str); 9] = [
     ),
 ];
 
-/// Bodies whose folds have operations, and what stands for them.
-const FOLDS: [(&str, &str); 4] = [
+/// Bodies of the second profile, and what stands for them.
+const SECOND: [(&str, &str); 6] = [
     (
         "[[\"fold\",\"+\",[\"c\",\"a\",0],[\"c\",\"a\",1]],[\"fold\",\"*\",[\"c\",\"a\",0],18446744073709551615],[\"fold\",\"&\",[\"c\",\"a\",0],[\"<\",1,2]],[\"fold\",\"|\",[\"c\",\"a\",0],[\"+\",[\"c\",\"a\",2],1]],[\"fold\",\"^\",[\"c\",\"a\",0],7]]",
         "        a[0] += a[1];
@@ -194,6 +194,27 @@ const FOLDS: [(&str, &str); 4] = [
         }
 ",
     ),
+    // A wait has the clauses of a task that declares the same.
+    (
+        "[[\"task\",[[\"out\",[\"a\",0,2]]],[[\"set\",[\"c\",\"a\",1],0]]],[\"wait\",[[\"in\",[\"a\",1,2]],[\"inout\",[\"a\",0,1]],[\"out\",[\"a\",1,1]]]],[\"wait\"]]",
+        "        #pragma omp task depend(out: a[0], a[1])
+        {
+            a[1] = 0;
+        }
+        #pragma omp taskwait depend(in: a[2]) depend(out: a[0], a[1])
+        #pragma omp taskwait
+",
+    ),
+    // A wait of no cell awaits nobody.
+    (
+        "[[\"set\",[\"c\",\"a\",0],1],[\"if\",[\"c\",\"a\",0],[[\"wait\",[]]],[[\"wait\",[[\"in\",[\"a\",2,1]]]]]],[\"wait\",[]]]",
+        "        a[0] = 1;
+        if (a[0]) {
+        } else {
+            #pragma omp taskwait depend(in: a[2])
+        }
+",
+    ),
 ];
 
 /// The C of a program of these shows and this body, a comma between them, `program2 ` before it where it is one, where the array is called so and has so many
@@ -221,7 +242,7 @@ fn first_other(alloc: Global) -> Result<Option<&'static str>, Fail> {
             return Ok(Some(*body));
         }
     }
-    for (body, region) in &FOLDS {
+    for (body, region) in &SECOND {
         if !is_body(alloc, "program2 []", body, region)? {
             return Ok(Some(*body));
         }

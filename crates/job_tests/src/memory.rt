@@ -174,8 +174,9 @@ fn run_watched(alloc: Global, body: &str) -> Result<(Option<String>, bool), Prog
     }
 }
 
-/// A reduction, tasks in a task, a task that adds to the cells of two groups, and adders in an adder: what they leave.
-const BODIES: [(&str, &str); 4] = [
+/// A reduction, tasks in a task, a task that adds to the cells of two groups, one that folds those of two groups by two
+/// operations, and adders in an adder: what they leave.
+const BODIES: [(&str, &str); 5] = [
     (
         r#"[["group",[["a",0,1]],[["task",[["red",["a",0,1]]],[["add",["c","a",0],18446744073709551615]]],["task",[["red",["a",0,1]]],[["add",["c","a",0],1]]],["task",[["red",["a",0,1]]],[["add",["c","a",0],5]]]]]]"#,
         "3 7 [6, 2, 3]",
@@ -187,6 +188,10 @@ const BODIES: [(&str, &str); 4] = [
     (
         r#"[["group",[["a",0,1]],[["group",[["a",1,1]],[["task",[["red",["a",0,2]]],[["add",["c","a",0],4],["add",["c","a",1],5]]]]]]]]"#,
         "1 5 [5, 7, 3]",
+    ),
+    (
+        r#"program2 [["group","max",[["a",0,1]],[["group","*",[["a",1,1]],[["task",[["red","max",["a",0,1]],["red","*",["a",1,1]]],[["fold","max",["c","a",0],4],["fold","*",["c","a",1],5]]]]]]]]"#,
+        "1 5 [4, 10, 3]",
     ),
     (
         r#"[["group",[["a",0,1]],[["task",[["red",["a",0,1]]],[["task",[["red",["a",0,1]]],[["add",["c","a",0],4]]],["add",["c","a",0],3],["wait"]]]]]]"#,

@@ -1,4 +1,4 @@
-//! Clauses of tasks and groups: dependences (OpenMP API 5.2, section 15.9.5) and reductions (5.5.9 and 5.5.10).
+//! Clauses of tasks, waits and groups: dependences (OpenMP API 5.2, section 15.9.5) and reductions (5.5.9 and 5.5.10).
 use crate::fold::{OPERATIONS, identifier};
 use crate::page::Page;
 use ot_model::{Cell, Decl, Fold, Mode, Section};
@@ -8,7 +8,7 @@ use std::alloc::{AllocError, Global};
 const LISTED: u32 = 8;
 
 impl Page {
-    /// The clauses of a task.
+    /// The clauses of a task, or of a wait.
     pub(crate) fn declared(&mut self, decl: &Decl) -> Result<(), AllocError> {
         self.dependences("in", decl, Mode::Reads)?;
         self.dependences("out", decl, Mode::Writes)?;

@@ -40,9 +40,20 @@ impl Page {
                 self.words("\n")?;
                 self.block(Some(decl), body)
             }
-            Stmt::Wait => self.line("#pragma omp taskwait"),
+            Stmt::Wait(None) => self.line("#pragma omp taskwait"),
+            Stmt::Wait(Some(decl)) => self.wait_for(decl),
             Stmt::Group(op, cells, body) => self.group(own, *op, cells, body),
         }
+    }
+
+    /// A wait with clauses (OpenMP API 5.2, section 15.5). One that declares no cell awaits nobody, so nothing stands for it.
+    fn wait_for(&mut self, decl: &Decl) -> Result<(), AllocError> {
+        if decl.uses().is_empty() {
+            return Ok(());
+        }
+        self.begin("#pragma omp taskwait")?;
+        self.declared(decl)?;
+        self.words("\n")
     }
 
     /// Statements one block deeper.

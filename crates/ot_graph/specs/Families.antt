@@ -15,7 +15,7 @@ abbrev mutual
   children_one (Fold o c e) s = []
   children_one (If e a b) s = either (val (cell_of s.cells) e) (children_in a (bump 0 1 s)) (children_in b (bump 0 1 s))
   children_one (Task d b) s = d ∷ []
-  children_one Wait s = []
+  children_one (Wait w) s = []
   children_one (Group o cs b) s = children_in b (bump 0 1 s)
 
   pub children_in : Body → State → List (List Use)
@@ -29,7 +29,7 @@ abbrev mutual
   inside_one (Fold o c e) s = []
   inside_one (If e a b) s = either (val (cell_of s.cells) e) (inside a (bump 0 1 s)) (inside b (bump 0 1 s))
   inside_one (Task d b) s = inside b (bump 1 1 s) ++ children_in b (bump 1 1 s) ∷ []
-  inside_one Wait s = []
+  inside_one (Wait w) s = []
   inside_one (Group o cs b) s = inside b (bump 0 1 s)
 
   pub inside : Body → State → List (List (List Use))

@@ -36,10 +36,12 @@ fn nodes(out: &mut Printer<'_>, marks: &[Mark<'_>]) -> Result<(), AllocError> {
     for mark in marks {
         match mark {
             Mark::Task(_, child) => task_node(out, *child)?,
-            Mark::Wait(_, _) => {
+            Mark::Wait(_, decl, _) => {
                 waits = waits.saturating_add(1);
                 node(out, "  w", waits)?;
-                out.words(" [shape=box, label=\"taskwait\"];\n")?;
+                out.words(" [shape=box, label=\"")?;
+                out.wait(*decl)?;
+                out.words("\"];\n")?;
             }
             Mark::Enter(op, cells) => {
                 groups = groups.saturating_add(1);
@@ -78,7 +80,7 @@ fn creations(out: &mut Printer<'_>, marks: &[Mark<'_>]) -> Result<(), AllocError
                 node(out, " -> t", child.number)?;
                 out.words(" [style=dashed];\n")?;
             }
-            Mark::Wait(parent, awaited) => {
+            Mark::Wait(parent, _, awaited) => {
                 waits = waits.saturating_add(1);
                 wait_edges(out, waits, *parent, awaited)?;
             }
@@ -92,13 +94,13 @@ fn wait_edges(
     out: &mut Printer<'_>,
     wait: u32,
     parent: u32,
-    awaited: &[u32],
+    awaited: &[Child<'_>],
 ) -> Result<(), AllocError> {
     node(out, "  t", parent)?;
     node(out, " -> w", wait)?;
     out.words(" [style=dashed];\n")?;
     for child in awaited {
-        node(out, "  t", *child)?;
+        node(out, "  t", child.number)?;
         node(out, " -> w", wait)?;
         out.words(" [style=dotted];\n")?;
     }

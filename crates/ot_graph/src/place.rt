@@ -6,7 +6,7 @@ use ot_model::Stmt;
 pub(crate) fn behind(stmt: &Stmt, place: u32) -> u32 {
     let inside = place.saturating_add(1);
     match stmt {
-        Stmt::Set(_, _) | Stmt::Fold(_, _, _) | Stmt::Wait => inside,
+        Stmt::Set(_, _) | Stmt::Fold(_, _, _) | Stmt::Wait(_) => inside,
         Stmt::If(_, one, two) => behind_all(two, behind_all(one, inside)),
         Stmt::Task(_, body) | Stmt::Group(_, _, body) => behind_all(body, inside),
     }

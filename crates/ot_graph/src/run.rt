@@ -34,8 +34,8 @@ pub(crate) struct Region<'a> {
     /// The number of the task whose body it is.
     pub(crate) parent: u32,
     pub(crate) children: Vec<Child<'a>>,
-    /// The numbers of the children that nothing has awaited.
-    pub(crate) pending: Vec<u32>,
+    /// Those of them that nothing has awaited, in order.
+    pub(crate) pending: Vec<Child<'a>>,
 }
 
 /// Runs a body, whose first statement has this place.
@@ -109,12 +109,12 @@ fn run_one<'a>(
             }
         }
         Stmt::Task(decl, body) => run_task(alloc, decl, body, run, region, place),
-        Stmt::Wait => await_all(alloc, run, region),
+        Stmt::Wait(decl) => await_children(alloc, decl.as_ref(), run, region),
         Stmt::Group(op, cells, body) => {
-            let before = region.pending.len();
+            let before = run.counts.tasks;
             run.marks.push(Mark::Enter(*op, cells))?;
             run_all(alloc, body, run, region, place.saturating_add(1))?;
-            region.pending.truncate(before);
+            keep_before(&mut region.pending, before);
             run.marks.push(Mark::Leave)?;
             Ok(())
         }
@@ -170,14 +170,15 @@ fn enter<'a>(run: &mut Run<'a>, region: &mut Region<'a>, child: Child<'a>) -> Re
     ensures counts { run.new.counts ≡ run.old.counts }
 {
     region.children.push(child)?;
-    region.pending.push(child.number)?;
+    region.pending.push(child)?;
     run.marks.push(Mark::Task(region.parent, child))?;
     Ok(())
 }
 
-/// Notes a wait for the children that nothing has awaited.
-fn await_all<'a>(
+/// Notes a wait for those whom it awaits of the children that nothing has awaited.
+fn await_children<'a>(
     alloc: Global,
+    decl: Option<&'a Decl>,
     run: &mut Run<'a>,
     region: &mut Region<'a>,
 ) -> Result<(), AllocError>
@@ -186,7 +187,35 @@ fn await_all<'a>(
     ensures cells { run.new.cells ≡ run.old.cells }
     ensures counts { run.new.counts ≡ run.old.counts }
 {
-    let awaited = mem::replace(&mut region.pending, Vec::new(alloc));
-    run.marks.push(Mark::Wait(region.parent, awaited))?;
+    let pending = mem::replace(&mut region.pending, Vec::new(alloc));
+    let mut awaited = Vec::new(alloc);
+    for child in &pending {
+        if is_awaited(decl, child.decl) {
+            awaited.push(*child)?;
+        } else {
+            region.pending.push(*child)?;
+        }
+    }
+    run.marks.push(Mark::Wait(region.parent, decl, awaited))?;
     Ok(())
+}
+
+/// Whether a wait awaits a child that declares this: each where it has no clauses, and else those on which a task with
+/// its declaration would depend (OpenMP API 5.2, section 15.5).
+fn is_awaited(wait: Option<&Decl>, child: &Decl) -> bool {
+    match wait {
+        None => true,
+        Some(decl) => decl.depends_on(child),
+    }
+}
+
+/// Drops the children behind so many tasks, whom the end of their group awaits.
+fn keep_before(pending: &mut Vec<Child<'_>>, tasks: u32) {
+    let mut kept: usize = 0;
+    for child in pending.as_slice() {
+        if child.number <= tasks {
+            kept = kept.saturating_add(1);
+        }
+    }
+    pending.truncate(kept);
 }

@@ -103,7 +103,7 @@ impl<'a> Printer<'a> {
                 self.words(")")
             }
             Stmt::Task(decl, _) => self.task(decl),
-            Stmt::Wait => self.words("taskwait"),
+            Stmt::Wait(decl) => self.wait(decl.as_ref()),
             Stmt::Group(op, cells, _) => self.group(*op, cells),
         }
     }
@@ -133,13 +133,28 @@ impl<'a> Printer<'a> {
     /// A task with what it declares: `task in(a[0]) out(a[1])`.
     pub fn task(&mut self, decl: &Decl) -> Result<(), AllocError> {
         self.words("task")?;
-        self.clause(" in(", decl, Mode::Reads)?;
-        self.clause(" out(", decl, Mode::Writes)?;
+        self.dependences(decl)?;
         for op in &OPERATIONS {
             let sections = declared_in(self.alloc, decl, Mode::Folds(*op))?;
             self.reduction(" in_reduction(", *op, &sections)?;
         }
         Ok(())
+    }
+
+    /// A wait: `taskwait`, or with what it declares, `taskwait in(a[0])`. One that declares no cell is `taskwait in()`.
+    pub fn wait(&mut self, decl: Option<&Decl>) -> Result<(), AllocError> {
+        self.words("taskwait")?;
+        match decl {
+            None => Ok(()),
+            Some(decl) if decl.uses().is_empty() => self.words(" in()"),
+            Some(decl) => self.dependences(decl),
+        }
+    }
+
+    /// The cells that are declared as read, and those declared as written.
+    fn dependences(&mut self, decl: &Decl) -> Result<(), AllocError> {
+        self.clause(" in(", decl, Mode::Reads)?;
+        self.clause(" out(", decl, Mode::Writes)
     }
 
     /// The cells that are declared in this mode, if any.

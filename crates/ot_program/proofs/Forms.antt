@@ -6,9 +6,10 @@ use Rattle.serde_json.specs.declared.value.Value.{Value}
 use Rattle.ot_model.specs.Shapes.{Arrays}
 use Rattle.ot_program.specs.declared.fault.Refusal.TheVariants.{Form}
 use Rattle.ot_program.specs.declared.profile.Profile.{Profile}
+use Rattle.ot_program.specs.declared.profile.Profile.TheVariants.{Two}
 use Rattle.ot_program.specs.Meanings.{Bindings, mode_of}
 use Rattle.ot_program.specs.walk.Parts.{cell_of, section_of}
-use Rattle.ot_program.specs.walk.Clauses.{folded_of, clause_at, clause_of}
+use Rattle.ot_program.specs.walk.Clauses.{folded_of, clause_at, clause_of, wait_clause_of}
 
 pub no_cell_short : (shape : Arrays) (variables : Bindings) (vs : List Value) → length vs < 3
     → cell_of shape variables (array (items_view vs)) ≡ Err Form
@@ -59,3 +60,23 @@ no_clause_long shape profile variables (a ∷ b ∷ c ∷ []) long = absurd (ome
 no_clause_long shape profile variables _ long = refl
 
 pub ruleset clause_forms = (form_clause, form_red, no_clause_short, no_clause_long)
+
+-- ---- a clause of a wait
+
+pub form_wait_clause : (shape : Arrays) (variables : Bindings) (vs : List Value) (t a : Value) → 2 ≤ length vs → length vs < 3
+    → t ≡ get_or vs 0 t → a ≡ get_or vs 1 a
+    → wait_clause_of shape variables (array (items_view vs)) ≡ clause_at (mode_of Two (view t)) (section_of shape variables (view a))
+form_wait_clause shape variables (x ∷ y ∷ []) t a least below p q = rw (sym p, sym q) refl
+form_wait_clause shape variables _ t a least below p q = absurd (omega arith)
+
+pub no_wait_clause_short : (shape : Arrays) (variables : Bindings) (vs : List Value) → length vs < 2
+    → wait_clause_of shape variables (array (items_view vs)) ≡ Err Form
+no_wait_clause_short shape variables (a ∷ b ∷ vs) short = absurd (omega arith)
+no_wait_clause_short shape variables _ short = refl
+
+pub no_wait_clause_long : (shape : Arrays) (variables : Bindings) (vs : List Value) → 3 ≤ length vs
+    → wait_clause_of shape variables (array (items_view vs)) ≡ Err Form
+no_wait_clause_long shape variables (a ∷ b ∷ []) long = absurd (omega arith)
+no_wait_clause_long shape variables _ long = refl
+
+pub ruleset wait_clause_forms = (form_wait_clause, no_wait_clause_short, no_wait_clause_long)

@@ -17,6 +17,7 @@ pub mod Declared
 pub mod DeclarationsRead
 pub mod PartsRead
 pub mod Tallies
+pub mod WaitClauses
 pub mod StatementsRead
 pub mod Walked
 pub mod Named

@@ -20,11 +20,11 @@ use Rattle.ot_program.specs.declared.fault.Refusal.{Refusal}
 use Rattle.ot_program.specs.declared.fault.Refusal.TheVariants.{Form, UnknownArray, OutOfRange, EmptySection}
 use Rattle.ot_program.specs.declared.profile.Profile.{Profile}
 use Rattle.ot_program.specs.declared.profile.Profile.TheVariants.{One, Two}
-use Rattle.ot_program.specs.Copies.{Text, SetText, AddText, FoldText, IfText, ForText, Turn, TaskText, WaitText, GroupText, GroupByText, ProgramText, NoForm, Copy, At, Copies, Done, Then, in_copy, in_order, statement, statement_of, statements_of}
+use Rattle.ot_program.specs.Copies.{Text, SetText, AddText, FoldText, IfText, ForText, Turn, TaskText, WaitText, WaitForText, GroupText, GroupByText, ProgramText, NoForm, Copy, At, Copies, Done, Then, in_copy, in_order, statement, statement_of, statements_of}
 use Rattle.ot_program.specs.Declarations.{placed, named_cells, mode_among, uses}
-use Rattle.ot_program.specs.Faults.{unless, no_list, list_faults, deep, name_faults, size_faults, array_faults, indexed_faults, cell_faults, section_faults, value_faults, expression_faults, clause_faults, fold_faults, nested, text_faults}
+use Rattle.ot_program.specs.Faults.{unless, no_list, list_faults, deep, name_faults, size_faults, array_faults, indexed_faults, cell_faults, section_faults, value_faults, expression_faults, clause_faults, wait_clause_faults, fold_faults, nested, text_faults}
 use Rattle.ot_program.specs.Limits.{size_depth, depth_of}
-use Rattle.ot_program.specs.Meanings.{each, items, Bindings, size, op_of, mode_of, red_by, is_called, position_of, length_of, Clause, indexed, cell, section, value, clause}
+use Rattle.ot_program.specs.Meanings.{each, items, Bindings, size, op_of, mode_of, red_by, is_called, position_of, length_of, Clause, indexed, cell, section, value, clause, wait_clause}
 use Rattle.ot_program.specs.Names.{is_word}
 use Rattle.ot_program.proofs.Tallies.{append-none, unless-none, AreClean, clean-append}
 
@@ -215,6 +215,18 @@ clauses_named shape short profile variables d clean =
     list_named (λ (c : Clause). FitsShape (array_lengths shape) c.section) (clause_faults shape profile variables) (clause shape profile variables)
     (clause_named shape short profile variables) d clean
 
+wait_clause_named : (shape : Arrays) → AreShort shape.arrays → (variables : Bindings) (d : Data) → wait_clause_faults shape variables d ≡ []
+    → FitsShape (array_lengths shape) (wait_clause shape variables d).section
+wait_clause_named shape short variables (array (item t (item a no_items))) clean =
+    section_named shape short variables a (append-none (unless (is_some (mode_of Two t)) Form) (section_faults shape variables a) clean).1
+wait_clause_named shape short variables _ clean = absurd (no_faults Form clean)
+
+pub wait_clauses_named : (shape : Arrays) → AreShort shape.arrays → (variables : Bindings) (d : Data) → list_faults (wait_clause_faults shape variables) d ≡ []
+    → AllByRecursion (λ c. FitsShape (array_lengths shape) c.section) (map (wait_clause shape variables) (items d))
+wait_clauses_named shape short variables d clean =
+    list_named (λ (c : Clause). FitsShape (array_lengths shape) c.section) (wait_clause_faults shape variables) (wait_clause shape variables)
+    (wait_clause_named shape short variables) d clean
+
 -- ---- statements
 
 NamedIn-append : (lens : List ℕ) (xs ys : List S) → NamedIn lens (body_of xs) → NamedIn lens (body_of ys)
@@ -259,6 +271,8 @@ statement_named shape short level variables (TaskText profile a b) ss ts clean h
     let cs = map (clause shape profile variables) (items a) in
     ((uses_named (array_lengths shape) cs (clauses_named shape short profile variables a list.0), h), tt)
 statement_named shape short level variables WaitText ss ts clean h k = (tt, tt)
+statement_named shape short level variables (WaitForText a) ss ts clean h k =
+    (uses_named (array_lengths shape) (map (wait_clause shape variables) (items a)) (wait_clauses_named shape short variables a clean), tt)
 statement_named shape short level variables (GroupText a b) ss ts clean h k =
     ((grouped_named shape short level variables a b clean, h), tt)
 statement_named shape short level variables (GroupByText op a b) ss ts clean h k =

@@ -249,6 +249,7 @@ mutual
   copy-up : (level : ℕ) (d : Data) (variables : Bindings) → copy One level d variables ≡ up_copy (copy1 level d variables)
   copy-up level (array (item t no_items)) variables =
       chosen up_copy (is_word t (codes "wait")) (at level variables WaitText Done Done) (at level variables NoForm Done Done) (at1 level variables WaitText1 Done1 Done1) (at1 level variables NoForm1 Done1 Done1) refl refl
+  copy-up level (array (item t (item a no_items))) variables = refl
   copy-up level (array (item t (item a (item b no_items)))) variables =
       let inner = copies-up (level + 1) b variables in
       let none = at1 level variables NoForm1 Done1 Done1 in

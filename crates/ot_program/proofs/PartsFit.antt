@@ -9,17 +9,18 @@ use Rattle.ot_model.specs.declared.expr.Section.{Section}
 use Rattle.ot_program.specs.declared.clause.Clause.{Clause as CodeClause}
 use Rattle.ot_program.specs.declared.fault.Refusal.{Refusal}
 use Rattle.ot_program.specs.declared.profile.Profile.{Profile}
-use Rattle.ot_program.specs.Faults.{list_faults, section_faults, clause_faults}
-use Rattle.ot_program.specs.Meanings.{items, Bindings, Clause, section, clause}
+use Rattle.ot_program.specs.Faults.{list_faults, section_faults, clause_faults, wait_clause_faults}
+use Rattle.ot_program.specs.Meanings.{items, Bindings, Clause, section, clause, wait_clause}
 use Rattle.ot_program.specs.Programs.{told_or}
-use Rattle.ot_program.specs.walk.Clauses.{clauses_of}
+use Rattle.ot_program.specs.walk.Clauses.{clauses_of, wait_clauses_of}
 use Rattle.ot_program.specs.walk.Namings.{fits}
 use Rattle.ot_program.specs.walk.Parts.{sections_of}
 use Rattle.ot_program.proofs.Coded.{code_clause}
 use Rattle.ot_program.proofs.Firsts.{first_of, Reads}
-use Rattle.ot_program.proofs.Named.{sections_named, clauses_named}
+use Rattle.ot_program.proofs.Named.{sections_named, clauses_named, wait_clauses_named}
 use Rattle.ot_program.proofs.PartsRead.{sections_reads, clauses_reads}
 use Rattle.ot_program.proofs.Tallies.{first-none}
+use Rattle.ot_program.proofs.WaitClauses.{wait_clauses_reads}
 
 pub told_ok : {A : Type 0} (x y : A) (o : Option Refusal) → told_or x o ≡ Ok y → (o ≡ None) × (x ≡ y)
 told_ok x y None is = (refl, cc)
@@ -52,3 +53,11 @@ read_clauses_fit shape short profile variables d cs is =
     let t = read_ok (clauses_of shape profile variables d) (map code_clause xs) cs (list_faults (clause_faults shape profile variables) d) (clauses_reads shape profile variables d) is in
     All-from_recursion (λ (c : CodeClause). fits c.section) cs
     (rw t.1 at (clauses_fit (array_lengths shape) xs (clauses_named shape short profile variables d t.0)))
+
+pub read_wait_clauses_fit : (shape : Arrays) → AreShort shape.arrays → (variables : Bindings) (d : Data) (cs : List CodeClause)
+    → wait_clauses_of shape variables d ≡ Ok cs → All (λ c. fits c.section) cs
+read_wait_clauses_fit shape short variables d cs is =
+    let xs = map (wait_clause shape variables) (items d) in
+    let t = read_ok (wait_clauses_of shape variables d) (map code_clause xs) cs (list_faults (wait_clause_faults shape variables) d) (wait_clauses_reads shape variables d) is in
+    All-from_recursion (λ (c : CodeClause). fits c.section) cs
+    (rw t.1 at (clauses_fit (array_lengths shape) xs (wait_clauses_named shape short variables d t.0)))

@@ -226,7 +226,7 @@ section_at-reads shape variables a b c =
     (append-from 4 (deep (size_depth b)) (deep (size_depth c)) (deep-from 4 (size_depth b) (omega arith)) (deep-from 4 (size_depth c) (omega arith)))
     (reads_both 5 (shallow b) (shallow c) tt tt (deep (size_depth b)) (deep (size_depth c)) (shallow_reads b) (shallow_reads c)))
 
-section_reads : (shape : Arrays) (variables : Bindings) (d : Data)
+pub section_reads : (shape : Arrays) (variables : Bindings) (d : Data)
     → Reads 5 (section_of shape variables d) (section shape variables d) (section_faults shape variables d)
 section_reads shape variables (array (item a (item b (item c no_items)))) = section_at-reads shape variables a b c
 section_reads shape variables _ = reads_no_form 5 _
@@ -292,7 +292,7 @@ expression_reads shape variables d =
 
 -- ---- clauses
 
-clause_at-reads : (o : Option Mode) (r : Result Section Refusal) (s : Section) (fs : List Refusal) → Reads 5 r s fs
+pub clause_at-reads : (o : Option Mode) (r : Result Section Refusal) (s : Section) (fs : List Refusal) → Reads 5 r s fs
     → Reads 5 (clause_at o r) (record { mode = unwrap_or o AsRead; section = s }) (unless (is_some o) Form ++ fs)
 clause_at-reads None r s fs h = reads_form_first 5 _ fs
 clause_at-reads (Some mode) r s fs h = reads_made 5 r (λ z. record { mode = mode; section = z }) s fs h
@@ -307,7 +307,7 @@ clause_reads shape One variables (array (item t (item op (item a no_items)))) = 
 clause_reads shape One variables _ = reads_no_form 5 _
 clause_reads shape Two variables _ = reads_no_form 5 _
 
-map_map : {A B C : Type 0} (f : A → B) (g : B → C) (xs : List A) → map (λ x. g (f x)) xs ≡ map g (map f xs)
+pub map_map : {A B C : Type 0} (f : A → B) (g : B → C) (xs : List A) → map (λ x. g (f x)) xs ≡ map g (map f xs)
 map_map f g [] = refl
 map_map {A} {B} {C} f g (x ∷ xs) = ap (λ (ys : List C). g (f x) ∷ ys) (map_map f g xs)
 

@@ -1,5 +1,5 @@
 -- What is printed of a tree denotes the tree.
-use Rattle.std.proofs.Common.{◌≡◌, ℕ, ◌+◌, ◌<◌, ◌^◌, List, [], ◌∷◌, map, Some, refl, ap, ◌∙◌, arith, add-zero}
+use Rattle.std.proofs.Common.{◌≡◌, ℕ, ◌+◌, ◌<◌, ◌^◌, List, [], ◌∷◌, map, Some, None, refl, ap, ◌∙◌, arith, add-zero}
 use Rattle.std.specs.Prelude.{flat_map}
 use Rattle.std.proofs.lemmas.Bool.{lt-ltb}
 use Rattle.serde_json.specs.Data.{string, array}
@@ -17,8 +17,8 @@ use Rattle.ot_model.specs.Value.{cells_of}
 use Rattle.ot_program.specs.declared.profile.Profile.{Profile}
 use Rattle.ot_program.specs.declared.profile.Profile.TheVariants.{One, Two}
 use Rattle.ot_program.specs.Copies.{copies, copy, statement_of, statements_of}
-use Rattle.ot_program.specs.Meanings.{each, fold_of, Bindings, size, Clause, cell, section, value, clause}
-use Rattle.ot_program.specs.Printed.{IsFound, fold_word, num, cell_text, section_text, value_text, alone, cells_text, clause_text, uses_text, statement_text, body_text, IsCell, IsValue, AreCells, as_clause, IsModeOf, AreUsesOf, IsStatement, IsBody}
+use Rattle.ot_program.specs.Meanings.{each, fold_of, Bindings, size, Clause, cell, section, value, clause, wait_clause}
+use Rattle.ot_program.specs.Printed.{IsFound, fold_word, num, cell_text, section_text, value_text, alone, cells_text, clause_text, uses_text, statement_text, body_text, IsCell, IsValue, AreCells, as_clause, IsModeOf, AreUsesOf, IsWaitMode, AreWaitUses, IsStatement, IsBody}
 
 size_back : (variables : Bindings) (n : ℕ) → n < 2 ^ 64 → size variables (num n) ≡ n
 unfolding size
@@ -84,6 +84,21 @@ uses_back shape profile variables [] h = refl
 uses_back shape profile variables (u ∷ us) h =
     rw (uses_back shape profile variables us h.2) (clause_back shape profile variables u.cell u.mode (map as_clause us) h.0 h.1)
 
+wait_clause_back : (shape : Arrays) (variables : Bindings) (u : Use) → AreWaitUses shape (u ∷ [])
+    → wait_clause shape variables (clause_text Two u.mode (section_text shape (alone u.cell))) ≡ as_clause u
+wait_clause_back shape variables u h = by u.mode h.1
+  where
+    by : (m : Mode) → IsWaitMode m → wait_clause shape variables (clause_text Two m (section_text shape (alone u.cell))) ≡ record { mode = m; section = alone u.cell }
+    by Reads j = rw (section_back shape variables (alone u.cell) h.0.0 h.0.1 (omega arith)) refl
+    by Writes j = rw (section_back shape variables (alone u.cell) h.0.0 h.0.1 (omega arith)) refl
+    by (Folds op) j = absurd j
+
+wait_uses_back : (shape : Arrays) (variables : Bindings) (us : List Use) → AreWaitUses shape us
+    → map (wait_clause shape variables) (each (uses_text shape Two us)) ≡ map as_clause us
+wait_uses_back shape variables [] h = refl
+wait_uses_back shape variables (u ∷ us) h =
+    rw (wait_uses_back shape variables us h.2) (ap (λ (c : Clause). c ∷ map as_clause us) (wait_clause_back shape variables u (h.0, h.1, tt)))
+
 mutual
   unfolding copies
 
@@ -105,7 +120,9 @@ mutual
       rw (value_back shape variables e h.0, body_back shape Two (level + 1) variables a h.1, body_back shape Two (level + 1) variables b h.2) refl
   one_back shape profile level variables (Task us b) h =
       rw (uses_back shape profile variables us h.0.0, h.0.1, body_back shape profile (level + 1) variables b h.1) refl
-  one_back shape profile level variables Wait h = refl
+  one_back shape profile level variables (Wait None) h = refl
+  one_back shape One level variables (Wait (Some us)) h = absurd h
+  one_back shape Two level variables (Wait (Some us)) h = rw (wait_uses_back shape variables us h.0, h.1) refl
   one_back shape One level variables (Group op cs b) h =
       rw (h.0, cells_back shape variables cs h.1, body_back shape One (level + 1) variables b h.2) refl
   one_back shape Two level variables (Group op cs b) h =

@@ -8,7 +8,7 @@ use Rattle.ot_model.specs.Shapes.{Arrays}
 use Rattle.ot_model.specs.Tree.{E, Literal, CellAt, Apply, PickFrom, S, If, body_of}
 use Rattle.ot_model.specs.Value.{cell_at, cells_of}
 use Rattle.ot_program.specs.Accepted.{parts, choices, sum_in}
-use Rattle.ot_program.specs.Copies.{SetText, AddText, FoldText, IfText, ForText, Turn, TaskText, WaitText, GroupText, GroupByText, NoForm, Copy, Copies, Done, at, turns, copies, copies_of, copy, in_copy, in_order, statement_of, statements_of}
+use Rattle.ot_program.specs.Copies.{SetText, AddText, FoldText, IfText, ForText, Turn, TaskText, WaitText, WaitForText, GroupText, GroupByText, NoForm, Copy, Copies, Done, at, turns, copies, copies_of, copy, in_copy, in_order, statement_of, statements_of}
 use Rattle.ot_program.specs.Limits.{Tally, tally, plus, nodes_of, picked_of, with_value, total}
 use Rattle.ot_program.specs.Meanings.{letters, Bindings, size as size_text, value}
 use Rattle.ot_program.specs.Names.{is_word}
@@ -160,6 +160,9 @@ mutual
   sized_one : (shape : Arrays) (profile : Profile) (level : ℕ) (d : Data) (variables : Bindings) → IsSized shape (copy profile level d variables)
   sized_one shape profile level (array (item t no_items)) variables =
       sized_test shape (is_word t (codes "wait")) (at level variables WaitText Done Done) (at level variables NoForm Done Done)
+      (record { statements = refl; tasks = refl; nodes = refl; cells = omega arith }) sized_none
+  sized_one shape profile level (array (item t (item a no_items))) variables =
+      sized_test shape (is_two profile && is_word t (codes "wait")) (at level variables (WaitForText a) Done Done) (at level variables NoForm Done Done)
       (record { statements = refl; tasks = refl; nodes = refl; cells = omega arith }) sized_none
   sized_one shape profile level (array (item t (item a (item b no_items)))) variables =
       let e = value shape variables b in

@@ -13,7 +13,7 @@ use Rattle.ot_program.specs.declared.profile.Profile.{Profile}
 use Rattle.ot_program.specs.Names.{is_word}
 use Rattle.ot_program.specs.Meanings.{Bindings, fold_of}
 use Rattle.ot_program.specs.Profiles.{is_one, is_two}
-use Rattle.ot_program.specs.walk.Statements.{set_in, by_operation, fold_in, wait_form, if_in, for_in, with_body, group_in, condition_of, declared_of, range_of, body_in, one_in}
+use Rattle.ot_program.specs.walk.Statements.{set_in, by_operation, fold_in, wait_form, wait_for_form, if_in, for_in, with_body, group_in, condition_of, declared_of, range_of, body_in, one_in}
 
 -- ---- what is no list
 
@@ -29,14 +29,15 @@ no_list-one shape profile level v variables n other = search (rules, the_lemmas)
 
 -- ---- lists by their length
 
-pub no_form : (shape : Arrays) (profile : Profile) (level : ℕ) (vs : List Value) (variables : Bindings) (n : Counts) → length vs ≢ 1 → length vs ≢ 3
+pub no_form : (shape : Arrays) (profile : Profile) (level : ℕ) (vs : List Value) (variables : Bindings) (n : Counts) → length vs ≢ 1 → length vs ≢ 2 → length vs ≢ 3
     → length vs ≢ 4 → length vs ≢ 5 → one_in shape profile level (array (items_view vs)) variables n ≡ Err Form
 unfolding one_in
-no_form shape profile level (a ∷ []) variables n p q r s = absurd (p refl)
-no_form shape profile level (a ∷ b ∷ c ∷ []) variables n p q r s = absurd (q refl)
-no_form shape profile level (a ∷ b ∷ c ∷ d ∷ []) variables n p q r s = absurd (r refl)
-no_form shape profile level (a ∷ b ∷ c ∷ d ∷ e ∷ []) variables n p q r s = absurd (s refl)
-no_form shape profile level _ variables n p q r s = refl
+no_form shape profile level (a ∷ []) variables n p o q r s = absurd (p refl)
+no_form shape profile level (a ∷ b ∷ []) variables n p o q r s = absurd (o refl)
+no_form shape profile level (a ∷ b ∷ c ∷ []) variables n p o q r s = absurd (q refl)
+no_form shape profile level (a ∷ b ∷ c ∷ d ∷ []) variables n p o q r s = absurd (r refl)
+no_form shape profile level (a ∷ b ∷ c ∷ d ∷ e ∷ []) variables n p o q r s = absurd (s refl)
+no_form shape profile level _ variables n p o q r s = refl
 
 pub form_wait : (shape : Arrays) (profile : Profile) (level : ℕ) (vs : List Value) (variables : Bindings) (n : Counts) (t : Value) → length vs ≡ 1
     → t ≡ get_or vs 0 t → one_in shape profile level (array (items_view vs)) variables n ≡ wait_form (view t) n
@@ -44,7 +45,14 @@ unfolding one_in
 form_wait shape profile level (x ∷ []) variables n t one p = rw (sym p) refl
 form_wait shape profile level _ variables n t one p = absurd (omega arith)
 
-pub ruleset no_statement = (no_form, form_wait)
+pub form_wait_for : (shape : Arrays) (profile : Profile) (level : ℕ) (vs : List Value) (variables : Bindings) (n : Counts) (t a : Value) → length vs ≡ 2
+    → t ≡ get_or vs 0 t → a ≡ get_or vs 1 a
+    → one_in shape profile level (array (items_view vs)) variables n ≡ wait_for_form shape profile variables (view t) (view a) n
+unfolding one_in
+form_wait_for shape profile level (x ∷ y ∷ []) variables n t a two p q = rw (sym p, sym q) refl
+form_wait_for shape profile level _ variables n t a two p q = absurd (omega arith)
+
+pub ruleset no_statement = (no_form, form_wait, form_wait_for)
 
 -- ---- three items
 

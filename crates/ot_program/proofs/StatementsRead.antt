@@ -15,9 +15,9 @@ use Rattle.ot_program.specs.declared.fault.Refusal.{Refusal}
 use Rattle.ot_program.specs.declared.fault.Refusal.TheVariants.{Form, Size, UnknownArray, OutOfRange, EmptySection, TooLarge, TooManyTasks, MixedReduction}
 use Rattle.ot_program.specs.declared.profile.Profile.{Profile}
 use Rattle.ot_program.specs.Declarations.{uses}
-use Rattle.ot_program.specs.Faults.{unless, no_list, list_faults, deep, name_faults, size_faults, cell_faults, section_faults, expression_faults, clause_faults, mixed, nested, past_limits}
+use Rattle.ot_program.specs.Faults.{unless, no_list, list_faults, deep, name_faults, size_faults, cell_faults, section_faults, expression_faults, clause_faults, wait_clause_faults, mixed, nested, past_limits}
 use Rattle.ot_program.specs.Limits.{max_nesting, max_statements, max_turns, max_nodes, max_cells, size_depth, nodes_of, picked_of, cells_in, Tally, tally, plus}
-use Rattle.ot_program.specs.Meanings.{items, letters, Bindings, size, Clause, cell, section, value, clause}
+use Rattle.ot_program.specs.Meanings.{items, letters, Bindings, size, Clause, cell, section, value, clause, wait_clause}
 use Rattle.ot_program.specs.Names.{is_name}
 use Rattle.ot_program.specs.Refusals.{rank, least}
 use Rattle.ot_program.specs.walk.Reading.{◌>>=◌, both_of}
@@ -25,14 +25,15 @@ use Rattle.ot_program.specs.walk.Sizes.{size_of, shallow}
 use Rattle.ot_program.specs.walk.Counting.{counted, within_limits, with_expression, one_turn, one_task, deeper}
 use Rattle.ot_program.specs.walk.Parts.{cell_of, sections_of}
 use Rattle.ot_program.specs.walk.Values.{expression_of}
-use Rattle.ot_program.specs.walk.Clauses.{clauses_of, declaration}
-use Rattle.ot_program.specs.walk.Statements.{Range, list_of, name_of, target_of, condition_of, declared_of, grouped_of, range_of}
+use Rattle.ot_program.specs.walk.Clauses.{clauses_of, wait_clauses_of, declaration}
+use Rattle.ot_program.specs.walk.Statements.{Range, list_of, name_of, target_of, condition_of, declared_of, waited_of, grouped_of, range_of}
 use Rattle.ot_program.proofs.Coded.{code_clause, code_counts}
 use Rattle.ot_program.proofs.Lists.{least-lt, least-le}
 use Rattle.ot_program.proofs.Firsts.{first_of, merged, first-append, AreFrom, Reads, reads_both, reads_later, reads_then, reads_made, reads_test, reads_right, reads_no_form, unless-from, append-from}
 use Rattle.ot_program.proofs.DeclarationsRead.{declared_read}
 use Rattle.ot_program.proofs.PartsRead.{size_reads, deep-from, shallow_reads, cell_reads, sections_reads, expression_reads, clauses_reads}
 use Rattle.ot_program.proofs.Tallies.{AreWithin}
+use Rattle.ot_program.proofs.WaitClauses.{wait_clauses_reads, unmixed}
 
 -- ---- the order of two lists of faults doesn't matter
 
@@ -279,6 +280,28 @@ declared_reads shape profile variables level a b n w =
     (reads_then {A = Counts} {B = List Use × Counts} 6 7 (within_limits (counted (code_counts n) 1 0 cells) >>= one_task shape.tasks) (λ j. declaration ds >>= λ us. Ok (us, j)) (code_counts m) (uses cs, code_counts m)
     (past_limits shape.tasks m) (mixed cs) (omega arith) (task_reads shape.tasks n cells w) (mixed-from 6 (omega arith) cs)
     (reads_made {A = List Use} {B = List Use × Counts} 7 (declaration ds) (λ us. (us, code_counts m)) (uses cs) (mixed cs) (declared_read cs)))))
+
+-- of `wait` with clauses
+pub waited_reads : (shape : Arrays) (variables : Bindings) (a : Data) (n : Tally) → AreWithin shape.tasks n
+    → let cs = map (wait_clause shape variables) (items a) in
+    let m = plus n (tally 1 0 0 0 (cells_in (map (λ c. c.section) cs))) in
+    Reads 7 (waited_of shape variables a (code_counts n)) (uses cs, code_counts m) (list_faults (wait_clause_faults shape variables) a ++ past_limits shape.tasks m)
+waited_reads shape variables a n w =
+    let cs = map (wait_clause shape variables) (items a) in
+    let ds = map code_clause cs in
+    let cells = cells_in (map (λ c. c.section) ds) in
+    let m = plus n (tally 1 0 0 0 cells) in
+    let none : past_limits shape.tasks m ++ mixed cs ≡ past_limits shape.tasks m =
+    ap (λ ms. past_limits shape.tasks m ++ ms) (unmixed shape variables a) ∙ append-nil (past_limits shape.tasks m) in
+    rw (← sections_coded cs, ← none)
+    (reads_then {A = List CodeClause} {B = List Use × Counts} 5 7 (wait_clauses_of shape variables a)
+    (λ ds. within_limits (counted (code_counts n) 1 0 (cells_in (map (λ c. c.section) ds))) >>= λ j. declaration ds >>= λ us. Ok (us, j)) ds
+    (uses cs, code_counts m) (list_faults (wait_clause_faults shape variables) a) (past_limits shape.tasks m ++ mixed cs) (omega arith)
+    (wait_clauses_reads shape variables a)
+    (append-from 5 (past_limits shape.tasks m) (mixed cs) (past-from shape.tasks m) (mixed-from 5 (omega arith) cs))
+    (reads_then {A = Counts} {B = List Use × Counts} 5 7 (within_limits (counted (code_counts n) 1 0 cells)) (λ j. declaration ds >>= λ us. Ok (us, j)) (code_counts m) (uses cs, code_counts m)
+    (past_limits shape.tasks m) (mixed cs) (omega arith) (within_reads shape.tasks n 0 cells w) (mixed-from 5 (omega arith) cs)
+    (reads_made {A = List Use} {B = List Use × Counts} 7 (declaration ds) (λ us. (us, code_counts m)) (uses cs) (mixed cs) (declared_read cs))))
 
 -- of `for`
 name_reads : (d : Data) → Reads 5 (name_of d) (letters d) (name_faults d)

@@ -8,25 +8,26 @@ use Rattle.ot_model.specs.Tree.{E, S, Set, Fold, If, Task, Wait, Group, Body, bo
 use Rattle.ot_model.specs.Value.{cells_of}
 use Rattle.ot_model.specs.declared.fold.Fold.{Fold as Operation}
 use Rattle.ot_model.specs.declared.fold.Fold.TheVariants.{Plus}
+use Rattle.ot_model.specs.declared.stmt.Use.{Use}
 use Rattle.ot_program.specs.declared.counts.Counts.{Counts}
 use Rattle.ot_program.specs.declared.fault.Refusal.{Refusal}
 use Rattle.ot_program.specs.declared.fault.Refusal.TheVariants.{Form}
 use Rattle.ot_program.specs.declared.profile.Profile.{Profile}
-use Rattle.ot_program.specs.Copies.{SetText, AddText, FoldText, IfText, ForText, Turn, TaskText, WaitText, GroupText, GroupByText, NoForm, Placed, Copy, Copies, Done, at, turns, copies, copies_of, copy, in_copy, in_order, statement_of, statements_of}
+use Rattle.ot_program.specs.Copies.{SetText, AddText, FoldText, IfText, ForText, Turn, TaskText, WaitText, WaitForText, GroupText, GroupByText, NoForm, Placed, Copy, Copies, Done, at, turns, copies, copies_of, copy, in_copy, in_order, statement_of, statements_of}
 use Rattle.ot_program.specs.Declarations.{uses}
 use Rattle.ot_program.specs.Faults.{unless, no_list, list_faults, cell_faults, section_faults, expression_faults, clause_faults, mixed, nested, own_faults, past_limits}
 use Rattle.ot_program.specs.Limits.{cells_in, Tally, tally, plus, with_value}
-use Rattle.ot_program.specs.Meanings.{items, letters, fold_of, Bindings, size, cell, section, value, clause}
+use Rattle.ot_program.specs.Meanings.{items, letters, fold_of, Bindings, size, cell, section, value, clause, wait_clause}
 use Rattle.ot_program.specs.Names.{is_word}
 use Rattle.ot_program.specs.Profiles.{is_one, is_two}
 use Rattle.ot_program.specs.Programs.{told_or}
 use Rattle.ot_program.specs.walk.Reading.{◌>>=◌}
 use Rattle.ot_program.specs.walk.Counting.{counted, within_limits, one_turn}
-use Rattle.ot_program.specs.walk.Statements.{Read, Reader, Range, refused, one_then, target_of, condition_of, declared_of, grouped_of, range_of, by_operation, set_in, fold_in, wait_in, with_body, group_in, if_in, for_in, turn, body_in, all_in, one_in}
+use Rattle.ot_program.specs.walk.Statements.{Read, Reader, Range, refused, one_then, target_of, condition_of, declared_of, waited_of, grouped_of, range_of, by_operation, set_in, fold_in, wait_in, wait_for_in, with_body, group_in, if_in, for_in, turn, body_in, all_in, one_in}
 use Rattle.ot_program.specs.walk.Statements as walk
 use Rattle.ot_program.proofs.Coded.{code_counts}
 use Rattle.ot_program.proofs.Firsts.{first_of, form-earlier, first-append}
-use Rattle.ot_program.proofs.StatementsRead.{first-swap, within_reads, turn_reads, target_reads, condition_reads, grouped_reads, declared_reads, range, range_reads}
+use Rattle.ot_program.proofs.StatementsRead.{first-swap, within_reads, turn_reads, target_reads, condition_reads, grouped_reads, declared_reads, waited_reads, range, range_reads}
 use Rattle.ot_program.proofs.Tallies.{nothing, plus-nothing, tally_at, with_one, sum_from, sum-append, faults_at, told_from, told-append, AreWithin, not_past, within_after, within_sum}
 
 -- ---- readers
@@ -152,8 +153,15 @@ meets_no_form shape level variables n w = rw (form-earlier (first_of (past_limit
 meets_wait : (shape : Arrays) (level : ℕ) (variables : Bindings) → MeetsCopy shape wait_in (at level variables WaitText Done Done)
 meets_wait shape level variables n w =
     let p : Placed = record { level = level; variables = variables; text = WaitText } in
-    after_own {B = Counts} shape n p [] (Wait ∷ []) (within_limits (counted (code_counts n) 1 0 0)) (code_counts (with_one shape n p)) (λ m. Ok (Wait ∷ [], m))
+    after_own {B = Counts} shape n p [] (Wait None ∷ []) (within_limits (counted (code_counts n) 1 0 0)) (code_counts (with_one shape n p)) (λ m. Ok (Wait None ∷ [], m))
     ((within_reads shape.tasks n 0 0 w).is) (λ v. refl)
+
+meets_wait_for : (shape : Arrays) (level : ℕ) (variables : Bindings) (a : Data) → MeetsCopy shape (wait_for_in shape variables a) (at level variables (WaitForText a) Done Done)
+meets_wait_for shape level variables a n w =
+    let p : Placed = record { level = level; variables = variables; text = WaitForText a } in
+    let us = uses (map (wait_clause shape variables) (items a)) in
+    after_own {B = List Use × Counts} shape n p [] (Wait (Some us) ∷ []) (waited_of shape variables a (code_counts n)) (us, code_counts (with_one shape n p)) (λ q. Ok (Wait (Some q.0) ∷ [], q.1))
+    ((waited_reads shape variables a n w).is) (λ v. refl)
 
 meets_set : (shape : Arrays) (level : ℕ) (variables : Bindings) (a b : Data) → MeetsCopy shape (set_in shape variables a b) (at level variables (SetText a b) Done Done)
 meets_set shape level variables a b n w =
@@ -226,6 +234,10 @@ mutual
   walked_one shape profile level (array (item t no_items)) variables n w =
       meets_test shape (is_word t (codes "wait")) wait_in (refused Form) (at level variables WaitText Done Done) (at level variables NoForm Done Done)
       (meets_wait shape level variables) (meets_no_form shape level variables) n w
+  walked_one shape profile level (array (item t (item a no_items))) variables n w =
+      meets_test shape (is_two profile && is_word t (codes "wait")) (wait_for_in shape variables a) (refused Form)
+      (at level variables (WaitForText a) Done Done) (at level variables NoForm Done Done)
+      (meets_wait_for shape level variables a) (meets_no_form shape level variables) n w
   walked_one shape profile level (array (item t (item a (item b no_items)))) variables n w =
       let none = at level variables NoForm Done Done in
       let inner = body_in shape profile (level + 1) b variables in

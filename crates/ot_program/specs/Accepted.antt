@@ -28,7 +28,7 @@ abbrev mutual
   sum_one f (Fold o c e) = f e
   sum_one f (If e a b) = f e + sum_in f a + sum_in f b
   sum_one f (Task us b) = sum_in f b
-  sum_one f Wait = 0
+  sum_one f (Wait w) = 0
   sum_one f (Group o cs b) = sum_in f b
 
   pub sum_in : (E → ℕ) → Body → ℕ

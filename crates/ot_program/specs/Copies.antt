@@ -1,18 +1,19 @@
 -- The statements of a text as copies, of the body of a `for` one for each turn; their order; and the tree that they
 -- are (docs/LANGUAGE.md, "Forms", on statements and loops).
-use Rattle.std.specs.Prelude.{ℕ, zero, suc, ◌+◌, ◌-◌, List, [], ◌∷◌, ◌++◌, map, flat_map, ◌&&◌, if◌then◌else◌, codes}
+use Rattle.std.specs.Prelude.{ℕ, zero, suc, ◌+◌, ◌-◌, List, [], ◌∷◌, ◌++◌, map, flat_map, ◌&&◌, if◌then◌else◌, Some, None, codes}
 use Rattle.serde_json.specs.Data.{Data, array, Items, no_items, item}
 use Rattle.ot_model.specs.Shapes.{Arrays}
 use Rattle.ot_model.specs.Tree.{S, Set, Fold, If, Task, Wait, Group, body_of}
 use Rattle.ot_model.specs.declared.fold.Fold.TheVariants.{Plus}
 use Rattle.ot_model.specs.Value.{cells_of}
 use Rattle.ot_program.specs.Declarations.{uses}
-use Rattle.ot_program.specs.Meanings.{items, letters, operation, Bindings, size, cell, section, value, clause}
+use Rattle.ot_program.specs.Meanings.{items, letters, operation, Bindings, size, cell, section, value, clause, wait_clause}
 use Rattle.ot_program.specs.Names.{is_word}
 use Rattle.ot_program.specs.Profiles.{is_one, is_two}
 use Rattle.ot_program.specs.declared.profile.Profile.{Profile}
 
--- a statement's own parts as they stand in the text, its bodies among them; one turn of a `for`; or what has no form
+-- a statement's own parts as they stand in the text, its bodies among them, and of a `task` the profile by which its clauses
+-- are read; one turn of a `for`; or what has no form
 pub data Text : Type 0 where
   SetText : (cell value : Data) → Text
   AddText : (cell value : Data) → Text
@@ -22,6 +23,7 @@ pub data Text : Type 0 where
   Turn : Text
   TaskText : Profile → (clauses body : Data) → Text
   WaitText : Text
+  WaitForText : (clauses : Data) → Text
   GroupText : (sections body : Data) → Text
   GroupByText : (op sections body : Data) → Text
   ProgramText : (shows body : Data) → Text
@@ -63,10 +65,13 @@ unfoldable mutual
 
   -- `["wait"]`, `["set", cell, value]`, `["add", cell, value]`, `["task", [clause, ..], body]`,
   -- `["if", value, body, body]` and `["for", variable, size, size, body]`; in profile 1 `["group", [section, ..], body]`,
-  -- in profile 2 `["fold", op, cell, value]` and `["group", op, [section, ..], body]`
+  -- in profile 2 `["wait", [clause, ..]]`, `["fold", op, cell, value]` and `["group", op, [section, ..], body]`
   pub copy : Profile → ℕ → Data → Bindings → Copy
   copy profile level (array (item t no_items)) variables =
       if is_word t (codes "wait") then at level variables WaitText Done Done else
+      at level variables NoForm Done Done
+  copy profile level (array (item t (item a no_items))) variables =
+      if is_two profile && is_word t (codes "wait") then at level variables (WaitForText a) Done Done else
       at level variables NoForm Done Done
   copy profile level (array (item t (item a (item b no_items)))) variables =
       if is_word t (codes "set") then at level variables (SetText a b) Done Done else
@@ -111,7 +116,8 @@ module _ (shape : Arrays) where
   statement variables Turn one two = one
   statement variables (TaskText profile a b) one two =
       Task (uses (map (clause shape profile variables) (items a))) (body_of one) ∷ []
-  statement variables WaitText one two = Wait ∷ []
+  statement variables WaitText one two = Wait None ∷ []
+  statement variables (WaitForText a) one two = Wait (Some (uses (map (wait_clause shape variables) (items a)))) ∷ []
   statement variables (GroupText a b) one two =
       Group Plus (flat_map cells_of (map (section shape variables) (items a))) (body_of one) ∷ []
   statement variables (GroupByText op a b) one two =

@@ -5,7 +5,7 @@ use Rattle.std.specs.Prelude.{ℕ, ◌+◌, ◌==◌, nat_lt, nat_le, Bool, true
 use Rattle.std.specs.List.{list_any}
 use Rattle.serde_json.specs.Data.{Data, number, string, array, no_items, item}
 use Rattle.ot_model.specs.Shapes.{Arrays}
-use Rattle.ot_program.specs.Copies.{Text, SetText, AddText, FoldText, IfText, ForText, Turn, TaskText, WaitText, GroupText, GroupByText, ProgramText, NoForm, Placed}
+use Rattle.ot_program.specs.Copies.{Text, SetText, AddText, FoldText, IfText, ForText, Turn, TaskText, WaitText, WaitForText, GroupText, GroupByText, ProgramText, NoForm, Placed}
 use Rattle.ot_program.specs.Declarations.{named_cells, is_mixed}
 use Rattle.ot_program.specs.Limits.{max_nesting, max_depth, max_statements, max_turns, max_nodes, max_cells, size_depth, depth_of, Tally}
 use Rattle.ot_program.specs.Meanings.{items, Bindings, bound, sign_of, in_range, exact, size, is_called, length_of, op_of, fold_of, value, mode_of, red_by, Clause, clause}
@@ -97,6 +97,12 @@ clause_faults shape Two variables (array (item t (item op (item a no_items)))) =
     unless (is_some (red_by t op)) Form ++ section_faults shape variables a
 clause_faults shape profile variables _ = Form ∷ []
 
+-- `red` is no clause of a wait
+abbrev pub wait_clause_faults : Arrays → Bindings → Data → List Refusal
+wait_clause_faults shape variables (array (item t (item a no_items))) =
+    unless (is_some (mode_of Two t)) Form ++ section_faults shape variables a
+wait_clause_faults shape variables _ = Form ∷ []
+
 -- an operation of a fold or a group
 abbrev pub fold_faults : Data → List Refusal
 fold_faults op = unless (is_some (fold_of op)) Form
@@ -125,6 +131,7 @@ module _ (shape : Arrays) where
       (list_faults (clause_faults shape profile variables) a ++ no_list b)
       ++ (nested level ++ mixed (map (clause shape profile variables) (items a)))
   text_faults level variables WaitText = []
+  text_faults level variables (WaitForText a) = list_faults (wait_clause_faults shape variables) a
   text_faults level variables (GroupText a b) = (list_faults (section_faults shape variables) a ++ no_list b) ++ nested level
   text_faults level variables (GroupByText op a b) =
       fold_faults op ++ ((list_faults (section_faults shape variables) a ++ no_list b) ++ nested level)

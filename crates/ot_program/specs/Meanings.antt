@@ -166,3 +166,9 @@ clause shape profile variables (array (item t (item a no_items))) =
 clause shape Two variables (array (item t (item op (item a no_items)))) =
     record { mode = unwrap_or (red_by t op) Reads; section = section shape variables a }
 clause shape profile variables d = record { mode = Reads; section = section shape variables d }
+
+-- A clause of a wait has no `red`: it is a depend clause (OpenMP API 5.2, section 15.9.5).
+abbrev pub wait_clause : Arrays → Bindings → Data → Clause
+wait_clause shape variables (array (item t (item a no_items))) =
+    record { mode = unwrap_or (mode_of Two t) Reads; section = section shape variables a }
+wait_clause shape variables d = record { mode = Reads; section = section shape variables d }

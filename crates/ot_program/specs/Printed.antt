@@ -1,5 +1,5 @@
 -- A tree as a text: what is printed of a tree denotes the tree.
-use Rattle.std.specs.Prelude.{◌≡◌, ℕ, ◌<◌, ◌^◌, List, [], ◌∷◌, map, slice_get, option_map, unwrap_or, codes}
+use Rattle.std.specs.Prelude.{◌≡◌, ℕ, ◌<◌, ◌^◌, List, [], ◌∷◌, map, slice_get, Option, option_map, unwrap_or, Some, None, codes}
 use Rattle.serde_json.specs.Data.{Data, number, string, array, Items, no_items, item, unsigned}
 use Rattle.ot_model.specs.Shapes.{Arrays}
 use Rattle.ot_model.specs.Tree.{E, Literal, CellAt, Apply, PickFrom, S, Set, Fold, If, Task, Wait, Group, Body, End, Next, body_of}
@@ -96,7 +96,8 @@ abbrev mutual
       array (four (string (codes "if")) (value_text shape e) (array (body_text shape profile a)) (array (body_text shape profile b)))
   statement_text shape profile (Task us b) =
       array (three (string (codes "task")) (array (uses_text shape profile us)) (array (body_text shape profile b)))
-  statement_text shape profile Wait = array (one (string (codes "wait")))
+  statement_text shape profile (Wait None) = array (one (string (codes "wait")))
+  statement_text shape profile (Wait (Some us)) = array (two (string (codes "wait")) (array (uses_text shape Two us)))
   statement_text shape One (Group op cs b) =
       array (three (string (codes "group")) (array (cells_text shape cs)) (array (body_text shape One b)))
   statement_text shape Two (Group op cs b) =
@@ -106,7 +107,8 @@ abbrev mutual
   body_text shape profile End = no_items
   body_text shape profile (Next s rest) = item (statement_text shape profile s) (body_text shape profile rest)
 
--- ---- what can be printed: arrays that are found by their names, numbers of 64 bits, and in profile 1 folds by `+` alone
+-- ---- what can be printed: arrays that are found by their names, numbers of 64 bits, and in profile 1 folds by `+` and
+-- waits without clauses alone
 
 abbrev pub IsFound : Arrays → ℕ → Type 0
 IsFound shape i = position_of shape (name_at shape i) ≡ i
@@ -144,13 +146,27 @@ AreUsesOf shape profile (u ∷ us) = IsCell shape u.cell × IsModeOf profile u.m
 abbrev pub AreUses : Arrays → Profile → List Use → Type 0
 AreUses shape profile us = AreUsesOf shape profile us × (uses (map as_clause us) ≡ us)
 
+-- a wait with clauses is one of profile 2, and no clause of it folds
+abbrev pub IsWaitMode : Mode → Type 0
+IsWaitMode (Folds op) = ⊥
+IsWaitMode mode = Unit {0}
+
+abbrev pub AreWaitUses : Arrays → List Use → Type 0
+AreWaitUses shape [] = Unit {0}
+AreWaitUses shape (u ∷ us) = IsCell shape u.cell × IsWaitMode u.mode × AreWaitUses shape us
+
+abbrev pub IsWait : Arrays → Profile → Option (List Use) → Type 0
+IsWait shape profile None = Unit {0}
+IsWait shape One (Some us) = ⊥
+IsWait shape Two (Some us) = AreWaitUses shape us × (uses (map as_clause us) ≡ us)
+
 abbrev mutual
   pub IsStatement : Arrays → Profile → S → Type 0
   IsStatement shape profile (Set c e) = IsCell shape c × IsValue shape e
   IsStatement shape profile (Fold op c e) = IsFoldOf profile op × IsCell shape c × IsValue shape e
   IsStatement shape profile (If e a b) = IsValue shape e × IsBody shape profile a × IsBody shape profile b
   IsStatement shape profile (Task us b) = AreUses shape profile us × IsBody shape profile b
-  IsStatement shape profile Wait = Unit {0}
+  IsStatement shape profile (Wait w) = IsWait shape profile w
   IsStatement shape profile (Group op cs b) = IsFoldOf profile op × AreCells shape cs × IsBody shape profile b
 
   pub IsBody : Arrays → Profile → Body → Type 0

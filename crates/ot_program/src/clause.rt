@@ -76,7 +76,8 @@ fn clause_form(scope: &Scope, items: &[Value]) -> Result<Clause, Refusal>
     }
 }
 
-fn clause_at(scope: &Scope, mode: Option<Mode>, section: &Value) -> Result<Clause, Refusal>
+/// A clause of this mode, whatever its section is read as.
+pub(crate) fn clause_at(scope: &Scope, mode: Option<Mode>, section: &Value) -> Result<Clause, Refusal>
     ensures { result ≡ clause_at mode (section_of scope.now.shape.now
         (bindings_of scope.now.variables.now) (view section.now)) }
 {
@@ -87,7 +88,8 @@ fn clause_at(scope: &Scope, mode: Option<Mode>, section: &Value) -> Result<Claus
     Ok(Clause { mode, section })
 }
 
-fn read_mode(profile: Profile, tag: &Value) -> Option<Mode>
+/// The mode of a clause without an operation.
+pub(crate) fn read_mode(profile: Profile, tag: &Value) -> Option<Mode>
     ensures { result ≡ mode_of profile (view tag.now) }
 {
     match tag {

@@ -8,7 +8,7 @@ ghost use Rattle.ot_program.specs.Returned.{Gives};
 ghost use Rattle.ot_program.specs.walk.Returned.{range_view};
 ghost use Rattle.ot_program.specs.walk.Variables.{bindings_of};
 ghost use Rattle.ot_program.specs.walk.Counting.{deeper};
-ghost use Rattle.ot_program.specs.walk.Statements.{list_of, target_of, condition_of, declared_of, grouped_of, range_of};
+ghost use Rattle.ot_program.specs.walk.Statements.{list_of, target_of, condition_of, declared_of, waited_of, grouped_of, range_of};
 
 use crate::both::{both, join};
 use crate::clause::{self, read_clauses};
@@ -21,6 +21,7 @@ use crate::scope::Scope;
 use crate::section::read_sections;
 use crate::size::{check_depth, read_size};
 use crate::value::{count_expression, read_expression};
+use crate::wait::read_wait_clauses;
 use ot_model::{Cell, Decl, Expr};
 use serde_json::Value;
 use std::alloc::Global;
@@ -109,6 +110,24 @@ pub(crate) fn read_declared(
     check_level(scope.level)?;
     *counts = counts.plus(1, 0, clause::cells(&clauses))?;
     *counts = counts.task(scope.shape.tasks())?;
+    declare(alloc, &clauses)
+}
+
+/// Of `wait` with clauses: what it declares.
+pub(crate) fn read_waited(
+    alloc: Global,
+    scope: &Scope,
+    clauses: &Value,
+    counts: &mut Counts,
+) -> Result<Decl, ProgramFault>
+    ensures { Gives (λ d. (d, counts.new)) result
+        (waited_of scope.now.shape.now (bindings_of scope.now.variables.now) (view clauses.now) counts.old) }
+{
+    // The shape's lengths fit 32 bits.
+    let _arrays = scope.shape.arrays();
+    let clauses = read_wait_clauses(alloc, scope, clauses)?;
+    let cells = clause::cells(&clauses);
+    *counts = counts.plus(1, 0, cells)?;
     declare(alloc, &clauses)
 }
 

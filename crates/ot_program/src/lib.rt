@@ -20,6 +20,7 @@ mod section;
 mod size;
 mod statement;
 mod value;
+mod wait;
 
 pub use fault::{ProgramFault, Refusal};
 pub use name::{is_name, is_word};

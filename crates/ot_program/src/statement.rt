@@ -6,13 +6,15 @@ ghost use Rattle.ot_model.specs.View.{stmt_of};
 ghost use Rattle.ot_program.specs.Limits.{max_nesting};
 ghost use Rattle.ot_program.specs.Meanings.{fold_of};
 ghost use Rattle.ot_program.specs.walk.Variables.{bindings_of};
-ghost use Rattle.ot_program.specs.walk.Statements.{body_in, all_in, one_in, by_operation, set_in, fold_in, wait_form, with_body, group_in, declared_of, turn, turns};
+ghost use Rattle.ot_program.specs.walk.Statements.{body_in, all_in, one_in, by_operation, set_in, fold_in, wait_form, wait_for_form, with_body, group_in, declared_of, turn, turns};
 ghost use Rattle.ot_program.specs.Returned.{Gives};
 ghost use Rattle.ot_program.specs.walk.Returned.{Adds};
 
 use crate::counts::Counts;
 use crate::fault::{ProgramFault, Refusal};
-use crate::head::{Turns, read_condition, read_declared, read_grouped, read_target, read_turns};
+use crate::head::{
+    Turns, read_condition, read_declared, read_grouped, read_target, read_turns, read_waited,
+};
 use crate::name::is_word;
 use crate::operation::read_operation;
 use crate::scope::{Scope, Variable, Variables};
@@ -97,6 +99,9 @@ fn read_form(
     if let [tag] = items {
         return read_wait(tag, counts, out);
     }
+    if let [tag, clauses] = items {
+        return read_wait_for(alloc, scope, tag, clauses, counts, out);
+    }
     if items.len() == 3 {
         return read_three(alloc, scope, items, counts, out);
     }
@@ -118,7 +123,28 @@ fn read_wait(tag: &Value, counts: &mut Counts, out: &mut Vec<Stmt>) -> Result<()
         return Err(ProgramFault::Refused(Refusal::Form));
     }
     *counts = counts.plus(1, 0, 0)?;
-    out.push(Stmt::Wait)?;
+    out.push(Stmt::Wait(None))?;
+    Ok(())
+}
+
+// `["wait", [clause, ..]]` in profile 2
+fn read_wait_for(
+    alloc: Global,
+    scope: &Scope,
+    tag: &Value,
+    clauses: &Value,
+    counts: &mut Counts,
+    out: &mut Vec<Stmt>,
+) -> Result<(), ProgramFault>
+    ensures { Adds (map stmt_of out.old.items) (map stmt_of out.new.items) counts.new result
+        (wait_for_form scope.now.shape.now scope.now.profile (bindings_of scope.now.variables.now)
+        (view tag.now) (view clauses.now) counts.old) }
+{
+    if !scope.profile.two_has(tag, "wait") {
+        return Err(ProgramFault::Refused(Refusal::Form));
+    }
+    let decl = read_waited(alloc, scope, clauses, counts)?;
+    out.push(Stmt::Wait(Some(decl)))?;
     Ok(())
 }
 

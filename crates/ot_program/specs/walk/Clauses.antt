@@ -39,6 +39,16 @@ abbrev pub clauses_of : Arrays → Profile → Bindings → Data → Result (Lis
 clauses_of shape profile variables (array ds) = each_of (clause_of shape profile variables) ds
 clauses_of shape profile variables _ = Err Form
 
+-- `[word, section]` of a wait
+abbrev pub wait_clause_of : Arrays → Bindings → Data → Result Clause Refusal
+wait_clause_of shape variables (array (item t (item a no_items))) = clause_at (mode_of Two t) (section_of shape variables a)
+wait_clause_of shape variables _ = Err Form
+
+-- `[clause, ..]` of a wait
+abbrev pub wait_clauses_of : Arrays → Bindings → Data → Result (List Clause) Refusal
+wait_clauses_of shape variables (array ds) = each_of (wait_clause_of shape variables) ds
+wait_clauses_of shape variables _ = Err Form
+
 -- a cell with its mode
 abbrev pub use_of : (ℕ × ℕ) × Option Mode → Result Use Refusal
 use_of (key, None) = Err MixedReduction

@@ -21,7 +21,7 @@ use Rattle.serde_json.specs.Data.{Data, array, no_items, item, string, Items}
 use Rattle.std.specs.Prelude.{[], ℕ, List, ◌∷◌, Option, Some, None, Result, Ok, Err, ◌&&◌, if◌then◌else◌, suc, ◌+◌, codes, zero, ◌++◌, map, flat_map, ◌-◌, ⊤}
 use Rattle.ot_program.specs.walk.Counting.{counted, within_limits, with_expression, one_turn, one_task, deeper}
 use Rattle.ot_program.specs.walk.Values.{expression_of}
-use Rattle.ot_program.specs.walk.Clauses.{clauses_of, declaration}
+use Rattle.ot_program.specs.walk.Clauses.{clauses_of, wait_clauses_of, declaration}
 
 -- statements that were read, and the counts after them
 abbrev pub Read : Type 0
@@ -74,6 +74,14 @@ declared_of shape profile variables level clauses body n = do
   uses ← declaration p.0
   Ok (uses, k)
 
+-- of `wait` with clauses: what it declares
+abbrev pub waited_of : Arrays → Bindings → Data → Counts → Result (List Use × Counts) Refusal
+waited_of shape variables clauses n = do
+  cs ← wait_clauses_of shape variables clauses
+  m ← within_limits (counted n 1 0 (cells_in (map (λ c. c.section) cs)))
+  uses ← declaration cs
+  Ok (uses, m)
+
 -- of `group`: the cells that it names
 abbrev pub grouped_of : Arrays → Bindings → ℕ → Data → Data → Counts → Result (List Cell × Counts) Refusal
 grouped_of shape variables level sections body n = do
@@ -119,10 +127,19 @@ fold_in shape variables cell value op n = do
 abbrev pub wait_in : Reader
 wait_in n = do
   m ← within_limits (counted n 1 0 0)
-  Ok (Wait ∷ [], m)
+  Ok (Wait None ∷ [], m)
 
 abbrev pub wait_form : Data → Reader
 wait_form tag = if is_word tag (codes "wait") then wait_in else refused Form
+
+abbrev pub wait_for_in : Arrays → Bindings → Data → Reader
+wait_for_in shape variables clauses n = do
+  p ← waited_of shape variables clauses n
+  Ok (Wait (Some p.0) ∷ [], p.1)
+
+abbrev pub wait_for_form : Arrays → Profile → Bindings → Data → Data → Reader
+wait_for_form shape profile variables tag clauses =
+    if is_two profile && is_word tag (codes "wait") then wait_for_in shape variables clauses else refused Form
 
 -- the first body before the second
 abbrev pub if_in : (Counts → Result (E × Counts) Refusal) → Reader → Reader → Reader
@@ -174,6 +191,7 @@ unfoldable mutual
   -- the forms of statements, by how many items they have
   pub one_in : Arrays → Profile → ℕ → Data → Bindings → Reader
   one_in shape profile level (array (item t no_items)) variables = wait_form t
+  one_in shape profile level (array (item t (item a no_items))) variables = wait_for_form shape profile variables t a
   one_in shape profile level (array (item t (item a (item b no_items)))) variables =
       if is_word t (codes "set") then set_in shape variables a b else
       (if is_word t (codes "add") then fold_in shape variables a b Plus else

@@ -8,7 +8,7 @@ use Rattle.ot_program.specs.walk.Statements.{condition_of, declared_of, grouped_
 use Rattle.ot_program.proofs.Fronts.{added_behind_none, front_none, all_step, all_fails, all_ends, put_behind}
 use Rattle.ot_program.proofs.Seen.{array_seen, stmt_of-If, stmt_of-Task, stmt_of-Group}
 use Rattle.ot_program.proofs.Turns.{turns_step, turns_fail, turns_end}
-use Rattle.ot_program.proofs.StatementForms.{no_list-body, no_list-one, no_form, form_wait, form_set, form_add, form_task, form_group, no_form_of_three, form_fold, form_group_by, form_if, no_form_of_four, form_for, no_form_of_five}
+use Rattle.ot_program.proofs.StatementForms.{no_list-body, no_list-one, no_form, form_wait, form_wait_for, form_set, form_add, form_task, form_group, no_form_of_three, form_fold, form_group_by, form_if, no_form_of_four, form_for, no_form_of_five}
 use Rattle.ot_program.proofs.Conditions.{adds_refused, for_refused, body_fails_own, body_fails, body_reads, if_fails_condition, if_fails_first, if_fails_second, if_reads}
 use Rattle.ot_program.proofs.statement.+statements.Goals as goal
 
@@ -51,11 +51,17 @@ read_form-returns-in-len1 t c =
     let scope = c.args.scope.now in
     rw (form_wait scope.shape.now scope.profile scope.level c.args.items.now (bindings_of scope.variables.now) c.args.counts.now _ (omega arith) c.tag-item.is) c.read_wait.ensures
 
+pub read_form-returns-in-len2 : goal.read_form-returns-in-len2
+read_form-returns-in-len2 t c =
+    let scope = c.args.scope.now in
+    rw (form_wait_for scope.shape.now scope.profile scope.level c.args.items.now (bindings_of scope.variables.now) c.args.counts.now _ _ (omega arith) c.tag-item-then-items-lt3.is c.clauses-item.is)
+    c.read_wait_for.ensures
+
 pub read_form-returns : goal.read_form-returns
 read_form-returns t c =
     let scope = c.args.scope.now in
     no_form scope.shape.now scope.profile scope.level c.args.items.now (bindings_of scope.variables.now) c.args.counts.now
-    (grind arith) c.if-items-eq3.false c.if-items-eq4.false c.if-items-eq5.false
+    (grind arith) (grind arith) c.if-items-eq3.false c.if-items-eq4.false c.if-items-eq5.false
 
 pub take_turns-loop-number-init : goal.take_turns-loop-number-init
 take_turns-loop-number-init t c = front_none _ _

@@ -1,0 +1,10 @@
+use Rattle.ot_program.specs.walk.Variables.{bindings_of}
+use Rattle.ot_program.specs.walk.Clauses.{wait_clause_of}
+use Rattle.ot_program.proofs.Lists.{part_put}
+use Rattle.ot_program.proofs.wait.each_clause.Goals as goal
+
+pub loop-item-preserved : goal.loop-item-preserved
+loop-item-preserved c =
+    rw (c.in_ok-put.ensures, c.read_clause.ensures)
+    (part_put (wait_clause_of c.args.scope.now.shape.now (bindings_of c.args.scope.now.variables.now)) _ c.args.items.now _ _ _
+    c.loop-item-test.true c.item-item.is c.loop-item.invariant)

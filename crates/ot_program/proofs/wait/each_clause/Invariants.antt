@@ -1,0 +1,13 @@
+use Rattle.std.proofs.Common.{◌≡◌, drop}
+use Rattle.serde_json.specs.View.{items_view}
+use Rattle.ot_program.specs.walk.Reading.{each_of}
+use Rattle.ot_program.specs.walk.Variables.{bindings_of}
+use Rattle.ot_program.specs.walk.Clauses.{wait_clause_of}
+use Rattle.ot_program.proofs.Lists.{then_more}
+use Rattle.ot_program.proofs.wait.each_clause.Given as goal
+
+-- what was read, with what is left, is all
+abbrev pub invariant-loop-item : goal.invariant-loop-item
+invariant-loop-item l =
+    then_more l.clauses (each_of (wait_clause_of l.scope.shape.now (bindings_of l.scope.variables.now)) (items_view (drop l.item-index l.items)))
+    ≡ each_of (wait_clause_of l.scope.shape.now (bindings_of l.scope.variables.now)) (items_view l.items)
