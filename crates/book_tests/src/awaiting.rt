@@ -7,48 +7,52 @@ use test_reading::read;
 
 /// Tasks over `a` and `b` of 9 cells each, and before them a mark for each but the last: `x` where it
 /// has finished. The last declares what a wait behind the others does. Whether that wait has to wait,
-/// and how many of the others have not finished.
-const AWAITING: &str = r#"none of [],[["task",[["inout",["a",0,9]]],[]]] gives false 0
-- of [],[["task",[["in",["a",0,1]]],[]],["task",[["in",["a",0,1]]],[]]] gives false 1
-- of [],[["task",[["in",["a",0,1]]],[]],["task",[["out",["a",0,1]]],[]]] gives true 1
-- of [],[["task",[["in",["a",0,1]]],[]],["task",[["inout",["a",0,1]]],[]]] gives true 1
-- of [],[["task",[["out",["a",0,1]]],[]],["task",[["in",["a",0,1]]],[]]] gives true 1
-- of [],[["task",[["out",["a",0,1]]],[]],["task",[["out",["a",0,1]]],[]]] gives true 1
-- of [],[["task",[["inout",["a",0,1]]],[]],["task",[["in",["a",0,1]]],[]]] gives true 1
-- of [],[["task",[["inout",["a",0,1]]],[]],["task",[["inout",["a",0,1]]],[]]] gives true 1
-- of [],[["task",[["red",["a",0,1]]],[]],["task",[["in",["a",0,1]]],[]]] gives false 1
-- of [],[["task",[["red",["a",0,1]]],[]],["task",[["out",["a",0,1]]],[]]] gives true 1
-- of [],[["task",[["red",["a",0,1]]],[]],["task",[["inout",["a",0,1]]],[]]] gives true 1
-x of [],[["task",[["in",["a",0,1]]],[]],["task",[["out",["a",0,1]]],[]]] gives false 0
-x of [],[["task",[["out",["a",0,1]]],[]],["task",[["in",["a",0,1]]],[]]] gives false 0
-x of [],[["task",[["inout",["a",0,1]]],[]],["task",[["inout",["a",0,1]]],[]]] gives false 0
-x of [],[["task",[["red",["a",0,1]]],[]],["task",[["out",["a",0,1]]],[]]] gives false 0
-- of [],[["task",[],[]],["task",[["inout",["a",0,9]]],[]]] gives false 1
-- of [],[["task",[["inout",["a",0,9]]],[]],["task",[],[]]] gives false 1
-- of [],[["task",[["out",["a",0,1]]],[]],["task",[["out",["a",1,1]]],[]]] gives false 1
-- of [],[["task",[["out",["a",0,1]]],[]],["task",[["out",["b",0,1]]],[]]] gives false 1
-- of [],[["task",[["out",["a",0,4]]],[]],["task",[["in",["a",3,2]]],[]]] gives true 1
-- of [],[["task",[["out",["a",0,4]]],[]],["task",[["in",["a",4,2]]],[]]] gives false 1
-- of [],[["task",[["in",["a",0,1]],["out",["b",8,1]]],[]],["task",[["in",["a",0,1]],["in",["b",8,1]]],[]]] gives true 1
-- of [],[["task",[["in",["a",0,1]],["out",["b",8,1]]],[]],["task",[["in",["a",0,1]],["in",["b",7,1]]],[]]] gives false 1
-- of [],[["task",[["in",["a",0,9]]],[]],["task",[["in",["a",0,8]],["out",["a",8,1]]],[]]] gives true 1
--- of [],[["task",[["in",["a",0,1]]],[]],["task",[["out",["a",0,1]]],[]],["task",[["in",["a",0,1]]],[]]] gives true 2
-x- of [],[["task",[["in",["a",0,1]]],[]],["task",[["out",["a",0,1]]],[]],["task",[["in",["a",0,1]]],[]]] gives true 1
-xx of [],[["task",[["in",["a",0,1]]],[]],["task",[["out",["a",0,1]]],[]],["task",[["out",["a",0,1]]],[]]] gives false 0
--x of [],[["task",[["in",["a",0,1]]],[]],["task",[["in",["a",0,1]]],[]],["task",[["out",["a",0,1]]],[]]] gives true 1
-x- of [],[["task",[["in",["a",0,1]]],[]],["task",[["in",["a",0,1]]],[]],["task",[["out",["a",0,1]]],[]]] gives true 1
-xx of [],[["task",[["in",["a",0,1]]],[]],["task",[["in",["a",0,1]]],[]],["task",[["out",["a",0,1]]],[]]] gives false 0
--x of [],[["task",[["in",["a",0,1]]],[]],["task",[["in",["a",0,1]]],[]],["task",[["in",["a",0,1]]],[]]] gives false 1
--x of [],[["task",[["red",["a",0,1]]],[]],["task",[["red",["a",0,1]]],[]],["task",[["inout",["a",0,1]]],[]]] gives true 1
-xx of [],[["task",[["red",["a",0,1]]],[]],["task",[["red",["a",0,1]]],[]],["task",[["inout",["a",0,1]]],[]]] gives false 0
-x-- of [],[["task",[["out",["a",0,1]]],[]],["task",[["out",["a",0,1]]],[]],["task",[["in",["a",0,1]]],[]],["task",[["in",["a",0,1]]],[]]] gives true 2
-xx- of [],[["task",[["out",["a",0,1]]],[]],["task",[["out",["a",0,1]]],[]],["task",[["in",["a",0,1]]],[]],["task",[["in",["a",0,1]]],[]]] gives false 1
-xx- of [],[["task",[["out",["a",0,1]]],[]],["task",[["out",["a",0,1]]],[]],["task",[["in",["a",0,1]]],[]],["task",[["out",["a",0,1]]],[]]] gives true 1
--x of [],[["task",[["out",["a",0,1]]],[]],["task",[["in",["b",0,1]]],[]],["task",[["out",["b",0,1]]],[]]] gives false 1
---- of [],[["task",[["out",["a",0,1]]],[]],["task",[["in",["a",0,1]],["out",["a",1,1]]],[]],["task",[["in",["a",2,1]]],[]],["task",[["in",["a",2,1]]],[]]] gives false 3
-x-- of [],[["task",[["out",["a",0,1]]],[]],["task",[["in",["a",0,1]],["out",["a",1,1]]],[]],["task",[["in",["a",2,1]]],[]],["task",[["in",["a",1,1]]],[]]] gives true 2"#;
+/// how many of the others have not finished, and how many of its cells are free before the first at which it has
+/// to wait.
+const AWAITING: &str = r#"none of [],[["task",[["inout",["a",0,9]]],[]]] gives false 0 9
+- of [],[["task",[["in",["a",0,1]]],[]],["task",[["in",["a",0,1]]],[]]] gives false 1 1
+- of [],[["task",[["in",["a",0,1]]],[]],["task",[["out",["a",0,1]]],[]]] gives true 1 0
+- of [],[["task",[["in",["a",0,1]]],[]],["task",[["inout",["a",0,1]]],[]]] gives true 1 0
+- of [],[["task",[["out",["a",0,1]]],[]],["task",[["in",["a",0,1]]],[]]] gives true 1 0
+- of [],[["task",[["out",["a",0,1]]],[]],["task",[["out",["a",0,1]]],[]]] gives true 1 0
+- of [],[["task",[["inout",["a",0,1]]],[]],["task",[["in",["a",0,1]]],[]]] gives true 1 0
+- of [],[["task",[["inout",["a",0,1]]],[]],["task",[["inout",["a",0,1]]],[]]] gives true 1 0
+- of [],[["task",[["red",["a",0,1]]],[]],["task",[["in",["a",0,1]]],[]]] gives false 1 1
+- of [],[["task",[["red",["a",0,1]]],[]],["task",[["out",["a",0,1]]],[]]] gives true 1 0
+- of [],[["task",[["red",["a",0,1]]],[]],["task",[["inout",["a",0,1]]],[]]] gives true 1 0
+x of [],[["task",[["in",["a",0,1]]],[]],["task",[["out",["a",0,1]]],[]]] gives false 0 1
+x of [],[["task",[["out",["a",0,1]]],[]],["task",[["in",["a",0,1]]],[]]] gives false 0 1
+x of [],[["task",[["inout",["a",0,1]]],[]],["task",[["inout",["a",0,1]]],[]]] gives false 0 1
+x of [],[["task",[["red",["a",0,1]]],[]],["task",[["out",["a",0,1]]],[]]] gives false 0 1
+- of [],[["task",[],[]],["task",[["inout",["a",0,9]]],[]]] gives false 1 9
+- of [],[["task",[["inout",["a",0,9]]],[]],["task",[],[]]] gives false 1 0
+- of [],[["task",[["out",["a",0,1]]],[]],["task",[["out",["a",1,1]]],[]]] gives false 1 1
+- of [],[["task",[["out",["a",0,1]]],[]],["task",[["out",["b",0,1]]],[]]] gives false 1 1
+- of [],[["task",[["out",["a",0,4]]],[]],["task",[["in",["a",3,2]]],[]]] gives true 1 0
+- of [],[["task",[["out",["a",0,4]]],[]],["task",[["in",["a",4,2]]],[]]] gives false 1 2
+- of [],[["task",[["in",["a",0,1]],["out",["b",8,1]]],[]],["task",[["in",["a",0,1]],["in",["b",8,1]]],[]]] gives true 1 1
+- of [],[["task",[["in",["a",0,1]],["out",["b",8,1]]],[]],["task",[["in",["a",0,1]],["in",["b",7,1]]],[]]] gives false 1 2
+- of [],[["task",[["in",["a",0,9]]],[]],["task",[["in",["a",0,8]],["out",["a",8,1]]],[]]] gives true 1 8
+-- of [],[["task",[["in",["a",0,1]]],[]],["task",[["out",["a",0,1]]],[]],["task",[["in",["a",0,1]]],[]]] gives true 2 0
+x- of [],[["task",[["in",["a",0,1]]],[]],["task",[["out",["a",0,1]]],[]],["task",[["in",["a",0,1]]],[]]] gives true 1 0
+xx of [],[["task",[["in",["a",0,1]]],[]],["task",[["out",["a",0,1]]],[]],["task",[["out",["a",0,1]]],[]]] gives false 0 1
+-x of [],[["task",[["in",["a",0,1]]],[]],["task",[["in",["a",0,1]]],[]],["task",[["out",["a",0,1]]],[]]] gives true 1 0
+x- of [],[["task",[["in",["a",0,1]]],[]],["task",[["in",["a",0,1]]],[]],["task",[["out",["a",0,1]]],[]]] gives true 1 0
+xx of [],[["task",[["in",["a",0,1]]],[]],["task",[["in",["a",0,1]]],[]],["task",[["out",["a",0,1]]],[]]] gives false 0 1
+-x of [],[["task",[["in",["a",0,1]]],[]],["task",[["in",["a",0,1]]],[]],["task",[["in",["a",0,1]]],[]]] gives false 1 1
+-x of [],[["task",[["red",["a",0,1]]],[]],["task",[["red",["a",0,1]]],[]],["task",[["inout",["a",0,1]]],[]]] gives true 1 0
+xx of [],[["task",[["red",["a",0,1]]],[]],["task",[["red",["a",0,1]]],[]],["task",[["inout",["a",0,1]]],[]]] gives false 0 1
+x-- of [],[["task",[["out",["a",0,1]]],[]],["task",[["out",["a",0,1]]],[]],["task",[["in",["a",0,1]]],[]],["task",[["in",["a",0,1]]],[]]] gives true 2 0
+xx- of [],[["task",[["out",["a",0,1]]],[]],["task",[["out",["a",0,1]]],[]],["task",[["in",["a",0,1]]],[]],["task",[["in",["a",0,1]]],[]]] gives false 1 1
+xx- of [],[["task",[["out",["a",0,1]]],[]],["task",[["out",["a",0,1]]],[]],["task",[["in",["a",0,1]]],[]],["task",[["out",["a",0,1]]],[]]] gives true 1 0
+-x of [],[["task",[["out",["a",0,1]]],[]],["task",[["in",["b",0,1]]],[]],["task",[["out",["b",0,1]]],[]]] gives false 1 1
+--- of [],[["task",[["out",["a",0,1]]],[]],["task",[["in",["a",0,1]],["out",["a",1,1]]],[]],["task",[["in",["a",2,1]]],[]],["task",[["in",["a",2,1]]],[]]] gives false 3 1
+x-- of [],[["task",[["out",["a",0,1]]],[]],["task",[["in",["a",0,1]],["out",["a",1,1]]],[]],["task",[["in",["a",2,1]]],[]],["task",[["in",["a",1,1]]],[]]] gives true 2 0
+-- of [],[["task",[["out",["a",4,1]]],[]],["task",[["out",["a",2,1]],["in",["a",6,3]]],[]],["task",[["in",["a",0,5]]],[]]] gives true 2 2
+-x of [],[["task",[["out",["a",4,1]]],[]],["task",[["out",["a",2,1]],["in",["a",6,3]]],[]],["task",[["in",["a",0,5]]],[]]] gives true 1 4
+xx of [],[["task",[["out",["a",4,1]]],[]],["task",[["out",["a",2,1]],["in",["a",6,3]]],[]],["task",[["in",["a",0,5]]],[]]] gives false 0 5"#;
 
-/// Whether the wait has to wait, and how many children have not finished.
+/// Whether the wait has to wait, how many children have not finished, and how many cells are free.
 pub(crate) fn awaited(alloc: Global, text: &str, shape: &Shape) -> Result<String, AllocError> {
     let Some((marks, text)) = text.split_once(" of ") else {
         return String::from_str(alloc, "no marks");
@@ -65,7 +69,8 @@ fn said_of_last(alloc: Global, marks: &str, body: &[Stmt]) -> Result<String, All
     };
     let siblings = marked(alloc, marks, children)?;
     let (waits, unfinished) = (siblings.waits_for(wait), siblings.unfinished());
-    format!(in alloc; "{waits} {unfinished}")
+    let free = siblings.count_free(wait, 0);
+    format!(in alloc; "{waits} {unfinished} {free}")
 }
 
 /// These children, each with its mark.

@@ -273,7 +273,7 @@ broken "a b" gives ["err",8,410]
 tell gives t1 Limits { arrays: 16, cells: 65536, tasks: 1024, log: 4096 } false 1 8 Cells { arrays: [] }
 ask ["run",["program",[],[["wait"],["wait"],["wait"]]]] gives ["done",9,0,3,[]]
 tell gives t1 Limits { arrays: 16, cells: 65536, tasks: 1024, log: 4096 } false 4 9 Cells { arrays: [] }
-copy ["run",["program",[["a",0,3]],[["wait"]]]] gives JobSpec { checked: Checked { program: Program { shows: [Section { array: 0, start: 0, len: 3 }], body: [Wait], statements: 1, tasks: 0 } }, before: Cells { arrays: [[9, 2, 3]] } }"#;
+copy ["run",["program",[["a",0,3]],[["wait"]]]] gives JobSpec { checked: Checked { program: Program { shows: [Section { array: 0, start: 0, len: 3 }], body: [Wait(None)], statements: 1, tasks: 0 } }, before: Cells { arrays: [[9, 2, 3]] } }"#;
 
 #[test]
 fn runs_that_end_in_other_ways(rt: HostRuntime) {

@@ -111,7 +111,21 @@ a group of another operation on a cell of an open group: program2 [["group","max
 a fold beside a child that reads: program2 [["task",[["in",["a",0,1]]],[]],["fold","&",["c","a",0],1]] gives 427 2
 a cell under red by two operations: program2 [["task",[["red","+",["a",0,1]],["red","max",["a",0,1]]],[]]] gives 429
 a fold in the first profile: [["fold","+",["c","a",0],1]] gives 420
-a group without an operation in the second: program2 [["group",[],[]]] gives 420"#;
+a group without an operation in the second: program2 [["group",[],[]]] gives 420
+a read behind a wait for its writer alone: program2 [["task",[["out",["a",0,1]]],[["set",["c","a",0],7]]],["task",[["in",["a",0,1]],["out",["a",1,1]]],[["set",["c","a",1],["+",["c","a",0],1]]]],["wait",[["in",["a",1,1]]]],["set",["c","a",2],["c","a",1]]] gives 2 6 [[7, 8, 8]]
+a read of what the awaited child depends on: program2 [["task",[["out",["a",0,1]]],[["set",["c","a",0],7]]],["task",[["in",["a",0,1]],["out",["a",1,1]]],[["set",["c","a",1],["+",["c","a",0],1]]]],["wait",[["in",["a",1,1]]]],["set",["c","a",2],["c","a",0]]] gives 427 6
+a write behind a wait that reads: program2 [["task",[["in",["a",0,1]]],[]],["wait",[["in",["a",0,1]]]],["set",["c","a",0],5]] gives 427 3
+a write behind a wait that writes: program2 [["task",[["in",["a",0,1]]],[]],["wait",[["out",["a",0,1]]]],["set",["c","a",0],5]] gives 1 3 [[5, 2, 3]]
+a write behind a wait for nobody: program2 [["task",[["in",["a",0,1]]],[]],["wait",[]],["set",["c","a",0],5]] gives 427 3
+a wait for one of two children at the end of a body: program2 [["task",[["inout",["a",0,3]]],[["task",[["out",["a",0,1]]],[["set",["c","a",0],7]]],["task",[["out",["a",1,1]]],[["set",["c","a",1],6]]],["wait",[["in",["a",0,1]]]]]]] gives 428 1
+a wait for both children at the end of a body: program2 [["task",[["inout",["a",0,3]]],[["task",[["out",["a",0,1]]],[["set",["c","a",0],7]]],["task",[["out",["a",1,1]]],[["set",["c","a",1],6]]],["wait",[["in",["a",0,2]]]]]]] gives 3 6 [[7, 6, 3]]
+a wait that declares cells in one branch alone: program2 [["task",[["out",["a",0,1]]],[["set",["c","a",0],7]]],["if",["c","a",2],[["wait",[["in",["a",0,1]]]]],[]],["set",["c","a",2],["c","a",0]]] gives 427 5
+a wait that declares cells in both branches: program2 [["task",[["out",["a",0,1]]],[["set",["c","a",0],7]]],["if",["c","a",2],[["wait",[["in",["a",0,1]]]]],[["wait",[["inout",["a",0,3]]]]]],["set",["c","a",2],["c","a",0]]] gives 1 5 [[7, 2, 7]]
+a wait in a group for a child from before: program2 [["task",[["out",["a",0,1]]],[["set",["c","a",0],7]]],["group","+",[],[["wait",[["in",["a",0,1]]]]]],["set",["c","a",2],["c","a",0]]] gives 1 5 [[7, 2, 7]]
+a wait in a group for none of its children: program2 [["group","+",[],[["task",[["out",["a",0,1]]],[["set",["c","a",0],7]]],["wait",[["in",["a",1,1]]]]]],["set",["c","a",2],["c","a",0]]] gives 1 5 [[7, 2, 7]]
+a wait that reads what a child folds: program2 [["group","max",[["a",0,1]],[["task",[["red","max",["a",0,1]],["out",["a",1,1]]],[["set",["c","a",1],4]]],["wait",[["in",["a",0,1]]]],["set",["c","a",2],["c","a",1]]]]] gives 427 5
+a wait that writes what a child folds: program2 [["group","max",[["a",0,1]],[["task",[["red","max",["a",0,1]],["out",["a",1,1]]],[["set",["c","a",1],4]]],["wait",[["out",["a",0,1]]]],["set",["c","a",2],["c","a",1]]]]] gives 1 5 [[1, 4, 4]]
+a wait for cells that its body does not declare: program2 [["task",[],[["wait",[["inout",["a",0,3]]]]]]] gives 1 2 [[1, 2, 3]]"#;
 
 /// What a body comes to, which has its name in front of it.
 pub(crate) fn outcome(alloc: Global, row: &str) -> Result<String, AllocError> {

@@ -171,6 +171,83 @@ const FOLDS: [(&str, &str); 13] = [
     ),
 ];
 
+/// The same of bodies with waits that declare cells.
+const WAITS: [(&str, &str); 17] = [
+    // The child on which the awaited one depends.
+    (
+        "[[\"task\",[[\"out\",[\"a\",0,1]]],[[\"set\",[\"c\",\"a\",0],7]]],[\"task\",[[\"in\",[\"a\",0,1]],[\"out\",[\"a\",1,1]]],[[\"set\",[\"c\",\"a\",1],[\"+\",[\"c\",\"a\",0],1]]]],[\"wait\",[[\"in\",[\"a\",1,1]]]],[\"set\",[\"c\",\"a\",2],[\"c\",\"a\",0]]]",
+        "[\"err\",2,427,6]\n# 427: a touch, or a group, conflicts with a pending child\n# statement 6: a[2] = a[0]\n# conflicts at a[0] with statement 1, which may be pending: task out(a[0])\n",
+    ),
+    // The earlier of two that conflict, where the later is awaited, and the later where the earlier is.
+    (
+        "[[\"task\",[[\"in\",[\"a\",0,1]]],[]],[\"task\",[[\"in\",[\"a\",0,1]],[\"out\",[\"a\",1,1]]],[]],[\"wait\",[[\"in\",[\"a\",1,1]]]],[\"set\",[\"c\",\"a\",0],5]]",
+        "[\"err\",2,427,4]\n# 427: a touch, or a group, conflicts with a pending child\n# statement 4: a[0] = 5\n# conflicts at a[0] with statement 1, which may be pending: task in(a[0])\n",
+    ),
+    (
+        "[[\"task\",[[\"in\",[\"a\",0,1]],[\"out\",[\"a\",1,1]]],[]],[\"task\",[[\"in\",[\"a\",0,1]]],[]],[\"wait\",[[\"in\",[\"a\",1,1]]]],[\"set\",[\"c\",\"a\",0],5]]",
+        "[\"err\",2,427,4]\n# 427: a touch, or a group, conflicts with a pending child\n# statement 4: a[0] = 5\n# conflicts at a[0] with statement 2, which may be pending: task in(a[0])\n",
+    ),
+    (
+        "[[\"task\",[[\"in\",[\"a\",0,1]],[\"out\",[\"a\",1,1]]],[]],[\"task\",[[\"in\",[\"a\",0,1]],[\"out\",[\"a\",2,1]]],[]],[\"wait\",[[\"in\",[\"a\",2,1]]]],[\"task\",[[\"in\",[\"a\",0,1]],[\"out\",[\"a\",2,1]]],[]],[\"wait\",[[\"in\",[\"a\",2,1]]]],[\"set\",[\"c\",\"a\",0],5]]",
+        "[\"err\",2,427,6]\n# 427: a touch, or a group, conflicts with a pending child\n# statement 6: a[0] = 5\n# conflicts at a[0] with statement 1, which may be pending: task in(a[0]) out(a[1])\n",
+    ),
+    (
+        "[[\"task\",[[\"in\",[\"a\",0,1]]],[]],[\"wait\",[]],[\"set\",[\"c\",\"a\",0],5]]",
+        "[\"err\",2,427,3]\n# 427: a touch, or a group, conflicts with a pending child\n# statement 3: a[0] = 5\n# conflicts at a[0] with statement 1, which may be pending: task in(a[0])\n",
+    ),
+    (
+        "[[\"task\",[[\"in\",[\"a\",0,1]]],[]],[\"wait\",[[\"in\",[\"a\",0,1]]]],[\"group\",\"max\",[[\"a\",0,1]],[]]]",
+        "[\"err\",2,427,3]\n# 427: a touch, or a group, conflicts with a pending child\n# statement 3: taskgroup task_reduction(max: a[0])\n# conflicts at a[0] with statement 1, which may be pending: task in(a[0])\n",
+    ),
+    // A child of one branch, where that of the other is awaited; one from before both; and one that is awaited in one branch.
+    (
+        "[[\"if\",1,[[\"task\",[[\"in\",[\"a\",0,1]],[\"out\",[\"a\",1,1]]],[]]],[[\"task\",[[\"in\",[\"a\",0,1]],[\"out\",[\"a\",2,1]]],[]]]],[\"wait\",[[\"in\",[\"a\",2,1]]]],[\"set\",[\"c\",\"a\",0],5]]",
+        "[\"err\",2,427,5]\n# 427: a touch, or a group, conflicts with a pending child\n# statement 5: a[0] = 5\n# conflicts at a[0] with statement 2, which may be pending: task in(a[0]) out(a[1])\n",
+    ),
+    (
+        "[[\"if\",1,[[\"task\",[[\"in\",[\"a\",0,1]],[\"out\",[\"a\",1,1]]],[]]],[[\"task\",[[\"in\",[\"a\",0,1]],[\"out\",[\"a\",2,1]]],[]]]],[\"wait\",[[\"in\",[\"a\",1,1]]]],[\"set\",[\"c\",\"a\",0],5]]",
+        "[\"err\",2,427,5]\n# 427: a touch, or a group, conflicts with a pending child\n# statement 5: a[0] = 5\n# conflicts at a[0] with statement 3, which may be pending: task in(a[0]) out(a[2])\n",
+    ),
+    (
+        "[[\"task\",[[\"in\",[\"a\",0,1]]],[]],[\"if\",1,[[\"task\",[[\"in\",[\"a\",0,1]],[\"out\",[\"a\",1,1]]],[]]],[]],[\"wait\",[[\"in\",[\"a\",1,1]]]],[\"set\",[\"c\",\"a\",0],5]]",
+        "[\"err\",2,427,5]\n# 427: a touch, or a group, conflicts with a pending child\n# statement 5: a[0] = 5\n# conflicts at a[0] with statement 1, which may be pending: task in(a[0])\n",
+    ),
+    (
+        "[[\"task\",[[\"in\",[\"a\",0,1]]],[]],[\"if\",1,[[\"wait\",[[\"out\",[\"a\",0,1]]]]],[[\"wait\",[[\"in\",[\"a\",0,1]]]]]],[\"set\",[\"c\",\"a\",0],5]]",
+        "[\"err\",2,427,5]\n# 427: a touch, or a group, conflicts with a pending child\n# statement 5: a[0] = 5\n# conflicts at a[0] with statement 1, which may be pending: task in(a[0])\n",
+    ),
+    // A child from before a group in which it is awaited on some paths, and one of the group.
+    (
+        "[[\"task\",[[\"in\",[\"a\",0,1]]],[]],[\"group\",\"+\",[],[[\"task\",[[\"in\",[\"a\",0,1]],[\"out\",[\"a\",1,1]]],[]],[\"if\",1,[[\"wait\",[[\"out\",[\"a\",0,1]]]]],[[\"wait\",[[\"out\",[\"a\",1,1]]]]]]]],[\"set\",[\"c\",\"a\",0],5]]",
+        "[\"err\",2,427,7]\n# 427: a touch, or a group, conflicts with a pending child\n# statement 7: a[0] = 5\n# conflicts at a[0] with statement 1, which may be pending: task in(a[0])\n",
+    ),
+    (
+        "[[\"task\",[[\"in\",[\"a\",0,1]]],[]],[\"group\",\"+\",[],[[\"task\",[[\"in\",[\"a\",0,1]],[\"out\",[\"a\",1,1]]],[]],[\"wait\",[[\"in\",[\"a\",1,1]]]],[\"set\",[\"c\",\"a\",0],5]]]]",
+        "[\"err\",2,427,5]\n# 427: a touch, or a group, conflicts with a pending child\n# statement 5: a[0] = 5\n# conflicts at a[0] with statement 1, which may be pending: task in(a[0])\n",
+    ),
+    // Children that are left.
+    (
+        "[[\"task\",[[\"inout\",[\"a\",0,3]]],[[\"task\",[[\"out\",[\"a\",0,1]]],[[\"set\",[\"c\",\"a\",0],7]]],[\"task\",[[\"out\",[\"a\",1,1]]],[[\"set\",[\"c\",\"a\",1],6]]],[\"wait\",[[\"in\",[\"a\",1,1]]]]]]]",
+        "[\"err\",2,428,1]\n# 428: a task can end with a child pending\n# statement 1: task out(a[0:3])\n# can end before its child, statement 2: task out(a[0])\n",
+    ),
+    (
+        "[[\"task\",[[\"inout\",[\"a\",0,3]]],[[\"task\",[[\"out\",[\"a\",0,1]]],[[\"set\",[\"c\",\"a\",0],7]]],[\"task\",[[\"out\",[\"a\",1,1]]],[[\"set\",[\"c\",\"a\",1],6]]],[\"wait\",[[\"in\",[\"a\",0,1]]]]]]]",
+        "[\"err\",2,428,1]\n# 428: a task can end with a child pending\n# statement 1: task out(a[0:3])\n# can end before its child, statement 4: task out(a[1])\n",
+    ),
+    (
+        "[[\"task\",[[\"inout\",[\"a\",0,3]]],[[\"task\",[],[]],[\"wait\",[[\"inout\",[\"a\",0,3]]]]]]]",
+        "[\"err\",2,428,1]\n# 428: a task can end with a child pending\n# statement 1: task out(a[0:3])\n# can end before its child, statement 2: task\n",
+    ),
+    (
+        "[[\"task\",[[\"inout\",[\"a\",0,3]]],[[\"task\",[[\"out\",[\"a\",0,1]]],[[\"set\",[\"c\",\"a\",0],7]]],[\"if\",[\"c\",\"a\",2],[[\"wait\",[[\"in\",[\"a\",0,1]]]]],[[\"wait\",[[\"in\",[\"a\",1,1]]]]]]]]]",
+        "[\"err\",2,428,1]\n# 428: a task can end with a child pending\n# statement 1: task out(a[0:3])\n# can end before its child, statement 2: task out(a[0])\n",
+    ),
+    (
+        "[[\"task\",[[\"inout\",[\"a\",0,3]]],[[\"task\",[[\"out\",[\"a\",0,1]]],[[\"set\",[\"c\",\"a\",0],7]]],[\"group\",\"+\",[],[[\"task\",[[\"out\",[\"a\",1,1]]],[[\"set\",[\"c\",\"a\",1],6]]],[\"wait\",[[\"in\",[\"a\",1,1]]]]]]]]]",
+        "[\"err\",2,428,1]\n# 428: a task can end with a child pending\n# statement 1: task out(a[0:3])\n# can end before its child, statement 2: task out(a[0])\n",
+    ),
+];
+
 fn is_as_told(alloc: Global, word: &str, body: &str, text: &str) -> Result<bool, Fail> {
     let lines = format!(in alloc;
         "[\"new\",\"a\",3]\n[\"run\",[\"{word}\",[],{body}]]\n[\"used\"]\n"
@@ -180,14 +257,14 @@ fn is_as_told(alloc: Global, word: &str, body: &str, text: &str) -> Result<bool,
     Ok(told.ended == Ok(Explained::SomeRefused) && told.written.as_slice() == all.as_bytes())
 }
 
-fn first_other(alloc: Global) -> Result<Option<&'static str>, Fail> {
-    for (body, text) in &ROWS {
-        if !is_as_told(alloc, "program", body, text)? {
-            return Ok(Some(*body));
-        }
-    }
-    for (body, text) in &FOLDS {
-        if !is_as_told(alloc, "program2", body, text)? {
+/// The first of these bodies that isn't explained so.
+fn first_other(
+    alloc: Global,
+    word: &str,
+    rows: &[(&'static str, &'static str)],
+) -> Result<Option<&'static str>, Fail> {
+    for (body, text) in rows {
+        if !is_as_told(alloc, word, body, text)? {
             return Ok(Some(*body));
         }
     }
@@ -196,6 +273,9 @@ fn first_other(alloc: Global) -> Result<Option<&'static str>, Fail> {
 
 #[test]
 fn programs_are_explained(rt: HostRuntime) -> Result<(), Fail> {
-    assert_eq!(rt; first_other(rt.alloc())?, None);
+    let alloc = rt.alloc();
+    assert_eq!(rt; first_other(alloc, "program", ROWS.as_slice())?, None);
+    assert_eq!(rt; first_other(alloc, "program2", FOLDS.as_slice())?, None);
+    assert_eq!(rt; first_other(alloc, "program2", WAITS.as_slice())?, None);
     Ok(())
 }

@@ -1,14 +1,17 @@
 -- The rows of its cells tell whether a wait has to wait.
-use Rattle.std.proofs.Common.{◌≡◌, ◌<◌, ◌≤◌, ◌||◌, ◌==◌, ℕ, zero, suc, List, [], ◌∷◌, Bool, true, false, not, get_or, cond, Some, refl, sym, ap, ◌∙◌, subst, arith, true≢false, inl, inr}
+use Rattle.std.proofs.Common.{◌≡◌, ◌<◌, ◌≤◌, ◌||◌, ◌&&◌, ◌==◌, ℕ, zero, suc, List, [], ◌∷◌, length, Bool, true, false, not, get_or, cond, Some, refl, sym, ap, ◌∙◌, subst, arith, true≢false, inl, inr}
 use Rattle.std.specs.List.{list_any, slice_get}
 use Rattle.std.specs.Option.{option_to_list}
-use Rattle.std.proofs.lemmas.Bool.{eqb-true, eq-eqb, not-true, both_ways, false_from_ne_true, cases_eq, and_parts, and_from, or_cases, or_left, or_right}
+use Rattle.std.proofs.Math.Dec.{ltb}
+use Rattle.std.proofs.lemmas.Bool.{ltb-true, ltb-false, eqb-true, eq-eqb, not-true, both_ways, false_from_ne_true, cases_eq, and_parts, and_from, or_cases, or_left, or_right}
+use Rattle.std.proofs.lemmas.List.{take_all}
 use Rattle.std.proofs.lemmas.List.Folds.{Any-from_list_any}
 use Rattle.std.proofs.lemmas.Option.{same_Some, none-some}
 use Rattle.ot_model.specs.declared.expr.Cell.{Cell}
 use Rattle.ot_model.specs.declared.stmt.Mode.{Mode}
 use Rattle.ot_model.specs.declared.stmt.Use.{Use}
-use Rattle.ot_depend.specs.Siblings.{Sibling, FinishedAreReady, is_awaited, waits_for}
+use Rattle.ot_depend.specs.Siblings.{Sibling, FinishedAreReady, AreFree, is_unfinished, is_awaited, waits_for, with_finished}
+use Rattle.ot_model.specs.Uses.{depends_on}
 use Rattle.ot_depend.specs.Direct.{is_write, uses_cell, writes_cell}
 use Rattle.ot_depend.specs.Kept.{Kid, Entry, RowIs, decls, siblings, has, found}
 use Rattle.ot_depend.specs.Cells.{entry_of, place_of, lines_of, RowsTell}
@@ -128,3 +131,37 @@ module _ (kids : List Kid) (ready : FinishedAreReady (siblings kids)) where
 
     pub rows-waits_for : (uses : List Use) → some_must_wait kids t uses ≡ waits_for (siblings kids) uses
     rows-waits_for uses = same_answer (some_must_wait kids t uses) (waits_for (siblings kids) uses) (waits_for-from_rows uses) (rows-from_waits_for uses)
+
+    -- a wait awaits somebody where it has to wait at one of its uses
+    pub counted : (uses : List Use) (place : ℕ) → (AreFree (siblings kids) uses 0 → AreFree (siblings kids) uses place)
+        → (place < length uses → waits_for (siblings kids) uses ≡ true) → ltb place (length uses) ≡ waits_for (siblings kids) uses
+    counted uses place free whole = by (ltb place (length uses)) refl
+      where
+        by : (below : Bool) → ltb place (length uses) ≡ below → below ≡ waits_for (siblings kids) uses
+        by true is = sym (whole (ltb-true place (length uses) is))
+        by false is = sym (ap (waits_for (siblings kids)) (sym (take_all place uses (ltb-false place (length uses) is))) ∙ free (sym (rows-waits_for [])))
+
+depends-none : (uses : List Use) → depends_on uses [] ≡ false
+depends-none [] = refl
+depends-none (u ∷ us) = depends-none us
+
+awaited-none : (a b c : Bool) → b ≡ false → c ≡ false → ((a && b) || c) ≡ false
+awaited-none false b c one rest = rest
+awaited-none true b c one rest = ap (λ z. z || c) one ∙ rest
+
+-- a wait awaits nobody at none of its uses
+pub free-none : (ss : List Sibling) (uses : List Use) → AreFree ss uses 0
+free-none [] uses = refl
+free-none (s ∷ ss) uses = awaited-none (is_unfinished s) (depends_on s.uses []) (waits_for ss []) (depends-none s.uses) (free-none ss uses)
+
+free-parts : (a b : Bool) → (a || b) ≡ false → (a ≡ false) × (b ≡ false)
+free-parts true b free = absurd (true≢false free)
+free-parts false b free = (refl, free)
+
+-- where it awaits nobody, it awaits nobody once a child has finished
+pub free-finished : (ss : List Sibling) (child : ℕ) (uses : List Use) → waits_for ss uses ≡ false → waits_for (with_finished ss child) uses ≡ false
+free-finished [] child uses free = free
+free-finished (s ∷ ss) zero uses free = (free-parts (is_awaited uses s) (waits_for ss uses) free).1
+free-finished (s ∷ ss) (suc child) uses free =
+    let parts = free-parts (is_awaited uses s) (waits_for ss uses) free in
+    ap (λ b. b || waits_for (with_finished ss child) uses) parts.0 ∙ free-finished ss child uses parts.1

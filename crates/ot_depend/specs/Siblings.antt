@@ -63,3 +63,7 @@ is_awaited uses s = is_unfinished s && depends_on s.uses uses
 -- whether it awaits one of the children
 abbrev pub waits_for : List Sibling → List Use → Bool
 waits_for siblings uses = list_any (is_awaited uses) siblings
+
+-- it awaits none of them at the first so many of its uses
+abbrev pub AreFree : List Sibling → List Use → ℕ → Type 0
+AreFree siblings uses count = waits_for siblings (take count uses) ≡ false

@@ -1,5 +1,5 @@
 //! For each cell that is declared, the last child that writes it and the children that use it since.
-ghost use Rattle.std.specs.Prelude.{◌≡◌, ◌++◌, ◌<◌, ℕ, IfOk, OnOk, All, Some, length, map, slice_get};
+ghost use Rattle.std.specs.Prelude.{◌≡◌, ◌++◌, ◌+◌, ◌<◌, ◌≤◌, ℕ, IfOk, OnOk, All, Some, true, false, length, take, map, slice_get};
 ghost use Rattle.ot_model.specs.declared.expr.Cell.{Cell};
 ghost use Rattle.ot_model.specs.declared.stmt.Mode.TheVariants.{Reads};
 ghost use Rattle.ot_depend.specs.Children.{kids_of};
@@ -202,16 +202,23 @@ impl Table {
         }
     }
 
-    /// Whether one of these uses has to wait. It takes no memory.
-    pub(crate) fn some_must_wait(&self, uses: &[Use], children: &[Child]) -> bool
+    /// The place of the first use from `from` on that has to wait, or how many uses there are. It takes
+    /// no memory.
+    pub(crate) fn count_free(&self, uses: &[Use], from: usize, children: &[Child]) -> usize
         requires { IsSound self.now }
-        ensures { result ≡ some_must_wait (kids_of children.now) self.now uses.now }
+        ensures from { from ≤ result }
+        ensures free { some_must_wait (kids_of children.now) self.now (take from uses.now) ≡ false
+            → some_must_wait (kids_of children.now) self.now (take result uses.now) ≡ false }
+        ensures held { result < length uses.now → some_must_wait (kids_of children.now) self.now (take (result + 1) uses.now) ≡ true }
+        ensures whole { result < length uses.now → some_must_wait (kids_of children.now) self.now uses.now ≡ true }
     {
-        for one in uses {
-            if self.must_wait(*one, children) {
-                return true;
+        let mut place = from;
+        while place < uses.len() {
+            if self.must_wait(uses[place], children) {
+                return place;
             }
+            place += 1;
         }
-        false
+        place
     }
 }

@@ -1,7 +1,7 @@
 //! The children of a body with what is kept beside them: the rows of the cells and the counters.
-ghost use Rattle.std.specs.Prelude.{◌≡◌, ◌++◌, ◌∷◌, [], ◌↔◌, ◌<◌, IsTrue, OnOk, length};
+ghost use Rattle.std.specs.Prelude.{◌≡◌, ◌++◌, ◌∷◌, [], ◌↔◌, ◌+◌, ◌<◌, ◌≤◌, IsTrue, OnOk, true, length, take};
 ghost use Rattle.ot_depend.specs.Direct.{waiting_for};
-ghost use Rattle.ot_depend.specs.Siblings.{created, with_finished, IsReady, IsUnfinished, waits_for};
+ghost use Rattle.ot_depend.specs.Siblings.{created, with_finished, IsReady, IsUnfinished, waits_for, AreFree};
 
 use crate::cells::{Spot, Table};
 use crate::child::{Child, enlist, make_rooms, wake};
@@ -138,11 +138,23 @@ impl Kept {
         self.children[child].waiting
     }
 
+    /// The place of the first of these uses, from `from` on, for which a wait that declares them has to
+    /// wait for one of the children, or how many uses there are.
+    pub(crate) fn count_free(&self, uses: &[Use], from: usize) -> usize
+        requires { IsKept self.now }
+        ensures from { from ≤ result }
+        ensures free { AreFree (siblings_in self.now) uses.now from → AreFree (siblings_in self.now) uses.now result }
+        ensures held { result < length uses.now → waits_for (siblings_in self.now) (take (result + 1) uses.now) ≡ true }
+        ensures whole { result < length uses.now → waits_for (siblings_in self.now) uses.now ≡ true }
+    {
+        self.cells.count_free(uses, from, &self.children)
+    }
+
     /// Whether a wait that declares these uses has to wait for one of the children.
     pub(crate) fn waits_for(&self, uses: &[Use]) -> bool
         requires { IsKept self.now }
         ensures { result ≡ waits_for (siblings_in self.now) uses.now }
     {
-        self.cells.some_must_wait(uses, &self.children)
+        self.count_free(uses, 0) < uses.len()
     }
 }

@@ -24,11 +24,11 @@ impl Model for Siblings {
 }
 
 impl Siblings {
-    ghost use Rattle.std.specs.Prelude.{◌≡◌, ◌<◌, ◌++◌, ◌↔◌, [], ◌∷◌, IsTrue, IfOk, OnOk, OnErr, length, count_by};
+    ghost use Rattle.std.specs.Prelude.{◌≡◌, ◌+◌, ◌<◌, ◌≤◌, ◌++◌, ◌↔◌, [], ◌∷◌, true, IsTrue, IfOk, OnOk, OnErr, length, take, count_by};
     ghost use Rattle.std.specs.Prelude.{All};
     ghost use Rattle.ot_depend.specs.Direct.{waiting_for};
     ghost use Rattle.ot_depend.specs.Waiting.{LetsTheSame, WaitForLess};
-    ghost use Rattle.ot_depend.specs.Siblings.{IsReady, IsUnfinished, FinishedAreReady, created, with_finished, is_ready, is_unfinished, is_unfinished_in, waits_for};
+    ghost use Rattle.ot_depend.specs.Siblings.{IsReady, IsUnfinished, FinishedAreReady, created, with_finished, is_ready, is_unfinished, is_unfinished_in, waits_for, AreFree};
 
     /// No children. It takes no memory.
     pub fn new(alloc: Global) -> Siblings
@@ -122,5 +122,18 @@ impl Siblings {
         ensures { result ≡ waits_for self.now decl.now }
     {
         self.kept.waits_for(decl.uses())
+    }
+    /// The place of the first use of the declaration, from `from` on, at which a wait that declares these
+    /// cells has to wait still: an unfinished child shares its cell, and at least one of the two writes
+    /// it. It's how many uses there are where it has to wait at none. As children finish, uses that are
+    /// free stay free, so whoever asks again begins where it stopped. It looks at the rows of the cells
+    /// that it passes alone, and takes no memory.
+    pub fn count_free(&self, decl: &Decl, from: usize) -> usize
+        ensures from { from ≤ result }
+        ensures free { AreFree self.now decl.now from → AreFree self.now decl.now result }
+        ensures held { result < length decl.now → waits_for self.now (take (result + 1) decl.now) ≡ true }
+        ensures whole { result < length decl.now → waits_for self.now decl.now ≡ true }
+    {
+        self.kept.count_free(decl.uses(), from)
     }
 }

@@ -1,5 +1,5 @@
 -- Steps of the walk: what it carries, and where it comes.
-use Rattle.std.proofs.Common.{◌≡◌, ℕ, ◌+◌, ◌++◌, true, false, not, ◌||◌, List, [], ◌∷◌, refl, sym, ap, subst, inl, inr, ◌∙◌, append_assoc, append-nil}
+use Rattle.std.proofs.Common.{◌≡◌, ℕ, ◌+◌, ◌++◌, true, false, not, List, [], ◌∷◌, refl, sym, ap, subst, inl, inr, ◌∙◌, append_assoc, append-nil}
 use Rattle.std.specs.Prelude.{⊤, Option, Some, None, Result, Ok, Err, IfSome, IfErr}
 use Rattle.ot_model.specs.Tree.{E, S, Set, Fold, If, Task, Wait, Group, Body, End, Next}
 use Rattle.ot_model.specs.Counts.{size, size_one}

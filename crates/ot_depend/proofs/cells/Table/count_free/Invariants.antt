@@ -1,0 +1,13 @@
+use Rattle.std.proofs.Common.{◌≡◌, ◌≤◌, ◌-◌, false, length, take}
+use Rattle.ot_depend.specs.Children.{kids_of}
+use Rattle.ot_depend.specs.Waits.{some_must_wait}
+use Rattle.ot_depend.proofs.cells.Table.count_free.Given as goal
+
+abbrev pub invariant-loop-place : goal.invariant-loop-place
+invariant-loop-place l = record {
+  from : l.initial.place ≤ l.place;
+  free : some_must_wait (kids_of l.children) l.self (take l.initial.place l.uses) ≡ false → some_must_wait (kids_of l.children) l.self (take l.place l.uses) ≡ false;
+}
+
+abbrev pub decreases-loop-place : goal.decreases-loop-place
+decreases-loop-place l = length l.uses - l.place
