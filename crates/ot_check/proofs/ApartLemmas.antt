@@ -159,7 +159,7 @@ mutual
   change_one (Fold o d e) s c f h =
       ap (bump 0 1) (ap (λ v. change (change s c f) d (λ n. join_by o n v)) (read-elsewhere s c f e h.0)
       ∙ change-swap s c d f (λ n. join_by o n (val (cell_of s.cells) e)) (λ same n. let folds = h.1 (sym same) in
-          sym (subst (λ p. f (join_by p n (val (cell_of s.cells) e)) ≡ join_by p (f n) (val (cell_of s.cells) e)) (sym (one_op o folds.0 folds.1)) (folds.2 (val (cell_of s.cells) e) n))))
+      sym (subst (λ p. f (join_by p n (val (cell_of s.cells) e)) ≡ join_by p (f n) (val (cell_of s.cells) e)) (sym (one_op o folds.0 folds.1)) (folds.2 (val (cell_of s.cells) e) n))))
   change_one (If e p q) s c f h =
       either-same (val (cell_of (with_cell s.cells c f)) e) (val (cell_of s.cells) e) _ _ _ _ (read-elsewhere s c f e h.0)
       (serial-change p (bump 0 1 s) c f h.1) (serial-change q (bump 0 1 s) c f h.2)

@@ -4,7 +4,6 @@ use Rattle.std.specs.Prelude.{◌⊎◌, Option, Some, None}
 use Rattle.std.specs.Option.{option_or}
 use Rattle.ot_model.specs.Tree.{S, Set, Fold, If, Task, Wait, Group, Body, End, Next}
 use Rattle.ot_model.specs.Counts.{size, size_one}
-use Rattle.ot_model.specs.declared.expr.Cell.{Cell}
 use Rattle.ot_check.specs.Offences.{Declared, Openings, IsFirstOf, rank}
 use Rattle.ot_check.specs.walk.Walk.{Children, nobody, nothing_open, behind_one, with_group, is_offence, leading, placed, first, first_inside}
 use Rattle.ot_check.specs.declared.fault.Offence.{Offence}

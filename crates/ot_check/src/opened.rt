@@ -76,7 +76,12 @@ impl Opened {
     }
 
     /// Puts the cells of a group by this operation among them.
-    pub(crate) fn enter(&mut self, alloc: Global, op: Fold, cells: &[Cell]) -> Result<(), AllocError>
+    pub(crate) fn enter(
+        &mut self,
+        alloc: Global,
+        op: Fold,
+        cells: &[Cell],
+    ) -> Result<(), AllocError>
         ensures { OnOk result ((o : Operation) (c : Cell) → is_open self.new o c ≡ (is_open self.old o c || (same_fold op o && has_cell cells.now c))) }
     {
         let place = number(op);

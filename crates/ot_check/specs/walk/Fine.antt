@@ -1,7 +1,6 @@
 -- A body in which nothing is an offence, statement by statement.
 use Rattle.std.specs.Prelude.{◌≡◌, Bool, true, false, List, Some, None}
 use Rattle.ot_model.specs.Tree.{S, Set, Fold, If, Task, Wait, Group, Body, End, Next}
-use Rattle.ot_model.specs.declared.expr.Cell.{Cell}
 use Rattle.ot_model.specs.declared.stmt.Use.{Use}
 use Rattle.ot_check.specs.Paths.{Touch}
 use Rattle.ot_check.specs.Offences.{Declared, Openings}
