@@ -1,30 +1,20 @@
 -- Blocks of users: whom a wait awaits.
-use Rattle.std.proofs.Common.{◌≡◌, ◌≢◌, ◌==◌, ℕ, ◌+◌, ◌*◌, ◌/◌, ◌%◌, ◌<◌, Bool, true, false, not, ◌&&◌, ◌||◌, List, [], ◌∷◌, take, get_or, length, refl, sym, ap, ◌∙◌, inl, inr, arith}
+use Rattle.std.proofs.Common.{◌≡◌, ◌==◌, ℕ, ◌+◌, ◌*◌, ◌/◌, ◌%◌, Bool, true, false, not, ◌&&◌, ◌||◌, refl, sym, ap, ◌∙◌, arith}
 use Rattle.std.specs.Prelude.{bit_or}
 use Rattle.std.specs.Int.{bit_at}
 use Rattle.std.specs.List.{list_any}
-use Rattle.std.proofs.lemmas.Bool.{cases_eq, eqb-true}
-use Rattle.std.proofs.lemmas.List.Folds.{list_any_more}
+use Rattle.std.proofs.lemmas.Bool.{eqb-true}
 use Rattle.ot_model.specs.Uses.{one_writes}
-use Rattle.ot_model.specs.declared.fold.Fold.{Fold as Operation}
 use Rattle.ot_model.specs.declared.stmt.Mode.{Mode}
 use Rattle.ot_model.specs.declared.stmt.Mode.TheVariants.{Reads, Writes, Folds}
 use Rattle.ot_check.specs.walk.Rows.{awaited_as, is_awaited_by, users_below, users_of_block}
 use Rattle.ot_check.specs.declared.block.Block.{Block}
-use Rattle.ot_check.proofs.Bits.{and_left, and_right, and_true, or_none}
-use Rattle.ot_check.proofs.SameLemmas.{eq_itself, eq_apart}
+use Rattle.ot_check.proofs.Bits.{and_left, and_right, and_true}
+use Rattle.ot_check.proofs.SameLemmas.{eq_itself}
 use Rattle.ot_check.proofs.NumberLemmas.{or-one}
 use Rattle.ot_check.proofs.BlockLemmas.{any-three, below-found, below-has, both_same, is_one, one_is}
 
 -- ---- which bits a wait takes out
-
-none_awaited : (r w a : Bool) → w ≡ ((r && false) || ((w && true) || (a && false)))
-none_awaited true true a = refl
-none_awaited true false true = refl
-none_awaited true false false = refl
-none_awaited false true a = refl
-none_awaited false false true = refl
-none_awaited false false false = refl
 
 all_awaited : (r w a : Bool) → ((r || w) || a) ≡ ((r && true) || ((w && true) || (a && true)))
 all_awaited true w a = refl
@@ -32,17 +22,10 @@ all_awaited false true a = refl
 all_awaited false false true = refl
 all_awaited false false false = refl
 
-module _ (block : Block) (j : ℕ) where
-  pub awaited-reads : (bit_at block.writes j == 1) ≡ is_awaited_by block Reads j
-  awaited-reads = none_awaited (bit_at block.reads j == 1) (bit_at block.writes j == 1) (bit_at block.folds j == 1)
-
-  pub awaited-folds : (o : Operation) → (bit_at block.writes j == 1) ≡ is_awaited_by block (Folds o) j
-  awaited-folds o = none_awaited (bit_at block.reads j == 1) (bit_at block.writes j == 1) (bit_at block.folds j == 1)
-
-  pub awaited-writes : (bit_at (bit_or (bit_or block.reads block.writes) block.folds) j == 1) ≡ is_awaited_by block Writes j
-  awaited-writes =
-      or-one (bit_or block.reads block.writes) block.folds j ∙ ap (λ b. b || (bit_at block.folds j == 1)) (or-one block.reads block.writes j)
-      ∙ all_awaited (bit_at block.reads j == 1) (bit_at block.writes j == 1) (bit_at block.folds j == 1)
+pub awaited-writes : (block : Block) (j : ℕ) → (bit_at (bit_or (bit_or block.reads block.writes) block.folds) j == 1) ≡ is_awaited_by block Writes j
+awaited-writes block j =
+    or-one (bit_or block.reads block.writes) block.folds j ∙ ap (λ b. b || (bit_at block.folds j == 1)) (or-one block.reads block.writes j)
+    ∙ all_awaited (bit_at block.reads j == 1) (bit_at block.writes j == 1) (bit_at block.folds j == 1)
 
 -- ---- whose bits they are
 
@@ -84,10 +67,13 @@ block-awaited block mode k bits is =
   where
     writers : Bool
     writers = list_any (awaited_as mode k) (users_below block.place Writes block.writes 64)
+
     folders : Bool
     folders = list_any (awaited_as mode k) (users_below block.place (Folds block.operation) block.folds 64)
+
     first : Bool
     first = (k / 64 == block.place) && ((bit_at block.reads (k % 64) == 1) && one_writes Reads mode)
+
     second : Bool
     second = (k / 64 == block.place) && ((bit_at block.writes (k % 64) == 1) && one_writes Writes mode)
 

@@ -1,5 +1,5 @@
 -- What the walk meets stands on some path.
-use Rattle.std.proofs.Common.{◌≡◌, ℕ, ◌+◌, ◌++◌, Bool, true, false, not, ◌&&◌, ◌||◌, List, [], ◌∷◌, map, refl, sym, ap, subst, inl, inr, ◌∙◌, append_assoc, append-nil}
+use Rattle.std.proofs.Common.{◌≡◌, ℕ, ◌+◌, ◌++◌, Bool, true, false, ◌&&◌, ◌||◌, List, [], ◌∷◌, map, refl, sym, ap, subst, inl, inr, ◌∙◌, append_assoc, append-nil}
 use Rattle.std.specs.Prelude.{◌⊎◌, Option, Some, None}
 use Rattle.std.specs.List.{list_any}
 use Rattle.ot_model.specs.Tree.{S, Set, Fold, If, Task, Wait, Group, Body, End, Next}
@@ -17,7 +17,7 @@ use Rattle.ot_check.specs.declared.fault.Offence.TheVariants.{NotDeclared, Child
 use Rattle.ot_check.proofs.After.{IsListed, listed-nobody, listed-behind_one, kept, left_by, left-is, behind-to, behind-to_one, some_path, some_path_one}
 use Rattle.ot_check.proofs.Meeting.{Meets, MeetsOne, meets-first}
 use Rattle.ot_check.proofs.PathsTold.{may_break-breaks, may_break-more, there_someone, BreaksBehind, quiet-open, quiet-unawaited, entered-open, entered-unawaited, passed-open, meets-on_path, meets-in_tasks}
-use Rattle.ot_check.proofs.Bits.{or_true, true_or, or_false, or_right, and_left, and_right, and_true}
+use Rattle.ot_check.proofs.Bits.{or_true, true_or, or_false, or_right}
 
 -- ---- many prefixes
 
@@ -104,12 +104,11 @@ reaches-passed {I} prefix opened children k x h = record {
                 unawaited-append test (prefix q.0) p.0 (passes_one-closed k x p.0 p.1)
                     ∙ true_or (some_unawaited (kept test p.0) (prefix q.0)) (some_unawaited test p.0) q.1,
               )
-          | inr made ↦
-              (
-                (h.someone, (p.0, p.1)),
-                unawaited-append test (prefix h.someone) p.0 (passes_one-closed k x p.0 p.1)
-                    ∙ or_right (some_unawaited (kept test p.0) (prefix h.someone)) (some_unawaited test p.0) made,
-              )
+          | inr made ↦ (
+            (h.someone, (p.0, p.1)),
+            unawaited-append test (prefix h.someone) p.0 (passes_one-closed k x p.0 p.1)
+                ∙ or_right (some_unawaited (kept test p.0) (prefix h.someone)) (some_unawaited test p.0) made,
+          )
         ]
 
 -- ---- an offence on a path, behind a prefix

@@ -54,12 +54,12 @@ pub stands-clash : (own : Declared) (opened : Openings) (children : Children) (d
     → Stands own opened children decls region tasks → (u : Use) → met region.unawaited tasks.users u ≡ children (clashes u)
 stands-clash own opened children decls region tasks h u = met-told tasks.users decls h.known.told region.unawaited u ∙ sym (h.those (clashes u))
 
-pub stands-none : (own : Declared) (opened : Openings) (children : Children) (decls : List (List Use)) (region : Region) (tasks : Tasks)
+stands-none : (own : Declared) (opened : Openings) (children : Children) (decls : List (List Use)) (region : Region) (tasks : Tasks)
     → Stands own opened children decls region tasks → ((k : ℕ) → has region.unawaited k ≡ false) → children anyone ≡ false
 stands-none own opened children decls region tasks h none =
     h.those anyone ∙ some-none (λ k d. has region.unawaited k && true) 0 decls (λ i d. ap (λ b. b && true) (none (0 + i)))
 
-pub stands-some : (own : Declared) (opened : Openings) (children : Children) (decls : List (List Use)) (region : Region) (tasks : Tasks)
+stands-some : (own : Declared) (opened : Openings) (children : Children) (decls : List (List Use)) (region : Region) (tasks : Tasks)
     → Stands own opened children decls region tasks → (k : ℕ) × (has region.unawaited k ≡ true) → children anyone ≡ true
 stands-some own opened children decls region tasks h (k, is) =
     h.those anyone ∙ elim (cases_lt k (length decls)) [
@@ -78,7 +78,7 @@ stands-told own opened children decls region tasks h false none some = sym (stan
 -- ---- going on
 
 -- the same in another standing
-pub stands-as : (own : Declared) (opened : Openings) (children : Children) (decls : List (List Use)) (old region : Region) (before tasks : Tasks)
+stands-as : (own : Declared) (opened : Openings) (children : Children) (decls : List (List Use)) (old region : Region) (before tasks : Tasks)
     → Stands own opened children decls old before → region.own ≡ old.own → region.opened ≡ old.opened → region.unawaited ≡ old.unawaited → tasks ≡ before
     → Stands own opened children decls region tasks
 stands-as own opened children decls old region before tasks h declares shut same is = record {
@@ -90,7 +90,7 @@ stands-as own opened children decls old region before tasks h declares shut same
 }
 
 -- the same children once later tasks have been passed
-pub stands-later : (own : Declared) (opened : Openings) (children : Children) (decls later : List (List Use)) (old region : Region) (before tasks : Tasks)
+stands-later : (own : Declared) (opened : Openings) (children : Children) (decls later : List (List Use)) (old region : Region) (before tasks : Tasks)
     → Stands own opened children decls old before → AreOf (decls ++ later) tasks → region.own ≡ own
     → ((o : Operation) (c : Cell) → is_open region.opened o c ≡ opened o c) → ((k : ℕ) → has region.unawaited k ≡ has old.unawaited k)
     → Stands own opened children (decls ++ later) region tasks
@@ -118,7 +118,7 @@ kept_bits true false true = refl
 kept_bits true false false = refl
 
 -- those of the children that are to be kept
-pub stands-kept : (own : Declared) (opened : Openings) (children : Children) (decls : List (List Use)) (region : Region) (kept : Numbers) (tasks : Tasks)
+stands-kept : (own : Declared) (opened : Openings) (children : Children) (decls : List (List Use)) (region : Region) (kept : Numbers) (tasks : Tasks)
     → (keep : List Use → Bool) → Stands own opened children decls region tasks
     → ((k : ℕ) (d : List Use) → slice_get decls k ≡ Some d → has kept k ≡ (has region.unawaited k && keep d)) → ((k : ℕ) → length decls ≤ k → has kept k ≡ false)
     → Stands own opened (λ test. children (λ d. test d && keep d)) decls (with_children region kept) tasks
@@ -149,7 +149,7 @@ both_false true b h g = cc
 both_false false b h g = g
 
 -- the children of two ways
-pub stands-joined : (own : Declared) (opened : Openings) (children others : Children) (decls : List (List Use)) (region : Region) (one both : Numbers) (tasks : Tasks)
+stands-joined : (own : Declared) (opened : Openings) (children others : Children) (decls : List (List Use)) (region : Region) (one both : Numbers) (tasks : Tasks)
     → Stands own opened children decls (with_children region one) tasks → Stands own opened others decls region tasks
     → ((k : ℕ) → has both k ≡ (has region.unawaited k || has one k)) → Stands own opened (of_both children others) decls (with_children region both) tasks
 stands-joined own opened children others decls region one both tasks g h joined = record {

@@ -15,7 +15,7 @@ swap_or false true true d = refl
 swap_or false true false d = refl
 swap_or false false c d = refl
 
-pub any-both : {X : Type 0} (f g : X → Bool) (xs : List X) → list_any (λ x. f x || g x) xs ≡ (list_any f xs || list_any g xs)
+any-both : {X : Type 0} (f g : X → Bool) (xs : List X) → list_any (λ x. f x || g x) xs ≡ (list_any f xs || list_any g xs)
 any-both f g [] = refl
 any-both f g (x ∷ xs) = ap (λ b. (f x || g x) || b) (any-both f g xs) ∙ swap_or (f x) (g x) (list_any f xs) (list_any g xs)
 

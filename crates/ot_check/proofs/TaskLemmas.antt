@@ -16,7 +16,7 @@ use Rattle.ot_check.specs.walk.States.{Tells, among, met, some_task, user_has, u
 use Rattle.ot_check.specs.declared.numbers.Numbers.{Numbers}
 use Rattle.ot_check.specs.declared.users.User.{User}
 use Rattle.ot_check.proofs.GridLemmas.{found_at-filled}
-use Rattle.ot_check.proofs.Bits.{or_assoc, or_none, any-same, none_any}
+use Rattle.ot_check.proofs.Bits.{or_assoc, or_none, any-same}
 use Rattle.ot_check.proofs.SameLemmas.{same_itself, same_apart, cells_equal}
 use Rattle.ot_check.proofs.SetLemmas.{any-swap, some-append, some-same, some-one}
 

@@ -1,8 +1,7 @@
 -- Steps of the walk.
 use Rattle.std.specs.Prelude.{Option}
 use Rattle.std.specs.declared.alloc.AllocError.{AllocError}
-use Rattle.std.proofs.Common.{◌≡◌, ◌<◌, ◌≤◌, ℕ, ◌+◌, List, Vec, Global, drop, length, get_or, sym, ap, subst, ◌∙◌, IfOk, OnOk, Ok, Err, Result, rules, arith}
-use Rattle.ot_model.specs.Counts.{size_one}
+use Rattle.std.proofs.Common.{◌≡◌, ◌<◌, ◌≤◌, ℕ, ◌+◌, List, Vec, Global, drop, length, get_or, sym, ap, subst, ◌∙◌, IfOk, OnOk, Ok, Err, Result, rules}
 use Rattle.ot_model.specs.Tree.{S, Set, Fold, If, Task, Wait, Group, End, Next}
 use Rattle.ot_model.specs.View.{expr_of, stmt_of, stmts_of}
 use Rattle.ot_model.specs.declared.expr.Cell.{Cell}
@@ -70,15 +69,3 @@ pub within-as : (r : Result Walked AllocError) (old : Standing) (place : ℕ) (x
     → IfOk r (λ w. Whatever old (λ own opened children. w.first ≡ first_within own opened children place y))
     → IfOk r (λ w. Whatever old (λ own opened children. w.first ≡ first_within own opened children place x))
 within-as r old place x y same h = subst (λ z. IfOk r (λ w. Whatever old (λ own opened children. w.first ≡ first_within own opened children place z))) (sym same) h
-
--- ---- places, and how many tasks were passed
-
--- the place behind a statement
-pub place-as : (r : Result Walked AllocError) (x y : S) (place end : ℕ) → x ≡ y → end ≡ place + size_one y
-    → IfOk r (λ w. w.next ≡ end) → IfOk r (λ w. w.next ≡ place + size_one x)
-place-as r x y place end same is h = if_ok r _ _ (λ w behind. behind ∙ is ∙ ap (λ s. place + size_one s) (sym same)) h
-
--- the place of the statement itself is no task's
-pub counted-as : (r : Result Walked AllocError) (old new place : ℕ)
-    → IfOk r (λ w. new + (place + 1) ≤ old + w.next) → IfOk r (λ w. new + place ≤ old + w.next)
-counted-as r old new place h = if_ok r _ _ (λ w inside. omega (arith, inside)) h

@@ -1,10 +1,9 @@
-use Rattle.std.proofs.Common.{rules, inl, inr, ◌≡◌, ◌≤◌, ◌<◌, ◌+◌, ◌++◌, ◌&&◌, ◌||◌, true, None, Some, drop, refl, sym, ap, subst, ◌∙◌, arith}
+use Rattle.std.proofs.Common.{inl, inr, ◌≡◌, ◌+◌, ◌++◌, ◌&&◌, true, Some, drop, refl, sym, ap, subst, ◌∙◌, arith}
 use Rattle.std.specs.Option.{option_or}
 use Rattle.ot_model.specs.View.{expr_of, stmt_of, stmts_of}
-use Rattle.ot_model.specs.Tree.{Set, Fold, If, Task, Wait, Group}
+use Rattle.ot_model.specs.Tree.{Set, Fold, If}
 use Rattle.ot_model.specs.Counts.{size, size_one}
 use Rattle.ot_model.specs.Names.{NamedIn}
-use Rattle.ot_model.specs.declared.stmt.Stmt.{the_lemmas}
 use Rattle.ot_check.specs.walk.Walk.{anyone, behind, behind_one, ended, first, first_one, first_within, is_marked, leading, nobody, nothing_open, placed, through, through_one, with_group}
 use Rattle.ot_check.specs.walk.Bits.{bit_in, has}
 use Rattle.ot_check.specs.walk.States.{IsBehind, Leads, is_open, lens_of}

@@ -1,4 +1,4 @@
-use Rattle.std.proofs.Common.{◌≡◌, ◌-◌, ◌*◌, ◌%◌, ◌^◌, ap, arith}
+use Rattle.std.proofs.Common.{◌-◌, ◌*◌, ◌%◌, ◌^◌, ap, arith}
 use Rattle.std.proofs.lemmas.Nat.{one_shl}
 use Rattle.ot_check.proofs.WordLemmas.{cut-below, cut-rest}
 use Rattle.ot_check.proofs.numbers.Numbers.truncate.Goals as goal
