@@ -17,7 +17,7 @@ use Rattle.ot_owner.specs.Leases.{Lease, lease_of, lent_from}
 use Rattle.ot_owner.specs.Lending.{use_of, uses_of}
 use Rattle.ot_owner.specs.Owning.{Loan, Owned, IsFreeFor}
 use Rattle.ot_owner.specs.Back.{IsByOwn}
-use Rattle.ot_owner.specs.Rows.{Summed, IsSummed, IsSummedBy, IsOnlyBy, IsByOne, begun_for}
+use Rattle.ot_owner.specs.Rows.{Summed, IsSummed, IsSummedBy, IsByOne, begun_for}
 use Rattle.ot_owner.specs.Worth.{AreWorthSame, worths}
 use Rattle.ot_owner.specs.declared.lent.LentCell.{LentCell}
 use Rattle.ot_owner.proofs.WorthLemmas.{worths-same}

@@ -1,6 +1,6 @@
 -- What pieces hold of the cells of open groups: nothing of their own task's, and of another task's they only fold.
 use Rattle.std.proofs.Common.{◌≡◌, ◌≢◌, ℕ, ◌<◌, ◌≤◌, Bool, true, false, List, [], ◌∷◌, length, refl, sym, ap, subst, ◌∙◌, ◌⊎◌, inl, inr, true≢false, ◌&&◌}
-use Rattle.std.specs.Prelude.{Some, None, slice_get}
+use Rattle.std.specs.Prelude.{Some, slice_get}
 use Rattle.std.proofs.lemmas.Bool.{cases_eq, cases_lt}
 use Rattle.ot_model.specs.Names.{NamedIn}
 use Rattle.ot_model.specs.Uses.{conflicts, mode_in, same_fold}
