@@ -39,7 +39,7 @@ use Rattle.ot_job.specs.Running.{RunsWell}
 use Rattle.ot_job.specs.Whole.{assigns_out, whole, wholes}
 use Rattle.ot_job.proofs.SoundLemmas.{sound, at-past}
 use Rattle.ot_job.proofs.KeptLemmas.{here, family_of}
-use Rattle.ot_job.proofs.CreatedLemmas.{sums-opened}
+use Rattle.ot_job.proofs.CreatedLemmas.{grouped-opened}
 use Rattle.ot_job.proofs.FoldLemmas.{held-alike}
 use Rattle.ot_job.proofs.GroupLemmas.{kid-none}
 use Rattle.ot_job.proofs.HoldsLemmas.{Among, among-split, held-right, each-assign, each-test}
@@ -224,7 +224,7 @@ module _ (lens : List ℕ) (r : Region) (p : IsPlaced (whole r)) (named : NamedI
   piece-meets k s there alive u v h may =
       right_apart r.own (opened r.groups) (children_of (unawaited r.waiting r.children)) Touched safe s.uses
       (λ test none. kid-none r.children (λ x. test x.uses) k s (subst (λ b. (not b && list_any (λ x. is_unfinished x && test x.uses) r.children) ≡ false) w.calm none) there alive)
-      (λ o c folds. ⊎_elim inl (λ e. inr (sums-opened r.groups s o c e)) (p.sums k s there alive o c folds))
+      (λ o c folds. ⊎_elim inl (λ e. inr (grouped-opened r.groups s o c e)) (p.grouped k s there alive o c folds))
       u.cell u.mode v (right-of u h) may
 
 -- ---- two pieces
