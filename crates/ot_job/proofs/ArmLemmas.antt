@@ -1,5 +1,8 @@
 -- An `if` and a wait are executed: what holds of the region stays.
 use Rattle.std.proofs.Common.{◌≡◌, ℕ, ◌<◌, Bool, true, false, ◌&&◌, List, [], ◌∷◌, length, refl, sym, ap, subst, ◌∙◌, true≢false, inl, inr}
+use Rattle.std.proofs.Common.{not}
+use Rattle.std.specs.Prelude.{Option}
+use Rattle.std.specs.Prelude.{None}
 use Rattle.std.specs.Prelude.{if◌then◌else◌, Some}
 use Rattle.std.specs.List.{list_any}
 use Rattle.ot_check.proofs.Bits.{or_true, true_or, or_right, and_left, and_right, and_true}
@@ -17,14 +20,16 @@ use Rattle.ot_job.proofs.PlaceLemmas.{at-one, at-two, at-wait, at-enter}
 use Rattle.ot_task.specs.Regions.{Region, with_rest, inside}
 use Rattle.ot_job.specs.Numbered.{at}
 use Rattle.ot_job.specs.Sound.{LetsAll, IsBegun, IsPlaced, IsSound}
+use Rattle.ot_check.specs.Offences.{awaits}
+use Rattle.ot_job.proofs.UnawaitedLemmas.{monotone, executed-wait}
 use Rattle.ot_job.proofs.KeptLemmas.{todo-append, todo-next}
 use Rattle.ot_job.proofs.GroupLemmas.{touch-append, task-append, placed-enter}
 use Rattle.ot_job.proofs.AwaitsLemmas.{awaits-one, awaits-two, awaits-wait, awaits-enter}
 use Rattle.ot_job.proofs.FreeLemmas.{fine-innermost}
 use Rattle.ot_job.proofs.ChangedLemmas.{sound-changed}
 
-abbrev pub waits : Body → Region → Region
-waits rest r = record r { rest = rest; waiting = true }
+abbrev pub waits : Option (List Use) → Body → Region → Region
+waits w rest r = record r { rest = rest; waiting = Some w }
 
 module _ (r : Region) (p : IsPlaced r) (alive : r.ended ≡ false) where
   placed-next : (next : Body) → IsFineAt r.own (unawaited r.waiting r.children) next r.groups → EachTouch (λ u. allows r.own u ≡ true) (todo next r.groups)
@@ -62,24 +67,26 @@ module _ (r : Region) (p : IsPlaced r) (alive : r.ended ≡ false) where
 
       by : (t : Bool) → IsPlaced (with_rest (append (if t then a else b) rest) r)
       by true = let t = subst (EachTouch (λ u. allows r.own u ≡ true)) (ap (λ x. todo x r.groups) was ∙ todo-next (If e a b) rest r.groups) p.inside in
-          placed-next (append a rest) (at-one r.own (unawaited r.waiting r.children) e a b rest r.groups fine)
+          placed-next (append a rest) (at-one r.own (unawaited r.waiting r.children) (monotone r.waiting r.children) e a b rest r.groups fine)
           (subst (EachTouch (λ u. allows r.own u ≡ true)) (sym (todo-append a rest r.groups)) (touch-append (λ u. allows r.own u ≡ true) a (todo rest r.groups) t.0.1 t.1))
           (subst (EachTask LetsAll) (sym (todo-append a rest r.groups)) (task-append LetsAll a (todo rest r.groups) each.0.0 each.1))
-          (λ uses own. awaits-one (unawaited r.waiting r.children) e a b rest r.groups (await uses own))
+          (λ uses own. awaits-one (unawaited r.waiting r.children) (monotone r.waiting r.children) e a b rest r.groups (await uses own))
       by false = let t = subst (EachTouch (λ u. allows r.own u ≡ true)) (ap (λ x. todo x r.groups) was ∙ todo-next (If e a b) rest r.groups) p.inside in
-          placed-next (append b rest) (at-two r.own (unawaited r.waiting r.children) e a b rest r.groups fine)
+          placed-next (append b rest) (at-two r.own (unawaited r.waiting r.children) (monotone r.waiting r.children) e a b rest r.groups fine)
           (subst (EachTouch (λ u. allows r.own u ≡ true)) (sym (todo-append b rest r.groups)) (touch-append (λ u. allows r.own u ≡ true) b (todo rest r.groups) t.0.2 t.1))
           (subst (EachTask LetsAll) (sym (todo-append b rest r.groups)) (task-append LetsAll b (todo rest r.groups) each.0.1 each.1))
-          (λ uses own. awaits-two (unawaited r.waiting r.children) e a b rest r.groups (await uses own))
+          (λ uses own. awaits-two (unawaited r.waiting r.children) (monotone r.waiting r.children) e a b rest r.groups (await uses own))
 
-  pub placed-wait : (rest : Body) → r.rest ≡ Next Wait rest → IsPlaced (waits rest r)
-  placed-wait rest was =
-      let t = subst (EachTouch (λ u. allows r.own u ≡ true)) (ap (λ x. todo x r.groups) was ∙ todo-next Wait rest r.groups) p.inside in
+  pub placed-wait : (w : Option (List Use)) (rest : Body) → r.rest ≡ Next (Wait w) rest → r.waiting ≡ None → IsPlaced (waits w rest r)
+  placed-wait w rest was calm =
+      let t = subst (EachTouch (λ u. allows r.own u ≡ true)) (ap (λ x. todo x r.groups) was ∙ todo-next (Wait w) rest r.groups) p.inside in
       record {
-        fine = at-wait r.own (unawaited r.waiting r.children) rest r.groups (subst (λ x. IsFineAt r.own (unawaited r.waiting r.children) x r.groups) was p.fine);
+        fine = at-wait r.own (unawaited r.waiting r.children) (unawaited (Some w) r.children) (monotone r.waiting r.children) w rest r.groups fewer
+            (subst (λ x. IsFineAt r.own (unawaited r.waiting r.children) x r.groups) was p.fine);
         inside = t.1;
-        tasks = (subst (EachTask LetsAll) (ap (λ x. todo x r.groups) was ∙ todo-next Wait rest r.groups) p.tasks).1;
-        awaits = λ uses own. awaits-wait (unawaited r.waiting r.children) rest r.groups (subst (λ x. AwaitsAll (unawaited r.waiting r.children) x r.groups) was (p.awaits uses own));
+        tasks = (subst (EachTask LetsAll) (ap (λ x. todo x r.groups) was ∙ todo-next (Wait w) rest r.groups) p.tasks).1;
+        awaits = λ uses own. awaits-wait (unawaited r.waiting r.children) (unawaited (Some w) r.children) (monotone r.waiting r.children) w rest r.groups fewer
+            (subst (λ x. AwaitsAll (unawaited r.waiting r.children) x r.groups) was (p.awaits uses own));
         within = p.within;
         apart = p.apart;
         over = λ e. absurd (true≢false (sym e ∙ alive));
@@ -90,6 +97,9 @@ module _ (r : Region) (p : IsPlaced r) (alive : r.ended ≡ false) where
         reduced = p.reduced;
         exclusive = p.exclusive;
       }
+    where
+      fewer : (test : Sibling → Bool) → unawaited (Some w) r.children test ≡ true → unawaited r.waiting r.children (λ s. test s && not (awaits w s.uses)) ≡ true
+      fewer test h = subst (λ x. unawaited x r.children (λ s. test s && not (awaits w s.uses)) ≡ true) (sym calm) (executed-wait w r.children test h)
 
 module _ (ws : List Region) (s : IsSound ws) (i : ℕ) (h : i < length ws) (alive : (at ws i).ended ≡ false) where
   pub sound-branch : (taken : Bool) (e : E) (a b rest : Body) → (at ws i).rest ≡ Next (If e a b) rest → IsSound (updated ws i (with_rest (append (if taken then a else b) rest)))
@@ -97,23 +107,11 @@ module _ (ws : List Region) (s : IsSound ws) (i : ℕ) (h : i < length ws) (aliv
       sound-changed ws i (with_rest (append (if taken then a else b) rest)) h (record { parent = λ r. refl; child = λ r. refl; own = λ r. refl; children = λ r. refl; ended = λ r. refl }) s
       (placed-branch (at ws i) (s.placed i) alive taken e a b rest was) (s.entered i)
 
-  pub sound-wait : (rest : Body) → (at ws i).rest ≡ Next Wait rest → IsSound (updated ws i (waits rest))
-  sound-wait rest was =
-      sound-changed ws i (waits rest) h (record { parent = λ r. refl; child = λ r. refl; own = λ r. refl; children = λ r. refl; ended = λ r. refl }) s (placed-wait (at ws i) (s.placed i) alive rest was) (s.entered i)
+  pub sound-wait : (at ws i).waiting ≡ None → (w : Option (List Use)) (rest : Body) → (at ws i).rest ≡ Next (Wait w) rest → IsSound (updated ws i (waits w rest))
+  sound-wait calm w rest was =
+      sound-changed ws i (waits w rest) h (record { parent = λ r. refl; child = λ r. refl; own = λ r. refl; children = λ r. refl; ended = λ r. refl }) s (placed-wait (at ws i) (s.placed i) alive w rest was calm) (s.entered i)
 
-weaker-any : (kids : List Sibling) (f g : Sibling → Bool) → ((s : Sibling) → f s ≡ true → g s ≡ true) → list_any (λ s. is_unfinished s && f s) kids ≡ true → list_any (λ s. is_unfinished s && g s) kids ≡ true
-weaker-any [] f g w h = h
-weaker-any (x ∷ kids) f g w h =
-    elim (or_true (is_unfinished x && f x) (list_any (λ s. is_unfinished s && f s) kids) h) [
-      | inl e ↦ true_or (is_unfinished x && g x) (list_any (λ s. is_unfinished s && g s) kids) (and_true (is_unfinished x) (g x) (and_left (is_unfinished x) (f x) e) (w x (and_right (is_unfinished x) (f x) e)))
-      | inr e ↦ or_right (is_unfinished x && g x) (list_any (λ s. is_unfinished s && g s) kids) (weaker-any kids f g w e)
-    ]
-
-monotone : (waiting : Bool) (kids : List Sibling) (f g : Sibling → Bool) → ((s : Sibling) → f s ≡ true → g s ≡ true) → unawaited waiting kids f ≡ true → unawaited waiting kids g ≡ true
-monotone true kids f g w h = h
-monotone false kids f g w h = weaker-any kids f g w h
-
-module _ (ws : List Region) (s : IsSound ws) (i : ℕ) (h : i < length ws) (calm : (at ws i).waiting ≡ false) (started : IsBegun ws i) where
+module _ (ws : List Region) (s : IsSound ws) (i : ℕ) (h : i < length ws) (calm : (at ws i).waiting ≡ None) (started : IsBegun ws i) where
   pub sound-enter : (g : ℕ) (op : Operation) (cs : List Cell) (b rest : Body) → (at ws i).rest ≡ Next (Group op cs b) rest → IsSound (updated ws i (λ r. inside g op cs b (with_rest rest r)))
   sound-enter g op cs b rest was =
       let r = at ws i in

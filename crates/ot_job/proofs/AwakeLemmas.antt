@@ -1,5 +1,6 @@
 -- A task goes on where neither a wait nor a group's end holds it.
 use Rattle.std.proofs.Common.{◌≡◌, ℕ, zero, suc, ◌+◌, ◌<◌, Bool, true, false, cond, not, ◌&&◌, ◌||◌, List, [], ◌∷◌, length, refl, sym, ap, subst, ◌∙◌, inl, inr, arith, true≢false}
+use Rattle.std.specs.Prelude.{None}
 use Rattle.std.specs.Prelude.{Some, slice_get, count_by, ◌==◌}
 use Rattle.std.specs.List.{list_any}
 use Rattle.std.proofs.lemmas.Bool.Decides.{nat_tests}
@@ -16,12 +17,13 @@ use Rattle.ot_task.specs.Regions.{Region}
 use Rattle.ot_job.specs.Numbered.{at}
 use Rattle.ot_job.specs.Sound.{IsBegun, IsPlaced, IsSound}
 use Rattle.ot_task.specs.Pieces.{passed, awake}
-use Rattle.ot_task.specs.Waits.{is_let_go, end_lets_go}
+use Rattle.ot_task.specs.Waits.{is_held, is_let_go, end_lets_go}
+use Rattle.ot_job.proofs.UnawaitedLemmas.{let-go}
 use Rattle.ot_job.proofs.GroupLemmas.{placed-leave}
 use Rattle.ot_job.proofs.ChangedLemmas.{sound-changed}
 
 -- none passes where none is counted
-none-counted : (p : Sibling → Bool) (kids : List Sibling) → count_by p kids ≡ 0 → list_any p kids ≡ false
+pub none-counted : (p : Sibling → Bool) (kids : List Sibling) → count_by p kids ≡ 0 → list_any p kids ≡ false
 none-counted p [] h = refl
 none-counted p (x ∷ kids) h = by (none-counted p kids) (p x) refl
   where
@@ -32,24 +34,16 @@ none-counted p (x ∷ kids) h = by (none-counted p kids) (p x) refl
     by more true e = absurd (let one : 1 + count_by p kids ≡ 0 = (rw e at sum) in omega (arith, one))
     by more false e = rw e (more (let rest : 0 + count_by p kids ≡ 0 = (rw e at sum) in omega (arith, rest)))
 
-weaker-any : (p q : Sibling → Bool) → ((s : Sibling) → p s ≡ true → q s ≡ true) → (kids : List Sibling) → list_any p kids ≡ true → list_any q kids ≡ true
-weaker-any p q f [] h = h
-weaker-any p q f (x ∷ kids) h =
-    elim (or_true (p x) (list_any p kids) h) [
-      | inl e ↦ true_or (q x) (list_any q kids) (f x e)
-      | inr e ↦ or_right (q x) (list_any q kids) (weaker-any p q f kids e)
-    ]
-
 pub is-zero : (n : ℕ) → (n == 0) ≡ true → n ≡ 0
 is-zero n h = grind (arith, nat_tests)
 
 module _ (r : Region) (p : IsPlaced r) where
-  pub placed-calm : (r.waiting ≡ true → count_by is_unfinished r.children ≡ 0) → IsPlaced (record r { waiting = false })
+  pub placed-calm : is_held r.waiting r.children ≡ false → IsPlaced (record r { waiting = None })
   placed-calm none = record {
-    fine = at-fewer r.own (unawaited false r.children) (unawaited r.waiting r.children) r.rest r.groups (λ test h. by test h r.waiting refl) p.fine;
+    fine = at-fewer r.own (unawaited None r.children) (unawaited r.waiting r.children) r.rest r.groups (λ test h. let-go r.waiting r.children test none h) p.fine;
     inside = p.inside;
     tasks = p.tasks;
-    awaits = λ uses own. awaits-fewer (unawaited false r.children) (unawaited r.waiting r.children) r.rest r.groups (λ test h. by test h r.waiting refl) (p.awaits uses own);
+    awaits = λ uses own. awaits-fewer (unawaited None r.children) (unawaited r.waiting r.children) r.rest r.groups (λ test h. let-go r.waiting r.children test none h) (p.awaits uses own);
     within = p.within;
     apart = p.apart;
     over = p.over;
@@ -60,10 +54,6 @@ module _ (r : Region) (p : IsPlaced r) where
     reduced = p.reduced;
     exclusive = p.exclusive;
   }
-    where
-      by : (test : Sibling → Bool) → unawaited false r.children test ≡ true → (w : Bool) → r.waiting ≡ w → unawaited r.waiting r.children test ≡ true
-      by test h true e = absurd (true≢false (sym (weaker-any (λ s. is_unfinished s && test s) is_unfinished (λ s g. and_left (is_unfinished s) (test s) g) r.children h) ∙ none-counted is_unfinished r.children (none e)))
-      by test h false e = rw e h
 
 -- none that has not finished was created in the group
 not-in : (g : ℕ) (kids : List Sibling) → list_any (is_unfinished_in g) kids ≡ false → (k : ℕ) (s : Sibling) → slice_get kids k ≡ Some s → s.finished ≡ false → is_in g s ≡ false
@@ -105,9 +95,9 @@ none-in-group r o os go was here = not-in o.group r.children (none-counted (is_u
   where
     ends : (count_by (is_unfinished_in o.group) r.children == 0) ≡ true
     ends = sym (ap (λ b. end_lets_go b r.groups r.children) was ∙ ap (λ gs. end_lets_go End gs r.children) here)
-        ∙ and_right (not r.waiting || (count_by is_unfinished r.children == 0)) (end_lets_go r.rest r.groups r.children) go
+        ∙ and_right (not (is_held r.waiting r.children)) (end_lets_go r.rest r.groups r.children) go
 
-module _ (r : Region) (p : IsPlaced r) (calm : r.waiting ≡ false) where
+module _ (r : Region) (p : IsPlaced r) (calm : r.waiting ≡ None) where
   pub placed-passed : (rest : Body) (gs : List Open) → r.rest ≡ rest → r.groups ≡ gs → end_lets_go rest gs r.children ≡ true
       → IsPlaced (record r { rest = (passed rest gs).rest; groups = (passed rest gs).groups })
   placed-passed (Next x b) gs was here go = subst IsPlaced (ap (λ b. record r { rest = b }) was ∙ ap (λ g. record r { rest = Next x b; groups = g }) here) p
@@ -116,26 +106,26 @@ module _ (r : Region) (p : IsPlaced r) (calm : r.waiting ≡ false) where
       let none = none-counted (is_unfinished_in o.group) r.children (is-zero _ go) in
       placed-leave r p o os was here (not-in o.group r.children none)
       (subst (λ w. IsFineAt r.own (unawaited w r.children) o.behind os) (sym calm)
-      (at-leave r.own (unawaited false r.children) o os (λ test h. elsewhere o.group r.children none test h)
-      (subst (λ gs. IsFineAt r.own (unawaited false r.children) End gs) here
-      (subst (λ b. IsFineAt r.own (unawaited false r.children) b r.groups) was
+      (at-leave r.own (unawaited None r.children) o os (λ test h. elsewhere o.group r.children none test h)
+      (subst (λ gs. IsFineAt r.own (unawaited None r.children) End gs) here
+      (subst (λ b. IsFineAt r.own (unawaited None r.children) b r.groups) was
       (subst (λ w. IsFineAt r.own (unawaited w r.children) r.rest r.groups) calm p.fine)))))
       (λ uses own.
       subst (λ w. AwaitsAll (unawaited w r.children) o.behind os) (sym calm)
-      (awaits-leave (unawaited false r.children) o os (λ test h. elsewhere o.group r.children none test h)
-      (subst (λ gs. AwaitsAll (unawaited false r.children) End gs) here
-      (subst (λ b. AwaitsAll (unawaited false r.children) b r.groups) was
+      (awaits-leave (unawaited None r.children) o os (λ test h. elsewhere o.group r.children none test h)
+      (subst (λ gs. AwaitsAll (unawaited None r.children) End gs) here
+      (subst (λ b. AwaitsAll (unawaited None r.children) b r.groups) was
       (subst (λ w. AwaitsAll (unawaited w r.children) r.rest r.groups) calm (p.awaits uses own))))))
 
 pub placed-awake : (r : Region) → IsPlaced r → is_let_go r ≡ true → IsPlaced (awake r)
 placed-awake r p go =
-    let wait = and_left (not r.waiting || (count_by is_unfinished r.children == 0)) (end_lets_go r.rest r.groups r.children) go in
-    placed-passed (record r { waiting = false }) (placed-calm r p (λ w. is-zero _ (by r.waiting _ w wait))) refl r.rest r.groups refl refl
-    (and_right (not r.waiting || (count_by is_unfinished r.children == 0)) (end_lets_go r.rest r.groups r.children) go)
+    placed-passed (record r { waiting = None })
+    (placed-calm r p (unheld (is_held r.waiting r.children) (and_left (not (is_held r.waiting r.children)) (end_lets_go r.rest r.groups r.children) go)))
+    refl r.rest r.groups refl refl (and_right (not (is_held r.waiting r.children)) (end_lets_go r.rest r.groups r.children) go)
   where
-    by : (w b : Bool) → w ≡ true → (not w || b) ≡ true → b ≡ true
-    by true b e h = h
-    by false b e h = absurd (true≢false (sym e))
+    unheld : (b : Bool) → not b ≡ true → b ≡ false
+    unheld true h = sym h
+    unheld false h = refl
 
 -- who has a group open behind the end of another had one open before it
 open-before : (P : Type 0) (rest : Body) (gs : List Open) → ((o : Open) (os : List Open) → gs ≡ o ∷ os → P) → (o : Open) (os : List Open) → (passed rest gs).groups ≡ o ∷ os → P

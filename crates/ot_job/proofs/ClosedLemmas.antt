@@ -1,5 +1,7 @@
 -- A task ends its body, and its parent's table tells so: what holds of the regions stays.
 use Rattle.std.proofs.Common.{◌≡◌, ◌≢◌, ℕ, zero, suc, ◌<◌, ◌≤◌, Bool, true, false, not, ◌&&◌, ◌||◌, List, [], ◌∷◌, length, refl, sym, ap, subst, ◌∙◌, ◌⊎◌, inl, inr, arith, true≢false}
+use Rattle.ot_task.specs.Waits.{is_awaited_at}
+use Rattle.std.specs.Prelude.{None}
 use Rattle.std.specs.Prelude.{Some, slice_get, nat_lt, ◌==◌}
 use Rattle.std.specs.List.{list_any}
 use Rattle.std.proofs.lemmas.Bool.{cases_eq, cases_lt}
@@ -116,9 +118,7 @@ placed-without c r p = record {
 }
   where
     fewer : (test : Sibling → Bool) → unawaited r.waiting (with_finished r.children c) test ≡ true → unawaited r.waiting r.children test ≡ true
-    fewer test h = and_true (not r.waiting) (list_any (λ s. is_unfinished s && test s) r.children)
-        (and_left (not r.waiting) (list_any (λ s. is_unfinished s && test s) (with_finished r.children c)) h)
-        (fewer-any r.children c test (and_right (not r.waiting) (list_any (λ s. is_unfinished s && test s) (with_finished r.children c)) h))
+    fewer test h = fewer-any r.children c (λ s. not (is_awaited_at r.waiting s) && test s) h
 
 -- it has ended its body
 placed-over : (r : Region) → IsPlaced r → r.rest ≡ End → r.groups ≡ [] → IsPlaced (over r)
@@ -139,14 +139,14 @@ placed-over r p was none = record {
 }
 
 -- a body that ends leaves no child unfinished, but the root's
-all-finished : (r : Region) → IsPlaced r → r.rest ≡ End → r.groups ≡ [] → r.waiting ≡ false → (uses : List Use) → r.own ≡ Some uses
+all-finished : (r : Region) → IsPlaced r → r.rest ≡ End → r.groups ≡ [] → r.waiting ≡ None → (uses : List Use) → r.own ≡ Some uses
     → (k : ℕ) (s : Sibling) → slice_get r.children k ≡ Some s → s.finished ≡ true
 all-finished r p was none calm uses own k s there = by s.finished refl
   where
     left : list_any (λ x. is_unfinished x && true) r.children ≡ false
     left =
         let at = subst (λ gs. AwaitsAll (unawaited r.waiting r.children) End gs) none (subst (λ b. AwaitsAll (unawaited r.waiting r.children) b r.groups) was (p.awaits uses own)) in
-        ap (λ w. not w && list_any (λ x. is_unfinished x && true) r.children) (sym calm) ∙ awaits-end (unawaited r.waiting r.children) at
+        ap (λ w. unawaited w r.children (λ x. true)) (sym calm) ∙ awaits-end (unawaited r.waiting r.children) at
 
     by : (b : Bool) → s.finished ≡ b → s.finished ≡ true
     by true e = e
@@ -154,7 +154,7 @@ all-finished r p was none calm uses own k s there = by s.finished refl
 
 -- ---- all regions
 
-module _ (ws : List Region) (s : IsSound ws) (i : ℕ) (h : i < length ws) (was : (at ws i).rest ≡ End) (none : (at ws i).groups ≡ []) (calm : (at ws i).waiting ≡ false) where
+module _ (ws : List Region) (s : IsSound ws) (i : ℕ) (h : i < length ws) (was : (at ws i).rest ≡ End) (none : (at ws i).groups ≡ []) (calm : (at ws i).waiting ≡ None) where
   abbrev p : ℕ
   p = parent_of ws i
 

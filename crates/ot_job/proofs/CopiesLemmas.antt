@@ -94,5 +94,5 @@ module _ (modes : Cell → Option Mode) (before : Look) where
       (subst (λ w. Given (with_copy copies c (λ n. join_by op n w)) (change s c (λ n. join_by op n v))) same (moved copies s c (λ n. join_by op n v) g (fold_at op (modes c) (before c) (copies c) (cell_of s.cells c) v may.0.1 (g c))))
   given-serial (Next (If e a b) rest) copies s only may g = absurd only
   given-serial (Next (Task d b) rest) copies s only may g = absurd only
-  given-serial (Next Wait rest) copies s only may g = absurd only
+  given-serial (Next (Wait w) rest) copies s only may g = absurd only
   given-serial (Next (Group op cs b) rest) copies s only may g = absurd only

@@ -1,5 +1,5 @@
 -- What a job counts, now and at its end.
-use Rattle.std.proofs.Common.{◌≡◌, ℕ, ◌+◌, ◌≤◌, Bool, true, false, List, [], ◌∷◌, refl, ap, ◌∙◌, arith}
+use Rattle.std.proofs.Common.{◌≡◌, ℕ, ◌+◌, ◌≤◌, Bool, true, false, List, [], ◌∷◌, None, refl, ap, ◌∙◌, arith}
 use Rattle.std.specs.Prelude.{◌==◌, if◌then◌else◌}
 use Rattle.ot_model.specs.Tree.{Set, Fold, If, Task, Wait, Group, Body, End, Next}
 use Rattle.ot_model.specs.Value.{val}
@@ -60,7 +60,7 @@ serial-few (Next (If e a b) rest) s =
     let r = serial-few rest mid in
     (omega (arith, r.0, w.0), omega (arith, r.1, w.1))
 serial-few (Next (Task d b) rest) s = let w = serial-few b (bump 1 1 s) in let r = serial-few rest (serial b (bump 1 1 s)) in (omega (arith, r.0, w.0), omega (arith, r.1, w.1))
-serial-few (Next Wait rest) s = let r = serial-few rest (bump 0 1 s) in (omega (arith, r.0), omega (arith, r.1))
+serial-few (Next (Wait w) rest) s = let r = serial-few rest (bump 0 1 s) in (omega (arith, r.0), omega (arith, r.1))
 serial-few (Next (Group op cs b) rest) s = let w = serial-few b (bump 0 1 s) in let r = serial-few rest (serial b (bump 0 1 s)) in (omega (arith, r.0, w.0), omega (arith, r.1, w.1))
 
 -- ---- the counts of one step
@@ -73,7 +73,7 @@ piece-counts (Next (Fold op c e) rest) s only =
     let r = piece-counts rest (bump 0 1 (change s c (λ n. join_by op n (val (cell_of s.cells) e)))) only in (omega (arith, r.0), omega (arith, r.1))
 piece-counts (Next (If e a b) rest) s only = absurd only
 piece-counts (Next (Task d b) rest) s only = absurd only
-piece-counts (Next Wait rest) s only = absurd only
+piece-counts (Next (Wait w) rest) s only = absurd only
 piece-counts (Next (Group op cs b) rest) s only = absurd only
 
 -- a piece sees the cells alone
@@ -89,7 +89,7 @@ piece-lengths (Next (Fold op c e) rest) s only =
     piece-lengths rest (bump 0 1 (change s c (λ n. join_by op n (val (cell_of s.cells) e)))) only ∙ lengths-with_cell s.cells c (λ n. join_by op n (val (cell_of s.cells) e))
 piece-lengths (Next (If e a b) rest) s only = absurd only
 piece-lengths (Next (Task d b) rest) s only = absurd only
-piece-lengths (Next Wait rest) s only = absurd only
+piece-lengths (Next (Wait w) rest) s only = absurd only
 piece-lengths (Next (Group op cs b) rest) s only = absurd only
 
 same-state : (s t : State) → s.cells ≡ t.cells → s.tasks ≡ t.tasks → s.units ≡ t.units → s ≡ t
@@ -109,7 +109,7 @@ settled-state piece rest cells counts only =
     n : ((serial piece (state_of cells counts)).tasks ≡ counts.tasks) × ((serial piece (state_of cells counts)).units ≡ counts.units + leading_len piece)
     n = piece-counts piece (state_of cells counts) only
 
-    one : (k : ℕ) → counted (Next Wait End) (record { cells = (serial_run piece cells).cells; tasks = k; units = counts.units + leading_len piece })
+    one : (k : ℕ) → counted (Next (Wait None) End) (record { cells = (serial_run piece cells).cells; tasks = k; units = counts.units + leading_len piece })
         ≡ record { cells = (serial_run piece cells).cells; tasks = k + 0; units = counts.units + (leading_len piece + 1) }
     one k = same-state (record { cells = (serial_run piece cells).cells; tasks = k + 0; units = counts.units + leading_len piece + 1 })
         (record { cells = (serial_run piece cells).cells; tasks = k + 0; units = counts.units + (leading_len piece + 1) }) refl refl (omega arith)
@@ -120,7 +120,7 @@ settled-state piece rest cells counts only =
     by (Next (Set c e) r) = one counts.tasks
     by (Next (Fold op c e) r) = one counts.tasks
     by (Next (If e a b) r) = one counts.tasks
-    by (Next Wait r) = one counts.tasks
+    by (Next (Wait w) r) = one counts.tasks
     by (Next (Group op cs b) r) = one counts.tasks
     by (Next (Task d b) r) =
         same-state (record { cells = (serial_run piece cells).cells; tasks = counts.tasks + 1; units = counts.units + leading_len piece + 1 })

@@ -150,7 +150,7 @@ stepped-runs taken g r = by r.rest
     by (Next (Fold op c e) rest) = refl
     by (Next (If e a b) rest) = refl
     by (Next (Fork d b) rest) = refl
-    by (Next Wait rest) = refl
+    by (Next (Wait w) rest) = refl
     by (Next (Group op cs b) rest) = refl
 
 pub stepped-goes : (taken : Bool) (g : ℕ) (r : Region) → goes (stepped taken g r) ≡ goes r
@@ -162,7 +162,7 @@ stepped-goes taken g r = by r.rest
     by (Next (Fold op c e) rest) = refl
     by (Next (If e a b) rest) = refl
     by (Next (Fork d b) rest) = refl
-    by (Next Wait rest) = refl
+    by (Next (Wait w) rest) = refl
     by (Next (Group op cs b) rest) = refl
 
 pub counted-stepped : (taken : Bool) (g : ℕ) (rs : List Region) (i out unended : ℕ) → AreCounted rs out unended → AreCounted (updated rs i (stepped taken g)) out unended

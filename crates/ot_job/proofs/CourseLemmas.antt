@@ -124,7 +124,7 @@ module _ (j : Live) (w : IsWell j) (working : j.failing ≡ false) (d : Came) (o
   alive : (at ws i).ended ≡ false
   alive = ap (λ (x : Region). x.ended) (at-whole j.regions i) ∙ well.alive
 
-  calm : (at ws i).waiting ≡ false
+  calm : (at ws i).waiting ≡ None
   calm = ap (λ (x : Region). x.waiting) (at-whole j.regions i) ∙ well.calm
 
   named-all : NamedIn lens (append d.assigns r.rest)

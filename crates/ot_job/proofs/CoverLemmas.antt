@@ -182,7 +182,7 @@ module _ (lens : List ℕ) (own : Declared) (cells : List (List ℕ)) (d : List 
       )
   can-assign (Next (If e a b) rest) only n f = absurd only
   can-assign (Next (Task u b) rest) only n f = absurd only
-  can-assign (Next Wait rest) only n f = absurd only
+  can-assign (Next (Wait w) rest) only n f = absurd only
   can-assign (Next (Group op cs b) rest) only n f = absurd only
 
 -- a piece that holds what its touches ask may make its assigns

@@ -1,5 +1,7 @@
 -- A task that is created leaves what holds of its parent's region.
 use Rattle.std.proofs.Common.{◌≡◌, ℕ, zero, suc, Bool, true, false, not, ◌&&◌, ◌||◌, List, [], ◌∷◌, ◌++◌, map, length, refl, sym, ap, subst, ◌∙◌, ◌⊎◌, inl, inr, ⊎_elim, arith, true≢false}
+use Rattle.ot_task.specs.Regions.{Waiting}
+use Rattle.ot_task.specs.Waits.{is_awaited_at}
 use Rattle.std.specs.Prelude.{◌==◌, Some, slice_get}
 use Rattle.std.specs.List.{list_any}
 use Rattle.std.proofs.lemmas.Bool.Decides.{nat_tests}
@@ -79,19 +81,18 @@ more-place P [] x old new (suc k) y h = cc
 more-place P (z ∷ xs) x old new zero y h = old 0 y h
 more-place P (z ∷ xs) x old new (suc k) y h = more-place (λ n. P (suc n)) xs x (λ n w g. old (suc n) w g) new k y h
 
-pub kids-more : (waiting : Bool) (kids : List Sibling) (new : Sibling) (test : Sibling → Bool) → unawaited waiting (kids ++ new ∷ []) test ≡ true
+pub kids-more : (waiting : Waiting) (kids : List Sibling) (new : Sibling) (test : Sibling → Bool) → unawaited waiting (kids ++ new ∷ []) test ≡ true
     → (unawaited waiting kids test || test new) ≡ true
 kids-more waiting kids new test h =
-    let both = sym (ap (λ b. not waiting && b) (list_any-append (λ s. is_unfinished s && test s) kids (new ∷ []))) ∙ h in
-    bits (not waiting) (list_any (λ s. is_unfinished s && test s) kids) (is_unfinished new) (test new) both
+    let left = λ (s : Sibling). is_unfinished s && (not (is_awaited_at waiting s) && test s) in
+    bits (list_any left kids) (is_unfinished new) (not (is_awaited_at waiting new)) (test new) (sym (list_any-append left kids (new ∷ [])) ∙ h)
   where
-    bits : (w a u t : Bool) → (w && (a || ((u && t) || false))) ≡ true → ((w && a) || t) ≡ true
-    bits true true u t h = refl
-    bits true false true true h = refl
-    bits true false true false h = h
-    bits true false false true h = refl
-    bits true false false false h = h
-    bits false a u t h = cc
+    bits : (a u n t : Bool) → (a || ((u && (n && t)) || false)) ≡ true → (a || t) ≡ true
+    bits true u n t h = refl
+    bits false true true true h = refl
+    bits false true true false h = h
+    bits false true false t h = absurd (true≢false (sym h))
+    bits false false n t h = absurd (true≢false (sym h))
 
 module _ (r : Region) (p : IsPlaced r) (d : List Use) (b rest : Body) (was : r.rest ≡ Next (Task d b) rest)
     (clean : (own : Declared) → own ≡ r.own → IsClean own (opened r.groups) (children_of (unawaited r.waiting r.children)) (Task d b))

@@ -60,7 +60,7 @@ module _ (P : Open → Type 0) where
         by (Next (Fold op c e) rest) was = old i
         by (Next (If e a b) rest) was = old i
         by (Next (Task d b) rest) was = old i
-        by (Next Wait rest) was = old i
+        by (Next (Wait w) rest) was = old i
         by (Next (Group op cs b) rest) was = All-cons P (record { group = g; op = op; cells = cs; behind = rest }) (at rs i).groups (new op cs b rest was) (old i)
 
     each-created : (child : Option (List Use × Body)) (k : ℕ) → All P (at (with_created i child (updated rs i (stepped taken g))) k).groups

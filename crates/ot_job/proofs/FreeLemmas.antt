@@ -148,7 +148,7 @@ module _ (lens : List ℕ) (own : Declared) (groups : Openings) (ch : Children) 
   test-safe (Next (Fold op c e) rest) n f u k = absurd k
   test-safe (Next (If e a b) rest) n f u k = each-test (IsHarmless own groups ch) e (harmless_if lens own groups ch e a b rest n.0.0 f) u k
   test-safe (Next (Task d b) rest) n f u k = absurd k
-  test-safe (Next Wait rest) n f u k = absurd k
+  test-safe (Next (Wait w) rest) n f u k = absurd k
   test-safe (Next (Group op cs b) rest) n f u k = absurd k
 
   pub fine-behind : (piece rest : Body) → AreAssigns piece → IsFine own groups ch (append piece rest) → IsFine own groups ch rest
@@ -157,7 +157,7 @@ module _ (lens : List ℕ) (own : Declared) (groups : Openings) (ch : Children) 
   fine-behind (Next (Fold op c e) more) rest only f = fine-behind more rest only f.2
   fine-behind (Next (If e a b) more) rest only f = absurd only
   fine-behind (Next (Task d b) more) rest only f = absurd only
-  fine-behind (Next Wait more) rest only f = absurd only
+  fine-behind (Next (Wait w) more) rest only f = absurd only
   fine-behind (Next (Group op cs b) more) rest only f = absurd only
 
   pub named-both : (piece rest : Body) → NamedIn lens (append piece rest) → NamedIn lens piece × NamedIn lens rest
@@ -223,7 +223,7 @@ module _ (lens : List ℕ) (r : Region) (p : IsPlaced (whole r)) (named : NamedI
   pub piece-meets : (k : ℕ) (s : Sibling) → slice_get r.children k ≡ Some s → s.finished ≡ false → (u v : Use) → mode_in run.lease.uses u.cell ≡ Some u.mode → allows (Some s.uses) v ≡ true → Agree u v
   piece-meets k s there alive u v h may =
       right_apart r.own (opened r.groups) (children_of (unawaited r.waiting r.children)) Touched safe s.uses
-      (λ test none. kid-none r.children (λ x. test x.uses) k s (subst (λ b. (not b && list_any (λ x. is_unfinished x && test x.uses) r.children) ≡ false) w.calm none) there alive)
+      (λ test none. kid-none r.children (λ x. test x.uses) k s (subst (λ b. unawaited b r.children (λ x. test x.uses) ≡ false) w.calm none) there alive)
       (λ o c folds. ⊎_elim inl (λ e. inr (grouped-opened r.groups s o c e)) (p.grouped k s there alive o c folds))
       u.cell u.mode v (right-of u h) may
 

@@ -14,7 +14,9 @@ use Rattle.ot_task.specs.Regions.{Region, Run}
 use Rattle.ot_job.specs.Numbered.{at, parent_of}
 use Rattle.ot_job.specs.Whole.{whole, wholes}
 use Rattle.ot_job.specs.Claiming.{is_claimable, claimable_of}
-use Rattle.ot_task.specs.Waits.{is_let_go, end_lets_go}
+use Rattle.ot_task.specs.Waits.{is_held, is_let_go, end_lets_go}
+use Rattle.ot_job.proofs.UnawaitedLemmas.{held-unfinished}
+use Rattle.ot_job.proofs.AwakeLemmas.{none-counted}
 use Rattle.ot_job.specs.Live.{Live}
 use Rattle.ot_job.specs.Well.{IsWell}
 use Rattle.ot_job.specs.States.{any_out, all_ended, state_in}
@@ -56,14 +58,10 @@ zero-is n e = grind (arith, nat_tests)
 
 lets-go : (r : Region) → AllFinished r.children → is_let_go r ≡ true
 lets-go r all =
-    and_true (not r.waiting || (count_by is_unfinished r.children == 0)) (end_lets_go r.rest r.groups r.children)
-    (by r.waiting (count_by is_unfinished r.children == 0) (zero-is (count_by is_unfinished r.children) ((none_unfinished r.children).1 (all-from r.children all))))
+    and_true (not (is_held r.waiting r.children)) (end_lets_go r.rest r.groups r.children)
+    (ap not (held-unfinished r.waiting r.children (none-counted is_unfinished r.children ((none_unfinished r.children).1 (all-from r.children all)))))
     (at-end r.rest r.groups)
   where
-    by : (w b : Bool) → b ≡ true → (not w || b) ≡ true
-    by true b h = h
-    by false b h = refl
-
     at-end : (rest : Body) (gs : List Open) → end_lets_go rest gs r.children ≡ true
     at-end End [] = refl
     at-end (Next x rest) gs = refl

@@ -1,5 +1,6 @@
 -- Entering a group and passing its end leave what holds of a region.
 use Rattle.std.proofs.Common.{◌≡◌, ℕ, zero, suc, Bool, true, false, not, ◌&&◌, ◌||◌, List, [], ◌∷◌, refl, sym, ap, subst, ◌∙◌, inl, inr, ⊎_elim, true≢false}
+use Rattle.std.specs.Prelude.{None}
 use Rattle.std.specs.Prelude.{Some, slice_get}
 use Rattle.std.specs.List.{list_any}
 use Rattle.ot_model.specs.Tree.{S, Body, End, Next, Group, append}
@@ -54,16 +55,16 @@ writes-agree Writes h = true≢false h
 writes-agree (Folds o) h = true≢false h
 
 -- a group names no cell that an unfinished child may use
-pub unused : (cs : List Cell) (kids : List Sibling) (k : ℕ) (s : Sibling) (c : Cell) → list_any (λ c. unawaited false kids (λ s. clashes (use_as Writes c) s.uses)) cs ≡ false
+pub unused : (cs : List Cell) (kids : List Sibling) (k : ℕ) (s : Sibling) (c : Cell) → list_any (λ c. unawaited None kids (λ s. clashes (use_as Writes c) s.uses)) cs ≡ false
     → slice_get kids k ≡ Some s → s.finished ≡ false → has_cell cs c ≡ true
     → (m : Mode) → allows (Some s.uses) (use_as m c) ≡ false
 unused [] kids k s c free there alive named m = absurd (true≢false (sym named))
 unused (d ∷ cs) kids k s c free there alive named m =
     elim (or_true (same_cell d c) (has_cell cs c) named) [
       | inl here ↦
-          let none = kid-none kids (λ s. clashes (use_as Writes d) s.uses) k s (or_false_left (unawaited false kids (λ s. clashes (use_as Writes d) s.uses)) (list_any (λ c. unawaited false kids (λ s. clashes (use_as Writes c) s.uses)) cs) free) there alive in
+          let none = kid-none kids (λ s. clashes (use_as Writes d) s.uses) k s (or_false_left (unawaited None kids (λ s. clashes (use_as Writes d) s.uses)) (list_any (λ c. unawaited None kids (λ s. clashes (use_as Writes c) s.uses)) cs) free) there alive in
           never (allows (Some s.uses) (use_as m c)) (λ may. writes-agree m (clash_free (use_as Writes d) (use_as m c) s.uses none may (same_is d c here)))
-      | inr later ↦ unused cs kids k s c (or_false_right (unawaited false kids (λ s. clashes (use_as Writes d) s.uses)) (list_any (λ c. unawaited false kids (λ s. clashes (use_as Writes c) s.uses)) cs) free) there alive later m
+      | inr later ↦ unused cs kids k s c (or_false_right (unawaited None kids (λ s. clashes (use_as Writes d) s.uses)) (list_any (λ c. unawaited None kids (λ s. clashes (use_as Writes c) s.uses)) cs) free) there alive later m
     ]
   where
     never : (b : Bool) → (b ≡ true → ⊥) → b ≡ false
@@ -71,7 +72,7 @@ unused (d ∷ cs) kids k s c free there alive named m =
     never false h = refl
 
 module _ (r : Region) (p : IsPlaced r) where
-  pub placed-enter : (g : ℕ) (op : Operation) (cs : List Cell) (b rest : Body) → r.rest ≡ Next (Group op cs b) rest → r.waiting ≡ false
+  pub placed-enter : (g : ℕ) (op : Operation) (cs : List Cell) (b rest : Body) → r.rest ≡ Next (Group op cs b) rest → r.waiting ≡ None
       → IsClean r.own (opened r.groups) (children_of (unawaited r.waiting r.children)) (Group op cs b)
       → IsFineAt r.own (unawaited r.waiting r.children) b (record { group = g; op = op; cells = cs; behind = rest } ∷ r.groups)
       → ((uses : List Use) → r.own ≡ Some uses → AwaitsAll (unawaited r.waiting r.children) b (record { group = g; op = op; cells = cs; behind = rest } ∷ r.groups))
@@ -102,7 +103,7 @@ module _ (r : Region) (p : IsPlaced r) where
       fits : list_any (λ c. not (allows r.own (use_as Writes c)) || opened_by_any (opened r.groups) c) cs ≡ false
       fits = sym (is_offence-Group r.own (opened r.groups) (children_of (unawaited r.waiting r.children)) op cs b ReductionMisuse) ∙ clean ReductionMisuse
 
-      awaited : list_any (λ c. unawaited false r.children (λ s. clashes (use_as Writes c) s.uses)) cs ≡ false
+      awaited : list_any (λ c. unawaited None r.children (λ s. clashes (use_as Writes c) s.uses)) cs ≡ false
       awaited = ap (λ w. list_any (λ c. unawaited w r.children (λ s. clashes (use_as Writes c) s.uses)) cs) (sym calm)
           ∙ sym (is_offence-Group r.own (opened r.groups) (children_of (unawaited r.waiting r.children)) op cs b ConflictsWithChild) ∙ clean ConflictsWithChild
 

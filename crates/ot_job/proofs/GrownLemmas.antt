@@ -51,7 +51,7 @@ module _ (r : Region) (p : IsPlaced r) (alive : r.ended ≡ false) (uses : List 
 
   awaits-next : (own : List Use) → r.own ≡ Some own → AwaitsAll (λ test. unawaited r.waiting r.children test || test new) rest r.groups
   awaits-next own is =
-      awaits-task (unawaited r.waiting r.children) uses body rest r.groups new (λ o more is. first_group r.groups o more uses is)
+      awaits-task (unawaited r.waiting r.children) uses body rest r.groups new refl (λ o more is. first_group r.groups o more uses is)
       (subst (λ x. AwaitsAll (unawaited r.waiting r.children) x r.groups) was (p.awaits own is))
 
   -- the statement is taken off

@@ -168,7 +168,7 @@ module _ (Q : Use → Type 0) where
       one c m q u (inr k) = absurd k
   each-assign (Next (If e a b) rest) h u k = ⊎_elim (each-read e h.0.0 u) (each-assign rest h.1 u) (among-split u (map (use_as Reads) (cells_named e)) (assign_touches rest) k)
   each-assign (Next (Task d b) rest) h u k = each-assign rest h.1 u k
-  each-assign (Next Wait rest) h u k = each-assign rest h.1 u k
+  each-assign (Next (Wait w) rest) h u k = each-assign rest h.1 u k
   each-assign (Next (Group op cs b) rest) h u k = each-assign rest h.1 u k
 
   -- of a condition

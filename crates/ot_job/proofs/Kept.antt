@@ -46,7 +46,7 @@ mutual
   one-all P h (Fold op c e) = (read-all _ (λ d. h (use_as Reads d)) e, h _)
   one-all P h (If e a b) = (read-all _ (λ d. h (use_as Reads d)) e, touch-all P h a, touch-all P h b)
   one-all P h (Task d b) = touch-all P h b
-  one-all P h Wait = tt
+  one-all P h (Wait w) = tt
   one-all P h (Group op cs b) = touch-all P h b
 
   pub touch-all : (P : Use → Type 0) → ((u : Use) → P u) → (b : Body) → EachTouch P b

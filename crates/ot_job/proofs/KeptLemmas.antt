@@ -1,5 +1,7 @@
 -- What is left of a job stays the same when a task makes a step, out of order.
 use Rattle.std.proofs.Common.{◌≡◌, ◌≢◌, ℕ, zero, suc, ◌+◌, ◌<◌, true, false, List, [], ◌∷◌, ◌++◌, map, length, refl, sym, ap, subst, ◌∙◌, ◌⊎◌, inl, inr, arith}
+use Rattle.std.specs.Prelude.{Option}
+use Rattle.std.specs.Prelude.{Some}
 use Rattle.std.specs.Prelude.{if◌then◌else◌, ◌==◌}
 use Rattle.std.proofs.lemmas.Bool.{cases_eq}
 use Rattle.std.proofs.lemmas.Bool.Decides.{nat_tests}
@@ -163,10 +165,10 @@ module _ (rs : List Region) (s : IsSound rs) (i : ℕ) (h : i < length rs) where
       (λ u. ap (λ b. serial b (bump 0 1 u)) (todo-changed rs i f h) ∙ is u)
 
   -- a wait
-  pub kept-wait : (rest : Body) (t : State) → (at rs i).rest ≡ Next Wait rest → left_of (updated rs i (λ r. record r { rest = rest; waiting = true })) (bump 0 1 t) ≡ left_of rs t
-  kept-wait rest t was =
-      counted (λ r. record r { rest = rest; waiting = true }) (λ r. refl) t
-      (λ u. sym (ap (λ b. serial b u) (ap (λ b. todo b (at rs i).groups) was ∙ todo-next Wait rest (at rs i).groups)))
+  pub kept-wait : (w : Option (List Use)) (rest : Body) (t : State) → (at rs i).rest ≡ Next (Wait w) rest → left_of (updated rs i (λ r. record r { rest = rest; waiting = Some w })) (bump 0 1 t) ≡ left_of rs t
+  kept-wait w rest t was =
+      counted (λ r. record r { rest = rest; waiting = Some w }) (λ r. refl) t
+      (λ u. sym (ap (λ b. serial b u) (ap (λ b. todo b (at rs i).groups) was ∙ todo-next (Wait w) rest (at rs i).groups)))
 
   -- the entry into a group
   pub kept-group : (g : ℕ) (op : Operation) (cs : List Cell) (b rest : Body) (t : State) → (at rs i).rest ≡ Next (Group op cs b) rest

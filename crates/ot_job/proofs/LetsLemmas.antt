@@ -78,7 +78,7 @@ touch-from P lens (Next (Fold op c e) rest) only n f =
     )
 touch-from P lens (Next (If e a b) rest) only n f = absurd only
 touch-from P lens (Next (Task d b) rest) only n f = absurd only
-touch-from P lens (Next Wait rest) only n f = absurd only
+touch-from P lens (Next (Wait w) rest) only n f = absurd only
 touch-from P lens (Next (Group op cs b) rest) only n f = absurd only
 
 -- ---- the mode of a copy
@@ -179,5 +179,5 @@ module _ (lens : List ℕ) (own : Declared) (opened : Openings) (children : Chil
       value-named (Next (Fold op c x) r) is n = cc
       value-named (Next (If x a b) r) is n = let same : x ≡ e = cc in subst (ValueNamedIn lens) same n.0.0
       value-named (Next (Task d b) r) is n = cc
-      value-named (Next Wait r) is n = cc
+      value-named (Next (Wait w) r) is n = cc
       value-named (Next (Group op cs b) r) is n = cc

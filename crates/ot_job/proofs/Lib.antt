@@ -1,6 +1,7 @@
 pub mod Given
 pub mod Order
 pub mod Kept
+pub mod UnawaitedLemmas
 pub mod PlaceLemmas
 pub mod CopiesLemmas
 pub mod RightsLemmas

@@ -1,5 +1,6 @@
 -- A task moves on behind its piece: what holds of the regions, and what is left of the job, stays.
 use Rattle.std.proofs.Common.{◌≡◌, ℕ, zero, suc, ◌<◌, ◌≤◌, Bool, true, false, List, [], ◌∷◌, ◌++◌, length, refl, sym, ap, subst, ◌∙◌, ◌⊎◌, inl, inr, arith, length-append}
+use Rattle.std.specs.Prelude.{Option}
 use Rattle.std.specs.Prelude.{Some, None, nat_lt, ◌==◌, if◌then◌else◌}
 use Rattle.std.proofs.lemmas.Bool.{cases_eq, cases_lt}
 use Rattle.std.proofs.lemmas.Bool.Decides.{nat_tests}
@@ -63,7 +64,7 @@ taken-by n a b = by (cases_eq n 0)
     by (inl e) = let one : nat_lt 0 n ≡ false = grind (arith, nat_tests) in let two : (n == 0) ≡ true = grind (arith, nat_tests) in rw (one, two) refl
     by (inr e) = let one : nat_lt 0 n ≡ true = grind (arith, nat_tests) in let two : (n == 0) ≡ false = grind (arith, nat_tests) in rw (one, two) refl
 
-module _ (lens : List ℕ) (ws : List Region) (s : IsSound ws) (i : ℕ) (h : i < length ws) (alive : (at ws i).ended ≡ false) (calm : (at ws i).waiting ≡ false)
+module _ (lens : List ℕ) (ws : List Region) (s : IsSound ws) (i : ℕ) (h : i < length ws) (alive : (at ws i).ended ≡ false) (calm : (at ws i).waiting ≡ None)
     (started : IsBegun ws i) (named : (k : ℕ) → NamedIn lens (todo_at ws k)) (t : State) where
   -- what the statement that comes next names
   named-next : (x : S) (rest : Body) → (at ws i).rest ≡ Next x rest → NamedIn lens (Next x (todo rest (at ws i).groups))
@@ -93,14 +94,14 @@ module _ (lens : List ℕ) (ws : List Region) (s : IsSound ws) (i : ℕ) (h : i 
       ap (λ o. with_created i o (updated ws i (stepped taken g))) (ap next_task (rest-here ws i ∙ was) ∙ none)
       ∙ updated-same ws i (stepped taken g) f (ap (λ b. stepped_from taken g b (at ws i)) was ∙ is)
 
-  goes-wait : (taken : Bool) (g : ℕ) (rest : Body) → (at ws i).rest ≡ Next Wait rest → Goes lens ws (executed taken g i ws) t (bump 0 1 t)
-  goes-wait taken g rest was =
-      subst (λ now. Goes lens ws now t (bump 0 1 t)) (sym (stepped-is taken g (Next Wait rest) (waits rest) was refl refl)) (record {
-        sound = sound-wait ws s i h alive rest was;
-        same = kept-wait ws s i h rest t was;
-        named = named-changed (waits rest) (named-next Wait rest was).1;
-        begun = λ k below b. begun-changed ws i (waits rest) h (record { parent = λ r. refl; child = λ r. refl; own = λ r. refl; children = λ r. refl; ended = λ r. refl }) k b;
-        long = omega (arith, length-updated ws i (waits rest));
+  goes-wait : (taken : Bool) (g : ℕ) (w : Option (List Use)) (rest : Body) → (at ws i).rest ≡ Next (Wait w) rest → Goes lens ws (executed taken g i ws) t (bump 0 1 t)
+  goes-wait taken g w rest was =
+      subst (λ now. Goes lens ws now t (bump 0 1 t)) (sym (stepped-is taken g (Next (Wait w) rest) (waits w rest) was refl refl)) (record {
+        sound = sound-wait ws s i h alive calm w rest was;
+        same = kept-wait ws s i h w rest t was;
+        named = named-changed (waits w rest) (named-next (Wait w) rest was).1;
+        begun = λ k below b. begun-changed ws i (waits w rest) h (record { parent = λ r. refl; child = λ r. refl; own = λ r. refl; children = λ r. refl; ended = λ r. refl }) k b;
+        long = omega (arith, length-updated ws i (waits w rest));
       })
 
   goes-group : (taken : Bool) (g : ℕ) (op : Operation) (cs : List Cell) (b rest : Body) → (at ws i).rest ≡ Next (Group op cs b) rest → Goes lens ws (executed taken g i ws) t (bump 0 1 t)
@@ -223,5 +224,5 @@ module _ (lens : List ℕ) (ws : List Region) (s : IsSound ws) (i : ℕ) (h : i 
           never e = cc
       by (Next (If e a b) rest) was = rw was (subst (λ k. Goes lens ws (executed k g i ws) t (bump 0 1 t)) (sym (told e (ap test_of was))) (goes-if g e a b rest was))
       by (Next (Task d b) rest) was = rw was (goes-task taken g d b rest was (ordered (d, b) (ap next_task was)))
-      by (Next Wait rest) was = rw was (goes-wait taken g rest was)
+      by (Next (Wait w) rest) was = rw was (goes-wait taken g w rest was)
       by (Next (Group op cs b) rest) was = rw was (goes-group taken g op cs b rest was)

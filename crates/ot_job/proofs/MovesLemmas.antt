@@ -197,7 +197,7 @@ steps-run taken g (Next (Set c e) rest) r = refl
 steps-run taken g (Next (Fold op c e) rest) r = refl
 steps-run taken g (Next (If e a b) rest) r = refl
 steps-run taken g (Next (Task d b) rest) r = refl
-steps-run taken g (Next Wait rest) r = refl
+steps-run taken g (Next (Wait w) rest) r = refl
 steps-run taken g (Next (Group op cs b) rest) r = refl
 
 loans-created : (i : ℕ) (child : Option (List Use × Body)) (rs : List Region) → loans_out (with_created i child rs) ≡ loans_out rs
@@ -260,7 +260,7 @@ length-settled taken g i rs h = length-updated (moved_on taken g i rs) i stopped
     created (Next (Set c e) rest) = omega (arith, length-updated rs i (stepped taken g))
     created (Next (Fold op c e) rest) = omega (arith, length-updated rs i (stepped taken g))
     created (Next (If e a b) rest) = omega (arith, length-updated rs i (stepped taken g))
-    created (Next Wait rest) = omega (arith, length-updated rs i (stepped taken g))
+    created (Next (Wait w) rest) = omega (arith, length-updated rs i (stepped taken g))
     created (Next (Group op cs b) rest) = omega (arith, length-updated rs i (stepped taken g))
     created (Next (Task d b) rest) =
         let xs = updated rs i (stepped taken g) in

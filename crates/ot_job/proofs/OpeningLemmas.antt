@@ -490,7 +490,7 @@ module _ (taken : Bool) (number i : ℕ) (rs : List Region) (gs new : List Summe
   open-stepped (Next (Fold op c e) rest) was opens = same-stepped (Next (Fold op c e) rest) was refl opens
   open-stepped (Next (If e a b) rest) was opens = same-stepped (Next (If e a b) rest) was refl opens
   open-stepped (Next (Task d b) rest) was opens = same-stepped (Next (Task d b) rest) was refl opens
-  open-stepped (Next Wait rest) was opens = same-stepped (Next Wait rest) was refl opens
+  open-stepped (Next (Wait w) rest) was opens = same-stepped (Next (Wait w) rest) was refl opens
   open-stepped (Next (Group op cs b) rest) was (uses, named, is) =
       subst (AreOpen (updated rs i (stepped taken number))) (sym is)
       (open-entered rs gs i (stepped taken number) (record { group = number; op = op; cells = cs; behind = rest }) uses within (ap (λ b. (stepped_from taken number b (at rs i)).groups) was) below named are)

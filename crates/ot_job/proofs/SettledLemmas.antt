@@ -17,7 +17,7 @@ step-stopped taken g (Next (Set c e) rest) r is = refl
 step-stopped taken g (Next (Fold op c e) rest) r is = refl
 step-stopped taken g (Next (If e a b) rest) r is = refl
 step-stopped taken g (Next (Task d b) rest) r is = refl
-step-stopped taken g (Next Wait rest) r is = refl
+step-stopped taken g (Next (Wait w) rest) r is = refl
 step-stopped taken g (Next (Group op cs b) rest) r is = refl
 
 pub changed : (rs : List Region) (i : ℕ) (f F : Region → Region) → whole (f (at rs i)) ≡ F (whole (at rs i)) → wholes (updated rs i f) ≡ updated (wholes rs) i F

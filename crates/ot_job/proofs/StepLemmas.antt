@@ -22,7 +22,7 @@ stepped-parent taken g r = by r.rest
     by (Next (Fold op c e) rest) = refl
     by (Next (If e a b) rest) = refl
     by (Next (Fork d b) rest) = refl
-    by (Next Wait rest) = refl
+    by (Next (Wait w) rest) = refl
     by (Next (Group op cs b) rest) = refl
 
 pub stepped-child : (taken : Bool) (g : ℕ) (r : Region) → (stepped taken g r).child ≡ r.child
@@ -34,7 +34,7 @@ stepped-child taken g r = by r.rest
     by (Next (Fold op c e) rest) = refl
     by (Next (If e a b) rest) = refl
     by (Next (Fork d b) rest) = refl
-    by (Next Wait rest) = refl
+    by (Next (Wait w) rest) = refl
     by (Next (Group op cs b) rest) = refl
 
 pub stepped-children : (taken : Bool) (g : ℕ) (r : Region) → (stepped taken g r).children ≡ r.children
@@ -46,7 +46,7 @@ stepped-children taken g r = by r.rest
     by (Next (Fold op c e) rest) = refl
     by (Next (If e a b) rest) = refl
     by (Next (Fork d b) rest) = refl
-    by (Next Wait rest) = refl
+    by (Next (Wait w) rest) = refl
     by (Next (Group op cs b) rest) = refl
 
 -- ---- the task that comes next
@@ -62,7 +62,7 @@ none-next (Next (Set c e) rest) h = refl
 none-next (Next (Fold op c e) rest) h = refl
 none-next (Next (If e a b) rest) h = refl
 none-next (Next (Fork d b) rest) h = absurd (omega (arith, h))
-none-next (Next Wait rest) h = refl
+none-next (Next (Wait w) rest) h = refl
 none-next (Next (Group op cs b) rest) h = refl
 
 some-next : (b : Body) → (tasks_next b ≡ 0 → ⊥) → (child : List Use × Body) × (next_task b ≡ Some child)
@@ -71,7 +71,7 @@ some-next (Next (Set c e) rest) h = absurd (h refl)
 some-next (Next (Fold op c e) rest) h = absurd (h refl)
 some-next (Next (If e a b) rest) h = absurd (h refl)
 some-next (Next (Fork d b) rest) h = ((d, b), refl)
-some-next (Next Wait rest) h = absurd (h refl)
+some-next (Next (Wait w) rest) h = absurd (h refl)
 some-next (Next (Group op cs b) rest) h = absurd (h refl)
 
 -- where no task comes next, none is created
@@ -135,7 +135,7 @@ stepped-running taken g r = by r.rest
     by (Next (Fold op c e) rest) = refl
     by (Next (If e a b) rest) = refl
     by (Next (Fork d b) rest) = refl
-    by (Next Wait rest) = refl
+    by (Next (Wait w) rest) = refl
     by (Next (Group op cs b) rest) = refl
 
 abbrev told_if : Bool → ℕ → List Region → List Region

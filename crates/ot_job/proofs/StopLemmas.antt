@@ -1,5 +1,6 @@
 -- A piece comes back: its assigns are behind the place.
 use Rattle.std.proofs.Common.{◌≡◌, ℕ, ◌<◌, ◌≤◌, true, false, not, ◌&&◌, List, length, refl, sym, ap, subst, ◌∙◌, ◌⊎◌, inl, inr, true≢false}
+use Rattle.std.specs.Prelude.{None}
 use Rattle.std.specs.Prelude.{Some, slice_get}
 use Rattle.std.specs.List.{list_any}
 use Rattle.std.proofs.lemmas.Bool.{cases_lt}
@@ -34,7 +35,7 @@ fine-piece own kids (Next (Set c e) more) rest gs only f = fine-piece own kids m
 fine-piece own kids (Next (Fold op c e) more) rest gs only f = fine-piece own kids more rest gs only (at-fold own kids op c e (append more rest) gs f)
 fine-piece own kids (Next (If e a b) more) rest gs only f = absurd only
 fine-piece own kids (Next (Task d b) more) rest gs only f = absurd only
-fine-piece own kids (Next Wait more) rest gs only f = absurd only
+fine-piece own kids (Next (Wait w) more) rest gs only f = absurd only
 fine-piece own kids (Next (Group op cs b) more) rest gs only f = absurd only
 
 touch-front : (P : Use → Type 0) (a b : Body) → EachTouch P (append a b) → EachTouch P a
@@ -80,17 +81,17 @@ module _ (r : Region) (p : IsPlaced r) (piece rest : Body) (was : r.rest ≡ app
       (fine-innermost r.own (unawaited r.waiting r.children) (append piece rest) r.groups (subst (λ b. IsFineAt r.own (unawaited r.waiting r.children) b r.groups) was p.fine))
 
 -- touches that are no offence agree with all that an unfinished child may do
-harmless-free : (r : Region) (piece : Body) → r.waiting ≡ false → EachTouch (IsHarmless r.own (opened r.groups) (children_of (unawaited r.waiting r.children))) piece
+harmless-free : (r : Region) (piece : Body) → r.waiting ≡ None → EachTouch (IsHarmless r.own (opened r.groups) (children_of (unawaited r.waiting r.children))) piece
     → (k : ℕ) (s : Sibling) → slice_get r.children k ≡ Some s → s.finished ≡ false → EachTouch (λ u. (v : Use) → allows (Some s.uses) v ≡ true → Agree u v) piece
 harmless-free r piece calm safe k s there alive =
     touch-weaker (IsHarmless r.own (opened r.groups) (children_of (unawaited r.waiting r.children))) (λ u. (v : Use) → allows (Some s.uses) v ≡ true → Agree u v) piece
     (λ u safe v may. clash_free u v s.uses
-    (kid-none r.children (λ x. clashes u x.uses) k s (subst (λ w. (not w && list_any (λ x. is_unfinished x && clashes u x.uses) r.children) ≡ false) calm (safe ConflictsWithChild)) there alive) may) safe
+    (kid-none r.children (λ x. clashes u x.uses) k s (subst (λ w. unawaited w r.children (λ x. clashes u x.uses) ≡ false) calm (safe ConflictsWithChild)) there alive) may) safe
 
 -- a piece whose touches are no offence may run
 module _ (ws : List Region) (s : IsSound ws) (i : ℕ) (piece : Body) (alive : (at ws i).ended ≡ false) (own : EachTouch (λ u. allows (at ws i).own u ≡ true) piece)
     (safe : EachTouch (IsHarmless (at ws i).own (opened (at ws i).groups) (children_of (unawaited (at ws i).waiting (at ws i).children))) piece)
-    (calm : (at ws i).waiting ≡ false) (begun : IsBegun ws i) where
+    (calm : (at ws i).waiting ≡ None) (begun : IsBegun ws i) where
   pub may-run-by : MayRun (parent_of ws) (may_at ws) (ended_at ws) (IsBegun ws) i piece
   may-run-by = record {
     started = begun;
@@ -115,13 +116,13 @@ module _ (ws : List Region) (s : IsSound ws) (i : ℕ) (h : i < length ws) (piec
       (placed-piece (at ws i) (s.placed i) piece rest was only alive) (s.entered i)
 
   -- the piece may run out of order
-  pub may-run : (lens : List ℕ) → NamedIn lens (at ws i).rest → (at ws i).waiting ≡ false → IsBegun ws i → MayRun (parent_of ws) (may_at ws) (ended_at ws) (IsBegun ws) i piece
+  pub may-run : (lens : List ℕ) → NamedIn lens (at ws i).rest → (at ws i).waiting ≡ None → IsBegun ws i → MayRun (parent_of ws) (may_at ws) (ended_at ws) (IsBegun ws) i piece
   may-run lens named calm begun =
       may-run-by ws s i piece alive (piece-own (at ws i) (s.placed i) piece rest was only alive) (piece-harmless (at ws i) (s.placed i) piece rest was only alive lens named) calm begun
 
 -- a condition may be evaluated out of order
 module _ (ws : List Region) (s : IsSound ws) (i : ℕ) (e : E) (a b rest : Body) (was : (at ws i).rest ≡ Next (If e a b) rest) (alive : (at ws i).ended ≡ false) where
-  pub may-test : (lens : List ℕ) → NamedIn lens (at ws i).rest → (at ws i).waiting ≡ false → IsBegun ws i
+  pub may-test : (lens : List ℕ) → NamedIn lens (at ws i).rest → (at ws i).waiting ≡ None → IsBegun ws i
       → MayRun (parent_of ws) (may_at ws) (ended_at ws) (IsBegun ws) i (Next (If e End End) End)
   may-test lens named calm begun = may-run-by ws s i (Next (If e End End) End) alive own safe calm begun
     where

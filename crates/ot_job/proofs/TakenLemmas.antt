@@ -47,7 +47,7 @@ module _ (j : Live) (o : IsOnCourse j) (i : ℕ) (lent : List LentCell) (are : A
   readable (Next (Fold op c e) rest) n modes = tt
   readable (Next (If e a b) rest) n modes = piece-reads (lengths j.cells) r.own cells (uses_of lent) (leading ahead) e n.0.0 modes
   readable (Next (Task d b) rest) n modes = tt
-  readable (Next Wait rest) n modes = tt
+  readable (Next (Wait w) rest) n modes = tt
   readable (Next (Group op cs b) rest) n modes = tt
 
   pub claim-can : CanRun (leading ahead) (test_of (behind ahead)) lent

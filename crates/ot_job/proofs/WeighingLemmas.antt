@@ -27,7 +27,7 @@ weight-after (Next (Set c e) rest) = omega (arith, weight-after rest)
 weight-after (Next (Fold op c e) rest) = omega (arith, weight-after rest)
 weight-after (Next (If e a b) rest) = refl
 weight-after (Next (Task d b) rest) = refl
-weight-after (Next Wait rest) = refl
+weight-after (Next (Wait w) rest) = refl
 weight-after (Next (Group op cs b) rest) = refl
 
 -- at most twice the statements
@@ -37,7 +37,7 @@ weight-few (Next (Set c e) rest) = omega (arith, weight-few rest)
 weight-few (Next (Fold op c e) rest) = omega (arith, weight-few rest)
 weight-few (Next (If e a b) rest) = omega (arith, weight-few rest, weight-few a, weight-few b)
 weight-few (Next (Task d b) rest) = omega (arith, weight-few rest, weight-few b)
-weight-few (Next Wait rest) = omega (arith, weight-few rest)
+weight-few (Next (Wait w) rest) = omega (arith, weight-few rest)
 weight-few (Next (Group op cs b) rest) = omega (arith, weight-few rest, weight-few b)
 
 left-≤ : (out : Bool) (rest : Body) (os : List Open) → weight_left out rest os ≤ weight rest + weight_behind os
@@ -123,7 +123,7 @@ step-lighter taken g (Next (If e a b) rest) gs r was groups alive stops goes = b
     by true = omega (arith, stopped-weight (record r { rest = append a rest }) alive, weight-append a rest, ap weight_behind groups)
     by false = omega (arith, stopped-weight (record r { rest = append b rest }) alive, weight-append b rest, ap weight_behind groups)
 step-lighter taken g (Next (Task d b) rest) gs r was groups alive stops goes = omega (arith, stopped-weight (record r { rest = rest }) alive, ap weight_behind groups)
-step-lighter taken g (Next Wait rest) gs r was groups alive stops goes = omega (arith, stopped-weight (record r { rest = rest; waiting = true }) alive, ap weight_behind groups)
+step-lighter taken g (Next (Wait w) rest) gs r was groups alive stops goes = omega (arith, stopped-weight (record r { rest = rest; waiting = Some w }) alive, ap weight_behind groups)
 step-lighter taken g (Next (Group op cs b) rest) gs r was groups alive stops goes =
     omega (arith, stopped-weight (record r { rest = b; groups = record { group = g; op = op; cells = cs; behind = rest } ∷ r.groups }) alive, ap weight_behind groups)
 

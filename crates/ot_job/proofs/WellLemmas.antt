@@ -60,7 +60,7 @@ leading-assigns (Next (Set c e) rest) = leading-assigns rest
 leading-assigns (Next (Fold op c e) rest) = leading-assigns rest
 leading-assigns (Next (If e a b) rest) = tt
 leading-assigns (Next (Task d b) rest) = tt
-leading-assigns (Next Wait rest) = tt
+leading-assigns (Next (Wait w) rest) = tt
 leading-assigns (Next (Group op cs b) rest) = tt
 
 leading-behind : (b : Body) → leading (behind b) ≡ End
@@ -69,7 +69,7 @@ leading-behind (Next (Set c e) rest) = leading-behind rest
 leading-behind (Next (Fold op c e) rest) = leading-behind rest
 leading-behind (Next (If e a b) rest) = refl
 leading-behind (Next (Task d b) rest) = refl
-leading-behind (Next Wait rest) = refl
+leading-behind (Next (Wait w) rest) = refl
 leading-behind (Next (Group op cs b) rest) = refl
 
 -- passing a group's end leaves what is left
@@ -305,7 +305,7 @@ piece-named lens (Next (Set c e) rest) only n = all-append lens _ _ (all-append 
 piece-named lens (Next (Fold op c e) rest) only n = all-append lens _ _ (all-append lens _ _ (reads-in lens e n.0.1) (n.0.0, tt)) (piece-named lens rest only n.1)
 piece-named lens (Next (If e a b) rest) only n = absurd only
 piece-named lens (Next (Task d b) rest) only n = absurd only
-piece-named lens (Next Wait rest) only n = absurd only
+piece-named lens (Next (Wait w) rest) only n = absurd only
 piece-named lens (Next (Group op cs b) rest) only n = absurd only
 
 test-named : (lens : List ℕ) (b : Body) → NamedIn lens b → AllIn lens (test_touches (test_of b))
@@ -314,7 +314,7 @@ test-named lens (Next (Set c e) rest) n = tt
 test-named lens (Next (Fold op c e) rest) n = tt
 test-named lens (Next (If e a b) rest) n = reads-in lens e n.0.0
 test-named lens (Next (Task d b) rest) n = tt
-test-named lens (Next Wait rest) n = tt
+test-named lens (Next (Wait w) rest) n = tt
 test-named lens (Next (Group op cs b) rest) n = tt
 
 pub settle-may : (j : Live) → IsWell j → IsOnCourse j → MaySettle j

@@ -18,14 +18,14 @@ whole-again (Next (Set c e) rest) = ap (Next (Set c e)) (whole-again rest)
 whole-again (Next (Fold op c e) rest) = ap (Next (Fold op c e)) (whole-again rest)
 whole-again (Next (If e a b) rest) = refl
 whole-again (Next (Task d b) rest) = refl
-whole-again (Next Wait rest) = refl
+whole-again (Next (Wait w) rest) = refl
 whole-again (Next (Group op cs b) rest) = refl
 
 -- the region that begins a piece goes on as a whole
 whole-begun : (worker : ℕ) (lease : Lease) (r : Region) → r.running ≡ None → whole (begun worker lease r) ≡ awake (whole r)
 whole-begun worker lease r idle =
     let s = passed r.rest r.groups in
-    ap (λ b. record r { rest = b; groups = s.groups; waiting = false; running = None }) (whole-again s.rest)
+    ap (λ b. record r { rest = b; groups = s.groups; waiting = None; running = None }) (whole-again s.rest)
     ∙ ap (λ o. awake (record r { rest = append (assigns_out o) r.rest; running = None })) (sym idle)
 
 pub wholes-begun : (worker : ℕ) (lease : Lease) (rs : List Region) (i : ℕ) → (at rs i).running ≡ None → wholes (updated rs i (begun worker lease)) ≡ updated (wholes rs) i awake

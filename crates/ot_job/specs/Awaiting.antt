@@ -4,9 +4,11 @@ use Rattle.std.specs.List.{list_any}
 use Rattle.ot_model.specs.Tree.{Body}
 use Rattle.ot_depend.specs.Siblings.{Sibling, is_unfinished, is_in}
 use Rattle.ot_check.specs.Offences.{Declared, Openings}
-use Rattle.ot_check.specs.walk.Walk.{Children, anyone, nothing_open, with_group, through, after}
+use Rattle.ot_check.specs.walk.Walk.{Children, anyone, nothing_open, with_group, through, behind}
 use Rattle.ot_check.specs.walk.Fine.{IsFine}
 use Rattle.ot_task.specs.Place.{Open}
+use Rattle.ot_task.specs.Regions.{Waiting}
+use Rattle.ot_task.specs.Waits.{is_awaited_at}
 
 -- whether an open group by an operation names a cell
 abbrev pub opened : List Open → Openings
@@ -23,18 +25,19 @@ children_of kids test = kids (λ s. test s.uses)
 
 -- those that may be unawaited behind the end of a group of whose body this is left
 abbrev pub kids_behind : Kids → Body → ℕ → Kids
-kids_behind kids rest g test = through rest && kids (λ s. not (is_in g s) && test s)
+kids_behind kids rest g test = kids (λ s. through s.uses rest && (not (is_in g s) && test s))
 
 -- nothing that is left is an offence, where these children may be unawaited
 abbrev pub IsFineAt : Declared → Kids → Body → List Open → Type 0
 IsFineAt own kids rest [] = IsFine own nothing_open (children_of kids) rest
 IsFineAt own kids rest (o ∷ os) = IsFine own (opened (o ∷ os)) (children_of kids) rest × IsFineAt own (kids_behind kids rest o.group) o.behind os
 
--- the children that have not finished; a task that has executed a wait goes on only once there is none
-abbrev pub unawaited : Bool → List Sibling → Kids
-unawaited waiting siblings test = not waiting && list_any (λ s. is_unfinished s && test s) siblings
+-- the children that have not finished, but for those that the wait awaits at which the task stands: it goes on only once
+-- none of these is left
+abbrev pub unawaited : Waiting → List Sibling → Kids
+unawaited waiting siblings test = list_any (λ s. is_unfinished s && (not (is_awaited_at waiting s) && test s)) siblings
 
 -- the body ends with no child unawaited, where these children may be unawaited now
 abbrev pub AwaitsAll : Kids → Body → List Open → Type 0
-AwaitsAll kids rest [] = after anyone (children_of kids anyone) rest ≡ false
+AwaitsAll kids rest [] = behind (children_of kids) rest anyone ≡ false
 AwaitsAll kids rest (o ∷ os) = AwaitsAll (kids_behind kids rest o.group) o.behind os

@@ -8,7 +8,7 @@ use Rattle.ot_task.specs.Regions.{Region}
 
 -- no region
 abbrev pub gone : Region
-gone = record { parent = 0; child = 0; own = None; rest = End; groups = []; children = []; waiting = false; ended = true; running = None }
+gone = record { parent = 0; child = 0; own = None; rest = End; groups = []; children = []; waiting = None; ended = true; running = None }
 
 abbrev pub at : List Region → ℕ → Region
 at [] i = gone

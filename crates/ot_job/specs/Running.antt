@@ -1,5 +1,5 @@
 -- What holds of a region with a piece out.
-use Rattle.std.specs.Prelude.{◌≡◌, false}
+use Rattle.std.specs.Prelude.{◌≡◌, false, None}
 use Rattle.ot_model.specs.Tree.{End}
 use Rattle.ot_model.specs.Uses.{AreInOrder, mode_in}
 use Rattle.ot_model.specs.declared.expr.Cell.{Cell}
@@ -14,5 +14,5 @@ pub record RunsWell (r : Region) (run : Run) : Type 0 where
   pub ordered : AreInOrder run.lease.uses
   pub assigns : AreAssigns run.assigns
   pub stops : leading r.rest ≡ End
-  pub calm : r.waiting ≡ false
+  pub calm : r.waiting ≡ None
   pub alive : r.ended ≡ false
