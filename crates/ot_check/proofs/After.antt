@@ -106,7 +106,7 @@ kept-test test path d h = and_left (test d) (not (is_awaited d path)) h
 kept-none : (test : List Use → Bool) (path : List Step) (d : List Use) → kept test path d ≡ true → is_awaited d path ≡ false
 kept-none test path d h = not_true (is_awaited d path) (and_right (test d) (not (is_awaited d path)) h)
 
-pub kept-is : (test : List Use → Bool) (path : List Step) (d : List Use) → test d ≡ true → is_awaited d path ≡ false → kept test path d ≡ true
+kept-is : (test : List Use → Bool) (path : List Step) (d : List Use) → test d ≡ true → is_awaited d path ≡ false → kept test path d ≡ true
 kept-is test path d h none = and_true (test d) (not (is_awaited d path)) h (true_not (is_awaited d path) none)
 
 -- the children that may be unawaited behind a path, where these may be before it
@@ -114,10 +114,14 @@ pub left_by : Children → List Step → Children
 left_by before path test = before (kept test path) || some_unawaited test path
 
 -- those from before, or those made on it
-pub Left : Children → List Step → (List Use → Bool) → Type 0
+Left : Children → List Step → (List Use → Bool) → Type 0
 Left before path test = (before (kept test path) ≡ true) ⊎ (some_unawaited test path ≡ true)
 
-pub left-parts : (before : Children) (path : List Step) (test : List Use → Bool) → left_by before path test ≡ true → Left before path test
+pub left-is : (before : Children) (path : List Step) (test : List Use → Bool) → left_by before path test ≡ (before (kept test path) || some_unawaited test path)
+unfolding left_by
+left-is before path test = refl
+
+left-parts : (before : Children) (path : List Step) (test : List Use → Bool) → left_by before path test ≡ true → Left before path test
 unfolding left_by Left
 left-parts before path test h = or_true (before (kept test path)) (some_unawaited test path) h
 
@@ -136,6 +140,7 @@ listed-left before path listed f h = elim (left-parts before path f h) [
 
 mutual
   unfolding IsListed
+
   pub listed-behind_one : (before : Children) (x : S) → IsListed before → IsListed (behind_one before x)
   listed-behind_one before (Set c e) listed f h = listed f h
   listed-behind_one before (Fold o c e) listed f h = listed f h
@@ -161,7 +166,6 @@ mutual
 -- ---- paths in two parts
 
 module _ (before : Children) (listed : IsListed before) where
-
   more : (f g : List Use → Bool) → ((d : List Use) → f d ≡ true → g d ≡ true) → before f ≡ true → before g ≡ true
   more = listed-more before listed
 
@@ -218,6 +222,7 @@ touched-none test k uses = ap (some_unawaited test) (sym (append-nil (touched k 
 -- ---- what is unawaited on a path is carried by the walk
 mutual
   unfolding Left
+
   pub behind-from_one : (k : ℕ) (x : S) (path : List Step) → PassesOne k x path → (p q : Children) → IsListed p → IsListed q
       → ((test : List Use → Bool) → p test ≡ true → q test ≡ true) → (test : List Use → Bool) → left_by p path test ≡ true → behind_one q x test ≡ true
   behind-from_one k (Set c e) path is p q lp lq more test h = more test (left-kept p lp test path (ap (some_unawaited test) is ∙ touched-none test k (touches (Set c e))) h)
@@ -235,12 +240,12 @@ mutual
   behind-from_one k (Wait w) path is p q lp lq more test h =
       more (λ d. test d && not (awaits w d))
       (listed-more p lp (kept test path) (λ d. test d && not (awaits w d)) (λ d on. and_true (test d) (not (awaits w d)) (kept-test test path d on)
-          (true_not (awaits w d) (sym (or_none (awaits w d)) ∙ ap (is_awaited d) (sym is) ∙ kept-none test path d on)))
+      (true_not (awaits w d) (sym (or_none (awaits w d)) ∙ ap (is_awaited d) (sym is) ∙ kept-none test path d on)))
       (left-old p lp test path (ap (some_unawaited test) is) h))
   behind-from_one k (Group o cs b) path (inside, is, g) p q lp lq more test h =
       more (λ d. test d && through d b)
       (listed-more p lp (kept test path) (λ d. test d && through d b) (λ d on. and_true (test d) (through d b) (kept-test test path d on)
-          (through-from d (k + 1) b inside g (sym (awaited-group d k inside) ∙ ap (is_awaited d) (sym is) ∙ kept-none test path d on)))
+      (through-from d (k + 1) b inside g (sym (awaited-group d k inside) ∙ ap (is_awaited d) (sym is) ∙ kept-none test path d on)))
       (left-old p lp test path (ap (some_unawaited test) is ∙ unawaited-group test k o cs b inside g) h))
 
   pub behind-from : (k : ℕ) (b : Body) (path : List Step) → Passes k b path → (p q : Children) → IsListed p → IsListed q
@@ -254,6 +259,7 @@ mutual
 -- ---- what the walk carries is unawaited on some path
 mutual
   unfolding Left IsListed
+
   pub behind-to_one : (k : ℕ) (x : S) (p : Children) → IsListed p → (test : List Use → Bool) → behind_one p x test ≡ true
       → (path : List Step) × PassesOne k x path × (left_by p path test ≡ true)
   behind-to_one k (Set c e) p lp test h = (_, refl, left-all p lp test (touched k (touches (Set c e))) (λ d. touched-awaited d k (touches (Set c e))) h)
@@ -266,15 +272,21 @@ mutual
             (_, (q.0, refl, inr q.1), left-same p lp test q.0 (touched k (touches (If e a b)) ++ q.0) (λ d. sym (awaited-inside d k (touches (If e a b)) q.0)) (sym (touched-unawaited test k (touches (If e a b)) q.0)) q.2)
       ]
   behind-to_one k (Task uses b) p lp test h =
-      let path : List Step = At k (Create uses) ∷ [] in
-      (path, refl, left-from p path test (elim (or_true (p test) (test uses) h) [
-        | inl old ↦ inl (listed-more p lp test (kept test path) (λ d is. kept-is test path d is refl) old)
-        | inr new ↦ inr (true_or (test uses) false new)
-      ]))
+      let path : List Step = At k (Create uses) ∷ [] in (
+        path,
+        refl,
+        left-from p path test (elim (or_true (p test) (test uses) h) [
+          | inl old ↦ inl (listed-more p lp test (kept test path) (λ d is. kept-is test path d is refl) old)
+          | inr new ↦ inr (true_or (test uses) false new)
+        ]),
+      )
   behind-to_one k (Wait w) p lp test h =
-      let path : List Step = At k (Await w) ∷ [] in
-      (path, refl, left-from p path test (inl (listed-more p lp (λ d. test d && not (awaits w d)) (kept test path)
-      (λ d on. kept-is test path d (and_left (test d) (not (awaits w d)) on) (or_none (awaits w d) ∙ not_true (awaits w d) (and_right (test d) (not (awaits w d)) on))) h)))
+      let path : List Step = At k (Await w) ∷ [] in (
+        path,
+        refl,
+        left-from p path test (inl (listed-more p lp (λ d. test d && not (awaits w d)) (kept test path)
+            (λ d on. kept-is test path d (and_left (test d) (not (awaits w d)) on) (or_none (awaits w d) ∙ not_true (awaits w d) (and_right (test d) (not (awaits w d)) on))) h)),
+      )
   behind-to_one k (Group o cs b) p lp test h =
       let d = lp (λ d. test d && through d b) h in
       let q = through-to d.0 (k + 1) b (and_right (test d.0) (through d.0 b) d.1) in

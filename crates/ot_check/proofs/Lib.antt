@@ -9,10 +9,13 @@ pub mod SameLemmas
 pub mod EqualLemmas
 pub mod GridLemmas
 pub mod NumberLemmas
+pub mod WordLemmas
 pub mod DeclaredLemmas
 pub mod BlockLemmas
 pub mod ClashLemmas
+pub mod AwaitedLemmas
 pub mod RowLemmas
+pub mod SetLemmas
 pub mod TaskLemmas
 pub mod RegionLemmas
 pub mod StandingLemmas

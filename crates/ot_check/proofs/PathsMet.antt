@@ -1,5 +1,5 @@
 -- What the walk meets stands on some path.
-use Rattle.std.proofs.Common.{◌≡◌, ℕ, ◌+◌, ◌++◌, Bool, true, false, not, ◌&&◌, ◌||◌, List, [], ◌∷◌, map, refl, sym, ap, subst, inl, inr, ◌∙◌, append_assoc, append-nil}
+use Rattle.std.proofs.Common.{◌≡◌, ℕ, ◌+◌, ◌++◌, Bool, true, false, ◌&&◌, ◌||◌, List, [], ◌∷◌, map, refl, sym, ap, subst, inl, inr, ◌∙◌, append_assoc, append-nil}
 use Rattle.std.specs.Prelude.{◌⊎◌, Option, Some, None}
 use Rattle.std.specs.List.{list_any}
 use Rattle.ot_model.specs.Tree.{S, Set, Fold, If, Task, Wait, Group, Body, End, Next}
@@ -14,10 +14,10 @@ use Rattle.ot_check.specs.walk.Walk.{Children, may_break, anyone, nobody, nothin
 use Rattle.ot_check.proofs.Steps.{some_unawaited, passes_one-closed, unawaited-append}
 use Rattle.ot_check.specs.declared.fault.Offence.{Offence}
 use Rattle.ot_check.specs.declared.fault.Offence.TheVariants.{NotDeclared, ChildBeyond, ReductionMisuse, ConflictsWithChild, EndsWithChildren}
-use Rattle.ot_check.proofs.After.{IsListed, listed-nobody, listed-behind_one, kept, left_by, behind-to, behind-to_one, some_path, some_path_one}
+use Rattle.ot_check.proofs.After.{IsListed, listed-nobody, listed-behind_one, kept, left_by, left-is, behind-to, behind-to_one, some_path, some_path_one}
 use Rattle.ot_check.proofs.Meeting.{Meets, MeetsOne, meets-first}
 use Rattle.ot_check.proofs.PathsTold.{may_break-breaks, may_break-more, there_someone, BreaksBehind, quiet-open, quiet-unawaited, entered-open, entered-unawaited, passed-open, meets-on_path, meets-in_tasks}
-use Rattle.ot_check.proofs.Bits.{or_true, true_or, or_false, or_right, and_left, and_right, and_true}
+use Rattle.ot_check.proofs.Bits.{or_true, true_or, or_false, or_right}
 
 -- ---- many prefixes
 
@@ -97,19 +97,18 @@ reaches-passed {I} prefix opened children k x h = record {
     found : (test : List Use → Bool) → ((path : List Step) × PassesOne k x path × (left_by children path test ≡ true))
         → (f : Further I k x) × (some_unawaited test (further prefix k x f) ≡ true)
     found test p =
-        elim (or_true (children (kept test p.0)) (some_unawaited test p.0) p.2) [
+        elim (or_true (children (kept test p.0)) (some_unawaited test p.0) (sym (left-is children p.0 test) ∙ p.2)) [
           | inl old ↦
               let q = h.unawaited (kept test p.0) old in (
                 (q.0, (p.0, p.1)),
                 unawaited-append test (prefix q.0) p.0 (passes_one-closed k x p.0 p.1)
                     ∙ true_or (some_unawaited (kept test p.0) (prefix q.0)) (some_unawaited test p.0) q.1,
               )
-          | inr made ↦
-              (
-                (h.someone, (p.0, p.1)),
-                unawaited-append test (prefix h.someone) p.0 (passes_one-closed k x p.0 p.1)
-                    ∙ or_right (some_unawaited (kept test p.0) (prefix h.someone)) (some_unawaited test p.0) made,
-              )
+          | inr made ↦ (
+            (h.someone, (p.0, p.1)),
+            unawaited-append test (prefix h.someone) p.0 (passes_one-closed k x p.0 p.1)
+                ∙ or_right (some_unawaited (kept test p.0) (prefix h.someone)) (some_unawaited test p.0) made,
+          )
         ]
 
 -- ---- an offence on a path, behind a prefix
@@ -174,7 +173,7 @@ ends-are d b k place NotDeclared here h = cc
 ends-are d b k place ChildBeyond here h = cc
 ends-are d b k place ReductionMisuse here h = cc
 ends-are d b k place ConflictsWithChild here h = cc
-ends-are d b k place EndsWithChildren here h = let p = behind-to (k + 1) b nobody listed-nobody anyone h in inl (here, refl, (p.0, p.1, there_someone (unawaited p.0) p.2))
+ends-are d b k place EndsWithChildren here h = let p = behind-to (k + 1) b nobody listed-nobody anyone h in inl (here, refl, (p.0, p.1, there_someone (unawaited p.0) (sym (left-is nobody p.0 anyone) ∙ p.2)))
 
 -- behind nothing it stands on the path itself
 stands-on_path : (k : ℕ) (b : Body) (own : Declared) (place : ℕ) (offence : Offence) → Stands [] (Passes k b) own place offence → OnPath k b own place offence

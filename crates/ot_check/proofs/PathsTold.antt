@@ -1,5 +1,5 @@
 -- What stands on some path is met by the walk.
-use Rattle.std.proofs.Common.{◌≡◌, ◌≢◌, ℕ, ◌+◌, ◌++◌, Bool, true, false, not, ◌&&◌, ◌||◌, List, [], ◌∷◌, map, refl, sym, ap, subst, inl, inr, ◌∙◌, append_assoc, append-nil}
+use Rattle.std.proofs.Common.{◌≡◌, ◌≢◌, ℕ, ◌+◌, ◌++◌, Bool, true, not, ◌&&◌, ◌||◌, List, [], ◌∷◌, map, refl, sym, ap, subst, inl, inr, ◌∙◌, append_assoc, append-nil}
 use Rattle.std.specs.Prelude.{◌⊎◌, Option, Some}
 use Rattle.ot_model.specs.Uses.{same_fold}
 use Rattle.std.specs.List.{list_any}
@@ -11,13 +11,13 @@ use Rattle.ot_model.specs.declared.stmt.Mode.{Mode}
 use Rattle.ot_model.specs.declared.stmt.Mode.TheVariants.{Reads, Writes, Folds}
 use Rattle.ot_model.specs.declared.stmt.Use.{Use}
 use Rattle.ot_check.specs.Paths.{Mark, Touch, Create, Await, Enter, Leave, Step, At, touched, touches, use_as, PassesOne, Passes}
-use Rattle.ot_check.specs.Offences.{Declared, Openings, folds_to, allows, breaks, misfits, misfits_as, has_cell, is_awaited, unawaited, is_open, OnPath, InTasks, InTasksOfOne}
+use Rattle.ot_check.specs.Offences.{Declared, Openings, folds_to, allows, breaks, misfits, misfits_as, has_cell, unawaited, is_open, OnPath, InTasks, InTasksOfOne}
 use Rattle.ot_check.specs.walk.Walk.{Children, may_break, anyone, nobody, nothing_open, behind_one, with_group, is_offence, marks, behind}
 use Rattle.ot_check.proofs.Steps.{some_unawaited, closed_of, touched-balanced, touched-open, touched-unawaited, touched-awaited, passes_one-closed, passes_one-open, unawaited-append, open-append}
 use Rattle.ot_check.specs.declared.fault.Offence.{Offence}
 use Rattle.ot_check.specs.declared.fault.Offence.TheVariants.{ReductionMisuse, ConflictsWithChild, EndsWithChildren}
 use Rattle.ot_check.proofs.OpeningLemmas.{opened-same}
-use Rattle.ot_check.proofs.After.{IsListed, listed-list, listed-nobody, listed-behind_one, left_by, behind-from, behind-from_one}
+use Rattle.ot_check.proofs.After.{IsListed, listed-list, listed-nobody, listed-behind_one, left-is, behind-from, behind-from_one}
 use Rattle.ot_check.proofs.Meeting.{Meets, MeetsOne}
 use Rattle.ot_check.proofs.Bits.{true_or, or_right, or_none, and_one, any-same, any-more}
 
@@ -133,7 +133,7 @@ holds-passed : (prefix : List Step) (opened : Openings) (children : Children) (k
 holds-passed prefix opened children k x one passes h = record {
   groups = λ o c. passed-open o c prefix k x one passes ∙ h.groups o c;
   unawaited = λ test is. behind-from_one k x one passes (λ test. some_unawaited test prefix) children (listed-list (unawaited prefix)) h.listed h.unawaited test
-      (sym (unawaited-append test prefix one (passes_one-closed k x one passes)) ∙ is);
+      (left-is (λ test. some_unawaited test prefix) one test ∙ sym (unawaited-append test prefix one (passes_one-closed k x one passes)) ∙ is);
   listed = listed-behind_one children x h.listed;
 }
 
@@ -296,7 +296,8 @@ mutual
   meets-in_tasks_one own opened children k (If e a b) place offence (inr h) = inr (inr (meets-in_tasks own opened children (k + 1 + size a) b place offence h))
   meets-in_tasks_one own opened children k (Task d b) place offence (inl (here, is, left)) =
       let ends : behind nobody b anyone ≡ true =
-      behind-from (k + 1) b left.0 left.1 nobody nobody listed-nobody listed-nobody (λ test e. e) anyone (someone_there (unawaited left.0) left.2) in
+      behind-from (k + 1) b left.0 left.1 nobody nobody listed-nobody listed-nobody (λ test e. e) anyone
+      (left-is nobody left.0 anyone ∙ someone_there (unawaited left.0) left.2) in
       inl (here, subst (λ c. is_offence own opened children (Task d b) c ≡ true) (sym is) (or_right (list_any (λ m. may_break own opened children m EndsWithChildren) (marks (Task d b))) (behind nobody b anyone) ends))
   meets-in_tasks_one own opened children k (Task d b) place offence (inr (inl h)) = inr (meets-on_path (k + 1) b (Some d) place offence h)
   meets-in_tasks_one own opened children k (Task d b) place offence (inr (inr h)) = inr (meets-in_tasks (Some d) nothing_open nobody (k + 1) b place offence h)

@@ -1,51 +1,63 @@
 -- What the walk tells, from part to whole.
-use Rattle.std.proofs.Common.{◌≡◌, ℕ, sym, ap, subst, ◌∙◌, Err, Result, IsErrAnd}
-use Rattle.std.specs.Prelude.{Option, None, IsErr}
+use Rattle.std.proofs.Common.{◌≡◌, ℕ, ◌||◌, Bool, true, false, refl, sym, ap, subst, ◌∙◌}
+use Rattle.std.specs.Prelude.{Option, Some, None}
 use Rattle.std.specs.Option.{option_or}
-use Rattle.std.proofs.lemmas.Result.{err_from_is_err_and}
 use Rattle.ot_model.specs.Tree.{S, Body}
 use Rattle.ot_check.specs.Offences.{Declared, Openings, Offends, IsFirstOf}
-use Rattle.ot_check.specs.Codes.{TellsFirst}
-use Rattle.ot_check.specs.walk.Walk.{Children, nobody, nothing_open, first, first_one, first_inside, leading, is_offence, placed}
-use Rattle.ot_check.specs.walk.Told.{IsTold}
+use Rattle.ot_check.specs.walk.Walk.{Children, nobody, nothing_open, first, first_one, first_within, first_inside, leading, is_marked, is_offence, ends_with_children, ended, ending, placed}
 use Rattle.ot_check.specs.declared.fault.Offence.{Offence}
-use Rattle.ot_check.specs.declared.fault.CheckFault.{CheckFault}
-use Rattle.ot_check.specs.declared.fault.CheckFault.TheVariants as fault
+use Rattle.ot_check.specs.declared.fault.Offence.TheVariants.{NotDeclared, ChildBeyond, ReductionMisuse, ConflictsWithChild, EndsWithChildren}
+use Rattle.ot_check.proofs.Bits.{or_none}
+use Rattle.ot_check.proofs.OffenceLemmas.{ended-is, marked-unending, no_ends}
 use Rattle.ot_check.proofs.PathsMet.{first-is_first}
 
--- ---- two parts
+pub or-assoc : {A : Type 0} (a b c : Option A) → option_or (option_or a b) c ≡ option_or a (option_or b c)
+or-assoc None b c = refl
+or-assoc (Some x) b c = refl
 
-pub told-left : (f g : Option (ℕ × Offence)) (x : CheckFault) → IsTold {A = ℕ} f (Err x) → IsTold {A = ℕ} (option_or f g) (Err x)
-told-left f g (fault.Offence offence place) h = ap (λ f. option_or f g) h
-told-left f g fault.Memory h = h
+pub or-none : {A : Type 0} (a : Option A) → option_or a None ≡ a
+or-none None = refl
+or-none (Some x) = refl
 
-pub told-right : {A : Type 0} (f g : Option (ℕ × Offence)) (r : Result A CheckFault) → f ≡ None → IsTold g r → IsTold (option_or f g) r
-told-right f g r none h = subst (λ f. IsTold f r) (sym (ap (λ f. option_or f g) none)) h
+-- ---- a statement's own offences in two parts
 
--- a statement without an offence of its own
-pub told-inside : {A : Type 0} (own : Declared) (opened : Openings) (children : Children) (k : ℕ) (x y : S) (o : Option Offence) (r : Result A CheckFault)
-    → x ≡ y → o ≡ leading (is_offence own opened children x) → o ≡ None → IsTold (first_inside own opened children k y) r
-    → IsTold (first_one own opened children k x) r
-told-inside own opened children k x y o r same is none h =
-    told-right (placed k (leading (is_offence own opened children x))) (first_inside own opened children k x) r
-    (ap (placed k) (sym is ∙ none)) (subst (λ x. IsTold (first_inside own opened children k x) r) (sym same) h)
+-- that a body ends with children is told behind the others
+leading-parts : (k : ℕ) (holds own : Offence → Bool) (n b r c e : Bool) → own NotDeclared ≡ n → own ChildBeyond ≡ b → own ReductionMisuse ≡ r
+    → own ConflictsWithChild ≡ c → own EndsWithChildren ≡ false → holds NotDeclared ≡ n → holds ChildBeyond ≡ b → holds ReductionMisuse ≡ r
+    → holds ConflictsWithChild ≡ c → holds EndsWithChildren ≡ e → placed k (leading holds) ≡ option_or (placed k (leading own)) (placed k (ended e))
+leading-parts k holds own true b r c e on ob or oc oe hn hb hr hc he = rw (hn, on) refl
+leading-parts k holds own false true r c e on ob or oc oe hn hb hr hc he = rw (hn, on, hb, ob) refl
+leading-parts k holds own false false true c e on ob or oc oe hn hb hr hc he = rw (hn, on, hb, ob, hr, or) refl
+leading-parts k holds own false false false true e on ob or oc oe hn hb hr hc he = rw (hn, on, hb, ob, hr, or, hc, oc) refl
+leading-parts k holds own false false false false true on ob or oc oe hn hb hr hc he = rw (hn, on, hb, ob, hr, or, hc, oc, he, oe) refl
+leading-parts k holds own false false false false false on ob or oc oe hn hb hr hc he = rw (hn, on, hb, ob, hr, or, hc, oc, he, oe) refl
 
--- ---- what a `?` passes on
+pub leading-none : (holds : Offence → Bool) → holds NotDeclared ≡ false → holds ChildBeyond ≡ false → holds ReductionMisuse ≡ false
+    → holds ConflictsWithChild ≡ false → holds EndsWithChildren ≡ false → leading holds ≡ None
+leading-none holds hn hb hr hc he = rw (hn, hb, hr, hc, he) refl
 
-pub told-passed : (f : Option (ℕ × Offence)) (r : Result ℕ CheckFault) (x : CheckFault) → IsErr r × IsErrAnd r (λ y. y ≡ x) → IsTold {A = ℕ} f (Err x) → IsTold f r
-told-passed f r x passed h = let p = err_from_is_err_and r passed.1 in subst (IsTold f) (sym (p.1 ∙ ap Err p.2)) h
+unmarked : (m e : Bool) → e ≡ false → (m || e) ≡ m
+unmarked m e is = ap (λ e. m || e) is ∙ or_none m
+
+pub first_one-parts : (own : Declared) (opened : Openings) (children : Children) (k : ℕ) (x : S)
+    → first_one own opened children k x ≡ option_or (placed k (leading (is_marked own opened children x))) (first_within own opened children k x)
+first_one-parts own opened children k x =
+    let marked = is_marked own opened children x in
+    let none = no_ends x in
+    let unending = marked-unending own opened children x in
+    ap (λ o. option_or o (first_inside own opened children k x))
+    (leading-parts k (is_offence own opened children x) marked (marked NotDeclared) (marked ChildBeyond) (marked ReductionMisuse) (marked ConflictsWithChild)
+    (ends_with_children x EndsWithChildren) refl refl refl refl unending
+    (unmarked (marked NotDeclared) (ends_with_children x NotDeclared) none.0)
+    (unmarked (marked ChildBeyond) (ends_with_children x ChildBeyond) none.1)
+    (unmarked (marked ReductionMisuse) (ends_with_children x ReductionMisuse) none.2)
+    (unmarked (marked ConflictsWithChild) (ends_with_children x ConflictsWithChild) none.3)
+    (ap (λ b. b || ends_with_children x EndsWithChildren) unending)
+    ∙ ap (λ o. option_or (placed k (leading marked)) (placed k o)) (ended-is x))
+    ∙ or-assoc (placed k (leading marked)) (placed k (ending x)) (first_inside own opened children k x)
 
 -- ---- the whole
 
--- where the walk tells nothing there is no offence
-pub tells_none : (b : Body) → first None nothing_open nobody 1 b ≡ None → IsFirstOf (Offends b) None
-tells_none b none = subst (IsFirstOf (Offends b)) none (first-is_first b)
-
-tells_fault : (A : Type 0) (b : Body) (x : CheckFault) → IsTold {A = ℕ} (first None nothing_open nobody 1 b) (Err x) → TellsFirst {A = A} (Offends b) (Err x)
-tells_fault A b (fault.Offence offence place) h = subst (IsFirstOf (Offends b)) h (first-is_first b)
-tells_fault A b fault.Memory h = h
-
--- what it tells is told of all offences
-pub tells_passed : {A : Type 0} (b : Body) (r : Result A CheckFault) (x : CheckFault) → IsErr r × IsErrAnd r (λ y. y ≡ x)
-    → IsTold {A = ℕ} (first None nothing_open nobody 1 b) (Err x) → TellsFirst (Offends b) r
-tells_passed {A} b r x passed h = let p = err_from_is_err_and r passed.1 in subst (TellsFirst (Offends b)) (sym (p.1 ∙ ap Err p.2)) (tells_fault A b x h)
+-- what the walk tells is the first offence
+pub tells-first : (b : Body) (told : Option (ℕ × Offence)) → told ≡ first None nothing_open nobody 1 b → IsFirstOf (Offends b) told
+tells-first b told is = subst (IsFirstOf (Offends b)) (sym is) (first-is_first b)

@@ -2,7 +2,6 @@
 -- it to the paths.
 pub mod Walk
 pub mod Fine
-pub mod Told
 pub mod Grids
 pub mod Bits
 pub mod Rows

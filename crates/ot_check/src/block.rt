@@ -1,10 +1,10 @@
-ghost use Rattle.std.specs.Prelude.{◌≡◌, ◌/◌, ◌==◌, ◌&&◌, ◌||◌, Bool, true, ℕ};
+ghost use Rattle.std.specs.Prelude.{◌≡◌, ◌/◌, ◌==◌, ◌&&◌, ◌||◌, Bool, true, not, ℕ};
 ghost use Rattle.std.specs.Int.{bit_at};
 ghost use Rattle.std.specs.List.{list_any};
 ghost use Rattle.ot_model.specs.Uses.{conflicts};
 ghost use Rattle.ot_check.specs.declared.users.User.{User};
 ghost use Rattle.ot_check.specs.walk.Bits.{has};
-ghost use Rattle.ot_check.specs.walk.Rows.{is_against, is_by, users_of_block};
+ghost use Rattle.ot_check.specs.walk.Rows.{awaited_as, is_against, is_awaited_by, is_by, users_of_block};
 
 use crate::modes::is_by;
 use crate::numbers::Numbers;
@@ -81,7 +81,25 @@ impl Block {
     pub(crate) fn clashes(&self, tasks: &Numbers, mode: Mode) -> bool
         ensures { result ≡ list_any (λ v. has tasks.now v.task && conflicts v.mode mode) (users_of_block self.now) }
     {
-        tasks.word(self.place) & self.against(mode) != 0
+        tasks.word(self.place as usize) & self.against(mode) != 0
+    }
+
+    /// Those that a wait awaits that declares the cell in this mode, as bits.
+    fn awaited(&self, mode: Mode) -> u64
+        ensures { (j : ℕ) → (bit_at result j == 1) ≡ is_awaited_by self.now mode j }
+    {
+        match mode {
+            Mode::Writes => self.reads | self.writes | self.folds,
+            Mode::Reads | Mode::Folds(_) => self.writes,
+        }
+    }
+
+    /// Takes out of these tasks those that a wait awaits that declares the cell in this mode. It takes
+    /// no memory.
+    pub(crate) fn take_awaited(&self, tasks: &mut Numbers, mode: Mode)
+        ensures { (k : ℕ) → has tasks.new k ≡ (has tasks.old k && not (list_any (awaited_as mode k) (users_of_block self.now))) }
+    {
+        tasks.take_out(self.place, self.awaited(mode));
     }
 }
 

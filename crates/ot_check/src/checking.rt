@@ -21,6 +21,9 @@ pub fn check(alloc: Global, program: Program, shape: &Shape) -> Result<Checked, 
     ensures program { IfOk result (λ checked. checked.program ≡ program) }
 {
     let mut standing = Standing::of_root(alloc, shape)?;
-    walk(alloc, &program.body, &mut standing, 1)?;
-    Ok(Checked { program })
+    let walked = walk(alloc, &program.body, &mut standing, 1)?;
+    match walked.first {
+        Some((place, offence)) => Err(CheckFault::Offence(offence, place)),
+        None => Ok(Checked { program }),
+    }
 }

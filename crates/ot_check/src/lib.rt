@@ -15,7 +15,6 @@ mod standing;
 mod statement;
 mod table;
 mod tasks;
-mod through;
 mod touch;
 mod users;
 mod walk;

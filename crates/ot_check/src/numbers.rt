@@ -1,4 +1,5 @@
-ghost use Rattle.std.specs.Prelude.{◌≡◌, ◌==◌, ◌||◌, ◌≤◌, ℕ, IfOk, OnOk, false, length, get_or};
+ghost use Rattle.std.specs.Prelude.{◌≡◌, ◌==◌, ◌&&◌, ◌||◌, ◌<◌, ◌≤◌, ◌/◌, ◌%◌, ℕ, IfOk, OnOk, true, false, not, length, get_or};
+ghost use Rattle.std.specs.Int.{bit_at};
 ghost use Rattle.ot_check.specs.walk.Bits.{has};
 
 use std::alloc::{AllocError, Global};
@@ -31,10 +32,10 @@ impl Numbers {
     }
 
     /// The numbers from 64 times this place on, as the bits of a word.
-    pub(crate) fn word(&self, place: u32) -> u64
+    pub(crate) fn word(&self, place: usize) -> u64
         ensures { result ≡ get_or self.now.words.items place 0 }
     {
-        match self.words.get(place as usize) {
+        match self.words.get(place) {
             Some(word) => *word,
             None => 0,
         }
@@ -59,6 +60,41 @@ impl Numbers {
             self.words.resize(len, 0)?;
         }
         Ok(())
+    }
+
+    /// Whether there is none among them.
+    pub(crate) fn is_empty(&self) -> bool
+        ensures none { result ≡ true → (k : ℕ) → has self.now k ≡ false }
+        ensures some { result ≡ false → (k : ℕ) × (has self.now k ≡ true) }
+    {
+        for place in 0..self.words.len() {
+            if self.word(place) != 0 {
+                return false;
+            }
+        }
+        true
+    }
+
+    /// Takes out those of the numbers from 64 times this place on whose bits are set here. It takes no
+    /// memory.
+    pub(crate) fn take_out(&mut self, place: u32, bits: u64)
+        ensures { (k : ℕ) → has self.new k ≡ (has self.old k && not ((k / 64 == place) && (bit_at bits (k % 64) == 1))) }
+    {
+        if (place as usize) < self.words.len() {
+            self.words[place as usize] &= !bits;
+        }
+    }
+
+    /// Takes out this number and all that are greater. It takes no memory.
+    pub(crate) fn truncate(&mut self, number: u32)
+        ensures below { (k : ℕ) → k < number → has self.new k ≡ has self.old k }
+        ensures rest { (k : ℕ) → number ≤ k → has self.new k ≡ false }
+    {
+        let place = (number / 64) as usize;
+        if place < self.words.len() {
+            self.words.truncate(place + 1);
+            self.words[place] &= (1u64 << (number % 64)) - 1;
+        }
     }
 
     /// Takes all numbers away. It takes no memory.

@@ -22,7 +22,8 @@ pub(crate) struct Region {
 #[derive(Debug, Drop)]
 pub(crate) struct Outside {
     opened: Opened,
-    unawaited: Numbers,
+    /// How many tasks the walk had passed.
+    passed: u32,
 }
 
 /// What stands at a place of a walk.
@@ -64,19 +65,23 @@ impl Region {
 }
 
 impl Standing {
-    ghost use Rattle.std.specs.Prelude.{◌≡◌, ◌+◌, ◌<◌, ◌^◌, ◌&&◌, ◌∷◌, [], IfOk, OnOk, None, Some};
+    ghost use Rattle.std.specs.Prelude.{◌≡◌, ◌+◌, ◌<◌, ◌≤◌, ◌^◌, ◌||◌, ◌∷◌, List, ℕ, [], IfOk, OnOk, None, Some, false, true, not};
     ghost use Rattle.std.specs.List.{list_any};
     ghost use Rattle.ot_model.specs.Shapes.{array_lengths};
-    ghost use Rattle.ot_model.specs.Names.{IsInShape, AreInShape, AreDeclaredIn};
+    ghost use Rattle.ot_model.specs.Names.{IsInShape, OneNamedIn, AreInShape, AreDeclaredIn};
     ghost use Rattle.ot_check.specs.Paths.{Touch, Enter};
+    ghost use Rattle.ot_model.specs.Tree.{Wait};
+    ghost use Rattle.ot_model.specs.declared.expr.Cell.{Cell};
     ghost use Rattle.ot_model.specs.declared.fold.Fold.{Fold as Operation};
-    ghost use Rattle.ot_check.specs.Offences.{Declared, Openings, exceeds, misfits};
-    ghost use Rattle.ot_check.specs.walk.Walk.{Children, nobody, nothing_open, with_group, may_break};
-    ghost use Rattle.ot_check.specs.walk.States.{Represents, Stands, Whatever, AreMore, lens_of, one_more, of_both, back, with_children, with_others};
+    ghost use Rattle.ot_model.specs.declared.stmt.Use.{Use};
+    ghost use Rattle.ot_check.specs.Offences.{Declared, Openings, awaits, exceeds, misfits};
+    ghost use Rattle.ot_check.specs.walk.Walk.{Children, anyone, behind_one, nobody, nothing_open, with_group, may_break};
+    ghost use Rattle.ot_check.specs.walk.Bits.{has};
+    ghost use Rattle.ot_check.specs.walk.States.{Represents, Stands, IsBehind, Leads, Whatever, is_open, lens_of, one_more, with_others};
 
     /// What stands at the beginning of a program: its body may use each cell.
     pub(crate) fn of_root(alloc: Global, shape: &Shape) -> Result<Standing, AllocError>
-        ensures stands { IfOk result (λ s. Represents None nothing_open nobody s) }
+        ensures stands { IfOk result (λ s. Represents None nothing_open nobody [] s) }
         ensures lens { IfOk result (λ s. lens_of s ≡ array_lengths shape.now) }
         ensures passed { IfOk result (λ s. s.tasks.passed ≡ 0) }
     {
@@ -91,7 +96,8 @@ impl Standing {
 
     /// Goes into the body of a task. What stood before it is the answer.
     pub(crate) fn begin_task(&mut self, alloc: Global, decl: &Decl) -> Result<Region, AllocError>
-        ensures stands { IfOk result (λ _. Whatever self.old (λ own opened children. Represents (Some decl.now) nothing_open nobody self.new)) }
+        ensures stands { IfOk result (λ _. (own : Declared) (opened : Openings) (children : Children) (decls : List (List Use))
+            → Represents own opened children decls self.old → Represents (Some decl.now) nothing_open nobody decls self.new) }
         ensures outer { IfOk result (λ outer. outer ≡ self.old.region) }
         ensures tasks { self.new.tasks ≡ self.old.tasks }
     {
@@ -112,9 +118,8 @@ impl Standing {
     ) -> Result<(), AllocError>
         requires declared { AreDeclaredIn (lens_of self.old) decl.now }
         requires short { self.old.tasks.passed + 1 < 2 ^ 32 }
-        ensures stands { OnOk result ((own : Declared) (opened : Openings) (children : Children)
-            → Stands own opened children outer self.old.tasks → Represents own opened (one_more children decl.now) self.new) }
-        ensures more { OnOk result (AreMore self.old.tasks self.new.tasks) }
+        ensures behind { OnOk result ((own : Declared) (opened : Openings) (children : Children) (decls : List (List Use))
+            → Stands own opened children decls outer self.old.tasks → IsBehind own opened (one_more children decl.now) (λ k d. has outer.unawaited k) decls self.new) }
         ensures passed { OnOk result (self.new.tasks.passed ≡ self.old.tasks.passed + 1) }
         ensures lens { OnOk result (lens_of self.new ≡ lens_of self.old) }
     {
@@ -130,36 +135,52 @@ impl Standing {
         op: Fold,
         cells: &[Cell],
     ) -> Result<Outside, AllocError>
-        ensures stands { IfOk result (λ _. Whatever self.old (λ own opened children. Represents own (with_group opened op cells.now) children self.new)) }
-        ensures outside { IfOk result (λ outside. Whatever self.old (λ own opened children. Stands own opened children (back self.new.region outside) self.new.tasks)) }
+        ensures stands { IfOk result (λ _. (own : Declared) (opened : Openings) (children : Children) (decls : List (List Use))
+            → Represents own opened children decls self.old → Represents own (with_group opened op cells.now) children decls self.new) }
+        ensures opened { IfOk result (λ outside. (o : Operation) (c : Cell) → is_open outside.opened o c ≡ is_open self.old.region.opened o c) }
+        ensures passed { IfOk result (λ outside. outside.passed ≡ self.old.tasks.passed) }
+        ensures same { IfOk result (λ _. self.new.region.unawaited ≡ self.old.region.unawaited) }
         ensures tasks { IfOk result (λ _. self.new.tasks ≡ self.old.tasks) }
     {
         let opened = self.region.opened.copy(alloc)?;
-        let unawaited = self.region.unawaited.copy(alloc)?;
         self.region.opened.enter(alloc, op, cells)?;
-        Ok(Outside { opened, unawaited })
+        Ok(Outside {
+            opened,
+            passed: self.tasks.passed,
+        })
     }
 
-    /// Comes out of a group, whose end awaits the children made in it. Those from before stay
-    /// unawaited where some path through it has no wait. It takes no memory.
-    pub(crate) fn end_group(&mut self, outside: Outside, through: bool)
-        ensures stands { (own : Declared) (opened : Openings) (children : Children)
-            → Stands own opened children (back self.old.region outside) self.old.tasks → Represents own opened (λ test. children test && through) self.new }
+    /// Comes out of a group, whose end awaits the children made in it: those of later numbers than had
+    /// been passed before it. It takes no memory.
+    pub(crate) fn end_group(&mut self, outside: Outside)
+        ensures own { self.new.region.own ≡ self.old.region.own }
+        ensures opened { self.new.region.opened ≡ outside.opened }
+        ensures below { (k : ℕ) → k < outside.passed → has self.new.region.unawaited k ≡ has self.old.region.unawaited k }
+        ensures rest { (k : ℕ) → outside.passed ≤ k → has self.new.region.unawaited k ≡ false }
         ensures tasks { self.new.tasks ≡ self.old.tasks }
     {
         self.region.opened = outside.opened;
-        self.region.unawaited = outside.unawaited;
-        if !through {
-            self.await_children();
+        self.region.unawaited.truncate(outside.passed);
+    }
+
+    /// Comes to a wait, which awaits all children, or where it declares cells those on which an empty
+    /// task with its declaration would depend (OpenMP API 5.2, section 15.5). It takes no memory.
+    pub(crate) fn await_children(&mut self, wait: &Option<Decl>)
+        requires { OneNamedIn (lens_of self.old) (Wait wait.now) }
+        ensures behind { Leads self.old self.new (λ children. behind_one children (Wait wait.now)) (λ d. not (awaits wait.now d)) }
+        ensures tasks { self.new.tasks ≡ self.old.tasks }
+    {
+        match wait {
+            None => self.region.unawaited.clear(),
+            Some(decl) => self.tasks.take_awaited(&mut self.region.unawaited, decl),
         }
     }
 
-    /// All children have been awaited. It takes no memory.
-    pub(crate) fn await_children(&mut self)
-        ensures stands { Whatever self.old (λ own opened children. Represents own opened nobody self.new) }
-        ensures tasks { self.new.tasks ≡ self.old.tasks }
+    /// Whether a child may be unawaited.
+    pub(crate) fn has_children(&self) -> bool
+        ensures { Whatever self.now (λ own opened children. result ≡ children anyone) }
     {
-        self.region.unawaited.clear();
+        !self.region.unawaited.is_empty()
     }
 
     /// Goes back to the children from before one way through an `if`. Those behind it are the answer.
@@ -173,10 +194,10 @@ impl Standing {
 
     /// The children behind one way through an `if` may be unawaited too.
     pub(crate) fn end_other(&mut self, one: &Numbers) -> Result<(), AllocError>
-        ensures stands { OnOk result ((own : Declared) (opened : Openings) (children others : Children)
-            → Represents own opened others self.old → Stands own opened children (with_children self.old.region one.now) self.old.tasks
-            → Represents own opened (of_both children others) self.new) }
-        ensures tasks { OnOk result (self.new.tasks ≡ self.old.tasks) }
+        ensures own { self.new.region.own ≡ self.old.region.own }
+        ensures opened { self.new.region.opened ≡ self.old.region.opened }
+        ensures both { OnOk result ((k : ℕ) → has self.new.region.unawaited k ≡ (has self.old.region.unawaited k || has one.now k)) }
+        ensures tasks { self.new.tasks ≡ self.old.tasks }
     {
         self.region.unawaited.join(one)
     }

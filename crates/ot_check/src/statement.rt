@@ -1,19 +1,18 @@
 ghost use Rattle.std.specs.Prelude.{◌≡◌};
 ghost use Rattle.ot_model.specs.View.{stmt_of};
 ghost use Rattle.ot_model.specs.Names.{OneNamedIn};
-ghost use Rattle.ot_check.specs.walk.Walk.{is_offence, leading};
+ghost use Rattle.ot_check.specs.walk.Walk.{is_marked, leading};
 ghost use Rattle.ot_check.specs.walk.States.{Whatever, lens_of};
 
 use crate::fault::Offence;
 use crate::standing::Standing;
-use crate::through::leaves_child;
 use crate::touch::value_breaks;
 use ot_model::{Mode, Stmt, Use};
 
-/// The first offence of a statement itself.
+/// The first offence of a statement itself, but for children that a task's body leaves.
 pub(crate) fn own_offence(stmt: &Stmt, standing: &Standing) -> Option<Offence>
     requires { OneNamedIn (lens_of standing.now) (stmt_of stmt.now) }
-    ensures { Whatever standing.now (λ own opened children. result ≡ leading (is_offence own opened children (stmt_of stmt.now))) }
+    ensures { Whatever standing.now (λ own opened children. result ≡ leading (is_marked own opened children (stmt_of stmt.now))) }
 {
     if is_offence(stmt, standing, Offence::NotDeclared) {
         return Some(Offence::NotDeclared);
@@ -27,16 +26,13 @@ pub(crate) fn own_offence(stmt: &Stmt, standing: &Standing) -> Option<Offence>
     if is_offence(stmt, standing, Offence::ConflictsWithChild) {
         return Some(Offence::ConflictsWithChild);
     }
-    if is_offence(stmt, standing, Offence::EndsWithChildren) {
-        return Some(Offence::EndsWithChildren);
-    }
     None
 }
 
-/// Whether a statement itself is this offence.
+/// Whether a statement itself is this offence, but for children that a task's body leaves.
 fn is_offence(stmt: &Stmt, standing: &Standing, offence: Offence) -> bool
     requires { OneNamedIn (lens_of standing.now) (stmt_of stmt.now) }
-    ensures { Whatever standing.now (λ own opened children. result ≡ is_offence own opened children (stmt_of stmt.now) offence) }
+    ensures { Whatever standing.now (λ own opened children. result ≡ is_marked own opened children (stmt_of stmt.now) offence) }
 {
     match stmt {
         Stmt::Set(cell, expr) => {
@@ -54,13 +50,12 @@ fn is_offence(stmt: &Stmt, standing: &Standing, offence: Offence) -> bool
             value_breaks(expr, standing, offence) || standing.touch_breaks(used, offence)
         }
         Stmt::If(expr, _, _) => value_breaks(expr, standing, offence),
-        Stmt::Task(decl, body) => match offence {
+        Stmt::Task(decl, _) => match offence {
             Offence::ChildBeyond => standing.exceeds(decl),
             Offence::ReductionMisuse => standing.misfits(decl),
-            Offence::EndsWithChildren => leaves_child(body, false),
-            Offence::NotDeclared | Offence::ConflictsWithChild => false,
+            Offence::NotDeclared | Offence::ConflictsWithChild | Offence::EndsWithChildren => false,
         },
-        Stmt::Wait => false,
+        Stmt::Wait(_) => false,
         Stmt::Group(_, cells, _) => standing.group_breaks(cells, offence),
     }
 }

@@ -1,14 +1,13 @@
-ghost use Rattle.std.specs.Prelude.{◌≡◌, ◌+◌, ◌<◌, ◌^◌, ◌||◌, ◌&&◌, IfOk, OnOk, ℕ, false};
+ghost use Rattle.std.specs.Prelude.{◌≡◌, ◌+◌, ◌<◌, ◌^◌, ◌||◌, ◌&&◌, Bool, IfOk, OnOk, ℕ, [], not};
+ghost use Rattle.std.specs.List.{list_any};
 ghost use Rattle.ot_model.specs.Shapes.{array_lengths};
 ghost use Rattle.ot_model.specs.Names.{IsInShape, AreDeclaredIn};
-ghost use Rattle.ot_model.specs.Cells.{same_cell};
-ghost use Rattle.ot_model.specs.Uses.{conflicts};
-ghost use Rattle.ot_model.specs.declared.stmt.Use.{Use};
-ghost use Rattle.ot_check.specs.Offences.{clashes};
+ghost use Rattle.ot_model.specs.declared.expr.Cell.{Cell};
 ghost use Rattle.ot_check.specs.walk.Grids.{widths};
 ghost use Rattle.ot_check.specs.walk.Bits.{has};
-ghost use Rattle.ot_check.specs.walk.States.{met};
-ghost use Rattle.ot_check.specs.declared.numbers.Numbers.{Numbers};
+ghost use Rattle.ot_check.specs.walk.Rows.{awaited_as};
+ghost use Rattle.ot_check.specs.walk.States.{Tells, met, user_has, users_at};
+ghost use Rattle.ot_check.specs.declared.users.User.{User};
 
 use crate::numbers::Numbers;
 use crate::users::{User, Users};
@@ -27,7 +26,7 @@ pub(crate) struct Tasks {
 impl Tasks {
     /// No task yet.
     pub(crate) fn new(alloc: Global, shape: &Shape) -> Result<Tasks, AllocError>
-        ensures none { IfOk result (λ tasks. (numbers : Numbers) (u : Use) → met numbers tasks.users u ≡ false) }
+        ensures none { IfOk result (λ tasks. Tells tasks.users []) }
         ensures passed { IfOk result (λ tasks. tasks.passed ≡ 0) }
         ensures widths { IfOk result (λ tasks. widths tasks.users ≡ array_lengths shape.now) }
     {
@@ -43,6 +42,16 @@ impl Tasks {
         self.users.clash(numbers, used)
     }
 
+    /// Takes out of these tasks those that a wait with this declaration awaits. It takes no memory.
+    pub(crate) fn take_awaited(&self, numbers: &mut Numbers, decl: &Decl)
+        requires { AreDeclaredIn (widths self.now.users) decl.now }
+        ensures { (k : ℕ) → has numbers.new k ≡ (has numbers.old k && not (list_any (λ u. list_any (awaited_as u.mode k) (users_at self.now.users u.cell)) decl.now)) }
+    {
+        for used in decl.uses() {
+            self.users.take_awaited(numbers, *used);
+        }
+    }
+
     /// One task more, and its number.
     pub(crate) fn add(&mut self, alloc: Global, decl: &Decl) -> Result<u32, AllocError>
         requires declared { AreDeclaredIn (widths self.old.users) decl.now }
@@ -50,8 +59,8 @@ impl Tasks {
         ensures number { IfOk result (λ number. number ≡ self.old.passed) }
         ensures passed { IfOk result (λ _. self.new.passed ≡ self.old.passed + 1) }
         ensures widths { IfOk result (λ _. widths self.new.users ≡ widths self.old.users) }
-        ensures met { IfOk result (λ _. (numbers : Numbers) (u : Use)
-            → met numbers self.new.users u ≡ (met numbers self.old.users u || (has numbers self.old.passed && clashes u decl.now))) }
+        ensures told { IfOk result (λ _. (test : User → Bool) (c : Cell)
+            → list_any test (users_at self.new.users c) ≡ (list_any test (users_at self.old.users c) || list_any (user_has test c self.old.passed) decl.now)) }
     {
         let number = self.passed;
         for used in decl.uses() {

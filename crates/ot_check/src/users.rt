@@ -28,10 +28,10 @@ pub(crate) struct Row {
 }
 
 impl Row {
-    ghost use Rattle.std.specs.Prelude.{◌&&◌};
+    ghost use Rattle.std.specs.Prelude.{◌&&◌, ℕ, not};
     ghost use Rattle.ot_model.specs.Uses.{conflicts};
     ghost use Rattle.ot_check.specs.walk.Bits.{has};
-    ghost use Rattle.ot_check.specs.walk.Rows.{users_of_row};
+    ghost use Rattle.ot_check.specs.walk.Rows.{awaited_as, users_of_row};
 
     /// One task alone. It takes no memory.
     fn of(alloc: Global, cell: Cell, user: User) -> Row
@@ -71,6 +71,17 @@ impl Row {
         }
         self.latest.clashes(tasks, mode)
     }
+
+    /// Takes out of these tasks those that a wait awaits that declares the cell in this mode. It looks
+    /// at 64 tasks at once, and takes no memory.
+    fn take_awaited(&self, tasks: &mut Numbers, mode: Mode)
+        ensures { (k : ℕ) → has tasks.new k ≡ (has tasks.old k && not (list_any (awaited_as mode k) (users_of_row self.now))) }
+    {
+        for block in &self.earlier {
+            block.take_awaited(tasks, mode);
+        }
+        self.latest.take_awaited(tasks, mode);
+    }
 }
 
 /// For each cell of a shape the tasks that declare it.
@@ -94,9 +105,11 @@ impl Model for Users {
 }
 
 impl Users {
-    ghost use Rattle.std.specs.Prelude.{◌≢◌, [], IsSome, map};
+    ghost use Rattle.std.specs.Prelude.{◌≢◌, ◌&&◌, ℕ, [], IsSome, map, not};
     ghost use Rattle.ot_model.specs.ShapeView.{arrays_of};
     ghost use Rattle.ot_model.specs.declared.expr.Cell.{Cell};
+    ghost use Rattle.ot_check.specs.walk.Bits.{has};
+    ghost use Rattle.ot_check.specs.walk.Rows.{awaited_as};
     ghost use Rattle.ot_check.specs.walk.States.{met, users_at};
 
     /// No task declares a cell of these arrays.
@@ -117,6 +130,18 @@ impl Users {
     {
         let place = self.places.at(used.cell);
         place > 0 && self.rows[place - 1].clashes(tasks, used.mode)
+    }
+
+    /// Takes out of these tasks those that a wait awaits that declares this use of a cell that is
+    /// there. It takes no memory.
+    pub(crate) fn take_awaited(&self, tasks: &mut Numbers, used: Use)
+        requires { IsSome (found_at self.now used.cell) }
+        ensures { (k : ℕ) → has tasks.new k ≡ (has tasks.old k && not (list_any (awaited_as used.mode k) (users_at self.now used.cell))) }
+    {
+        let place = self.places.at(used.cell);
+        if place > 0 {
+            self.rows[place - 1].take_awaited(tasks, used.mode);
+        }
     }
 
     /// Puts a task among those that declare a cell that is there.

@@ -15,7 +15,6 @@ use crate::mark::Mark;
 use crate::place::{behind, behind_all};
 use ot_model::{Cells, Counts, Decl, Look, Monoid, Stmt, value};
 use std::alloc::{AllocError, Global};
-use std::mem;
 
 /// A run that goes on.
 #[derive(Drop)]
@@ -187,17 +186,28 @@ fn await_children<'a>(
     ensures cells { run.new.cells ≡ run.old.cells }
     ensures counts { run.new.counts ≡ run.old.counts }
 {
-    let pending = mem::replace(&mut region.pending, Vec::new(alloc));
-    let mut awaited = Vec::new(alloc);
-    for child in &pending {
-        if is_awaited(decl, child.decl) {
-            awaited.push(*child)?;
-        } else {
-            region.pending.push(*child)?;
-        }
-    }
+    let (awaited, left) = parted(alloc, decl, &region.pending)?;
+    region.pending = left;
     run.marks.push(Mark::Wait(region.parent, decl, awaited))?;
     Ok(())
+}
+
+/// Those of these children whom a wait awaits, and the others.
+fn parted<'a>(
+    alloc: Global,
+    wait: Option<&Decl>,
+    pending: &[Child<'a>],
+) -> Result<(Vec<Child<'a>>, Vec<Child<'a>>), AllocError> {
+    let mut awaited = Vec::new(alloc);
+    let mut left = Vec::new(alloc);
+    for child in pending {
+        if is_awaited(wait, child.decl) {
+            awaited.push(*child)?;
+        } else {
+            left.push(*child)?;
+        }
+    }
+    Ok((awaited, left))
 }
 
 /// Whether a wait awaits a child that declares this: each where it has no clauses, and else those on which a task with

@@ -40,7 +40,7 @@ module _ (r : Region) (p : IsPlaced r) (alive : r.ended ≡ false) where
     shut = p.shut;
     once = p.once;
     writes = p.writes;
-    sums = p.sums;
+    grouped = p.grouped;
     reduced = p.reduced;
     exclusive = p.exclusive;
   }
@@ -86,7 +86,7 @@ module _ (r : Region) (p : IsPlaced r) (alive : r.ended ≡ false) where
         shut = p.shut;
         once = p.once;
         writes = p.writes;
-        sums = p.sums;
+        grouped = p.grouped;
         reduced = p.reduced;
         exclusive = p.exclusive;
       }

@@ -56,7 +56,7 @@ module _ (r : Region) (p : IsPlaced r) where
     shut = p.shut;
     once = p.once;
     writes = p.writes;
-    sums = p.sums;
+    grouped = p.grouped;
     reduced = p.reduced;
     exclusive = p.exclusive;
   }

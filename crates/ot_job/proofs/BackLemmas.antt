@@ -97,12 +97,12 @@ module _ (first last : List LentCell) (before after : List (List ℕ)) (piece : 
             value : (o : Option ℕ) → IsSome o → option_map (λ (stored : ℕ). l.value) o ≡ Some l.value
             value None h = absurd (true≢false (sym h))
             value (Some n) h = refl
-        joins l (Folds op) now is at j u there (stored, sum, p, q, inl e) =
-            let s : l.value ≡ sum = same_Some l.value sum q in
+        joins l (Folds op) now is at j u there (stored, number, p, q, inl e) =
+            let s : l.value ≡ number = same_Some l.value number q in
             ap (cell_of after) (sym at) ∙ j ∙ ap (λ (m : Mode). option_map (λ stored. joined m stored l.value) (cell_of before l.cell)) is
             ∙ ap (option_map (λ stored. joined (Folds op) stored l.value)) (ap (cell_of before) at ∙ p) ∙ ap (λ n. Some (join_by op stored n)) s ∙ sym e
-        joins l (Folds op) now is at j u there (stored, sum, p, q, inr e) =
-            ap (cell_of after) (sym at) ∙ u op is (same_Some l.value sum q ∙ e.0) ∙ ap (cell_of before) at ∙ sym e.1
+        joins l (Folds op) now is at j u there (stored, number, p, q, inr e) =
+            ap (cell_of after) (sym at) ∙ u op is (same_Some l.value number q ∙ e.0) ∙ ap (cell_of before) at ∙ sym e.1
 
         pick : (o : Option LentCell) → find (is_at c) last ≡ o → IsGiven (mode_at first c) (cell_of before c) (value_at last c) (cell_of (serial piece begin).cells c) → cell_of after c ≡ cell_of (serial piece begin).cells c
         pick None e g =

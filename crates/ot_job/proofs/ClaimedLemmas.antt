@@ -29,7 +29,7 @@ use Rattle.ot_job.specs.Numbered.{at}
 use Rattle.ot_job.specs.Opening.{left_open, passed_over}
 use Rattle.ot_job.specs.States.{claimable_in}
 use Rattle.ot_job.specs.Well.{IsWell, IsOnCourse}
-use Rattle.ot_job.proofs.LendingLemmas.{claim-alone, claim-open, claim-unused, claim-known, claim-sums, claim-fresh}
+use Rattle.ot_job.proofs.LendingLemmas.{claim-alone, claim-open, claim-unused, claim-known, claim-folds, claim-fresh}
 use Rattle.ot_job.proofs.PickLemmas.{at-here}
 use Rattle.ot_job.proofs.TakenLemmas.{claim-can}
 use Rattle.ot_job.proofs.WellLemmas.{claim-free, claim-holds, claim-well}
@@ -76,7 +76,7 @@ module _ (j : Live) (w : IsWell j) (working : j.failing ≡ false) (i : ℕ) (h 
       subst (λ (b : Owned). All (λ u. (op : Operation) → u.mode ≡ Folds op → IsSummedBy (left_open told b.groups) op u.cell) slip.uses) (sym before-is)
       (subst (λ (n : Option ℕ). All (λ u. (op : Operation) → u.mode ≡ Folds op → IsSummedBy (left_open n j.owned.groups) op u.cell) slip.uses) (sym told-is)
       (subst (All (λ (u : Use). (op : Operation) → u.mode ≡ Folds op → IsSummedBy (left_open (group_passed (at j.regions i)) j.owned.groups) op u.cell)) (sym uses-are)
-      (claim-sums j w o i h can worker lease are ordered)))
+      (claim-folds j w o i h can worker lease are ordered)))
 
   -- ---- what they have lent
 

@@ -20,7 +20,7 @@ use Rattle.ot_job.specs.Awaiting.{AwaitsAll, unawaited}
 use Rattle.ot_task.specs.Regions.{Region, over, without}
 use Rattle.ot_job.specs.Settling.{told_parent, closed}
 use Rattle.ot_job.specs.Numbered.{at, parent_of, todo_at, ended_at, parents}
-use Rattle.ot_job.specs.Sound.{DontMix, OnlyFolds, sums_in, IsBegun, IsKin, IsPlaced, IsSound}
+use Rattle.ot_job.specs.Sound.{DontMix, OnlyFolds, grouped_in, IsBegun, IsKin, IsPlaced, IsSound}
 use Rattle.ot_job.proofs.PlaceLemmas.{at-fewer}
 use Rattle.ot_job.proofs.AwaitsLemmas.{awaits-fewer, awaits-end}
 use Rattle.ot_job.proofs.KeptLemmas.{at-updated, at-updated-other, parents-updated}
@@ -82,11 +82,11 @@ fewer-any (x ∷ kids) (suc c) test h =
 
 -- ---- one region
 
-sums-groups : (gs : List Open) (s t : Sibling) (o : Operation) (c : Cell) → s.groups ≡ t.groups → sums_in gs s o c ≡ sums_in gs t o c
-sums-groups [] s t o c e = refl
-sums-groups (g ∷ gs) s t o c e =
-    ap (λ groups. ((same_fold g.op o && has_cell g.cells c) && list_any (λ h. h == g.group) groups) || sums_in gs s o c) e
-    ∙ ap (λ b. ((same_fold g.op o && has_cell g.cells c) && is_in g.group t) || b) (sums-groups gs s t o c e)
+grouped-same : (gs : List Open) (s t : Sibling) (o : Operation) (c : Cell) → s.groups ≡ t.groups → grouped_in gs s o c ≡ grouped_in gs t o c
+grouped-same [] s t o c e = refl
+grouped-same (g ∷ gs) s t o c e =
+    ap (λ groups. ((same_fold g.op o && has_cell g.cells c) && list_any (λ h. h == g.group) groups) || grouped_in gs s o c) e
+    ∙ ap (λ b. ((same_fold g.op o && has_cell g.cells c) && is_in g.group t) || b) (grouped-same gs s t o c e)
 
 -- a child of it has finished
 placed-without : (c : ℕ) (r : Region) → IsPlaced r → IsPlaced (without c r)
@@ -105,10 +105,10 @@ placed-without c r p = record {
   shut = p.shut;
   once = p.once;
   writes = p.writes;
-  sums = λ k s there alive o cell folds.
+  grouped = λ k s there alive o cell folds.
       let b = before r.children c k s there in
-      subst (λ v. (folds_to r.own o cell ≡ true) ⊎ (v ≡ true)) (sym (sums-groups r.groups s b.entry o cell b.groups))
-      (p.sums k b.entry b.there (b.unfinished alive) o cell (subst (λ us. folds_to (Some us) o cell ≡ true) b.uses folds));
+      subst (λ v. (folds_to r.own o cell ≡ true) ⊎ (v ≡ true)) (sym (grouped-same r.groups s b.entry o cell b.groups))
+      (p.grouped k b.entry b.there (b.unfinished alive) o cell (subst (λ us. folds_to (Some us) o cell ≡ true) b.uses folds));
   reduced = λ k s there alive o cell here.
       let b = before r.children c k s there in
       subst (λ us. OnlyFolds o (Some us) cell) (sym b.uses) (p.reduced k b.entry b.there (b.unfinished alive) o cell here);
@@ -133,7 +133,7 @@ placed-over r p was none = record {
   shut = λ e. none;
   once = p.once;
   writes = p.writes;
-  sums = p.sums;
+  grouped = p.grouped;
   reduced = p.reduced;
   exclusive = p.exclusive;
 }

@@ -46,11 +46,11 @@ module _ (modes : Cell → Option Mode) (before : Look) where
   -- a copy that begins at the unit, and its cell, through one fold
   folded : (op : Operation) (was copy now : Option ℕ) (v : ℕ) → IsGiven (Some (Folds op)) was copy now
       → IsGiven (Some (Folds op)) was (option_map (λ n. join_by op n v) copy) (option_map (λ n. join_by op n v) now)
-  folded op was copy now v (stored, sum, p, q, inl r) =
-      (stored, join_by op sum v, p, ap (option_map (λ n. join_by op n v)) q, inl (ap (option_map (λ n. join_by op n v)) r ∙ ap Some (join-associative op stored sum v)))
-  folded op was copy now v (stored, sum, p, q, inr r) = (
+  folded op was copy now v (stored, number, p, q, inl r) =
+      (stored, join_by op number v, p, ap (option_map (λ n. join_by op n v)) q, inl (ap (option_map (λ n. join_by op n v)) r ∙ ap Some (join-associative op stored number v)))
+  folded op was copy now v (stored, number, p, q, inr r) = (
     stored,
-    join_by op sum v,
+    join_by op number v,
     p,
     ap (option_map (λ n. join_by op n v)) q,
     inl (ap (option_map (λ n. join_by op n v)) (r.1 ∙ p) ∙ ap Some (sym (join-absorbed op stored v) ∙ ap (λ u. join_by op stored (join_by op u v)) (sym r.0))),

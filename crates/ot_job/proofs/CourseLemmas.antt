@@ -18,9 +18,7 @@ use Rattle.ot_model.specs.declared.expr.Cell.{Cell}
 use Rattle.ot_model.specs.declared.fold.Fold.{Fold as Operation}
 use Rattle.ot_model.specs.declared.stmt.Use.{Use}
 use Rattle.ot_model.proofs.CellsLemmas.{length-updated}
-use Rattle.ot_check.specs.Paths.{use_as}
 use Rattle.ot_check.specs.Offences.{folds_to}
-use Rattle.ot_model.specs.declared.stmt.Mode.TheVariants.{Reads}
 use Rattle.ot_check.specs.Touches.{EachTouch}
 use Rattle.ot_check.specs.walk.Fine.{IsFine}
 use Rattle.ot_owner.specs.Back.{all_back}

@@ -25,7 +25,7 @@ use Rattle.ot_check.specs.walk.Fine.{IsClean}
 use Rattle.ot_task.specs.Place.{Open, todo}
 use Rattle.ot_job.specs.Awaiting.{opened, children_of, IsFineAt, AwaitsAll, unawaited}
 use Rattle.ot_task.specs.Regions.{Region, with_rest, with_child}
-use Rattle.ot_job.specs.Sound.{DontMix, LetsAll, NamedOnce, OnlyFolds, IsPlaced, sums_in}
+use Rattle.ot_job.specs.Sound.{DontMix, LetsAll, NamedOnce, OnlyFolds, IsPlaced, grouped_in}
 use Rattle.ot_job.proofs.FoldLemmas.{one-op, writes-all, declares-fold, only-unwritten}
 use Rattle.ot_job.proofs.KeptLemmas.{todo-next}
 
@@ -35,23 +35,23 @@ pub group_self : (n : ℕ) → (n == n) ≡ true
 group_self n = grind (arith, nat_tests)
 
 -- a child is created in each open group that names a cell
-opened-sums : (gs : List Open) (d : List Use) (groups : List ℕ) (o : Operation) (c : Cell) → ((g : ℕ) → list_any (λ h. h == g) (map (λ o. o.group) gs) ≡ true → list_any (λ h. h == g) groups ≡ true)
-    → opened gs o c ≡ true → sums_in gs (created d groups) o c ≡ true
-opened-sums [] d groups o c in_all h = h
-opened-sums (g ∷ gs) d groups o c in_all h =
+opened-grouped : (gs : List Open) (d : List Use) (groups : List ℕ) (o : Operation) (c : Cell) → ((g : ℕ) → list_any (λ h. h == g) (map (λ o. o.group) gs) ≡ true → list_any (λ h. h == g) groups ≡ true)
+    → opened gs o c ≡ true → grouped_in gs (created d groups) o c ≡ true
+opened-grouped [] d groups o c in_all h = h
+opened-grouped (g ∷ gs) d groups o c in_all h =
     elim (or_true (opened gs o c) (same_fold g.op o && has_cell g.cells c) h) [
-      | inl outer ↦ or_right ((same_fold g.op o && has_cell g.cells c) && is_in g.group (created d groups)) (sums_in gs (created d groups) o c)
-          (opened-sums gs d groups o c (λ n there. in_all n (or_right (g.group == n) (list_any (λ h. h == n) (map (λ o. o.group) gs)) there)) outer)
-      | inr here ↦ true_or ((same_fold g.op o && has_cell g.cells c) && is_in g.group (created d groups)) (sums_in gs (created d groups) o c)
+      | inl outer ↦ or_right ((same_fold g.op o && has_cell g.cells c) && is_in g.group (created d groups)) (grouped_in gs (created d groups) o c)
+          (opened-grouped gs d groups o c (λ n there. in_all n (or_right (g.group == n) (list_any (λ h. h == n) (map (λ o. o.group) gs)) there)) outer)
+      | inr here ↦ true_or ((same_fold g.op o && has_cell g.cells c) && is_in g.group (created d groups)) (grouped_in gs (created d groups) o c)
           (and_true (same_fold g.op o && has_cell g.cells c) (is_in g.group (created d groups)) here (in_all g.group (true_or (g.group == g.group) _ (group_self g.group))))
     ]
 
-pub sums-opened : (gs : List Open) (s : Sibling) (o : Operation) (c : Cell) → sums_in gs s o c ≡ true → opened gs o c ≡ true
-sums-opened [] s o c h = h
-sums-opened (g ∷ gs) s o c h =
-    elim (or_true ((same_fold g.op o && has_cell g.cells c) && is_in g.group s) (sums_in gs s o c) h) [
+pub grouped-opened : (gs : List Open) (s : Sibling) (o : Operation) (c : Cell) → grouped_in gs s o c ≡ true → opened gs o c ≡ true
+grouped-opened [] s o c h = h
+grouped-opened (g ∷ gs) s o c h =
+    elim (or_true ((same_fold g.op o && has_cell g.cells c) && is_in g.group s) (grouped_in gs s o c) h) [
       | inl here ↦ or_right (opened gs o c) (same_fold g.op o && has_cell g.cells c) (and_left (same_fold g.op o && has_cell g.cells c) (is_in g.group s) here)
-      | inr outer ↦ true_or (opened gs o c) (same_fold g.op o && has_cell g.cells c) (sums-opened gs s o c outer)
+      | inr outer ↦ true_or (opened gs o c) (same_fold g.op o && has_cell g.cells c) (grouped-opened gs s o c outer)
     ]
 
 -- groups of which no two name one cell name it by one operation
@@ -115,8 +115,8 @@ module _ (r : Region) (p : IsPlaced r) (d : List Use) (b rest : Body) (was : r.r
     fits : (o : Operation) (c : Cell) → folds_to (Some d) o c ≡ true → (folds_to r.own o c ≡ true) ⊎ (opened r.groups o c ≡ true)
     fits o c h = fits-folds r.own (opened r.groups) d o c misfit h
 
-    sum_new : (o : Operation) (c : Cell) → folds_to (Some d) o c ≡ true → (folds_to r.own o c ≡ true) ⊎ (sums_in r.groups new o c ≡ true)
-    sum_new o c h = ⊎_elim (λ e. inl e) (λ e. inr (opened-sums r.groups d (map (λ o. o.group) r.groups) o c (λ g k. k) e)) (fits o c h)
+    grouped_new : (o : Operation) (c : Cell) → folds_to (Some d) o c ≡ true → (folds_to r.own o c ≡ true) ⊎ (grouped_in r.groups new o c ≡ true)
+    grouped_new o c h = ⊎_elim (λ e. inl e) (λ e. inr (opened-grouped r.groups d (map (λ o. o.group) r.groups) o c (λ g k. k) e)) (fits o c h)
 
     -- of a cell of an open group the new child may do no more than fold by the group's operation
     only_new : (o : Operation) (c : Cell) → opened r.groups o c ≡ true → OnlyFolds o (Some d) c
@@ -135,8 +135,8 @@ module _ (r : Region) (p : IsPlaced r) (d : List Use) (b rest : Body) (was : r.r
     new_old : (k : ℕ) (s : Sibling) → slice_get r.children k ≡ Some s → s.finished ≡ false → DontMix d s.uses
     new_old k s there alive o c folds m h =
         ⊎_elim (λ own. p.exclusive o c own m (may (use_as m c) h))
-        (λ grouped. only_new o c (sums-opened r.groups s o c grouped) m h)
-        (p.sums k s there alive o c folds)
+        (λ grouped. only_new o c (grouped-opened r.groups s o c grouped) m h)
+        (p.grouped k s there alive o c folds)
 
     -- and folds nothing that an older one uses otherwise
     old_new : (k : ℕ) (s : Sibling) → slice_get r.children k ≡ Some s → s.finished ≡ false → DontMix s.uses d
@@ -161,7 +161,7 @@ module _ (r : Region) (p : IsPlaced r) (d : List Use) (b rest : Body) (was : r.r
       shut = p.shut;
       once = p.once;
       writes = p.writes;
-      sums = more-place (λ k s. s.finished ≡ false → (o : Operation) (c : Cell) → folds_to (Some s.uses) o c ≡ true → (folds_to r.own o c ≡ true) ⊎ (sums_in r.groups s o c ≡ true)) r.children new p.sums (λ alive. sum_new);
+      grouped = more-place (λ k s. s.finished ≡ false → (o : Operation) (c : Cell) → folds_to (Some s.uses) o c ≡ true → (folds_to r.own o c ≡ true) ⊎ (grouped_in r.groups s o c ≡ true)) r.children new p.grouped (λ alive. grouped_new);
       reduced = more-place (λ k s. s.finished ≡ false → (o : Operation) (c : Cell) → opened r.groups o c ≡ true → OnlyFolds o (Some s.uses) c) r.children new p.reduced (λ alive. only_new);
       exclusive = p.exclusive;
     }

@@ -12,7 +12,7 @@ use Rattle.ot_model.specs.declared.fold.Fold.{Fold as Operation}
 use Rattle.ot_model.specs.declared.stmt.Mode.{Mode}
 use Rattle.ot_model.specs.declared.stmt.Mode.TheVariants.{Reads, Writes, Folds}
 use Rattle.ot_model.specs.declared.stmt.Use.{Use}
-use Rattle.ot_depend.specs.Siblings.{Sibling, is_unfinished, is_in}
+use Rattle.ot_depend.specs.Siblings.{Sibling, is_unfinished}
 use Rattle.ot_check.specs.Paths.{use_as}
 use Rattle.ot_check.specs.Offences.{Declared, Openings, allows, covers, folds_by, folds_to}
 use Rattle.ot_check.specs.walk.Walk.{Children}
@@ -39,7 +39,7 @@ use Rattle.ot_job.specs.Running.{RunsWell}
 use Rattle.ot_job.specs.Whole.{assigns_out, whole, wholes}
 use Rattle.ot_job.proofs.SoundLemmas.{sound, at-past}
 use Rattle.ot_job.proofs.KeptLemmas.{here, family_of}
-use Rattle.ot_job.proofs.CreatedLemmas.{sums-opened}
+use Rattle.ot_job.proofs.CreatedLemmas.{grouped-opened}
 use Rattle.ot_job.proofs.FoldLemmas.{held-alike}
 use Rattle.ot_job.proofs.GroupLemmas.{kid-none}
 use Rattle.ot_job.proofs.HoldsLemmas.{Among, among-split, held-right, each-assign, each-test}
@@ -224,7 +224,7 @@ module _ (lens : List ℕ) (r : Region) (p : IsPlaced (whole r)) (named : NamedI
   piece-meets k s there alive u v h may =
       right_apart r.own (opened r.groups) (children_of (unawaited r.waiting r.children)) Touched safe s.uses
       (λ test none. kid-none r.children (λ x. test x.uses) k s (subst (λ b. (not b && list_any (λ x. is_unfinished x && test x.uses) r.children) ≡ false) w.calm none) there alive)
-      (λ o c folds. ⊎_elim inl (λ e. inr (sums-opened r.groups s o c e)) (p.sums k s there alive o c folds))
+      (λ o c folds. ⊎_elim inl (λ e. inr (grouped-opened r.groups s o c e)) (p.grouped k s there alive o c folds))
       u.cell u.mode v (right-of u h) may
 
 -- ---- two pieces

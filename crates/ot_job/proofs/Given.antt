@@ -12,7 +12,7 @@ IsGiven None before copy after = after ≡ before
 IsGiven (Some Reads) before copy after = (after ≡ before) × (copy ≡ before)
 IsGiven (Some Writes) before copy after = after ≡ copy
 IsGiven (Some (Folds op)) before copy after =
-    (stored : ℕ) × (sum : ℕ) × (before ≡ Some stored) × (copy ≡ Some sum) × ((after ≡ Some (join_by op stored sum)) ⊎ ((sum ≡ unit_of op) × (after ≡ before)))
+    (stored : ℕ) × (number : ℕ) × (before ≡ Some stored) × (copy ≡ Some number) × ((after ≡ Some (join_by op stored number)) ⊎ ((number ≡ unit_of op) × (after ≡ before)))
 
 -- whether a copy in this mode lets itself be used so
 abbrev pub LetsMode : Mode → Option Mode → Type 0

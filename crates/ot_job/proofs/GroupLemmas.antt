@@ -25,7 +25,7 @@ use Rattle.ot_job.specs.Awaiting.{opened, children_of, IsFineAt, AwaitsAll, unaw
 use Rattle.ot_check.proofs.SameLemmas.{same_is}
 use Rattle.ot_check.proofs.TouchLemmas.{clash_free}
 use Rattle.ot_task.specs.Regions.{Region, with_rest, inside}
-use Rattle.ot_job.specs.Sound.{LetsAll, NamedOnce, IsPlaced, sums_in}
+use Rattle.ot_job.specs.Sound.{LetsAll, NamedOnce, IsPlaced, grouped_in}
 use Rattle.ot_job.proofs.KeptLemmas.{todo-next}
 
 pub touch-append : (P : Use → Type 0) (a b : Body) → EachTouch P a → EachTouch P b → EachTouch P (append a b)
@@ -89,7 +89,7 @@ module _ (r : Region) (p : IsPlaced r) where
     shut = λ e. absurd (never (sym (sym (ap (λ x. todo x r.groups) was ∙ todo-next (Group op cs b) rest r.groups) ∙ p.over e)));
     once = ((λ o c named. opened-none (opened r.groups) o c (group_free r.own (opened r.groups) cs c fits named)), p.once);
     writes = groups_inside r.own (opened r.groups) op cs p.writes fits;
-    sums = λ k s there alive o c folds. ⊎_elim (λ e. inl e) (λ e. inr (or_right ((same_fold op o && has_cell cs c) && is_in g s) (sums_in r.groups s o c) e)) (p.sums k s there alive o c folds);
+    grouped = λ k s there alive o c folds. ⊎_elim (λ e. inl e) (λ e. inr (or_right ((same_fold op o && has_cell cs c) && is_in g s) (grouped_in r.groups s o c) e)) (p.grouped k s there alive o c folds);
     reduced = λ k s there alive o c here. ⊎_elim (λ e. p.reduced k s there alive o c e)
         (λ e m may. absurd (true≢false (sym may ∙ unused cs r.children k s c awaited there alive (and_right (same_fold op o) (has_cell cs c) e) m)))
         (or_true (opened r.groups o c) (same_fold op o && has_cell cs c) here);
@@ -121,8 +121,8 @@ module _ (r : Region) (p : IsPlaced r) where
     shut = λ e. absurd (some-groups (sym here ∙ p.shut e));
     once = (subst NamedOnce here p.once).1;
     writes = λ by c h. p.writes by c (ap (λ gs. opened gs by c) here ∙ true_or (opened os by c) (same_fold o.op by && has_cell o.cells c) h);
-    sums = λ k s there alive by c folds. ⊎_elim (λ e. inl e)
-        (λ e. inr (outer (same_fold o.op by && has_cell o.cells c) (is_in o.group s) (sums_in os s by c) (none k s there alive) (sym (ap (λ gs. sums_in gs s by c) here) ∙ e))) (p.sums k s there alive by c folds);
+    grouped = λ k s there alive by c folds. ⊎_elim (λ e. inl e)
+        (λ e. inr (outer (same_fold o.op by && has_cell o.cells c) (is_in o.group s) (grouped_in os s by c) (none k s there alive) (sym (ap (λ gs. grouped_in gs s by c) here) ∙ e))) (p.grouped k s there alive by c folds);
     reduced = λ k s there alive by c h. p.reduced k s there alive by c (ap (λ gs. opened gs by c) here ∙ true_or (opened os by c) (same_fold o.op by && has_cell o.cells c) h);
     exclusive = p.exclusive;
   }

@@ -67,7 +67,7 @@ module _ (r : Region) (p : IsPlaced r) (alive : r.ended ≡ false) (uses : List 
     shut = p.shut;
     once = p.once;
     writes = p.writes;
-    sums = p.sums;
+    grouped = p.grouped;
     reduced = p.reduced;
     exclusive = p.exclusive;
   }
@@ -92,7 +92,7 @@ module _ (r : Region) (p : IsPlaced r) (alive : r.ended ≡ false) (uses : List 
     shut = λ e. refl;
     once = tt;
     writes = λ o c h. absurd (true≢false (sym h));
-    sums = λ k s h. cc;
+    grouped = λ k s h. cc;
     reduced = λ k s h. cc;
     exclusive = folds-alone uses ordered;
   }

@@ -17,7 +17,7 @@ use Rattle.ot_owner.specs.Leases.{Lease, lease_of, lent_from}
 use Rattle.ot_owner.specs.Lending.{use_of, uses_of}
 use Rattle.ot_owner.specs.Owning.{Loan, Owned, IsFreeFor}
 use Rattle.ot_owner.specs.Back.{IsByOwn}
-use Rattle.ot_owner.specs.Rows.{Summed, IsSummed, IsSummedBy, IsOnlyBy, IsByOne, begun_for}
+use Rattle.ot_owner.specs.Rows.{Summed, IsSummed, IsSummedBy, IsByOne, begun_for}
 use Rattle.ot_owner.specs.Worth.{AreWorthSame, worths}
 use Rattle.ot_owner.specs.declared.lent.LentCell.{LentCell}
 use Rattle.ot_owner.proofs.WorthLemmas.{worths-same}
@@ -102,8 +102,8 @@ module _ (j : Live) (w : IsWell j) (o : IsOnCourse j) (i : ℕ) (h : i < length 
     open-now = open-passed j.regions gs i (begun worker lease) h (λ r. refl) o.copies
 
     -- copies are kept of the cells that it folds, by its operations
-    pub claim-sums : All (λ u. (op : Operation) → u.mode ≡ Folds op → IsSummedBy (left_open (group_passed (at j.regions i)) gs) op u.cell) lease.uses
-    claim-sums k d within op folds =
+    pub claim-folds : All (λ u. (op : Operation) → u.mode ≡ Folds op → IsSummedBy (left_open (group_passed (at j.regions i)) gs) op u.cell) lease.uses
+    claim-folds k d within op folds =
         let u = get_or lease.uses k d in
         let held = mode-once lease.uses ordered u (among-at lease.uses k d within) ∙ ap Some folds in
         let (n, g, there, by, named) = claim-folded j o i h can worker lease are ordered op u.cell held in

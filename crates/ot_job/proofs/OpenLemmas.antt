@@ -1,6 +1,6 @@
 -- What pieces hold of the cells of open groups: nothing of their own task's, and of another task's they only fold.
 use Rattle.std.proofs.Common.{◌≡◌, ◌≢◌, ℕ, ◌<◌, ◌≤◌, Bool, true, false, List, [], ◌∷◌, length, refl, sym, ap, subst, ◌∙◌, ◌⊎◌, inl, inr, true≢false, ◌&&◌}
-use Rattle.std.specs.Prelude.{Some, None, slice_get}
+use Rattle.std.specs.Prelude.{Some, slice_get}
 use Rattle.std.proofs.lemmas.Bool.{cases_eq, cases_lt}
 use Rattle.ot_model.specs.Names.{NamedIn}
 use Rattle.ot_model.specs.Uses.{conflicts, mode_in, same_fold}
@@ -23,7 +23,7 @@ use Rattle.ot_task.specs.Touched.{piece_touches}
 use Rattle.ot_job.specs.Rights.{IsRight}
 use Rattle.ot_job.specs.Awaiting.{opened}
 use Rattle.ot_job.specs.Numbered.{at, parent_of, todo_at, ended_at}
-use Rattle.ot_job.specs.Sound.{may_at, sums_in, NamedOnce, IsBegun, IsPlaced, IsSound}
+use Rattle.ot_job.specs.Sound.{may_at, grouped_in, NamedOnce, IsBegun, IsPlaced, IsSound}
 use Rattle.ot_job.specs.Running.{RunsWell}
 use Rattle.ot_job.specs.Whole.{whole, wholes}
 use Rattle.ot_job.proofs.FoldLemmas.{same-op, one-fold, agrees-with, agrees-before, both-fold, writes-all, only-declares, only-unwritten}
@@ -31,7 +31,7 @@ use Rattle.ot_job.proofs.HoldsLemmas.{Among}
 use Rattle.ot_job.proofs.SoundLemmas.{sound, at-past}
 use Rattle.ot_job.proofs.RightsLemmas.{rights_apart}
 use Rattle.ot_job.proofs.GroupLemmas.{writes-agree}
-use Rattle.ot_job.proofs.CreatedLemmas.{sums-opened, opened-alike}
+use Rattle.ot_job.proofs.CreatedLemmas.{grouped-opened, opened-alike}
 use Rattle.ot_job.proofs.FreeLemmas.{total, at-whole, named-front, piece-may, piece-meets, safe, right-of}
 
 -- ---- who may hold a cell
@@ -127,12 +127,12 @@ module _ (rs : List Region) (s : IsSound (wholes rs)) where
     child_free : (k : ℕ) (x : Sibling) → slice_get (at rs i).children k ≡ Some x → x.finished ≡ false → (m : Mode) → allows (Some x.uses) (use_as m c) ≡ true → ⊥
     child_free k x there unfinished m may =
         let p = placed i in
-        let sum = only-declares x.uses o.op c (p.reduced k x there unfinished o.op c is_open) m may in
-        elim (p.sums k x there unfinished o.op c sum) [
+        let declared = only-declares x.uses o.op c (p.reduced k x there unfinished o.op c is_open) m may in
+        elim (p.grouped k x there unfinished o.op c declared) [
           | inl own ↦ only-unwritten o.op (at rs i).own c (p.exclusive o.op c own) may_write
-          | inr in_one ↦ elim (or_true ((same_fold o.op o.op && has_cell o.cells c) && is_in o.group x) (sums_in os x o.op c) (sym (ap (λ (gs : List Open). sums_in gs x o.op c) innermost) ∙ in_one)) [
+          | inr in_one ↦ elim (or_true ((same_fold o.op o.op && has_cell o.cells c) && is_in o.group x) (grouped_in os x o.op c) (sym (ap (λ (gs : List Open). grouped_in gs x o.op c) innermost) ∙ in_one)) [
             | inl here ↦ both (same_fold o.op o.op && has_cell o.cells c) (is_in o.group x) here (none_in k x there unfinished)
-            | inr outer ↦ true≢false (sym (sums-opened os x o.op c outer) ∙ (subst NamedOnce innermost p.once).0 o.op c named)
+            | inr outer ↦ true≢false (sym (grouped-opened os x o.op c outer) ∙ (subst NamedOnce innermost p.once).0 o.op c named)
           ]
         ]
       where

@@ -28,7 +28,7 @@ use Rattle.ot_job.specs.Whole.{wholes}
 use Rattle.ot_job.specs.Live.{Live}
 use Rattle.ot_job.specs.Well.{IsOnCourse}
 use Rattle.ot_job.proofs.KeptLemmas.{at-updated}
-use Rattle.ot_job.proofs.CreatedLemmas.{sums-opened}
+use Rattle.ot_job.proofs.CreatedLemmas.{grouped-opened}
 use Rattle.ot_job.proofs.AwakeLemmas.{none-in-group}
 use Rattle.ot_job.proofs.FoldLemmas.{one-op}
 use Rattle.ot_job.proofs.FreeLemmas.{at-whole}
@@ -66,9 +66,9 @@ module _ (rs : List Region) (s : IsSound (wholes rs)) where
   folds-up : (i : ℕ) → 0 < i → (op : Operation) (c : Cell) → (at rs i).ended ≡ false → folds_to (at rs i).own op c ≡ true
       → ((at rs (parent_of ws i)).ended ≡ false → folds_to (at rs (parent_of ws i)).own op c ≡ true → IsFolded rs op c) → IsFolded rs op c
   folds-up i pos op c alive folds above =
-      elim ((s.placed p).sums (at ws i).child kin.entry kin.there unfinished op c sum) [
+      elim ((s.placed p).grouped (at ws i).child kin.entry kin.there unfinished op c declared) [
         | inl own ↦ (let mine = ap (λ (r : Region). folds_to r.own op c) (sym (at-whole rs p)) ∙ own in above (going mine (at rs p).ended refl) mine)
-        | inr summed ↦ (let g = group-in (at rs p).groups op c (ap (λ (r : Region). opened r.groups op c) (sym (at-whole rs p)) ∙ sums-opened (at ws p).groups kin.entry op c summed) in (p, g.0, g.1, g.2, g.3))
+        | inr summed ↦ (let g = group-in (at rs p).groups op c (ap (λ (r : Region). opened r.groups op c) (sym (at-whole rs p)) ∙ grouped-opened (at ws p).groups kin.entry op c summed) in (p, g.0, g.1, g.2, g.3))
       ]
     where
       p : ℕ
@@ -80,8 +80,8 @@ module _ (rs : List Region) (s : IsSound (wholes rs)) where
       unfinished : kin.entry.finished ≡ false
       unfinished = kin.finished ∙ ap (λ (r : Region). r.ended) (at-whole rs i) ∙ alive
 
-      sum : folds_to (Some kin.entry.uses) op c ≡ true
-      sum = ap (λ (d : Declared). folds_to d op c) (sym kin.uses ∙ ap (λ (r : Region). r.own) (at-whole rs i)) ∙ folds
+      declared : folds_to (Some kin.entry.uses) op c ≡ true
+      declared = ap (λ (d : Declared). folds_to d op c) (sym kin.uses ∙ ap (λ (r : Region). r.own) (at-whole rs i)) ∙ folds
 
       going : folds_to (at rs p).own op c ≡ true → (b : Bool) → (at rs p).ended ≡ b → b ≡ false
       going own false e = refl

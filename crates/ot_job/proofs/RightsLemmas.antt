@@ -48,7 +48,7 @@ folds_or_clashes o c (d ∷ uses) may free =
 module _ (own : Declared) (opened : Openings) (children : Children) (Touched : Use → Type 0)
     (safe : (u : Use) → Touched u → IsHarmless own opened children u)
     (child : List Use) (there : (test : List Use → Bool) → children test ≡ false → test child ≡ false)
-    (sums : (o : Operation) (c : Cell) → folds_to (Some child) o c ≡ true → (folds_to own o c ≡ true) ⊎ (opened o c ≡ true))
+    (grouped : (o : Operation) (c : Cell) → folds_to (Some child) o c ≡ true → (folds_to own o c ≡ true) ⊎ (opened o c ≡ true))
   where
     pub right_apart : (c : Cell) (m : Mode) (v : Use) → IsRight own Touched (use_as m c) → Allowed (Some child) v → Agree (use_as m c) v
     right_apart c Reads v held may = clash_free (use_as Reads c) v child (there (clashes (use_as Reads c)) (safe (use_as Reads c) held ConflictsWithChild)) may
@@ -58,8 +58,8 @@ module _ (own : Declared) (opened : Openings) (children : Children) (Touched : U
         let o = held.0 in
         let free = there (clashes (use_as (Folds o) c)) (safe (use_as (Folds o) c) held.1 ConflictsWithChild) in
         let folds : v.mode ≡ Folds o = agrees-with o v.mode (clash_free (use_as (Folds o) c) v child free may same) in
-        let sum : folds_to (Some child) o c ≡ true = folds_or_clashes o c child (subst (λ (u : Use). Allowed (Some child) u) (use_is o v c (sym same) folds) may) free in
-        absurd (⊎_elim (λ e. true≢false (sym e ∙ held.2)) (λ e. true≢false (sym e ∙ opened-none opened o c (safe (use_as (Folds o) c) held.1 ReductionMisuse))) (sums o c sum))
+        let declared : folds_to (Some child) o c ≡ true = folds_or_clashes o c child (subst (λ (u : Use). Allowed (Some child) u) (use_is o v c (sym same) folds) may) free in
+        absurd (⊎_elim (λ e. true≢false (sym e ∙ held.2)) (λ e. true≢false (sym e ∙ opened-none opened o c (safe (use_as (Folds o) c) held.1 ReductionMisuse))) (grouped o c declared))
       where
         use_is : (o : Operation) (v : Use) (c : Cell) → v.cell ≡ c → v.mode ≡ Folds o → v ≡ use_as (Folds o) c
         use_is o v c p q = ap (λ (x : Cell). use_as v.mode x) p ∙ ap (λ (m : Mode). use_as m c) q

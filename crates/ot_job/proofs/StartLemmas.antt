@@ -61,7 +61,7 @@ placed-gone = record {
   shut = λ e. refl;
   once = tt;
   writes = λ o c h. absurd (true≢false (sym h));
-  sums = λ k s h. cc;
+  grouped = λ k s h. cc;
   reduced = λ k s h. cc;
   exclusive = λ o c h. absurd (true≢false (sym h));
 }
@@ -82,7 +82,7 @@ module _ (program : Expanded) (disciplined : IsDisciplined program) (lens : List
     shut = λ e. refl;
     once = tt;
     writes = λ o c h. absurd (true≢false (sym h));
-    sums = λ k s h. cc;
+    grouped = λ k s h. cc;
     reduced = λ k s h. cc;
     exclusive = λ o c h. absurd (true≢false (sym h));
   }

@@ -65,7 +65,7 @@ module _ (r : Region) (p : IsPlaced r) (piece rest : Body) (was : r.rest ≡ app
     shut = p.shut;
     once = p.once;
     writes = p.writes;
-    sums = p.sums;
+    grouped = p.grouped;
     reduced = p.reduced;
     exclusive = p.exclusive;
   }

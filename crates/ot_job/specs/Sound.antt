@@ -1,5 +1,5 @@
 -- What holds of the regions of a job.
-use Rattle.std.specs.Prelude.{◌≡◌, ◌<◌, ◌⊎◌, ℕ, ◌&&◌, ◌||◌, Bool, true, false, List, [], ◌∷◌, length, Some, None, slice_get}
+use Rattle.std.specs.Prelude.{◌≡◌, ◌<◌, ◌⊎◌, ℕ, ◌&&◌, ◌||◌, true, false, List, [], ◌∷◌, length, Some, None, slice_get}
 use Rattle.ot_model.specs.Tree.{Body, End}
 use Rattle.ot_model.specs.declared.expr.Cell.{Cell}
 use Rattle.ot_model.specs.declared.fold.Fold.{Fold as Operation}
@@ -39,9 +39,9 @@ abbrev pub DontMix : List Use → List Use → Type 0
 DontMix us vs = (o : Operation) (c : Cell) → folds_to (Some vs) o c ≡ true → OnlyFolds o (Some us) c
 
 -- whether the child was created in an open group by this operation that names the cell
-abbrev pub sums_in : List Open → Sibling → Openings
-sums_in [] s o c = false
-sums_in (g ∷ gs) s o c = ((same_fold g.op o && has_cell g.cells c) && is_in g.group s) || sums_in gs s o c
+abbrev pub grouped_in : List Open → Sibling → Openings
+grouped_in [] s o c = false
+grouped_in (g ∷ gs) s o c = ((same_fold g.op o && has_cell g.cells c) && is_in g.group s) || grouped_in gs s o c
 
 -- no cell is named by two of the groups
 abbrev pub NamedOnce : List Open → Type 0
@@ -64,7 +64,7 @@ pub record IsPlaced (r : Region) : Type 0 where
   pub shut : r.ended ≡ true → r.groups ≡ []
   pub once : NamedOnce r.groups
   pub writes : (o : Operation) (c : Cell) → opened r.groups o c ≡ true → allows r.own (use_as Writes c) ≡ true
-  pub sums : (k : ℕ) (s : Sibling) → slice_get r.children k ≡ Some s → s.finished ≡ false → (o : Operation) (c : Cell) → folds_to (Some s.uses) o c ≡ true → (folds_to r.own o c ≡ true) ⊎ (sums_in r.groups s o c ≡ true)
+  pub grouped : (k : ℕ) (s : Sibling) → slice_get r.children k ≡ Some s → s.finished ≡ false → (o : Operation) (c : Cell) → folds_to (Some s.uses) o c ≡ true → (folds_to r.own o c ≡ true) ⊎ (grouped_in r.groups s o c ≡ true)
   pub reduced : (k : ℕ) (s : Sibling) → slice_get r.children k ≡ Some s → s.finished ≡ false → (o : Operation) (c : Cell) → opened r.groups o c ≡ true → OnlyFolds o (Some s.uses) c
   pub exclusive : (o : Operation) (c : Cell) → folds_to r.own o c ≡ true → OnlyFolds o r.own c
 

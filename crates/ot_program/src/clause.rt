@@ -76,8 +76,12 @@ fn clause_form(scope: &Scope, items: &[Value]) -> Result<Clause, Refusal>
     }
 }
 
-/// A clause of this mode, whatever its section is read as.
-pub(crate) fn clause_at(scope: &Scope, mode: Option<Mode>, section: &Value) -> Result<Clause, Refusal>
+/// The clause of a mode, where a word names one, and of a section.
+pub(crate) fn clause_at(
+    scope: &Scope,
+    mode: Option<Mode>,
+    section: &Value,
+) -> Result<Clause, Refusal>
     ensures { result ≡ clause_at mode (section_of scope.now.shape.now
         (bindings_of scope.now.variables.now) (view section.now)) }
 {

@@ -42,7 +42,7 @@ assigned-same (Next (Fold o d e) rest) look other same c =
     (λ x. ap (λ w. with_copy look d (λ n. join_by o n w) x) v ∙ ap (λ s. if same_cell d x then option_map (λ n. join_by o n (val other e)) s else s) (same x)) c
 assigned-same (Next (If e a b) rest) look other same c = same c
 assigned-same (Next (Task d b) rest) look other same c = same c
-assigned-same (Next Wait rest) look other same c = same c
+assigned-same (Next (Wait w) rest) look other same c = same c
 assigned-same (Next (Group o cs b) rest) look other same c = same c
 
 -- a copy is set to f of its value, and no other copy changes
@@ -88,7 +88,7 @@ can-kept (Next (Fold o c e) rest) lent now same kept h = (all-kept (value_at len
 can-kept End lent now same kept h = tt
 can-kept (Next (If e a b) rest) lent now same kept h = tt
 can-kept (Next (Task d b) rest) lent now same kept h = tt
-can-kept (Next Wait rest) lent now same kept h = tt
+can-kept (Next (Wait w) rest) lent now same kept h = tt
 can-kept (Next (Group o cs b) rest) lent now same kept h = tt
 
 abbrev pub IsAssign : S → Type 0
@@ -102,7 +102,7 @@ assigned-first (Set d e) rest look now made c is = assigned-same rest now (with_
 assigned-first (Fold o d e) rest look now made c is = assigned-same rest now (with_copy look d (λ n. join_by o n (val look e))) made c
 assigned-first (If e a b) rest look now made c is = absurd is
 assigned-first (Task d b) rest look now made c is = absurd is
-assigned-first Wait rest look now made c is = absurd is
+assigned-first (Wait w) rest look now made c is = absurd is
 assigned-first (Group o cs b) rest look now made c is = absurd is
 
 pub can-rest : (x : S) (rest : Body) (lent : List LentCell) → IsAssign x → CanAssign (Next x rest) lent → CanAssign rest lent
@@ -110,7 +110,7 @@ can-rest (Set d e) rest lent is h = h.2
 can-rest (Fold o d e) rest lent is h = h.2
 can-rest (If e a b) rest lent is h = absurd is
 can-rest (Task d b) rest lent is h = absurd is
-can-rest Wait rest lent is h = absurd is
+can-rest (Wait w) rest lent is h = absurd is
 can-rest (Group o cs b) rest lent is h = absurd is
 
 pub is_assign : (a : Assign) → IsAssign (assign_of a)

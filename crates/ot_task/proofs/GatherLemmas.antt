@@ -31,7 +31,7 @@ leading-append (Next (Set c e) rest) b h = ap (Next (Set c e)) (leading-append r
 leading-append (Next (Fold o c e) rest) b h = ap (Next (Fold o c e)) (leading-append rest b (more (Fold o c e) (leading rest) rest h))
 leading-append (Next (If e p q) rest) b h = cc
 leading-append (Next (Task d p) rest) b h = cc
-leading-append (Next Wait rest) b h = cc
+leading-append (Next (Wait w) rest) b h = cc
 leading-append (Next (Group o cs p) rest) b h = cc
 
 pub behind-append : (g b : Body) → leading g ≡ g → behind (append g b) ≡ behind b
@@ -40,7 +40,7 @@ behind-append (Next (Set c e) rest) b h = behind-append rest b (more (Set c e) (
 behind-append (Next (Fold o c e) rest) b h = behind-append rest b (more (Fold o c e) (leading rest) rest h)
 behind-append (Next (If e p q) rest) b h = cc
 behind-append (Next (Task d p) rest) b h = cc
-behind-append (Next Wait rest) b h = cc
+behind-append (Next (Wait w) rest) b h = cc
 behind-append (Next (Group o cs p) rest) b h = cc
 
 pub weight-append : (g b : Body) → leading g ≡ g → weight (append g b) ≡ weight b
@@ -49,7 +49,7 @@ weight-append (Next (Set c e) rest) b h = let w = weight-append rest b (more (Se
 weight-append (Next (Fold o c e) rest) b h = let w = weight-append rest b (more (Fold o c e) (leading rest) rest h) in omega (arith, w)
 weight-append (Next (If e p q) rest) b h = cc
 weight-append (Next (Task d p) rest) b h = cc
-weight-append (Next Wait rest) b h = cc
+weight-append (Next (Wait w) rest) b h = cc
 weight-append (Next (Group o cs p) rest) b h = cc
 
 pub leading-twice : (b : Body) → leading (leading b) ≡ leading b
@@ -58,7 +58,7 @@ leading-twice (Next (Set c e) rest) = ap (Next (Set c e)) (leading-twice rest)
 leading-twice (Next (Fold o c e) rest) = ap (Next (Fold o c e)) (leading-twice rest)
 leading-twice (Next (If e p q) rest) = refl
 leading-twice (Next (Task d p) rest) = refl
-leading-twice (Next Wait rest) = refl
+leading-twice (Next (Wait w) rest) = refl
 leading-twice (Next (Group o cs p) rest) = refl
 
 pub leading-behind : (b : Body) → leading (behind b) ≡ End
@@ -67,7 +67,7 @@ leading-behind (Next (Set c e) rest) = leading-behind rest
 leading-behind (Next (Fold o c e) rest) = leading-behind rest
 leading-behind (Next (If e p q) rest) = refl
 leading-behind (Next (Task d p) rest) = refl
-leading-behind (Next Wait rest) = refl
+leading-behind (Next (Wait w) rest) = refl
 leading-behind (Next (Group o cs p) rest) = refl
 
 pub both : (b : Body) → append (leading b) (behind b) ≡ b
@@ -76,7 +76,7 @@ both (Next (Set c e) rest) = ap (Next (Set c e)) (both rest)
 both (Next (Fold o c e) rest) = ap (Next (Fold o c e)) (both rest)
 both (Next (If e p q) rest) = refl
 both (Next (Task d p) rest) = refl
-both (Next Wait rest) = refl
+both (Next (Wait w) rest) = refl
 both (Next (Group o cs p) rest) = refl
 
 pub no_leading : (b : Body) → leading_len b ≡ 0 → leading b ≡ End
@@ -85,7 +85,7 @@ no_leading (Next (Set c e) rest) h = absurd (omega (arith, h))
 no_leading (Next (Fold o c e) rest) h = absurd (omega (arith, h))
 no_leading (Next (If e p q) rest) h = refl
 no_leading (Next (Task d p) rest) h = refl
-no_leading (Next Wait rest) h = refl
+no_leading (Next (Wait w) rest) h = refl
 no_leading (Next (Group o cs p) rest) h = refl
 
 -- ---- no control statement comes next
@@ -107,7 +107,7 @@ no_test (Next (Set c e) r) n = refl
 no_test (Next (Fold o c e) r) n = refl
 no_test (Next (If e p q) r) n = absurd (not-both (If e p q) r refl n)
 no_test (Next (Task d p) r) n = refl
-no_test (Next Wait r) n = refl
+no_test (Next (Wait w) r) n = refl
 no_test (Next (Group o cs p) r) n = refl
 
 pub no_task : (b : Body) → NoControl b → next_task b ≡ None
@@ -116,7 +116,7 @@ no_task (Next (Set c e) r) n = refl
 no_task (Next (Fold o c e) r) n = refl
 no_task (Next (If e p q) r) n = refl
 no_task (Next (Task d p) r) n = absurd (not-both (Task d p) r refl n)
-no_task (Next Wait r) n = refl
+no_task (Next (Wait w) r) n = refl
 no_task (Next (Group o cs p) r) n = refl
 
 pub no_tasks : (b : Body) → NoControl b → tasks_next b ≡ 0
@@ -125,7 +125,7 @@ no_tasks (Next (Set c e) r) n = refl
 no_tasks (Next (Fold o c e) r) n = refl
 no_tasks (Next (If e p q) r) n = refl
 no_tasks (Next (Task d p) r) n = absurd (not-both (Task d p) r refl n)
-no_tasks (Next Wait r) n = refl
+no_tasks (Next (Wait w) r) n = refl
 no_tasks (Next (Group o cs p) r) n = refl
 
 pub no_step : (taken : Bool) (g : ℕ) (b : Body) (r : Region) → NoControl b → stepped_from taken g b r ≡ r
@@ -134,7 +134,7 @@ no_step taken g (Next (Set c e) b) r n = refl
 no_step taken g (Next (Fold o c e) b) r n = refl
 no_step taken g (Next (If e p q) b) r n = absurd (not-both (If e p q) b refl n)
 no_step taken g (Next (Task d p) b) r n = absurd (not-both (Task d p) b refl n)
-no_step taken g (Next Wait b) r n = absurd (not-both Wait b refl n)
+no_step taken g (Next (Wait w) b) r n = absurd (not-both (Wait w) b refl n)
 no_step taken g (Next (Group o cs p) b) r n = absurd (not-both (Group o cs p) b refl n)
 
 -- ---- how many come first
@@ -144,7 +144,7 @@ one-counted (Set c e) b h = refl
 one-counted (Fold o c e) b h = refl
 one-counted (If e p q) b h = cc
 one-counted (Task d p) b h = cc
-one-counted Wait b h = cc
+one-counted (Wait w) b h = cc
 one-counted (Group o cs p) b h = cc
 
 pub none-counted : (x : S) (b : Body) → is_control (leading (Next x End)) ≡ false → leading_len (Next x b) ≡ 0
@@ -152,7 +152,7 @@ none-counted (Set c e) b h = cc
 none-counted (Fold o c e) b h = cc
 none-counted (If e p q) b h = refl
 none-counted (Task d p) b h = refl
-none-counted Wait b h = refl
+none-counted (Wait w) b h = refl
 none-counted (Group o cs p) b h = refl
 
 -- ---- lists

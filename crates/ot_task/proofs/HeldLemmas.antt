@@ -57,7 +57,7 @@ assigns-in lens (Next (Set c e) rest) h = all-append lens _ _ (all-append lens _
 assigns-in lens (Next (Fold o c e) rest) h = all-append lens _ _ (all-append lens _ _ (reads-in lens e h.0.1) (h.0.0, tt)) (assigns-in lens rest h.1)
 assigns-in lens (Next (If e a b) rest) h = tt
 assigns-in lens (Next (Task d b) rest) h = tt
-assigns-in lens (Next Wait rest) h = tt
+assigns-in lens (Next (Wait w) rest) h = tt
 assigns-in lens (Next (Group o cs b) rest) h = tt
 
 test-in : (lens : List ℕ) (b : Body) → NamedIn lens b → AllIn lens (test_touches (test_of (behind b)))
@@ -66,7 +66,7 @@ test-in lens (Next (Set c e) rest) h = test-in lens rest h.1
 test-in lens (Next (Fold o c e) rest) h = test-in lens rest h.1
 test-in lens (Next (If e a b) rest) h = reads-in lens e h.0.0
 test-in lens (Next (Task d b) rest) h = tt
-test-in lens (Next Wait rest) h = tt
+test-in lens (Next (Wait w) rest) h = tt
 test-in lens (Next (Group o cs b) rest) h = tt
 
 pub piece-in : (lens : List ℕ) (b : Body) → NamedIn lens b → AllIn lens (piece_touches (leading b) (test_of (behind b)))
@@ -88,7 +88,7 @@ assigns-fit lens (Next (Set c e) rest) h = (value-fits lens e h.0.1, assigns-fit
 assigns-fit lens (Next (Fold o c e) rest) h = (value-fits lens e h.0.1, assigns-fit lens rest h.1)
 assigns-fit lens (Next (If e a b) rest) h = tt
 assigns-fit lens (Next (Task d b) rest) h = tt
-assigns-fit lens (Next Wait rest) h = tt
+assigns-fit lens (Next (Wait w) rest) h = tt
 assigns-fit lens (Next (Group o cs b) rest) h = tt
 
 pub test-fits : (lens : List ℕ) (b : Body) → NamedIn lens b → IfSome (test_of (behind b)) PicksFit
@@ -97,7 +97,7 @@ test-fits lens (Next (Set c e) rest) h = test-fits lens rest h.1
 test-fits lens (Next (Fold o c e) rest) h = test-fits lens rest h.1
 test-fits lens (Next (If e a b) rest) h = value-fits lens e h.0.0
 test-fits lens (Next (Task d b) rest) h = tt
-test-fits lens (Next Wait rest) h = tt
+test-fits lens (Next (Wait w) rest) h = tt
 test-fits lens (Next (Group o cs b) rest) h = tt
 
 -- ---- what is held is touched

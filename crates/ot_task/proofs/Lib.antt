@@ -12,3 +12,4 @@ pub mod WeightLemmas
 pub mod ExecuteLemmas
 pub mod GatherLemmas
 pub mod SendLemmas
+pub mod WaitingLemmas

@@ -39,7 +39,7 @@ behind-here (Next (Set c e) rest) h = cc
 behind-here (Next (Fold o c e) rest) h = cc
 behind-here (Next (If e p q) rest) h = refl
 behind-here (Next (Task d p) rest) h = refl
-behind-here (Next Wait rest) h = refl
+behind-here (Next (Wait w) rest) h = refl
 behind-here (Next (Group o cs p) rest) h = refl
 
 pub none-here : (b : Body) → leading b ≡ End → leading_len b ≡ 0
@@ -48,7 +48,7 @@ none-here (Next (Set c e) rest) h = cc
 none-here (Next (Fold o c e) rest) h = cc
 none-here (Next (If e p q) rest) h = refl
 none-here (Next (Task d p) rest) h = refl
-none-here (Next Wait rest) h = refl
+none-here (Next (Wait w) rest) h = refl
 none-here (Next (Group o cs p) rest) h = refl
 
 -- all that come first are taken
@@ -61,7 +61,7 @@ leading-other (Set c e) b h = cc
 leading-other (Fold o c e) b h = cc
 leading-other (If e p q) b h = refl
 leading-other (Task d p) b h = refl
-leading-other Wait b h = refl
+leading-other (Wait w) b h = refl
 leading-other (Group o cs p) b h = refl
 
 pub test-alone : (x : S) (b : Body) → test_of (Next x End) ≡ test_of (Next x b)
@@ -69,7 +69,7 @@ test-alone (Set c e) b = refl
 test-alone (Fold o c e) b = refl
 test-alone (If e p q) b = refl
 test-alone (Task d p) b = refl
-test-alone Wait b = refl
+test-alone (Wait w) b = refl
 test-alone (Group o cs p) b = refl
 
 -- ---- a group's end
@@ -85,23 +85,23 @@ passed-here s h = ap (λ b. passed b s.groups) h ∙ at s.groups ∙ ap (λ b. l
     at (o ∷ os) = refl
 
 -- the group whose end is passed is the innermost, and what goes on stands behind it
-pub passed-some : (r : Region) (g : ℕ) → group_passed r ≡ Some g → (o : Open) × (os : List Open) × (r.rest ≡ End) × (r.groups ≡ o ∷ os) × (o.group ≡ g) × (awake r ≡ record r { rest = o.behind; groups = os; waiting = false })
+pub passed-some : (r : Region) (g : ℕ) → group_passed r ≡ Some g → (o : Open) × (os : List Open) × (r.rest ≡ End) × (r.groups ≡ o ∷ os) × (o.group ≡ g) × (awake r ≡ record r { rest = o.behind; groups = os; waiting = None })
 passed-some r g is = by r.rest r.groups refl refl is
   where
     at : Body → List Open → Region
-    at b gs = let s = passed b gs in record r { rest = s.rest; groups = s.groups; waiting = false }
+    at b gs = let s = passed b gs in record r { rest = s.rest; groups = s.groups; waiting = None }
 
     by : (b : Body) (gs : List Open) → r.rest ≡ b → r.groups ≡ gs → ended_group b gs ≡ Some g
-        → (o : Open) × (os : List Open) × (r.rest ≡ End) × (r.groups ≡ o ∷ os) × (o.group ≡ g) × (awake r ≡ record r { rest = o.behind; groups = os; waiting = false })
+        → (o : Open) × (os : List Open) × (r.rest ≡ End) × (r.groups ≡ o ∷ os) × (o.group ≡ g) × (awake r ≡ record r { rest = o.behind; groups = os; waiting = None })
     by End [] rest groups is = absurd (none-some g is)
     by End (o ∷ os) rest groups is = (o, os, rest, groups, same_Some o.group g is, ap (λ b. at b r.groups) rest ∙ ap (at End) groups)
     by (Next x b) gs rest groups is = absurd (none-some g is)
 
 -- where no end is passed, the place stays
-pub passed-none : (r : Region) → group_passed r ≡ None → awake r ≡ record r { waiting = false }
+pub passed-none : (r : Region) → group_passed r ≡ None → awake r ≡ record r { waiting = None }
 passed-none r is = by r.rest r.groups is
   where
-    by : (b : Body) (gs : List Open) → ended_group b gs ≡ None → (let s = passed b gs in record r { rest = s.rest; groups = s.groups; waiting = false }) ≡ record r { rest = b; groups = gs; waiting = false }
+    by : (b : Body) (gs : List Open) → ended_group b gs ≡ None → (let s = passed b gs in record r { rest = s.rest; groups = s.groups; waiting = None }) ≡ record r { rest = b; groups = gs; waiting = None }
     by End [] is = refl
     by End (o ∷ os) is = absurd (none-some o.group (sym is))
     by (Next x b) gs is = refl

@@ -1,5 +1,5 @@
 -- Lists of assignments that stand for the same body.
-use Rattle.std.proofs.Common.{◌≡◌, ◌<◌, ◌≤◌, ℕ, suc, ◌+◌, List, [], ◌∷◌, length, get_or, drop, refl, sym, ap, ◌∙◌, Bool, false, true≢false}
+use Rattle.std.proofs.Common.{◌≡◌, ◌<◌, ◌≤◌, ℕ, suc, ◌+◌, List, [], ◌∷◌, length, get_or, drop, refl, sym, ap, ◌∙◌, Bool, false, None, true≢false}
 use Rattle.std.specs.Prelude.{◌↔◌, IsTrue}
 use Rattle.std.proofs.lemmas.List.{drop_more, drop_all}
 use Rattle.ot_model.specs.Tree.{S, Wait, Body, End, Next}
@@ -16,7 +16,7 @@ counted [] = refl
 counted (x ∷ xs) = ap suc (counted xs)
 
 first : Body → S
-first End = Wait
+first End = Wait None
 first (Next x b) = x
 
 rest : Body → Body

@@ -49,7 +49,7 @@ group_passed r = ended_group r.rest r.groups
 
 -- the region as its task goes on
 abbrev pub awake : Region → Region
-awake r = let s = passed r.rest r.groups in record r { rest = s.rest; groups = s.groups; waiting = false }
+awake r = let s = passed r.rest r.groups in record r { rest = s.rest; groups = s.groups; waiting = None }
 
 -- the region once the worker has a piece of it, which holds this
 abbrev pub begun : ℕ → Lease → Region → Region

@@ -16,9 +16,13 @@ pub record Run : Type 0 where
   pub assigns : Body
   pub lease : Lease
 
+-- a wait at which a task stands, if it does: what that wait declares, if it does (OpenMP API 5.2, section 15.5)
+abbrev pub Waiting : Type 0
+Waiting = Option (Option (List Use))
+
 -- a task region (OpenMP API 5.2, section 12.5): its parent, and its number among the parent's children; what it declares;
--- what is left in the innermost open group's body, and the open groups, the innermost first; its children; whether it
--- stands at a wait that it has executed; whether its body has ended
+-- what is left in the innermost open group's body, and the open groups, the innermost first; its children; the wait
+-- that it has executed and has not gone on from; whether its body has ended
 pub record Region : Type 0 where
   pub parent : ℕ
   pub child : ℕ
@@ -26,18 +30,18 @@ pub record Region : Type 0 where
   pub rest : Body
   pub groups : List Open
   pub children : List Sibling
-  pub waiting : Bool
+  pub waiting : Waiting
   pub ended : Bool
   pub running : Option Run
 
 -- the root task at the beginning of the program's body
 abbrev pub root_region : Body → Region
-root_region body = record { parent = 0; child = 0; own = None; rest = body; groups = []; children = []; waiting = false; ended = false; running = None }
+root_region body = record { parent = 0; child = 0; own = None; rest = body; groups = []; children = []; waiting = None; ended = false; running = None }
 
 -- a child as it is created
 abbrev pub new_region : ℕ → ℕ → List Use → Body → Region
 new_region parent child uses body =
-    record { parent = parent; child = child; own = Some uses; rest = body; groups = []; children = []; waiting = false; ended = false; running = None }
+    record { parent = parent; child = child; own = Some uses; rest = body; groups = []; children = []; waiting = None; ended = false; running = None }
 
 -- with a child more, created in the open groups
 abbrev pub with_child : List Use → Region → Region
@@ -76,7 +80,7 @@ children_at (r ∷ rs) (suc i) = children_at rs i
 -- The region once it has executed the control statement that comes next: an `if` whose condition holds or not, a group under
 -- this number, a wait, a task, which is created beside it
 abbrev pub stepped_from : Bool → ℕ → Body → Region → Region
-stepped_from taken g (Next Wait rest) r = record r { rest = rest; waiting = true }
+stepped_from taken g (Next (Wait w) rest) r = record r { rest = rest; waiting = Some w }
 stepped_from taken g (Next (If e a b) rest) r = with_rest (append (if taken then a else b) rest) r
 stepped_from taken g (Next (Group o cs b) rest) r = inside g o cs b (with_rest rest r)
 stepped_from taken g (Next (Task d b) rest) r = with_rest rest r

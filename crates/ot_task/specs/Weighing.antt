@@ -11,7 +11,7 @@ abbrev mutual
   weight_one (Fold o c e) = 0
   weight_one (If e a b) = 1 + max (weight a) (weight b)
   weight_one (Task d b) = 2 + weight b
-  weight_one Wait = 1
+  weight_one (Wait w) = 1
   weight_one (Group o cs b) = 2 + weight b
 
   pub weight : Body → ℕ

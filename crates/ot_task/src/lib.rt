@@ -18,6 +18,7 @@ mod running;
 mod same;
 mod task;
 mod touched;
+mod waiting;
 mod weigh;
 
 pub use assign::{Assign, assign_all};

@@ -1,15 +1,17 @@
-ghost use Rattle.std.specs.Prelude.{◌≡◌, ◌<◌, OnOk, OnErr, IfOk, option_map};
+ghost use Rattle.std.specs.Prelude.{◌≡◌, ◌<◌, List, OnOk, OnErr, IfOk, option_map};
 ghost use Rattle.ot_model.specs.Tree.{Next};
 ghost use Rattle.ot_model.specs.View.{stmt_of, stmts_of};
 ghost use Rattle.ot_task.specs.PlaceView.{standing_of};
 ghost use Rattle.ot_task.specs.Rest.{TakesBack};
 ghost use Rattle.ot_task.specs.Standing.{with_next};
 ghost use Rattle.ot_task.specs.Regions.{Region, stepped, next_task};
-ghost use Rattle.ot_task.specs.RegionView.{stands_at};
+ghost use Rattle.ot_depend.specs.Siblings.{Sibling};
+ghost use Rattle.ot_task.specs.RegionView.{stands_at, waiting_of, KnowsFree};
 
 use crate::assigns::Assigns;
 use crate::place::Place;
 use crate::running::Running;
+use crate::waiting::Waiting;
 use ot_depend::Siblings;
 use ot_model::{Cell, Decl, Expr, Fold, Stmt};
 use ot_owner::Lent;
@@ -24,7 +26,7 @@ pub struct Task {
     decl: Option<Decl>,
     place: Place,
     children: Siblings,
-    waiting: bool,
+    waiting: Waiting,
     ended: bool,
     running: Option<Running>,
 }
@@ -41,6 +43,10 @@ impl Model for Task {
     ghost use Rattle.ot_task.specs.RegionView.{region_of};
 
     ghost view = { region_of };
+
+    ghost use Rattle.ot_task.specs.RegionView.{KnowsFree};
+
+    ghost invariant = { λ t. KnowsFree t.waiting t.children };
 }
 
 impl Task {
@@ -76,7 +82,7 @@ impl Task {
             decl: None,
             place: Place::new(alloc, body),
             children: Siblings::new(alloc),
-            waiting: false,
+            waiting: Waiting::Nowhere,
             ended: false,
             running: None,
         }
@@ -92,7 +98,7 @@ impl Task {
             decl: Some(decl),
             place: Place::new(alloc, body),
             children: Siblings::new(alloc),
-            waiting: false,
+            waiting: Waiting::Nowhere,
             ended: false,
             running: None,
         }
@@ -151,7 +157,7 @@ impl Task {
     pub fn is_let_go(&self) -> bool
         ensures { result ≡ is_let_go self.now }
     {
-        (!self.waiting || self.children.unfinished() == 0) && self.end_lets_go()
+        self.waiting.lets_go(&self.children) && self.end_lets_go()
     }
 
     /// What its next piece is made of: the sets and folds that come once it goes on, and a copy of the
@@ -198,7 +204,7 @@ impl Task {
         ensures { self.new ≡ begun running.worker running.lease self.old }
     {
         self.place.go_on();
-        self.waiting = false;
+        self.waiting = Waiting::Nowhere;
         self.running = Some(running);
     }
 
@@ -257,7 +263,9 @@ impl Task {
         ensures refused { OnErr result (self.new ≡ self.old) }
     {
         let groups = self.place.group_numbers(alloc)?;
-        self.children.add(alloc, decl, &groups)
+        let child = self.children.add(alloc, decl, &groups)?;
+        self.waiting.begin_again();
+        Ok(child)
     }
 
     /// A child has finished. The answer is the children that waited for it by themselves, each once: those
@@ -270,7 +278,9 @@ impl Task {
         ensures others { LetsTheSame result.items self.old.children (with_finished self.old.children child) }
         ensures exact { WaitForLess result.items self.old.children (with_finished self.old.children child) }
     {
-        self.children.release(child)
+        let freed = self.children.release(child);
+        self.waiting.pass_free(&self.children);
+        freed
     }
 
     /// It has ended its body.
@@ -353,20 +363,21 @@ impl Task {
 /// memory is refused, each.
 fn execute(
     place: &mut Place,
-    waiting: &mut bool,
+    waiting: &mut Waiting,
     stmt: Stmt,
     taken: bool,
     group: u32,
 ) -> Result<Option<(Decl, Vec<Stmt>)>, AllocError>
     requires { TakesBack place.old.rest }
-    ensures stepped { OnOk result ((r : Region) → stands_at (standing_of place.new) waiting.new r
-        ≡ stepped taken group (stands_at (with_next (stmt_of stmt) (standing_of place.old)) waiting.old r)) }
+    ensures stepped { OnOk result ((r : Region) → stands_at (standing_of place.new) (waiting_of waiting.new) r
+        ≡ stepped taken group (stands_at (with_next (stmt_of stmt) (standing_of place.old)) (waiting_of waiting.old) r)) }
     ensures child { IfOk result (λ child. next_task (Next (stmt_of stmt) (standing_of place.old).rest) ≡ option_map (λ c. (c.0, stmts_of c.1.items)) child) }
+    ensures knows { (children : List Sibling) → KnowsFree waiting.old children → KnowsFree waiting.new children }
     ensures refused { OnErr result ((standing_of place.new ≡ with_next (stmt_of stmt) (standing_of place.old)) × (waiting.new ≡ waiting.old)) }
 {
     match stmt {
-        Stmt::Wait => {
-            *waiting = true;
+        Stmt::Wait(decl) => {
+            *waiting = Waiting::at(decl);
             Ok(None)
         }
         Stmt::If(test, one, two) => {

@@ -31,7 +31,7 @@ fn weigh_one(stmt: &Stmt) -> u64
             1 + one.max(two)
         }
         Stmt::Task(_, body) => 2 + weigh(body),
-        Stmt::Wait => 1,
+        Stmt::Wait(_) => 1,
         Stmt::Group(_, _, body) => 2 + weigh(body),
     }
 }

@@ -4,7 +4,7 @@ use Rattle.std.specs.Int.{bit_at}
 use Rattle.ot_model.specs.declared.expr.Cell.{Cell}
 use Rattle.ot_model.specs.declared.stmt.Mode.{Mode}
 use Rattle.ot_model.specs.declared.stmt.Mode.TheVariants.{Reads, Writes, Folds}
-use Rattle.ot_model.specs.Uses.{conflicts, same_fold}
+use Rattle.ot_model.specs.Uses.{conflicts, one_writes, same_fold}
 use Rattle.ot_model.specs.declared.fold.Fold.{Fold as Operation}
 use Rattle.ot_check.specs.walk.Grids.{found_at}
 use Rattle.ot_check.specs.declared.block.Block.{Block}
@@ -29,6 +29,15 @@ users_of_block block =
 abbrev pub is_against : Block → Mode → ℕ → Bool
 is_against block mode j =
     ((bit_at block.reads j == 1) && conflicts Reads mode) || (((bit_at block.writes j == 1) && conflicts Writes mode) || ((bit_at block.folds j == 1) && conflicts (Folds block.operation) mode))
+
+-- whether it is this task, and a wait awaits it that declares the cell in this mode
+abbrev pub awaited_as : Mode → ℕ → User → Bool
+awaited_as mode k v = (v.task == k) && one_writes v.mode mode
+
+-- whether such a wait awaits the task of a bit
+abbrev pub is_awaited_by : Block → Mode → ℕ → Bool
+is_awaited_by block mode j =
+    ((bit_at block.reads j == 1) && one_writes Reads mode) || (((bit_at block.writes j == 1) && one_writes Writes mode) || ((bit_at block.folds j == 1) && one_writes (Folds block.operation) mode))
 
 abbrev pub users_of_row : Row → List User
 users_of_row row = flat_map users_of_block row.earlier.items ++ users_of_block row.latest

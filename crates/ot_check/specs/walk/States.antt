@@ -1,11 +1,12 @@
 -- What the walk knows at a place, and what it stands for.
-use Rattle.std.specs.Prelude.{◌≡◌, ℕ, ◌≤◌, ◌<◌, Bool, false, ◌&&◌, ◌||◌, List, [], Option, Some, None, slice_get, map, unwrap_or}
+use Rattle.std.specs.Prelude.{◌≡◌, ℕ, suc, ◌≤◌, ◌++◌, Bool, false, ◌&&◌, ◌||◌, List, [], ◌∷◌, length, Option, Some, None, slice_get, map, unwrap_or}
 use Rattle.std.specs.List.{list_any}
+use Rattle.ot_model.specs.Cells.{same_cell}
 use Rattle.ot_model.specs.Uses.{conflicts, number_of}
 use Rattle.ot_model.specs.declared.expr.Cell.{Cell}
 use Rattle.ot_model.specs.declared.fold.Fold.{Fold as Operation}
 use Rattle.ot_model.specs.declared.stmt.Use.{Use}
-use Rattle.ot_check.specs.Offences.{Declared, Openings, clashes}
+use Rattle.ot_check.specs.Offences.{Declared, Openings}
 use Rattle.ot_check.specs.walk.Walk.{Children}
 use Rattle.ot_check.specs.walk.Grids.{found_at, widths}
 use Rattle.ot_check.specs.walk.Bits.{bit_in, has}
@@ -15,7 +16,6 @@ use Rattle.ot_check.specs.declared.opened.Opened.{Opened}
 use Rattle.ot_check.specs.declared.users.User.{User}
 use Rattle.ot_check.specs.declared.tasks.Tasks.{Tasks}
 use Rattle.ot_check.specs.declared.standing.Region.{Region}
-use Rattle.ot_check.specs.declared.standing.Outside.{Outside}
 use Rattle.ot_check.specs.declared.standing.Standing.{Standing}
 
 -- ---- cells
@@ -55,31 +55,59 @@ users_at users c = unwrap_or (found_at users c) []
 abbrev pub met : Numbers → List (List (List User)) → Use → Bool
 met numbers users u = list_any (λ v. has numbers v.task && conflicts v.mode u.mode) (users_at users u.cell)
 
--- no task but those that were passed declares a cell: which others are in a set says nothing
-abbrev pub IsSound : Tasks → Type 0
-IsSound tasks = (one other : Numbers) (u : Use) → ((k : ℕ) → k < tasks.passed → has one k ≡ has other k) → met one tasks.users u ≡ met other tasks.users u
+-- whether a task that uses a cell so in its declaration passes a test of the users of that cell
+abbrev pub user_has : (User → Bool) → Cell → ℕ → Use → Bool
+user_has test c k u = same_cell u.cell c && test (record { task = k; mode = u.mode })
 
--- the same tasks and perhaps later ones
-pub record AreMore (old new : Tasks) : Type 0 where
-  pub passed : old.passed ≤ new.passed
-  pub met : (numbers : Numbers) (u : Use) → ((k : ℕ) → old.passed ≤ k → has numbers k ≡ false) → met numbers new.users u ≡ met numbers old.users u
+-- whether some task passes a test, by its number and what it declares; these are those from a number on
+abbrev pub some_task : (ℕ → List Use → Bool) → ℕ → List (List Use) → Bool
+some_task test k [] = false
+some_task test k (d ∷ decls) = test k d || some_task test (suc k) decls
+
+-- each cell's users are the tasks that declare it, which declare these, by their numbers
+abbrev pub Tells : List (List (List User)) → List (List Use) → Type 0
+Tells users decls = (test : User → Bool) (c : Cell) → list_any test (users_at users c) ≡ some_task (λ k d. list_any (user_has test c k) d) 0 decls
+
+-- these are the declarations of the tasks that were passed
+pub record AreOf (decls : List (List Use)) (tasks : Tasks) : Type 0 where
+  pub told : Tells tasks.users decls
+  pub counted : length decls ≡ tasks.passed
+
+-- the children of a set of tasks that declare these
+abbrev pub among : Numbers → List (List Use) → Children
+among numbers decls test = some_task (λ k d. has numbers k && test d) 0 decls
 
 -- ---- what stands at a place
 
--- the region is that of a body that declares this, where these groups are open and these children may be unawaited
-pub record Stands (own : Declared) (opened : Openings) (children : Children) (region : Region) (tasks : Tasks) : Type 0 where
+-- the region is that of a body that declares this, where these groups are open and these children may be unawaited; the
+-- tasks that were passed declare these
+pub record Stands (own : Declared) (opened : Openings) (children : Children) (decls : List (List Use)) (region : Region) (tasks : Tasks) : Type 0 where
   pub declares : region.own ≡ own
   pub grouped : (o : Operation) (c : Cell) → is_open region.opened o c ≡ opened o c
-  pub clash : (u : Use) → met region.unawaited tasks.users u ≡ children (clashes u)
-  pub passed : (k : ℕ) → tasks.passed ≤ k → has region.unawaited k ≡ false
-  pub sound : IsSound tasks
+  pub those : (test : List Use → Bool) → children test ≡ among region.unawaited decls test
+  pub passed : (k : ℕ) → length decls ≤ k → has region.unawaited k ≡ false
+  pub known : AreOf decls tasks
 
-abbrev pub Represents : Declared → Openings → Children → Standing → Type 0
-Represents own opened children standing = Stands own opened children standing.region standing.tasks
+abbrev pub Represents : Declared → Openings → Children → List (List Use) → Standing → Type 0
+Represents own opened children decls standing = Stands own opened children decls standing.region standing.tasks
 
 -- P holds of whatever the standing represents: a declaration, open groups, and children that may be unawaited
 abbrev pub Whatever : Standing → (Declared → Openings → Children → Type 0) → Type 0
-Whatever standing P = (own : Declared) (opened : Openings) (children : Children) → Represents own opened children standing → P own opened children
+Whatever standing P =
+    (own : Declared) (opened : Openings) (children : Children) (decls : List (List Use)) → Represents own opened children decls standing → P own opened children
+
+-- what stands behind statements before which tasks with these declarations were passed: these children may be unawaited,
+-- and those of these tasks that stay
+pub record IsBehind (own : Declared) (opened : Openings) (children : Children) (stay : ℕ → List Use → Bool) (decls : List (List Use)) (new : Standing) : Type 0 where
+  pub later : List (List Use)
+  pub stands : Represents own opened children (decls ++ later) new
+  pub stays : (k : ℕ) (d : List Use) → slice_get decls k ≡ Some d → has new.region.unawaited k ≡ stay k d
+
+-- from the one standing to the other these children come to be, and of those from before the ones to be kept stay
+abbrev pub Leads : (old new : Standing) → (Children → Children) → (List Use → Bool) → Type 0
+Leads old new change keep =
+    (own : Declared) (opened : Openings) (children : Children) (decls : List (List Use)) → Represents own opened children decls old
+    → IsBehind own opened (change children) (λ k d. has old.region.unawaited k && keep d) decls new
 
 -- the region with these children in place of its own
 abbrev pub with_children : Region → Numbers → Region
@@ -87,10 +115,6 @@ with_children region children = record region { unawaited = children }
 
 abbrev pub with_others : Standing → Numbers → Standing
 with_others standing children = record standing { region = with_children standing.region children }
-
--- the region with what stood before a group
-abbrev pub back : Region → Outside → Region
-back region outside = record region { opened = outside.opened; unawaited = outside.unawaited }
 
 -- the same children and one more
 abbrev pub one_more : Children → List Use → Children

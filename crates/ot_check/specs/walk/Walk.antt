@@ -86,9 +86,13 @@ abbrev pub ends_with_children : S → Offence → Bool
 ends_with_children (Task d b) EndsWithChildren = behind nobody b anyone
 ends_with_children x offence = false
 
+-- whether a mark of the statement is this offence
+abbrev pub is_marked : Declared → Openings → Children → S → Offence → Bool
+is_marked own opened children x offence = list_any (λ m. may_break own opened children m offence) (marks x)
+
 -- whether the statement itself is this offence
 abbrev pub is_offence : Declared → Openings → Children → S → Offence → Bool
-is_offence own opened children x offence = list_any (λ m. may_break own opened children m offence) (marks x) || ends_with_children x offence
+is_offence own opened children x offence = is_marked own opened children x offence || ends_with_children x offence
 
 -- the first that holds, in the order in which they are told
 abbrev pub leading : (Offence → Bool) → Option Offence
@@ -119,6 +123,19 @@ abbrev mutual
   first own opened children k (Next x rest) =
       option_or (option_or (placed k (leading (is_offence own opened children x))) (first_inside own opened children k x))
       (first own opened (behind_one children x) (k + size_one x) rest)
+
+-- what is told of a task whose body can end with a child unawaited, or can't
+abbrev pub ended : Bool → Option Offence
+ended true = Some EndsWithChildren
+ended false = None
+
+abbrev pub ending : S → Option Offence
+ending (Task d b) = ended (behind nobody b anyone)
+ending x = None
+
+-- the first offence in a statement, its own marks aside
+abbrev pub first_within : Declared → Openings → Children → ℕ → S → Option (ℕ × Offence)
+first_within own opened children k x = option_or (placed k (ending x)) (first_inside own opened children k x)
 
 abbrev pub first_one : Declared → Openings → Children → ℕ → S → Option (ℕ × Offence)
 first_one own opened children k x = option_or (placed k (leading (is_offence own opened children x))) (first_inside own opened children k x)

@@ -5,55 +5,55 @@ use Rattle.ot_model.specs.declared.stmt.Stmt.{the_lemmas}
 use Rattle.ot_model.specs.declared.stmt.Mode.TheVariants.{Writes, Folds}
 use Rattle.ot_check.specs.Paths.{Touch, use_as}
 use Rattle.ot_model.specs.Value.{cells_named}
-use Rattle.ot_check.specs.walk.Walk.{may_break, is_offence}
+use Rattle.ot_check.specs.walk.Walk.{may_break, is_marked}
 use Rattle.ot_check.specs.declared.fault.Offence.TheVariants.{ChildBeyond, ReductionMisuse}
-use Rattle.ot_check.proofs.OffenceLemmas.{reading, either_met, either_other, is_offence-Set, is_offence-Fold, is_offence-If, is_offence-ChildBeyond, is_offence-ReductionMisuse}
+use Rattle.ot_check.proofs.OffenceLemmas.{reading, either_met, either_other, is_marked-Set, is_marked-Fold, is_marked-If, is_marked-ChildBeyond, is_marked-ReductionMisuse}
 use Rattle.ot_check.proofs.statement.is_offence.Goals as goal
 
 pub returns-then-value_breaks : goal.returns-then-value_breaks
-returns-then-value_breaks c = λ own opened children h.
+returns-then-value_breaks c = λ own opened children decls h.
     let is : stmt_of c.args.stmt.now ≡ Set c.in-Set.cell (expr_of c.in-Set.expr) = search (rules, the_lemmas) in
     either_met _ (reading own opened children c.args.offence (cells_named (expr_of c.in-Set.expr))) (may_break own opened children (Touch (use_as Writes c.in-Set.cell)) c.args.offence)
-    (c.value_breaks.ensures own opened children h) c.if-value_breaks.true
-    ∙ sym (ap (λ x. is_offence own opened children x c.args.offence) is ∙ is_offence-Set own opened children c.in-Set.cell (expr_of c.in-Set.expr) c.args.offence)
+    (c.value_breaks.ensures own opened children decls h) c.if-value_breaks.true
+    ∙ sym (ap (λ x. is_marked own opened children x c.args.offence) is ∙ is_marked-Set own opened children c.in-Set.cell (expr_of c.in-Set.expr) c.args.offence)
 
 pub returns-else-value_breaks : goal.returns-else-value_breaks
-returns-else-value_breaks c = λ own opened children h.
+returns-else-value_breaks c = λ own opened children decls h.
     let is : stmt_of c.args.stmt.now ≡ Set c.in-Set.cell (expr_of c.in-Set.expr) = search (rules, the_lemmas) in
     either_other _ _ (reading own opened children c.args.offence (cells_named (expr_of c.in-Set.expr))) (may_break own opened children (Touch (use_as Writes c.in-Set.cell)) c.args.offence)
-    (c.value_breaks.ensures own opened children h) c.if-value_breaks.false (c.touch_breaks.ensures own opened children h)
-    ∙ sym (ap (λ x. is_offence own opened children x c.args.offence) is ∙ is_offence-Set own opened children c.in-Set.cell (expr_of c.in-Set.expr) c.args.offence)
+    (c.value_breaks.ensures own opened children decls h) c.if-value_breaks.false (c.touch_breaks.ensures own opened children decls h)
+    ∙ sym (ap (λ x. is_marked own opened children x c.args.offence) is ∙ is_marked-Set own opened children c.in-Set.cell (expr_of c.in-Set.expr) c.args.offence)
 
 pub returns-then-value_breaks-2 : goal.returns-then-value_breaks-2
-returns-then-value_breaks-2 c = λ own opened children h.
+returns-then-value_breaks-2 c = λ own opened children decls h.
     let is : stmt_of c.args.stmt.now ≡ Fold c.in-Fold.op c.in-Fold.cell (expr_of c.in-Fold.expr) = search (rules, the_lemmas) in
     either_met _ (reading own opened children c.args.offence (cells_named (expr_of c.in-Fold.expr))) (may_break own opened children (Touch (use_as (Folds c.in-Fold.op) c.in-Fold.cell)) c.args.offence)
-    (c.value_breaks-in-Fold.ensures own opened children h) c.if-value_breaks-2.true
-    ∙ sym (ap (λ x. is_offence own opened children x c.args.offence) is ∙ is_offence-Fold own opened children c.in-Fold.op c.in-Fold.cell (expr_of c.in-Fold.expr) c.args.offence)
+    (c.value_breaks-in-Fold.ensures own opened children decls h) c.if-value_breaks-2.true
+    ∙ sym (ap (λ x. is_marked own opened children x c.args.offence) is ∙ is_marked-Fold own opened children c.in-Fold.op c.in-Fold.cell (expr_of c.in-Fold.expr) c.args.offence)
 
 pub returns-else-value_breaks-2 : goal.returns-else-value_breaks-2
-returns-else-value_breaks-2 c = λ own opened children h.
+returns-else-value_breaks-2 c = λ own opened children decls h.
     let is : stmt_of c.args.stmt.now ≡ Fold c.in-Fold.op c.in-Fold.cell (expr_of c.in-Fold.expr) = search (rules, the_lemmas) in
     either_other _ _ (reading own opened children c.args.offence (cells_named (expr_of c.in-Fold.expr))) (may_break own opened children (Touch (use_as (Folds c.in-Fold.op) c.in-Fold.cell)) c.args.offence)
-    (c.value_breaks-in-Fold.ensures own opened children h) c.if-value_breaks-2.false (c.touch_breaks-else-value_breaks-2.ensures own opened children h)
-    ∙ sym (ap (λ x. is_offence own opened children x c.args.offence) is ∙ is_offence-Fold own opened children c.in-Fold.op c.in-Fold.cell (expr_of c.in-Fold.expr) c.args.offence)
+    (c.value_breaks-in-Fold.ensures own opened children decls h) c.if-value_breaks-2.false (c.touch_breaks-else-value_breaks-2.ensures own opened children decls h)
+    ∙ sym (ap (λ x. is_marked own opened children x c.args.offence) is ∙ is_marked-Fold own opened children c.in-Fold.op c.in-Fold.cell (expr_of c.in-Fold.expr) c.args.offence)
 
 pub returns-in-If : goal.returns-in-If
-returns-in-If c = λ own opened children h.
+returns-in-If c = λ own opened children decls h.
     let is : stmt_of c.args.stmt.now ≡ If (expr_of c.in-If.expr) (stmts_of c.in-If.field-1.items) (stmts_of c.in-If.field-2.items) = search (rules, the_lemmas) in
-    c.value_breaks-in-If.ensures own opened children h
-    ∙ sym (ap (λ x. is_offence own opened children x c.args.offence) is ∙ is_offence-If own opened children (expr_of c.in-If.expr) (stmts_of c.in-If.field-1.items) (stmts_of c.in-If.field-2.items) c.args.offence)
+    c.value_breaks-in-If.ensures own opened children decls h
+    ∙ sym (ap (λ x. is_marked own opened children x c.args.offence) is ∙ is_marked-If own opened children (expr_of c.in-If.expr) (stmts_of c.in-If.field-1.items) (stmts_of c.in-If.field-2.items) c.args.offence)
 
 pub returns-in-ChildBeyond : goal.returns-in-ChildBeyond
-returns-in-ChildBeyond c = λ own opened children h.
-    let is : stmt_of c.args.stmt.now ≡ Task c.in-Task.decl (stmts_of c.in-Task.body.items) = search (rules, the_lemmas) in
-    c.exceeds.ensures own opened children h
-    ∙ sym (ap (λ o. is_offence own opened children (stmt_of c.args.stmt.now) o) c.in-ChildBeyond.is ∙ ap (λ x. is_offence own opened children x ChildBeyond) is
-    ∙ is_offence-ChildBeyond own opened children c.in-Task.decl (stmts_of c.in-Task.body.items))
+returns-in-ChildBeyond c = λ own opened children decls h.
+    let is : stmt_of c.args.stmt.now ≡ Task c.in-Task.decl (stmts_of c.in-Task.field-1.items) = search (rules, the_lemmas) in
+    c.exceeds.ensures own opened children decls h
+    ∙ sym (ap (λ o. is_marked own opened children (stmt_of c.args.stmt.now) o) c.in-ChildBeyond.is ∙ ap (λ x. is_marked own opened children x ChildBeyond) is
+    ∙ is_marked-ChildBeyond own opened children c.in-Task.decl (stmts_of c.in-Task.field-1.items))
 
 pub returns-in-ReductionMisuse : goal.returns-in-ReductionMisuse
-returns-in-ReductionMisuse c = λ own opened children h.
-    let is : stmt_of c.args.stmt.now ≡ Task c.in-Task.decl (stmts_of c.in-Task.body.items) = search (rules, the_lemmas) in
-    c.misfits.ensures own opened children h
-    ∙ sym (ap (λ o. is_offence own opened children (stmt_of c.args.stmt.now) o) c.in-ReductionMisuse.is ∙ ap (λ x. is_offence own opened children x ReductionMisuse) is
-    ∙ is_offence-ReductionMisuse own opened children c.in-Task.decl (stmts_of c.in-Task.body.items))
+returns-in-ReductionMisuse c = λ own opened children decls h.
+    let is : stmt_of c.args.stmt.now ≡ Task c.in-Task.decl (stmts_of c.in-Task.field-1.items) = search (rules, the_lemmas) in
+    c.misfits.ensures own opened children decls h
+    ∙ sym (ap (λ o. is_marked own opened children (stmt_of c.args.stmt.now) o) c.in-ReductionMisuse.is ∙ ap (λ x. is_marked own opened children x ReductionMisuse) is
+    ∙ is_marked-ReductionMisuse own opened children c.in-Task.decl (stmts_of c.in-Task.field-1.items))

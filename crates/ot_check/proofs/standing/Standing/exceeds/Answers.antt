@@ -3,16 +3,16 @@ use Rattle.ot_check.proofs.StandingLemmas.{any-at, any-none, any-step}
 use Rattle.ot_check.proofs.standing.Standing.exceeds.Goals as goal
 
 pub returns-then-use_exceeds : goal.returns-then-use_exceeds
-returns-then-use_exceeds c = λ own opened children h.
+returns-then-use_exceeds c = λ own opened children decls h.
     any-at (exceeds own) c.uses-used-items.result.now c.args.decl.now c.loop-used.used-index _ c.use_exceeds.result
-    c.uses-used-items.ensures.uses c.loop-used-test.true (c.use_exceeds.ensures own opened children h) c.if-use_exceeds.true
+    c.uses-used-items.ensures.uses c.loop-used-test.true (c.use_exceeds.ensures own opened children decls h) c.if-use_exceeds.true
 
 pub loop-used-preserved : goal.loop-used-preserved
-loop-used-preserved c = λ own opened children h.
+loop-used-preserved c = λ own opened children decls h.
     any-step (exceeds own) c.uses-used-items.result.now c.loop-used.used-index _ c.use_exceeds.result c.loop-used-test.true
-    (c.loop-used.invariant own opened children h) (c.use_exceeds.ensures own opened children h) c.if-use_exceeds.false
+    (c.loop-used.invariant own opened children decls h) (c.use_exceeds.ensures own opened children decls h) c.if-use_exceeds.false
 
 pub returns : goal.returns
-returns c = λ own opened children h.
+returns c = λ own opened children decls h.
     any-none (exceeds own) c.uses-used-items.result.now c.args.decl.now c.loop-used.used-index
-    c.uses-used-items.ensures.uses c.loop-used-test.false (c.loop-used.invariant own opened children h)
+    c.uses-used-items.ensures.uses c.loop-used-test.false (c.loop-used.invariant own opened children decls h)

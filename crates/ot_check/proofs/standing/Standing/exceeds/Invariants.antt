@@ -1,5 +1,6 @@
-use Rattle.std.proofs.Common.{◌≡◌, false, take}
+use Rattle.std.proofs.Common.{List, ◌≡◌, false, take}
 use Rattle.std.specs.List.{list_any}
+use Rattle.ot_model.specs.declared.stmt.Use.{Use}
 use Rattle.ot_check.specs.Offences.{Declared, Openings, exceeds}
 use Rattle.ot_check.specs.walk.Walk.{Children}
 use Rattle.ot_check.specs.walk.States.{Represents}
@@ -7,5 +8,5 @@ use Rattle.ot_check.proofs.standing.Standing.exceeds.Given as goal
 
 abbrev pub invariant-loop-used : goal.invariant-loop-used
 invariant-loop-used l =
-    (own : Declared) (opened : Openings) (children : Children) → Represents own opened children l.self
+    (own : Declared) (opened : Openings) (children : Children) (decls : List (List Use)) → Represents own opened children decls l.self
     → list_any (exceeds own) (take l.used-index l.used-items) ≡ false

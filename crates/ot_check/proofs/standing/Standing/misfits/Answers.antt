@@ -3,16 +3,16 @@ use Rattle.ot_check.proofs.StandingLemmas.{any-at, any-none, any-step}
 use Rattle.ot_check.proofs.standing.Standing.misfits.Goals as goal
 
 pub returns-then-use_misfits : goal.returns-then-use_misfits
-returns-then-use_misfits c = λ own opened children h.
+returns-then-use_misfits c = λ own opened children decls h.
     any-at (misfits own opened) c.uses-used-items.result.now c.args.decl.now c.loop-used.used-index _ c.use_misfits.result
-    c.uses-used-items.ensures.uses c.loop-used-test.true (c.use_misfits.ensures own opened children h) c.if-use_misfits.true
+    c.uses-used-items.ensures.uses c.loop-used-test.true (c.use_misfits.ensures own opened children decls h) c.if-use_misfits.true
 
 pub loop-used-preserved : goal.loop-used-preserved
-loop-used-preserved c = λ own opened children h.
+loop-used-preserved c = λ own opened children decls h.
     any-step (misfits own opened) c.uses-used-items.result.now c.loop-used.used-index _ c.use_misfits.result c.loop-used-test.true
-    (c.loop-used.invariant own opened children h) (c.use_misfits.ensures own opened children h) c.if-use_misfits.false
+    (c.loop-used.invariant own opened children decls h) (c.use_misfits.ensures own opened children decls h) c.if-use_misfits.false
 
 pub returns : goal.returns
-returns c = λ own opened children h.
+returns c = λ own opened children decls h.
     any-none (misfits own opened) c.uses-used-items.result.now c.args.decl.now c.loop-used.used-index
-    c.uses-used-items.ensures.uses c.loop-used-test.false (c.loop-used.invariant own opened children h)
+    c.uses-used-items.ensures.uses c.loop-used-test.false (c.loop-used.invariant own opened children decls h)

@@ -2,11 +2,11 @@ use Rattle.std.proofs.Common.{ap, ◌∙◌, map}
 use Rattle.ot_model.specs.ShapeView.{arrays_of}
 use Rattle.ot_check.specs.walk.Grids.{widths}
 use Rattle.ot_check.proofs.GridLemmas.{widths-filled}
-use Rattle.ot_check.proofs.TaskLemmas.{met-first}
+use Rattle.ot_check.proofs.TaskLemmas.{told-first}
 use Rattle.ot_check.proofs.tasks.Tasks.new.Goals as goal
 
 pub returns-clause-none : goal.returns-clause-none
-returns-clause-none c = λ numbers u. met-first (map (λ a. a.1) (arrays_of c.arrays.result.now)) _ c.in_ok-users.ensures numbers u
+returns-clause-none c = told-first (map (λ a. a.1) (arrays_of c.arrays.result.now)) _ c.in_ok-users.ensures
 
 pub returns-clause-widths : goal.returns-clause-widths
 returns-clause-widths c =

@@ -277,3 +277,9 @@ returns-then-is_err-clause-refuses c =
     let found = subst (IsOut c.self.inside.tasks) (sym same) (found-out c.self.inside c.args.done _ _ c.all.ensures c.is_out.ensures c.if-not-is_out.false) in
     subst (λ (e : Came). IsOut c.args.self.now.regions e × (state_in c.args.self.now ≡ Working)) same
     (subst (λ (l : Live). IsOut l.regions d × (state_in l ≡ Working)) c.self.view_is (found, works (live_of c.self.inside) d c.self.invariant found c.if-self.false))
+
+pub invariant_of-self-then-is_err : goal.invariant_of-self-then-is_err
+invariant_of-self-then-is_err c =
+    let same = err-holds c.settle.result (sym c.is_err.ensures.value ∙ c.if-is_err.true) c.settle.ensures.refused in
+    let seen : List Region → Owned → Live = λ regions owned. record (live_of c.self.inside) { regions = regions; owned = owned } in
+    subst IsWell (sym (ap (λ (l : List Region). seen l c.room_for.new.owners.owned) same ∙ ap (seen c.self.inside.tasks) c.room_for.ensures.owned)) c.self.invariant
