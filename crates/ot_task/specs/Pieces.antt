@@ -1,5 +1,5 @@
 -- What a piece is taken from, and what is left behind it.
-use Rattle.std.specs.Prelude.{◌≡◌, ℕ, ◌+◌, false, List, ◌∷◌, Option, Some, None}
+use Rattle.std.specs.Prelude.{◌≡◌, ℕ, ◌+◌, List, ◌∷◌, Option, Some, None}
 use Rattle.ot_model.specs.Tree.{E, Set, Fold, If, Body, End, Next}
 use Rattle.ot_task.specs.Place.{Open, innermost}
 use Rattle.ot_owner.specs.Leases.{Lease, lease_of}
