@@ -16,5 +16,5 @@ lengths-serial (Next (If e a b) rest) s =
     ∙ either-both (val (cell_of s.cells) e) (serial a (bump 0 1 s)) (serial b (bump 0 1 s)) (λ t. lengths t.cells ≡ lengths s.cells)
     (lengths-serial a (bump 0 1 s)) (lengths-serial b (bump 0 1 s))
 lengths-serial (Next (Task d b) rest) s = lengths-serial rest _ ∙ lengths-serial b (bump 1 1 s)
-lengths-serial (Next Wait rest) s = lengths-serial rest (bump 0 1 s)
+lengths-serial (Next (Wait w) rest) s = lengths-serial rest (bump 0 1 s)
 lengths-serial (Next (Group o cs b) rest) s = lengths-serial rest _ ∙ lengths-serial b (bump 0 1 s)
