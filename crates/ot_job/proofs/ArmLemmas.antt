@@ -1,12 +1,10 @@
 -- An `if` and a wait are executed: what holds of the region stays.
-use Rattle.std.proofs.Common.{◌≡◌, ℕ, ◌<◌, Bool, true, false, ◌&&◌, List, [], ◌∷◌, length, refl, sym, ap, subst, ◌∙◌, true≢false, inl, inr}
+use Rattle.std.proofs.Common.{◌≡◌, ℕ, ◌<◌, Bool, true, false, ◌&&◌, List, length, refl, sym, ap, subst, ◌∙◌, true≢false}
 use Rattle.std.proofs.Common.{not}
 use Rattle.std.specs.Prelude.{Option}
 use Rattle.std.specs.Prelude.{None}
 use Rattle.std.specs.Prelude.{if◌then◌else◌, Some}
-use Rattle.std.specs.List.{list_any}
-use Rattle.ot_check.proofs.Bits.{or_true, true_or, or_right, and_left, and_right, and_true}
-use Rattle.ot_depend.specs.Siblings.{Sibling, is_unfinished}
+use Rattle.ot_depend.specs.Siblings.{Sibling}
 use Rattle.ot_model.specs.declared.expr.Cell.{Cell}
 use Rattle.ot_model.specs.declared.fold.Fold.{Fold as Operation}
 use Rattle.ot_model.specs.Tree.{E, If, Group, Wait, Body, Next, append}

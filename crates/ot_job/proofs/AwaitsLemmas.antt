@@ -6,7 +6,7 @@ use Rattle.ot_model.specs.declared.fold.Fold.{Fold as Operation}
 use Rattle.ot_model.specs.declared.stmt.Use.{Use}
 use Rattle.ot_depend.specs.Siblings.{Sibling, is_in}
 use Rattle.ot_check.specs.walk.Walk.{Children, anyone, behind, behind_one}
-use Rattle.ot_check.proofs.Bits.{true_or, or_right, and_left, and_right, and_true}
+use Rattle.ot_check.proofs.Bits.{true_or, or_right}
 use Rattle.ot_check.specs.walk.Fine.{AreAssigns}
 use Rattle.ot_task.specs.Place.{Open}
 use Rattle.ot_job.specs.Awaiting.{Kids, children_of, kids_behind, AwaitsAll}

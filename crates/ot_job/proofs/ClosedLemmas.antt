@@ -12,7 +12,7 @@ use Rattle.ot_model.specs.declared.stmt.Use.{Use}
 use Rattle.ot_model.proofs.CellsLemmas.{length-updated}
 use Rattle.ot_depend.specs.Siblings.{Sibling, is_unfinished, with_finished, IsReady, is_in}
 use Rattle.ot_depend.proofs.SiblingsLemmas.{IsReady-finished}
-use Rattle.ot_check.proofs.Bits.{or_true, true_or, or_right, and_left, and_right, and_true}
+use Rattle.ot_check.proofs.Bits.{or_true, true_or, or_right}
 use Rattle.ot_model.specs.declared.expr.Cell.{Cell}
 use Rattle.ot_model.specs.declared.fold.Fold.{Fold as Operation}
 use Rattle.ot_model.specs.Uses.{same_fold}

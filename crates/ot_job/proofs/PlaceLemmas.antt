@@ -57,16 +57,16 @@ module _ (kids : Kids) (mono : Monotone kids) (e : E) (a b rest : Body) (g : ℕ
   pub behind-one : FewerKids (kids_behind kids (append a rest) g) (kids_behind kids (Next (If e a b) rest) g)
   behind-one T k = mono _ (λ s. through s.uses (Next (If e a b) rest) && (not (is_in g s) && T s))
       (λ s. and_more (through s.uses (append a rest)) (through s.uses (Next (If e a b) rest)) (not (is_in g s) && T s) (λ t.
-          let both = sym (through-append s.uses a rest) ∙ t in
-          and_true (through s.uses a || through s.uses b) (through s.uses rest)
-          (true_or (through s.uses a) (through s.uses b) (and_left (through s.uses a) (through s.uses rest) both)) (and_right (through s.uses a) (through s.uses rest) both))) k
+      let both = sym (through-append s.uses a rest) ∙ t in
+      and_true (through s.uses a || through s.uses b) (through s.uses rest)
+      (true_or (through s.uses a) (through s.uses b) (and_left (through s.uses a) (through s.uses rest) both)) (and_right (through s.uses a) (through s.uses rest) both))) k
 
   pub behind-two : FewerKids (kids_behind kids (append b rest) g) (kids_behind kids (Next (If e a b) rest) g)
   behind-two T k = mono _ (λ s. through s.uses (Next (If e a b) rest) && (not (is_in g s) && T s))
       (λ s. and_more (through s.uses (append b rest)) (through s.uses (Next (If e a b) rest)) (not (is_in g s) && T s) (λ t.
-          let both = sym (through-append s.uses b rest) ∙ t in
-          and_true (through s.uses a || through s.uses b) (through s.uses rest)
-          (or_right (through s.uses a) (through s.uses b) (and_left (through s.uses b) (through s.uses rest) both)) (and_right (through s.uses b) (through s.uses rest) both))) k
+      let both = sym (through-append s.uses b rest) ∙ t in
+      and_true (through s.uses a || through s.uses b) (through s.uses rest)
+      (or_right (through s.uses a) (through s.uses b) (and_left (through s.uses b) (through s.uses rest) both)) (and_right (through s.uses b) (through s.uses rest) both))) k
 
 pub at-one : (own : Declared) (kids : Kids) → Monotone kids → (e : E) (a b rest : Body) (os : List Open) → IsFineAt own kids (Next (If e a b) rest) os → IsFineAt own kids (append a rest) os
 at-one own kids mono e a b rest os h =

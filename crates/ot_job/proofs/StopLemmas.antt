@@ -1,14 +1,13 @@
 -- A piece comes back: its assigns are behind the place.
-use Rattle.std.proofs.Common.{◌≡◌, ℕ, ◌<◌, ◌≤◌, true, false, not, ◌&&◌, List, length, refl, sym, ap, subst, ◌∙◌, ◌⊎◌, inl, inr, true≢false}
+use Rattle.std.proofs.Common.{◌≡◌, ℕ, ◌<◌, ◌≤◌, true, false, List, length, refl, sym, ap, subst, ◌∙◌, ◌⊎◌, inl, inr, true≢false}
 use Rattle.std.specs.Prelude.{None}
 use Rattle.std.specs.Prelude.{Some, slice_get}
-use Rattle.std.specs.List.{list_any}
 use Rattle.std.proofs.lemmas.Bool.{cases_lt}
 use Rattle.ot_model.specs.Tree.{E, Set, Fold, If, Task, Wait, Group, Body, End, Next, append}
 use Rattle.ot_model.specs.Names.{NamedIn}
 use Rattle.ot_model.specs.Cells.{updated}
 use Rattle.ot_model.specs.declared.stmt.Use.{Use}
-use Rattle.ot_depend.specs.Siblings.{Sibling, is_unfinished}
+use Rattle.ot_depend.specs.Siblings.{Sibling}
 use Rattle.ot_check.specs.Offences.{Declared, allows, clashes}
 use Rattle.ot_check.specs.Touches.{EachTouch, EachTask, Agree}
 use Rattle.ot_check.specs.declared.fault.Offence.TheVariants.{ConflictsWithChild}

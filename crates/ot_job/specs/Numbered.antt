@@ -1,5 +1,5 @@
 -- The regions of a job by their numbers, and what is left of it.
-use Rattle.std.specs.Prelude.{ℕ, zero, suc, Bool, true, false, List, [], ◌∷◌, map, None}
+use Rattle.std.specs.Prelude.{ℕ, zero, suc, Bool, true, List, [], ◌∷◌, map, None}
 use Rattle.ot_model.specs.Tree.{Body, End}
 use Rattle.ot_model.specs.Serial.{State}
 use Rattle.ot_job.specs.Left.{left}
