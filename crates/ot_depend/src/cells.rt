@@ -207,6 +207,7 @@ impl Table {
     pub(crate) fn count_free(&self, uses: &[Use], from: usize, children: &[Child]) -> usize
         requires { IsSound self.now }
         ensures from { from ≤ result }
+        ensures bounded { from ≤ length uses.now → result ≤ length uses.now }
         ensures free { some_must_wait (kids_of children.now) self.now (take from uses.now) ≡ false
             → some_must_wait (kids_of children.now) self.now (take result uses.now) ≡ false }
         ensures held { result < length uses.now → some_must_wait (kids_of children.now) self.now (take (result + 1) uses.now) ≡ true }

@@ -143,6 +143,7 @@ impl Kept {
     pub(crate) fn count_free(&self, uses: &[Use], from: usize) -> usize
         requires { IsKept self.now }
         ensures from { from ≤ result }
+        ensures bounded { from ≤ length uses.now → result ≤ length uses.now }
         ensures free { AreFree (siblings_in self.now) uses.now from → AreFree (siblings_in self.now) uses.now result }
         ensures held { result < length uses.now → waits_for (siblings_in self.now) (take (result + 1) uses.now) ≡ true }
         ensures whole { result < length uses.now → waits_for (siblings_in self.now) uses.now ≡ true }

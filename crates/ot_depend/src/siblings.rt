@@ -130,6 +130,7 @@ impl Siblings {
     /// that it passes alone, and takes no memory.
     pub fn count_free(&self, decl: &Decl, from: usize) -> usize
         ensures from { from ≤ result }
+        ensures bounded { from ≤ length decl.now → result ≤ length decl.now }
         ensures free { AreFree self.now decl.now from → AreFree self.now decl.now result }
         ensures held { result < length decl.now → waits_for self.now (take (result + 1) decl.now) ≡ true }
         ensures whole { result < length decl.now → waits_for self.now decl.now ≡ true }

@@ -23,6 +23,7 @@ returns-then-must_wait c =
     let here = sym c.must_wait.ensures ∙ c.if-must_wait.true in
     record {
       from = c.loop-place.invariant.from;
+      bounded = c.loop-place.invariant.bounded;
       free = c.loop-place.invariant.free;
       held = λ within. list_any_more waits c.args.uses.now c.loop-place.place none within ∙ or_right _ _ here;
       whole = λ within. list_any_at waits c.args.uses.now c.loop-place.place none within here;
@@ -35,6 +36,7 @@ loop-place-preserved c =
     let within : c.loop-place.place < length c.args.uses.now = c.loop-place-test.true in
     record {
       from = omega (arith, c.loop-place.invariant.from);
+      bounded = λ begun. omega (arith, within);
       free = λ before. list_any_more waits c.args.uses.now c.loop-place.place none within
           ∙ neither (list_any waits (take c.loop-place.place c.args.uses.now)) (waits (get_or c.args.uses.now c.loop-place.place none))
           (c.loop-place.invariant.free before) (sym c.must_wait.ensures ∙ c.if-must_wait.false);

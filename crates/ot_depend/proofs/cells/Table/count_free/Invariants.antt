@@ -6,6 +6,7 @@ use Rattle.ot_depend.proofs.cells.Table.count_free.Given as goal
 abbrev pub invariant-loop-place : goal.invariant-loop-place
 invariant-loop-place l = record {
   from : l.initial.place ≤ l.place;
+  bounded : l.initial.place ≤ length l.uses → l.place ≤ length l.uses;
   free : some_must_wait (kids_of l.children) l.self (take l.initial.place l.uses) ≡ false → some_must_wait (kids_of l.children) l.self (take l.place l.uses) ≡ false;
 }
 

@@ -16,6 +16,7 @@ returns c =
     ∙ rows-waits_for (kids_of k.children.items) c.requires.ready k.cells c.requires.rows uses in
     record {
       from = c.count_free.ensures.from;
+      bounded = c.count_free.ensures.bounded;
       free = λ before. sym (same (take n c.args.uses.now)) ∙ c.count_free.ensures.free (same (take c.args.from c.args.uses.now) ∙ before);
       held = λ within. sym (same (take (n + 1) c.args.uses.now)) ∙ c.count_free.ensures.held within;
       whole = λ within. sym (same c.args.uses.now) ∙ c.count_free.ensures.whole within;
