@@ -14,4 +14,5 @@ pub mod Names
 pub mod Runs
 pub mod Programs
 pub mod Code
+pub mod Signs
 pub mod one

@@ -11,6 +11,7 @@ mod meeting;
 pub mod plain;
 pub mod program;
 pub mod shape;
+mod signs;
 pub mod stmt;
 
 pub use cells::Cells;
