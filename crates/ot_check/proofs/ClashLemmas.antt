@@ -1,6 +1,6 @@
 -- Blocks of users: whose bits an `and` finds.
-use Rattle.std.proofs.Common.{◌≡◌, ◌≢◌, ◌==◌, ℕ, zero, ◌+◌, ◌*◌, ◌/◌, ◌%◌, ◌^◌, ◌<◌, min, Bool, true, false, not, ◌&&◌, ◌||◌, List, [], ◌∷◌, get_or, refl, sym, ap, ◌∙◌, inl, inr, arith, w64}
-use Rattle.std.specs.Prelude.{bit_and, bit_or, flat_map}
+use Rattle.std.proofs.Common.{◌≡◌, ◌≢◌, ◌==◌, ℕ, zero, suc, ◌+◌, ◌*◌, ◌/◌, ◌%◌, ◌^◌, ◌<◌, ◌++◌, min, Bool, true, false, not, ◌&&◌, ◌||◌, List, [], ◌∷◌, set, get_or, refl, sym, ap, ◌∙◌, inl, inr, arith, w64}
+use Rattle.std.specs.Prelude.{bit_and, bit_or, flat_map, Option, Some, slice_get}
 use Rattle.std.specs.Int.{bit_at, trailing_zeros}
 use Rattle.std.specs.List.{list_any}
 use Rattle.std.proofs.lemmas.List.Concat.{flat_map-cons}
@@ -16,7 +16,7 @@ use Rattle.ot_check.specs.walk.Rows.{users_below, users_of_block, users_of_row, 
 use Rattle.ot_check.specs.declared.block.Block.{Block}
 use Rattle.ot_check.specs.declared.users.User.{User}
 use Rattle.ot_check.specs.declared.users.Row.{Row}
-use Rattle.ot_check.proofs.Bits.{or_more, or_true, true_or, or_right, and_left, and_right, and_true}
+use Rattle.ot_check.proofs.Bits.{or_assoc, or_more, or_true, true_or, or_right, and_left, and_right, and_true}
 use Rattle.ot_check.proofs.SameLemmas.{eq_apart}
 use Rattle.ot_check.proofs.NumberLemmas.{or-one}
 use Rattle.ot_check.proofs.BlockLemmas.{both_same, is_one, one_is, below-has, below-found, any-three}
@@ -174,3 +174,31 @@ pub row-any : (test : User → Bool) (row : Row)
 row-any test row =
     list_any-append test (flat_map users_of_block row.earlier.items) (users_of_block row.latest)
     ∙ ap (λ b. b || list_any test (users_of_block row.latest)) (any-flat test row.earlier.items)
+
+-- one task more in one of its earlier blocks
+more_of : (a b t : Bool) → ((a || t) || b) ≡ ((a || b) || t)
+more_of true b t = refl
+more_of false true true = refl
+more_of false true false = refl
+more_of false false true = refl
+more_of false false false = refl
+
+pub blocks-entered : (test : User → Bool) (blocks : List Block) (at : ℕ) (block old new : Block) (met : Bool) → slice_get blocks at ≡ Some block → old ≡ get_or blocks at old
+    → list_any test (users_of_block new) ≡ (list_any test (users_of_block old) || met)
+    → list_any (λ b. list_any test (users_of_block b)) (set blocks at new) ≡ (list_any (λ b. list_any test (users_of_block b)) blocks || met)
+blocks-entered test [] at block old new met there is entered = absurd (cc)
+blocks-entered test (b ∷ blocks) zero block old new met there is entered =
+    let rest = list_any (λ b. list_any test (users_of_block b)) blocks in
+    ap (λ one. one || rest) (entered ∙ ap (λ b. list_any test (users_of_block b) || met) is) ∙ more_of (list_any test (users_of_block b)) rest met
+blocks-entered test (b ∷ blocks) (suc at) block old new met there is entered =
+    ap (λ rest. list_any test (users_of_block b) || rest) (blocks-entered test blocks at block old new met there is entered)
+    ∙ sym (or_assoc (list_any test (users_of_block b)) (list_any (λ b. list_any test (users_of_block b)) blocks) met)
+
+pub row-entered : (test : User → Bool) (row : Row) (blocks : List Block) (met : Bool)
+    → list_any (λ b. list_any test (users_of_block b)) blocks ≡ (list_any (λ b. list_any test (users_of_block b)) row.earlier.items || met)
+    → list_any test (flat_map users_of_block blocks ++ users_of_block row.latest) ≡ (list_any test (users_of_row row) || met)
+row-entered test row blocks met entered =
+    list_any-append test (flat_map users_of_block blocks) (users_of_block row.latest)
+    ∙ ap (λ b. b || list_any test (users_of_block row.latest)) (any-flat test blocks ∙ entered)
+    ∙ more_of (list_any (λ b. list_any test (users_of_block b)) row.earlier.items) (list_any test (users_of_block row.latest)) met
+    ∙ ap (λ b. b || met) (sym (row-any test row))

@@ -21,17 +21,17 @@ pub(crate) struct User {
 #[derive(Debug, Drop)]
 pub(crate) struct Row {
     cell: Cell,
-    /// Those of earlier places, or that fold by other operations.
+    /// Those of earlier places, and those of the latest that fold by operations that came before.
     earlier: Vec<Block>,
     /// Those of the latest place that fold by the latest operation, if they fold.
     latest: Block,
 }
 
 impl Row {
-    ghost use Rattle.std.specs.Prelude.{◌&&◌, ℕ, not};
+    ghost use Rattle.std.specs.Prelude.{◌&&◌, ℕ, not, IfSome, slice_get};
     ghost use Rattle.ot_model.specs.Uses.{conflicts};
     ghost use Rattle.ot_check.specs.walk.Bits.{has};
-    ghost use Rattle.ot_check.specs.walk.Rows.{awaited_as, users_of_row};
+    ghost use Rattle.ot_check.specs.walk.Rows.{awaited_as, users_of_row, IsRoom};
 
     /// One task alone. It takes no memory.
     fn of(alloc: Global, cell: Cell, user: User) -> Row
@@ -50,13 +50,38 @@ impl Row {
         ensures cell { self.new.cell ≡ self.old.cell }
         ensures users { OnOk result ((test : User → Bool) → list_any test (users_of_row self.new) ≡ (list_any test (users_of_row self.old) || test user)) }
     {
-        if self.latest.place == user.task / 64 && self.latest.takes(user.mode) {
-            self.latest.insert(user);
-            return Ok(());
+        if self.latest.place == user.task / 64 {
+            if self.latest.takes(user.mode) {
+                self.latest.insert(user);
+                return Ok(());
+            }
+            if let Some(at) = self.room_for(user) {
+                self.earlier[at].insert(user);
+                return Ok(());
+            }
         }
         self.earlier.push(self.latest)?;
         self.latest = Block::of(user);
         Ok(())
+    }
+
+    /// Where the task can stand among the earlier ones. Blocks of one place stand one behind another, and
+    /// no two of them fold by one operation, so it looks at six of them at most.
+    fn room_for(&self, user: User) -> Option<usize>
+        ensures { IfSome result (λ at. IsRoom (slice_get self.now.earlier.items at) user) }
+    {
+        let mut at = self.earlier.len();
+        while at > 0 {
+            at -= 1;
+            let block = &self.earlier[at];
+            if block.place != user.task / 64 {
+                return None;
+            }
+            if block.takes(user.mode) {
+                return Some(at);
+            }
+        }
+        None
     }
 
     /// Whether one of them is among these tasks and declares the cell in conflict with this mode.

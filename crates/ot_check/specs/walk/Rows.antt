@@ -1,5 +1,5 @@
 -- Rows of users, and where the row of a cell is.
-use Rattle.std.specs.Prelude.{◌≡◌, ◌==◌, ℕ, zero, suc, ◌+◌, ◌*◌, Bool, true, ◌&&◌, ◌||◌, if◌then◌else◌, List, [], ◌∷◌, ◌++◌, Option, Some, None, slice_get, flat_map}
+use Rattle.std.specs.Prelude.{◌≡◌, ◌==◌, ℕ, zero, suc, ◌+◌, ◌*◌, ◌/◌, Bool, true, ◌&&◌, ◌||◌, if◌then◌else◌, List, [], ◌∷◌, ◌++◌, Option, Some, None, slice_get, flat_map}
 use Rattle.std.specs.Int.{bit_at}
 use Rattle.ot_model.specs.declared.expr.Cell.{Cell}
 use Rattle.ot_model.specs.declared.stmt.Mode.{Mode}
@@ -39,6 +39,15 @@ abbrev pub is_awaited_by : Block → Mode → ℕ → Bool
 is_awaited_by block mode j =
     ((bit_at block.reads j == 1) && one_writes Reads mode) || (((bit_at block.writes j == 1) && one_writes Writes mode) || ((bit_at block.folds j == 1) && one_writes (Folds block.operation) mode))
 
+-- whether the fold of a user, if it folds, is by the operation by which the block folds
+abbrev pub is_by : Operation → Mode → Bool
+is_by o (Folds other) = same_fold o other
+is_by o mode = true
+
+-- whether the user can stand in this block, if there is one
+abbrev pub IsRoom : Option Block → User → Type 0
+IsRoom o user = (block : Block) × (o ≡ Some block) × (block.place ≡ user.task / 64) × (is_by block.operation user.mode ≡ true)
+
 abbrev pub users_of_row : Row → List User
 users_of_row row = flat_map users_of_block row.earlier.items ++ users_of_block row.latest
 
@@ -46,11 +55,6 @@ users_of_row row = flat_map users_of_block row.earlier.items ++ users_of_block r
 abbrev pub users_of : Option Row → List User
 users_of None = []
 users_of (Some row) = users_of_row row
-
--- whether the fold of a user, if it folds, is by the operation by which the block folds
-abbrev pub is_by : Operation → Mode → Bool
-is_by o (Folds other) = same_fold o other
-is_by o mode = true
 
 -- those of the row with this number, from 1 on
 abbrev pub users_in : List Row → ℕ → List User
