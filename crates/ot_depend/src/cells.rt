@@ -1,5 +1,6 @@
 //! For each cell that is declared, the last child that writes it and the children that use it since.
-ghost use Rattle.std.specs.Prelude.{◌≡◌, ◌++◌, ◌+◌, ◌<◌, ◌≤◌, ℕ, IfOk, OnOk, All, Some, true, false, length, take, map, slice_get};
+ghost use Rattle.std.specs.Prelude.{◌≡◌, ◌++◌, ◌∷◌, [], ◌+◌, ◌<◌, ◌≤◌, ℕ, IfOk, OnOk, All, Some, true, false, length, take, map, slice_get};
+ghost use Rattle.ot_model.specs.declared.stmt.Use.{Use};
 ghost use Rattle.ot_model.specs.declared.expr.Cell.{Cell};
 ghost use Rattle.ot_model.specs.declared.stmt.Mode.TheVariants.{Reads};
 ghost use Rattle.ot_depend.specs.Children.{kids_of};
@@ -211,6 +212,8 @@ impl Table {
         ensures free { some_must_wait (kids_of children.now) self.now (take from uses.now) ≡ false
             → some_must_wait (kids_of children.now) self.now (take result uses.now) ≡ false }
         ensures held { result < length uses.now → some_must_wait (kids_of children.now) self.now (take (result + 1) uses.now) ≡ true }
+        ensures passed { (i : ℕ) (u : Use) → from ≤ i → i < result → slice_get uses.now i ≡ Some u → some_must_wait (kids_of children.now) self.now (u ∷ []) ≡ false }
+        ensures stopped { (u : Use) → slice_get uses.now result ≡ Some u → some_must_wait (kids_of children.now) self.now (u ∷ []) ≡ true }
         ensures whole { result < length uses.now → some_must_wait (kids_of children.now) self.now uses.now ≡ true }
     {
         let mut place = from;

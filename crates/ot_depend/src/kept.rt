@@ -1,5 +1,6 @@
 //! The children of a body with what is kept beside them: the rows of the cells and the counters.
-ghost use Rattle.std.specs.Prelude.{◌≡◌, ◌++◌, ◌∷◌, [], ◌↔◌, ◌+◌, ◌<◌, ◌≤◌, IsTrue, OnOk, true, length, take};
+ghost use Rattle.std.specs.Prelude.{◌≡◌, ◌++◌, ◌∷◌, [], ◌↔◌, ◌+◌, ◌<◌, ◌≤◌, ℕ, IsTrue, OnOk, Some, true, false, length, take, slice_get};
+ghost use Rattle.ot_model.specs.declared.stmt.Use.{Use};
 ghost use Rattle.ot_depend.specs.Direct.{waiting_for};
 ghost use Rattle.ot_depend.specs.Siblings.{created, with_finished, IsReady, IsUnfinished, waits_for, AreFree};
 
@@ -146,6 +147,8 @@ impl Kept {
         ensures bounded { from ≤ length uses.now → result ≤ length uses.now }
         ensures free { AreFree (siblings_in self.now) uses.now from → AreFree (siblings_in self.now) uses.now result }
         ensures held { result < length uses.now → waits_for (siblings_in self.now) (take (result + 1) uses.now) ≡ true }
+        ensures passed { (i : ℕ) (u : Use) → from ≤ i → i < result → slice_get uses.now i ≡ Some u → waits_for (siblings_in self.now) (u ∷ []) ≡ false }
+        ensures stopped { (u : Use) → slice_get uses.now result ≡ Some u → waits_for (siblings_in self.now) (u ∷ []) ≡ true }
         ensures whole { result < length uses.now → waits_for (siblings_in self.now) uses.now ≡ true }
     {
         self.cells.count_free(uses, from, &self.children)

@@ -24,7 +24,8 @@ impl Model for Siblings {
 }
 
 impl Siblings {
-    ghost use Rattle.std.specs.Prelude.{◌≡◌, ◌+◌, ◌<◌, ◌≤◌, ◌++◌, ◌↔◌, [], ◌∷◌, true, IsTrue, IfOk, OnOk, OnErr, length, take, count_by};
+    ghost use Rattle.ot_model.specs.declared.stmt.Use.{Use};
+    ghost use Rattle.std.specs.Prelude.{◌≡◌, ◌+◌, ◌<◌, ◌≤◌, ◌++◌, ◌↔◌, [], ◌∷◌, ℕ, Some, true, false, IsTrue, IfOk, OnOk, OnErr, length, take, slice_get, count_by};
     ghost use Rattle.std.specs.Prelude.{All};
     ghost use Rattle.ot_depend.specs.Direct.{waiting_for};
     ghost use Rattle.ot_depend.specs.Waiting.{LetsTheSame, WaitForLess};
@@ -133,6 +134,8 @@ impl Siblings {
         ensures bounded { from ≤ length decl.now → result ≤ length decl.now }
         ensures free { AreFree self.now decl.now from → AreFree self.now decl.now result }
         ensures held { result < length decl.now → waits_for self.now (take (result + 1) decl.now) ≡ true }
+        ensures passed { (i : ℕ) (u : Use) → from ≤ i → i < result → slice_get decl.now i ≡ Some u → waits_for self.now (u ∷ []) ≡ false }
+        ensures stopped { (u : Use) → slice_get decl.now result ≡ Some u → waits_for self.now (u ∷ []) ≡ true }
         ensures whole { result < length decl.now → waits_for self.now decl.now ≡ true }
     {
         self.kept.count_free(decl.uses(), from)

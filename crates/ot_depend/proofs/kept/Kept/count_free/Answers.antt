@@ -1,4 +1,4 @@
-use Rattle.std.proofs.Common.{◌≡◌, ◌+◌, ◌∙◌, List, ap, sym, take}
+use Rattle.std.proofs.Common.{◌≡◌, ◌+◌, ◌∙◌, List, [], ◌∷◌, ap, sym, take}
 use Rattle.ot_model.specs.declared.stmt.Use.{Use}
 use Rattle.ot_depend.specs.Children.{kids_of}
 use Rattle.ot_depend.specs.Siblings.{waits_for}
@@ -19,5 +19,7 @@ returns c =
       bounded = c.count_free.ensures.bounded;
       free = λ before. sym (same (take n c.args.uses.now)) ∙ c.count_free.ensures.free (same (take c.args.from c.args.uses.now) ∙ before);
       held = λ within. sym (same (take (n + 1) c.args.uses.now)) ∙ c.count_free.ensures.held within;
+      passed = λ i u from here there. sym (same (u ∷ [])) ∙ c.count_free.ensures.passed i u from here there;
+      stopped = λ u there. sym (same (u ∷ [])) ∙ c.count_free.ensures.stopped u there;
       whole = λ within. sym (same c.args.uses.now) ∙ c.count_free.ensures.whole within;
     }
