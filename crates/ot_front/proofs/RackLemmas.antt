@@ -6,6 +6,7 @@ use Rattle.ot_front.specs.Connections.{HasSession}
 use Rattle.ot_front.specs.Desks.{IsKnown, IsPlaceOf}
 use Rattle.ot_front.specs.Greetings.{Greets}
 use Rattle.ot_front.specs.Racks.{Moves, with_taken, with_laid, Hands, ConnectsOver}
+use Rattle.ot_front.specs.declared.fault.End.{End}
 use Rattle.ot_front.specs.declared.fault.FrontFault.{FrontFault}
 use Rattle.ot_front.proofs.ConnectionLemmas.{greets_so}
 
@@ -37,8 +38,8 @@ placed names others name place same known at none =
 -- a session behind the greeting
 pub over_session : (names : List (List ℕ)) (ahead next left : Option (List ℕ)) (ended : Type 0) (start told held : Option (List ℕ)) (before mid after : Option Moves)
     (given : Option Register) (book : Register) → given ≡ Some book → Greets names ahead next ended start told (Ok given) → Hands before mid (Ok given) →
-    (session : HasSession book next left told held) → after ≡ with_laid session.after mid → ConnectsOver names ahead left start held before after
-over_session names ahead next left ended start told held before mid after given book is greets hands session laid = record {
+    (result : Result End FrontFault) (session : HasSession book next left told held result) → after ≡ with_laid session.after mid → ConnectsOver names ahead left start held (Some result) before after
+over_session names ahead next left ended start told held before mid after given book is greets hands result session laid = record {
   connects = record {
     given = Ok (Some book);
     next = next;
@@ -51,28 +52,28 @@ over_session names ahead next left ended start told held before mid after given 
 
 -- nothing behind a greeting that gives no book
 pub over_nothing : (names : List (List ℕ)) (ahead next : Option (List ℕ)) (ended : Type 0) (start told : Option (List ℕ)) (before after : Option Moves) (given : Option Register) → given ≡ None →
-    Greets names ahead next ended start told (Ok given) → Hands before after (Ok given) → ConnectsOver names ahead next start told before after
+    Greets names ahead next ended start told (Ok given) → Hands before after (Ok given) → ConnectsOver names ahead next start told None before after
 over_nothing names ahead next ended start told before after given is greets hands = record {
   connects = record {
     given = Ok None;
     next = next;
     told = told;
     greets = greets_so names ahead next ended start told (Ok None) (subst (λ o. Greets names ahead next ended start told (Ok o)) is greets);
-    goes_on = (refl, refl);
+    goes_on = (refl, refl, refl);
   };
   comes_back = subst (λ o. Hands before after (Ok o)) is hands;
 }
 
 -- nothing behind a fault
 pub over_fault : (names : List (List ℕ)) (ahead next : Option (List ℕ)) (ended : Type 0) (start told : Option (List ℕ)) (before after : Option Moves) (fault : FrontFault) →
-    Greets names ahead next ended start told (Err fault) → Hands before after (Err fault) → ConnectsOver names ahead next start told before after
+    Greets names ahead next ended start told (Err fault) → Hands before after (Err fault) → ConnectsOver names ahead next start told None before after
 over_fault names ahead next ended start told before after fault greets hands = record {
   connects = record {
     given = Err fault;
     next = next;
     told = told;
     greets = greets_so names ahead next ended start told (Err fault) greets;
-    goes_on = (refl, refl);
+    goes_on = (refl, refl, refl);
   };
   comes_back = hands;
 }

@@ -2,6 +2,7 @@
 use Rattle.std.specs.Prelude.{◌≡◌, ◌⊎◌, ℕ, List, [], ◌∷◌, ◌++◌, Option, Some, None, Result, Ok, Err}
 use Rattle.ot_book.specs.Books.{Register}
 use Rattle.ot_front.specs.Connections.{GoesOn, Connects}
+use Rattle.ot_front.specs.declared.fault.End.{End}
 use Rattle.ot_front.specs.declared.fault.FrontFault.{FrontFault}
 
 -- the books that were taken from a rack, and those that were laid back, one after another
@@ -26,12 +27,13 @@ Hands before after (Ok None) = after ≡ before
 Hands before after (Err fault) = (after ≡ before) ⊎ ((book : Register) × (after ≡ with_laid book (with_taken book before)))
 
 -- A connection that was given a book has laid it back as its session left it.
-abbrev pub ComesBack : (given : Result (Option Register) FrontFault) (ahead left start held : Option (List ℕ)) → GoesOn given ahead left start held → Option Moves → Option Moves → Type 0
-ComesBack (Ok (Some book)) ahead left start held session before after = after ≡ with_laid session.after (with_taken book before)
-ComesBack (Ok None) ahead left start held nothing before after = after ≡ before
-ComesBack (Err fault) ahead left start held nothing before after = Hands before after (Err fault)
+abbrev pub ComesBack : (given : Result (Option Register) FrontFault) (ahead left start held : Option (List ℕ)) (result : Option (Result End FrontFault)) → GoesOn given ahead left start held result → Option Moves → Option Moves → Type 0
+ComesBack (Ok (Some book)) ahead left start held (Some result) session before after = after ≡ with_laid session.after (with_taken book before)
+ComesBack (Ok (Some book)) ahead left start held None never before after = ⊥
+ComesBack (Ok None) ahead left start held result nothing before after = after ≡ before
+ComesBack (Err fault) ahead left start held result nothing before after = Hands before after (Err fault)
 
 -- a connection, and what becomes of the book that it is given
-pub record ConnectsOver (names : List (List ℕ)) (ahead left start held : Option (List ℕ)) (before after : Option Moves) : Type 0 where
-  pub connects : Connects names ahead left start held
-  pub comes_back : ComesBack connects.given connects.next left connects.told held connects.goes_on before after
+pub record ConnectsOver (names : List (List ℕ)) (ahead left start held : Option (List ℕ)) (result : Option (Result End FrontFault)) (before after : Option Moves) : Type 0 where
+  pub connects : Connects names ahead left start held result
+  pub comes_back : ComesBack connects.given connects.next left connects.told held result connects.goes_on before after

@@ -1,10 +1,15 @@
 //! One connection: its greeting, and behind it the session of the book that was given.
-ghost use Rattle.std.specs.Prelude.{◌≡◌, None};
+ghost use Rattle.std.specs.Prelude.{◌≡◌, ◌≢◌, ◌≤◌, ℕ, None, Some, Ok, Err, IfSome};
+ghost use Rattle.std.specs.Io.KnownBytes.{IsAtEnd};
 ghost use Rattle.ot_front.specs.Connections.{Connects, HasSession};
+ghost use Rattle.ot_front.specs.Device.{next_count, count_after};
 ghost use Rattle.ot_front.specs.Racks.{with_laid, ConnectsOver};
+ghost use Rattle.ot_front.specs.declared.fault.End.TheVariants.{EndOfInput};
+ghost use Rattle.ot_front.specs.declared.fault.FrontFault.TheVariants.{ReadFailed, WriteFailed, TooManyTurns};
 
 use crate::desk::Desk;
 use crate::device::{Sink, Source};
+use crate::fault::{End, FrontFault};
 use crate::greeting::greet_from;
 use crate::rack::{OnDesk, Rack};
 use crate::session::serve;
@@ -15,7 +20,7 @@ use std::sync::Wait;
 use std::sync::ledger::Ledger;
 
 /// Greets, and serves the session of the tenant that was named over a client of the pool. The book lies on
-/// the desk again behind it, whatever ended the session.
+/// the desk again behind it, whatever ended the session. How the session ended, where a book was given.
 pub fn serve_connection<R: Source, W: Sink, L: Ledger, T: Wait>(
     rt: &T,
     alloc: Global,
@@ -23,8 +28,16 @@ pub fn serve_connection<R: Source, W: Sink, L: Ledger, T: Wait>(
     desk: &Desk,
     source: &mut R,
     sink: &mut W,
-)
-    ensures { Connects desk.now (R.ahead source.old) (R.ahead source.new) (W.contents sink.old) (W.contents sink.new) }
+) -> Option<Result<End, FrontFault>>
+    ensures connects { Connects desk.now (R.ahead source.old) (R.ahead source.new) (W.contents sink.old) (W.contents sink.new) result }
+    ensures turns { result ≡ Some (Err TooManyTurns) → (k : ℕ) × (k ≤ 65)
+        × (R.reads source.new ≡ count_after 1000000 (count_after k (R.reads source.old))) }
+    ensures at_end { result ≡ Some (Ok EndOfInput) → IsAtEnd (R.ahead source.new) }
+    ensures end_told { result ≡ Some (Ok EndOfInput) → R.ends source.new ≡ next_count (R.ends source.old) }
+    ensures read_failed { result ≡ Some (Err ReadFailed) → R.failures source.new ≡ next_count (R.failures source.old) }
+    ensures read_worked { IfSome result (λ end. end ≢ Err ReadFailed → R.failures source.new ≡ R.failures source.old) }
+    ensures write_failed { result ≡ Some (Err WriteFailed) → W.failures sink.new ≡ next_count (W.failures sink.old) }
+    ensures write_worked { IfSome result (λ end. end ≢ Err WriteFailed → W.failures sink.new ≡ W.failures sink.old) }
 {
     connect(rt, alloc, pool, &mut OnDesk { rt, desk }, source, sink)
 }
@@ -37,9 +50,17 @@ fn connect<B: Rack, R: Source, W: Sink, L: Ledger, T: Wait>(
     rack: &mut B,
     source: &mut R,
     sink: &mut W,
-)
-    ensures { ConnectsOver (B.names rack.old) (R.ahead source.old) (R.ahead source.new) (W.contents sink.old) (W.contents sink.new)
-        (B.moves rack.old) (B.moves rack.new) }
+) -> Option<Result<End, FrontFault>>
+    ensures connects { ConnectsOver (B.names rack.old) (R.ahead source.old) (R.ahead source.new) (W.contents sink.old) (W.contents sink.new)
+        result (B.moves rack.old) (B.moves rack.new) }
+    ensures turns { result ≡ Some (Err TooManyTurns) → (k : ℕ) × (k ≤ 65)
+        × (R.reads source.new ≡ count_after 1000000 (count_after k (R.reads source.old))) }
+    ensures at_end { result ≡ Some (Ok EndOfInput) → IsAtEnd (R.ahead source.new) }
+    ensures end_told { result ≡ Some (Ok EndOfInput) → R.ends source.new ≡ next_count (R.ends source.old) }
+    ensures read_failed { result ≡ Some (Err ReadFailed) → R.failures source.new ≡ next_count (R.failures source.old) }
+    ensures read_worked { IfSome result (λ end. end ≢ Err ReadFailed → R.failures source.new ≡ R.failures source.old) }
+    ensures write_failed { result ≡ Some (Err WriteFailed) → W.failures sink.new ≡ next_count (W.failures sink.old) }
+    ensures write_worked { IfSome result (λ end. end ≢ Err WriteFailed → W.failures sink.new ≡ W.failures sink.old) }
 {
     match greet_from(alloc, rack, source, sink) {
         Ok(Some(book)) => {
@@ -47,14 +68,14 @@ fn connect<B: Rack, R: Source, W: Sink, L: Ledger, T: Wait>(
                 unreachable!()
             };
             let mut client = Client::new(rt, pool, tenant);
-            hold_session(alloc, rack, book, &mut client, source, sink)
+            Some(hold_session(alloc, rack, book, &mut client, source, sink))
         }
-        Ok(None) => {}
-        Err(_) => {}
+        Ok(None) => None,
+        Err(_) => None,
     }
 }
 
-/// Serves the session of a book that was taken, and lays it back.
+/// Serves the session of a book that was taken, and lays it back. How it ended.
 fn hold_session<B: Rack, E: Executor, R: Source, W: Sink>(
     alloc: Global,
     rack: &mut B,
@@ -62,11 +83,19 @@ fn hold_session<B: Rack, E: Executor, R: Source, W: Sink>(
     executor: &mut E,
     source: &mut R,
     sink: &mut W,
-)
+) -> Result<End, FrontFault>
     requires { book.pending ≡ None }
-    ensures { (session : HasSession book (R.ahead source.old) (R.ahead source.new) (W.contents sink.old) (W.contents sink.new))
+    ensures session { (session : HasSession book (R.ahead source.old) (R.ahead source.new) (W.contents sink.old) (W.contents sink.new) result)
         × (B.moves rack.new ≡ with_laid session.after (B.moves rack.old)) }
+    ensures turns { result ≡ Err TooManyTurns → R.reads source.new ≡ count_after 1000000 (R.reads source.old) }
+    ensures at_end { result ≡ Ok EndOfInput → IsAtEnd (R.ahead source.new) }
+    ensures end_told { result ≡ Ok EndOfInput → R.ends source.new ≡ next_count (R.ends source.old) }
+    ensures read_failed { result ≡ Err ReadFailed → R.failures source.new ≡ next_count (R.failures source.old) }
+    ensures read_worked { result ≢ Err ReadFailed → R.failures source.new ≡ R.failures source.old }
+    ensures write_failed { result ≡ Err WriteFailed → W.failures sink.new ≡ next_count (W.failures sink.old) }
+    ensures write_worked { result ≢ Err WriteFailed → W.failures sink.new ≡ W.failures sink.old }
 {
-    let _ = serve(alloc, &mut book, executor, source, sink);
+    let end = serve(alloc, &mut book, executor, source, sink);
     rack.lay_back(book);
+    end
 }

@@ -74,7 +74,7 @@ impl<L: Ledger> Service for Pool<L> {
             };
             let mut source = Reading::new(&stream);
             let mut sink = Writing::new(&stream);
-            serve_connection(rt, alloc, self, desk, &mut source, &mut sink);
+            let _ = serve_connection(rt, alloc, self, desk, &mut source, &mut sink);
         }
         unreachable!()
     }

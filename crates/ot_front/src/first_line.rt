@@ -36,6 +36,7 @@ pub(crate) fn read_first_line<R: Source>(
     ensures short { result ≢ Ok TooLong → length line.new.items ≤ 64 }
     ensures at_end { result ≡ Ok Cut → IsAtEnd (R.ahead source.new) }
     ensures end_told { result ≡ Ok Cut → R.ends source.new ≡ next_count (R.ends source.old) }
+    ensures end_untold { result ≢ Ok Cut → R.ends source.new ≡ R.ends source.old }
     ensures reads { (k : ℕ) × (k ≤ 65) × (R.reads source.new ≡ count_after k (R.reads source.old)) }
     ensures worked { OnOk result (R.failures source.new ≡ R.failures source.old) }
     ensures failed { OnErr result (R.failures source.new ≡ next_count (R.failures source.old)) }

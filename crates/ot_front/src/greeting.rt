@@ -59,6 +59,7 @@ pub(crate) fn greet_from<B: Rack, R: Source, W: Sink>(
     ensures names { B.names rack.new ≡ B.names rack.old }
     ensures hands { Hands (B.moves rack.old) (B.moves rack.new) result }
     ensures closed { IfOk result (λ given. IfSome given (λ book. book.pending ≡ None)) }
+    ensures end_untold { IfOk result (λ given. IfSome given (λ book. R.ends source.new ≡ R.ends source.old)) }
     ensures reads { (k : ℕ) × (k ≤ 65) × (R.reads source.new ≡ count_after k (R.reads source.old)) }
     ensures read_failed { result ≡ Err ReadFailed → R.failures source.new ≡ next_count (R.failures source.old) }
     ensures read_worked { result ≢ Err ReadFailed → R.failures source.new ≡ R.failures source.old }

@@ -29,7 +29,7 @@ pub(crate) fn connect<L: Ledger, R: Wait>(
 ) -> Vec<u8> {
     let mut source = Reading::new(input.as_bytes());
     let mut sink = Writing::new(Vec::new(alloc));
-    serve_connection(rt, alloc, pool, desk, &mut source, &mut sink);
+    let _ = serve_connection(rt, alloc, pool, desk, &mut source, &mut sink);
     sink.into_inner()
 }
 
@@ -149,7 +149,7 @@ fn connect_broken<L: Ledger, R: Wait>(
         may_take,
         failures: 0,
     };
-    serve_connection(rt, alloc, pool, desk, &mut source, &mut sink);
+    let _ = serve_connection(rt, alloc, pool, desk, &mut source, &mut sink);
     sink.taken
 }
 
@@ -165,7 +165,7 @@ fn comes_back_behind_a_million_reads<L: Ledger, R: Wait>(
     input.extend_from_slice(&blank_lines(alloc, 17)?)?;
     let mut source = Reading::new(Dripping::whole(&input, 1));
     let mut sink = Writing::new(Vec::new(alloc));
-    serve_connection(rt, alloc, pool, desk, &mut source, &mut sink);
+    let _ = serve_connection(rt, alloc, pool, desk, &mut source, &mut sink);
     let written = sink.into_inner();
     let behind = connect(rt, alloc, pool, desk, GREETING);
     Ok(

@@ -2,20 +2,20 @@ use Rattle.ot_front.proofs.ConnectionLemmas.{knows}
 use Rattle.ot_front.proofs.RackLemmas.{placed, over_session, over_nothing, over_fault}
 use Rattle.ot_front.proofs.connection.connect.Goals as goal
 
-pub returns-in-Some : goal.returns-in-Some
-returns-in-Some g c =
+pub returns-in-Some-clause-connects : goal.returns-in-Some-clause-connects
+returns-in-Some-clause-connects g c =
     over_session (g.B.Rack.names c.args.rack.now) (g.R.Source.ahead c.args.source.now) (g.R.Source.ahead c.greet_from.new.source) (g.R.Source.ahead c.hold_session.new.source) _
     (g.W.Sink.contents c.args.sink.now) (g.W.Sink.contents c.greet_from.new.sink) (g.W.Sink.contents c.hold_session.new.sink)
     (g.B.Rack.moves c.args.rack.now) _ _ c.in-Ok-Some.field-0 c.in-Ok-Some.book c.in-Ok-Some.field-0-is c.in-Ok-Some.ensures.greets c.in-Ok-Some.ensures.hands
-    c.hold_session.ensures.0 c.hold_session.ensures.1
+    _ c.hold_session.ensures.session.0 c.hold_session.ensures.session.1
 
-pub returns-in-Ok-None : goal.returns-in-Ok-None
-returns-in-Ok-None g c =
+pub returns-in-Ok-None-clause-connects : goal.returns-in-Ok-None-clause-connects
+returns-in-Ok-None-clause-connects g c =
     over_nothing (g.B.Rack.names c.args.rack.now) (g.R.Source.ahead c.args.source.now) (g.R.Source.ahead c.greet_from.new.source) _
     (g.W.Sink.contents c.args.sink.now) (g.W.Sink.contents c.greet_from.new.sink) (g.B.Rack.moves c.args.rack.now) _ c.in-Ok-None.field-0 c.in-Ok-None.field-0-is
     c.in-Ok-None.ensures.greets c.in-Ok-None.ensures.hands
 
-pub returns-in-Err : goal.returns-in-Err
-returns-in-Err g c =
+pub returns-in-Err-clause-connects : goal.returns-in-Err-clause-connects
+returns-in-Err-clause-connects g c =
     over_fault (g.B.Rack.names c.args.rack.now) (g.R.Source.ahead c.args.source.now) (g.R.Source.ahead c.greet_from.new.source) _
     (g.W.Sink.contents c.args.sink.now) (g.W.Sink.contents c.greet_from.new.sink) (g.B.Rack.moves c.args.rack.now) _ _ c.in-Err.ensures.greets c.in-Err.ensures.hands

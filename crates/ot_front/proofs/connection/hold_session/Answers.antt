@@ -1,12 +1,11 @@
 use Rattle.ot_front.proofs.connection.hold_session.Goals as goal
 
-pub returns : goal.returns
-returns g c = (
+pub returns-clause-session : goal.returns-clause-session
+returns-clause-session g c = (
   record {
-    after = c.serve.new.book;
-    latest = g.R.Source.latest c.serve.new.source;
-    result = c.serve.result;
-    serves = c.serve.ensures.serves;
+    after = c.serve-end.new.book;
+    latest = g.R.Source.latest c.serve-end.new.source;
+    serves = c.serve-end.ensures.serves;
   },
   c.lay_back.ensures.laid,
 )
