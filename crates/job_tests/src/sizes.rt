@@ -21,6 +21,10 @@ const BODIES: &str =
 3|[["for","i",0,20000,[["group",[["a",0,1]],[]]]]]||0||| gives 0 20000 [1, 2, 3]
 3|[["if",["c","a",0],[],[]],["if",0,[],[["for","i",0,19998,[["add",["c","a",0],1]]]]]]||0||| gives 0 20000 [19999, 2, 3]
 3|[["task",[["inout",["a",0,1]]],[["for","i",0,9999,[["if",["c","a",0],[["add",["c","a",0],1]],[]]]]]]]||0||| gives 1 19999 [10000, 2, 3]
+65536|[["group",[["a",0,65536]],[["for","i",0,14,[["task",[["red",["a",0,65536]]],[["for","j",0,1000,[["add",["c","a",["+",["*",1000,"i"],"j"]],1]]]]]]]]]]||0||| gives 14 14015 [2, 3, 4, 5, 6, 7]
+3||[["group",[],|14|[["task",[["inout",["a",0,1]]],[["add",["c","a",0],1]]]]|]]| gives 1 16 [2, 2, 3]
+3|[["for","i",0,500,[["task",[],|[["group",[],|11|[["task",[],[]]]|]]|]]]] gives 1000 6500 [1, 2, 3]
+65536|program2 [["for","i",0,16,[["group","max",[["a",0,600]],[["task",[["red","max",["a",0,600]]],[["for","j",0,600,[["fold","max",["c","a","j"],["*","i",50]]]]]]]]]]]||0||| gives 16 9632 [750, 750, 750, 750, 750, 750]
 65536|[["set",["c","a",0],["pick",["a",0,65536],65535]]]||0||| gives 0 1 [65536, 2, 3, 4, 5, 6]
 65536|[["for","i",0,16,[["if",["pick",["a",0,65536],65535],[["add",["c","a",0],1]],[]]]]]||0||| gives 0 32 [17, 2, 3, 4, 5, 6]
 65536|[["for","i",0,16,[["task",[["inout",["a",0,65536]]],[["add",["c","a","i"],["c","a",0]]]]]]]||0||| gives 16 32 [2, 4, 5, 6, 7, 8]
@@ -43,21 +47,22 @@ fn body(alloc: Global, parts: &[&str]) -> Result<String, AllocError> {
     format!(in alloc; "{begin}{before}{inside}{after}{end}")
 }
 
-/// What is left of the body of a row, with as many pieces out at a time as can be claimed.
-fn left(alloc: Global, asked: &str) -> Result<String, ProgramFault> {
+/// What is left of the body of a row, with as many pieces out at a time as can be claimed, and the piece
+/// claimed first or last settled first.
+fn left(alloc: Global, asked: &str, ends: &mut Ends) -> Result<String, ProgramFault> {
     let (len, parts) = asked.split_once('|').unwrap_or(("", ""));
     let array = numbers(alloc, len.parse().unwrap_or(0))?;
     let parts = parts.split('|').collect::<Vec<&str>>(alloc)?;
     let text = body(alloc, parts.as_slice())?;
     let spec = job_over(alloc, array, text.as_str())?;
-    Ok(run(alloc, spec, &mut Ends::Last, Width::All)?)
+    Ok(run(alloc, spec, ends, Width::All)?)
 }
 
-fn is_right(alloc: Global, row: &str) -> bool {
+fn is_right(alloc: Global, row: &str, ends: &mut Ends) -> bool {
     let Some((asked, gives)) = row.split_once(" gives ") else {
         return false;
     };
-    match left(alloc, asked) {
+    match left(alloc, asked, ends) {
         Ok(said) => said.as_str() == gives,
         Err(_) => false,
     }
@@ -68,11 +73,18 @@ fn is_right(alloc: Global, row: &str) -> bool {
 fn long_and_deep_bodies_go_to_their_end(rt: HostRuntime) {
     for row in BODIES.lines() {
         let start = Instant::now(&rt);
-        assert!(rt; is_right(rt.alloc(), row), "{row}");
+        assert!(rt; is_right(rt.alloc(), row, &mut Ends::Last), "{row}");
         if let Ok(start) = start
             && let Ok(time) = start.elapsed(&rt)
         {
             let _ = println!(rt; "{time:?} {row}");
         }
+    }
+}
+
+#[test]
+fn bodies_whose_first_piece_ends_first_go_to_their_end(rt: HostRuntime) {
+    for row in BODIES.lines() {
+        assert!(rt; is_right(rt.alloc(), row, &mut Ends::First), "{row}");
     }
 }
