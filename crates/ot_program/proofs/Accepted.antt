@@ -15,6 +15,8 @@ use Rattle.ot_program.specs.Meanings.{items, section}
 use Rattle.ot_program.specs.Profiles.{profile_of}
 use Rattle.ot_program.specs.Programs.{told, told_or, expansion, program_copy, program_in, program_of}
 use Rattle.ot_program.proofs.Named.{sections_named, copies_named}
+use Rattle.ot_program.proofs.CellCounts.{sections_long}
+use Rattle.ot_program.proofs.Shallow.{shallow_copies}
 use Rattle.ot_program.proofs.Sized.{sized_copies}
 use Rattle.ot_program.proofs.Tallies.{nothing, sum_from, sum_is, told-from, append-none, none_within, within_sum, AreClean, clean_where}
 
@@ -41,7 +43,7 @@ named_by shape short profile a b None is =
 named_by shape short profile a b (Some c) is = tt
 
 small_by : (shape : Arrays) (profile : Profile) (a b : Data) (o : Option Refusal) → told_of shape profile a b ≡ o
-    → IfOk (told_or (expansion_of shape profile a b) o) (λ p. IsSmall shape.tasks p.body)
+    → IfOk (told_or (expansion_of shape profile a b) o) (λ p. IsSmall shape.tasks p.shows p.body)
 small_by shape profile a b None is =
     let ps = in_copy (program_copy profile a b) in
     let cs = copies profile 1 b [] in
@@ -51,11 +53,16 @@ small_by shape profile a b None is =
     sum_is shape nothing ps ∙ ap (λ (qs : List Placed). plus nothing (plus (tally 0 0 0 0 cells) (total shape qs))) (append-nil (in_order cs)) in
     let v = rw sum at w in
     let z = sized_copies shape profile 1 b [] in
+    let clean = clean_where shape nothing ps (sym (told-from shape [] ps) ∙ is) in
+    let body : AreClean shape (in_order cs) = rw (append-nil (in_order cs)) at clean.1 in
+    let low = shallow_copies shape profile 1 b [] (omega arith) body in
     record {
       statements = omega (arith, v.statements, z.statements);
       tasks = omega (arith, v.tasks, z.tasks);
       nodes = omega (arith, v.nodes, z.nodes);
-      cells = omega (arith, v.cells, z.cells);
+      cells = omega (arith, v.cells, z.cells, sections_long (map (section shape []) (items a)));
+      depth = low.depth;
+      nesting = omega (arith, low.nesting);
     }
 small_by shape profile a b (Some c) is = tt
 
@@ -67,10 +74,10 @@ accepted_is_named shape short (array (item t (item a (item b no_items)))) = by (
     by (Some profile) = named_by shape short profile a b (told_of shape profile a b) refl
 accepted_is_named shape short _ = tt
 
-pub accepted_is_small : (shape : Arrays) (d : Data) → IfOk (program_of shape d) (λ p. IsSmall shape.tasks p.body)
+pub accepted_is_small : (shape : Arrays) (d : Data) → IfOk (program_of shape d) (λ p. IsSmall shape.tasks p.shows p.body)
 accepted_is_small shape (array (item t (item a (item b no_items)))) = by (profile_of t)
   where
-    by : (o : Option Profile) → IfOk (program_in shape o a b) (λ p. IsSmall shape.tasks p.body)
+    by : (o : Option Profile) → IfOk (program_in shape o a b) (λ p. IsSmall shape.tasks p.shows p.body)
     by None = tt
     by (Some profile) = small_by shape profile a b (told_of shape profile a b) refl
 accepted_is_small shape _ = tt

@@ -21,9 +21,13 @@ pub mod WaitClauses
 pub mod StatementsRead
 pub mod Walked
 pub mod Named
+pub mod CellCounts
 pub mod Sized
+pub mod Shallow
 pub mod PartsFit
 pub mod ProgramsWalked
 pub mod Accepted
 pub mod PrintedBack
+pub mod PrintedClean
+pub mod PrintedAccepted
 pub mod OneLemmas

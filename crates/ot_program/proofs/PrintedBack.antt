@@ -20,17 +20,17 @@ use Rattle.ot_program.specs.Copies.{copies, copy, statement_of, statements_of}
 use Rattle.ot_program.specs.Meanings.{each, fold_of, Bindings, size, Clause, cell, section, value, clause, wait_clause}
 use Rattle.ot_program.specs.Printed.{IsFound, fold_word, num, cell_text, section_text, value_text, alone, cells_text, clause_text, uses_text, statement_text, body_text, IsCell, IsValue, AreCells, as_clause, IsModeOf, AreUsesOf, IsWaitMode, AreWaitUses, IsStatement, IsBody}
 
-size_back : (variables : Bindings) (n : ℕ) → n < 2 ^ 64 → size variables (num n) ≡ n
+pub size_back : (variables : Bindings) (n : ℕ) → n < 2 ^ 64 → size variables (num n) ≡ n
 unfolding size
 size_back variables n below = rw (lt-ltb n (2 ^ 64) below) refl
 
-cell_back : (shape : Arrays) (variables : Bindings) (c : Cell) → IsCell shape c → cell shape variables (cell_text shape c) ≡ c
+pub cell_back : (shape : Arrays) (variables : Bindings) (c : Cell) → IsCell shape c → cell shape variables (cell_text shape c) ≡ c
 cell_back shape variables c h = rw (h.0, size_back variables c.index h.1) refl
 
-section_back : (shape : Arrays) (variables : Bindings) (s : Section) → IsFound shape s.array → s.start < 2 ^ 64 → s.len < 2 ^ 64 → section shape variables (section_text shape s) ≡ s
+pub section_back : (shape : Arrays) (variables : Bindings) (s : Section) → IsFound shape s.array → s.start < 2 ^ 64 → s.len < 2 ^ 64 → section shape variables (section_text shape s) ≡ s
 section_back shape variables s h i j = rw (h, size_back variables s.start i, size_back variables s.len j) refl
 
-value_back : (shape : Arrays) (variables : Bindings) (e : E) → IsValue shape e → value shape variables (value_text shape e) ≡ e
+pub value_back : (shape : Arrays) (variables : Bindings) (e : E) → IsValue shape e → value shape variables (value_text shape e) ≡ e
 unfolding value
 value_back shape variables (Literal n) h = rw (lt-ltb n (2 ^ 64) h) refl
 value_back shape variables (CellAt c) h = ap CellAt (cell_back shape variables c h)
@@ -46,7 +46,7 @@ value_back shape variables (Apply Equal a b) h = rw (value_back shape variables 
 value_back shape variables (Apply Min a b) h = rw (value_back shape variables a h.0, value_back shape variables b h.1) refl
 value_back shape variables (Apply Max a b) h = rw (value_back shape variables a h.0, value_back shape variables b h.1) refl
 
-sections_back : (shape : Arrays) (variables : Bindings) (cs : List Cell) → AreCells shape cs
+pub sections_back : (shape : Arrays) (variables : Bindings) (cs : List Cell) → AreCells shape cs
     → map (section shape variables) (each (cells_text shape cs)) ≡ map alone cs
 sections_back shape variables [] h = refl
 sections_back shape variables (c ∷ cs) h =
@@ -57,11 +57,11 @@ alone_cells : (cs : List Cell) → flat_map cells_of (map alone cs) ≡ cs
 alone_cells [] = refl
 alone_cells (c ∷ cs) = rw (add-zero c.index, alone_cells cs) refl
 
-cells_back : (shape : Arrays) (variables : Bindings) (cs : List Cell) → AreCells shape cs
+pub cells_back : (shape : Arrays) (variables : Bindings) (cs : List Cell) → AreCells shape cs
     → flat_map cells_of (map (section shape variables) (each (cells_text shape cs))) ≡ cs
 cells_back shape variables cs h = ap (flat_map cells_of) (sections_back shape variables cs h) ∙ alone_cells cs
 
-fold_back : (op : Operation) → fold_of (string (fold_word op)) ≡ Some op
+pub fold_back : (op : Operation) → fold_of (string (fold_word op)) ≡ Some op
 fold_back by.Plus = refl
 fold_back by.Times = refl
 fold_back by.And = refl
@@ -78,7 +78,7 @@ clause_back shape profile variables c Writes rest h j = rw (section_back shape v
 clause_back shape One variables c (Folds op) rest h j = rw (section_back shape variables (alone c) h.0 h.1 (omega arith), j) refl
 clause_back shape Two variables c (Folds op) rest h j = rw (section_back shape variables (alone c) h.0 h.1 (omega arith), fold_back op) refl
 
-uses_back : (shape : Arrays) (profile : Profile) (variables : Bindings) (us : List Use) → AreUsesOf shape profile us
+pub uses_back : (shape : Arrays) (profile : Profile) (variables : Bindings) (us : List Use) → AreUsesOf shape profile us
     → map (clause shape profile variables) (each (uses_text shape profile us)) ≡ map as_clause us
 uses_back shape profile variables [] h = refl
 uses_back shape profile variables (u ∷ us) h =
@@ -93,7 +93,7 @@ wait_clause_back shape variables u h = by u.mode h.1
     by Writes j = rw (section_back shape variables (alone u.cell) h.0.0 h.0.1 (omega arith)) refl
     by (Folds op) j = absurd j
 
-wait_uses_back : (shape : Arrays) (variables : Bindings) (us : List Use) → AreWaitUses shape us
+pub wait_uses_back : (shape : Arrays) (variables : Bindings) (us : List Use) → AreWaitUses shape us
     → map (wait_clause shape variables) (each (uses_text shape Two us)) ≡ map as_clause us
 wait_uses_back shape variables [] h = refl
 wait_uses_back shape variables (u ∷ us) h =

@@ -1,5 +1,5 @@
 -- What the copies of a text count is what their tree has.
-use Rattle.std.proofs.Common.{◌≡◌, ℕ, zero, suc, ◌+◌, ◌-◌, ◌≤◌, Bool, true, false, cond, ◌&&◌, List, [], ◌∷◌, ◌++◌, length, codes, refl, arith, length-append}
+use Rattle.std.proofs.Common.{◌≡◌, ℕ, zero, suc, ◌+◌, ◌-◌, ◌≤◌, Bool, true, false, cond, ◌&&◌, List, [], ◌∷◌, ◌++◌, map, length, codes, refl, arith, length-append}
 use Rattle.std.specs.Prelude.{flat_map}
 use Rattle.std.proofs.lemmas.List.FromFn.{length-map-range_with_len}
 use Rattle.serde_json.specs.Data.{Data, array, Items, no_items, item}
@@ -7,13 +7,14 @@ use Rattle.ot_model.specs.Counts.{size, tasks_in}
 use Rattle.ot_model.specs.Shapes.{Arrays}
 use Rattle.ot_model.specs.Tree.{E, Literal, CellAt, Apply, PickFrom, S, If, body_of}
 use Rattle.ot_model.specs.Value.{cell_at, cells_of}
-use Rattle.ot_program.specs.Accepted.{parts, choices, sum_in}
+use Rattle.ot_program.specs.Accepted.{parts, choices, sum_in, named_in}
 use Rattle.ot_program.specs.Copies.{SetText, AddText, FoldText, IfText, ForText, Turn, TaskText, WaitText, WaitForText, GroupText, GroupByText, NoForm, Copy, Copies, Done, at, turns, copies, copies_of, copy, in_copy, in_order, statement_of, statements_of}
 use Rattle.ot_program.specs.Limits.{Tally, tally, plus, nodes_of, picked_of, with_value, total}
-use Rattle.ot_program.specs.Meanings.{letters, Bindings, size as size_text, value}
+use Rattle.ot_program.specs.Meanings.{items, letters, Bindings, size as size_text, section, value, clause, wait_clause}
 use Rattle.ot_program.specs.Names.{is_word}
 use Rattle.ot_program.specs.Profiles.{is_one, is_two}
 use Rattle.ot_program.specs.declared.profile.Profile.{Profile}
+use Rattle.ot_program.proofs.CellCounts.{named-append, sections_long, uses_few}
 use Rattle.ot_program.proofs.Tallies.{nothing, total-append}
 
 -- ---- values
@@ -35,7 +36,7 @@ choices-append [] ys = omega arith
 choices-append (x ∷ xs) ys =
     omega (arith, length-append (choices x) (flat_map choices (xs ++ ys)), length-append (choices x) (flat_map choices xs), choices-append xs ys)
 
-choices_are : (e : E) → choice_count e ≡ picked_of e
+pub choices_are : (e : E) → choice_count e ≡ picked_of e
 choices_are (Literal n) = refl
 choices_are (CellAt c) = refl
 choices_are (Apply o a b) = omega (arith, choices-append (parts a) (parts b), choices_are a, choices_are b)
@@ -56,12 +57,13 @@ sum-append : (f : E → ℕ) (ss ts : List S) → sum_in f (body_of (ss ++ ts)) 
 sum-append f [] ts = omega arith
 sum-append f (s ∷ ss) ts = omega (arith, sum-append f ss ts)
 
--- what was counted is what the tree of these statements has; cells of clauses and groups are counted beside those of picks
+-- What was counted is what the tree of these statements has. A cell that several clauses of a declaration name is
+-- counted each time, and stands in the tree once.
 pub record Sized (n : Tally) (ss : List S) : Type 0 where
   pub statements : n.statements ≡ size (body_of ss)
   pub tasks : n.tasks ≡ tasks_in (body_of ss)
   pub nodes : n.nodes ≡ sum_in part_count (body_of ss)
-  pub cells : sum_in choice_count (body_of ss) ≤ n.cells
+  pub cells : sum_in choice_count (body_of ss) + named_in (body_of ss) ≤ n.cells
 
 sized_none : Sized nothing []
 sized_none = record { statements = refl; tasks = refl; nodes = refl; cells = omega arith }
@@ -71,17 +73,17 @@ sized_then n m ss ts h k = record {
   statements = omega (arith, size-append ss ts, h.statements, k.statements);
   tasks = omega (arith, tasks_in-append ss ts, h.tasks, k.tasks);
   nodes = omega (arith, sum-append part_count ss ts, h.nodes, k.nodes);
-  cells = omega (arith, sum-append choice_count ss ts, h.cells, k.cells);
+  cells = omega (arith, sum-append choice_count ss ts, named-append ss ts, h.cells, k.cells);
 }
 
 -- a `set` and a fold
 sized_value : (e : E) (s : S) → size (body_of (s ∷ [])) ≡ 1 → tasks_in (body_of (s ∷ [])) ≡ 0
-    → ((f : E → ℕ) → sum_in f (body_of (s ∷ [])) ≡ f e) → Sized (plus (with_value e) nothing) (s ∷ [])
-sized_value e s one none values = record {
+    → ((f : E → ℕ) → sum_in f (body_of (s ∷ [])) ≡ f e) → named_in (body_of (s ∷ [])) ≡ 0 → Sized (plus (with_value e) nothing) (s ∷ [])
+sized_value e s one none values no_names = record {
   statements = omega (arith, one);
   tasks = omega (arith, none);
   nodes = omega (arith, values part_count, parts_are e);
-  cells = omega (arith, values choice_count, choices_are e);
+  cells = omega (arith, values choice_count, choices_are e, no_names);
 }
 
 sized_if : (e : E) (n m : Tally) (ss ts : List S) → Sized n ss → Sized m ts
@@ -96,13 +98,14 @@ sized_if e n m ss ts h k = record {
 -- a `task` and a `group`, which count so many tasks
 sized_body : (tasks cells : ℕ) (n : Tally) (ss : List S) (s : S) → size (body_of (s ∷ [])) ≡ 1 + size (body_of ss)
     → tasks_in (body_of (s ∷ [])) ≡ tasks + tasks_in (body_of ss)
-    → ((f : E → ℕ) → sum_in f (body_of (s ∷ [])) ≡ sum_in f (body_of ss)) → Sized n ss
+    → ((f : E → ℕ) → sum_in f (body_of (s ∷ [])) ≡ sum_in f (body_of ss))
+    → named_in (body_of (s ∷ [])) ≤ cells + named_in (body_of ss) → Sized n ss
     → Sized (plus (tally 1 tasks 0 0 cells) (plus n nothing)) (s ∷ [])
-sized_body tasks cells n ss s one counts values h = record {
+sized_body tasks cells n ss s one counts values names h = record {
   statements = omega (arith, one, h.statements);
   tasks = omega (arith, counts, h.tasks);
   nodes = omega (arith, values part_count, h.nodes);
-  cells = omega (arith, values choice_count, h.cells);
+  cells = omega (arith, values choice_count, names, h.cells);
 }
 
 -- a `for` and one turn of it, which count nothing that a tree has
@@ -163,7 +166,8 @@ mutual
       (record { statements = refl; tasks = refl; nodes = refl; cells = omega arith }) sized_none
   sized_one shape profile level (array (item t (item a no_items))) variables =
       sized_test shape (is_two profile && is_word t (codes "wait")) (at level variables (WaitForText a) Done Done) (at level variables NoForm Done Done)
-      (record { statements = refl; tasks = refl; nodes = refl; cells = omega arith }) sized_none
+      (record { statements = refl; tasks = refl; nodes = refl; cells = omega (arith, uses_few (map (wait_clause shape variables) (items a))) })
+      sized_none
   sized_one shape profile level (array (item t (item a (item b no_items)))) variables =
       let e = value shape variables b in
       let cs = copies profile (level + 1) b variables in
@@ -179,12 +183,14 @@ mutual
       let groups = cond is_group group none in
       let tasks = cond (is_word t (codes "task")) task groups in
       let adds = cond (is_word t (codes "add")) add tasks in
-      sized_test shape (is_word t (codes "set")) set adds (sized_value e _ refl refl (λ f. omega arith))
-      (sized_test shape (is_word t (codes "add")) add tasks (sized_value e _ refl refl (λ f. omega arith))
+      sized_test shape (is_word t (codes "set")) set adds (sized_value e _ refl refl (λ f. omega arith) refl)
+      (sized_test shape (is_word t (codes "add")) add tasks (sized_value e _ refl refl (λ f. omega arith) refl)
       (sized_test shape (is_word t (codes "task")) task groups
-      (rw (total-append shape (in_order cs) []) (sized_body 1 _ n ss _ (omega arith) (omega arith) (λ f. omega arith) inside))
+      (rw (total-append shape (in_order cs) []) (sized_body 1 _ n ss _ (omega arith) (omega arith) (λ f. omega arith)
+      (omega (arith, uses_few (map (clause shape profile variables) (items a)))) inside))
       (sized_test shape is_group group none
-      (rw (total-append shape (in_order cs) []) (sized_body 0 _ n ss _ (omega arith) (omega arith) (λ f. omega arith) inside))
+      (rw (total-append shape (in_order cs) []) (sized_body 0 _ n ss _ (omega arith) (omega arith) (λ f. omega arith)
+      (omega (arith, sections_long (map (section shape variables) (items a)))) inside))
       sized_none)))
   sized_one shape profile level (array (item t (item a (item b (item c no_items))))) variables =
       let one = copies profile (level + 1) b variables in
@@ -197,9 +203,10 @@ mutual
       let is_fold = is_two profile && is_word t (codes "fold") in
       let is_group = is_two profile && is_word t (codes "group") in
       let ifs = cond (is_word t (codes "if")) (at level variables (IfText a b c) one two) none in
-      sized_test shape is_fold fold (cond is_group group ifs) (sized_value (value shape variables c) _ refl refl (λ f. omega arith))
+      sized_test shape is_fold fold (cond is_group group ifs) (sized_value (value shape variables c) _ refl refl (λ f. omega arith) refl)
       (sized_test shape is_group group ifs
       (rw (total-append shape (in_order two) []) (sized_body 0 _ m ss _ (omega arith) (omega arith) (λ f. omega arith)
+      (omega (arith, sections_long (map (section shape variables) (items b))))
       (sized_copies shape profile (level + 1) c variables)))
       (sized_test shape (is_word t (codes "if")) (at level variables (IfText a b c) one two) none
       (rw (total-append shape (in_order one) (in_order two))

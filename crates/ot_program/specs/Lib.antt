@@ -8,7 +8,7 @@ pub mod Refusals
 pub mod Faults
 pub mod Programs
 pub mod Returned
-pub mod Printed
 pub mod Accepted
+pub mod Printed
 pub mod walk
 pub mod one

@@ -1,7 +1,9 @@
 -- A tree as a text: what is printed of a tree denotes the tree.
-use Rattle.std.specs.Prelude.{◌≡◌, ℕ, ◌<◌, ◌^◌, List, [], ◌∷◌, map, slice_get, Option, option_map, unwrap_or, Some, None, codes}
+use Rattle.std.specs.Prelude.{◌≡◌, ℕ, ◌<◌, ◌^◌, true, List, [], ◌∷◌, map, slice_get, All, Option, option_map, unwrap_or, Some, None, Ok, codes}
 use Rattle.serde_json.specs.Data.{Data, number, string, array, Items, no_items, item, unsigned}
-use Rattle.ot_model.specs.Shapes.{Arrays}
+use Rattle.ot_model.specs.Counts.{size, tasks_in}
+use Rattle.ot_model.specs.Names.{FitsShape, NamedIn}
+use Rattle.ot_model.specs.Shapes.{Arrays, AreShort, array_lengths}
 use Rattle.ot_model.specs.Tree.{E, Literal, CellAt, Apply, PickFrom, S, Set, Fold, If, Task, Wait, Group, Body, End, Next, body_of}
 use Rattle.ot_model.specs.declared.expr.Cell.{Cell}
 use Rattle.ot_model.specs.declared.expr.Section.{Section}
@@ -12,9 +14,12 @@ use Rattle.ot_model.specs.declared.fold.Fold.TheVariants as by
 use Rattle.ot_model.specs.declared.stmt.Mode.{Mode}
 use Rattle.ot_model.specs.declared.stmt.Mode.TheVariants.{Reads, Writes, Folds}
 use Rattle.ot_model.specs.declared.stmt.Use.{Use}
+use Rattle.ot_program.specs.Accepted.{IsSmall}
 use Rattle.ot_program.specs.Copies.{copies, statements_of}
 use Rattle.ot_program.specs.Declarations.{uses}
 use Rattle.ot_program.specs.Meanings.{Bindings, position_of, Clause}
+use Rattle.ot_program.specs.Names.{is_name}
+use Rattle.ot_program.specs.Programs.{program_of}
 use Rattle.ot_program.specs.declared.profile.Profile.{Profile}
 use Rattle.ot_program.specs.declared.profile.Profile.TheVariants.{One, Two}
 
@@ -107,6 +112,18 @@ abbrev mutual
   body_text shape profile End = no_items
   body_text shape profile (Next s rest) = item (statement_text shape profile s) (body_text shape profile rest)
 
+abbrev pub sections_text : Arrays → List Section → Items
+sections_text shape [] = no_items
+sections_text shape (s ∷ ss) = item (section_text shape s) (sections_text shape ss)
+
+abbrev pub program_word : Profile → List ℕ
+program_word One = codes "program"
+program_word Two = codes "program2"
+
+abbrev pub program_text : Arrays → Profile → List Section → Body → Data
+program_text shape profile shows b =
+    array (three (string (program_word profile)) (array (sections_text shape shows)) (array (body_text shape profile b)))
+
 -- ---- what can be printed: arrays that are found by their names, numbers of 64 bits, and in profile 1 folds by `+` and
 -- waits without clauses alone
 
@@ -177,3 +194,20 @@ abbrev pub PrintedReadsAsItself : Type 0
 PrintedReadsAsItself =
     (shape : Arrays) (profile : Profile) (level : ℕ) (variables : Bindings) (b : Body) → IsBody shape profile b
     → body_of (statements_of shape (copies profile level (array (body_text shape profile b)) variables)) ≡ b
+
+-- arrays with names, and lengths of 32 bits
+pub record AreNamed (arrays : List (List ℕ × ℕ)) : Type 0 where
+  pub names : All (λ a. is_name a.0 ≡ true) arrays
+  pub lengths : AreShort arrays
+
+-- what can be shown: sections of arrays that are found by their names
+abbrev pub AreShows : Arrays → List Section → Type 0
+AreShows shape shows = All (λ s. IsFound shape s.array × FitsShape (array_lengths shape) s) shows
+
+-- What is printed of a tree whose cells are there, and that is within the limits, is accepted: no fault is told.
+abbrev pub PrintedIsAccepted : Type 0
+PrintedIsAccepted =
+    (shape : Arrays) (profile : Profile) (shows : List Section) (b : Body) → AreNamed shape.arrays → AreShows shape shows
+    → IsBody shape profile b → NamedIn (array_lengths shape) b → IsSmall shape.tasks shows b
+    → program_of shape (program_text shape profile shows b)
+    ≡ Ok (record { shows = shows; body = b; statements = size b; tasks = tasks_in b })

@@ -1,12 +1,18 @@
 //! Laws of the reading. Each is the contract of a function that does nothing: a caller that needs
 //! the law calls it.
-ghost use Rattle.ot_program.specs.Printed.{PrintedReadsAsItself};
+ghost use Rattle.ot_program.specs.Printed.{PrintedReadsAsItself, PrintedIsAccepted};
 ghost use Rattle.ot_program.specs.Accepted.{AcceptedIsSmall};
 ghost use Rattle.ot_program.specs.one.Upward.{FirstIsNotSecond, ReadingIsKept};
 
 /// What is printed of a tree denotes the tree.
 pub fn printed_reads_as_itself()
     ensures { PrintedReadsAsItself }
+{}
+
+/// What is printed of a tree whose cells are there, and that is within the limits, is accepted: no refusal
+/// is stricter than the limits and the names ask.
+pub fn printed_is_accepted()
+    ensures { PrintedIsAccepted }
 {}
 
 /// The tree of a program that is accepted, measured by itself, is within the limits.
