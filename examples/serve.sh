@@ -8,7 +8,7 @@
 program=${1:?which program}
 socket=$(mktemp -d)/socket
 "$program" serve --socket "$socket" --count 2 first second > "$socket.usage" &
-until [ -S "$socket" ]; do sleep 0.01; done
+until [ -S "$socket" ]; do sleep 0.01; done # the file is there once the server can be asked
 
 nc -N -U "$socket" <<'LINES'
 ["hello","first"]

@@ -28,15 +28,16 @@ The status is 3 where a line was refused, and 1 where the session couldn't be he
 /// What `graph` writes.
 const GRAPH_HELP: &str = "\
 It reads a session of one tenant on standard input, as `omptaskd solo` reads it, and writes a text for dot
-of Graphviz. Each task is a node; a dashed edge leads from the task that created one to it, and a solid one
-from each task that it waits for by itself, with the cells. Above 200 tasks standard error tells how many
-there are. The status is 1 where a line before the last run is refused, or none runs a program.";
+of Graphviz. Each task is a node, and each wait a box. A dashed edge leads from the task that creates or
+executes one to it, a solid one to a task from each that it waits for by itself, with the cells, and a dotted
+one to a wait from each task that it awaits. Above 200 tasks standard error tells how many there are.
+The status is 1 where a line isn't taken, behind the last run too, or none runs a program.";
 
 /// What `c` writes.
 const C_HELP: &str = "\
 It reads a session of one tenant on standard input, as `omptaskd solo` reads it, and writes a program that
 compiles with -fopenmp, has the arrays as the run found them, and prints what the run shows.
-The status is 1 where a line before the last run is refused, or none runs a program.";
+The status is 1 where a line isn't taken, behind the last run too, or none runs a program.";
 
 /// The program's command.
 pub(crate) fn program_command<'a>(alloc: Global) -> Result<Command<'a>, AllocError>

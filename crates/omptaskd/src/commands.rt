@@ -26,7 +26,7 @@ Lines, and what each is answered:
   finish W            `finish W units U`, or `finish W failed`
   reply T             `T REPLY`
   abort T             `abort T`
-  drain               `drain`, then `T REPLY` for each reply that it gave, then `drained`
+  drain               `T REPLY` for each reply that it gave, then `drained`
   usage T             `usage T UNITS of TOTAL`
 An event that isn't enabled is answered `notnow`, any other line `badline`.
 T is 1 to 16 of a-z, 0-9 and _, a letter first; W is 1 to 16; PICK is below 4294967296.";
