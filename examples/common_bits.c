@@ -22,15 +22,15 @@ int main(void)
             uint64_t *And_common_0 = &common[0];
             #pragma omp taskgroup task_reduction(&: And_common_0[0:1])
             {
-                #pragma omp task depend(in: a[0]) in_reduction(&: And_common_0[0:1])
+                #pragma omp task depend(in: a[0]) depend(in: common[0]) in_reduction(&: And_common_0[0:1])
                 {
                     And_common_0[0] &= a[0];
                 }
-                #pragma omp task depend(in: a[1]) in_reduction(&: And_common_0[0:1])
+                #pragma omp task depend(in: a[1]) depend(in: common[0]) in_reduction(&: And_common_0[0:1])
                 {
                     And_common_0[0] &= a[1];
                 }
-                #pragma omp task depend(in: a[2]) in_reduction(&: And_common_0[0:1])
+                #pragma omp task depend(in: a[2]) depend(in: common[0]) in_reduction(&: And_common_0[0:1])
                 {
                     And_common_0[0] &= a[2];
                 }

@@ -27,17 +27,17 @@ int main(void)
             uint64_t *Max_top_0 = &top[0];
             #pragma omp taskgroup task_reduction(max: Max_top_0[0:1])
             {
-                #pragma omp task depend(in: a[0], a[1]) in_reduction(max: Max_top_0[0:1])
+                #pragma omp task depend(in: a[0], a[1]) depend(in: top[0]) in_reduction(max: Max_top_0[0:1])
                 {
                     Max_top_0[0] = max(Max_top_0[0], a[0]);
                     Max_top_0[0] = max(Max_top_0[0], a[1]);
                 }
-                #pragma omp task depend(in: a[2], a[3]) in_reduction(max: Max_top_0[0:1])
+                #pragma omp task depend(in: a[2], a[3]) depend(in: top[0]) in_reduction(max: Max_top_0[0:1])
                 {
                     Max_top_0[0] = max(Max_top_0[0], a[2]);
                     Max_top_0[0] = max(Max_top_0[0], a[3]);
                 }
-                #pragma omp task depend(in: a[4], a[5]) in_reduction(max: Max_top_0[0:1])
+                #pragma omp task depend(in: a[4], a[5]) depend(in: top[0]) in_reduction(max: Max_top_0[0:1])
                 {
                     Max_top_0[0] = max(Max_top_0[0], a[4]);
                     Max_top_0[0] = max(Max_top_0[0], a[5]);

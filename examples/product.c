@@ -21,11 +21,11 @@ int main(void)
             uint64_t *Product_a_1 = &a[1];
             #pragma omp taskgroup task_reduction(*: Product_a_1[0:1])
             {
-                #pragma omp task in_reduction(*: Product_a_1[0:1])
+                #pragma omp task depend(in: a[1]) in_reduction(*: Product_a_1[0:1])
                 {
                     Product_a_1[0] *= 5;
                 }
-                #pragma omp task in_reduction(*: Product_a_1[0:1])
+                #pragma omp task depend(in: a[1]) in_reduction(*: Product_a_1[0:1])
                 {
                     Product_a_1[0] *= 9223372036854775809ULL;
                 }

@@ -21,15 +21,15 @@ int main(void)
             uint64_t *Sum_a_0 = &a[0];
             #pragma omp taskgroup task_reduction(+: Sum_a_0[0:1])
             {
-                #pragma omp task in_reduction(+: Sum_a_0[0:1])
+                #pragma omp task depend(in: a[0]) in_reduction(+: Sum_a_0[0:1])
                 {
                     Sum_a_0[0] += 18446744073709551615ULL;
                 }
-                #pragma omp task in_reduction(+: Sum_a_0[0:1])
+                #pragma omp task depend(in: a[0]) in_reduction(+: Sum_a_0[0:1])
                 {
                     Sum_a_0[0] += 1;
                 }
-                #pragma omp task in_reduction(+: Sum_a_0[0:1])
+                #pragma omp task depend(in: a[0]) in_reduction(+: Sum_a_0[0:1])
                 {
                     Sum_a_0[0] += 5;
                 }

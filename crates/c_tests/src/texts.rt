@@ -94,7 +94,7 @@ const BODIES: [(&str, &str); 9] = [
             uint64_t *Sum_a_0 = &a[0];
             #pragma omp taskgroup task_reduction(+: Sum_a_0[0:1])
             {
-                #pragma omp task depend(out: a[1]) in_reduction(+: Sum_a_0[0:1])
+                #pragma omp task depend(out: a[1]) depend(in: a[0]) in_reduction(+: Sum_a_0[0:1])
                 {
                     Sum_a_0[0] += 5;
                     a[1] += 6;
@@ -110,9 +110,9 @@ const BODIES: [(&str, &str); 9] = [
             uint64_t *Sum_a_2 = &a[2];
             #pragma omp taskgroup task_reduction(+: Sum_a_0[0:1], Sum_a_2[0:1])
             {
-                #pragma omp task in_reduction(+: Sum_a_0[0:1], Sum_a_2[0:1])
+                #pragma omp task depend(in: a[0], a[2]) in_reduction(+: Sum_a_0[0:1], Sum_a_2[0:1])
                 {
-                    #pragma omp task in_reduction(+: Sum_a_2[0:1])
+                    #pragma omp task depend(in: a[2]) in_reduction(+: Sum_a_2[0:1])
                     {
                         Sum_a_2[0] += 1;
                     }
@@ -132,7 +132,7 @@ const BODIES: [(&str, &str); 9] = [
 ];
 
 /// Bodies of the second profile, and what stands for them.
-const SECOND: [(&str, &str); 6] = [
+const SECOND: [(&str, &str); 7] = [
     (
         "[[\"fold\",\"+\",[\"c\",\"a\",0],[\"c\",\"a\",1]],[\"fold\",\"*\",[\"c\",\"a\",0],18446744073709551615],[\"fold\",\"&\",[\"c\",\"a\",0],[\"<\",1,2]],[\"fold\",\"|\",[\"c\",\"a\",0],[\"+\",[\"c\",\"a\",2],1]],[\"fold\",\"^\",[\"c\",\"a\",0],7]]",
         "        a[0] += a[1];
@@ -149,7 +149,7 @@ const SECOND: [(&str, &str); 6] = [
             uint64_t *Product_a_2 = &a[2];
             #pragma omp taskgroup task_reduction(*: Product_a_1[0:1], Product_a_2[0:1])
             {
-                #pragma omp task depend(out: a[0]) in_reduction(*: Product_a_1[0:1])
+                #pragma omp task depend(out: a[0]) depend(in: a[1]) in_reduction(*: Product_a_1[0:1])
                 {
                     Product_a_1[0] *= 5;
                     a[0] *= 6;
@@ -169,7 +169,7 @@ const SECOND: [(&str, &str); 6] = [
                     uint64_t *And_a_1 = &a[1];
                     #pragma omp taskgroup task_reduction(&: And_a_1[0:1])
                     {
-                        #pragma omp task in_reduction(&: And_a_1[0:1]) in_reduction(^: Xor_a_0[0:1])
+                        #pragma omp task depend(in: a[1]) in_reduction(&: And_a_1[0:1]) depend(in: a[0]) in_reduction(^: Xor_a_0[0:1])
                         {
                             And_a_1[0] &= 2;
                             Xor_a_0[0] ^= 1;
@@ -186,7 +186,7 @@ const SECOND: [(&str, &str); 6] = [
             uint64_t *Or_a_0 = &a[0];
             #pragma omp taskgroup task_reduction(|: Or_a_0[0:1])
             {
-                #pragma omp task in_reduction(|: Or_a_0[0:1])
+                #pragma omp task depend(in: a[0]) in_reduction(|: Or_a_0[0:1])
                 {
                     Or_a_0[0] |= 8;
                 }
@@ -203,6 +203,24 @@ const SECOND: [(&str, &str); 6] = [
         }
         #pragma omp taskwait depend(in: a[2]) depend(out: a[0], a[1])
         #pragma omp taskwait
+",
+    ),
+    // A wait awaits a child that folds: its cell is an item of `depend` too.
+    (
+        "[[\"group\",\"+\",[[\"a\",0,1]],[[\"task\",[[\"red\",\"+\",[\"a\",0,1]],[\"out\",[\"a\",1,1]]],[[\"fold\",\"+\",[\"c\",\"a\",0],9],[\"set\",[\"c\",\"a\",1],4]]],[\"wait\",[[\"out\",[\"a\",0,1]]]],[\"set\",[\"c\",\"a\",2],[\"c\",\"a\",1]]]]]",
+        "        {
+            uint64_t *Sum_a_0 = &a[0];
+            #pragma omp taskgroup task_reduction(+: Sum_a_0[0:1])
+            {
+                #pragma omp task depend(out: a[1]) depend(in: a[0]) in_reduction(+: Sum_a_0[0:1])
+                {
+                    Sum_a_0[0] += 9;
+                    a[1] = 4;
+                }
+                #pragma omp taskwait depend(out: a[0])
+                a[2] = a[1];
+            }
+        }
 ",
     ),
     // A wait of no cell awaits nobody.

@@ -91,7 +91,7 @@ int main(void)
             uint64_t *Max_a_0 = &a[0];
             #pragma omp taskgroup task_reduction(max: Max_a_0[0:1])
             {
-                #pragma omp task depend(in: a[1]) in_reduction(max: Max_a_0[0:1])
+                #pragma omp task depend(in: a[1]) depend(in: a[0]) in_reduction(max: Max_a_0[0:1])
                 {
                     Max_a_0[0] = max(Max_a_0[0], a[1] * 3);
                 }

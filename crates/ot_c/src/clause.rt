@@ -8,11 +8,13 @@ use std::alloc::{AllocError, Global};
 const LISTED: u32 = 8;
 
 impl Page {
-    /// The clauses of a task, or of a wait.
+    /// The clauses of a task, or of a wait. A cell that is folded is an item of `depend` too: `in_reduction` makes no task
+    /// wait.
     pub(crate) fn declared(&mut self, decl: &Decl) -> Result<(), AllocError> {
         self.dependences("in", decl, Mode::Reads)?;
         self.dependences("out", decl, Mode::Writes)?;
         for op in &OPERATIONS {
+            self.dependences("in", decl, Mode::Folds(*op))?;
             let folded = cells_in(self.alloc, decl, Mode::Folds(*op))?;
             self.reduction(" in_reduction(", *op, &folded)?;
         }

@@ -40,7 +40,10 @@ fn nodes(out: &mut Printer<'_>, marks: &[Mark<'_>]) -> Result<(), AllocError> {
                 waits = waits.saturating_add(1);
                 node(out, "  w", waits)?;
                 out.words(" [shape=box, label=\"")?;
-                out.wait(*decl)?;
+                match decl {
+                    None => out.wait_for_all()?,
+                    Some(decl) => out.wait_for(decl)?,
+                }
                 out.words("\"];\n")?;
             }
             Mark::Enter(op, cells) => {

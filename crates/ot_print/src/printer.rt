@@ -1,17 +1,15 @@
 //! Statements as people who write OpenMP read them.
-use ot_model::{ArrayShape, Cell, Decl, Expr, Fold, Mode, Op, Section, Stmt};
-use std::alloc::{AllocError, Global};
+ghost use Rattle.std.specs.Prelude.{◌≡◌, ◌++◌, OnOk, Some, None};
+ghost use Rattle.std.specs.Fmt.{decimal};
+ghost use Rattle.ot_print.specs.Shown as shown;
+ghost use Rattle.ot_print.specs.Sections as rows;
+ghost use Rattle.ot_model.specs.Signs.{identifier};
+ghost use Rattle.ot_model.specs.View.{expr_of, stmt_of};
 
-/// The operations of reductions, in the order in which a task's clauses name them.
-const OPERATIONS: [Fold; 7] = [
-    Fold::Plus,
-    Fold::Times,
-    Fold::And,
-    Fold::Or,
-    Fold::Xor,
-    Fold::Min,
-    Fold::Max,
-];
+use crate::sections::{sections_in, sections_of};
+use ot_model::{ArrayShape, Cell, Decl, Expr, Fold, Mode, Section, Stmt};
+use std::alloc::{AllocError, Global};
+use std::marker::Model;
 
 /// A text that is being written, with the arrays whose names it uses.
 #[derive(Drop)]
@@ -21,9 +19,24 @@ pub struct Printer<'a> {
     text: String,
 }
 
+impl<'a> Model for Printer<'a> {
+    ghost use Rattle.std.specs.Prelude.{string_bytes};
+    ghost use Rattle.ot_print.specs.Shown.{Writing, names_of};
+
+    ghost Value = { Writing };
+
+    ghost view = { λ p. record { names = names_of p.arrays.now; text = string_bytes p.text } };
+}
+
 impl<'a> Printer<'a> {
+    ghost use Rattle.std.specs.Prelude.{[], string_bytes};
+    ghost use Rattle.ot_print.specs.Shown.{names_of};
+
     /// No text yet. It takes no memory.
-    pub fn new(alloc: Global, arrays: &'a [ArrayShape]) -> Printer<'a> {
+    pub fn new(alloc: Global, arrays: &'a [ArrayShape]) -> Printer<'a>
+        ensures names { result.names ≡ names_of arrays.now }
+        ensures text { result.text ≡ [] }
+    {
         Printer {
             alloc,
             arrays,
@@ -32,22 +45,33 @@ impl<'a> Printer<'a> {
     }
 
     /// The text so far.
-    pub fn into_text(self) -> String {
+    pub fn into_text(self) -> String
+        ensures { string_bytes result ≡ self.entry.text }
+    {
         self.text
     }
 
     /// These words as they are.
-    pub fn words(&mut self, words: &str) -> Result<(), AllocError> {
+    pub fn words(&mut self, words: &str) -> Result<(), AllocError>
+        ensures text { OnOk result (self.new.text ≡ self.old.text ++ words.now) }
+        ensures names { self.new.names ≡ self.old.names }
+    {
         self.text.push_str(words)
     }
 
     /// A number in decimal.
-    pub fn number(&mut self, number: u64) -> Result<(), AllocError> {
+    pub fn number(&mut self, number: u64) -> Result<(), AllocError>
+        ensures text { OnOk result (self.new.text ≡ self.old.text ++ decimal number) }
+        ensures names { self.new.names ≡ self.old.names }
+    {
         let digits = format!(in self.alloc; "{number}")?;
         self.text.push_str(digits.as_str())
     }
 
-    fn name(&mut self, array: u32) -> Result<(), AllocError> {
+    fn name(&mut self, array: u32) -> Result<(), AllocError>
+        ensures text { OnOk result (self.new.text ≡ self.old.text ++ shown.name self.old.names array) }
+        ensures names { self.new.names ≡ self.old.names }
+    {
         match self.arrays.get(array as usize) {
             Some(array) => self.text.push_str(array.name.as_str()),
             None => self.text.push_str("?"),
@@ -55,111 +79,189 @@ impl<'a> Printer<'a> {
     }
 
     /// `a[0]`.
-    pub fn cell(&mut self, cell: Cell) -> Result<(), AllocError> {
+    pub fn cell(&mut self, cell: Cell) -> Result<(), AllocError>
+        ensures text { OnOk result (self.new.text ≡ self.old.text ++ shown.cell self.old.names cell) }
+        ensures names { self.new.names ≡ self.old.names }
+    {
         self.name(cell.array)?;
         self.words("[")?;
         self.number(u64::from(cell.index))?;
         self.words("]")
     }
 
+    fn length(&mut self, len: u32) -> Result<(), AllocError>
+        ensures text { OnOk result (self.new.text ≡ self.old.text ++ shown.length_of len) }
+        ensures names { self.new.names ≡ self.old.names }
+    {
+        if len > 1 {
+            self.words(":")?;
+            self.number(u64::from(len))?;
+        }
+        Ok(())
+    }
+
     /// `a[0]`, or `a[0:2]` where there are more cells: the first one and how many there are.
-    fn section(&mut self, section: Section) -> Result<(), AllocError> {
+    fn section(&mut self, section: Section) -> Result<(), AllocError>
+        ensures text { OnOk result (self.new.text ≡ self.old.text ++ shown.section self.old.names section) }
+        ensures names { self.new.names ≡ self.old.names }
+    {
         self.name(section.array)?;
         self.words("[")?;
         self.number(u64::from(section.start))?;
-        if section.len > 1 {
-            self.words(":")?;
-            self.number(u64::from(section.len))?;
-        }
+        self.length(section.len)?;
         self.words("]")
     }
 
     /// Cells with commas between them: those that stand in a row as one section, as `a[0:2], b[1]`.
-    pub fn cells(&mut self, cells: &[Cell]) -> Result<(), AllocError> {
+    pub fn cells(&mut self, cells: &[Cell]) -> Result<(), AllocError>
+        ensures text { OnOk result (self.new.text ≡ self.old.text ++ shown.sections self.old.names (rows.sections_of cells.now)) }
+        ensures names { self.new.names ≡ self.old.names }
+    {
         let sections = sections_of(self.alloc, cells)?;
         self.sections(&sections)
     }
 
-    fn sections(&mut self, sections: &[Section]) -> Result<(), AllocError> {
-        let mut first = true;
-        for section in sections {
-            if !first {
-                self.words(", ")?;
-            }
-            first = false;
+    fn sections(&mut self, sections: &[Section]) -> Result<(), AllocError>
+        ensures text { OnOk result (self.new.text ≡ self.old.text ++ shown.sections self.old.names sections.now) }
+        ensures names { self.new.names ≡ self.old.names }
+    {
+        if sections.is_empty() {
+            return Ok(());
+        }
+        self.section(sections[0])?;
+        for section in &sections[1..] {
+            self.words(", ")?;
             self.section(*section)?;
         }
         Ok(())
     }
 
     /// The statement itself, without its bodies.
-    pub fn statement(&mut self, stmt: &Stmt) -> Result<(), AllocError> {
+    pub fn statement(&mut self, stmt: &Stmt) -> Result<(), AllocError>
+        ensures text { OnOk result (self.new.text ≡ self.old.text ++ shown.statement self.old.names (stmt_of stmt.now)) }
+        ensures names { self.new.names ≡ self.old.names }
+    {
         match stmt {
             Stmt::Set(cell, expr) => self.assignment(*cell, " = ", expr),
             Stmt::Fold(op, cell, expr) => self.fold(*op, *cell, expr),
-            Stmt::If(expr, _, _) => {
-                self.words("if (")?;
-                self.value(expr)?;
-                self.words(")")
-            }
+            Stmt::If(expr, _, _) => self.condition("if (", expr),
             Stmt::Task(decl, _) => self.task(decl),
-            Stmt::Wait(decl) => self.wait(decl.as_ref()),
+            Stmt::Wait(None) => self.wait_for_all(),
+            Stmt::Wait(Some(decl)) => self.wait_for(decl),
             Stmt::Group(op, cells, _) => self.group(*op, cells),
         }
     }
 
+    fn condition(&mut self, head: &str, expr: &Expr) -> Result<(), AllocError>
+        ensures text { OnOk result (self.new.text ≡ self.old.text ++ shown.condition self.old.names head.now (expr_of expr.now)) }
+        ensures names { self.new.names ≡ self.old.names }
+    {
+        self.words(head)?;
+        self.value(expr)?;
+        self.words(")")
+    }
+
     /// `a[0] += 2`, or `a[0] = max(a[0], 2)` where the operation is written as a function.
-    fn fold(&mut self, op: Fold, cell: Cell, expr: &Expr) -> Result<(), AllocError> {
-        match fold_sign(op) {
-            Ok(sign) => self.assignment(cell, sign, expr),
-            Err(name) => {
-                self.cell(cell)?;
-                self.words(" = ")?;
-                self.words(name)?;
-                self.cell(cell)?;
-                self.words(", ")?;
-                self.value(expr)?;
-                self.words(")")
-            }
+    fn fold(&mut self, op: Fold, cell: Cell, expr: &Expr) -> Result<(), AllocError>
+        ensures text { OnOk result (self.new.text ≡ self.old.text ++ shown.fold self.old.names op cell (expr_of expr.now)) }
+        ensures names { self.new.names ≡ self.old.names }
+    {
+        if op.is_call() {
+            self.cell(cell)?;
+            self.words(" = ")?;
+            self.words(op.sign())?;
+            self.cell(cell)?;
+            self.words(", ")?;
+            self.value(expr)?;
+            self.words(")")
+        } else {
+            self.assignment(cell, op.sign(), expr)
         }
     }
 
-    fn assignment(&mut self, cell: Cell, sign: &str, expr: &Expr) -> Result<(), AllocError> {
+    fn assignment(&mut self, cell: Cell, sign: &str, expr: &Expr) -> Result<(), AllocError>
+        ensures text { OnOk result (self.new.text ≡ self.old.text ++ shown.cell self.old.names cell ++ sign.now ++ shown.value self.old.names (expr_of expr.now)) }
+        ensures names { self.new.names ≡ self.old.names }
+    {
         self.cell(cell)?;
         self.words(sign)?;
         self.value(expr)
     }
 
     /// A task with what it declares: `task in(a[0]) out(a[1])`.
-    pub fn task(&mut self, decl: &Decl) -> Result<(), AllocError> {
-        self.words("task")?;
-        self.dependences(decl)?;
-        for op in &OPERATIONS {
-            let sections = declared_in(self.alloc, decl, Mode::Folds(*op))?;
-            self.reduction(" in_reduction(", *op, &sections)?;
-        }
-        Ok(())
+    pub fn task(&mut self, decl: &Decl) -> Result<(), AllocError>
+        ensures text { OnOk result (self.new.text ≡ self.old.text ++ shown.task self.old.names decl.now) }
+        ensures names { self.new.names ≡ self.old.names }
+    {
+        self.task_as("task", decl)
     }
 
-    /// A wait: `taskwait`, or with what it declares, `taskwait in(a[0])`. One that declares no cell is `taskwait in()`.
-    pub fn wait(&mut self, decl: Option<&Decl>) -> Result<(), AllocError> {
+    fn task_as(&mut self, head: &str, decl: &Decl) -> Result<(), AllocError>
+        ensures text { OnOk result (self.new.text ≡ self.old.text ++ shown.task_as self.old.names head.now decl.now) }
+        ensures names { self.new.names ≡ self.old.names }
+    {
+        self.words(head)?;
+        self.dependences(decl)?;
+        self.folded(decl, Fold::Plus)?;
+        self.folded(decl, Fold::Times)?;
+        self.folded(decl, Fold::And)?;
+        self.folded(decl, Fold::Or)?;
+        self.folded(decl, Fold::Xor)?;
+        self.folded(decl, Fold::Min)?;
+        self.folded(decl, Fold::Max)
+    }
+
+    fn folded(&mut self, decl: &Decl, op: Fold) -> Result<(), AllocError>
+        ensures text { OnOk result (self.new.text ≡ self.old.text ++ shown.folded self.old.names decl.now op) }
+        ensures names { self.new.names ≡ self.old.names }
+    {
+        let sections = sections_in(self.alloc, decl, Mode::Folds(op))?;
+        self.reduction(" in_reduction(", op, &sections)
+    }
+
+    /// A wait for all children.
+    pub fn wait_for_all(&mut self) -> Result<(), AllocError>
+        ensures text { OnOk result (self.new.text ≡ self.old.text ++ shown.wait self.old.names None) }
+        ensures names { self.new.names ≡ self.old.names }
+    {
+        self.words("taskwait")
+    }
+
+    /// A wait with what it declares: `taskwait in(a[0])`. One that declares no cell is `taskwait in()`.
+    pub fn wait_for(&mut self, decl: &Decl) -> Result<(), AllocError>
+        ensures text { OnOk result (self.new.text ≡ self.old.text ++ shown.wait self.old.names (Some decl.now)) }
+        ensures names { self.new.names ≡ self.old.names }
+    {
         self.words("taskwait")?;
-        match decl {
-            None => Ok(()),
-            Some(decl) if decl.uses().is_empty() => self.words(" in()"),
-            Some(decl) => self.dependences(decl),
+        self.waited(decl)
+    }
+
+    fn waited(&mut self, decl: &Decl) -> Result<(), AllocError>
+        ensures text { OnOk result (self.new.text ≡ self.old.text ++ shown.waited self.old.names decl.now) }
+        ensures names { self.new.names ≡ self.old.names }
+    {
+        if decl.uses().is_empty() {
+            self.words(" in()")
+        } else {
+            self.dependences(decl)
         }
     }
 
     /// The cells that are declared as read, and those declared as written.
-    fn dependences(&mut self, decl: &Decl) -> Result<(), AllocError> {
+    fn dependences(&mut self, decl: &Decl) -> Result<(), AllocError>
+        ensures text { OnOk result (self.new.text ≡ self.old.text ++ shown.dependences self.old.names decl.now) }
+        ensures names { self.new.names ≡ self.old.names }
+    {
         self.clause(" in(", decl, Mode::Reads)?;
         self.clause(" out(", decl, Mode::Writes)
     }
 
     /// The cells that are declared in this mode, if any.
-    fn clause(&mut self, words: &str, decl: &Decl, mode: Mode) -> Result<(), AllocError> {
-        let sections = declared_in(self.alloc, decl, mode)?;
+    fn clause(&mut self, words: &str, decl: &Decl, mode: Mode) -> Result<(), AllocError>
+        ensures text { OnOk result (self.new.text ≡ self.old.text ++ shown.declared self.old.names words.now decl.now mode) }
+        ensures names { self.new.names ≡ self.old.names }
+    {
+        let sections = sections_in(self.alloc, decl, mode)?;
         if sections.is_empty() {
             return Ok(());
         }
@@ -169,19 +271,35 @@ impl<'a> Printer<'a> {
     }
 
     /// The beginning of a group: `taskgroup task_reduction(+: a[0])`.
-    pub fn group(&mut self, op: Fold, cells: &[Cell]) -> Result<(), AllocError> {
+    pub fn group(&mut self, op: Fold, cells: &[Cell]) -> Result<(), AllocError>
+        ensures text { OnOk result (self.new.text ≡ self.old.text ++ shown.group self.old.names op cells.now) }
+        ensures names { self.new.names ≡ self.old.names }
+    {
+        self.group_as("taskgroup", op, cells)
+    }
+
+    fn group_as(&mut self, head: &str, op: Fold, cells: &[Cell]) -> Result<(), AllocError>
+        ensures text { OnOk result (self.new.text ≡ self.old.text ++ shown.group_as self.old.names head.now op cells.now) }
+        ensures names { self.new.names ≡ self.old.names }
+    {
         let sections = sections_of(self.alloc, cells)?;
-        self.words("taskgroup")?;
+        self.words(head)?;
         self.reduction(" task_reduction(", op, &sections)
     }
 
     /// What the operation of a reduction is called in a clause: `+`, or `max`.
-    pub fn operation(&mut self, op: Fold) -> Result<(), AllocError> {
-        self.words(identifier(op))
+    pub fn operation(&mut self, op: Fold) -> Result<(), AllocError>
+        ensures text { OnOk result (self.new.text ≡ self.old.text ++ identifier op) }
+        ensures names { self.new.names ≡ self.old.names }
+    {
+        self.words(op.identifier())
     }
 
     /// A clause that names the operation and the cells, if any.
-    fn reduction(&mut self, words: &str, op: Fold, sections: &[Section]) -> Result<(), AllocError> {
+    fn reduction(&mut self, words: &str, op: Fold, sections: &[Section]) -> Result<(), AllocError>
+        ensures text { OnOk result (self.new.text ≡ self.old.text ++ shown.reduction self.old.names words.now op sections.now) }
+        ensures names { self.new.names ≡ self.old.names }
+    {
         if sections.is_empty() {
             return Ok(());
         }
@@ -194,24 +312,26 @@ impl<'a> Printer<'a> {
 
     /// A value: `a[0] + 2`.
     #[cycle(value)]
-    pub fn value(&mut self, expr: &Expr) -> Result<(), AllocError> {
+    pub fn value(&mut self, expr: &Expr) -> Result<(), AllocError>
+        ensures text { OnOk result (self.new.text ≡ self.old.text ++ shown.value self.old.names (expr_of expr.now)) }
+        ensures names { self.new.names ≡ self.old.names }
+    {
         match expr {
             Expr::Number(number) => self.number(*number),
             Expr::Cell(cell) => self.cell(*cell),
-            Expr::Op(op, one, two) => match sign(*op) {
-                Ok(sign) => {
-                    self.operand(one)?;
-                    self.words(sign)?;
-                    self.operand(two)
-                }
-                Err(name) => {
-                    self.words(name)?;
+            Expr::Op(op, one, two) => {
+                if op.is_call() {
+                    self.words(op.sign())?;
                     self.value(one)?;
                     self.words(", ")?;
                     self.value(two)?;
                     self.words(")")
+                } else {
+                    self.operand(one)?;
+                    self.words(op.sign())?;
+                    self.operand(two)
                 }
-            },
+            }
             Expr::Pick(section, chosen) => {
                 self.name(section.array)?;
                 self.words("[")?;
@@ -227,96 +347,25 @@ impl<'a> Printer<'a> {
 
     /// A side of an operation: in brackets where it is an operation with a sign itself.
     #[cycle(value)]
-    fn operand(&mut self, expr: &Expr) -> Result<(), AllocError> {
-        let nested = match expr {
-            Expr::Op(op, _, _) => sign(*op).is_ok(),
-            _ => false,
-        };
-        if nested {
+    fn operand(&mut self, expr: &Expr) -> Result<(), AllocError>
+        ensures text { OnOk result (self.new.text ≡ self.old.text ++ shown.side self.old.names (expr_of expr.now)) }
+        ensures names { self.new.names ≡ self.old.names }
+    {
+        if is_nested(expr) {
             self.words("(")?;
-        }
-        self.value(expr)?;
-        if nested {
-            self.words(")")?;
-        }
-        Ok(())
-    }
-}
-
-/// The sign of an operation, or the name of the one that is written as a function.
-fn sign(op: Op) -> Result<&'static str, &'static str> {
-    match op {
-        Op::Plus => Ok(" + "),
-        Op::Minus => Ok(" - "),
-        Op::Times => Ok(" * "),
-        Op::And => Ok(" & "),
-        Op::Or => Ok(" | "),
-        Op::Xor => Ok(" ^ "),
-        Op::Less => Ok(" < "),
-        Op::Equal => Ok(" == "),
-        Op::Min => Err("min("),
-        Op::Max => Err("max("),
-    }
-}
-
-/// What an operation is called in a clause (OpenMP API 5.2, section 5.5.3).
-fn identifier(op: Fold) -> &'static str {
-    match op {
-        Fold::Plus => "+",
-        Fold::Times => "*",
-        Fold::And => "&",
-        Fold::Or => "|",
-        Fold::Xor => "^",
-        Fold::Min => "min",
-        Fold::Max => "max",
-    }
-}
-
-/// The sign of a fold by an operation, or the name of the one that is written as a function.
-fn fold_sign(op: Fold) -> Result<&'static str, &'static str> {
-    match op {
-        Fold::Plus => Ok(" += "),
-        Fold::Times => Ok(" *= "),
-        Fold::And => Ok(" &= "),
-        Fold::Or => Ok(" |= "),
-        Fold::Xor => Ok(" ^= "),
-        Fold::Min => Err("min("),
-        Fold::Max => Err("max("),
-    }
-}
-
-/// The cells that are declared in this mode, those in a row as one section.
-fn declared_in(alloc: Global, decl: &Decl, mode: Mode) -> Result<Vec<Section>, AllocError> {
-    let mut sections = Vec::new(alloc);
-    for used in decl.uses() {
-        if used.mode == mode {
-            put_cell(&mut sections, used.cell)?;
+            self.value(expr)?;
+            self.words(")")
+        } else {
+            self.value(expr)
         }
     }
-    Ok(sections)
 }
 
-/// The cells as sections, those in a row as one.
-fn sections_of(alloc: Global, cells: &[Cell]) -> Result<Vec<Section>, AllocError> {
-    let mut sections = Vec::new(alloc);
-    for cell in cells {
-        put_cell(&mut sections, *cell)?;
+fn is_nested(expr: &Expr) -> bool
+    ensures { result ≡ shown.is_nested (expr_of expr.now) }
+{
+    match expr {
+        Expr::Op(op, _, _) => !op.is_call(),
+        _ => false,
     }
-    Ok(sections)
-}
-
-/// Puts a cell behind the last section, or begins a new one with it.
-fn put_cell(sections: &mut Vec<Section>, cell: Cell) -> Result<(), AllocError> {
-    if let Some(last) = sections.last_mut() {
-        if last.array == cell.array && last.start.saturating_add(last.len) == cell.index {
-            last.len = last.len.saturating_add(1);
-            return Ok(());
-        }
-    }
-    sections.push(Section {
-        array: cell.array,
-        start: cell.index,
-        len: 1,
-    })?;
-    Ok(())
 }
