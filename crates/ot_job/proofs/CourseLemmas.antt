@@ -321,6 +321,7 @@ module _ (j : Live) (w : IsWell j) (working : j.failing ≡ false) (d : Came) (o
         (IsPermutation-trans j.owned.out (loans_out j.regions) (loan_of out.0.0 d.lent ∷ loans_out settles.regions) w.rights
         (loans-settled (taken_by d.answer) j.counts.units i j.regions run known out.0.1)));
     few = (counts-few settles settle-course).1;
+    lengths = long ∙ w.lengths;
     created = omega (arith, length-settled (taken_by d.answer) j.counts.units i j.regions known, w.created);
     light = omega (arith, w.light, weight-settled (taken_by d.answer) j.counts.units i j.regions run known out.0.1 well.alive well.stops);
     holds = course-holds settles settle-course;

@@ -143,6 +143,7 @@ pub starts-well : (j : Live) → IsDisciplined j.program → NamedIn (lengths j.
 starts-well j disciplined named out groups regions cells tasks units = record {
   rights = subst (λ rs. IsPermutation j.owned.out (loans_out rs)) (sym regions) (subst (λ o. IsPermutation o []) (sym out) (IsPermutation-refl []));
   few = omega (arith, units);
+  lengths = ap lengths cells;
   created = subst (λ rs. length rs ≡ 1 + j.counts.tasks) (sym regions) (omega (arith, tasks));
   light = subst (λ rs. weight_of rs ≤ 2 * size j.program.body + 1) (sym regions) (root-light j.program.body);
   holds = λ i run is. idle j.program disciplined (lengths j.cells) named i run (ap (λ rs. (at rs i).running) (sym regions) ∙ is);
@@ -215,6 +216,7 @@ fails-well j d owned w out ended groups = record {
       (IsPermutation-trans j.owned.out (loans_out j.regions) (loan_of out.0.0 d.lent ∷ loans_out (updated j.regions d.task stopped)) w.rights
       (one-less j.regions d.task (run_of out.0.0 d) out.0.1)));
   few = w.few;
+  lengths = w.lengths;
   created = length-updated j.regions d.task stopped ∙ w.created;
   light = omega (arith, w.light, weight-stopped j.regions d.task known);
   holds = λ k run is. let r = still k run is in subst (λ x. Holds x.own (touches_out x run) run.lease.uses) (sym r) (w.holds k run (was k run is));

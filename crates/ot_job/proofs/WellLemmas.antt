@@ -280,6 +280,7 @@ module _ (j : Live) (w : IsWell j) (working : j.failing ≡ false) (i : ℕ) (h 
         (IsPermutation-sym (loans_out claimed.regions) (loan worker lease ∷ loans_out j.regions)
         (one-more worker lease j.regions i h (idle (lengths j.cells) j.regions o.sound o.named o.runs o.begun i h can worker lease are ordered))));
     few = w.few;
+    lengths = long ∙ w.lengths;
     created = length-updated j.regions i (begun worker lease) ∙ w.created;
     light = omega (arith, w.light, weight-begun worker lease j.regions i h (idle (lengths j.cells) j.regions o.sound o.named o.runs o.begun i h can worker lease are ordered));
     holds = course-holds claimed claim-course;

@@ -28,13 +28,14 @@ pub record IsOnCourse (j : Live) : Type 0 where
   pub kept : IsKept j
 
 -- The loans that are out are those of its tasks' pieces, of which each holds what it touches, as the cells are worth now, and
--- no two conflict. It has the root and each task that was created, has executed at most its statements, and weighs no more
--- than when it began.
+-- no two conflict. Its arrays are as long as those that were handed in. It has the root and each task that was created, has
+-- executed at most its statements, and weighs no more than when it began.
 pub record IsWell (j : Live) : Type 0 where
   pub rights : IsPermutation j.owned.out (loans_out j.regions)
   pub holds : AllHold j
   pub present : HavePresent j
   pub apart : AreApart j
+  pub lengths : lengths j.cells ≡ lengths j.before
   pub created : length j.regions ≡ 1 + j.counts.tasks
   pub few : j.counts.units ≤ size j.program.body
   pub light : weight_of j.regions ≤ 2 * size j.program.body + 1

@@ -43,8 +43,10 @@ impl Model for Job {
 }
 
 impl Job {
-    ghost use Rattle.std.specs.Prelude.{◌≡◌, ◌<◌, ◌≤◌, ◌↔◌, Some, IsSome, IsTrue, length, OnErr, IfOk, IfErr};
-    ghost use Rattle.ot_model.specs.Cells.{cell_of};
+    ghost use Rattle.std.specs.Prelude.{◌≡◌, ◌<◌, ◌≤◌, ◌+◌, ◌*◌, ◌↔◌, Some, IsSome, IsTrue, length, OnErr, IfOk, IfErr};
+    ghost use Rattle.ot_model.specs.Cells.{cell_of, lengths};
+    ghost use Rattle.ot_model.specs.Counts.{size};
+    ghost use Rattle.ot_owner.specs.Rows.{NoTwoShare};
     ghost use Rattle.ot_owner.specs.Worth.{worth};
     ghost use Rattle.ot_job.specs.Settling.{Settles, Refuses};
     ghost use Rattle.ot_job.specs.Claiming.{picked};
@@ -75,7 +77,8 @@ impl Job {
         }
     }
 
-    /// Where it stands, and what holds of it there. It takes no memory.
+    /// Where it stands, and what holds of it there: its arrays are as long as those that were handed in. It
+    /// takes no memory.
     pub fn state(&self) -> State
         ensures is { result ≡ state_of self.now }
         ensures calm { IsOver result → NoneOut self.now }
@@ -84,6 +87,7 @@ impl Job {
         ensures holds { AllHold self.now }
         ensures present { HavePresent self.now }
         ensures apart { AreApart self.now }
+        ensures lengths { lengths self.now.cells ≡ lengths self.now.before }
     {
         if self.failing {
             if self.tasks.any_out() {
@@ -111,9 +115,10 @@ impl Job {
         self.tasks.claimable()
     }
 
-    /// How many settles it may still take, at most. It takes no memory.
+    /// How many settles it may still take, at most: no more than when it began. It takes no memory.
     pub fn weight(&self) -> u64
-        ensures { result ≡ weight_of self.now.regions }
+        ensures is { result ≡ weight_of self.now.regions }
+        ensures light { result ≤ 2 * size self.now.program.body + 1 }
     {
         weigh_tasks(self.tasks.all())
     }
@@ -242,11 +247,12 @@ impl Job {
         self.cells.at(cell)
     }
 
-    /// What a cell that is there is worth: its stored number combined with all copies of it. It goes over
-    /// the open groups, and takes no memory.
+    /// What a cell that is there is worth: its stored number combined with all copies of it, which are those of
+    /// one open group. It goes over the open groups, and takes no memory.
     pub fn worth(&self, cell: Cell) -> u64
         requires { IsSome (cell_of self.now.cells cell) }
-        ensures { worth self.now.owned self.now.cells cell ≡ Some result }
+        ensures is { worth self.now.owned self.now.cells cell ≡ Some result }
+        ensures single { NoTwoShare self.now.owned.groups }
     {
         self.owners.worth(&self.cells, cell)
     }

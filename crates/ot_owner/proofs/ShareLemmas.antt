@@ -43,6 +43,18 @@ share-alike gs hs same apart i j d before within =
     subst (ShareNothing (bare (get_or hs i d))) (bare-at gs hs same j d)
     (subst (λ (g : Summed). ShareNothing g (bare (get_or gs j d))) (bare-at gs hs same i d) (apart i j d before (omega (arith, within, long))))
 
+pub new-alike : (gs hs : List Summed) (n : ℕ) → bares gs ≡ bares hs → All (λ g. g.group ≢ n) gs → All (λ g. g.group ≢ n) hs
+new-alike gs hs n same new k d within =
+    let long = as_long gs hs same in
+    subst (λ (g : Summed). g.group ≢ n) (bare-at gs hs same k d) (new k d (omega (arith, within, long)))
+
+pub summed-alike : (gs hs : List Summed) (c : Cell) → bares gs ≡ bares hs → IsSummed gs c → IsSummed hs c
+summed-alike gs hs c same (k, g, within, is, named) =
+    let h = get_or hs k g in
+    let long = as_long gs hs same in
+    let inside : k < length hs = omega (arith, within, long) in
+    (k, h, inside, sym (get_or_default hs k g h inside), ap (names c) (sym (bare-at gs hs same k g)) ∙ ap (names c) is ∙ named)
+
 pub bares-begun : (w : ℕ) (uses : List Use) (gs : List Summed) → bares gs ≡ bares (begun_for w uses gs)
 bares-begun w uses [] = refl
 bares-begun w uses (g ∷ gs) = ap (λ h. h ∷ bares gs) (by (folds_in g.uses uses)) ∙ ap (λ hs. bare (if folds_in g.uses uses then begun_in w g else g) ∷ hs) (bares-begun w uses gs)

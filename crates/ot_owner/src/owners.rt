@@ -72,17 +72,17 @@ impl Owners {
     /// A worker's copy of a cell: None exactly where no open group names the cell, or the worker has no
     /// row of it. It goes over the groups one after another, and halves the list of each.
     pub fn copy_of(&self, worker: u32, cell: Cell) -> Option<u64>
-        ensures copy { result ≡ copy_among self.now.owned.groups worker cell }
-        ensures one { NoTwoShare self.now.owned.groups }
+        ensures { result ≡ copy_among self.now.owned.groups worker cell }
     {
         copy_of(&self.groups, worker as usize, cell)
     }
 
     /// What a cell that is there is worth: its stored number combined with all copies of it, by the
-    /// operation of each group.
+    /// operation of their group. No two open groups share a number or a cell.
     pub fn worth(&self, cells: &Cells, cell: Cell) -> u64
         requires { IsSome (cell_of cells.now cell) }
-        ensures { worth self.now.owned cells.now cell ≡ Some result }
+        ensures is { worth self.now.owned cells.now cell ≡ Some result }
+        ensures single { NoTwoShare self.now.owned.groups }
     {
         worth(&self.groups, cell, cells.at(cell))
     }

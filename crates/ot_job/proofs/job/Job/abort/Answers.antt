@@ -5,6 +5,7 @@ use Rattle.ot_job.proofs.job.Job.abort.Goals as goal
 pub invariant_of-self : goal.invariant_of-self
 invariant_of-self c = record {
   rights = c.self.invariant.rights;
+  lengths = c.self.invariant.lengths;
   created = c.self.invariant.created;
   few = c.self.invariant.few;
   light = c.self.invariant.light;

@@ -1,4 +1,5 @@
 use Rattle.std.proofs.Common.{rules, sym, ap, ◌∙◌, ◌≡◌, subst, true, false, true≢false}
+use Rattle.ot_model.specs.Cells.{lengths}
 use Rattle.ot_job.specs.Live.{Live}
 use Rattle.ot_job.specs.States.{all_ended, any_out}
 use Rattle.ot_job.specs.Dealings.{NoneOut}
@@ -33,6 +34,9 @@ returns-then-any_out-clause-present c = subst (λ (l : Live). HavePresent l) c.s
 pub returns-then-any_out-clause-apart : goal.returns-then-any_out-clause-apart
 returns-then-any_out-clause-apart c = subst (λ (l : Live). AreApart l) c.self.view_is c.self.invariant.apart
 
+pub returns-then-any_out-clause-lengths : goal.returns-then-any_out-clause-lengths
+returns-then-any_out-clause-lengths c = subst (λ (l : Live). lengths l.cells ≡ lengths l.before) c.self.view_is c.self.invariant.lengths
+
 pub returns-else-any_out-clause-is : goal.returns-else-any_out-clause-is
 returns-else-any_out-clause-is c =
     state-is-failed c.args.self.now (sym (ap (λ (l : Live). l.failing) c.self.view_is) ∙ c.if-self.true)
@@ -46,6 +50,9 @@ returns-else-any_out-clause-present c = subst (λ (l : Live). HavePresent l) c.s
 
 pub returns-else-any_out-clause-apart : goal.returns-else-any_out-clause-apart
 returns-else-any_out-clause-apart c = subst (λ (l : Live). AreApart l) c.self.view_is c.self.invariant.apart
+
+pub returns-else-any_out-clause-lengths : goal.returns-else-any_out-clause-lengths
+returns-else-any_out-clause-lengths c = subst (λ (l : Live). lengths l.cells ≡ lengths l.before) c.self.view_is c.self.invariant.lengths
 
 pub returns-then-all_ended-clause-is : goal.returns-then-all_ended-clause-is
 returns-then-all_ended-clause-is c =
@@ -64,6 +71,9 @@ returns-then-all_ended-clause-present c = subst (λ (l : Live). HavePresent l) c
 pub returns-then-all_ended-clause-apart : goal.returns-then-all_ended-clause-apart
 returns-then-all_ended-clause-apart c = subst (λ (l : Live). AreApart l) c.self.view_is c.self.invariant.apart
 
+pub returns-then-all_ended-clause-lengths : goal.returns-then-all_ended-clause-lengths
+returns-then-all_ended-clause-lengths c = subst (λ (l : Live). lengths l.cells ≡ lengths l.before) c.self.view_is c.self.invariant.lengths
+
 pub returns-else-all_ended-clause-is : goal.returns-else-all_ended-clause-is
 returns-else-all_ended-clause-is c =
     state-is-working c.args.self.now (sym (ap (λ (l : Live). l.failing) c.self.view_is) ∙ c.if-self.false)
@@ -80,6 +90,9 @@ returns-else-all_ended-clause-present c = subst (λ (l : Live). HavePresent l) c
 
 pub returns-else-all_ended-clause-apart : goal.returns-else-all_ended-clause-apart
 returns-else-all_ended-clause-apart c = subst (λ (l : Live). AreApart l) c.self.view_is c.self.invariant.apart
+
+pub returns-else-all_ended-clause-lengths : goal.returns-else-all_ended-clause-lengths
+returns-else-all_ended-clause-lengths c = subst (λ (l : Live). lengths l.cells ≡ lengths l.before) c.self.view_is c.self.invariant.lengths
 
 pub returns-else-all_ended-clause-calm : goal.returns-else-all_ended-clause-calm
 returns-else-all_ended-clause-calm c = λ over. absurd over
