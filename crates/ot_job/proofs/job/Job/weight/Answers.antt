@@ -1,4 +1,4 @@
-use Rattle.std.proofs.Common.{◌≡◌, ◌∙◌, ap, arith}
+use Rattle.std.proofs.Common.{◌∙◌, ap, arith}
 use Rattle.ot_model.specs.Counts.{size}
 use Rattle.ot_job.specs.Live.{Live}
 use Rattle.ot_task.specs.Weighing.{weight_of}
