@@ -24,7 +24,6 @@ use Rattle.ot_task.specs.Modes.{AreHeld}
 use Rattle.ot_task.specs.Pieces.{begun, group_passed}
 use Rattle.ot_task.specs.Place.{Open}
 use Rattle.ot_task.specs.Regions.{Region, Run}
-use Rattle.ot_job.specs.Awaiting.{opened}
 use Rattle.ot_job.specs.Claiming.{is_claimable}
 use Rattle.ot_job.specs.Live.{Live}
 use Rattle.ot_job.specs.Numbered.{at}

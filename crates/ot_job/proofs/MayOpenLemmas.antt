@@ -31,7 +31,7 @@ use Rattle.ot_job.specs.Opened.{IsRoomFor}
 use Rattle.ot_job.specs.Opening.{MayOpen}
 use Rattle.ot_job.specs.Sound.{IsPlaced}
 use Rattle.ot_job.specs.Well.{IsWell, IsOnCourse}
-use Rattle.ot_job.specs.Whole.{assigns_out, whole, wholes, loan_in, loans_out}
+use Rattle.ot_job.specs.Whole.{assigns_out, whole, loan_in, loans_out}
 use Rattle.ot_job.proofs.FoldLemmas.{same-op}
 use Rattle.ot_job.proofs.FreeLemmas.{fine-innermost}
 use Rattle.ot_job.proofs.GroupLemmas.{unused, writes-agree}
