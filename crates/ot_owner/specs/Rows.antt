@@ -50,7 +50,7 @@ IsOnlyBy gs op c = All (λ g. names c g ≡ true → g.op ≡ op) gs
 abbrev pub ShareNothing : Summed → Summed → Type 0
 ShareNothing g h = (g.group ≢ h.group) × ((c : Cell) → names c g ≡ true → names c h ≡ false)
 
--- each number is of one open group, and each cell in one
+-- no two open groups have the same number, or name one cell
 abbrev pub NoTwoShare : List Summed → Type 0
 NoTwoShare gs = AllPairs ShareNothing gs
 
