@@ -11,7 +11,8 @@ use std::marker::Model;
 
 /// Who reads, writes or folds into which cell at this moment: the rights that are out, and for each open
 /// group a row of private copies for each worker that folds in it. No two rights conflict at a cell, as uses
-/// of one cell do unless both read or both fold by one operation. Only `room` and `prepare` take memory.
+/// of one cell do unless both read or both fold by one operation, and no cell is in two open groups. Only
+/// `room` and `prepare` take memory.
 #[derive(Debug, Drop)]
 pub struct Owners {
     rights: Rights,
