@@ -1,5 +1,5 @@
 -- Two open groups stay the same two while cells are lent and come back, and what that says of their cells.
-use Rattle.std.proofs.Common.{◌≡◌, ℕ, zero, suc, ◌<◌, Bool, true, false, List, [], ◌∷◌, length, get_or, refl, sym, ap, ◌∙◌, subst, arith, Contains, IsPermutation}
+use Rattle.std.proofs.Common.{◌≡◌, ◌≢◌, ℕ, zero, suc, ◌<◌, Bool, true, false, true≢false, List, [], ◌∷◌, length, get_or, refl, sym, ap, ◌∙◌, subst, arith, Contains, IsPermutation}
 use Rattle.std.specs.Prelude.{◌↔◌, ◌==◌, Option, Some, None, is_some, IsSome, All, Any, replicate, if◌then◌else◌}
 use Rattle.ot_model.specs.Cells.{cell_of, lengths}
 use Rattle.ot_model.specs.Uses.{is_fold}
@@ -8,16 +8,18 @@ use Rattle.ot_model.specs.declared.expr.Cell.{Cell}
 use Rattle.ot_model.specs.declared.fold.Fold.{Fold as Operation}
 use Rattle.ot_model.specs.declared.stmt.Mode.{Mode}
 use Rattle.ot_model.specs.declared.stmt.Use.{Use}
+use Rattle.ot_model.proofs.EqualLemmas.{cell-decides}
 use Rattle.ot_model.proofs.NamesLemmas.{found_from_in}
 use Rattle.std.proofs.lemmas.List.{get_or_default}
 use Rattle.std.proofs.lemmas.List.Elements.{All-nil, All-cons}
+use Rattle.std.proofs.lemmas.List.Quantifiers.{position-Some}
 use Rattle.std.proofs.lemmas.List.Sorted.{length_permutation, IsPermutation-cons, IsPermutation-swap, IsPermutation-trans}
 use Rattle.ot_owner.proofs.OutLemmas.{permutation_rest}
 use Rattle.ot_model.specs.declared.stmt.Mode.TheVariants.{Reads, Folds}
 use Rattle.ot_owner.specs.Lending.{use_of, uses_of, MayChange}
 use Rattle.ot_owner.specs.Back.{taken_back, all_back}
 use Rattle.ot_owner.specs.Owning.{Loan, IsFreeFor}
-use Rattle.ot_owner.specs.Rows.{Summed, place_in, IsNamed, IsSummedBy, folds_in, folded_in, folded, begun_in, begun_for, without}
+use Rattle.ot_owner.specs.Rows.{Summed, is_of, place_in, names, IsNamed, IsSummed, IsSummedBy, folds_in, folded_in, folded, begun_in, begun_for, without}
 use Rattle.ot_owner.specs.declared.lent.LentCell.{LentCell}
 use Rattle.ot_owner.proofs.NameLemmas.{place-named}
 use Rattle.book_tests.specs.TwoGroups.{nth, IsFoldOf, IsOver, AreTwo}
@@ -66,19 +68,35 @@ two-back w o (l ∷ lent) gs two = two-back w o lent (taken_back w l gs) (two-ta
 
 -- ---- they are opened
 
+pub only-one : (x c : Cell) → Contains (x ∷ []) c → c ≡ x
+only-one x c (zero, within, is) = sym is
+only-one x c (suc k, within, is) = absurd (omega (arith, within))
+
+-- where nothing is out, all is free
+pub none-free : (out : List Loan) (uses : List Use) → out ≡ [] → IsFreeFor out uses
+none-free out uses none = subst (λ (o : List Loan). IsFreeFor o uses) (sym none) (λ j e inside. absurd (omega (arith, inside)))
+
+-- a group that names another cell alone
+pub over-unnamed : (n : ℕ) (o : Operation) (i j : ℕ) (g : Summed) → IsOver n o i g → i ≢ j → ¬ IsSummed (g ∷ []) (nth j)
+over-unnamed n o i j g over other (zero, h, within, is, named) = by (place_in g.uses (nth j)) refl (ap (names (nth j)) is ∙ named)
+  where
+    by : (p : Option ℕ) → place_in g.uses (nth j) ≡ p → is_some p ≡ true → ⊥
+    by None at some = true≢false (sym some)
+    by (Some p) at some =
+        let found = position-Some (is_of (nth j)) g.uses p (record { cell = nth j; mode = Reads }) at in
+        let u = get_or g.uses p (record { cell = nth j; mode = Reads }) in
+        other (ap (λ (c : Cell). c.index) (sym (over.only p (record { cell = nth j; mode = Reads }) found.0) ∙ (cell-decides u.cell (nth j)).0 found.1))
+over-unnamed n o i j g over other (suc k, h, within, is, named) = omega (arith, within)
+
 -- a group in the room for one cell
 pub over-opened : (n : ℕ) (o : Operation) (i : ℕ) (room : List Use) → ((c : Cell) → IsNamed room c ↔ Contains (nth i ∷ []) c) → IsOver n o i (let g : Summed = record { group = n; op = o; uses = room; rows = replicate 17 None } in g)
 over-opened n o i room named = record {
   number = refl;
   op = refl;
   named = place-named room (nth i) ((named (nth i)).1 (0, omega arith, refl));
-  only = λ k d within. one (get_or room k d).cell ((named (get_or room k d).cell).0 (k, get_or room k d, within, sym (refl_at k d within), refl));
+  only = λ k d within. only-one (nth i) (get_or room k d).cell ((named (get_or room k d).cell).0 (k, get_or room k d, within, sym (refl_at k d within), refl));
 }
   where
-    one : (c : Cell) → Contains (nth i ∷ []) c → c ≡ nth i
-    one c (zero, within, is) = sym is
-    one c (suc k, within, is) = absurd (omega (arith, within))
-
     refl_at : (k : ℕ) (d : Use) → k < length room → get_or room k d ≡ get_or room k (get_or room k d)
     refl_at k d within = get_or_default room k d (get_or room k d) within
 
@@ -117,7 +135,7 @@ two-there cells n o (g ∷ h ∷ k ∷ gs) long two = absurd two
 
 -- where nothing is out, each is unused
 pub none-unused : (out : List Loan) (n : ℕ) (gs : List Summed) → out ≡ [] → All (λ g. g.group ≡ n → IsFreeFor out g.uses) gs
-none-unused out n gs none k d within same = subst (λ (o : List Loan). IsFreeFor o (get_or gs k d).uses) (sym none) (λ j e inside. absurd (omega (arith, inside)))
+none-unused out n gs none k d within same = none-free out (get_or gs k d).uses none
 
 -- ---- the inner one is closed
 

@@ -1,9 +1,9 @@
 //! Two groups that are open over three cells, by one operation: the rows of workers that fold, what the cells
 //! are worth, what the groups leave behind, who is free beside whom, and want of memory.
-ghost use Rattle.std.specs.Prelude.{◌≡◌, ◌↔◌, ◌≤◌, ◌++◌, ◌∷◌, [], IfOk, OnOk, Contains};
+ghost use Rattle.std.specs.Prelude.{◌≡◌, ◌≢◌, ◌↔◌, ◌≤◌, ◌++◌, ◌∷◌, [], IfOk, OnOk, All, Contains};
 ghost use Rattle.ot_model.specs.declared.expr.Cell.{Cell};
 ghost use Rattle.ot_owner.specs.Keeping.{IsLast, IsOpenable};
-ghost use Rattle.ot_owner.specs.Rows.{IsNamed, Summed};
+ghost use Rattle.ot_owner.specs.Rows.{IsNamed, IsSummed, Summed};
 ghost use Rattle.book_tests.specs.TwoGroups.{nth, IsFoldOf, IsOver};
 
 use super::modes::OPERATIONS;
@@ -27,7 +27,8 @@ fn room_again(alloc: Global, owners: &mut Owners, index: u32) -> Result<Room, Al
     }
 }
 
-/// Opens a group by the operation that names one cell.
+/// Opens a group by the operation that names one cell. None of its number is open, none names the cell, and
+/// nothing is out.
 fn open(
     alloc: Global,
     owners: &mut Owners,
@@ -35,6 +36,9 @@ fn open(
     op: Fold,
     index: u32,
 ) -> Result<(), AllocError>
+    requires new { All (λ g. g.group ≢ group) owners.old.owned.groups }
+    requires unnamed { ¬ IsSummed owners.old.owned.groups (nth index) }
+    requires none { owners.old.owned.out ≡ [] }
     ensures opened { OnOk result ((g : Summed) × IsOver group op index g × (owners.new.owned.groups ≡ owners.old.owned.groups ++ g ∷ [])) }
     ensures out { owners.new.owned.out ≡ owners.old.owned.out }
 {

@@ -12,7 +12,7 @@ use Rattle.ot_owner.specs.Keeping.{Prepared}
 use Rattle.ot_owner.specs.Leases.{Lease, lease_of, lent_from}
 use Rattle.ot_owner.specs.Lending.{uses_of}
 use Rattle.ot_owner.specs.Owning.{Owned, loan_of, IsFreeFor}
-use Rattle.ot_owner.specs.Rows.{Summed, IsSummedBy, IsByOne, begun_for}
+use Rattle.ot_owner.specs.Rows.{Summed, IsSummedBy, begun_for}
 use Rattle.ot_owner.specs.Worth.{worths, AreWorthSame}
 use Rattle.ot_owner.specs.declared.lent.LentCell.{LentCell}
 use Rattle.ot_owner.proofs.RightsLemmas.{lent_uses}
@@ -29,7 +29,7 @@ use Rattle.ot_job.specs.Numbered.{at}
 use Rattle.ot_job.specs.Opening.{left_open, passed_over}
 use Rattle.ot_job.specs.States.{claimable_in}
 use Rattle.ot_job.specs.Well.{IsWell, IsOnCourse}
-use Rattle.ot_job.proofs.LendingLemmas.{claim-alone, claim-open, claim-unused, claim-known, claim-folds, claim-fresh}
+use Rattle.ot_job.proofs.LendingLemmas.{claim-open, claim-unused, claim-known, claim-folds, claim-fresh}
 use Rattle.ot_job.proofs.PickLemmas.{at-here}
 use Rattle.ot_job.proofs.TakenLemmas.{claim-can}
 use Rattle.ot_job.proofs.WellLemmas.{claim-free, claim-holds, claim-well}
@@ -55,9 +55,6 @@ module _ (j : Live) (w : IsWell j) (working : j.failing ≡ false) (i : ℕ) (h 
 
   pub lends-open : IfSome told (λ group. Any (λ g. g.group ≡ group) before.groups)
   lends-open = subst (λ (b : Owned). IfSome told (λ group. Any (λ (g : Summed). g.group ≡ group) b.groups)) (sym before-is) (claim-open j w o i h can told told-is)
-
-  pub lends-alone : IfSome told (λ group. IsByOne group before.groups)
-  lends-alone = subst (λ (b : Owned). IfSome told (λ group. IsByOne group b.groups)) (sym before-is) (claim-alone j w o i h can told told-is)
 
   pub lends-unused : IfSome told (λ group. All (λ g. g.group ≡ group → IsFreeFor before.out g.uses) before.groups)
   lends-unused = subst (λ (b : Owned). IfSome told (λ group. All (λ (g : Summed). g.group ≡ group → IsFreeFor b.out g.uses) b.groups)) (sym before-is) (claim-unused j w o i h can told told-is)

@@ -1,6 +1,6 @@
 -- A job's fields as its invariant sees them, and what a settle makes of them.
 use Rattle.std.proofs.Common.{◌≡◌, ℕ, ◌+◌, ◌<◌, ◌≤◌, ◌∙◌, ap, sym, subst, arith, List, ◌∷◌, ◌++◌, Bor, Bool, true, false, true≢false, length}
-use Rattle.std.specs.Prelude.{◌↔◌, IsTrue, if◌then◌else◌, Option, Some, option_map, get_or, IsPermutation}
+use Rattle.std.specs.Prelude.{◌↔◌, IsTrue, if◌then◌else◌, Option, Some, IfSome, option_map, get_or, IsPermutation}
 use Rattle.ot_model.specs.Cells.{lengths}
 use Rattle.ot_model.specs.Counts.{size}
 use Rattle.ot_model.specs.Programs.{expanded_of}
@@ -16,7 +16,7 @@ use Rattle.ot_job.specs.JobView.{live_of}
 use Rattle.ot_task.specs.Pieces.{leading_len}
 use Rattle.ot_job.specs.Taken.{Came, IsOut, IsRun, taken_by}
 use Rattle.ot_job.specs.Opened.{IsRoomFor, opened_under}
-use Rattle.ot_job.specs.Opening.{Opens}
+use Rattle.ot_job.specs.Opening.{MayOpen, Opens}
 use Rattle.ot_model.specs.declared.expr.Cell.{Cell}
 use Rattle.ot_model.specs.declared.fold.Fold.{Fold as Operation}
 use Rattle.ot_model.specs.declared.stmt.Use.{Use}
@@ -25,8 +25,9 @@ use Rattle.ot_job.specs.Settling.{CreatesInOrder, settled, units_of}
 use Rattle.ot_job.specs.Well.{IsWell}
 use Rattle.ot_job.specs.declared.job.Job.TheInside.{Inside}
 use Rattle.ot_job.proofs.LendingLemmas.{opens}
+use Rattle.ot_job.proofs.MayOpenLemmas.{may-open}
 use Rattle.ot_job.proofs.PickLemmas.{at-here}
-use Rattle.ot_job.proofs.SettleLemmas.{is-known, out-to}
+use Rattle.ot_job.proofs.SettleLemmas.{run_of, is-known, out-to}
 use Rattle.ot_job.proofs.WellLemmas.{settle-may}
 use Rattle.ot_job.specs.Claiming.{claimable_of, picked}
 use Rattle.ot_job.specs.States.{claimable_in}
@@ -100,6 +101,15 @@ came-back s d worker before is t next here told room names cells owned back long
       (subst (λ (n : Option (Operation × List Cell)). IsRoomFor n room) (told ∙ ap (λ (r : Region). group_next r.rest) (sym here)) names)
       (groups ∙ ap (λ (b : Owned). all_back worker d.lent b.groups ++ opened_under s.counts.units room) is);
 }
+
+-- what its calls ask of a group that comes next
+pub opens-next : (s : Inside) → IsWell (live_of s) → s.failing ≡ false → (d : Came) (out : IsOut s.tasks d) (before : Owned) → before ≡ s.owners.owned → (t : Region) (next : Option (Operation × Bor (List Cell)))
+    → at s.tasks d.task ≡ t → option_map (λ g. (g.0, g.1.now)) next ≡ group_next t.rest → (room : Option (Operation × List Use)) → IsRoomFor (option_map (λ g. (g.0, g.1.now)) next) room
+    → IfSome room (λ r. MayOpen before (loan_of out.0.0 d.lent) s.counts.units r.1)
+opens-next s w working d out before is t next here told room names =
+    subst (λ (b : Owned). IfSome room (λ r. MayOpen b (loan_of out.0.0 d.lent) s.counts.units r.1)) (sym is)
+    (may-open (live_of s) w (w.course working) d.task (run_of out.0.0 d) out.0.1 room
+    (subst (λ (n : Option (Operation × List Cell)). IsRoomFor n room) (told ∙ ap (λ (r : Region). group_next r.rest) (sym here)) names))
 
 module _ (s : Inside) (w : IsWell (live_of s)) (working : s.failing ≡ false) (d : Came) (out : IsOut s.tasks d) where
   abbrev region : Region

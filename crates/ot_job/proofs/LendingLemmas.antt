@@ -16,8 +16,7 @@ use Rattle.ot_check.specs.Offences.{has_cell}
 use Rattle.ot_owner.specs.Leases.{Lease, lease_of, lent_from}
 use Rattle.ot_owner.specs.Lending.{use_of, uses_of}
 use Rattle.ot_owner.specs.Owning.{Loan, Owned, IsFreeFor}
-use Rattle.ot_owner.specs.Back.{IsByOwn}
-use Rattle.ot_owner.specs.Rows.{Summed, IsSummed, IsSummedBy, IsByOne, begun_for}
+use Rattle.ot_owner.specs.Rows.{Summed, IsSummed, IsSummedBy, begun_for}
 use Rattle.ot_owner.specs.Worth.{AreWorthSame, worths}
 use Rattle.ot_owner.specs.declared.lent.LentCell.{LentCell}
 use Rattle.ot_owner.proofs.WorthLemmas.{worths-same}
@@ -25,7 +24,6 @@ use Rattle.ot_task.specs.Modes.{AreHeld}
 use Rattle.ot_task.specs.Pieces.{begun, group_passed}
 use Rattle.ot_task.specs.Place.{Open}
 use Rattle.ot_task.specs.Regions.{Region, Run}
-use Rattle.ot_job.specs.Awaiting.{opened}
 use Rattle.ot_job.specs.Claiming.{is_claimable}
 use Rattle.ot_job.specs.Live.{Live}
 use Rattle.ot_job.specs.Numbered.{at}
@@ -35,9 +33,8 @@ use Rattle.ot_job.specs.Well.{IsWell, IsOnCourse}
 use Rattle.ot_job.specs.Whole.{loans_out}
 use Rattle.ot_job.proofs.FreeLemmas.{mode-once}
 use Rattle.ot_job.proofs.HoldsLemmas.{Among}
-use Rattle.ot_job.proofs.OpenLemmas.{groups-alike}
-use Rattle.ot_job.proofs.OpenedLemmas.{claim-unopened, claim-folded, group_free, groups-there, held-unopened, held-folded}
-use Rattle.ot_job.proofs.OpeningLemmas.{innermost, is-open, lent-worths, not_summed, only-by, by-one, one-opened, free-out, open-grown, open-passed, open-summed, passed-open, there as there-of}
+use Rattle.ot_job.proofs.OpenedLemmas.{claim-unopened, claim-folded, group_free, groups-there, held-unopened}
+use Rattle.ot_job.proofs.OpeningLemmas.{innermost, is-open, lent-worths, not_summed, free-out, open-grown, open-passed, open-summed, passed-open, there as there-of}
 use Rattle.ot_job.proofs.WholeLemmas.{loans-each}
 
 among-at : (uses : List Use) (k : ℕ) (d : Use) → k < length uses → Among (get_or uses k d) uses
@@ -81,9 +78,6 @@ module _ (j : Live) (w : IsWell j) (o : IsOnCourse j) (i : ℕ) (h : i < length 
   some-passed : {P : ℕ → Type 0} (told : Option ℕ) → told ≡ group_passed (at j.regions i) → ((group : ℕ) → group_passed (at j.regions i) ≡ Some group → P group) → IfSome told P
   some-passed None is f = tt
   some-passed (Some group) is f = f group (sym is)
-
-  pub claim-alone : (told : Option ℕ) → told ≡ group_passed (at j.regions i) → IfSome told (λ group. IsByOne group gs)
-  claim-alone told is = some-passed told is (λ group passed. by-one j.regions gs group o.copies (groups-alike j.regions o.sound))
 
   pub claim-open : (told : Option ℕ) → told ≡ group_passed (at j.regions i) → IfSome told (λ group. Any (λ g. g.group ≡ group) gs)
   claim-open told is = some-passed told is passed-is-open
@@ -138,16 +132,6 @@ back-unsummed j o i run out lent is k d within writes =
     let held = ap (λ (x : Lease). mode_in x.uses l.cell) is ∙ mode-once (uses_of lent) ordered (use_of l) (lent-among lent k d within) ∙ ap Some writes in
     not_summed j.regions j.owned.groups l.cell o.copies
     (held-unopened j.regions o.sound (lengths j.cells) o.named o.runs o.begun i run out l.cell Writes held refl)
-
--- the cells that it folded are of groups by its operations alone
-pub back-own : (j : Live) → IsOnCourse j → (i : ℕ) (run : Run) → (at j.regions i).running ≡ Some run → (lent : List LentCell) → run.lease ≡ lease_of lent → IsByOwn lent j.owned.groups
-back-own j o i run out lent is k d within op folds =
-    let l = get_or lent k d in
-    let ordered = subst AreInOrder (ap (λ (x : Lease). x.uses) is) (o.runs i run out).ordered in
-    let held = ap (λ (x : Lease). mode_in x.uses l.cell) is ∙ mode-once (uses_of lent) ordered (use_of l) (lent-among lent k d within) ∙ ap Some folds in
-    let (n, g, there, by, named) = held-folded j.regions o.sound (lengths j.cells) o.named o.runs o.begun i run out op l.cell held in
-    only-by j.regions j.owned.groups op l.cell o.copies
-    (λ m p opens. groups-alike j.regions o.sound m n p op l.cell opens (ap (λ q. opened (at j.regions n).groups q l.cell) (sym by) ∙ one-opened (at j.regions n).groups g l.cell there named))
 
 -- a group is opened where one comes next
 pub opens : (next : Option (Operation × List Cell)) (room : Option (Operation × List Use)) (number : ℕ) (before after : List Summed) → IsRoomFor next room → after ≡ before ++ opened_under number room → Opens next number before after

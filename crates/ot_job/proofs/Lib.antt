@@ -46,6 +46,7 @@ mod InsideLemmas
 pub mod StartLemmas
 pub mod OpenedLemmas
 pub mod LendingLemmas
+pub mod MayOpenLemmas
 pub mod ClaimedLemmas
 pub mod FreeTaskLemmas
 pub mod WeighingLemmas

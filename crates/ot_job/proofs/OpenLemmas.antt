@@ -105,57 +105,6 @@ module _ (rs : List Region) (s : IsSound (wholes rs)) where
     alone = λ k x there unfinished m may. both-fold op (Folds op) m refl ((placed i).reduced k x there unfinished op c is m may);
   }
 
-  -- a cell that two open groups name, of one task or of two, they fold by one operation
-  pub groups-alike : (i j : ℕ) (op by : Operation) (c : Cell) → opened (at rs i).groups op c ≡ true → opened (at rs j).groups by c ≡ true → op ≡ by
-  groups-alike i j op by c one two = pick (cases_eq i j)
-    where
-      pick : (i ≡ j) ⊎ (i ≡ j → ⊥) → op ≡ by
-      pick (inl same) = opened-alike (at rs i).groups (placed i).once op by c one (ap (λ n. opened (at rs n).groups by c) same ∙ two)
-      pick (inr other) =
-          sym (one-fold by op (agrees-with op (Folds by) (holders-agree i j (use_as (Folds op) c) (use_as (Folds by) c) (group-holds i op c one) (group-holds j by c two) other refl)))
-
-  -- what an ancestor of a task with an open group that names the cell may do with it, and that it hasn't ended
-  above-writes : (k i : ℕ) (op : Operation) (c : Cell) → Anc (parent_of ws) k i → opened (at rs i).groups op c ≡ true → may_at ws k (use_as Writes c)
-  above-writes k i op c up is =
-      up_to (parent_of ws) (may_at ws) (todo_at ws) (ended_at ws) (IsBegun ws) (sound ws s) k i up (use_as Writes c) (ap (λ (x : Region). allows x.own (use_as Writes c)) (at-whole rs i) ∙ (placed i).writes op c is)
-
-  above-alive : (k i : ℕ) (op : Operation) (c : Cell) → 0 < k → Anc (parent_of ws) k i → opened (at rs i).groups op c ≡ true → ended_at ws k ≡ false
-  above-alive k i op c pos up is =
-      alive_up (parent_of ws) (may_at ws) (todo_at ws) (ended_at ws) (IsBegun ws) (sound ws s) k i pos up (ap (λ (x : Region). x.ended) (at-whole rs i) ∙ opened-alive i op c is)
-
-  -- an unfinished child of a task with an open group that names the cell may not write it
-  child-writes-none : (i k : ℕ) (op : Operation) (c : Cell) → opened (at rs i).groups op c ≡ true → parent_of ws k ≡ i → 0 < k → ended_at ws k ≡ false → may_at ws k (use_as Writes c) → ⊥
-  child-writes-none i k op c one above pos alive may = by (cases_lt k (length ws))
-    where
-      by : (k < length ws) ⊎ (length ws ≤ k) → ⊥
-      by (inr past) = true≢false (sym (ap (λ (x : Region). x.ended) (at-past ws k past)) ∙ alive)
-      by (inl below) =
-          let kin = s.kin k pos below in
-          let there : slice_get (at rs i).children (at ws k).child ≡ Some kin.entry = sym (ap (λ (x : Region). slice_get x.children (at ws k).child) (ap (at ws) above ∙ at-whole rs i)) ∙ kin.there in
-          true≢false ((group-holds i op c one).alone (at ws k).child kin.entry there (kin.finished ∙ alive) Writes (ap (λ (o : Declared). allows o (use_as Writes c)) (sym kin.uses) ∙ may))
-
-  -- of two tasks with open groups that name one cell none comes before the other
-  groups-before : (i j : ℕ) (op by : Operation) (c : Cell) → opened (at rs i).groups op c ≡ true → opened (at rs j).groups by c ≡ true → IsBefore (parent_of ws) j i → ⊥
-  groups-before i j op by c one two (inl (pos, up)) =
-      let (k, above, down, below) = branch (parent_of ws) i (parent_of ws j) up j refl pos in
-      child-writes-none i k op c one above below (above-alive k j by c below down two) (above-writes k j by c down two)
-  groups-before i j op by c one two (inr (a, b, w)) =
-      true≢false ((sound ws s).ready a b w.siblings w.child w.older (begun_anc (parent_of ws) (may_at ws) (todo_at ws) (ended_at ws) (IsBegun ws) (sound ws s) a i w.of_i (opened-begun i op c one))
-      (above-alive a i op c (omega (arith, w.child, w.older)) w.of_i one) (above-alive b j by c w.child w.of_j two)
-      (use_as Writes c) (use_as Writes c) (above-writes a i op c w.of_i one) (above-writes b j by c w.of_j two) refl)
-
-  -- no cell is named by open groups of two tasks
-  pub groups-apart : (i j : ℕ) (op by : Operation) (c : Cell) → opened (at rs i).groups op c ≡ true → opened (at rs j).groups by c ≡ true → i ≡ j
-  groups-apart i j op by c one two = pick (cases_eq i j)
-    where
-      pick : (i ≡ j) ⊎ (i ≡ j → ⊥) → i ≡ j
-      pick (inl same) = same
-      pick (inr other) = none (total ws s i j (known i (opened-alive i op c one)) (known j (opened-alive j by c two)) other)
-        where
-          none : IsBefore (parent_of ws) j i ⊎ IsBefore (parent_of ws) i j → i ≡ j
-          none (inl before) = absurd (groups-before i j op by c one two before)
-          none (inr behind) = absurd (groups-before j i by op c two one behind)
-
   -- those of the innermost are its to write, where none of the children created in it is unfinished
   module _ (i : ℕ) (o : Open) (os : List Open) (innermost : (at rs i).groups ≡ o ∷ os)
       (none_in : (k : ℕ) (x : Sibling) → slice_get (at rs i).children k ≡ Some x → x.finished ≡ false → is_in o.group x ≡ false)

@@ -1,5 +1,5 @@
 -- Copies are kept of the cells of the open groups and of no others, as tasks go on and as pieces come back.
-use Rattle.std.proofs.Common.{◌≡◌, ◌<◌, ◌+◌, ◌↔◌, ◌⊎◌, ℕ, zero, suc, Bool, true, false, ◌&&◌, true≢false, cond, List, [], ◌∷◌, ◌++◌, map, length, get_or, refl, sym, ap, subst, ◌∙◌, inl, inr, arith, Contains, IsPermutation}
+use Rattle.std.proofs.Common.{◌≡◌, ◌≢◌, ◌<◌, ◌+◌, ◌↔◌, ◌⊎◌, ℕ, zero, suc, Bool, true, false, ◌&&◌, true≢false, cond, List, [], ◌∷◌, ◌++◌, map, length, get_or, refl, sym, ap, subst, ◌∙◌, inl, inr, arith, Contains, IsPermutation}
 use Rattle.std.specs.Prelude.{Option, Some, None, IsSome, is_some, option_map, unwrap_or, replicate, nat_lt, if◌then◌else◌, ◌==◌}
 use Rattle.std.specs.List.{All, Any, position_from}
 use Rattle.std.proofs.lemmas.Bool.{cases_eq, eqb-true, eq-eqb}
@@ -24,7 +24,7 @@ use Rattle.ot_check.proofs.Bits.{true_or, or_right, and_true}
 use Rattle.ot_owner.specs.Back.{taken_back, all_back}
 use Rattle.ot_owner.specs.Leases.{copy_of, lent_from}
 use Rattle.ot_owner.specs.Owning.{Loan, Owned, IsFreeFor}
-use Rattle.ot_owner.specs.Rows.{Summed, is_of, place_in, names, IsNamed, IsSummed, IsSummedBy, IsOnlyBy, IsByOne, folds_in, folded_in, folded, begun_in, begun_for, without as without_group}
+use Rattle.ot_owner.specs.Rows.{Summed, is_of, place_in, names, IsNamed, IsSummed, IsSummedBy, folds_in, folded_in, folded, begun_in, begun_for, without as without_group}
 use Rattle.ot_owner.specs.Worth.{worth_over, worth, worths, IsCombined}
 use Rattle.ot_owner.specs.declared.lent.LentCell.{LentCell}
 use Rattle.ot_owner.proofs.OpenLemmas.{same_worth, worth-unsummed as over-unsummed}
@@ -111,7 +111,7 @@ of-place uses c there = by (place_in uses c) refl there
         let u = get_or uses p nothing in
         (p, u, found.0, get_or_default uses p u nothing found.0, (cell-decides u.cell c).0 found.1)
 
-has-cell : (cells : List Cell) (c : Cell) → Contains cells c → has_cell cells c ≡ true
+pub has-cell : (cells : List Cell) (c : Cell) → Contains cells c → has_cell cells c ≡ true
 has-cell cells c (k, within, is) = list_any-from_Any (λ (d : Cell). same_cell d c) cells (k, c, within, is, (cell-decides c c).1 refl)
 
 of-cells : (cells : List Cell) (c : Cell) → has_cell cells c ≡ true → Contains cells c
@@ -140,6 +140,12 @@ mode-there (v ∷ uses) u there = by (same_cell u.cell v.cell) refl (λ rest. mo
     by : (b : Bool) → same_cell u.cell v.cell ≡ b → (Contains uses u → (m : Mode) × (mode_in uses u.cell ≡ Some m)) → (m : Mode) × (mode_in (v ∷ uses) u.cell ≡ Some m)
     by true e rest = (v.mode, ap (λ b. if b then Some v.mode else mode_in uses u.cell) e)
     by false e rest = let (m, is) = rest (behind e (one_of v u uses there)) in (m, ap (λ b. if b then Some v.mode else mode_in uses u.cell) e ∙ is)
+
+-- uses that name none of the cells don't conflict with uses of these
+pub meets-none : (uses others : List Use) → ((c : Cell) (m : Mode) → mode_in uses c ≡ Some m → IsNamed others c → ⊥) → ¬ Conflict uses others
+meets-none uses others apart (k, u, within, is, (l, v, inside, at, both)) =
+    let (m, mode) = mode-there uses u (k, within, is) in
+    apart u.cell m mode (l, v, inside, at, sym both.0)
 
 -- ---- the numbers of open groups
 
@@ -196,22 +202,19 @@ pub not_summed : (rs : List Region) (gs : List Summed) (c : Cell) → AreOpen rs
 not_summed rs gs c are none (k, g, within, is, named) =
     let (i, opens) = kept-opened rs gs g c are (k, within, is) named in true≢false (sym opens ∙ none i g.op)
 
--- by one operation alone, where all open groups that name the cell are by it
-pub only-by : (rs : List Region) (gs : List Summed) (op : Operation) (c : Cell) → AreOpen rs gs
-    → ((i : ℕ) (by : Operation) → opened (at rs i).groups by c ≡ true → by ≡ op) → IsOnlyBy gs op c
-only-by rs gs op c are one = all-of (λ g. names c g ≡ true → g.op ≡ op) gs each
-  where
-    each : (g : Summed) → Contains gs g → names c g ≡ true → g.op ≡ op
-    each g there named = let (i, opens) = kept-opened rs gs g c are there named in one i g.op opens
+-- all open groups have numbers below this one
+abbrev pub AreBelow : List Region → ℕ → Type 0
+AreBelow rs number = (k : ℕ) → All (λ o. o.group < number) (at rs k).groups
 
--- the cells of a group are of groups by one operation, where no two open groups that name a cell are by two
-pub by-one : (rs : List Region) (gs : List Summed) (group : ℕ) → AreOpen rs gs
-    → ((i j : ℕ) (op by : Operation) (c : Cell) → opened (at rs i).groups op c ≡ true → opened (at rs j).groups by c ≡ true → op ≡ by) → IsByOne group gs
-by-one rs gs group are alike = all-of (λ g. g.group ≡ group → (c : Cell) → names c g ≡ true → IsOnlyBy gs g.op c) gs each
+-- it is the number of none of which copies are kept
+pub kept-new : (rs : List Region) (gs : List Summed) (number : ℕ) → AreBelow rs number → AreOpen rs gs → All (λ g. g.group ≢ number) gs
+kept-new rs gs number below are = all-of (λ g. g.group ≢ number) gs each
   where
-    each : (g : Summed) → Contains gs g → g.group ≡ group → (c : Cell) → names c g ≡ true → IsOnlyBy gs g.op c
-    each g there same c named =
-        let (i, opens) = kept-opened rs gs g c are there named in only-by rs gs g.op c are (λ j by other. alike j i by g.op c other opens)
+    each : (g : Summed) → Contains gs g → g.group ≢ number
+    each g there same =
+        let (k, o, among, is) = open-kept rs gs g are there in
+        let less : o.group < number = All-contains (λ (p : Open). p.group < number) (at rs k).groups o (below k) among in
+        omega (arith, less, is, same)
 
 -- ---- where the open groups are the same
 
@@ -399,10 +402,6 @@ open-back rs gs worker lent are = open-alike rs gs (all_back worker lent gs) (he
 
 -- ---- a group is entered
 
--- all open groups have numbers below this one
-abbrev pub AreBelow : List Region → ℕ → Type 0
-AreBelow rs number = (k : ℕ) → All (λ o. o.group < number) (at rs k).groups
-
 -- a group as it is opened, with no row
 abbrev pub summed_new : ℕ → Operation → List Use → Summed
 summed_new number op uses = record { group = number; op = op; uses = uses; rows = replicate 17 None }
@@ -567,12 +566,8 @@ module _ (rs : List Region) (gs : List Summed) (i : ℕ) (o : Open) (among : Con
 
   -- where uses name none of its cells
   pub unused : (uses : List Use) → ((c : Cell) (m : Mode) → mode_in uses c ≡ Some m → has_cell o.cells c ≡ true → ⊥) → All (λ g. g.group ≡ o.group → ¬ Conflict uses g.uses) gs
-  unused uses apart = all-of (λ g. g.group ≡ o.group → ¬ Conflict uses g.uses) gs (λ g there same meet. never g there same meet)
-    where
-      never : (g : Summed) → Contains gs g → g.group ≡ o.group → Conflict uses g.uses → ⊥
-      never g there same (k, u, within, is, (l, v, inside, at, (one, both))) =
-          let (m, mode) = mode-there uses u (k, within, is) in
-          apart u.cell m mode (sym (are.cells i o g among there same u.cell) ∙ place-of g.uses u.cell (l, v, inside, at, sym one))
+  unused uses apart = all-of (λ g. g.group ≡ o.group → ¬ Conflict uses g.uses) gs (λ g there same.
+      meets-none uses g.uses (λ c m held named. apart c m held (sym (are.cells i o g among there same c) ∙ place-of g.uses c named)))
 
   -- where no loan is out of one
   pub free-out : (out : List Loan) → All (λ loan. (c : Cell) (m : Mode) → mode_in loan.lease.uses c ≡ Some m → has_cell o.cells c ≡ true → ⊥) out → All (λ g. g.group ≡ o.group → IsFreeFor out g.uses) gs

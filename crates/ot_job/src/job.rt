@@ -46,6 +46,7 @@ impl Job {
     ghost use Rattle.std.specs.Prelude.{◌≡◌, ◌<◌, ◌≤◌, ◌+◌, ◌*◌, ◌↔◌, Some, IsSome, IsTrue, length, OnErr, IfOk, IfErr};
     ghost use Rattle.ot_model.specs.Cells.{cell_of, lengths};
     ghost use Rattle.ot_model.specs.Counts.{size};
+    ghost use Rattle.ot_owner.specs.Rows.{NoTwoShare};
     ghost use Rattle.ot_owner.specs.Worth.{worth};
     ghost use Rattle.ot_job.specs.Settling.{Settles, Refuses};
     ghost use Rattle.ot_job.specs.Claiming.{picked};
@@ -246,11 +247,12 @@ impl Job {
         self.cells.at(cell)
     }
 
-    /// What a cell that is there is worth: its stored number combined with all copies of it. It goes over
-    /// the open groups, and takes no memory.
+    /// What a cell that is there is worth: its stored number combined with all copies of it, which are those of
+    /// one open group. It goes over the open groups, and takes no memory.
     pub fn worth(&self, cell: Cell) -> u64
         requires { IsSome (cell_of self.now.cells cell) }
-        ensures { worth self.now.owned self.now.cells cell ≡ Some result }
+        ensures is { worth self.now.owned self.now.cells cell ≡ Some result }
+        ensures single { NoTwoShare self.now.owned.groups }
     {
         self.owners.worth(&self.cells, cell)
     }

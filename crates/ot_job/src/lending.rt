@@ -4,14 +4,14 @@ ghost use Rattle.ot_model.specs.Cells.{cell_of, lengths};
 ghost use Rattle.ot_model.specs.declared.expr.Cell.{Cell};
 ghost use Rattle.ot_model.specs.declared.fold.Fold.{Fold as Operation};
 ghost use Rattle.ot_model.specs.declared.stmt.Mode.TheVariants.{Writes, Folds};
-ghost use Rattle.ot_owner.specs.Back.{AreStored, IsByOwn, all_back};
+ghost use Rattle.ot_owner.specs.Back.{AreStored, all_back};
 ghost use Rattle.ot_owner.specs.Keeping.{IsLast, IsOpenable};
 ghost use Rattle.ot_owner.specs.Leases.{lent_from};
 ghost use Rattle.ot_owner.specs.Owning.{loan_of, IsFreeFor};
-ghost use Rattle.ot_owner.specs.Rows.{begun_for, IsByOne, IsSummed, IsSummedBy};
+ghost use Rattle.ot_owner.specs.Rows.{begun_for, IsSummed, IsSummedBy};
 ghost use Rattle.ot_owner.specs.Worth.{worth, AreJoined, AreWorthSame};
 ghost use Rattle.ot_job.specs.Opened.{opened_under, IsRoomFor};
-ghost use Rattle.ot_job.specs.Opening.{left_open, passed_over};
+ghost use Rattle.ot_job.specs.Opening.{left_open, passed_over, MayOpen};
 ghost use Rattle.ot_job.specs.Taken.{IsRun};
 
 use crate::piece::Done;
@@ -24,7 +24,6 @@ use std::alloc::{AllocError, Global};
 pub(crate) fn lend(owners: &mut Owners, cells: &mut Cells, passed: Option<u32>, slip: Slip) -> Lent
     requires last { IsLast owners.old slip }
     requires is_open { IfSome passed (λ group. Any (λ g. g.group ≡ group) owners.old.owned.groups) }
-    requires alone { IfSome passed (λ group. IsByOne group owners.old.owned.groups) }
     requires unused { IfSome passed (λ group. All (λ g. g.group ≡ group → IsFreeFor owners.old.owned.out g.uses) owners.old.owned.groups) }
     requires known { IfSome passed (λ group. All (λ g. g.group ≡ group → All (λ u. IsSome (cell_of cells.old u.cell)) g.uses) owners.old.owned.groups) }
     requires free { IsFreeFor owners.old.owned.out slip.uses }
@@ -71,9 +70,9 @@ pub(crate) fn take_back(
     group: u32,
 )
     requires openable { IfSome room (λ _. IsOpenable owners.old) }
+    requires opens { IfSome room (λ r. MayOpen owners.old.owned (loan_of worker done.lent) group r.1) }
     requires out { Contains owners.old.owned.out (loan_of worker done.lent) }
     requires there { All (λ l. IsSome (cell_of cells.old l.cell)) done.lent }
-    requires alone { IsByOwn done.lent owners.old.owned.groups }
     requires unsummed { All (λ l. l.mode ≡ Writes → ¬ IsSummed owners.old.owned.groups l.cell) done.lent }
     ensures stored { AreStored done.lent (cell_of cells.old) (cell_of cells.new) }
     ensures lengths { lengths cells.new ≡ lengths cells.old }

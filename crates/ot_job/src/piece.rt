@@ -141,7 +141,7 @@ impl Done {
     ghost use Rattle.std.specs.Prelude.{◌≡◌, ◌∷◌, ◌↔◌, IsTrue, All, Contains, IsSome, IsPermutation};
     ghost use Rattle.ot_model.specs.Cells.{cell_of, lengths};
     ghost use Rattle.ot_model.specs.declared.stmt.Mode.TheVariants.{Writes};
-    ghost use Rattle.ot_owner.specs.Back.{AreStored, IsByOwn, all_back};
+    ghost use Rattle.ot_owner.specs.Back.{AreStored, all_back};
     ghost use Rattle.ot_owner.specs.Keeping.{IsOpenable};
     ghost use Rattle.ot_owner.specs.Owning.{loan_of};
     ghost use Rattle.ot_owner.specs.Rows.{IsSummed};
@@ -187,7 +187,7 @@ impl Done {
         requires there { All (λ l. IsSome (cell_of cells.old l.cell)) self.lent }
         ensures stored { AreStored self.lent (cell_of cells.old) (cell_of cells.new) }
         ensures groups { owners.new.owned.groups ≡ all_back worker self.lent owners.old.owned.groups }
-        ensures worth { All (λ l. l.mode ≡ Writes → ¬ IsSummed owners.old.owned.groups l.cell) self.lent → IsByOwn self.lent owners.old.owned.groups → AreJoined self.lent (worth owners.old.owned cells.old) (worth owners.new.owned cells.new) }
+        ensures worth { All (λ l. l.mode ≡ Writes → ¬ IsSummed owners.old.owned.groups l.cell) self.lent → AreJoined self.lent (worth owners.old.owned cells.old) (worth owners.new.owned cells.new) }
         ensures lengths { lengths cells.new ≡ lengths cells.old }
         ensures ended { IsPermutation owners.old.owned.out (loan_of worker self.lent ∷ owners.new.owned.out) }
         ensures rooms { IsOpenable owners.old → IsOpenable owners.new }

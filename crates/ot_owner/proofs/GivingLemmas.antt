@@ -14,7 +14,7 @@ use Rattle.ot_model.specs.declared.stmt.Mode.{Mode}
 use Rattle.ot_model.specs.declared.stmt.Mode.TheVariants.{Reads, Writes, Folds}
 use Rattle.ot_model.proofs.OrderLemmas.{precedes_apart}
 use Rattle.ot_owner.specs.declared.lent.LentCell.{LentCell}
-use Rattle.ot_owner.specs.Back.{kept, AreStored, IsByOwn, taken_back, all_back}
+use Rattle.ot_owner.specs.Back.{kept, AreStored, taken_back, all_back}
 use Rattle.ot_owner.specs.Lending.{uses_of}
 use Rattle.ot_owner.specs.Rows.{Summed, IsSummed, IsOnlyBy, copy_among, folded}
 use Rattle.ot_owner.specs.Worth.{worth_over, AreJoined}
@@ -100,7 +100,7 @@ by_idle m v o old new before after is folds same = by before (is ∙ ap (λ k. o
 -- where no written cell has copies, and each cell is folded into by one operation, what cells are worth is joined as stored
 -- numbers were when each copy was combined at once
 module _ (w : ℕ) (lent : List LentCell) (gs : List Summed) (order : AreInOrder (uses_of lent)) (rows : All (λ l. is_fold l.mode ≡ true → IsSome (copy_among gs w l.cell)) lent)
-    (none : All (λ l. l.mode ≡ Writes → ¬ IsSummed gs l.cell) lent) (own : IsByOwn lent gs) where
+    (none : All (λ l. l.mode ≡ Writes → ¬ IsSummed gs l.cell) lent) (own : All (λ l. (op : Operation) → l.mode ≡ Folds op → IsOnlyBy gs op l.cell) lent) where
   -- a lent cell's value changes what it is worth so
   changed : (f : ℕ → ℕ) (o : Operation) (k : ℕ) (d : LentCell) → k < length lent → (get_or lent k d).mode ≡ Folds o
       → ((n : ℕ) (hs : List Summed) → IsOnlyBy hs o (get_or lent k d).cell → copy_among hs w (get_or lent k d).cell ≡ Some n

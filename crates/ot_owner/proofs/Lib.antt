@@ -10,6 +10,7 @@ pub mod WorthLemmas
 pub mod CombineLemmas
 pub mod RowLemmas
 pub mod GroupLemmas
+pub mod ShareLemmas
 pub mod GivingLemmas
 pub mod OpenLemmas
 pub mod NameLemmas

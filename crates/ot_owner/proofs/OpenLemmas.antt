@@ -1,5 +1,5 @@
 -- Open groups as rows begin, as a group is opened and as one is closed.
-use Rattle.std.proofs.Common.{◌≡◌, ℕ, zero, suc, ◌<◌, ◌^◌, List, [], ◌∷◌, ◌++◌, length, get_or, refl, sym, ap, ◌∙◌, subst, arith, true≢false, Bool, true, false, cond, take, ◌+◌, Contains, IsPermutation}
+use Rattle.std.proofs.Common.{◌≡◌, ◌≢◌, ℕ, zero, suc, ◌<◌, ◌^◌, List, [], ◌∷◌, ◌++◌, length, get_or, refl, sym, ap, ◌∙◌, subst, arith, true≢false, Bool, true, false, cond, take, ◌+◌, Contains, IsPermutation}
 use Rattle.std.specs.Prelude.{Option, Some, None, is_some, IsSome, IfSome, slice_get, option_map, option_and_then, replicate, if◌then◌else◌, ◌==◌}
 use Rattle.std.specs.List.{All, Any, remove, position, position_from}
 use Rattle.std.proofs.lemmas.Iterator.Adapters.{position_from-zero}
@@ -22,17 +22,18 @@ use Rattle.ot_model.specs.declared.stmt.Use.{Use}
 use Rattle.ot_model.proofs.EqualLemmas.{cell-decides}
 use Rattle.ot_owner.specs.declared.lent.LentCell.{LentCell}
 use Rattle.ot_owner.specs.Back.{taken_back, all_back}
-use Rattle.ot_owner.specs.Keeping.{IsRegular, HasCopies, IsSound}
+use Rattle.ot_owner.specs.Keeping.{IsRegular, HasCopies, IsByOwn, IsSound}
 use Rattle.ot_owner.specs.Lending.{use_of, uses_of}
 use Rattle.ot_owner.specs.Kept.{summed_of, summeds_of}
 use Rattle.ot_owner.specs.Owning.{Loan, IsFreeFor}
-use Rattle.ot_owner.specs.Rows.{Summed, is_of, place_in, names, IsSummed, IsSummedBy, IsOnlyBy, IsByOne, folds_in, copy_in, row_in, copies_at, copies_where, copies_in, copy_among, folded_in, folded, begun_row, begun_in, begun_for, without}
+use Rattle.ot_owner.specs.Rows.{Summed, is_of, place_in, names, IsNamed, IsSummed, IsSummedBy, IsOnlyBy, NoTwoShare, folds_in, copy_in, row_in, copies_at, copies_where, copies_in, copy_among, folded_in, folded, begun_row, begun_in, begun_for, without}
 use Rattle.ot_owner.specs.Worth.{combined, worth_over, closed_over, AreJoined}
 use Rattle.ot_owner.specs.declared.rows.Group.{Group}
 use Rattle.ot_owner.proofs.ApartLemmas.{no_two-begun, no_two-ended}
 use Rattle.ot_owner.proofs.CombineLemmas.{unit-small, join-small, combined-small, combined-swap}
 use Rattle.ot_owner.proofs.RowLemmas.{IsSmall, copies-small, combined-begun, all-updated, length-updated}
 use Rattle.ot_owner.proofs.GroupLemmas.{unnamed, still-some, only-still}
+use Rattle.ot_owner.proofs.ShareLemmas.{bares, bares-begun, bares-back, only-alike, share-alike, share-opened, share-closed, closed-all, only-group, only-summed}
 
 abbrev Rows : Type 0
 Rows = List (Option (List ℕ))
@@ -259,7 +260,11 @@ closed-swap n (g ∷ gs) c o s xs one = by (closed-swap n gs c o s xs (λ k d wi
     by rest true is = here (eqb-true g.group n is) (names c g) refl
     by rest false not = rest
 
-pub closed-worth : (n : ℕ) (gs : List Summed) (c : Cell) (s : ℕ) → IsByOne n gs → worth_over (without n gs) c (closed_over n gs c s) ≡ worth_over gs c s
+-- no cell of a group of this number is named by an open group of another operation
+abbrev IsByOne : ℕ → List Summed → Type 0
+IsByOne n gs = All (λ g. g.group ≡ n → (c : Cell) → names c g ≡ true → IsOnlyBy gs g.op c) gs
+
+closed-worth : (n : ℕ) (gs : List Summed) (c : Cell) (s : ℕ) → IsByOne n gs → worth_over (without n gs) c (closed_over n gs c s) ≡ worth_over gs c s
 closed-worth n [] c s one = refl
 closed-worth n (g ∷ gs) c s one =
     by (λ t. closed-worth n gs c t (λ k d within is e named j h inside. one (suc k) d (omega (arith, within)) is e named (suc j) h (omega (arith, inside)))) (g.group == n)
@@ -272,18 +277,11 @@ closed-worth n (g ∷ gs) c s one =
     by rest true = refl
     by rest false = ap (worth_over (without n gs) c) (sym (swapped (names c g) refl)) ∙ rest (combined g.op s (copies_in c g))
 
-pub worth-closed : (n : ℕ) (gs : List Summed) (c : Cell) (before after : Option ℕ) → IsByOne n gs → after ≡ option_map (closed_over n gs c) before →
+pub worth-closed : (n : ℕ) (gs : List Summed) (c : Cell) (before after : Option ℕ) → NoTwoShare gs → after ≡ option_map (closed_over n gs c) before →
     option_map (worth_over (without n gs) c) after ≡ option_map (worth_over gs c) before
-worth-closed n gs c None after one is = ap (option_map (worth_over (without n gs) c)) is
-worth-closed n gs c (Some s) after one is = ap (option_map (worth_over (without n gs) c)) is ∙ ap Some (closed-worth n gs c s one)
-
-pub closed-regular : (n : ℕ) (gs : List Summed) → All IsRegular gs → All IsRegular (without n gs)
-closed-regular n [] all = all
-closed-regular n (g ∷ gs) all = by (λ k d within. all (suc k) d (omega (arith, within))) (closed-regular n gs (λ k d within. all (suc k) d (omega (arith, within)))) (g.group == n)
-  where
-    by : All IsRegular gs → All IsRegular (without n gs) → (b : Bool) → All IsRegular (if b then gs else g ∷ without n gs)
-    by rest left true = rest
-    by rest left false = All-cons IsRegular g (without n gs) (all 0 g (omega arith)) left
+worth-closed n gs c None after apart is = ap (option_map (worth_over (without n gs) c)) is
+worth-closed n gs c (Some s) after apart is =
+    ap (option_map (worth_over (without n gs) c)) is ∙ ap Some (closed-worth n gs c s (λ k d within number e named. only-group gs e k d apart within named))
 
 pub is_number : (m n : ℕ) → (m == n) ≡ true → m ≡ n
 is_number m n same = eqb-true m n same
@@ -455,6 +453,13 @@ pub copies-lent : (gs : List Summed) (w : ℕ) (lent : List LentCell) → HasCop
 copies-lent gs w lent all k d within =
     subst (λ (u : Use). is_fold u.mode ≡ true → IsSome (copy_among gs w u.cell)) (get_or-map use_of lent k d) (all k (use_of d) (omega (arith, within, length-map lent use_of)))
 
+pub own-lent : (gs : List Summed) (lent : List LentCell) → IsByOwn gs (uses_of lent) → All (λ l. (op : Operation) → l.mode ≡ Folds op → IsOnlyBy gs op l.cell) lent
+own-lent gs lent all k d within =
+    subst (λ (u : Use). (op : Operation) → u.mode ≡ Folds op → IsOnlyBy gs op u.cell) (get_or-map use_of lent k d) (all k (use_of d) (omega (arith, within, length-map lent use_of)))
+
+abbrev pub Own : List Summed → Loan → Type 0
+Own gs loan = IsByOwn gs loan.lease.uses
+
 abbrev pub Copies : List Summed → Loan → Type 0
 Copies gs loan = HasCopies gs loan.worker loan.lease.uses
 
@@ -462,28 +467,34 @@ pub ended-sound : (loan : Loan) (out left : List Loan) (gs : List Summed) → Is
 ended-sound loan out left gs ended sound = record {
   apart = no_two-ended loan out left ended sound.apart;
   regular = sound.regular;
+  single = sound.single;
   copies = λ k d within. All-permutation (Copies gs) out (loan ∷ left) ended sound.copies (suc k) d (omega (arith, within));
+  own = λ k d within. All-permutation (Own gs) out (loan ∷ left) ended sound.own (suc k) d (omega (arith, within));
 }
 
-pub begun-sound : (loan : Loan) (out more : List Loan) (gs : List Summed) → IsPermutation (loan ∷ out) more → IsFreeFor out loan.lease.uses → HasCopies gs loan.worker loan.lease.uses →
+pub begun-sound : (loan : Loan) (out more : List Loan) (gs : List Summed) → IsPermutation (loan ∷ out) more → IsFreeFor out loan.lease.uses → HasCopies gs loan.worker loan.lease.uses → IsByOwn gs loan.lease.uses →
     IsSound (record { out = out; groups = gs }) → IsSound (record { out = more; groups = gs })
-begun-sound loan out more gs begun free mine sound = record {
+begun-sound loan out more gs begun free mine own sound = record {
   apart = no_two-begun loan out more begun sound.apart free;
   regular = sound.regular;
+  single = sound.single;
   copies = All-permutation (Copies gs) (loan ∷ out) more begun (All-cons (Copies gs) loan out mine sound.copies);
+  own = All-permutation (Own gs) (loan ∷ out) more begun (All-cons (Own gs) loan out own sound.own);
 }
 
--- other groups in which all copies are still there
-groups-sound : (out : List Loan) (gs hs : List Summed) → All IsRegular hs → ((x : ℕ) (c : Cell) → IsSome (copy_among gs x c) → IsSome (copy_among hs x c)) →
+-- groups that are the same but for their rows, in which all copies are still there
+groups-sound : (out : List Loan) (gs hs : List Summed) → All IsRegular hs → bares gs ≡ bares hs → ((x : ℕ) (c : Cell) → IsSome (copy_among gs x c) → IsSome (copy_among hs x c)) →
     IsSound (record { out = out; groups = gs }) → IsSound (record { out = out; groups = hs })
-groups-sound out gs hs regular still sound = record {
+groups-sound out gs hs regular same still sound = record {
   apart = sound.apart;
   regular = regular;
+  single = share-alike gs hs same sound.single;
   copies = λ k d within i u inside folds. still (get_or out k d).worker (get_or (get_or out k d).lease.uses i u).cell (sound.copies k d within i u inside folds);
+  own = λ k d within i u inside op folds. only-alike gs hs op (get_or (get_or out k d).lease.uses i u).cell same (sound.own k d within i u inside op folds);
 }
 
 pub rows-sound : (out : List Loan) (gs : List Summed) (w : ℕ) (uses : List Use) → IsSound (record { out = out; groups = gs }) → IsSound (record { out = out; groups = begun_for w uses gs })
-rows-sound out gs w uses sound = groups-sound out gs (begun_for w uses gs) (begun-regular w uses gs sound.regular) (begun-still w uses gs) sound
+rows-sound out gs w uses sound = groups-sound out gs (begun_for w uses gs) (begun-regular w uses gs sound.regular) (bares-begun w uses gs) (begun-still w uses gs) sound
 
 -- a cell that is folded into is named by an open group
 summed-fold : (gs : List Summed) (u : Use) → ((o : Operation) → u.mode ≡ Folds o → IsSummedBy gs o u.cell) → is_fold u.mode ≡ true → IsSummed gs u.cell
@@ -503,24 +514,40 @@ leased-sound loan out more gs known begun free summed sound =
     begun-sound loan out more (begun_for loan.worker loan.lease.uses gs) begun free
     (λ i u inside folds. let used = get_or loan.lease.uses i u in
     begun-there loan.worker loan.lease.uses used gs known (i, inside, sym (get_or_default loan.lease.uses i u used inside)) folds sound.regular (summed-fold gs used (summed i u inside) folds))
+    (λ i u inside op folds.
+    only-alike gs (begun_for loan.worker loan.lease.uses gs) op (get_or loan.lease.uses i u).cell (bares-begun loan.worker loan.lease.uses gs)
+    (only-summed gs op (get_or loan.lease.uses i u).cell sound.single (summed i u inside op folds)))
     (rows-sound out gs loan.worker loan.lease.uses sound)
 
-pub opened-sound : (out : List Loan) (gs : List Summed) (g : Summed) → IsRegular g → IsSound (record { out = out; groups = gs }) → IsSound (record { out = out; groups = gs ++ g ∷ [] })
-opened-sound out gs g regular sound = groups-sound out gs (gs ++ g ∷ []) (All-push IsRegular gs g sound.regular regular) (opened-still gs g) sound
+pub opened-sound : (out : List Loan) (gs : List Summed) (g : Summed) → IsRegular g → All (λ h. h.group ≢ g.group) gs → ((c : Cell) → IsNamed g.uses c → ¬ IsSummed gs c) → IsFreeFor out g.uses →
+    IsSound (record { out = out; groups = gs }) → IsSound (record { out = out; groups = gs ++ g ∷ [] })
+opened-sound out gs g regular new unnamed free sound = record {
+  apart = sound.apart;
+  regular = All-push IsRegular gs g sound.regular regular;
+  single = share-opened gs g new unnamed sound.single;
+  copies = λ k d within i u inside folds. opened-still gs g (get_or out k d).worker (get_or (get_or out k d).lease.uses i u).cell (sound.copies k d within i u inside folds);
+  own = λ k d within i u inside op folds.
+      let uses = (get_or out k d).lease.uses in
+      let used = get_or uses i u in
+      let not : names used.cell g ≡ false = unused uses g used regular (free k d within) (i, inside, sym (get_or_default uses i u used inside)) (ap is_fold folds) in
+      All-push (λ h. names used.cell h ≡ true → h.op ≡ op) gs g (sound.own k d within i u inside op folds) (λ named. absurd (true≢false (sym named ∙ not)));
+}
 
 pub back-sound : (out : List Loan) (gs : List Summed) (w : ℕ) (lent : List LentCell) → All (λ l. l.value < 2 ^ 64) lent → IsSound (record { out = out; groups = gs }) → IsSound (record { out = out; groups = all_back w lent gs })
-back-sound out gs w lent below sound = groups-sound out gs (all_back w lent gs) (back-regular w lent gs below sound.regular) (back-still w lent gs) sound
+back-sound out gs w lent below sound = groups-sound out gs (all_back w lent gs) (back-regular w lent gs below sound.regular) (bares-back w lent gs) (back-still w lent gs) sound
 
 pub closed-sound : (out : List Loan) (gs : List Summed) (n : ℕ) → All (λ g. g.group ≡ n → IsFreeFor out g.uses) gs → IsSound (record { out = out; groups = gs }) → IsSound (record { out = out; groups = without n gs })
 closed-sound out gs n free sound = record {
   apart = sound.apart;
-  regular = closed-regular n gs sound.regular;
+  regular = closed-all IsRegular n gs sound.regular;
+  single = share-closed n gs sound.single;
   copies = λ k d within i u inside folds.
       let loan = get_or out k d in
       let used = get_or loan.lease.uses i u in
       closed-still n gs loan.worker used.cell
       (λ j g known same. unused loan.lease.uses (get_or gs j g) used (sound.regular j g known) (free j g known same k d within) (i, inside, sym (get_or_default loan.lease.uses i u used inside)) folds)
       (sound.copies k d within i u inside folds);
+  own = λ k d within i u inside op folds. closed-all (λ g. names (get_or (get_or out k d).lease.uses i u).cell g ≡ true → g.op ≡ op) n gs (sound.own k d within i u inside op folds);
 }
 
 -- ---- joined one way or the other

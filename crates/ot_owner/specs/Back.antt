@@ -2,12 +2,11 @@
 use Rattle.std.specs.Prelude.{◌≡◌, ℕ, List, [], ◌∷◌, Option, option_map, All, if◌then◌else◌}
 use Rattle.ot_model.specs.Uses.{is_fold}
 use Rattle.ot_model.specs.declared.expr.Cell.{Cell}
-use Rattle.ot_model.specs.declared.fold.Fold.{Fold as Operation}
 use Rattle.ot_model.specs.declared.stmt.Mode.{Mode}
 use Rattle.ot_model.specs.declared.stmt.Mode.TheVariants.{Reads, Writes, Folds}
 use Rattle.ot_owner.specs.declared.lent.LentCell.{LentCell}
 use Rattle.ot_owner.specs.Lending.{IsLent}
-use Rattle.ot_owner.specs.Rows.{Summed, IsOnlyBy, folded}
+use Rattle.ot_owner.specs.Rows.{Summed, folded}
 
 -- the stored number once a lent cell has come back: under Writes it is replaced
 abbrev pub kept : Mode → ℕ → ℕ → ℕ
@@ -28,7 +27,3 @@ taken_back worker l gs = if is_fold l.mode then folded worker l.cell l.value gs 
 abbrev pub all_back : ℕ → List LentCell → List Summed → List Summed
 all_back worker [] gs = gs
 all_back worker (l ∷ lent) gs = all_back worker lent (taken_back worker l gs)
-
--- each lent cell is named only by groups of the operation by which it is lent
-abbrev pub IsByOwn : List LentCell → List Summed → Type 0
-IsByOwn lent gs = All (λ l. (op : Operation) → l.mode ≡ Folds op → IsOnlyBy gs op l.cell) lent

@@ -1,10 +1,11 @@
 -- What owners keep: what is out, the open groups, and what is reserved for the calls that take no memory.
 use Rattle.std.specs.Prelude.{◌≡◌, ◌≤◌, ◌<◌, ◌^◌, ℕ, true, List, All, length, Some, IsSome, IfSome, slice_get}
 use Rattle.ot_model.specs.Uses.{is_fold}
-use Rattle.ot_model.specs.declared.stmt.Mode.TheVariants.{Writes}
+use Rattle.ot_model.specs.declared.fold.Fold.{Fold as Operation}
+use Rattle.ot_model.specs.declared.stmt.Mode.TheVariants.{Writes, Folds}
 use Rattle.ot_model.specs.declared.stmt.Use.{Use}
 use Rattle.ot_owner.specs.Owning.{Owned, NoTwoConflict}
-use Rattle.ot_owner.specs.Rows.{Summed, copy_among, folds_in}
+use Rattle.ot_owner.specs.Rows.{Summed, IsOnlyBy, NoTwoShare, copy_among, folds_in}
 
 -- the cells of an open group, and how many copies there is room for in the row of each worker
 pub record Made : Type 0 where
@@ -52,8 +53,14 @@ pub record IsRegular (g : Summed) : Type 0 where
 abbrev pub HasCopies : List Summed → ℕ → List Use → Type 0
 HasCopies gs worker uses = All (λ u. is_fold u.mode ≡ true → IsSome (copy_among gs worker u.cell)) uses
 
--- no two loans conflict, and who folds has a copy to fold into
+-- each cell into which the uses fold is named only by a group of the same operation
+abbrev pub IsByOwn : List Summed → List Use → Type 0
+IsByOwn gs uses = All (λ u. (op : Operation) → u.mode ≡ Folds op → IsOnlyBy gs op u.cell) uses
+
+-- no two loans conflict, no two groups share a cell, and who folds has a copy to fold into, of a group of the same operation
 pub record IsSound (owned : Owned) : Type 0 where
   pub apart : NoTwoConflict owned.out
   pub regular : All IsRegular owned.groups
+  pub single : NoTwoShare owned.groups
   pub copies : All (λ loan. HasCopies owned.groups loan.worker loan.lease.uses) owned.out
+  pub own : All (λ loan. IsByOwn owned.groups loan.lease.uses) owned.out

@@ -1,6 +1,6 @@
 -- The private copies that workers keep of the cells of open groups (OpenMP API 5.2, section 5.5).
-use Rattle.std.specs.Prelude.{◌≡◌, ◌==◌, ℕ, Bool, true, false, Any, All, List, [], ◌∷◌, length, replicate, Option, Some, None, is_some, if◌then◌else◌, map, slice_get, option_and_then, option_map, position}
-use Rattle.std.specs.List.{list_any}
+use Rattle.std.specs.Prelude.{◌≡◌, ◌≢◌, ◌==◌, ℕ, Bool, true, false, Any, All, List, [], ◌∷◌, length, replicate, Option, Some, None, is_some, if◌then◌else◌, map, slice_get, option_and_then, option_map, position}
+use Rattle.std.specs.List.{AllPairs, list_any}
 use Rattle.ot_model.specs.Cells.{same_cell, updated}
 use Rattle.ot_model.specs.Joining.{join_by, unit_of}
 use Rattle.ot_model.specs.Uses.{is_fold}
@@ -46,9 +46,13 @@ IsSummedBy gs op c = Any (λ g. (names c g ≡ true) × (g.op ≡ op)) gs
 abbrev pub IsOnlyBy : List Summed → Operation → Cell → Type 0
 IsOnlyBy gs op c = All (λ g. names c g ≡ true → g.op ≡ op) gs
 
--- no cell of a group of this number is named by an open group of another operation
-abbrev pub IsByOne : ℕ → List Summed → Type 0
-IsByOne group gs = All (λ g. g.group ≡ group → (c : Cell) → names c g ≡ true → IsOnlyBy gs g.op c) gs
+-- the groups have different numbers, and no cell in common
+abbrev pub ShareNothing : Summed → Summed → Type 0
+ShareNothing g h = (g.group ≢ h.group) × ((c : Cell) → names c g ≡ true → names c h ≡ false)
+
+-- no two open groups have the same number, or name one cell
+abbrev pub NoTwoShare : List Summed → Type 0
+NoTwoShare gs = AllPairs ShareNothing gs
 
 -- whether one of the uses folds values into a cell that is named
 abbrev pub folds_in : List Use → List Use → Bool

@@ -11,7 +11,8 @@ use std::marker::Model;
 
 /// Who reads, writes or folds into which cell at this moment: the rights that are out, and for each open
 /// group a row of private copies for each worker that folds in it. No two rights conflict at a cell, as uses
-/// of one cell do unless both read or both fold by one operation. Only `room` and `prepare` take memory.
+/// of one cell do unless both read or both fold by one operation, and no cell is in two open groups. Only
+/// `room` and `prepare` take memory.
 #[derive(Debug, Drop)]
 pub struct Owners {
     rights: Rights,
@@ -37,16 +38,16 @@ impl Model for Owners {
 }
 
 impl Owners {
-    ghost use Rattle.std.specs.Prelude.{◌≡◌, ◌↔◌, ◌≤◌, ◌++◌, ◌∷◌, [], ℕ, List, None, Some, IsTrue, IsSome, IfOk, All, Any, Contains, IsPermutation, option_map, replicate};
+    ghost use Rattle.std.specs.Prelude.{◌≡◌, ◌≢◌, ◌↔◌, ◌≤◌, ◌++◌, ◌∷◌, [], ℕ, List, None, Some, IsTrue, IsSome, IfOk, All, Any, Contains, IsPermutation, option_map, replicate};
     ghost use Rattle.ot_model.specs.Cells.{cell_of, lengths};
     ghost use Rattle.ot_model.specs.declared.expr.Cell.{Cell};
     ghost use Rattle.ot_model.specs.declared.fold.Fold.{Fold as Operation};
     ghost use Rattle.ot_model.specs.declared.stmt.Mode.TheVariants.{Writes, Folds};
     ghost use Rattle.ot_owner.specs.Leases.{lent_from};
     ghost use Rattle.ot_owner.specs.Owning.{loan_of, IsFreeFor, NoTwoConflict};
-    ghost use Rattle.ot_owner.specs.Rows.{IsNamed, IsSummed, IsSummedBy, IsByOne, copy_among, begun_for, without};
+    ghost use Rattle.ot_owner.specs.Rows.{IsNamed, IsSummed, IsSummedBy, NoTwoShare, copy_among, begun_for, without};
     ghost use Rattle.ot_owner.specs.Worth.{closed_over, worth, IsCombined, AreWorthSame, AreJoined};
-    ghost use Rattle.ot_owner.specs.Back.{AreStored, IsByOwn, all_back};
+    ghost use Rattle.ot_owner.specs.Back.{AreStored, all_back};
     ghost use Rattle.ot_owner.specs.Keeping.{Prepared, IsLast, IsOpenable};
 
     /// No right is out, and no group is open. It takes no memory.
@@ -78,10 +79,11 @@ impl Owners {
     }
 
     /// What a cell that is there is worth: its stored number combined with all copies of it, by the
-    /// operation of each group.
+    /// operation of their group. No two open groups share a number or a cell.
     pub fn worth(&self, cells: &Cells, cell: Cell) -> u64
         requires { IsSome (cell_of cells.now cell) }
-        ensures { worth self.now.owned cells.now cell ≡ Some result }
+        ensures is { worth self.now.owned cells.now cell ≡ Some result }
+        ensures single { NoTwoShare self.now.owned.groups }
     {
         worth(&self.groups, cell, cells.at(cell))
     }
@@ -114,9 +116,13 @@ impl Owners {
         Ok(slip)
     }
 
-    /// Opens a group by this operation in the room of the last `room`, with no row. It takes no memory.
+    /// Opens a group by this operation in the room of the last `room`, with no row. No group of its number is
+    /// open, none names a cell of it, and no right on one is out. It takes no memory.
     pub fn open_group(&mut self, group: u32, op: Fold, room: Room)
-        requires { IsOpenable self.old }
+        requires last { IsOpenable self.old }
+        requires new { All (λ g. g.group ≢ group) self.old.owned.groups }
+        requires unnamed { (c : Cell) → IsNamed room c → ¬ IsSummed self.old.owned.groups c }
+        requires unused { IsFreeFor self.old.owned.out room }
         ensures out { self.new.owned.out ≡ self.old.owned.out }
         ensures groups { self.new.owned.groups ≡ self.old.owned.groups ++ record { group = group; op = op; uses = room; rows = replicate 17 None } ∷ [] }
         ensures worth { (cells : List (List ℕ)) → AreWorthSame self.old.owned self.new.owned cells cells }
@@ -156,7 +162,7 @@ impl Owners {
         requires there { All (λ l. IsSome (cell_of cells.old l.cell)) lent }
         ensures stored { AreStored lent (cell_of cells.old) (cell_of cells.new) }
         ensures groups { self.new.owned.groups ≡ all_back worker lent self.old.owned.groups }
-        ensures worth { All (λ l. l.mode ≡ Writes → ¬ IsSummed self.old.owned.groups l.cell) lent → IsByOwn lent self.old.owned.groups → AreJoined lent (worth self.old.owned cells.old) (worth self.new.owned cells.new) }
+        ensures worth { All (λ l. l.mode ≡ Writes → ¬ IsSummed self.old.owned.groups l.cell) lent → AreJoined lent (worth self.old.owned cells.old) (worth self.new.owned cells.new) }
         ensures lengths { lengths cells.new ≡ lengths cells.old }
         ensures ended { IsPermutation self.old.owned.out (loan_of worker lent ∷ self.new.owned.out) }
         ensures slips { (s : Prepared) → IsLast self.old s → IsLast self.new s }
@@ -187,7 +193,7 @@ impl Owners {
         ensures stored { (cell : Cell) → cell_of cells.new cell ≡ option_map (closed_over group self.old.owned.groups cell) (cell_of cells.old cell) }
         ensures groups { self.new.owned.groups ≡ without group self.old.owned.groups }
         ensures out { self.new.owned.out ≡ self.old.owned.out }
-        ensures worth { IsByOne group self.old.owned.groups → AreWorthSame self.old.owned self.new.owned cells.old cells.new }
+        ensures worth { AreWorthSame self.old.owned self.new.owned cells.old cells.new }
         ensures lengths { lengths cells.new ≡ lengths cells.old }
         ensures slips { (s : Prepared) → IsLast self.old s → IsLast self.new s }
         ensures rooms { IsOpenable self.new }

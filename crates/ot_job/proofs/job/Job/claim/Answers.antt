@@ -18,7 +18,7 @@ use Rattle.ot_job.specs.States.{claimable_in}
 use Rattle.ot_job.specs.Taken.{Taken}
 use Rattle.ot_job.specs.Well.{IsWell}
 use Rattle.ot_job.specs.declared.state.State.TheVariants.{Working}
-use Rattle.ot_job.proofs.ClaimedLemmas.{passed-told, lends-alone, lends-open, lends-unused, lends-known, lends-free, lends-there, lends-summed, lent-are, lent-can, lent-well, lent-claims}
+use Rattle.ot_job.proofs.ClaimedLemmas.{passed-told, lends-open, lends-unused, lends-known, lends-free, lends-there, lends-summed, lent-are, lent-can, lent-well, lent-claims}
 use Rattle.ot_job.proofs.CourseLemmas.{counts-few}
 use Rattle.ot_job.proofs.DealingsLemmas.{picked-some, picked-working}
 use Rattle.ot_job.proofs.InsideLemmas.{picked-here}
@@ -67,17 +67,6 @@ lend-lent-requires-clause-is_open c =
     let both = picked-claimable rs c.args.pick i is in
     let told = passed-told rs c.prepare.new.self i c.get.result.now c.group_passed-passed.result both.0 c.prepare.ensures.same c.get.ensures c.group_passed-passed.ensures in
     lends-open j c.self.invariant found.0 i both.0 both.1 c.args.worker c.in_ok-assigns.field-0.decl c.in_ok-assigns.ensures.held c.in_ok-assigns.ensures.ordered c.in_ok-slip.slip c.in_ok-slip.ensures.slip c.prepare-2.new.self.owned c.prepare-2.ensures.owned c.group_passed-passed.result told
-
-pub lend-lent-requires-clause-alone : goal.lend-lent-requires-clause-alone
-lend-lent-requires-clause-alone c =
-    let rs = c.self.inside.tasks in
-    let i = c.in-Some.task in
-    let j : Live = live_of c.self.inside in
-    let found = picked-here c.self.inside _ c.args.pick i _ c.self.view_is c.pick.ensures c.in-Some.is in
-    let is : picked (claimable_of rs) c.args.pick ≡ Some i = found.1 in
-    let both = picked-claimable rs c.args.pick i is in
-    let told = passed-told rs c.prepare.new.self i c.get.result.now c.group_passed-passed.result both.0 c.prepare.ensures.same c.get.ensures c.group_passed-passed.ensures in
-    lends-alone j c.self.invariant found.0 i both.0 both.1 c.args.worker c.in_ok-assigns.field-0.decl c.in_ok-assigns.ensures.held c.in_ok-assigns.ensures.ordered c.in_ok-slip.slip c.in_ok-slip.ensures.slip c.prepare-2.new.self.owned c.prepare-2.ensures.owned c.group_passed-passed.result told
 
 pub lend-lent-requires-clause-unused : goal.lend-lent-requires-clause-unused
 lend-lent-requires-clause-unused c =

@@ -1,7 +1,7 @@
 use Rattle.std.proofs.Common.{◌≡◌, ◌+◌, ◌∷◌, ◌∙◌, ap, refl, sym, subst, arith, List, Bool, true}
 use Rattle.std.specs.Prelude.{All, Contains, IsPermutation, is_some}
 use Rattle.ot_model.specs.declared.stmt.Mode.TheVariants.{Writes}
-use Rattle.ot_owner.specs.Back.{IsByOwn, all_back}
+use Rattle.ot_owner.specs.Back.{all_back}
 use Rattle.ot_owner.specs.Owning.{Owned, loan_of}
 use Rattle.ot_owner.specs.Rows.{IsSummed}
 use Rattle.ot_task.specs.Regions.{Region, group_next}
@@ -16,8 +16,8 @@ use Rattle.ot_job.specs.Taken.{Came, IsOut, IsRun}
 use Rattle.ot_job.specs.Well.{IsWell}
 use Rattle.ot_job.specs.declared.state.State.TheVariants.{Working}
 use Rattle.ot_job.proofs.DealingsLemmas.{works}
-use Rattle.ot_job.proofs.InsideLemmas.{found-out, not-found-out, here-is, may, task-within, told-here, out-here, came-back, units-more, tasks-more, units-few, tasks-few, lighter, now, now-is, well-now}
-use Rattle.ot_job.proofs.LendingLemmas.{back-own, back-unsummed}
+use Rattle.ot_job.proofs.InsideLemmas.{found-out, not-found-out, here-is, may, opens-next, task-within, told-here, out-here, came-back, units-more, tasks-more, units-few, tasks-few, lighter, now, now-is, well-now}
+use Rattle.ot_job.proofs.LendingLemmas.{back-unsummed}
 use Rattle.ot_job.proofs.SettleLemmas.{run_of, worker-is, ok-holds, err-holds, loan-out, cells-there, parent-known, child-ready, child-unfinished}
 use Rattle.ot_job.proofs.job.Job.settle.Goals as goal
 
@@ -121,13 +121,14 @@ take_back-requires-clause-unsummed c =
     subst (λ (o : Owned). All (λ l. l.mode ≡ Writes → ¬ IsSummed o.groups l.cell) d.lent) (sym c.room_for.ensures.owned)
     (back-unsummed (live_of c.self.inside) (c.self.invariant.course c.if-self.false) d.task (run_of found.0.0 d) found.0.1 d.lent refl)
 
-pub take_back-requires-clause-alone : goal.take_back-requires-clause-alone
-take_back-requires-clause-alone c =
+pub take_back-requires-clause-opens : goal.take_back-requires-clause-opens
+take_back-requires-clause-opens c =
     let d : Came = record c.args.done { task = c.task-task.result } in
     let same : d ≡ c.args.done = ap (λ n. let e : Came = record c.args.done { task = n } in e) c.task-task.ensures in
     let found = subst (IsOut c.self.inside.tasks) (sym same) (found-out c.self.inside c.args.done _ _ c.all.ensures c.is_out.ensures c.if-not-is_out.false) in
-    subst (λ (o : Owned). IsByOwn d.lent o.groups) (sym c.room_for.ensures.owned)
-    (back-own (live_of c.self.inside) (c.self.invariant.course c.if-self.false) d.task (run_of found.0.0 d) found.0.1 d.lent refl)
+    let out : IsOut c.self.inside.tasks d = out-here c.self.inside c.self.invariant c.if-self.false d found c.get.result.now c.get.ensures c.worker-worker.result c.worker-worker.ensures in
+    opens-next c.self.inside c.self.invariant c.if-self.false d out c.room_for.new.owners.owned c.room_for.ensures.owned c.get-4.result.now c.group_next-next.result
+    (here-is c.self.inside c.self.invariant c.if-self.false d found c.get-4.result.now c.get-4.ensures) c.group_next-next.ensures c.in-Ok.room c.in-Ok.ensures.names
 
 pub overflow_cast-units : goal.overflow_cast-units
 overflow_cast-units c =

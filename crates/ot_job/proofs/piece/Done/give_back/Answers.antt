@@ -1,7 +1,6 @@
 use Rattle.std.proofs.Common.{◌≡◌, List, ap, subst}
 use Rattle.std.specs.Prelude.{All}
 use Rattle.ot_model.specs.declared.stmt.Mode.TheVariants.{Writes}
-use Rattle.ot_owner.specs.Back.{IsByOwn}
 use Rattle.ot_owner.specs.Rows.{IsSummed}
 use Rattle.ot_owner.specs.Worth.{AreJoined, worth}
 use Rattle.ot_owner.specs.declared.lent.LentCell.{LentCell}
@@ -13,5 +12,5 @@ returns-clause-worth c =
     let owners = c.args.owners.now.owned in
     let now = c.give_back.new in
     subst
-    (λ (lent : List LentCell). All (λ l. l.mode ≡ Writes → ¬ IsSummed owners.groups l.cell) lent → IsByOwn lent owners.groups → AreJoined lent (worth owners c.args.cells.now) (worth now.self.owned now.cells))
+    (λ (lent : List LentCell). All (λ l. l.mode ≡ Writes → ¬ IsSummed owners.groups l.cell) lent → AreJoined lent (worth owners c.args.cells.now) (worth now.self.owned now.cells))
     (ap (λ (d : Came). d.lent) c.self.view_is) c.give_back.ensures.worth

@@ -6,7 +6,7 @@ use Rattle.ot_model.specs.Cells.{cell_of}
 use Rattle.ot_owner.specs.Keeping.{IsSound, IsLast, Made, HasRow, Prepared}
 use Rattle.ot_owner.specs.Kept.{loans_in, spare_in, summed_of, summeds_of, made_of, mades_of}
 use Rattle.ot_owner.specs.Owning.{Owned, IsFreeFor}
-use Rattle.ot_owner.specs.Rows.{Summed, copies_in, without, folds_in}
+use Rattle.ot_owner.specs.Rows.{Summed, NoTwoShare, copies_in, without, folds_in}
 use Rattle.ot_owner.specs.Worth.{combined, worth_over, closed_over}
 use Rattle.ot_owner.specs.declared.rows.Group.{Group}
 use Rattle.ot_owner.proofs.OpenLemmas.{closing-at, not_open, closed-sound, worth-closed, same_worth}
@@ -57,11 +57,12 @@ returns-clause-groups c =
     ap summeds_of c.remove.ensures.items ∙ sym closes.rest ∙ ap (λ k. without c.args.group k.owned.groups) c.self.view_is
 
 pub returns-clause-worth : goal.returns-clause-worth
-returns-clause-worth c = λ one cell.
+returns-clause-worth c = λ cell.
     let items = c.self.inside.groups.items in
     let gs = c.args.self.now.owned.groups in
+    let single : NoTwoShare gs = subst NoTwoShare (ap (λ k. k.owned.groups) c.self.view_is) c.self.invariant.single in
     ap (λ hs. option_map (worth_over hs cell) (cell_of c.combine.new.cells cell)) (returns-clause-groups c)
-    ∙ worth-closed c.args.group gs cell (cell_of c.args.cells.now cell) (cell_of c.combine.new.cells cell) one (returns-clause-stored c cell)
+    ∙ worth-closed c.args.group gs cell (cell_of c.args.cells.now cell) (cell_of c.combine.new.cells cell) single (returns-clause-stored c cell)
 
 pub returns-clause-slips : goal.returns-clause-slips
 returns-clause-slips c = λ (s : Prepared) last.

@@ -4,7 +4,7 @@ use Rattle.ot_model.specs.Cells.{cell_of}
 use Rattle.ot_model.specs.Uses.{is_fold}
 use Rattle.ot_model.specs.declared.stmt.Mode.TheVariants.{Writes}
 use Rattle.ot_owner.specs.declared.lent.LentCell.{LentCell}
-use Rattle.ot_owner.specs.Back.{AreStored, IsByOwn, all_back}
+use Rattle.ot_owner.specs.Back.{AreStored, all_back}
 use Rattle.ot_owner.specs.Keeping.{IsSound, IsLast, Made, HasRow, Prepared}
 use Rattle.ot_owner.specs.Kept.{loans_in, spare_in, summeds_of, mades_of}
 use Rattle.ot_owner.specs.Leases.{lease_of}
@@ -12,7 +12,7 @@ use Rattle.ot_owner.specs.Owning.{Loan}
 use Rattle.ot_owner.specs.Rows.{Summed, IsSummed, copy_among, folds_in}
 use Rattle.ot_owner.specs.Worth.{worth, AreJoined}
 use Rattle.ot_owner.proofs.GivingLemmas.{worth_with, joined-worth}
-use Rattle.ot_owner.proofs.OpenLemmas.{Copies, all-at, copies-lent, back-sound}
+use Rattle.ot_owner.proofs.OpenLemmas.{Copies, Own, all-at, copies-lent, own-lent, back-sound}
 use Rattle.ot_owner.proofs.owners.Owners.give_back.Goals as goal
 
 pub give_all-requires-clause-rows : goal.give_all-requires-clause-rows
@@ -30,7 +30,7 @@ invariant_of-self c =
     (back-sound out (summeds_of c.self.inside.groups.items) c.args.worker c.cells.result.now c.give_all.ensures.small c.self.invariant)
 
 pub returns-clause-worth : goal.returns-clause-worth
-returns-clause-worth c = λ none own.
+returns-clause-worth c = λ none.
     let before = summeds_of c.self.inside.groups.items in
     let after = summeds_of c.give_all.new.groups.items in
     let lent : List LentCell = c.args.lent in
@@ -39,13 +39,13 @@ returns-clause-worth c = λ none own.
     let was : before ≡ c.args.self.now.owned.groups = ap (λ k. k.owned.groups) c.self.view_is in
     let now : all_back c.args.worker lent before ≡ c.drop_right.new.self.owned.groups =
     ap (λ ls. all_back c.args.worker ls before) (sym cells) ∙ sym c.give_all.ensures.back ∙ sym c.drop_right.ensures.groups in
+    let out : Contains (loans_in c.self.inside.rights) loan = subst (λ xs. Contains xs loan) (ap (λ k. k.owned.out) (sym c.self.view_is)) c.requires.out in
     let rows : All (λ l. is_fold l.mode ≡ true → IsSome (copy_among before c.args.worker l.cell)) lent =
-    copies-lent before c.args.worker lent
-    (all-at (Copies before) (loans_in c.self.inside.rights) loan c.self.invariant.copies (subst (λ xs. Contains xs loan) (ap (λ k. k.owned.out) (sym c.self.view_is)) c.requires.out)) in
+    copies-lent before c.args.worker lent (all-at (Copies before) (loans_in c.self.inside.rights) loan c.self.invariant.copies out) in
     let joined : AreJoined lent (worth_with before (cell_of c.args.cells.now)) (worth_with (all_back c.args.worker lent before) (cell_of c.give_all.new.cells)) =
     joined-worth c.args.worker lent before c.cells.ensures.ordered rows
     (subst (λ (gs : List Summed). All (λ l. l.mode ≡ Writes → ¬ IsSummed gs l.cell) lent) (sym was) none)
-    (subst (IsByOwn lent) (sym was) own) (cell_of c.args.cells.now) (cell_of c.give_all.new.cells)
+    (own-lent before lent (all-at (Own before) (loans_in c.self.inside.rights) loan c.self.invariant.own out)) (cell_of c.args.cells.now) (cell_of c.give_all.new.cells)
     (subst (λ (ls : List LentCell). AreStored ls (cell_of c.args.cells.now) (cell_of c.give_all.new.cells)) cells c.give_all.ensures.stored) in
     subst (λ (gs : List Summed). AreJoined lent (worth_with gs (cell_of c.args.cells.now)) (worth c.drop_right.new.self.owned c.give_all.new.cells)) was
     (subst (λ (gs : List Summed). AreJoined lent (worth_with before (cell_of c.args.cells.now)) (worth_with gs (cell_of c.give_all.new.cells))) now joined)
