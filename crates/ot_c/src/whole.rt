@@ -1,7 +1,10 @@
 //! Programs of C, from their first line to their last.
-use crate::array::Array;
-use crate::page::Page;
-use ot_model::{ArrayShape, Cell, Program, Section};
+use crate::array::arrays_in_c;
+use crate::named::{body_calls, names};
+use crate::statement::{block, line};
+use crate::value::constant;
+use ot_model::{ArrayShape, Cell, Decl, Op, Program, Section};
+use ot_print::Printer;
 use std::alloc::{AllocError, Global};
 
 const HEAD: &str = "/* The last run of a session, as C with OpenMP: it prints what the run shows. */
@@ -38,6 +41,9 @@ int main(void)
 {
 ";
 
+/// What stands before the lines of `main`.
+const MARGIN: &str = "    ";
+
 const REGION: &str = "    #pragma omp parallel
     #pragma omp single
 ";
@@ -50,88 +56,102 @@ pub fn c_text(
     arrays: &[ArrayShape],
     before: &[Vec<u64>],
 ) -> Result<String, AllocError> {
-    let mut region = Page::new(alloc, arrays, 1)?;
-    region.words(REGION)?;
-    region.block(None, &program.body)?;
-    region.words("\n")?;
-    region.shows(&program.shows)?;
-    region.words("    return 0;\n}\n")?;
-
-    let mut whole = Page::new(alloc, arrays, 1)?;
-    whole.words(HEAD)?;
-    whole.functions(&region, &program.shows)?;
-    whole.words(MAIN)?;
-    whole.declarations(&region.arrays, before)?;
-    whole.words(region.text.as_str())?;
-    Ok(whole.text)
+    let arrays = arrays_in_c(alloc, arrays)?;
+    let mut out = Printer::new(alloc, &arrays);
+    out.words(HEAD)?;
+    functions(&mut out, program)?;
+    out.words(MAIN)?;
+    declarations(&mut out, program, &arrays, before)?;
+    out.words(REGION)?;
+    let nothing = Decl::new(Vec::new(alloc));
+    block(alloc, &mut out, MARGIN, &nothing, &program.body)?;
+    out.words("\n")?;
+    shows(&mut out, &program.shows)?;
+    out.words("    return 0;\n}\n")?;
+    Ok(out.into_text())
 }
 
-impl Page {
-    /// The functions that the region and the shows call.
-    fn functions(&mut self, region: &Page, shows: &[Section]) -> Result<(), AllocError> {
-        if region.calls_min {
-            self.words(MIN)?;
-        }
-        if region.calls_max {
-            self.words(MAX)?;
-        }
-        if !shows.is_empty() {
-            self.words(SHOW)?;
-        }
-        Ok(())
+/// The functions that the program calls.
+fn functions(out: &mut Printer<'_>, program: &Program) -> Result<(), AllocError> {
+    if body_calls(&program.body, Op::Min) {
+        out.words(MIN)?;
     }
+    if body_calls(&program.body, Op::Max) {
+        out.words(MAX)?;
+    }
+    if !program.shows.is_empty() {
+        out.words(SHOW)?;
+    }
+    Ok(())
+}
 
-    /// The arrays that are named, with a line behind them.
-    fn declarations(&mut self, arrays: &[Array], before: &[Vec<u64>]) -> Result<(), AllocError> {
-        let mut any = false;
-        for (array, numbers) in arrays.iter().zip(before) {
-            if array.is_named {
-                self.declaration(array, numbers)?;
-                any = true;
-            }
+/// The arrays that are named, with a line behind them.
+fn declarations(
+    out: &mut Printer<'_>,
+    program: &Program,
+    arrays: &[ArrayShape],
+    before: &[Vec<u64>],
+) -> Result<(), AllocError> {
+    let mut any = false;
+    let mut number: u32 = 0;
+    for (array, numbers) in arrays.iter().zip(before) {
+        if names(program, number) {
+            declaration(out, array, numbers)?;
+            any = true;
         }
-        if any {
-            self.words("\n")?;
-        }
-        Ok(())
+        number = number.saturating_add(1);
     }
+    if any {
+        out.words("\n")?;
+    }
+    Ok(())
+}
 
-    /// `static uint64_t a[3] = {1, 2, 3};`, without the zeros at the end. It is static, as a stack may be small.
-    fn declaration(&mut self, array: &Array, numbers: &[u64]) -> Result<(), AllocError> {
-        self.begin("static uint64_t ")?;
-        self.words(array.name.as_str())?;
-        self.words("[")?;
-        self.number(u64::from(array.len))?;
-        self.words("]")?;
-        let mut before = " = {";
-        for number in up_to_last(numbers) {
-            self.words(before)?;
-            before = ", ";
-            self.constant(*number)?;
-        }
-        self.words(if before == ", " { "};\n" } else { ";\n" })
+/// `static uint64_t a[3] = {1, 2, 3};`, without the zeros at the end. It is static, as a stack may be small.
+fn declaration(
+    out: &mut Printer<'_>,
+    array: &ArrayShape,
+    numbers: &[u64],
+) -> Result<(), AllocError> {
+    out.words(MARGIN)?;
+    out.words("static uint64_t ")?;
+    out.words(array.name.as_str())?;
+    out.words("[")?;
+    out.number(u64::from(array.len))?;
+    out.words("]")?;
+    let mut before = " = {";
+    for number in up_to_last(numbers) {
+        out.words(before)?;
+        before = ", ";
+        constant(out, *number)?;
     }
+    out.words(if before == ", " { "};\n" } else { ";\n" })
+}
 
-    /// Prints the lists of the reply.
-    fn shows(&mut self, shows: &[Section]) -> Result<(), AllocError> {
-        self.line("printf(\"[\");")?;
-        let mut is_first = true;
-        for section in shows {
-            if !is_first {
-                self.line("printf(\",\");")?;
-            }
-            is_first = false;
-            self.begin("show(&")?;
-            self.cell(Cell {
-                array: section.array,
-                index: section.start,
-            })?;
-            self.words(", ")?;
-            self.number(u64::from(section.len))?;
-            self.words(");\n")?;
+/// Prints the lists of the reply.
+fn shows(out: &mut Printer<'_>, shows: &[Section]) -> Result<(), AllocError> {
+    line(out, MARGIN, "printf(\"[\");")?;
+    let mut is_first = true;
+    for section in shows {
+        if !is_first {
+            line(out, MARGIN, "printf(\",\");")?;
         }
-        self.line("printf(\"]\\n\");")
+        is_first = false;
+        show(out, *section)?;
     }
+    line(out, MARGIN, "printf(\"]\\n\");")
+}
+
+fn show(out: &mut Printer<'_>, section: Section) -> Result<(), AllocError> {
+    out.words(MARGIN)?;
+    out.words("show(&")?;
+    out.cell(Cell {
+        array: section.array,
+        index: section.start,
+    })?;
+    out.words(", ")?;
+    out.number(u64::from(section.len))?;
+    out.words(");\n")
 }
 
 /// The numbers without the zeros at the end.
