@@ -16,7 +16,7 @@ row_step names w a s n p t u left grown =
     let fewer : n - (p + 1) ≡ (n - p) - 1 = omega arith in
     let some : 0 < n - p = omega (arith, left) in
     ap (λ i. u ++ row names (codes ", ") a i (n - (p + 1))) place
-  ∙ ap (λ k. u ++ row names (codes ", ") a ((s + p) + 1) k) fewer
-  ∙ ap (λ x. x ++ row names (codes ", ") a ((s + p) + 1) ((n - p) - 1)) grown
-  ∙ append_assoc t (item names w a (s + p)) (row names (codes ", ") a ((s + p) + 1) ((n - p) - 1))
-  ∙ ap (λ x. t ++ x) (sym (row_first names w a (s + p) (n - p) some))
+    ∙ ap (λ k. u ++ row names (codes ", ") a ((s + p) + 1) k) fewer
+    ∙ ap (λ x. x ++ row names (codes ", ") a ((s + p) + 1) ((n - p) - 1)) grown
+    ∙ append_assoc t (item names w a (s + p)) (row names (codes ", ") a ((s + p) + 1) ((n - p) - 1))
+    ∙ ap (λ x. t ++ x) (sym (row_first names w a (s + p) (n - p) some))

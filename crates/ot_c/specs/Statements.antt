@@ -1,5 +1,5 @@
 -- The C of statements and bodies, behind a margin of white space.
-use Rattle.std.specs.Prelude.{◌==◌, Bool, true, false, if◌then◌else◌, List, [], ◌∷◌, ◌++◌, Option, Some, None, codes}
+use Rattle.std.specs.Prelude.{ℕ, ◌==◌, Bool, true, false, if◌then◌else◌, List, [], ◌∷◌, ◌++◌, Option, Some, None, codes}
 use Rattle.ot_model.specs.Cells.{is_before, same_cell}
 use Rattle.ot_model.specs.declared.expr.Cell.{Cell}
 use Rattle.ot_model.specs.declared.fold.Fold.{Fold as Operation}
@@ -48,10 +48,13 @@ set names margin c e = margin ++ cell names c ++ codes " = " ++ value names e ++
 abbrev pub condition : List Text → Text → E → Text
 condition names margin e = margin ++ codes "if (" ++ value names e ++ codes ") {\n"
 
--- the second body of an `if`, of this text
+abbrev pub is_end : Body → Bool
+is_end End = true
+is_end (Next s rest) = false
+
+-- the second body of an `if`, of this text, where it isn't empty
 abbrev pub otherwise : Text → Body → Text → Text
-otherwise margin End inside = []
-otherwise margin (Next s rest) inside = line margin (codes "} else {") ++ inside
+otherwise margin b inside = if is_end b then [] else line margin (codes "} else {") ++ inside
 
 -- a task or a wait, with what it declares
 abbrev pub directive : List Text → Text → Text → List Use → Text
@@ -63,6 +66,10 @@ wait_for names margin [] = []
 wait_for names margin (u ∷ us) = directive names margin (codes "#pragma omp taskwait") (u ∷ us)
 
 -- ---- groups
+
+-- the cell of an array at a place
+abbrev pub cell_at : ℕ × ℕ → Cell
+cell_at p = record { array = p.0; index = p.1 }
 
 -- a cell in its place among cells in order, once
 abbrev pub put : List Cell → Cell → List Cell

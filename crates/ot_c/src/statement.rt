@@ -1,5 +1,5 @@
 //! Statements, and the bodies that they have.
-ghost use Rattle.std.specs.Prelude.{◌≡◌, ◌++◌, OnOk, IfOk, string_bytes};
+ghost use Rattle.std.specs.Prelude.{◌≡◌, ◌++◌, OnOk, IfOk, map, string_bytes};
 ghost use Rattle.ot_model.specs.View.{expr_of, stmt_of, stmts_of};
 ghost use Rattle.ot_c.specs.Statements as written;
 
@@ -180,11 +180,17 @@ fn otherwise(
     ensures text { OnOk result (out.new.text ≡ out.old.text ++ written.otherwise margin.now (stmts_of body.now) (written.body out.old.names (written.deeper margin.now) own.now (stmts_of body.now))) }
     ensures names { out.new.names ≡ out.old.names }
 {
-    if body.is_empty() {
+    if is_end(body) {
         return Ok(());
     }
     line(out, margin, "} else {")?;
     inside(alloc, out, margin, own, body)
+}
+
+fn is_end(body: &[Stmt]) -> bool
+    ensures { result ≡ written.is_end (stmts_of body.now) }
+{
+    body.is_empty()
 }
 
 /// A group. One with reductions stands in a block with a pointer to each cell that is reduced.
@@ -256,16 +262,21 @@ fn declared_pointer(
 fn each_once(alloc: Global, cells: &[Cell]) -> Result<Vec<Cell>, AllocError>
     ensures { IfOk result (λ once. once.items ≡ written.each_once cells.now) }
 {
+    let mut places = places_of(alloc, cells)?;
+    let mut once = Vec::with_capacity(alloc, places.len())?;
+    while let Some((array, index)) = places.pop_first() {
+        once.push(Cell { array, index })?;
+    }
+    Ok(once)
+}
+
+/// The arrays and places of cells, in order.
+fn places_of(alloc: Global, cells: &[Cell]) -> Result<BTreeSet<(u32, u32)>, AllocError>
+    ensures { IfOk result (λ places. map written.cell_at places.keys ≡ written.each_once cells.now) }
+{
     let mut places = BTreeSet::new(alloc);
     for cell in cells {
         places.insert((cell.array, cell.index))?;
     }
-    let mut once = Vec::with_capacity(alloc, places.len())?;
-    for (array, index) in &places {
-        once.push(Cell {
-            array: *array,
-            index: *index,
-        })?;
-    }
-    Ok(once)
+    Ok(places)
 }

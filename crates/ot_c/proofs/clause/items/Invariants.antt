@@ -9,5 +9,5 @@ use Rattle.ot_c.proofs.clause.items.Given as goal
 abbrev pub invariant-loop-section : goal.invariant-loop-section
 invariant-loop-section l =
     shadow (Utf8 l.before)
-  × (l.out.names ≡ l.fn.out.names)
+    × (l.out.names ≡ l.fn.out.names)
     × (l.out.text ++ items l.fn.out.names l.before (drop l.section-index l.sections) ≡ l.fn.out.text ++ items l.fn.out.names (codes ": ") l.sections)

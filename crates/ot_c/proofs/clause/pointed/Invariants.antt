@@ -9,5 +9,5 @@ use Rattle.ot_c.proofs.clause.pointed.Given as goal
 abbrev pub invariant-loop-cell : goal.invariant-loop-cell
 invariant-loop-cell l =
     shadow (Utf8 l.before)
-  × (l.out.names ≡ l.fn.out.names)
+    × (l.out.names ≡ l.fn.out.names)
     × (l.out.text ++ pointed l.fn.out.names l.before l.op (drop l.cell-index l.cells) ≡ l.fn.out.text ++ pointed l.fn.out.names (codes ": ") l.op l.cells)

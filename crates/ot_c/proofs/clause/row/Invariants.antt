@@ -8,5 +8,5 @@ use Rattle.ot_c.proofs.clause.row.Given as goal
 abbrev pub invariant-loop-place : goal.invariant-loop-place
 invariant-loop-place l =
     shadow (Utf8 l.words)
-  × (l.out.names ≡ l.fn.out.names)
+    × (l.out.names ≡ l.fn.out.names)
     × (l.out.text ++ row l.fn.out.names l.words l.section.array (l.section.start + l.place) (l.section.len - l.place) ≡ l.fn.out.text ++ row l.fn.out.names l.before l.section.array l.section.start l.section.len)
