@@ -1,5 +1,5 @@
 -- The C of statements and bodies, behind a margin of white space.
-use Rattle.std.specs.Prelude.{ℕ, ◌==◌, Bool, true, false, if◌then◌else◌, List, [], ◌∷◌, ◌++◌, Option, Some, None, codes}
+use Rattle.std.specs.Prelude.{ℕ, Bool, true, false, if◌then◌else◌, List, [], ◌∷◌, ◌++◌, Option, Some, None, codes}
 use Rattle.ot_model.specs.Cells.{is_before, same_cell}
 use Rattle.ot_model.specs.declared.expr.Cell.{Cell}
 use Rattle.ot_model.specs.declared.fold.Fold.{Fold as Operation}

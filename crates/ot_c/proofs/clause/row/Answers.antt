@@ -1,4 +1,4 @@
-use Rattle.std.proofs.Common.{rules, ◌≡◌, refl, List, [], ◌∷◌, arith}
+use Rattle.std.proofs.Common.{rules}
 use Rattle.ot_c.proofs.RowLemmas.{row_step}
 use Rattle.ot_c.proofs.clause.row.Goals as goal
 
