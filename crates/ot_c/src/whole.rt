@@ -1,4 +1,9 @@
 //! Programs of C, from their first line to their last.
+ghost use Rattle.std.specs.Prelude.{◌≡◌, ◌++◌, OnOk, IfOk, string_bytes};
+ghost use Rattle.ot_model.specs.Programs.{expanded_of};
+ghost use Rattle.ot_c.specs.Programs as written;
+ghost use Rattle.ot_c.specs.Programs.{IsProgram};
+
 use crate::array::arrays_in_c;
 use crate::named::{body_calls, names};
 use crate::statement::{block, line};
@@ -55,20 +60,45 @@ pub fn c_text(
     program: &Program,
     arrays: &[ArrayShape],
     before: &[Vec<u64>],
-) -> Result<String, AllocError> {
+) -> Result<String, AllocError>
+    ensures { IfOk result (λ text. IsProgram (expanded_of program.now) (string_bytes text)) }
+{
     let arrays = arrays_in_c(alloc, arrays)?;
     let mut out = Printer::new(alloc, &arrays);
-    out.words(HEAD)?;
-    functions(&mut out, program)?;
-    out.words(MAIN)?;
-    declarations(&mut out, program, &arrays, before)?;
-    out.words(REGION)?;
-    let nothing = Decl::new(Vec::new(alloc));
-    block(alloc, &mut out, MARGIN, &nothing, &program.body)?;
-    out.words("\n")?;
-    shows(&mut out, &program.shows)?;
+    front(&mut out, program, &arrays, before)?;
+    region(alloc, &mut out, MARGIN, program)?;
     out.words("    return 0;\n}\n")?;
     Ok(out.into_text())
+}
+
+/// What stands before the program's body.
+fn front(
+    out: &mut Printer<'_>,
+    program: &Program,
+    arrays: &[ArrayShape],
+    before: &[Vec<u64>],
+) -> Result<(), AllocError> {
+    out.words(HEAD)?;
+    functions(out, program)?;
+    out.words(MAIN)?;
+    declarations(out, program, arrays, before)?;
+    out.words(REGION)
+}
+
+/// The body, and what shows its cells.
+fn region(
+    alloc: Global,
+    out: &mut Printer<'_>,
+    margin: &str,
+    program: &Program,
+) -> Result<(), AllocError>
+    ensures text { OnOk result (out.new.text ≡ out.old.text ++ written.region out.old.names margin.now (expanded_of program.now)) }
+    ensures names { out.new.names ≡ out.old.names }
+{
+    let nothing = Decl::new(Vec::new(alloc));
+    block(alloc, out, margin, &nothing, &program.body)?;
+    out.words("\n")?;
+    shows(out, margin, &program.shows)
 }
 
 /// The functions that the program calls.
@@ -129,21 +159,36 @@ fn declaration(
 }
 
 /// Prints the lists of the reply.
-fn shows(out: &mut Printer<'_>, shows: &[Section]) -> Result<(), AllocError> {
-    line(out, MARGIN, "printf(\"[\");")?;
-    let mut is_first = true;
-    for section in shows {
-        if !is_first {
-            line(out, MARGIN, "printf(\",\");")?;
-        }
-        is_first = false;
-        show(out, *section)?;
-    }
-    line(out, MARGIN, "printf(\"]\\n\");")
+fn shows(out: &mut Printer<'_>, margin: &str, shows: &[Section]) -> Result<(), AllocError>
+    ensures text { OnOk result (out.new.text ≡ out.old.text ++ written.shows out.old.names margin.now shows.now) }
+    ensures names { out.new.names ≡ out.old.names }
+{
+    line(out, margin, "printf(\"[\");")?;
+    lists(out, margin, shows)?;
+    line(out, margin, "printf(\"]\\n\");")
 }
 
-fn show(out: &mut Printer<'_>, section: Section) -> Result<(), AllocError> {
-    out.words(MARGIN)?;
+/// Prints the lists, with commas between them.
+fn lists(out: &mut Printer<'_>, margin: &str, shows: &[Section]) -> Result<(), AllocError>
+    ensures text { OnOk result (out.new.text ≡ out.old.text ++ written.lists out.old.names margin.now shows.now) }
+    ensures names { out.new.names ≡ out.old.names }
+{
+    if shows.is_empty() {
+        return Ok(());
+    }
+    show(out, margin, shows[0])?;
+    for section in &shows[1..] {
+        line(out, margin, "printf(\",\");")?;
+        show(out, margin, *section)?;
+    }
+    Ok(())
+}
+
+fn show(out: &mut Printer<'_>, margin: &str, section: Section) -> Result<(), AllocError>
+    ensures text { OnOk result (out.new.text ≡ out.old.text ++ written.show out.old.names margin.now section) }
+    ensures names { out.new.names ≡ out.old.names }
+{
+    out.words(margin)?;
     out.words("show(&")?;
     out.cell(Cell {
         array: section.array,
