@@ -62,29 +62,20 @@ const TAKEN: [&str; 55] = [
     "while",
 ];
 
-/// An array of a program.
-#[derive(Drop)]
-pub(crate) struct Array {
-    /// What it is called in C: its own name, behind `A_` where that is taken.
-    pub(crate) name: String,
-    /// How many cells it has.
-    pub(crate) len: u32,
-    /// Whether the program names it.
-    pub(crate) is_named: bool,
-}
-
-/// The arrays of a shape, none of them named yet.
-pub(crate) fn arrays_of(alloc: Global, shape: &[ArrayShape]) -> Result<Vec<Array>, AllocError> {
-    let mut arrays = Vec::with_capacity(alloc, shape.len())?;
-    for array in shape {
+/// The arrays of a shape by their names in C: their own, behind `A_` where these are taken.
+pub(crate) fn arrays_in_c(
+    alloc: Global,
+    arrays: &[ArrayShape],
+) -> Result<Vec<ArrayShape>, AllocError> {
+    let mut called = Vec::with_capacity(alloc, arrays.len())?;
+    for array in arrays {
         let name = name_in_c(alloc, array.name.as_str())?;
-        arrays.push(Array {
+        called.push(ArrayShape {
             name,
             len: array.len,
-            is_named: false,
         })?;
     }
-    Ok(arrays)
+    Ok(called)
 }
 
 /// The names of arrays have no capitals, so the one that is made up is no other array's.

@@ -1,99 +1,60 @@
-//! Folds, and what C and OpenMP call their operations (OpenMP API 5.2, section 5.5.3).
-use crate::page::Page;
+//! Folds.
+ghost use Rattle.std.specs.Prelude.{◌≡◌, ◌++◌, OnOk};
+ghost use Rattle.ot_model.specs.View.{expr_of};
+ghost use Rattle.ot_c.specs.Statements as written;
+
+use crate::clause::pointer;
+use crate::value::value;
 use ot_model::{Cell, Decl, Expr, Fold, Mode};
+use ot_print::Printer;
 use std::alloc::AllocError;
 
-/// The operations of reductions, in the order in which a task's clauses name them.
-pub(crate) const OPERATIONS: [Fold; 7] = [
-    Fold::Plus,
-    Fold::Times,
-    Fold::And,
-    Fold::Or,
-    Fold::Xor,
-    Fold::Min,
-    Fold::Max,
-];
-
-/// What an operation is called in a clause.
-pub(crate) fn identifier(op: Fold) -> &'static str {
-    match op {
-        Fold::Plus => "+",
-        Fold::Times => "*",
-        Fold::And => "&",
-        Fold::Or => "|",
-        Fold::Xor => "^",
-        Fold::Min => "min",
-        Fold::Max => "max",
+/// A fold in the body of a task with this declaration: `a[0] += 2;`, or `a[0] = max(a[0], 2);`, a function, so that the
+/// value is computed once.
+pub(crate) fn fold(
+    out: &mut Printer<'_>,
+    own: &Decl,
+    op: Fold,
+    cell: Cell,
+    expr: &Expr,
+) -> Result<(), AllocError>
+    ensures text { OnOk result (out.new.text ≡ out.old.text ++ written.fold out.old.names own.now op cell (expr_of expr.now)) }
+    ensures names { out.new.names ≡ out.old.names }
+{
+    target(out, own, op, cell)?;
+    if op.is_call() {
+        out.words(" = ")?;
+        out.words(op.sign())?;
+        target(out, own, op, cell)?;
+        out.words(", ")?;
+        value(out, expr)?;
+        out.words(");\n")
+    } else {
+        out.words(op.sign())?;
+        value(out, expr)?;
+        out.words(";\n")
     }
 }
 
-/// What the name of a pointer begins with over which a cell is reduced by an operation.
-pub(crate) fn pointer_word(op: Fold) -> &'static str {
-    match op {
-        Fold::Plus => "Sum_",
-        Fold::Times => "Product_",
-        Fold::And => "And_",
-        Fold::Or => "Or_",
-        Fold::Xor => "Xor_",
-        Fold::Min => "Min_",
-        Fold::Max => "Max_",
+/// The cell that is folded into: where the task only folds into it by the operation, its own copy.
+fn target(out: &mut Printer<'_>, own: &Decl, op: Fold, cell: Cell) -> Result<(), AllocError>
+    ensures text { OnOk result (out.new.text ≡ out.old.text ++ written.target out.old.names own.now op cell) }
+    ensures names { out.new.names ≡ out.old.names }
+{
+    if only_folds(own, op, cell) {
+        pointer(out, op, cell)?;
+        out.words("[0]")
+    } else {
+        out.cell(cell)
     }
 }
 
-impl Page {
-    /// A fold in the body of a task with this declaration, or of the root: `a[0] += 2;`, or `a[0] = max(a[0], 2);`.
-    pub(crate) fn fold(
-        &mut self,
-        own: Option<&Decl>,
-        op: Fold,
-        cell: Cell,
-        expr: &Expr,
-    ) -> Result<(), AllocError> {
-        self.begin("")?;
-        self.target(own, op, cell)?;
-        match op {
-            Fold::Plus => self.assigned(" += ", expr),
-            Fold::Times => self.assigned(" *= ", expr),
-            Fold::And => self.assigned(" &= ", expr),
-            Fold::Or => self.assigned(" |= ", expr),
-            Fold::Xor => self.assigned(" ^= ", expr),
-            Fold::Min | Fold::Max => self.chosen(own, op, cell, expr),
-        }
-    }
-
-    /// The rest of a fold by `min` or `max`: a function, so that the value is computed once.
-    fn chosen(
-        &mut self,
-        own: Option<&Decl>,
-        op: Fold,
-        cell: Cell,
-        expr: &Expr,
-    ) -> Result<(), AllocError> {
-        self.words(" = ")?;
-        if op == Fold::Min {
-            self.min()?;
-        } else {
-            self.max()?;
-        }
-        self.target(own, op, cell)?;
-        self.words(", ")?;
-        self.value(expr)?;
-        self.words(");\n")
-    }
-
-    /// The cell that is folded into: where the task only folds into it by the operation, its own copy.
-    fn target(&mut self, own: Option<&Decl>, op: Fold, cell: Cell) -> Result<(), AllocError> {
-        if !only_folds(own, op, cell) {
-            return self.cell(cell);
-        }
-        self.pointer(op, cell)?;
-        self.words("[0]")
-    }
-}
-
-fn only_folds(own: Option<&Decl>, op: Fold, cell: Cell) -> bool {
-    match own {
-        Some(decl) => decl.mode(cell) == Some(Mode::Folds(op)),
+/// Whether the task only folds into the cell, by the operation.
+fn only_folds(own: &Decl, op: Fold, cell: Cell) -> bool
+    ensures { result ≡ written.only_folds own.now op cell }
+{
+    match own.mode(cell) {
+        Some(mode) => mode == Mode::Folds(op),
         None => false,
     }
 }

@@ -4,7 +4,7 @@
 mod array;
 mod clause;
 mod fold;
-mod page;
+mod named;
 mod statement;
 mod value;
 mod whole;

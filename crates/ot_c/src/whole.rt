@@ -1,7 +1,15 @@
 //! Programs of C, from their first line to their last.
-use crate::array::Array;
-use crate::page::Page;
-use ot_model::{ArrayShape, Cell, Program, Section};
+ghost use Rattle.std.specs.Prelude.{◌≡◌, ◌++◌, OnOk, IfOk, string_bytes};
+ghost use Rattle.ot_model.specs.Programs.{expanded_of};
+ghost use Rattle.ot_c.specs.Programs as written;
+ghost use Rattle.ot_c.specs.Programs.{IsProgram};
+
+use crate::array::arrays_in_c;
+use crate::named::{body_calls, names};
+use crate::statement::{block, line};
+use crate::value::constant;
+use ot_model::{ArrayShape, Cell, Decl, Op, Program, Section};
+use ot_print::Printer;
 use std::alloc::{AllocError, Global};
 
 const HEAD: &str = "/* The last run of a session, as C with OpenMP: it prints what the run shows. */
@@ -38,6 +46,9 @@ int main(void)
 {
 ";
 
+/// What stands before the lines of `main`.
+const MARGIN: &str = "    ";
+
 const REGION: &str = "    #pragma omp parallel
     #pragma omp single
 ";
@@ -49,89 +60,143 @@ pub fn c_text(
     program: &Program,
     arrays: &[ArrayShape],
     before: &[Vec<u64>],
-) -> Result<String, AllocError> {
-    let mut region = Page::new(alloc, arrays, 1)?;
-    region.words(REGION)?;
-    region.block(None, &program.body)?;
-    region.words("\n")?;
-    region.shows(&program.shows)?;
-    region.words("    return 0;\n}\n")?;
-
-    let mut whole = Page::new(alloc, arrays, 1)?;
-    whole.words(HEAD)?;
-    whole.functions(&region, &program.shows)?;
-    whole.words(MAIN)?;
-    whole.declarations(&region.arrays, before)?;
-    whole.words(region.text.as_str())?;
-    Ok(whole.text)
+) -> Result<String, AllocError>
+    ensures { IfOk result (λ text. IsProgram (expanded_of program.now) (string_bytes text)) }
+{
+    let arrays = arrays_in_c(alloc, arrays)?;
+    let mut out = Printer::new(alloc, &arrays);
+    front(&mut out, program, &arrays, before)?;
+    region(alloc, &mut out, MARGIN, program)?;
+    out.words("    return 0;\n}\n")?;
+    Ok(out.into_text())
 }
 
-impl Page {
-    /// The functions that the region and the shows call.
-    fn functions(&mut self, region: &Page, shows: &[Section]) -> Result<(), AllocError> {
-        if region.calls_min {
-            self.words(MIN)?;
-        }
-        if region.calls_max {
-            self.words(MAX)?;
-        }
-        if !shows.is_empty() {
-            self.words(SHOW)?;
-        }
-        Ok(())
-    }
+/// What stands before the program's body.
+fn front(
+    out: &mut Printer<'_>,
+    program: &Program,
+    arrays: &[ArrayShape],
+    before: &[Vec<u64>],
+) -> Result<(), AllocError> {
+    out.words(HEAD)?;
+    functions(out, program)?;
+    out.words(MAIN)?;
+    declarations(out, program, arrays, before)?;
+    out.words(REGION)
+}
 
-    /// The arrays that are named, with a line behind them.
-    fn declarations(&mut self, arrays: &[Array], before: &[Vec<u64>]) -> Result<(), AllocError> {
-        let mut any = false;
-        for (array, numbers) in arrays.iter().zip(before) {
-            if array.is_named {
-                self.declaration(array, numbers)?;
-                any = true;
-            }
-        }
-        if any {
-            self.words("\n")?;
-        }
-        Ok(())
-    }
+/// The body, and what shows its cells.
+fn region(
+    alloc: Global,
+    out: &mut Printer<'_>,
+    margin: &str,
+    program: &Program,
+) -> Result<(), AllocError>
+    ensures text { OnOk result (out.new.text ≡ out.old.text ++ written.region out.old.names margin.now (expanded_of program.now)) }
+    ensures names { out.new.names ≡ out.old.names }
+{
+    let nothing = Decl::new(Vec::new(alloc));
+    block(alloc, out, margin, &nothing, &program.body)?;
+    out.words("\n")?;
+    shows(out, margin, &program.shows)
+}
 
-    /// `static uint64_t a[3] = {1, 2, 3};`, without the zeros at the end. It is static, as a stack may be small.
-    fn declaration(&mut self, array: &Array, numbers: &[u64]) -> Result<(), AllocError> {
-        self.begin("static uint64_t ")?;
-        self.words(array.name.as_str())?;
-        self.words("[")?;
-        self.number(u64::from(array.len))?;
-        self.words("]")?;
-        let mut before = " = {";
-        for number in up_to_last(numbers) {
-            self.words(before)?;
-            before = ", ";
-            self.constant(*number)?;
-        }
-        self.words(if before == ", " { "};\n" } else { ";\n" })
+/// The functions that the program calls.
+fn functions(out: &mut Printer<'_>, program: &Program) -> Result<(), AllocError> {
+    if body_calls(&program.body, Op::Min) {
+        out.words(MIN)?;
     }
+    if body_calls(&program.body, Op::Max) {
+        out.words(MAX)?;
+    }
+    if !program.shows.is_empty() {
+        out.words(SHOW)?;
+    }
+    Ok(())
+}
 
-    /// Prints the lists of the reply.
-    fn shows(&mut self, shows: &[Section]) -> Result<(), AllocError> {
-        self.line("printf(\"[\");")?;
-        let mut is_first = true;
-        for section in shows {
-            if !is_first {
-                self.line("printf(\",\");")?;
-            }
-            is_first = false;
-            self.begin("show(&")?;
-            self.cell(Cell {
-                array: section.array,
-                index: section.start,
-            })?;
-            self.words(", ")?;
-            self.number(u64::from(section.len))?;
-            self.words(");\n")?;
+/// The arrays that are named, with a line behind them.
+fn declarations(
+    out: &mut Printer<'_>,
+    program: &Program,
+    arrays: &[ArrayShape],
+    before: &[Vec<u64>],
+) -> Result<(), AllocError> {
+    let mut any = false;
+    let mut number: u32 = 0;
+    for (array, numbers) in arrays.iter().zip(before) {
+        if names(program, number) {
+            declaration(out, array, numbers)?;
+            any = true;
         }
-        self.line("printf(\"]\\n\");")
+        number = number.saturating_add(1);
     }
+    if any {
+        out.words("\n")?;
+    }
+    Ok(())
+}
+
+/// `static uint64_t a[3] = {1, 2, 3};`, without the zeros at the end. It is static, as a stack may be small.
+fn declaration(
+    out: &mut Printer<'_>,
+    array: &ArrayShape,
+    numbers: &[u64],
+) -> Result<(), AllocError> {
+    out.words(MARGIN)?;
+    out.words("static uint64_t ")?;
+    out.words(array.name.as_str())?;
+    out.words("[")?;
+    out.number(u64::from(array.len))?;
+    out.words("]")?;
+    let mut before = " = {";
+    for number in up_to_last(numbers) {
+        out.words(before)?;
+        before = ", ";
+        constant(out, *number)?;
+    }
+    out.words(if before == ", " { "};\n" } else { ";\n" })
+}
+
+/// Prints the lists of the reply.
+fn shows(out: &mut Printer<'_>, margin: &str, shows: &[Section]) -> Result<(), AllocError>
+    ensures text { OnOk result (out.new.text ≡ out.old.text ++ written.shows out.old.names margin.now shows.now) }
+    ensures names { out.new.names ≡ out.old.names }
+{
+    line(out, margin, "printf(\"[\");")?;
+    lists(out, margin, shows)?;
+    line(out, margin, "printf(\"]\\n\");")
+}
+
+/// Prints the lists, with commas between them.
+fn lists(out: &mut Printer<'_>, margin: &str, shows: &[Section]) -> Result<(), AllocError>
+    ensures text { OnOk result (out.new.text ≡ out.old.text ++ written.lists out.old.names margin.now shows.now) }
+    ensures names { out.new.names ≡ out.old.names }
+{
+    if shows.is_empty() {
+        return Ok(());
+    }
+    show(out, margin, shows[0])?;
+    for section in &shows[1..] {
+        line(out, margin, "printf(\",\");")?;
+        show(out, margin, *section)?;
+    }
+    Ok(())
+}
+
+fn show(out: &mut Printer<'_>, margin: &str, section: Section) -> Result<(), AllocError>
+    ensures text { OnOk result (out.new.text ≡ out.old.text ++ written.show out.old.names margin.now section) }
+    ensures names { out.new.names ≡ out.old.names }
+{
+    out.words(margin)?;
+    out.words("show(&")?;
+    out.cell(Cell {
+        array: section.array,
+        index: section.start,
+    })?;
+    out.words(", ")?;
+    out.number(u64::from(section.len))?;
+    out.words(");\n")
 }
 
 /// The numbers without the zeros at the end.

@@ -5,5 +5,5 @@ pub mod laws;
 mod printer;
 mod sections;
 
-pub use printer::Printer;
+pub use printer::{Printer, is_nested};
 pub use sections::{cells_in, sections_in};

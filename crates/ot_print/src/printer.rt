@@ -68,7 +68,8 @@ impl<'a> Printer<'a> {
         self.text.push_str(digits.as_str())
     }
 
-    fn name(&mut self, array: u32) -> Result<(), AllocError>
+    /// The name of an array.
+    pub fn name(&mut self, array: u32) -> Result<(), AllocError>
         ensures text { OnOk result (self.new.text ≡ self.old.text ++ shown.name self.old.names array) }
         ensures names { self.new.names ≡ self.old.names }
     {
@@ -361,7 +362,8 @@ impl<'a> Printer<'a> {
     }
 }
 
-fn is_nested(expr: &Expr) -> bool
+/// Whether a value has a sign itself, so that as a side it stands in brackets.
+pub fn is_nested(expr: &Expr) -> bool
     ensures { result ≡ shown.is_nested (expr_of expr.now) }
 {
     match expr {

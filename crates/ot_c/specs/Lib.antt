@@ -1,0 +1,4 @@
+pub mod Values
+pub mod Clauses
+pub mod Statements
+pub mod Programs
