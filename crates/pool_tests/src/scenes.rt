@@ -135,7 +135,9 @@ const SIDE_BY_SIDE: &str =
 /// Both tasks' pieces stand at the door together, for which two workers have to be awake. One of them slept while
 /// the first piece of the root, behind which there is work for two, was held.
 #[test]
-fn a_worker_that_sleeps_is_told_of_a_piece_beside_that_of_another(rt: HostRuntime) -> Result<(), Fail> {
+fn a_worker_that_sleeps_is_told_of_a_piece_beside_that_of_another(
+    rt: HostRuntime,
+) -> Result<(), Fail> {
     let door = Door::pairing();
     let told = play(&rt, rt.alloc(), 1, 2, &door, &Scene::Asleep(SIDE_BY_SIDE))?;
     assert!(rt; !door.gave_up(), "{told:?}");

@@ -9,8 +9,7 @@ use Rattle.ot_serve.proofs.socket.empty_books.Goals as goal
 pub loop-name-preserved : goal.loop-name-preserved
 loop-name-preserved c =
     let is = c.in_ok-empty_book.ensures in
-    let named = ap (λ (book : Register). book.name) is in
-    (
+    let named = ap (λ (book : Register). book.name) is in (
       grind (arith, common_steps, named),
       subst (All (λ book. book ≡ newcomer book.name)) (sym c.in_ok-push.ensures.items)
           (All-push (λ book. book ≡ newcomer book.name) c.loop-name.books.items c.in_ok-empty_book.field-0 c.loop-name.invariant.1.0
