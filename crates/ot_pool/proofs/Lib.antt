@@ -1,4 +1,5 @@
 mod KeptLemmas
 mod TurnLemmas
+mod TellLemmas
 mod ShareLemmas
 pub mod SendLemmas

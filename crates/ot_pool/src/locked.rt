@@ -36,8 +36,9 @@ impl<L: Ledger> Locked<L> {
         let client = self.take_back(alloc, back, share);
         let claimed = self.hub.claim(alloc, turn, worker);
         let is_over = self.is_over(client);
+        let is_aborted = claimed.is_aborted();
         let calls = self.calls_workers();
-        let tells = is_over || claimed.is_aborted() || calls;
+        let tells = is_over || is_aborted || calls;
         if tells {
             self.worker_waits = false;
         }
