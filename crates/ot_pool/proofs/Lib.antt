@@ -1,5 +1,4 @@
 mod KeptLemmas
 mod TurnLemmas
-mod TellLemmas
 mod ShareLemmas
 pub mod SendLemmas
