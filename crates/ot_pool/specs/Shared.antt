@@ -12,7 +12,7 @@ use Rattle.ot_book.specs.declared.executor.NotDone.TheVariants.{Memory, Closed, 
 use Rattle.ot_core.specs.Index.{job_of}
 use Rattle.ot_core.specs.Floors as floors
 use Rattle.ot_core.specs.Floors.{Floor, new_floor, total_of, IsFree, IsWorking, NothingAt, RefusesIn, FailsIn, AbortsJob}
-use Rattle.ot_core.specs.Turns.{ClaimsSome}
+use Rattle.ot_core.specs.Turns.{ClaimsSome, NothingAnywhere}
 use Rattle.ot_core.specs.declared.hall.Collected.TheVariants as collected
 use Rattle.ot_pool.specs.declared.hub.Claimed.{Claimed}
 use Rattle.ot_pool.specs.declared.hub.Claimed.TheVariants as claimed
@@ -123,14 +123,39 @@ is_going _ = false
 abbrev pub is_pending : Shared → ℕ → Bool
 is_pending s t = not s.closed && is_going (option_map (λ j. state_of j) (job_of s.floor.jobs t))
 
--- ---- what a worker brings back
+-- ---- a worker's round
 
 -- a piece comes back, where there is one
 abbrev pub TakesBack : Shared → Option (ℕ × Done) → Shared → Type 0
 TakesBack old None new = new ≡ old
 TakesBack old (Some p) new = (units : Option ℕ) × Takes old p.0 p.1 units new
 
--- the tenant of that piece has no job any more that isn't over, or the pool is closed
-abbrev pub is_over : Option (ℕ × Done) → Shared → Bool
+-- a worker hands back what it ran, and claims behind it
+pub record Rounds (old : Shared) (back : Option (ℕ × Done)) (turn worker : ℕ) (got : Claimed) (new : Shared) : Type 0 where
+  pub between : Shared
+  pub takes : TakesBack old back between
+  pub claims : Claims between turn worker got new
+
+-- whose piece came back
+abbrev pub client_of : Option (ℕ × Done) → Option ℕ
+client_of None = None
+client_of (Some p) = Some p.0
+
+-- that client has no job any more that isn't over, or the pool is closed
+abbrev pub is_over : Option ℕ → Shared → Bool
 is_over None s = false
-is_over (Some p) s = not (is_pending s p.0)
+is_over (Some t) s = not (is_pending s t)
+
+-- a claim aborted a job
+abbrev pub is_aborted : Claimed → Bool
+is_aborted (claimed.Aborted t) = true
+is_aborted _ = false
+
+-- a worker waits, and a task is claimable
+abbrev pub CallsWorkers : Bool → Shared → Type 0
+CallsWorkers waits s = (waits ≡ true) × ¬ (NothingAnywhere s.floor.jobs)
+
+-- Behind a round somebody who waits may go on: the client whose piece came back, for its job is over, the client of a job that
+-- was aborted, or a worker.
+abbrev pub IsToTell : Option (ℕ × Done) → Claimed → Bool → Shared → Type 0
+IsToTell back got waits new = (is_over (client_of back) new ≡ true) ⊎ ((is_aborted got ≡ true) ⊎ CallsWorkers waits new)

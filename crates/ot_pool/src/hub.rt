@@ -39,6 +39,17 @@ pub enum Claimed {
     Closed,
 }
 
+impl Claimed {
+    ghost use Rattle.ot_pool.specs.Shared.{is_aborted};
+
+    // Whether a job was aborted.
+    pub(crate) fn is_aborted(&self) -> bool
+        ensures { result ≡ is_aborted self.now }
+    {
+        matches!(self, Claimed::Aborted(_))
+    }
+}
+
 impl<L: Ledger> Model for Hub<L> {
     ghost use Rattle.std.specs.Coded.{codes};
     ghost use Rattle.ot_model.specs.Code.{body_code};

@@ -77,24 +77,26 @@ impl<L: Ledger> Pool<L> {
         requires worker { (1 ≤ worker) × (worker ≤ 16) }
         ensures { share.new.parts ≡ share.old.parts }
     {
-        let mut locked = self.locked.lock(rt);
-        // Whether a client may go on, who isn't told yet.
-        let mut is_over = locked.take_back(alloc, back, share);
         let mut looks = 0u32;
+        let mut locked = self.locked.lock(rt);
+        let mut round = locked.round(alloc, turn, back, share, worker);
         for _ in rt.forever() {
-            match locked.hub.claim(alloc, turn, worker) {
+            let (claimed, tells) = round;
+            match claimed {
                 Claimed::Got(tenant, piece) => {
-                    let calls = locked.calls_workers();
                     drop(locked);
-                    self.tell(calls || is_over);
+                    self.tell(tells);
                     return Some((tenant, piece));
                 }
-                Claimed::Aborted(_) => is_over = true,
-                Claimed::Idle => {
-                    if is_over {
+                Claimed::Closed => {
+                    drop(locked);
+                    self.tell(tells);
+                    return None;
+                }
+                Claimed::Aborted(_) | Claimed::Idle => {
+                    if tells {
                         drop(locked);
                         self.tell(true);
-                        is_over = false;
                         locked = self.locked.lock(rt);
                     } else if looks < LOOKS {
                         looks += 1;
@@ -106,12 +108,8 @@ impl<L: Ledger> Pool<L> {
                         locked = self.told.wait(rt, locked);
                     }
                 }
-                Claimed::Closed => {
-                    drop(locked);
-                    self.tell(is_over);
-                    return None;
-                }
             }
+            round = locked.round(alloc, turn, None, share, worker);
         }
         unreachable!()
     }

@@ -1,6 +1,8 @@
 -- What a server is asked for, what it prints, and why it may fail.
-use Rattle.std.specs.Prelude.{◌≡◌, ◌≤◌, ℕ, List, Option, Some, ⊤, length}
+use Rattle.std.specs.Prelude.{◌≡◌, ◌≤◌, ℕ, List, [], Option, Some, ⊤, length}
 use Rattle.std.specs.Io.KnownBytes.{Appends}
+use Rattle.ot_store.specs.Usual.{usual_limits}
+use Rattle.ot_book.specs.Books.{Register, new_register}
 use Rattle.ot_serve.specs.declared.fault.Fault.{Fault}
 use Rattle.ot_serve.specs.declared.fault.Fault.TheVariants.{Memory, Stranger, SocketFailed, NoThread}
 use Rattle.ot_serve.specs.declared.serve.Serve.{Serve}
@@ -14,6 +16,10 @@ pub record IsInRange (s : Serve) : Type 0 where
   pub workers : IsFrom1To 16 s.workers
   pub sessions : IsFrom1To 16 s.sessions
   pub count : (n : ℕ) → s.count ≡ Some n → IsFrom1To 1000000 n
+
+-- the book of a tenant whom nobody has served: it has the usual limits and no arrays
+abbrev pub newcomer : List ℕ → Register
+newcomer name = new_register name usual_limits []
 
 -- the faults of a server whose tenants have names, before it prints
 abbrev pub IsLate : Fault → Type 0

@@ -2,7 +2,7 @@
 ghost use Rattle.std.specs.Prelude.{◌≡◌, ◌≢◌, ◌↔◌, ◌<◌, ◌≤◌, Err, None, IfOk, IfErr, OnOk, true, false, length, map, string_bytes};
 ghost use Rattle.std.specs.List.{All};
 ghost use Rattle.ot_front.specs.Device.{next_count};
-ghost use Rattle.ot_serve.specs.Serving.{IsInRange, Prints};
+ghost use Rattle.ot_serve.specs.Serving.{IsInRange, Prints, newcomer};
 ghost use Rattle.ot_serve.specs.Tenants.{are_tenants};
 
 use crate::crew::run;
@@ -73,6 +73,7 @@ fn lay_desk(alloc: Global, names: &[String]) -> Result<Desk, AllocError>
 /// An empty book for each tenant, in order.
 fn empty_books(alloc: Global, names: &[String]) -> Result<Vec<Book>, AllocError>
     ensures names { IfOk result (λ books. map (λ book. book.name) books.items ≡ map string_bytes names.now) }
+    ensures new { IfOk result (λ books. All (λ book. book ≡ newcomer book.name) books.items) }
     ensures closed { IfOk result (λ books. All (λ book. book.pending ≡ None) books.items) }
 {
     let mut books = Vec::with_capacity(alloc, names.len())?;
@@ -83,8 +84,7 @@ fn empty_books(alloc: Global, names: &[String]) -> Result<Vec<Book>, AllocError>
 }
 
 fn empty_book(alloc: Global, name: &str) -> Result<Book, AllocError>
-    ensures name { IfOk result (λ book. book.name ≡ name.now) }
-    ensures closed { IfOk result (λ book. book.pending ≡ None) }
+    ensures { IfOk result (λ book. book ≡ newcomer name.now) }
 {
     Book::new(alloc, name, Limits::usual(), Store::empty(alloc))
 }

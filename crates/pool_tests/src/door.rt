@@ -6,6 +6,10 @@ use std::thread;
 /// How many turns a test waits at most. In each it looks once, and lets other threads run.
 const TURNS: u32 = 10_000_000;
 
+/// For so many turns other threads are let run until those that find nothing to do surely sleep. Each of them looks
+/// a few times before.
+const LONG: u32 = 100_000;
+
 /// How many pieces have come by their number, of a task or of a worker. The last counts all from 3 on.
 #[derive(Drop)]
 struct Tally([AtomicU64; 4]);
@@ -71,6 +75,8 @@ pub(crate) struct Door {
     looks: bool,
     /// How many pieces of the first tenant pass before others of it are held.
     free: u64,
+    /// Whether a piece of a task of the first tenant is held until one of each of the first two has come.
+    pairs: bool,
     /// How many pieces of the first tenant have come.
     came: AtomicU64,
     /// The pieces of the first tenant.
@@ -78,7 +84,7 @@ pub(crate) struct Door {
     /// The pieces of all others.
     others: Pieces,
     is_open: AtomicBool,
-    /// Whether a piece went on though the door wasn't open.
+    /// Whether a piece went on though it was to be held.
     gave_up: AtomicBool,
 }
 
@@ -101,11 +107,21 @@ impl Door {
         Door {
             looks: true,
             free,
+            pairs: false,
             came: AtomicU64::new(0),
             first: Pieces::new(),
             others: Pieces::new(),
             is_open: AtomicBool::new(false),
             gave_up: AtomicBool::new(false),
+        }
+    }
+
+    /// A door that holds the pieces of the first tenant, and behind that those of its first two tasks until both
+    /// have come.
+    pub(crate) fn pairing() -> Door {
+        Door {
+            pairs: true,
+            ..Door::behind(0)
         }
     }
 
@@ -125,15 +141,55 @@ impl Door {
         false
     }
 
-    /// Waits until so many pieces of the first tenant have come: whether they have.
+    /// Waits until so many pieces of the first tenant have come, or it is open: whether they have.
     pub(crate) fn wait_for(&self, pieces: u64) -> bool {
         for _ in 0..TURNS {
             if self.came.load(Ordering::SeqCst) >= pieces {
                 return true;
             }
+            if self.is_open.load(Ordering::SeqCst) {
+                return false;
+            }
             thread::yield_now();
         }
         false
+    }
+
+    /// Opens it long after a piece of the first tenant has come, when all who find nothing to do sleep: whether one
+    /// has come.
+    pub(crate) fn open_late(&self) -> bool {
+        let came = self.wait_for(1);
+        if came {
+            for _ in 0..LONG {
+                thread::yield_now();
+            }
+        }
+        self.set_open();
+        came
+    }
+
+    /// Waits until a piece of each of the first two tasks of the first tenant has come: whether they have.
+    fn wait_for_both(&self) -> bool {
+        for _ in 0..TURNS {
+            let [_, one, two, _] = self.first.by_task.counts();
+            if one > 0 && two > 0 {
+                return true;
+            }
+            thread::yield_now();
+        }
+        false
+    }
+
+    /// Holds a piece of the first tenant as long as it is to be held: whether it was let go in time.
+    fn holds(&self, task: u32) -> bool {
+        let before = self.came.fetch_add(1, Ordering::SeqCst);
+        if before >= self.free && !self.wait_open() {
+            return false;
+        }
+        if self.pairs && task > 0 {
+            return self.wait_for_both();
+        }
+        true
     }
 
     /// How many pieces of each task have come: of the first tenant, and of all others.
@@ -149,7 +205,7 @@ impl Door {
         )
     }
 
-    /// Whether a piece went on though the door wasn't open.
+    /// Whether a piece went on though it was to be held.
     pub(crate) fn gave_up(&self) -> bool {
         self.gave_up.load(Ordering::SeqCst)
     }
@@ -165,8 +221,7 @@ impl Gate for &Door {
             return;
         }
         self.first.count(worker, task);
-        let before = self.came.fetch_add(1, Ordering::SeqCst);
-        if before >= self.free && !self.wait_open() {
+        if !self.holds(task) {
             self.gave_up.store(true, Ordering::SeqCst);
         }
     }

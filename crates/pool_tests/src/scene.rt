@@ -18,6 +18,8 @@ pub(crate) enum Scene {
     Held(By),
     /// A piece of the first tenant is held at the door until another client of it is answered.
     Twice,
+    /// The first piece of a job of this body is held at the door until all who find nothing to do sleep.
+    Asleep(&'static str),
     /// The pool is closed while so many pieces of the first tenant are out. Then both ask once more.
     Closing(By, u64),
     /// A tenant asks that the pool doesn't have.
@@ -74,6 +76,19 @@ fn ask_behind<L: Ledger, R: Wait>(
     }
 }
 
+/// Asks, and opens the door when the answer has come.
+fn ask_and_open<L: Ledger, R: Wait>(
+    rt: &R,
+    alloc: Global,
+    pool: &Pool<L>,
+    door: &Door,
+    body: &str,
+) -> Result<String, AllocError> {
+    let told = ask(rt, alloc, pool, 0, By::Client, body);
+    door.set_open();
+    told
+}
+
 /// Closes the pool once so many pieces of the first tenant have come to the door, and opens it then.
 fn close_behind<L: Ledger, R: Wait>(
     rt: &R,
@@ -93,7 +108,11 @@ fn close_behind<L: Ledger, R: Wait>(
 impl Scene {
     fn clients(&self) -> usize {
         match self {
-            Scene::Beside(_) | Scene::Held(_) | Scene::Twice | Scene::Closing(_, _) => 2,
+            Scene::Beside(_)
+            | Scene::Held(_)
+            | Scene::Twice
+            | Scene::Asleep(_)
+            | Scene::Closing(_, _) => 2,
             Scene::Unknown | Scene::UnknownSession => 1,
             Scene::Many(crowd) => crowd.clients as usize,
         }
@@ -110,6 +129,7 @@ impl Scene {
         match self {
             Scene::Held(by) => ask_behind(rt, alloc, pool, door, *by, 1),
             Scene::Twice => ask_behind(rt, alloc, pool, door, By::Client, 0),
+            Scene::Asleep(_) => format!(in alloc; "{}", door.open_late()),
             Scene::Closing(_, pieces) => close_behind(rt, alloc, pool, door, *pieces),
             _ => ask(rt, alloc, pool, 1, self.by(), NESTED),
         }
@@ -135,6 +155,7 @@ impl Scene {
             Scene::Many(crowd) => crowd.ask(rt, alloc, pool, client),
             Scene::Unknown => ask(rt, alloc, pool, NO_TENANT, By::Client, READ_AFTER_WRITE),
             Scene::UnknownSession => session(rt, alloc, pool, NO_TENANT, LINES),
+            Scene::Asleep(body) if client == 0 => ask_and_open(rt, alloc, pool, door, body),
             _ if client == 0 => ask(rt, alloc, pool, 0, self.by(), READ_AFTER_WRITE),
             _ => self.second(rt, alloc, pool, door),
         }

@@ -2,7 +2,7 @@
 use super::door::Door;
 use super::play::{Told, play};
 use super::players::By;
-use super::scene::Scene;
+use super::scene::{READ_AFTER_WRITE, Scene};
 use std::test::Fail;
 
 const BESIDE_BY_CLIENTS: &str = "2 5 [7, 8, 3]\n3 7 [4, 5, 9]\n";
@@ -126,6 +126,56 @@ fn a_pool_takes_one_job_of_a_tenant_at_a_time(rt: HostRuntime) -> Result<(), Fai
     );
     assert_eq!(rt; door.by_task(), ([4, 1, 1, 0], [0; 4]));
     Ok(())
+}
+
+/// Two tasks that may run side by side.
+const SIDE_BY_SIDE: &str =
+    r#"[["task",[["out",["a",0,1]]],[["set",["c","a",0],4]]],["task",[["out",["a",1,1]]],[["set",["c","a",1],5]]]]"#;
+
+/// Both tasks' pieces stand at the door together, for which two workers have to be awake. One of them slept while
+/// the first piece of the root, behind which there is work for two, was held.
+#[test]
+fn a_worker_that_sleeps_is_told_of_a_piece_beside_that_of_another(
+    rt: HostRuntime,
+) -> Result<(), Fail> {
+    let door = Door::pairing();
+    let told = play(&rt, rt.alloc(), 1, 2, &door, &Scene::Asleep(SIDE_BY_SIDE))?;
+    assert!(rt; !door.gave_up(), "{told:?}");
+    assert!(rt;
+        told.is("2 4 [4, 5, 3]\ntrue\n", [4].as_slice(), 4),
+        "{told:?}"
+    );
+    assert_eq!(rt; door.by_task(), ([3, 1, 1, 0], [0; 4]));
+    Ok(())
+}
+
+/// Whether this was told to a client that slept, whose job may have been refused memory.
+fn is_told_asleep(told: &Told) -> bool {
+    match told.said.as_str() {
+        "2 5 [7, 8, 3]\ntrue\n" => told.usage.total == 5,
+        "Memory\ntrue\n" | "Memory\nfalse\n" => told.usage.total <= 5,
+        _ => false,
+    }
+}
+
+/// It passes whichever allocation fails, and prints a line where one did: a client that sleeps while its job is
+/// refused memory is answered.
+#[test]
+fn a_client_that_sleeps_is_answered_where_its_job_has_no_memory(rt: HostRuntime) {
+    let door = Door::behind(0);
+    let scene = Scene::Asleep(READ_AFTER_WRITE);
+    let Ok(told) = play(&rt, rt.alloc(), 1, 1, &door, &scene) else {
+        let _ = println!(rt; "memory was refused");
+        return;
+    };
+    let is_told = is_told_asleep(&told) && !door.gave_up();
+    assert!(rt; is_told, "{told:?}");
+    if told.said.as_str() != "2 5 [7, 8, 3]\ntrue\n" {
+        let _ = println!(rt;
+            "memory was refused behind {:?} pieces: {told:?}",
+            door.by_task()
+        );
+    }
 }
 
 /// Whether this was told, though a tenant may have been refused memory: the other is told what its job
