@@ -1,7 +1,7 @@
 -- The replies from a place on.
-use Rattle.std.proofs.Common.{◌≡◌, ◌<◌, ◌+◌, ◌-◌, ◌++◌, inl, inr, ℕ, zero, suc, List, [], ◌∷◌, length, map, take, drop, refl, sym, ap, ◌∙◌, arith, true≢false}
+use Rattle.std.proofs.Common.{◌≡◌, ◌<◌, ◌+◌, ◌-◌, ◌++◌, min, inl, inr, ℕ, zero, suc, List, [], ◌∷◌, length, map, take, drop, refl, sym, ap, ◌∙◌, arith, true≢false}
 use Rattle.std.specs.Prelude.{Option, Some, None, is_some, option_map, slice_get}
-use Rattle.std.proofs.lemmas.List.{at_drop_more, length-drop, length-take}
+use Rattle.std.proofs.lemmas.List.{at_drop_more, drop-drop, length-drop, length-take}
 use Rattle.std.proofs.lemmas.Option.{same_Some, slice_get_cases, slice_get-map}
 use Rattle.ot_book.specs.Answers.{numbered}
 use Rattle.ot_book.specs.Books.{number_at, reply_at}
@@ -36,6 +36,30 @@ replies-step a n x some = elim ((slice_get_cases (told a) n).1) [
       (omega (arith, at.1, length-told a), ap (numbered (n + 1)) rest ∙ ap (λ (h : ℕ × Told). h ∷ replies_from a (n + 1)) (sym is))
   | inr past ↦ absurd (true≢false (ap is_some (some ∙ ap (option_map (λ (said : Told). (n + 1, said))) past.1)))
 ]
+
+numbered-drop : (k n : ℕ) (says : List Told) → numbered (n + k) (drop k says) ≡ drop k (numbered n says)
+numbered-drop zero n says = let same : n + 0 ≡ n = omega arith in ap (λ m. numbered m says) same
+numbered-drop (suc k) n [] = refl
+numbered-drop (suc k) n (said ∷ says) =
+    let same : n + suc k ≡ (n + 1) + k = omega arith in ap (λ m. numbered m (drop k says)) same ∙ numbered-drop k (n + 1) says
+
+drop-min : {X : Type 0} (k : ℕ) (xs : List X) → drop (min k (length xs)) xs ≡ drop k xs
+drop-min zero xs = let none : min 0 (length xs) ≡ 0 = omega arith in ap (λ m. drop m xs) none
+drop-min {X} (suc k) [] = let none : min (suc k) 0 ≡ 0 = omega arith in ap (λ m. drop {A = X} m []) none
+drop-min (suc k) (x ∷ xs) = let more : min (suc k) (suc (length xs)) ≡ suc (min k (length xs)) = omega arith in ap (λ m. drop m (x ∷ xs)) more ∙ drop-min k xs
+
+-- those behind so many, or behind all
+pub replies-behind : (a : Account) (n k : ℕ) → replies_from a (n + min k (answered a - n)) ≡ drop k (replies_from a n)
+replies-behind a n k =
+    let rest = replies_from a n in
+    let few = min k (answered a - n) in
+    let same : few ≡ min k (length rest) = omega (arith, length-replies_from a n) in
+    let first : n + few + 1 ≡ (n + 1) + few = omega arith in
+    ap (λ m. numbered m (drop (n + few) (told a))) first
+    ∙ ap (numbered ((n + 1) + few)) (sym (drop-drop few n (told a)))
+    ∙ numbered-drop few (n + 1) (drop n (told a))
+    ∙ ap (λ m. drop m rest) same
+    ∙ drop-min k rest
 
 -- ---- the reply at a place
 

@@ -28,7 +28,7 @@ impl<'a> Model for Replies<'a> {
 }
 
 impl<'a> Replies<'a> {
-    ghost use Rattle.std.specs.Prelude.{◌≡◌};
+    ghost use Rattle.std.specs.Prelude.{◌≡◌, drop, length};
     ghost use Rattle.ot_core.specs.Given.{replies_of};
 
     /// All that this tenant was given.
@@ -36,6 +36,21 @@ impl<'a> Replies<'a> {
         ensures { result ≡ replies_of tenant.now }
     {
         Replies { tenant, place: 0 }
+    }
+
+    /// How many are left. It doesn't go over them.
+    pub fn count_left(&self) -> usize
+        ensures { result ≡ length self.now }
+    {
+        self.tenant.answered() - self.place
+    }
+
+    /// Leaves out so many of them, or all that are left. It doesn't go over them.
+    pub fn pass_over(&mut self, count: usize)
+        ensures { self.new ≡ drop count self.old }
+    {
+        let left = self.tenant.answered() - self.place;
+        self.place += count.min(left);
     }
 }
 
@@ -55,7 +70,7 @@ impl<'a> Iterator for Replies<'a> {
     }
 
     fn size_hint(&self) -> (usize, Option<usize>) {
-        let left = self.tenant.answered() - self.place;
+        let left = self.count_left();
         (left, Some(left))
     }
 }

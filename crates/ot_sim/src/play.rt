@@ -272,14 +272,10 @@ fn tell_news<W: Sink>(
 fn count_given(world: &World, tenant: u32) -> usize
     ensures { result ≡ count_at world.now tenant }
 {
-    let Some(replies) = world.replies(tenant) else {
-        return 0;
-    };
-    let mut count = 0usize;
-    for _ in replies {
-        count = count.saturating_add(1);
+    match world.replies(tenant) {
+        Some(replies) => replies.count_left(),
+        None => 0,
     }
-    count
 }
 
 /// Tells a tenant the replies behind so many.
@@ -297,17 +293,8 @@ fn tell_behind<W: Sink>(
     let Some(mut replies) = world.replies(tenant) else {
         return Ok(());
     };
-    pass_over(&mut replies, given);
+    replies.pass_over(given);
     tell_replies(alloc, name, replies, sink)
-}
-
-/// Passes over so many replies.
-fn pass_over(replies: &mut Replies<'_>, count: usize)
-    ensures { replies.new ≡ drop count replies.old }
-{
-    for _ in 0..count {
-        let _ = replies.next();
-    }
 }
 
 /// Tells a tenant these replies.
