@@ -21,15 +21,18 @@ const BODIES: &str =
 3|[["for","i",0,20000,[["group",[["a",0,1]],[]]]]]||0||| gives 0 20000 [1, 2, 3]
 3|[["if",["c","a",0],[],[]],["if",0,[],[["for","i",0,19998,[["add",["c","a",0],1]]]]]]||0||| gives 0 20000 [19999, 2, 3]
 3|[["task",[["inout",["a",0,1]]],[["for","i",0,9999,[["if",["c","a",0],[["add",["c","a",0],1]],[]]]]]]]||0||| gives 1 19999 [10000, 2, 3]
-65536|[["group",[["a",0,65536]],[["for","i",0,14,[["task",[["red",["a",0,65536]]],[["for","j",0,1000,[["add",["c","a",["+",["*",1000,"i"],"j"]],1]]]]]]]]]]||0||| gives 14 14015 [2, 3, 4, 5, 6, 7]
-3||[["group",[],|14|[["task",[["inout",["a",0,1]]],[["add",["c","a",0],1]]]]|]]| gives 1 16 [2, 2, 3]
-3|[["for","i",0,500,[["task",[],|[["group",[],|11|[["task",[],[]]]|]]|]]]] gives 1000 6500 [1, 2, 3]
-65536|program2 [["for","i",0,16,[["group","max",[["a",0,600]],[["task",[["red","max",["a",0,600]]],[["for","j",0,600,[["fold","max",["c","a","j"],["*","i",50]]]]]]]]]]]||0||| gives 16 9632 [750, 750, 750, 750, 750, 750]
 65536|[["set",["c","a",0],["pick",["a",0,65536],65535]]]||0||| gives 0 1 [65536, 2, 3, 4, 5, 6]
 65536|[["for","i",0,16,[["if",["pick",["a",0,65536],65535],[["add",["c","a",0],1]],[]]]]]||0||| gives 0 32 [17, 2, 3, 4, 5, 6]
 65536|[["for","i",0,16,[["task",[["inout",["a",0,65536]]],[["add",["c","a","i"],["c","a",0]]]]]]]||0||| gives 16 32 [2, 4, 5, 6, 7, 8]
 65536|[["for","i",0,16,[["task",[["in",["a",1,65535]],["out",["a",0,1]]],[["set",["c","a",0],["c","a",["+","i",1]]]]]]]]||0||| gives 16 32 [17, 2, 3, 4, 5, 6]
 65536|[["for","i",0,8,[["task",[["in",["a",1,65535]],["out",["a",0,1]]],[["set",["c","a",0],["pick",["a",1,65535],["-",65535,"i"]]]]]]]]||0||| gives 8 16 [65530, 2, 3, 4, 5, 6]"#;
+
+/// Bodies of the same form at the limits of rows, of groups in each other, of children and of folds.
+const LIMITS: &str =
+    r#"65536|[["group",[["a",0,65536]],[["for","i",0,14,[["task",[["red",["a",0,65536]]],[["for","j",0,1000,[["add",["c","a",["+",["*",1000,"i"],"j"]],1]]]]]]]]]]||0||| gives 14 14015 [2, 3, 4, 5, 6, 7]
+3||[["group",[],|14|[["task",[["inout",["a",0,1]]],[["add",["c","a",0],1]]]]|]]| gives 1 16 [2, 2, 3]
+3|[["for","i",0,500,[["task",[],|[["group",[],|11|[["task",[],[]]]|]]|]]]] gives 1000 6500 [1, 2, 3]
+65536|program2 [["for","i",0,16,[["group","max",[["a",0,600]],[["task",[["red","max",["a",0,600]]],[["for","j",0,600,[["fold","max",["c","a","j"],["*","i",50]]]]]]]]]]]||0||| gives 16 9632 [750, 750, 750, 750, 750, 750]"#;
 
 /// So many cells: 1, 2, 3 and so on.
 fn numbers(alloc: Global, len: u64) -> Result<Vec<u64>, AllocError> {
@@ -83,8 +86,9 @@ fn long_and_deep_bodies_go_to_their_end(rt: HostRuntime) {
 }
 
 #[test]
-fn bodies_whose_first_piece_ends_first_go_to_their_end(rt: HostRuntime) {
-    for row in BODIES.lines() {
+fn bodies_at_the_limits_want_no_memory_in_either_order(rt: HostRuntime) {
+    for row in LIMITS.lines() {
         assert!(rt; is_right(rt.alloc(), row, &mut Ends::First), "{row}");
+        assert!(rt; is_right(rt.alloc(), row, &mut Ends::Last), "{row}");
     }
 }
