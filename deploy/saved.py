@@ -1,0 +1,214 @@
+"""A tenant as a file, for the scripts beside this one.
+
+A file is a session that makes the tenant's arrays again, so `omptaskd solo < FILE` takes it. It ends with a goodbye, and behind
+that, where no server reads, stands one line of JSON: the number of the tenant's next request, the units that its programs have
+executed, and the sum of all that stands before.
+"""
+import hashlib
+import json
+import os
+import socket
+import ssl
+import time
+
+GOODBYE = '["bye"]\n'
+LINE = 60000  # bytes of numbers in a line: with its other words it stays below the protocol's 65,536
+GAP = 64  # so many zeros end a line of numbers, since new cells are 0: a full tenant has fewer lines than a log has room for
+BUSY = ["err", 0, 409]
+FOLDER = "/etc/omptaskd"
+
+
+class Fault(Exception):
+    """What went wrong, for a person."""
+
+
+class Busy(Fault):
+    """The tenant has another session."""
+
+
+# ---- a session with a server
+
+
+def connected(server):
+    """A connection to a server: at a socket's path, or through a host of the fleet, HOST or HOST:PORT."""
+    if "/" in server:
+        connection = socket.socket(socket.AF_UNIX)
+        connection.connect(server)
+        return connection
+    host, _, port = server.partition(":")
+    context = ssl.create_default_context(cafile=f"{FOLDER}/ca.pem")
+    context.load_cert_chain(f"{FOLDER}/mover.pem")
+    raw = socket.create_connection((host, int(port or 7444)), timeout=60)
+    return context.wrap_socket(raw, server_hostname=host)
+
+
+class Session:
+    """A session of a tenant. Where he has one already it tries again for `wait` seconds, and then tells Busy."""
+
+    def __init__(self, server, tenant, wait=0.0):
+        end = time.monotonic() + wait
+        while True:
+            self.connection = connected(server)
+            self.stream = self.connection.makefile("rwb")
+            reply = self.ask(["hello", tenant])
+            if reply[0] == "hello":
+                self.next = reply[2]
+                return
+            self.close()
+            if reply != BUSY:
+                raise Fault(f"{tenant}: {server} says {reply}")
+            if time.monotonic() > end:
+                raise Busy(f"{tenant}: busy")
+            time.sleep(0.05)
+
+    def ask(self, request):
+        return self.ask_line(json.dumps(request, separators=(",", ":")))
+
+    def ask_line(self, line):
+        self.stream.write(line.encode() + b"\n")
+        self.stream.flush()
+        return self.hear()
+
+    def hear(self):
+        line = self.stream.readline()
+        if not line.endswith(b"\n"):
+            raise Fault("the session was ended")
+        return json.loads(line)
+
+    def bye(self):
+        """Ends it; the tenant is free for the next session when this returns."""
+        self.stream.write(GOODBYE.encode())
+        self.stream.flush()
+        self.stream.read()
+        self.close()
+
+    def close(self):
+        self.stream.close()
+        self.connection.close()
+
+
+# ---- the text of a tenant
+
+
+def numbers(name, cells):
+    """The lines that write these cells, but for zeros."""
+    at = 0
+    while at < len(cells):
+        if cells[at] == 0:
+            at += 1
+            continue
+        end, last, size = at, at, 0
+        while end < len(cells) and end - last < GAP and size < LINE:
+            if cells[end]:
+                last = end
+            size += len(str(cells[end])) + 1
+            end += 1
+        yield f'["put","{name}",{at},{json.dumps(cells[at : last + 1], separators=(",", ":"))}]\n'
+        at = last + 1
+
+
+def arrays(ask):
+    """The session that makes the arrays again, as `list` and `get` tell them."""
+    lines = []
+    for name, length in ask(["list"])[2]:
+        lines.append(f'["new","{name}",{length}]\n')
+        lines += numbers(name, ask(["get", name, 0, length])[2])
+    return "".join(lines) + GOODBYE
+
+
+def file_of(body, number, units):
+    """The file's text: the session, and the line behind it."""
+    note = {"next": number, "used": units, "sha256": hashlib.sha256(body.encode()).hexdigest()}
+    return body + json.dumps(note) + "\n"
+
+
+def taken(session):
+    """The file's text of a session's tenant. Its log begins anew, before and after, so that a full one is no hindrance."""
+    session.ask(["checkpoint"])
+    units = session.ask(["used"])[2]
+    body = arrays(session.ask)
+    return file_of(body, session.ask(["checkpoint"])[1] + 1, units)
+
+
+def parts(text):
+    """The session in a file's text, and what the line behind it says; a fault where the file was cut or changed."""
+    body, goodbye, last = text.rpartition(GOODBYE)
+    body += goodbye
+    try:
+        note = json.loads(last)
+        whole = last.endswith("\n") and note["sha256"] == hashlib.sha256(body.encode()).hexdigest()
+        number, units = int(note["next"]), int(note["used"])
+    except (ValueError, KeyError, TypeError):
+        whole = False
+    if not whole:
+        raise Fault("the file isn't whole")
+    return body, number, units
+
+
+# ---- the way back
+
+
+def put_back(session, text, replace=False, exact=False):
+    """Makes the tenant's arrays what the file says, and compares what the server then tells of them."""
+    body, number, units = parts(text)
+    found = session.ask(["list"])[2]
+    if found and not replace:
+        raise Fault("the tenant has arrays")
+    for name, _ in found:
+        session.ask(["free", name])
+    session.ask(["checkpoint"])
+    for line in body.splitlines()[:-1]:
+        reply = session.ask_line(line)
+        if reply[0] != "ok":
+            raise Fault(f"{line[:40]}: {reply}")
+    if arrays(session.ask) != body:
+        raise Fault("what stands there isn't what the file says")
+    if exact:
+        go_on(session, number, units)
+
+
+def go_on(session, number, units):
+    """Brings the used units and the number of the next request to what the file says, where they are behind it."""
+    missing = units - session.ask(["used"])[2]
+    if missing > 0:
+        spend(session, missing)
+    last = session.ask(["checkpoint"])[1]
+    while last < number - 1:
+        empty = min(number - 2 - last, 4000)  # an empty line is a request like others: it is refused, and counts
+        session.stream.write(b"\n" * empty)
+        session.stream.flush()
+        for _ in range(empty):
+            session.hear()
+        last = session.ask(["checkpoint"])[1]
+
+
+def spend(session, units):
+    """Executes so many units, by runs that change nothing."""
+    names = session.ask(["list"])[2]
+    cell = ["c", names[0][0] if names else "nothing", 0]
+    if not names:
+        session.ask(["new", "nothing", 1])
+    while units > 0:
+        turns = min(units, 20000)
+        reply = session.ask(["run", ["program", [], [["for", "i", 0, turns, [["add", cell, 0]]]]]])
+        if reply[0] != "done":
+            raise Fault(f"a run that adds 0: {reply}")
+        units -= reply[3]
+        session.ask(["checkpoint"])
+    if not names:
+        session.ask(["free", "nothing"])
+
+
+# ---- files
+
+
+def write_whole(path, text):
+    """The file is the old one or the new one whole, also where the machine loses power."""
+    with open(path + "~", "w", encoding="utf-8") as file:
+        file.write(text)
+        file.flush()
+        os.fsync(file.fileno())
+    os.rename(path + "~", path)
+    folder = os.open(os.path.dirname(os.path.abspath(path)), os.O_RDONLY)
+    os.fsync(folder)
+    os.close(folder)
