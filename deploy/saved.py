@@ -147,16 +147,15 @@ def parts(text):
 
 # ---- the way back
 
+RUN = 20000  # units of a run that changes nothing
+LOG = 4000  # requests between two checkpoints: the log has room for 4,096
+
 
 def put_back(session, text, replace=False, exact=False):
     """Makes the tenant's arrays what the file says, and compares what the server then tells of them."""
     body, number, units = parts(text)
-    found = session.ask(["list"])[2]
-    if found and not replace:
-        raise Fault("the tenant has arrays")
-    for name, _ in found:
-        session.ask(["free", name])
-    session.ask(["checkpoint"])
+    if session.next > 1:
+        clear(session, replace)
     for line in body.splitlines()[:-1]:
         reply = session.ask_line(line)
         if reply[0] != "ok":
@@ -167,36 +166,58 @@ def put_back(session, text, replace=False, exact=False):
         go_on(session, number, units)
 
 
+def clear(session, replace):
+    found = session.ask(["list"])[2]
+    if found and not replace:
+        raise Fault("the tenant has arrays")
+    for name, _ in found:
+        session.ask(["free", name])
+    session.ask(["checkpoint"])
+
+
 def go_on(session, number, units):
-    """Brings the used units and the number of the next request to what the file says, where they are behind it."""
-    missing = units - session.ask(["used"])[2]
-    if missing > 0:
-        spend(session, missing)
+    """Brings the used units and the number of the next request to what the file says, where they are behind it. The last of
+    the requests that it makes is a checkpoint."""
+    spend(session, units - session.ask(["used"])[2])
     last = session.ask(["checkpoint"])[1]
     while last < number - 1:
-        empty = min(number - 2 - last, 4000)  # an empty line is a request like others: it is refused, and counts
+        empty = min(number - 2 - last, LOG)  # an empty line is a request like others: it is refused, and counts
         session.stream.write(b"\n" * empty)
         session.stream.flush()
         for _ in range(empty):
             session.hear()
         last = session.ask(["checkpoint"])[1]
+    session.next = last + 1
 
 
 def spend(session, units):
     """Executes so many units, by runs that change nothing."""
+    if units <= 0:
+        return
     names = session.ask(["list"])[2]
     cell = ["c", names[0][0] if names else "nothing", 0]
     if not names:
         session.ask(["new", "nothing", 1])
+    runs = 0
     while units > 0:
-        turns = min(units, 20000)
+        turns = min(units, RUN)
         reply = session.ask(["run", ["program", [], [["for", "i", 0, turns, [["add", cell, 0]]]]]])
-        if reply[0] != "done":
-            raise Fault(f"a run that adds 0: {reply}")
-        units -= reply[3]
-        session.ask(["checkpoint"])
+        if reply[0] != "done" or reply[3] != turns:
+            raise Fault(f"a run of {turns} units: {reply}")
+        units -= turns
+        runs += 1
+        if runs % LOG == 0:
+            session.ask(["checkpoint"])
     if not names:
         session.ask(["free", "nothing"])
+
+
+def can_be_exact(text):
+    """Whether `put_back` to a new tenant makes no more requests than the file says that the tenant has made."""
+    body, number, units = parts(text)
+    runs = -(-units // RUN)
+    made = body.count("\n") + body.count('["new"') + runs + runs // LOG
+    return made + 6 < number
 
 
 # ---- files
