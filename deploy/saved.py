@@ -56,9 +56,9 @@ class Session:
                 return
             self.close()
             if reply != BUSY:
-                raise Fault(f"{tenant}: {server} says {reply}")
+                raise Fault(f"{server} says {reply}")
             if time.monotonic() > end:
-                raise Busy(f"{tenant}: busy")
+                raise Busy("busy")
             time.sleep(0.05)
 
     def ask(self, request):
