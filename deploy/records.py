@@ -13,7 +13,7 @@ import threading
 import uuid
 import zlib
 
-from saved import GOODBYE, Fault, file_of, parts, write_whole
+from saved import GOODBYE, Fault, file_of, least_next, parts, write_whole
 
 NEW = file_of(GOODBYE, 1, 0)
 STRUCK = b"x"  # an x before its rest makes a line no JSON: it is refused, and counts
@@ -34,6 +34,16 @@ def lines_of(text, records):
     return lines
 
 
+def saved_before(path):
+    """A beginning, for a tenant that was saved in a file and had no journal: his arrays, and a number that a server can come to."""
+    if not os.path.exists(path):
+        return NEW
+    with open(path, encoding="utf-8") as file:
+        text = file.read()
+    body, number, units = parts(text)
+    return file_of(body, max(number, least_next(text)), units)
+
+
 class Disk:
     """FOLDER/TENANT.journal: the beginning, and then each record behind a line with its length and its sum."""
 
@@ -41,7 +51,7 @@ class Disk:
         self.path = os.path.join(folder, tenant + ".journal")
         self.lock = threading.Lock()
         if not os.path.exists(self.path):
-            write_whole(self.path, NEW)
+            write_whole(self.path, saved_before(os.path.join(folder, tenant + ".jsonl")))
         self.file = open(self.path, "r+b")
 
     def take(self):

@@ -43,10 +43,9 @@ def connected(server):
 
 
 class Session:
-    """A session of a tenant. Where he has one already it tries again for `wait` seconds, and then tells Busy."""
+    """A session of a tenant. Where he has one already it tries again until that time of the clock, and then tells Busy."""
 
-    def __init__(self, server, tenant, wait=0.0):
-        end = time.monotonic() + wait
+    def __init__(self, server, tenant, until=0.0):
         while True:
             self.connection = connected(server)
             self.stream = self.connection.makefile("rwb")
@@ -57,7 +56,7 @@ class Session:
             self.close()
             if reply != BUSY:
                 raise Fault(f"{server} says {reply}")
-            if time.monotonic() > end:
+            if time.monotonic() > until:
                 raise Busy("busy")
             time.sleep(0.05)
 
@@ -194,6 +193,7 @@ def spend(session, units):
     """Executes so many units, by runs that change nothing."""
     if units <= 0:
         return
+    session.ask(["checkpoint"])
     names = session.ask(["list"])[2]
     cell = ["c", names[0][0] if names else "nothing", 0]
     if not names:
@@ -212,12 +212,11 @@ def spend(session, units):
         session.ask(["free", "nothing"])
 
 
-def can_be_exact(text):
-    """Whether `put_back` to a new tenant makes no more requests than the file says that the tenant has made."""
-    body, number, units = parts(text)
+def least_next(text):
+    """The least number of a next request to which `put_back` can bring a new tenant: its own requests are counted too."""
+    body, _, units = parts(text)
     runs = -(-units // RUN)
-    made = body.count("\n") + body.count('["new"') + runs + runs // LOG
-    return made + 6 < number
+    return body.count("\n") + body.count('["new"') + runs + runs // LOG + 8
 
 
 # ---- files
