@@ -35,7 +35,7 @@ def lines_of(text, records):
 
 
 def saved_before(path):
-    """A beginning, for a tenant that was saved in a file and had no journal: his arrays, and a number that a server can come to."""
+    """A beginning for a tenant that was saved and had no journal: his arrays, and a number to which a server can be brought."""
     if not os.path.exists(path):
         return NEW
     with open(path, encoding="utf-8") as file:
