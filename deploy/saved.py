@@ -2,7 +2,7 @@
 
 A file is a session that makes the tenant's arrays again, so `omptaskd solo < FILE` takes it. It ends with a goodbye, and behind
 that, where no server reads, stands one line of JSON: the number of the tenant's next request, the units that its programs have
-executed, and the sum of all that stands before.
+executed, and a sum of these and of the session.
 """
 import hashlib
 import json
@@ -115,10 +115,13 @@ def arrays(ask):
     return "".join(lines) + GOODBYE
 
 
+def sum_of(body, number, units):
+    return hashlib.sha256(f"{body}{number} {units}".encode()).hexdigest()
+
+
 def file_of(body, number, units):
     """The file's text: the session, and the line behind it."""
-    note = {"next": number, "used": units, "sha256": hashlib.sha256(body.encode()).hexdigest()}
-    return body + json.dumps(note) + "\n"
+    return body + json.dumps({"next": number, "used": units, "sha256": sum_of(body, number, units)}) + "\n"
 
 
 def taken(session):
@@ -135,8 +138,8 @@ def parts(text):
     body += goodbye
     try:
         note = json.loads(last)
-        whole = last.endswith("\n") and note["sha256"] == hashlib.sha256(body.encode()).hexdigest()
         number, units = int(note["next"]), int(note["used"])
+        whole = last.endswith("\n") and note["sha256"] == sum_of(body, number, units)
     except (ValueError, KeyError, TypeError):
         whole = False
     if not whole:
