@@ -31,28 +31,33 @@ done
 exec chroot . env -i container=other PATH=/usr/sbin:/usr/bin:/sbin:/bin /lib/systemd/systemd --unit=basic.target "$@"
 """
 GROUPS = [path for path in ("/sys/fs/cgroup/systemd", "/sys/fs/cgroup/unified") if os.path.isdir(path)]
-INSTALLED = "DEPLOY_TEST_INSIDE"
+INSIDE = "srv/programs"
+ENTERED = "DEPLOY_TEST_ENTERED"
 
 
 def enter():
     """Begins the test again in a machine of its own."""
-    if INSTALLED in os.environ:
+    if ENTERED in os.environ:
         return
     if os.geteuid() != 0:
         sys.exit("a machine of its own wants root")
     at = folder()
-    inside = 'cd / && exec chroot "$OLDPWD" "$@"'
-    words = ["unshare", "--net", "--mount", "--uts", "--pid", "--fork", "--kill-child", "sh", "-ec", LAYER + inside]
-    environment = {**os.environ, INSTALLED: "1", "OMPTASKD": os.path.abspath(PROGRAM), "OMPTASK": os.path.abspath(COMPANION)}
+    # The programs come along, since they may stand in /tmp, which isn't seen from inside.
+    inside = f"""
+mkdir -p {INSIDE}
+for name in omptaskd omptask; do
+  [ ! -e "$1" ] || install -m 755 "$1" "{INSIDE}/$name"
+  shift
+done
+cd / && exec chroot "$OLDPWD" "$@"
+"""
+    spaces = "--net --mount --uts --pid --fork --kill-child"
+    command = ["unshare", *spaces.split(), "sh", "-ec", LAYER + inside, at, "test"]
+    command += [os.path.abspath(PROGRAM), os.path.abspath(COMPANION)]
+    command += [sys.executable, os.path.abspath(sys.argv[0]), *sys.argv[1:]]
+    environment = {**os.environ, "OMPTASKD": f"/{INSIDE}/omptaskd", "OMPTASK": f"/{INSIDE}/omptask", ENTERED: "1"}
     environment.pop("TMPDIR", None)
-    command = [*words, at, "test", sys.executable, os.path.abspath(sys.argv[0]), *sys.argv[1:]]
-    # What stands in /tmp isn't seen from inside.
-    for name in ("OMPTASKD", "OMPTASK"):
-        if environment[name].startswith("/tmp/"):
-            shutil.copy(environment[name], f"/var/tmp/deploy-test-{name}")
-            environment[name] = f"/var/tmp/deploy-test-{name}"
-    status = subprocess.run(command, env=environment, cwd="/").returncode
-    sys.exit(status)
+    sys.exit(subprocess.run(command, env=environment, cwd="/").returncode)
 
 
 def install(root="/"):
