@@ -101,6 +101,23 @@ def omptaskd(path, tenants, workers=2, sessions=16):
     return part
 
 
+def etcd(at):
+    """Three members of etcd, with their data in a folder; the parts, and where they answer."""
+    ports = [12371, 12372, 12373]
+    peers = ",".join(f"m{k}=http://127.0.0.1:{port + 10}" for k, port in enumerate(ports))
+    members = []
+    for k, port in enumerate(ports):
+        client, peer = f"http://127.0.0.1:{port}", f"http://127.0.0.1:{port + 10}"
+        words = ["--name", f"m{k}", "--data-dir", f"{at}/m{k}", "--listen-client-urls", client]
+        words += ["--advertise-client-urls", client, "--listen-peer-urls", peer, "--initial-advertise-peer-urls", peer]
+        words += ["--initial-cluster", peers, "--initial-cluster-state", "new", "--heartbeat-interval", 300]
+        words += ["--election-timeout", 3000]
+        members.append(start(["etcd", *words], log=f"{at}/m{k}.log"))
+    asks = ["env", "ETCDCTL_API=3", "etcdctl", "--endpoints", f"127.0.0.1:{ports[0]}", "endpoint", "health"]
+    wait_for(lambda: run(*asks)[0] == 0, "etcd", 60)
+    return members, ",".join(f"127.0.0.1:{port}" for port in ports)
+
+
 def run(*command, **more):
     """Runs a command; its status, what it wrote, and what it complained of."""
     ran = subprocess.run(list(map(str, command)), capture_output=True, text=True, timeout=120, **more)
