@@ -7,8 +7,8 @@ ghost use Rattle.ot_check.specs.Paths.{Step, Passes};
 ghost use Rattle.ot_explain.specs.Races.{IsPending, Leaves};
 
 use crate::child::Child;
+use crate::pending::tasks_pending;
 use crate::race::statement_at;
-use crate::tasks::tasks_wanted;
 use crate::walk::{Search, walk};
 use crate::wanted::Wanted;
 use ot_model::Stmt;
@@ -40,7 +40,7 @@ fn find_pending<'a>(
     requires short { place + size (stmts_of body.now.items) < 2 ^ 32 }
     ensures { IfOk result (λ found. IfSome found (λ child. (path : List Step) × Passes place (stmts_of body.now.items) path × IsPending path child.place child.decl.now)) }
 {
-    let mut tasks = tasks_wanted(alloc, body, &Wanted::Each, place)?;
+    let mut tasks = tasks_pending(alloc, body, &Wanted::Each, place, 0)?;
     while let Some(task) = tasks.pop() {
         if let Some(child) = pending(body, place, task) {
             return Ok(Some(child));

@@ -5,7 +5,7 @@ ghost use Rattle.ot_model.specs.Counts.{size, size_one};
 ghost use Rattle.ot_explain.specs.Races.{IsAt, Races, conflicts_at};
 
 use crate::child::Child;
-use crate::tasks::tasks_wanted;
+use crate::pending::tasks_pending;
 use crate::touch::conflicts_at;
 use crate::walk::{Search, walk};
 use crate::wanted::Wanted;
@@ -34,8 +34,8 @@ pub(crate) fn statement_at<'a>(body: &'a Vec<Stmt>, place: u32) -> Option<&'a St
     }
 }
 
-/// A child with which the statement at a place of a program conflicts, the latest of them. There is a walk for
-/// each task that is wanted, since a wait may await one of them and not another.
+/// A child with which the statement at a place of a program conflicts, the latest of them. One walk tells which may be
+/// unawaited there, and one for each of these shows that it is.
 pub(crate) fn find_race<'a>(
     alloc: Global,
     body: &'a Vec<Stmt>,
@@ -45,7 +45,7 @@ pub(crate) fn find_race<'a>(
     requires short { 1 + size (stmts_of body.now.items) < 2 ^ 32 }
     ensures { IfOk result (λ found. IfSome found (λ race. Races (stmts_of body.now.items) place (stmt_of race.stmt.now) race.child.place race.child.decl.now race.cell)) }
 {
-    let mut tasks = tasks_wanted(alloc, body, wanted, 1)?;
+    let mut tasks = tasks_pending(alloc, body, wanted, 1, place)?;
     while let Some(child) = tasks.pop() {
         if let Some(race) = race_with(body, Search { place, child }, wanted) {
             return Ok(Some(race));
