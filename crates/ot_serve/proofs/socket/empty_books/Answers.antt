@@ -12,9 +12,9 @@ loop-name-preserved c =
     let named = ap (λ (book : Register). book.name) is in (
       grind (arith, common_steps, named),
       subst (All (λ book. book ≡ newcomer book.name)) (sym c.in_ok-push.ensures.items)
-          (All-push (λ book. book ≡ newcomer book.name) c.loop-name.books.items c.in_ok-empty_book.field-0 c.loop-name.invariant.1.0
+          (All-push (λ book. book ≡ newcomer book.name) c.loop-name.books.items c.in_ok-empty_book.field-0 c.loop-name.invariant.1
           (subst (λ (book : Register). book ≡ newcomer book.name) (sym is) refl)),
       subst (All (λ book. book.pending ≡ None)) (sym c.in_ok-push.ensures.items)
-          (All-push (λ book. book.pending ≡ None) c.loop-name.books.items c.in_ok-empty_book.field-0 c.loop-name.invariant.1.1
+          (All-push (λ book. book.pending ≡ None) c.loop-name.books.items c.in_ok-empty_book.field-0 c.loop-name.invariant.2
           (ap (λ (book : Register). book.pending) is)),
     )
