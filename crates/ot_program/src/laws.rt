@@ -9,8 +9,8 @@ pub fn printed_reads_as_itself()
     ensures { PrintedReadsAsItself }
 {}
 
-/// What is printed of a tree whose cells are there, and that is within the limits, is accepted: no refusal
-/// is stricter than the limits and the names ask.
+/// What is printed of a tree whose cells are there, and that is within the limits, is accepted. A print has
+/// no loops, no variables and no reckoned sizes: of refusals of these it says nothing.
 pub fn printed_is_accepted()
     ensures { PrintedIsAccepted }
 {}
