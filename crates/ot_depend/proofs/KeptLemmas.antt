@@ -4,7 +4,7 @@ use Rattle.std.specs.List.{All, list_any, slice_get}
 use Rattle.std.specs.Option.{option_map, unwrap_or}
 use Rattle.std.proofs.lemmas.Option.{same_Some, none-some, slice_get-map, slice_get_within, get_or_from_slice_get}
 use Rattle.std.proofs.lemmas.List.{length-map}
-use Rattle.std.proofs.lemmas.List.Sums.{sum_by_push, get_or-le-sum_by, count_by-le-length}
+use Rattle.std.proofs.lemmas.List.Sums.{sum_by_push, get_or-le-sum_by}
 use Rattle.ot_model.specs.Cells.{updated}
 use Rattle.ot_model.specs.declared.expr.Cell.{Cell}
 use Rattle.ot_model.specs.declared.stmt.Use.{Use}
@@ -52,13 +52,6 @@ pub woken_it : (kids : List Kid) (told : List ℕ) (i : ℕ) (me k : Kid) → sl
 woken_it kids told i me k known there = let t = woken_back told kids i k there in t.2 ∙ ap (λ (x : Kid). x.it) (same_Some t.0 me (sym t.1 ∙ known))
 
 module _ (kids : List Kid) (cells : Table) (groups : Groups) (unfinished : ℕ) (old : IsTrueOf kids cells groups unfinished) where
-  -- what is counted for a group is few
-  pub few : (g : ℕ) → count_of groups g ≤ length kids
-  few g = omega (arith, old.in_group g, count_by-le-length (is_unfinished_in g) (siblings kids), length-map kids (λ (t : Kid). t.it))
-
-  pub few_all : unfinished ≤ length kids
-  few_all = omega (arith, old.all, count_by-le-length is_unfinished (siblings kids), length-map kids (λ (t : Kid). t.it))
-
   module _ (cells2 : Table) (groups2 : Groups) (us : List Use) (gs : List ℕ) (waiting : ℕ) (spots : List Spot) (earlier : List ℕ)
       (uses_are : map (λ s. s.one) spots ≡ us) (placed : All (IsPlaced cells) spots) (found : earlier ≡ found_all (lines_of cells.rows.items) spots)
       (waits : waiting ≡ due (length kids) (enlisted (length kids) kids earlier))

@@ -105,10 +105,6 @@ cell_of-with_cell cells c f =
     ap (option_and_then (λ row. slice_get row c.index)) (slice_get-updated cells c.array (λ row. updated row c.index f))
     ∙ row-updated (slice_get cells c.array) c.index f
 
--- the changed cell, where it is there
-pub cell_of-with_cell-some : (cells : List (List ℕ)) (c : Cell) (f : ℕ → ℕ) (n : ℕ) → cell_of cells c ≡ Some n → cell_of (with_cell cells c f) c ≡ Some (f n)
-cell_of-with_cell-some cells c f n there = cell_of-with_cell cells c f ∙ ap (option_map f) there
-
 -- a cell that is there, once a number was written to it
 pub cell_of-with_cell-written : (cells : List (List ℕ)) (c : Cell) (n : ℕ) → IsSome (cell_of cells c) → cell_of (with_cell cells c (λ _. n)) c ≡ Some n
 cell_of-with_cell-written cells c n there = cell_of-with_cell cells c (λ _. n) ∙ option_map-const (cell_of cells c) n there
@@ -131,45 +127,6 @@ pub updated-updated : {A : Type 0} (xs : List A) (i : ℕ) (f g : A → A) → u
 updated-updated [] i f g = refl
 updated-updated (x ∷ xs) zero f g = refl
 updated-updated (x ∷ xs) (suc i) f g = ap (λ zs. x ∷ zs) (updated-updated xs i f g)
-
-pub updated-swap : {A : Type 0} (xs : List A) (i j : ℕ) (f g : A → A) → i ≢ j → updated (updated xs i f) j g ≡ updated (updated xs j g) i f
-updated-swap [] i j f g apart = refl
-updated-swap (x ∷ xs) zero zero f g apart = absurd (apart refl)
-updated-swap (x ∷ xs) zero (suc j) f g apart = refl
-updated-swap (x ∷ xs) (suc i) zero f g apart = refl
-updated-swap (x ∷ xs) (suc i) (suc j) f g apart = ap (λ zs. x ∷ zs) (updated-swap xs i j f g (λ e. apart (ap suc e)))
-
--- equal functions change a list in the same way
-pub updated-same : {A : Type 0} (xs : List A) (i : ℕ) (f g : A → A) → ((x : A) → f x ≡ g x) → updated xs i f ≡ updated xs i g
-updated-same xs i f g same = updated-rows xs i f g (λ x here. same x)
-
--- two changes of one cell are one
-pub with_cell-with_cell : (cells : List (List ℕ)) (c : Cell) (f g : ℕ → ℕ) → with_cell (with_cell cells c f) c g ≡ with_cell cells c (λ n. g (f n))
-with_cell-with_cell cells c f g =
-    updated-updated cells c.array (λ row. updated row c.index f) (λ row. updated row c.index g)
-    ∙ updated-same cells c.array _ _ (λ row. updated-updated row c.index f g)
-
--- changes of two cells may be made in either order
-pub with_cell-swap : (cells : List (List ℕ)) (c d : Cell) (f g : ℕ → ℕ) → c ≢ d → with_cell (with_cell cells c f) d g ≡ with_cell (with_cell cells d g) c f
-with_cell-swap cells c d f g apart =
-    let one : List ℕ → List ℕ = λ row. updated row c.index f in
-    let two : List ℕ → List ℕ = λ row. updated row d.index g in
-    elim (cells_apart c d apart) [
-      | inl other ↦ updated-swap cells c.array d.array one two other
-      | inr both ↦
-          ap (λ a. updated (updated cells c.array one) a two) (sym both.0)
-          ∙ updated-updated cells c.array one two
-          ∙ updated-same cells c.array _ _ (λ row. updated-swap row c.index d.index f g both.1)
-          ∙ sym (updated-updated cells c.array two one)
-          ∙ ap (λ a. updated (updated cells a two) c.array one) both.0
-    ]
-
--- and so may changes of one cell that commute
-pub with_cell-commute : (cells : List (List ℕ)) (c : Cell) (f g : ℕ → ℕ) → ((n : ℕ) → g (f n) ≡ f (g n)) → with_cell (with_cell cells c f) c g ≡ with_cell (with_cell cells c g) c f
-with_cell-commute cells c f g same =
-    with_cell-with_cell cells c f g
-    ∙ updated-same cells c.array _ _ (λ row. updated-same row c.index _ _ same)
-    ∙ sym (with_cell-with_cell cells c g f)
 
 -- lists with the same elements at all places are the same
 pub same_list : {A : Type 0} (xs ys : List A) → ((i : ℕ) → slice_get xs i ≡ slice_get ys i) → xs ≡ ys
