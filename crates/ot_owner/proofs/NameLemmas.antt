@@ -94,16 +94,6 @@ named-insert (v ∷ us) (suc i) u c within =
       ],
     )
 
--- a cell that is named already
-pub named-met : (us : List Use) (u : Use) (c : Cell) → IsNamed us u.cell → IsNamed us c ↔ ((c ≡ u.cell) ⊎ IsNamed us c)
-named-met us u c there = (
-  λ old. inr old,
-  λ either. elim either [
-    | inl same ↦ subst (IsNamed us) (sym same) there
-    | inr old ↦ old
-  ],
-)
-
 contains-push : (cs : List Cell) (x c : Cell) → Contains (cs ++ x ∷ []) c ↔ ((c ≡ x) ⊎ Contains cs c)
 contains-push [] x c = ((λ there. one there), (λ either. two either))
   where

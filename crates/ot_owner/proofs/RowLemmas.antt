@@ -249,11 +249,6 @@ front-all f zero (x ∷ xs) long = absurd (omega (arith, long))
 front-all f (suc i) [] long = refl
 front-all f (suc i) (x ∷ xs) long = ap (λ ys. f x ∷ ys) (front-all f i xs (omega (arith, long)))
 
-pub length-front : {A : Type 0} (f : A → A) (i : ℕ) (xs : List A) → length (front f i xs) ≡ length xs
-length-front f zero xs = refl
-length-front f (suc i) [] = refl
-length-front f (suc i) (x ∷ xs) = ap suc (length-front f i xs)
-
 -- what holds of each element, seen by g
 pub all-seen : {A B : Type 0} (g : A → B) (P : B → Type 0) (xs : List A) → ((j : ℕ) (d : A) → j < length xs → P (g (get_or xs j d))) → All P (map g xs)
 all-seen g P [] each = All-nil P
