@@ -1,0 +1,15 @@
+pub mod FoldLemmas
+pub mod UseLemmas
+pub mod StrongestLemmas
+pub mod TouchedLemmas
+pub mod HoldingLemmas
+pub mod LeadingLemmas
+pub mod SameLemmas
+pub mod FitLemmas
+pub mod MakeLemmas
+pub mod PartLemmas
+pub mod FrameLemmas
+pub mod GatherLemmas
+pub mod RestLemmas
+pub mod WeightLemmas
+pub mod SendLemmas

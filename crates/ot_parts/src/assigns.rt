@@ -1,0 +1,126 @@
+ghost use Rattle.std.specs.Prelude.{◌≡◌, ◌↔◌, IsTrue};
+ghost use Rattle.ot_parts.specs.Assigns.{assign_of, assigns_of};
+
+use crate::assign::Assign;
+use std::alloc::{AllocError, Global};
+use std::marker::Model;
+use std::sync::Arc;
+
+/// Sets and folds that come one behind the other, shared by all that hold them.
+#[derive(Debug, Drop)]
+pub struct Assigns {
+    /// None where there are none, which takes no memory.
+    list: Option<Arc<Vec<Assign>>>,
+}
+
+impl Model for Assigns {
+    ghost use Rattle.std.specs.Coded.{codes};
+    ghost use Rattle.ot_model.specs.Code.{body_code};
+    ghost use Rattle.ot_model.specs.Tree.{Body};
+    ghost use Rattle.std.specs.Prelude.{option_map};
+    ghost use Rattle.std.specs.Arc.{arc_value};
+    ghost use Rattle.ot_parts.specs.Assigns.{assigns_in};
+
+    ghost Value = { Body };
+
+    ghost coded = { Prim.hlevel (codes, body_code) };
+
+    ghost view = { λ a. assigns_in (option_map arc_value a.list) };
+}
+
+impl Assigns {
+    ghost use Rattle.std.specs.Prelude.{◌≡◌, ◌↔◌, IsTrue, IfOk, MatchResult};
+    ghost use Rattle.ot_model.specs.Tree.{End};
+    ghost use Rattle.ot_parts.specs.Assigns.{assigns_of};
+    ghost use Rattle.ot_parts.specs.Leading.{leading, leading_len};
+
+    /// None. It takes no memory.
+    pub(crate) fn none() -> Assigns
+        ensures { result ≡ End }
+    {
+        Assigns { list: None }
+    }
+
+    /// Those of a list. Of none it takes no memory.
+    pub(crate) fn new(alloc: Global, list: Vec<Assign>) -> Result<Assigns, AllocError>
+        ensures { IfOk result (λ a. a ≡ assigns_of list.items) }
+    {
+        if list.is_empty() {
+            return Ok(Assigns::none());
+        }
+        match Arc::new(alloc, list) {
+            Ok(list) => Ok(Assigns { list: Some(list) }),
+            Err(_) => Err(AllocError),
+        }
+    }
+
+    /// The same ones, held once more. It takes no memory, and is refused only where more hold them than
+    /// can be counted.
+    pub fn share(&self) -> Result<Assigns, AllocError>
+        ensures { IfOk result (λ a. a ≡ self.now) }
+    {
+        match &self.list {
+            None => Ok(Assigns::none()),
+            Some(list) => Ok(Assigns {
+                list: Some(Arc::try_clone(list)?),
+            }),
+        }
+    }
+
+    /// All of them, in their order.
+    pub fn as_slice(&self) -> &[Assign]
+        ensures { assigns_of result.now ≡ self.now }
+    {
+        match &self.list {
+            None => &[],
+            Some(list) => list.as_slice(),
+        }
+    }
+
+    /// Whether there are none.
+    pub fn is_empty(&self) -> bool
+        ensures is { IsTrue result ↔ self.now ≡ End }
+        ensures only { leading self.now ≡ self.now }
+    {
+        self.as_slice().is_empty()
+    }
+
+    /// How many they are.
+    pub fn len(&self) -> usize
+        ensures { result ≡ leading_len self.now }
+    {
+        self.as_slice().len()
+    }
+
+    /// Whether they are the same sets and folds.
+    pub fn same_as(&self, other: &Assigns) -> bool
+        ensures { IsTrue result ↔ self.now ≡ other.now }
+    {
+        same_assigns(self.as_slice(), other.as_slice())
+    }
+}
+
+fn same_assign(one: &Assign, two: &Assign) -> bool
+    ensures { IsTrue result ↔ assign_of one.now ≡ assign_of two.now }
+{
+    match (one, two) {
+        (Assign::Set(c, a), Assign::Set(d, x)) => c == d && a.same_as(x),
+        (Assign::Fold(o, c, a), Assign::Fold(p, d, x)) => o == p && c == d && a.same_as(x),
+        (_, _) => false,
+    }
+}
+
+/// Whether they are the same sets and folds.
+fn same_assigns(one: &[Assign], two: &[Assign]) -> bool
+    ensures { IsTrue result ↔ assigns_of one.now ≡ assigns_of two.now }
+{
+    if one.len() != two.len() {
+        return false;
+    }
+    for i in 0..one.len() {
+        if !same_assign(&one[i], &two[i]) {
+            return false;
+        }
+    }
+    true
+}

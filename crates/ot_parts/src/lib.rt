@@ -1,0 +1,25 @@
+//! Bodies as shared parts: runs of sets and folds, each with the cells that it touches, and the control
+//! statements behind them. What is left of a body is places in parts.
+#![tactic(auto)]
+
+mod assign;
+mod assigns;
+mod frames;
+mod gather;
+mod held;
+mod holding;
+mod leading;
+mod making;
+mod part;
+mod rest;
+mod run;
+mod touched;
+mod weigh;
+
+pub use assign::Assign;
+pub use assigns::Assigns;
+pub use leading::Leading;
+pub use making::parts_of;
+pub use part::Part;
+pub use rest::Rest;
+pub use run::{Run, Tested};
