@@ -145,9 +145,6 @@ read-elsewhere s c f e h =
     (read-weaker (λ d. Commutes c f (use_as Reads d)) (λ d. cell_of (with_cell s.cells c f) d ≡ cell_of s.cells d) e
     (λ d g. model.cell_of-with_cell-other s.cells c d f (λ same. (let folds = g (sym same) in reads_folds folds.0 folds.1))) h)
 
-change-same : (s : State) (c : Cell) (f g : ℕ → ℕ) → ((n : ℕ) → f n ≡ g n) → change s c f ≡ change s c g
-change-same s c f g same = ap (λ cells. state-at cells s.tasks s.units) (model.updated-same s.cells c.array _ _ (λ row. model.updated-same row c.index f g same))
-
 change-swap : (s : State) (c d : Cell) (f g : ℕ → ℕ) → (c ≡ d → (n : ℕ) → g (f n) ≡ f (g n)) → change (change s c f) d g ≡ change (change s d g) c f
 change-swap s c d f g swap = ap (λ cells. state-at cells s.tasks s.units) (with_cell-swap s.cells c d f g swap)
 

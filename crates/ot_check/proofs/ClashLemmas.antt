@@ -1,6 +1,6 @@
 -- Blocks of users: whose bits an `and` finds.
 use Rattle.std.proofs.Common.{◌≡◌, ◌≢◌, ◌==◌, ℕ, zero, suc, ◌+◌, ◌*◌, ◌/◌, ◌%◌, ◌^◌, ◌<◌, ◌++◌, min, Bool, true, false, not, ◌&&◌, ◌||◌, List, [], ◌∷◌, set, get_or, refl, sym, ap, ◌∙◌, inl, inr, arith, w64}
-use Rattle.std.specs.Prelude.{bit_and, bit_or, flat_map, Option, Some, slice_get}
+use Rattle.std.specs.Prelude.{bit_and, bit_or, flat_map, Some, slice_get}
 use Rattle.std.specs.Int.{bit_at, trailing_zeros}
 use Rattle.std.specs.List.{list_any}
 use Rattle.std.proofs.lemmas.List.Concat.{flat_map-cons}

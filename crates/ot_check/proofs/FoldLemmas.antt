@@ -13,7 +13,7 @@ use Rattle.ot_check.specs.Paths.{use_as}
 use Rattle.ot_check.specs.Offences.{Declared, Openings, allows, folds_by, folds_to, misfits, misfits_as, covers}
 use Rattle.ot_check.proofs.Bits.{or_true, and_left, and_right, or_false_left, or_false_right}
 use Rattle.ot_check.proofs.SameLemmas.{same_is}
-use Rattle.ot_check.proofs.OpeningLemmas.{AreApart, opened-by}
+use Rattle.ot_check.proofs.OpeningLemmas.{opened-by}
 
 pub both_false : (a b : Bool) → (not a && not b) ≡ false → (a ≡ true) ⊎ (b ≡ true)
 both_false true b h = inl refl
@@ -38,15 +38,6 @@ fits-folds own opened (d ∷ child) o c fit h =
           one-folds own opened o c d.cell d.mode (and_right (same_cell d.cell c) (folds_by o d.mode) here)
           (same_is d.cell c (and_left (same_cell d.cell c) (folds_by o d.mode) here)) (or_false_left (misfits own opened d) (list_any (misfits own opened) child) fit)
       | inr later ↦ fits-folds own opened child o c (or_false_right (misfits own opened d) (list_any (misfits own opened) child) fit) later
-    ]
-
--- where an open group names the cell and the body doesn't declare it as Folds, it folds by the group's operation
-pub fits-one : (own : Declared) (opened : Openings) (child : List Use) (o by : Operation) (c : Cell) → AreApart opened → list_any (misfits own opened) child ≡ false
-    → folds_to own o c ≡ false → opened by c ≡ true → folds_to (Some child) o c ≡ true → o ≡ by
-fits-one own opened child o by c apart fit none here h =
-    elim (fits-folds own opened child o c fit h) [
-      | inl declared ↦ absurd (true≢false (sym declared ∙ none))
-      | inr grouped ↦ apart o by c grouped here
     ]
 
 shut : (opened : Openings) (o : Operation) (c d : Cell) → d ≡ c → opened o c ≡ true → opened o d ≡ true

@@ -1,24 +1,14 @@
 -- Bits of words.
-use Rattle.std.proofs.Common.{◌≡◌, ◌≢◌, ◌==◌, ℕ, zero, suc, ◌+◌, ◌*◌, ◌/◌, ◌%◌, ◌^◌, ◌<◌, ◌≤◌, ◌++◌, ◌||◌, max, false, List, [], ◌∷◌, length, get_or, set, refl, sym, ap, subst, ◌∙◌, inl, inr, arith, w64}
-use Rattle.std.specs.Prelude.{bit_and, bit_or, replicate}
+use Rattle.std.proofs.Common.{◌≡◌, ◌≢◌, ◌==◌, ℕ, zero, suc, ◌+◌, ◌*◌, ◌/◌, ◌%◌, ◌^◌, ◌<◌, ◌≤◌, ◌||◌, max, List, [], ◌∷◌, length, get_or, set, refl, sym, ap, ◌∙◌, inl, inr, arith, w64}
+use Rattle.std.specs.Prelude.{bit_or}
 use Rattle.std.specs.Int.{bit_at}
 use Rattle.std.specs.Int.Bits.{or_zero_r}
 use Rattle.std.proofs.lemmas.Bool.{cases_eq, cases_lt}
-use Rattle.std.proofs.lemmas.List.{get_or_past, get_or_default, length-set}
-use Rattle.std.proofs.lemmas.Nat.Bits.{bit_at_or, bit_at-zero, shr_and_one, bit_at_set_same, bit_at_set_other}
+use Rattle.std.proofs.lemmas.List.{get_or_past, get_or_default}
+use Rattle.std.proofs.lemmas.Nat.Bits.{bit_at_or, bit_at_set_same, bit_at_set_other}
 use Rattle.ot_check.specs.walk.Bits.{bit_in}
 use Rattle.ot_check.proofs.Bits.{or_none, or_yes}
 use Rattle.ot_check.proofs.SameLemmas.{eq_itself, eq_apart}
-
--- past the last word there is no bit
-pub bit_in-past : (words : List ℕ) (k : ℕ) → length words ≤ k / 64 → bit_in words k ≡ false
-bit_in-past words k past = ap (λ w. bit_at w (k % 64) == 1) (get_or_past words (k / 64) 0 past) ∙ ap (λ b. b == 1) (bit_at-zero (k % 64))
-
-pub bit_in-read : (words : List ℕ) (k : ℕ) → (bit_and (get_or words (k / 64) 0 / 2 ^ (k % 64)) 1 == 1) ≡ bit_in words k
-bit_in-read words k = ap (λ b. b == 1) (shr_and_one (get_or words (k / 64) 0) (k % 64))
-
-pub bit_in-same : (words new : List ℕ) → ((i : ℕ) → get_or new i 0 ≡ get_or words i 0) → (k : ℕ) → bit_in new k ≡ bit_in words k
-bit_in-same words new same k = ap (λ w. bit_at w (k % 64) == 1) (same (k / 64))
 
 -- one bit more
 pub bit_in-insert : (words new : List ℕ) (n k : ℕ) → get_or new (n / 64) 0 ≡ bit_or (get_or words (n / 64) 0) (1 * 2 ^ (n % 64) % 2 ^ 64)
@@ -67,14 +57,6 @@ pub bit_in-join : (words others new : List ℕ) → ((i : ℕ) → get_or new i 
 bit_in-join words others new joined k =
     ap (λ w. bit_at w (k % 64) == 1) (joined (k / 64)) ∙ or-one (get_or words (k / 64) 0) (get_or others (k / 64) 0) (k % 64)
 
--- more words of no bit
-pub get_or-zeros : (xs : List ℕ) (n i : ℕ) → get_or (xs ++ replicate n 0) i 0 ≡ get_or xs i 0
-get_or-zeros [] zero i = refl
-get_or-zeros [] (suc n) zero = refl
-get_or-zeros [] (suc n) (suc i) = get_or-zeros [] n i
-get_or-zeros (x ∷ xs) n zero = refl
-get_or-zeros (x ∷ xs) n (suc i) = get_or-zeros xs n i
-
 get_or-set_same : (xs : List ℕ) (i x : ℕ) → i < length xs → get_or (set xs i x) i 0 ≡ x
 get_or-set_same [] i x l = absurd (omega (arith, l))
 get_or-set_same (y ∷ xs) zero x l = refl
@@ -105,21 +87,6 @@ abbrev pub AreJoined : List ℕ → List ℕ → List ℕ → ℕ → Type 0
 AreJoined words others now place =
     (length others ≤ length now) × ((i : ℕ) → i < place → get_or now i 0 ≡ bit_or (get_or words i 0) (get_or others i 0))
     × ((i : ℕ) → place ≤ i → get_or now i 0 ≡ get_or words i 0)
-
-pub joined-more : (words others now : List ℕ) (place w v : ℕ) → AreJoined words others now place → place < length others
-    → w ≡ get_or now place w → v ≡ get_or others place v → AreJoined words others (set now place (bit_or w v)) (place + 1)
-joined-more words others now place w v h l rw rv =
-    let within : place < length now = omega (arith, l, h.0) in
-    let here : get_or (set now place (bit_or w v)) place 0 ≡ bit_or (get_or words place 0) (get_or others place 0) =
-    get_or-set_same now place (bit_or w v) within ∙ ap (λ w. bit_or w v) (word_read now place w within rw ∙ h.2 place (omega arith))
-    ∙ ap (bit_or (get_or words place 0)) (word_read others place v l rv) in (
-      omega (arith, h.0, length-set now place (bit_or w v)),
-      λ i below. elim (cases_eq i place) [
-        | inl e ↦ subst (λ i. get_or (set now place (bit_or w v)) i 0 ≡ bit_or (get_or words i 0) (get_or others i 0)) (sym e) here
-        | inr apart ↦ get_or-set_other now place i (bit_or w v) apart ∙ h.1 i (omega (arith, below, apart))
-      ],
-      λ i above. get_or-set_other now place i (bit_or w v) (λ e. absurd (omega (arith, e, above))) ∙ h.2 i (omega (arith, above)),
-    )
 
 pub bit_in-joined : (words others now : List ℕ) (place : ℕ) → AreJoined words others now place → length others ≤ place → (k : ℕ)
     → bit_in now k ≡ (bit_in words k || bit_in others k)

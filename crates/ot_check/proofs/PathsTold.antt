@@ -176,9 +176,6 @@ touched-meets own opened children k (u ∷ uses) prefix (b ∷ before) later pla
 
 -- ---- what stands on a path is met
 
-abbrev pub MeetsHere : Declared → Openings → Children → ℕ → S → ℕ → Offence → Type 0
-MeetsHere own opened children k x place offence = (place ≡ k) × (is_offence own opened children x offence ≡ true)
-
 pub nothing-breaks : (own : Declared) (o : Openings) (p : Children) (w : Option (List Use)) (offence : Offence) → may_break own o p (Await w) offence ≡ true → ⊥
 nothing-breaks own o p w ConflictsWithChild h = cc
 nothing-breaks own o p w offence h = cc

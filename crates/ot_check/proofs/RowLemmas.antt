@@ -47,13 +47,6 @@ pub map-filled : {A B : Type 0} (f : A → B) (x : A) (lens : List ℕ) → map 
 map-filled f x [] = refl
 map-filled f x (n ∷ lens) = ap (λ row. row ∷ map (map f) (filled x lens)) (map-filled-row f n x) ∙ ap (λ rows. replicate n (f x) ∷ rows) (map-filled f x lens)
 
-some_map : {A B : Type 0} (f : A → B) (o : Option A) → IsSome (option_map f o) → IsSome o
-some_map f None there = cc
-some_map f (Some x) there = refl
-
-pub there-map : {A B : Type 0} (f : A → B) (grid : List (List A)) (c : Cell) → IsSome (found_at (map (map f) grid) c) → IsSome (found_at grid c)
-there-map f grid c there = some_map f (found_at grid c) (subst IsSome (found_at-map f grid c) there)
-
 -- ---- rows of users
 
 pub have-none : (lens : List ℕ) → HaveRows [] (filled 0 lens)

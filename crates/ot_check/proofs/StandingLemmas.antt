@@ -48,11 +48,6 @@ use_there rows first uses list i d named is same l =
     (subst (λ lens. IsInShape lens (get_or list i d).cell) (sym same)
     (All-get_or (λ u. IsInShape (widths first) u.cell) list i d l (subst (All (λ u. IsInShape (widths first) u.cell)) (sym is) named)))
 
-pub cell_there : (rows first : List (List (List User))) (list : List Cell) (i : ℕ) (d : Cell) → All (IsInShape (widths first)) list
-    → widths rows ≡ widths first → i < length list → IsSome (found_at rows (get_or list i d))
-cell_there rows first list i d named same l =
-    there rows (get_or list i d) (subst (λ lens. IsInShape lens (get_or list i d)) (sym same) (All-get_or (IsInShape (widths first)) list i d l named))
-
 -- the whole list
 pub taken : {A : Type 0} (list whole : List A) (i : ℕ) → list ≡ whole → length list ≤ i → take i list ≡ whole
 taken list whole i is l = take_all i list l ∙ is

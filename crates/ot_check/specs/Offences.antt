@@ -14,6 +14,8 @@ use Rattle.ot_model.specs.declared.stmt.Use.{Use}
 use Rattle.ot_check.specs.Paths.{Mark, Touch, Create, Await, Enter, Leave, Step, At, use_as, Passes}
 use Rattle.ot_check.specs.declared.fault.Offence.{Offence}
 use Rattle.ot_check.specs.declared.fault.Offence.TheVariants.{NotDeclared, ChildBeyond, ReductionMisuse, ConflictsWithChild, EndsWithChildren}
+-- whether a mode is Folds of an operation; what a body declares; whether it declares a cell so
+pub use Rattle.ot_parts.specs.Modes.{folds_by, Declared, folds_to}
 
 -- ---- what a body may do
 
@@ -28,24 +30,10 @@ covers Reads Reads = true
 covers (Folds one) (Folds other) = same_fold one other
 covers declared wanted = false
 
--- whether the mode is Folds of this operation
-abbrev pub folds_by : Operation → Mode → Bool
-folds_by o (Folds other) = same_fold other o
-folds_by o mode = false
-
--- what a body declares: the root's has no list and every cell as Writes
-abbrev pub Declared : Type 0
-Declared = Option (List Use)
-
 -- whether the body declares the cell in a mode that lets it be used so
 abbrev pub allows : Declared → Use → Bool
 allows None u = true
 allows (Some uses) u = list_any (λ d. same_cell d.cell u.cell && covers d.mode u.mode) uses
-
--- whether the body declares the cell as Folds of this operation
-abbrev pub folds_to : Declared → Operation → Cell → Bool
-folds_to None o c = false
-folds_to (Some uses) o c = list_any (λ d. same_cell d.cell c && folds_by o d.mode) uses
 
 -- whether a child's use goes beyond what the body declares
 abbrev pub exceeds : Declared → Use → Bool

@@ -1,13 +1,12 @@
 -- The paths of a body: runs through it that take either body of each `if`, whatever the values.
 use Rattle.std.specs.Prelude.{◌≡◌, ℕ, ◌+◌, ◌++◌, ◌⊎◌, List, [], ◌∷◌, map, Option}
 use Rattle.ot_model.specs.Tree.{S, Set, Fold, If, Task, Wait, Group, Body, End, Next}
-use Rattle.ot_model.specs.Value.{cells_named}
 use Rattle.ot_model.specs.Counts.{size, size_one}
 use Rattle.ot_model.specs.declared.expr.Cell.{Cell}
 use Rattle.ot_model.specs.declared.fold.Fold.{Fold as Operation}
-use Rattle.ot_model.specs.declared.stmt.Mode.{Mode}
-use Rattle.ot_model.specs.declared.stmt.Mode.TheVariants.{Reads, Writes, Folds}
 use Rattle.ot_model.specs.declared.stmt.Use.{Use}
+-- a cell, used in a mode; what a statement itself does with cells
+pub use Rattle.ot_parts.specs.Touched.{use_as, touches}
 
 -- what a path passes: a use of a cell, a child's creation, a wait and what it declares, if it does, the beginning and the end of a group
 pub data Mark : Type 0 where
@@ -20,17 +19,6 @@ pub data Mark : Type 0 where
 -- a mark, and the place of its statement
 pub data Step : Type 0 where
   At : ℕ → Mark → Step
-
--- the cell, used in this mode
-abbrev pub use_as : Mode → Cell → Use
-use_as mode cell = record { cell = cell; mode = mode }
-
--- what a statement itself does with cells
-abbrev pub touches : S → List Use
-touches (Set c e) = map (use_as Reads) (cells_named e) ++ use_as Writes c ∷ []
-touches (Fold o c e) = map (use_as Reads) (cells_named e) ++ use_as (Folds o) c ∷ []
-touches (If e a b) = map (use_as Reads) (cells_named e)
-touches _ = []
 
 abbrev pub touched : ℕ → List Use → List Step
 touched k uses = map (λ u. At k (Touch u)) uses

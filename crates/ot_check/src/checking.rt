@@ -1,7 +1,9 @@
 ghost use Rattle.std.specs.Prelude.{◌≡◌, IfOk};
+ghost use Rattle.std.specs.Arc.{arc_value};
 ghost use Rattle.ot_model.specs.View.{stmts_of};
 ghost use Rattle.ot_model.specs.Shapes.{array_lengths};
 ghost use Rattle.ot_model.specs.Programs.{expanded_of, IsNamedIn};
+ghost use Rattle.ot_parts.specs.Parts.{parts_of};
 ghost use Rattle.ot_check.specs.Offences.{Offends};
 ghost use Rattle.ot_check.specs.Codes.{TellsFirst};
 
@@ -10,6 +12,7 @@ use crate::fault::CheckFault;
 use crate::standing::Standing;
 use crate::walk::walk;
 use ot_model::{Program, Shape};
+use ot_parts::parts_of;
 use std::alloc::Global;
 
 /// Checks that no path of any body of a program has an offence. Each cell that the program names is
@@ -19,11 +22,15 @@ pub fn check(alloc: Global, program: Program, shape: &Shape) -> Result<Checked, 
     requires { IsNamedIn (array_lengths shape.now) (expanded_of program) }
     ensures told { TellsFirst (Offends (stmts_of program.body.items)) result }
     ensures program { IfOk result (λ checked. checked.program ≡ program) }
+    ensures parts { IfOk result (λ checked. parts_of (arc_value checked.parts).items ≡ stmts_of program.body.items) }
 {
     let mut standing = Standing::of_root(alloc, shape)?;
     let walked = walk(alloc, &program.body, &mut standing, 1)?;
     match walked.first {
         Some((place, offence)) => Err(CheckFault::Offence(offence, place)),
-        None => Ok(Checked { program }),
+        None => {
+            let parts = parts_of(alloc, &program.body)?;
+            Ok(Checked { program, parts })
+        }
     }
 }

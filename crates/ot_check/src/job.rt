@@ -2,11 +2,12 @@ use crate::checked::Checked;
 use ot_model::{Cells, Counts, Program, Section, same_stmts};
 use std::alloc::{AllocError, Global};
 use std::marker::Model;
+use std::sync::Arc;
 
 /// A checked program with the cells that it begins with: each cell that it names is one of them.
 #[derive(Debug, Drop)]
 pub struct JobSpec {
-    checked: Checked,
+    checked: Arc<Checked>,
     before: Cells,
 }
 
@@ -21,10 +22,11 @@ impl Model for JobSpec {
 
     ghost use Rattle.ot_model.specs.Cells.{lengths};
     ghost use Rattle.ot_model.specs.Programs.{expanded_of, IsNamedIn};
+    ghost use Rattle.std.specs.Arc.{arc_value};
 
-    ghost view = { λ s. record { checked = s.checked; before = s.before } };
+    ghost view = { λ s. record { checked = arc_value s.checked; before = s.before } };
 
-    ghost invariant = { λ s. IsNamedIn (lengths s.before) (expanded_of s.checked.program) };
+    ghost invariant = { λ s. IsNamedIn (lengths s.before) (expanded_of (arc_value s.checked).program) };
 }
 
 impl JobSpec {
@@ -32,11 +34,12 @@ impl JobSpec {
     ghost use Rattle.ot_model.specs.Cells.{lengths};
     ghost use Rattle.ot_model.specs.Programs.{expanded_of, IsNamedIn};
     ghost use Rattle.ot_check.specs.Jobs.{AreSame};
+    ghost use Rattle.std.specs.Arc.{arc_value};
 
     /// The program and its cells, among which are all that it names. It takes no memory.
-    pub fn new(checked: Checked, before: Cells) -> JobSpec
-        requires { IsNamedIn (lengths before) (expanded_of checked.program) }
-        ensures checked { result.checked ≡ checked }
+    pub fn new(checked: Arc<Checked>, before: Cells) -> JobSpec
+        requires { IsNamedIn (lengths before) (expanded_of (arc_value checked).program) }
+        ensures checked { result.checked ≡ arc_value checked }
         ensures before { result.before ≡ before }
     {
         JobSpec { checked, before }
@@ -57,21 +60,19 @@ impl JobSpec {
         &self.before
     }
 
-    /// The checked program and the cells themselves. It takes no memory.
-    pub fn into_parts(self) -> (Checked, Cells)
-        ensures checked { result.0 ≡ self.checked }
-        ensures before { result.1 ≡ self.before }
-        ensures named { IsNamedIn (lengths self.before) (expanded_of self.checked.program) }
+    /// The checked program, held once more. It takes no memory, and is refused only where more hold it than can be
+    /// counted.
+    pub fn share(&self) -> Result<Arc<Checked>, AllocError>
+        ensures { IfOk result (λ checked. arc_value checked ≡ self.now.checked) }
     {
-        let JobSpec { checked, before } = self;
-        (checked, before)
+        Arc::try_clone(&self.checked)
     }
 
     /// The same spec once more.
     pub fn copy(&self, alloc: Global) -> Result<JobSpec, AllocError>
         ensures { IfOk result (λ copied. AreSame copied self.now) }
     {
-        let checked = self.checked.copy(alloc)?;
+        let checked = Arc::try_clone(&self.checked)?;
         let before = self.before.copy(alloc)?;
         Ok(JobSpec { checked, before })
     }

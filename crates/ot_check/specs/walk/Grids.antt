@@ -1,5 +1,5 @@
 -- One value for each cell of a shape.
-use Rattle.std.specs.Prelude.{◌≡◌, ℕ, List, map, length, replicate, Option, Some, slice_get, option_and_then}
+use Rattle.std.specs.Prelude.{ℕ, List, map, length, replicate, Option, slice_get, option_and_then}
 use Rattle.ot_model.specs.declared.expr.Cell.{Cell}
 
 -- what stands at a cell, where the cell is there
@@ -9,10 +9,6 @@ found_at rows c = option_and_then (λ row. slice_get row c.index) (slice_get row
 -- how many cells each array has
 abbrev pub widths : {T : Type 0} → List (List T) → List ℕ
 widths rows = map length rows
-
--- each cell that is there has what the function says
-abbrev pub Tells : {T : Type 0} → List (List T) → (Cell → T) → Type 0
-Tells {T} rows said = (c : Cell) (x : T) → found_at rows c ≡ Some x → x ≡ said c
 
 -- one value everywhere, for arrays of these lengths
 abbrev pub filled : {T : Type 0} → T → List ℕ → List (List T)

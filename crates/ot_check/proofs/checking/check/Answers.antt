@@ -8,6 +8,7 @@ pub invariant_of-result : goal.invariant_of-result
 invariant_of-result c = record {
   disciplined = tells-first (stmts_of c.args.program.body.items) None
       (sym c.in-None.is ∙ c.in_ok-walked.ensures.told None nothing_open nobody [] c.in_ok-standing.ensures.stands);
+  prepared = c.in_ok-parts-in-None.ensures;
 }
 
 pub returns-in-Some-clause-told : goal.returns-in-Some-clause-told
