@@ -1,8 +1,8 @@
 -- Assignments on lent copies, step by step.
-use Rattle.std.proofs.Common.{◌≡◌, ◌≢◌, ◌<◌, ℕ, zero, suc, Bool, true, false, List, [], ◌∷◌, ◌++◌, length, get_or, refl, sym, ap, subst, ◌∙◌, arith}
+use Rattle.std.proofs.Common.{◌≡◌, ◌<◌, ℕ, zero, suc, List, [], ◌∷◌, length, get_or, refl, sym, ap, ◌∙◌, arith}
 use Rattle.std.specs.Prelude.{Some, IsSome, slice_get, option_map, if◌then◌else◌}
 use Rattle.std.proofs.lemmas.Option.{same_Some}
-use Rattle.ot_model.specs.Tree.{E, Literal, CellAt, Apply, PickFrom, S, Set, Fold, If, Task, Wait, Group, Body, End, Next, append}
+use Rattle.ot_model.specs.Tree.{E, Literal, CellAt, Apply, PickFrom, S, Set, Fold, If, Task, Wait, Group, Body, End, Next}
 use Rattle.ot_model.specs.Joining.{join_by}
 use Rattle.ot_model.specs.Value.{val, HasAll}
 use Rattle.ot_model.specs.declared.expr.Cell.{Cell}
@@ -14,11 +14,9 @@ use Rattle.ot_owner.specs.Leases.{Lease, lease_of}
 use Rattle.ot_owner.specs.declared.lent.LentCell.{LentCell}
 use Rattle.ot_task.specs.Copies.{Look, with_copy, assigned}
 use Rattle.ot_check.specs.Touches.{EachRead}
-use Rattle.ot_check.proofs.SameLemmas.{same_is}
-use Rattle.ot_task.proofs.CellLemmas.{same_self}
-use Rattle.ot_task.specs.Assigns.{CanAssign, assign_of, assigns_of}
-use Rattle.ot_task.specs.declared.assign.Assign.{Assign}
-use Rattle.ot_task.specs.declared.assign.Assign.TheVariants as v
+use Rattle.ot_task.specs.Assigns.{CanAssign, assign_of}
+use Rattle.ot_parts.specs.declared.assign.Assign.{Assign}
+use Rattle.ot_parts.specs.declared.assign.Assign.TheVariants as v
 
 pub read-all : (P : Cell → Type 0) → ((c : Cell) → P c) → (e : E) → EachRead P e
 read-all P h e = read-weaker (λ c. Unit {0}) P e (λ c u. h c) (units e)
@@ -44,18 +42,6 @@ assigned-same (Next (If e a b) rest) look other same c = same c
 assigned-same (Next (Task d b) rest) look other same c = same c
 assigned-same (Next (Wait w) rest) look other same c = same c
 assigned-same (Next (Group o cs b) rest) look other same c = same c
-
--- a copy is set to f of its value, and no other copy changes
-pub copy-set : (look now : Look) (c : Cell) (m n : ℕ) (f : ℕ → ℕ) → look c ≡ Some m → n ≡ f m → now c ≡ Some n → ((d : Cell) → c ≢ d → now d ≡ look d)
-    → (d : Cell) → now d ≡ with_copy look c f d
-copy-set look now c m n f was is found others d = at (same_cell c d) refl
-  where
-    at : (b : Bool) → same_cell c d ≡ b → now d ≡ (if same_cell c d then option_map f (look d) else look d)
-    at true e = rw e (subst (λ x. now x ≡ option_map f (look x)) (same_is c d e) (found ∙ ap Some is ∙ sym (ap (option_map f) was)))
-    at false e = rw e (others d (λ same. none (sym (same_self c d same) ∙ e)))
-      where
-        none : true ≡ false → ⊥
-        none h = cc
 
 pub all-kept : (look now : Look) (e : E) → ((c : Cell) → IsSome (look c) → IsSome (now c)) → HasAll look e → HasAll now e
 all-kept look now (Literal n) kept h = tt
@@ -116,7 +102,3 @@ can-rest (Group o cs b) rest lent is h = absurd is
 pub is_assign : (a : Assign) → IsAssign (assign_of a)
 is_assign (v.Set c e) = tt
 is_assign (v.Fold o c e) = tt
-
-pub assigns-push : (ms : List Assign) (a : Assign) (b : Body) → append (assigns_of (ms ++ a ∷ [])) b ≡ append (assigns_of ms) (Next (assign_of a) b)
-assigns-push [] a b = refl
-assigns-push (m ∷ ms) a b = ap (Next (assign_of m)) (assigns-push ms a b)

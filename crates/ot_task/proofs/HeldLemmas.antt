@@ -1,6 +1,6 @@
 -- A piece's touches: each is of a cell that is there.
-use Rattle.std.proofs.Common.{◌≡◌, ◌≤◌, ℕ, zero, suc, ◌+◌, ◌^◌, Bool, true, false, List, [], ◌∷◌, ◌++◌, map, refl, sym, ap, subst, ◌∙◌, arith, true≢false}
-use Rattle.std.specs.Prelude.{Option, Some, None, IsSome, IfSome, option_map, All, if◌then◌else◌}
+use Rattle.std.proofs.Common.{◌≡◌, ◌≤◌, ℕ, zero, suc, ◌+◌, Bool, true, false, List, [], ◌∷◌, ◌++◌, map, refl, sym, ap, subst, arith, true≢false}
+use Rattle.std.specs.Prelude.{Option, Some, None, IsSome, All, if◌then◌else◌}
 use Rattle.std.specs.List.{fold, range_with_len}
 use Rattle.std.proofs.lemmas.List.Elements.{All-nil, All-cons}
 use Rattle.ot_model.specs.Tree.{E, Literal, CellAt, Apply, PickFrom, Set, Fold, If, Task, Wait, Group, Body, End, Next}
@@ -22,7 +22,7 @@ use Rattle.ot_task.proofs.CellLemmas.{same_self}
 use Rattle.ot_task.specs.Pieces.{leading, behind, test_of}
 use Rattle.ot_model.specs.Uses.{mode_in}
 use Rattle.ot_task.specs.Touched.{assign_touches, test_touches, piece_touches}
-use Rattle.ot_task.specs.Modes.{held, noted, with_mode, mode_held, PicksFit, AssignsFit}
+use Rattle.ot_task.specs.Modes.{held, noted, with_mode, mode_held}
 
 -- ---- each touch is of a cell in the shape
 
@@ -72,34 +72,6 @@ test-in lens (Next (Group o cs b) rest) h = tt
 pub piece-in : (lens : List ℕ) (b : Body) → NamedIn lens b → AllIn lens (piece_touches (leading b) (test_of (behind b)))
 piece-in lens b h = all-append lens _ _ (assigns-in lens b h) (test-in lens b h)
 
--- ---- sections fit
-
-value-fits : (lens : List ℕ) (e : E) → ValueNamedIn lens e → PicksFit e
-value-fits lens (Literal n) h = tt
-value-fits lens (CellAt c) h = tt
-value-fits lens (Apply o a b) h = (value-fits lens a h.0, value-fits lens b h.1)
-value-fits lens (PickFrom s e) h =
-    let w = h.0.within in let l = h.0.short in
-    ((let fits : s.start + s.len ≤ 2 ^ 32 = omega (arith, w, l) in fits), value-fits lens e h.1)
-
-pub assigns-fit : (lens : List ℕ) (b : Body) → NamedIn lens b → AssignsFit (leading b)
-assigns-fit lens End h = tt
-assigns-fit lens (Next (Set c e) rest) h = (value-fits lens e h.0.1, assigns-fit lens rest h.1)
-assigns-fit lens (Next (Fold o c e) rest) h = (value-fits lens e h.0.1, assigns-fit lens rest h.1)
-assigns-fit lens (Next (If e a b) rest) h = tt
-assigns-fit lens (Next (Task d b) rest) h = tt
-assigns-fit lens (Next (Wait w) rest) h = tt
-assigns-fit lens (Next (Group o cs b) rest) h = tt
-
-pub test-fits : (lens : List ℕ) (b : Body) → NamedIn lens b → IfSome (test_of (behind b)) PicksFit
-test-fits lens End h = tt
-test-fits lens (Next (Set c e) rest) h = test-fits lens rest h.1
-test-fits lens (Next (Fold o c e) rest) h = test-fits lens rest h.1
-test-fits lens (Next (If e a b) rest) h = value-fits lens e h.0.0
-test-fits lens (Next (Task d b) rest) h = tt
-test-fits lens (Next (Wait w) rest) h = tt
-test-fits lens (Next (Group o cs b) rest) h = tt
-
 -- ---- what is held is touched
 
 held-from : (lens : List ℕ) (own : Declared) (us : List Use) (c : Cell) (o : Option Mode) → AllIn lens us → (IsSome o → IsInShape lens c) → IsSome (fold (noted own c) o us) → IsInShape lens c
@@ -127,8 +99,3 @@ held-there cells own us d named modes = each d (λ c s. found_from_in cells c (h
             by : (b : Bool) → same_cell c u.cell ≡ b → IsSome (if same_cell c u.cell then Some u.mode else mode_in d c)
             by true e = rw e refl
             by false e = rw e s
-
--- the same through a reference
-pub test-at : {A B : Type 0} (now : A → B) (r : Option A) (o : Option B) (view : B → E) (t : Option E) → option_map now r ≡ o → option_map view o ≡ t → IfSome t PicksFit → IfSome r (λ e. PicksFit (view (now e)))
-test-at now None o view t is same h = tt
-test-at now (Some a) o view t is same h = subst (λ x. IfSome x PicksFit) (sym same ∙ sym (ap (option_map view) is)) h

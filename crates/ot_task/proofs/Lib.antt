@@ -1,15 +1,8 @@
 pub mod CellLemmas
-pub mod FoldLemmas
-pub mod RestLemmas
 pub mod AssignLemmas
-pub mod UseLemmas
-pub mod StrongestLemmas
-pub mod TouchedLemmas
 pub mod PieceLemmas
 pub mod HeldLemmas
-pub mod SameLemmas
-pub mod WeightLemmas
-pub mod ExecuteLemmas
-pub mod GatherLemmas
+pub mod GroupLemmas
+pub mod StepLemmas
 pub mod SendLemmas
 pub mod WaitingLemmas

@@ -4,26 +4,18 @@ use denote.Param.SendFields.{declared_send}
 use Rattle.std.proofs.Crossing.{crosses}
 use Rattle.ot_depend.proofs.siblings.Siblings.TheSendSync as siblings
 use Rattle.ot_model.proofs.expr.Expr.TheLaws.TheKnot.{send-Expr, sync-Expr}
-use Rattle.ot_model.proofs.stmt.Stmt.TheLaws.TheKnot.{send-Stmt}
-use Rattle.ot_task.specs.contracts.assigns.Assigns as assigns
-use Rattle.ot_task.specs.contracts.rest.Rest as rest
+use Rattle.ot_parts.proofs.SendLemmas.{rest-send}
 use Rattle.ot_task.specs.contracts.place.Place as place
 use Rattle.ot_task.specs.contracts.running.Running as running
 use Rattle.ot_task.specs.contracts.waiting.Waiting as waiting
 use Rattle.ot_task.specs.contracts.task.Task as task
 use Rattle.ot_task.specs.contracts.task.Task.TheInside as inside
 
-assigns-send : IsSend assigns.the_row
-assigns-send = search (sendable, crosses, send-Expr, sync-Expr) depth 80 fits 20000
-
-rest-send : IsSend rest.the_row
-rest-send = search (sendable, crosses, assigns-send, send-Expr, send-Stmt) depth 80 fits 20000
-
 place-send : IsSend place.the_row
 place-send = search (sendable, crosses, rest-send) depth 80 fits 20000
 
 running-send : IsSend running.the_row
-running-send = search (sendable, crosses, assigns-send) depth 80 fits 20000
+running-send = search (sendable, crosses, send-Expr, sync-Expr) depth 80 fits 20000
 
 waiting-send : IsSend waiting.the_row
 waiting-send = search (sendable, crosses) depth 80 fits 20000

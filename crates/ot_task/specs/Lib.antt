@@ -11,7 +11,5 @@ pub mod Weighing
 pub mod Assigns
 pub mod Modes
 -- what only this crate knows
-pub mod Held
-pub mod Rest
 pub mod PlaceView
 pub mod RegionView

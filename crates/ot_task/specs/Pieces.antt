@@ -1,34 +1,13 @@
 -- What a piece is taken from, and what is left behind it.
-use Rattle.std.specs.Prelude.{◌≡◌, ℕ, ◌+◌, List, ◌∷◌, Option, Some, None}
-use Rattle.ot_model.specs.Tree.{E, Set, Fold, If, Body, End, Next}
+use Rattle.std.specs.Prelude.{◌≡◌, ℕ, List, ◌∷◌, Option, Some, None}
+use Rattle.ot_model.specs.Tree.{E, Body, End}
 use Rattle.ot_task.specs.Place.{Open, innermost}
 use Rattle.ot_owner.specs.Leases.{Lease, lease_of}
 use Rattle.ot_owner.specs.declared.lent.LentCell.{LentCell}
 use Rattle.ot_task.specs.Standing.{Standing}
 use Rattle.ot_task.specs.Regions.{Region, Run}
-
--- the sets and folds that come first
-abbrev pub leading : Body → Body
-leading (Next (Set c e) rest) = Next (Set c e) (leading rest)
-leading (Next (Fold o c e) rest) = Next (Fold o c e) (leading rest)
-leading b = End
-
--- what stands behind them
-abbrev pub behind : Body → Body
-behind (Next (Set c e) rest) = behind rest
-behind (Next (Fold o c e) rest) = behind rest
-behind b = b
-
--- how many they are
-abbrev pub leading_len : Body → ℕ
-leading_len (Next (Set c e) rest) = 1 + leading_len rest
-leading_len (Next (Fold o c e) rest) = 1 + leading_len rest
-leading_len b = 0
-
--- the condition of an `if` that comes next
-abbrev pub test_of : Body → Option E
-test_of (Next (If e a b) rest) = Some e
-test_of b = None
+-- the sets and folds that come first, what stands behind them, how many they are; the condition of an `if` that comes next
+pub use Rattle.ot_parts.specs.Leading.{leading, behind, leading_len, test_of}
 
 -- behind the end of the innermost open group, where that end is reached
 abbrev pub passed : Body → List Open → Standing

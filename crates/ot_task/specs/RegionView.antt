@@ -2,7 +2,6 @@
 use Rattle.std.specs.Prelude.{List, Some, None}
 use Rattle.ot_depend.specs.Siblings.{Sibling, AreFree}
 use Rattle.ot_task.specs.PlaceView.{standing_of}
-use Rattle.ot_task.specs.Standing.{Standing}
 use Rattle.ot_task.specs.Regions.{Region, Waiting}
 use Rattle.ot_task.specs.declared.waiting.Waiting.{Waiting as Wait}
 use Rattle.ot_task.specs.declared.waiting.Waiting.TheVariants.{Nowhere, ForAll, For}
@@ -32,7 +31,3 @@ region_of t = record {
   ended = t.ended;
   running = t.running;
 }
-
--- with its place there, at this wait, if it is at one
-abbrev pub stands_at : Standing → Waiting → Region → Region
-stands_at s waiting r = record r { rest = s.rest; groups = s.groups; waiting = waiting }

@@ -1,16 +1,12 @@
 -- Where a task stands.
 use Rattle.std.specs.Prelude.{Bool, true, false, List, [], ◌∷◌}
-use Rattle.ot_model.specs.Tree.{S, Body, End, Next}
+use Rattle.ot_model.specs.Tree.{Body, End}
 use Rattle.ot_task.specs.Place.{Open}
 
 -- what is left of the innermost open group's body, and the open groups, the innermost first
 pub record Standing : Type 0 where
   pub rest : Body
   pub groups : List Open
-
--- with a statement more that comes next
-abbrev pub with_next : S → Standing → Standing
-with_next x s = record s { rest = Next x s.rest }
 
 -- behind the end of the innermost open group
 abbrev pub left_group : Standing → Standing

@@ -5,17 +5,9 @@ ghost use Rattle.ot_owner.specs.Leases.{lease_of};
 ghost use Rattle.ot_model.specs.declared.expr.Cell.{Cell};
 ghost use Rattle.ot_task.specs.Assigns.{assigns_of, CanAssign};
 
-use ot_model::{Cell, Expr, Fold, Look, Monoid, value};
+use ot_model::{Look, Monoid, value};
 use ot_owner::Lent;
-
-/// A set or a fold.
-#[derive(Debug, Drop)]
-pub enum Assign {
-    /// Writes the value to the cell.
-    Set(Cell, Expr),
-    /// Joins the cell with the value by the operation.
-    Fold(Fold, Cell, Expr),
-}
+use ot_parts::Assign;
 
 /// Makes the assignments on lent copies. It takes no memory.
 pub fn assign_all(assigns: &[Assign], lent: &mut Lent)

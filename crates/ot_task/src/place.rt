@@ -1,10 +1,9 @@
-ghost use Rattle.std.specs.Prelude.{◌≡◌, ◌<◌};
-
-use crate::assigns::Assigns;
-use crate::rest::Rest;
 use crate::same::same_test;
-use ot_model::{Cell, Decl, Expr, Fold, Stmt};
+use ot_model::{Cell, Decl, Expr, Fold};
+use ot_parts::{Leading, Part, Rest};
 use std::alloc::{AllocError, Global};
+use std::mem;
+use std::sync::Arc;
 
 /// A group that is open: its number, the operation and the cells of its reduction, and what stands behind
 /// its end.
@@ -24,25 +23,26 @@ pub(crate) struct Place {
 }
 
 impl Place {
-    ghost use Rattle.std.specs.Prelude.{if◌then◌else◌, ◌≡◌, ◌+◌, ◌<◌, [], ◌∷◌, vec_len, vec_capacity, OnOk, OnErr, IfOk, IsSome, MatchOption, map};
-    ghost use Rattle.ot_model.specs.Tree.{End, Next, If, Task, Group, append};
-    ghost use Rattle.ot_model.specs.View.{stmt_of, stmts_of};
-    ghost use Rattle.ot_task.specs.PlaceView.{standing_of};
-    ghost use Rattle.ot_task.specs.Rest.{TakesBack, NoControl};
-    ghost use Rattle.ot_task.specs.Pieces.{passed_end, leading, behind, test_of};
-    ghost use Rattle.std.specs.Prelude.{IsTrue, ◌↔◌, option_map};
+    ghost use Rattle.std.specs.Prelude.{◌≡◌, ◌+◌, ◌<◌, ◌^◌, ◌↔◌, ◌∷◌, [], ℕ, List, None, Some, IsTrue, OnOk, OnErr, IfOk, MatchOption, map, option_map};
+    ghost use Rattle.std.specs.Arc.{arc_value};
+    ghost use Rattle.ot_model.specs.Names.{NamedIn};
+    ghost use Rattle.ot_model.specs.Tree.{End, S};
+    ghost use Rattle.ot_model.specs.Uses.{AreInOrder};
     ghost use Rattle.ot_model.specs.View.{expr_of};
-    ghost use Rattle.ot_task.specs.Standing.{left_group, with_next};
-    ghost use Rattle.std.specs.Prelude.{◌^◌, None};
-    ghost use Rattle.ot_task.specs.Regions.{next_task};
+    ghost use Rattle.ot_parts.specs.Leading.{branched, control_next, past_control};
+    ghost use Rattle.ot_parts.specs.Parts.{part_of, parts_of};
+    ghost use Rattle.ot_parts.specs.Runs.{AreHeldBy};
+    ghost use Rattle.ot_task.specs.PlaceView.{standing_of};
+    ghost use Rattle.ot_task.specs.Pieces.{passed_end, leading, behind, test_of};
+    ghost use Rattle.ot_task.specs.Standing.{left_group};
     ghost use Rattle.ot_task.specs.Weighing.{weight, weight_behind, weight_left};
 
     /// At the beginning of a body. It takes no memory.
-    pub(crate) fn new(alloc: Global, body: Vec<Stmt>) -> Place
-        ensures { standing_of result ≡ record { rest = stmts_of body.items; groups = [] } }
+    pub(crate) fn new(alloc: Global, body: Arc<Vec<Part>>) -> Place
+        ensures { standing_of result ≡ record { rest = parts_of (arc_value body).items; groups = [] } }
     {
         Place {
-            rest: Rest::new(body),
+            rest: Rest::new(alloc, body),
             groups: Vec::new(alloc),
         }
     }
@@ -54,11 +54,13 @@ impl Place {
         self.rest.is_empty()
     }
 
-    /// The statement that comes next in the innermost body, where no gathered sets and folds come before it.
-    pub(crate) fn next(&self) -> Option<&Stmt>
-        ensures { MatchOption result (NoControl (standing_of self.now).rest) (λ x. (rest : _) × ((standing_of self.now).rest ≡ Next (stmt_of x.now) rest)) }
+    /// The part with the control statement that comes next in the innermost body, if no set or fold comes
+    /// before one.
+    pub(crate) fn next_control(&self) -> Option<&Part>
+        ensures { MatchOption result (control_next (standing_of self.now).rest ≡ None)
+            (λ p. (x : S) × ((part_of p.now).control ≡ Some x) × (control_next (standing_of self.now).rest ≡ Some x)) }
     {
-        self.rest.next()
+        self.rest.next_control()
     }
 
     /// The numbers of the groups that are open, the innermost first.
@@ -73,106 +75,47 @@ impl Place {
         Ok(numbers)
     }
 
-    /// Takes the next statement, where no gathered sets and folds come before it.
-    pub(crate) fn take(&mut self) -> Option<Stmt>
-        ensures room { IsSome result → TakesBack self.new.rest }
-        ensures taken { MatchOption result ((standing_of self.new ≡ standing_of self.old) × NoControl (standing_of self.old).rest) (λ x. (standing_of self.old).rest ≡ Next (stmt_of x) (standing_of self.new).rest) }
-        ensures groups { (standing_of self.new).groups ≡ (standing_of self.old).groups }
+    /// Goes past the control statement that comes next, if one does. It takes no memory.
+    pub(crate) fn pass_control(&mut self)
+        ensures { standing_of self.new ≡ record (standing_of self.old) { rest = past_control (standing_of self.old).rest } }
     {
-        self.rest.take()
+        self.rest.pass_control();
     }
 
-    /// Takes the next statement where it is a task. It takes no memory.
-    pub(crate) fn take_task(&mut self) -> Option<(Decl, Vec<Stmt>)>
-        ensures taken { MatchOption result ((standing_of self.new ≡ standing_of self.old) × (next_task (standing_of self.old).rest ≡ None))
-            (λ p. (standing_of self.old).rest ≡ Next (Task p.0 (stmts_of p.1.items)) (standing_of self.new).rest) }
-        ensures groups { (standing_of self.new).groups ≡ (standing_of self.old).groups }
+    /// Goes into one body of an `if` that comes next, if one does. Where memory is refused, it stays.
+    pub(crate) fn branch(&mut self, taken: bool) -> Result<(), AllocError>
+        ensures branched { OnOk result (standing_of self.new ≡ record (standing_of self.old) { rest = branched taken (standing_of self.old).rest }) }
+        ensures same { OnErr result (standing_of self.new ≡ standing_of self.old) }
     {
-        match self.rest.take()? {
-            Stmt::Task(decl, body) => Some((decl, body)),
-            other => {
-                self.put_back(other);
-                None
-            }
-        }
+        self.rest.branch(taken)
     }
 
-    /// Enters a group. It takes no memory.
-    pub(crate) fn enter(&mut self, group: u32, op: Fold, cells: Vec<Cell>, body: Vec<Stmt>)
-        requires { vec_len self.old.groups < vec_capacity self.old.groups }
-        ensures { standing_of self.new ≡ record {
-          rest = stmts_of body.items;
-          groups = record { group = group; op = op; cells = cells.items; behind = (standing_of self.old).rest } ∷ (standing_of self.old).groups;
-        } }
+    /// Goes past the control statement that comes next into the body of a group. Where memory is refused, it
+    /// stays.
+    pub(crate) fn enter(
+        &mut self,
+        alloc: Global,
+        group: u32,
+        op: Fold,
+        cells: Vec<Cell>,
+        body: Arc<Vec<Part>>,
+    ) -> Result<(), AllocError>
+        ensures entered { OnOk result (standing_of self.new ≡ record {
+          rest = parts_of (arc_value body).items;
+          groups = record { group = group; op = op; cells = cells.items; behind = past_control (standing_of self.old).rest } ∷ (standing_of self.old).groups;
+        }) }
+        ensures same { OnErr result (standing_of self.new ≡ standing_of self.old) }
     {
-        let behind = self.rest.replace(body);
+        self.groups.reserve(1)?;
+        self.rest.pass_control();
+        let behind = mem::replace(&mut self.rest, Rest::new(alloc, body));
         self.groups.push_reserved(OpenGroup {
             group,
             op,
             cells,
             behind,
         });
-    }
-
-    /// Puts a statement back that was taken off. It takes no memory.
-    pub(crate) fn put_back(&mut self, stmt: Stmt)
-        requires { TakesBack self.old.rest }
-        ensures { standing_of self.new ≡ with_next (stmt_of stmt) (standing_of self.old) }
-    {
-        self.rest.put_back(stmt);
-    }
-
-    /// Goes into one body of an `if` that was taken off. Where memory is refused, the `if` is put back.
-    pub(crate) fn branch(
-        &mut self,
-        test: Expr,
-        one: Vec<Stmt>,
-        two: Vec<Stmt>,
-        taken: bool,
-    ) -> Result<(), AllocError>
-        requires { TakesBack self.old.rest }
-        ensures taken { OnOk result (standing_of self.new
-            ≡ record (standing_of self.old) { rest = append (if taken then stmts_of one.items else stmts_of two.items) (standing_of self.old).rest }) }
-        ensures refused { OnErr result (standing_of self.new ≡ with_next (If (expr_of test) (stmts_of one.items) (stmts_of two.items)) (standing_of self.old)) }
-    {
-        let len = if taken { one.len() } else { two.len() };
-        match self.rest.reserve(len) {
-            Ok(()) => {
-                self.rest.splice(if taken { one } else { two });
-                Ok(())
-            }
-            Err(error) => {
-                self.put_back(Stmt::If(test, one, two));
-                Err(error)
-            }
-        }
-    }
-
-    /// Enters a group that was taken off. Where memory is refused, the group is put back.
-    pub(crate) fn open(
-        &mut self,
-        group: u32,
-        op: Fold,
-        cells: Vec<Cell>,
-        body: Vec<Stmt>,
-    ) -> Result<(), AllocError>
-        requires { TakesBack self.old.rest }
-        ensures entered { OnOk result (standing_of self.new ≡ record {
-          rest = stmts_of body.items;
-          groups = record { group = group; op = op; cells = cells.items; behind = (standing_of self.old).rest } ∷ (standing_of self.old).groups;
-        }) }
-        ensures refused { OnErr result (standing_of self.new ≡ with_next (Group op cells.items (stmts_of body.items)) (standing_of self.old)) }
-    {
-        match self.groups.reserve(1) {
-            Ok(()) => {
-                self.enter(group, op, cells, body);
-                Ok(())
-            }
-            Err(error) => {
-                self.put_back(Stmt::Group(op, cells, body));
-                Err(error)
-            }
-        }
+        Ok(())
     }
 
     /// Whether this is the condition of the `if` that comes next, or there is none.
@@ -186,28 +129,34 @@ impl Place {
     fn test(&self) -> Option<&Expr>
         ensures { option_map (λ e. expr_of e.now) result ≡ test_of (standing_of self.now).rest }
     {
-        match self.next() {
-            Some(Stmt::If(test, _, _)) => Some(test),
-            _ => None,
+        match self.rest.next_control() {
+            Some(part) => part.condition(),
+            None => None,
         }
     }
 
-    /// What the next piece is made of: the sets and folds that come once the task goes on, behind the end
-    /// of the innermost open group where that is reached, and a copy of the condition of an `if` behind
-    /// them. The task stands where it stood.
-    pub(crate) fn piece(&mut self, alloc: Global) -> Result<(Assigns, Option<Expr>), AllocError>
-        ensures assigns { IfOk result (λ p. p.0 ≡ leading (passed_end (standing_of self.old)).rest) }
-        ensures test { IfOk result (λ p. option_map expr_of p.1 ≡ test_of (behind (passed_end (standing_of self.old)).rest)) }
-        ensures same { standing_of self.new ≡ standing_of self.old }
+    /// What comes first once the task goes on, where its body declares this: behind the end of the innermost
+    /// open group where that is reached.
+    pub(crate) fn leading(&self, alloc: Global, own: Option<&Decl>) -> Result<Leading, AllocError>
+        requires named { (lens : List ℕ) × NamedIn lens (passed_end (standing_of self.now)).rest }
+        ensures assigns { IfOk result (λ l. l.assigns ≡ leading (passed_end (standing_of self.now)).rest) }
+        ensures condition { IfOk result (λ l. option_map expr_of l.condition ≡ test_of (behind (passed_end (standing_of self.now)).rest)) }
+        ensures held { IfOk result (λ l. AreHeldBy (option_map (λ o. o.now) own.entry) (leading (passed_end (standing_of self.now)).rest) (test_of (behind (passed_end (standing_of self.now)).rest)) l.held) }
+        ensures ordered { IfOk result (λ l. AreInOrder l.held) }
+    {
+        self.awake().leading(alloc, own)
+    }
+
+    /// What is left of the innermost body once the task goes on.
+    fn awake(&self) -> &Rest
+        ensures { result.now ≡ (passed_end (standing_of self.now)).rest }
     {
         if self.is_at_end() {
-            if let Some(mut group) = self.groups.pop() {
-                let piece = group.behind.piece(alloc);
-                self.groups.push_reserved(group);
-                return piece;
+            if let Some(group) = self.groups.last() {
+                return &group.behind;
             }
         }
-        self.rest.piece(alloc)
+        &self.rest
     }
 
     /// Passes the end of the innermost open group where it is reached, and the sets and folds that come

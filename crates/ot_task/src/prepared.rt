@@ -6,11 +6,10 @@ ghost use Rattle.ot_model.specs.View.{expr_of};
 ghost use Rattle.ot_task.specs.Pieces.{leading, behind, test_of, awake};
 ghost use Rattle.ot_task.specs.Modes.{AreHeld};
 
-use crate::assigns::Assigns;
 use crate::task::Task;
-use crate::touched::touched;
 use ot_model::{Decl, Expr};
 use ot_owner::{Right, RightRoom};
+use ot_parts::{Assigns, Leading};
 use std::alloc::{AllocError, Global};
 
 /// All that a claim makes before the cells are lent: what the piece gets, and what its task keeps. The
@@ -24,28 +23,29 @@ pub struct Prepared {
     pub room: RightRoom,
 }
 
-/// What the task's next piece is made of. The task stays, and where memory is refused too. What the piece
-/// names is to be there in arrays of some lengths.
-pub fn prepare(alloc: Global, task: &mut Task) -> Result<Prepared, AllocError>
-    requires named { (lens : List ℕ) × NamedIn lens (awake task.old).rest }
-    ensures assigns { IfOk result (λ p. p.assigns ≡ leading (awake task.old).rest) }
+/// What the task's next piece is made of. What the piece names is to be there in arrays of some lengths.
+pub fn prepare(alloc: Global, task: &Task) -> Result<Prepared, AllocError>
+    requires named { (lens : List ℕ) × NamedIn lens (awake task.now).rest }
+    ensures assigns { IfOk result (λ p. p.assigns ≡ leading (awake task.now).rest) }
     ensures shared { IfOk result (λ p. p.shared ≡ p.assigns) }
-    ensures test { IfOk result (λ p. option_map expr_of p.condition ≡ test_of (behind (awake task.old).rest)) }
-    ensures held { IfOk result (λ p. AreHeld task.old p.decl) }
+    ensures test { IfOk result (λ p. option_map expr_of p.condition ≡ test_of (behind (awake task.now).rest)) }
+    ensures held { IfOk result (λ p. AreHeld task.now p.decl) }
     ensures ordered { IfOk result (λ p. AreInOrder p.decl) }
-    ensures there { (cells : List (List ℕ)) → NamedIn (lengths cells) (awake task.old).rest → IfOk result (λ p. All (λ u. IsSome (cell_of cells u.cell)) p.decl) }
+    ensures there { (cells : List (List ℕ)) → NamedIn (lengths cells) (awake task.now).rest → IfOk result (λ p. All (λ u. IsSome (cell_of cells u.cell)) p.decl) }
     ensures room { IfOk result (λ p. p.room ≡ p.decl) }
-    ensures same { task.new ≡ task.old }
 {
-    let (assigns, condition) = task.piece(alloc)?;
-    let decl = touched(alloc, assigns.as_slice(), condition.as_ref(), task.own())?;
+    let Leading {
+        assigns,
+        condition,
+        held,
+    } = task.leading(alloc)?;
     let shared = assigns.share()?;
-    let room = Right::room(alloc, decl.copy(alloc)?)?;
+    let room = Right::room(alloc, held.copy(alloc)?)?;
     Ok(Prepared {
         assigns,
         shared,
         condition,
-        decl,
+        decl: held,
         room,
     })
 }

@@ -1,5 +1,5 @@
-use crate::assigns::Assigns;
 use ot_owner::{Lent, Right, RightRoom};
+use ot_parts::Assigns;
 use std::marker::Model;
 
 /// What a task keeps of its piece that is out: the worker that has it, the sets and folds, which the piece

@@ -1,22 +1,13 @@
-ghost use Rattle.std.specs.Prelude.{◌≡◌, ◌<◌, List, OnOk, OnErr, IfOk, option_map};
-ghost use Rattle.ot_model.specs.Tree.{Next};
-ghost use Rattle.ot_model.specs.View.{stmt_of, stmts_of};
-ghost use Rattle.ot_task.specs.PlaceView.{standing_of};
-ghost use Rattle.ot_task.specs.Rest.{TakesBack};
-ghost use Rattle.ot_task.specs.Standing.{with_next};
-ghost use Rattle.ot_task.specs.Regions.{Region, stepped, next_task};
-ghost use Rattle.ot_depend.specs.Siblings.{Sibling};
-ghost use Rattle.ot_task.specs.RegionView.{stands_at, waiting_of, KnowsFree};
-
-use crate::assigns::Assigns;
 use crate::place::Place;
 use crate::running::Running;
 use crate::waiting::Waiting;
 use ot_depend::Siblings;
-use ot_model::{Cell, Decl, Expr, Fold, Stmt};
+use ot_model::{Cell, Decl, Expr, Fold};
 use ot_owner::Lent;
+use ot_parts::{Assigns, Leading, Part};
 use std::alloc::{AllocError, Global};
 use std::marker::Model;
+use std::sync::Arc;
 
 /// A task that was created: where it stands, and its children.
 #[derive(Debug, Drop)]
@@ -50,31 +41,28 @@ impl Model for Task {
 }
 
 impl Task {
-    ghost use Rattle.std.specs.Prelude.{if◌then◌else◌, ◌≡◌, ◌+◌, ◌≤◌, ◌<◌, length, Some, OnOk, OnErr, IfOk, option_map};
-    ghost use Rattle.ot_model.specs.Tree.{Next, If, Group, Wait};
-    ghost use Rattle.ot_model.specs.View.{stmt_of, stmts_of, expr_of};
-    ghost use Rattle.ot_task.specs.Regions.{Region, new_region, child_of, stepped, next_task, with_noted};
-    ghost use Rattle.std.specs.Prelude.{None, Bool, ℕ, List};
+    ghost use Rattle.std.specs.Prelude.{◌≡◌, ◌+◌, ◌≤◌, ◌<◌, ◌^◌, ◌↔◌, ◌&&◌, true, not, if◌then◌else◌, ℕ, List, length, None, Some, is_some, option_map, All, IsTrue, OnOk, OnErr, IfOk};
+    ghost use Rattle.std.specs.Arc.{arc_value};
+    ghost use Rattle.ot_model.specs.Names.{NamedIn};
     ghost use Rattle.ot_model.specs.Tree.{Body};
-    ghost use Rattle.ot_model.specs.declared.stmt.Use.{Use};
-    ghost use Rattle.ot_task.specs.Regions.{root_region};
-    ghost use Rattle.std.specs.Prelude.{◌^◌};
-    ghost use Rattle.ot_task.specs.Weighing.{region_weight};
-    ghost use Rattle.ot_task.specs.Pieces.{leading, behind, test_of, awake, begun, Runs, group_passed};
-    ghost use Rattle.ot_task.specs.Regions.{is_control, tasks_next, group_next, with_child, without, over, stopped};
     ghost use Rattle.ot_model.specs.Uses.{AreInOrder};
-    ghost use Rattle.ot_task.specs.Standing.{is_at_end};
-    ghost use Rattle.ot_depend.specs.Siblings.{IsReady, IsUnfinished, with_finished};
+    ghost use Rattle.ot_model.specs.View.{expr_of};
+    ghost use Rattle.ot_model.specs.declared.stmt.Use.{Use};
+    ghost use Rattle.ot_parts.specs.Leading.{past_control};
+    ghost use Rattle.ot_parts.specs.Parts.{parts_of};
+    ghost use Rattle.ot_parts.specs.Runs.{AreHeldBy};
+    ghost use Rattle.ot_depend.specs.Siblings.{IsReady, IsUnfinished, is_ready, with_finished};
     ghost use Rattle.ot_depend.specs.Waiting.{LetsTheSame, WaitForLess};
-    ghost use Rattle.std.specs.Prelude.{All};
-    ghost use Rattle.std.specs.Prelude.{IsTrue, ◌↔◌};
+    ghost use Rattle.ot_task.specs.Pieces.{leading, behind, test_of, awake, begun, Runs, group_passed};
+    ghost use Rattle.ot_task.specs.Regions.{Region, root_region, new_region, child_of, stepped, next_task, with_noted};
+    ghost use Rattle.ot_task.specs.Regions.{is_control, tasks_next, group_next, with_child, with_rest, without, over, stopped};
+    ghost use Rattle.ot_task.specs.Standing.{is_at_end};
     ghost use Rattle.ot_task.specs.Waits.{is_let_go, end_lets_go};
-    ghost use Rattle.ot_depend.specs.Siblings.{is_ready};
-    ghost use Rattle.std.specs.Prelude.{true, not, ◌&&◌, is_some};
+    ghost use Rattle.ot_task.specs.Weighing.{region_weight};
 
     /// The root task at the beginning of the program's body. It takes no memory.
-    pub fn root(alloc: Global, body: Vec<Stmt>) -> Task
-        ensures { result ≡ root_region (stmts_of body.items) }
+    pub fn root(alloc: Global, body: Arc<Vec<Part>>) -> Task
+        ensures { result ≡ root_region (parts_of (arc_value body).items) }
     {
         Task {
             parent: 0,
@@ -89,8 +77,8 @@ impl Task {
     }
 
     /// A child at the beginning of its body. It takes no memory.
-    fn new(alloc: Global, parent: usize, child: usize, decl: Decl, body: Vec<Stmt>) -> Task
-        ensures { result ≡ new_region parent child decl (stmts_of body.items) }
+    fn new(alloc: Global, parent: usize, child: usize, decl: Decl, body: Arc<Vec<Part>>) -> Task
+        ensures { result ≡ new_region parent child decl (parts_of (arc_value body).items) }
     {
         Task {
             parent,
@@ -160,14 +148,15 @@ impl Task {
         self.waiting.lets_go(&self.children) && self.end_lets_go()
     }
 
-    /// What its next piece is made of: the sets and folds that come once it goes on, and a copy of the
-    /// condition of an `if` behind them. It stays as it is.
-    pub(crate) fn piece(&mut self, alloc: Global) -> Result<(Assigns, Option<Expr>), AllocError>
-        ensures assigns { IfOk result (λ p. p.0 ≡ leading (awake self.old).rest) }
-        ensures test { IfOk result (λ p. option_map expr_of p.1 ≡ test_of (behind (awake self.old).rest)) }
-        ensures same { self.new ≡ self.old }
+    /// What comes first once it goes on. What that names is to be there in arrays of some lengths.
+    pub(crate) fn leading(&self, alloc: Global) -> Result<Leading, AllocError>
+        requires named { (lens : List ℕ) × NamedIn lens (awake self.now).rest }
+        ensures assigns { IfOk result (λ l. l.assigns ≡ leading (awake self.now).rest) }
+        ensures condition { IfOk result (λ l. option_map expr_of l.condition ≡ test_of (behind (awake self.now).rest)) }
+        ensures held { IfOk result (λ l. AreHeldBy self.now.own (leading (awake self.now).rest) (test_of (behind (awake self.now).rest)) l.held) }
+        ensures ordered { IfOk result (λ l. AreInOrder l.held) }
     {
-        self.place.piece(alloc)
+        self.place.leading(alloc, self.decl.as_ref())
     }
 
     /// The number of the innermost open group, where its end is reached: as it goes on it passes that end.
@@ -185,17 +174,10 @@ impl Task {
     pub fn group_next(&self) -> Option<(Fold, &[Cell])>
         ensures { option_map (λ g. (g.0, g.1.now)) result ≡ group_next self.now.rest }
     {
-        match self.place.next() {
-            Some(Stmt::Group(op, cells, _)) => Some((*op, cells.as_slice())),
+        match self.place.next_control()? {
+            Part::Group(_, op, cells, _) => Some((*op, cells.as_slice())),
             _ => None,
         }
-    }
-
-    /// What it declares.
-    pub(crate) fn own(&self) -> Option<&Decl>
-        ensures { option_map (λ d. d.now) result ≡ self.now.own }
-    {
-        self.decl.as_ref()
     }
 
     /// Goes on with a piece that is out from now on, of which it keeps this. It takes no memory.
@@ -242,8 +224,11 @@ impl Task {
         ensures exact { result ≡ tasks_next self.now.rest }
         ensures one { result ≤ 1 }
     {
-        match self.place.next() {
-            Some(Stmt::Task(_, _)) => 1,
+        let Some(part) = self.place.next_control() else {
+            return 0;
+        };
+        match part {
+            Part::Task(_, _, _) => 1,
             _ => 0,
         }
     }
@@ -312,86 +297,54 @@ impl Task {
         ensures ordered { OnOk result ((c : List Use × Body) → next_task self.old.rest ≡ Some c → AreInOrder c.0) }
         ensures refused { OnErr result (self.new ≡ self.old) }
     {
-        match self.place.next() {
-            Some(Stmt::Task(decl, _)) => {
-                let decl = Decl::new(decl.uses().to_vec(alloc)?);
-                self.create(alloc, number, decl)
+        let Some(part) = self.place.next_control() else {
+            return Ok(None);
+        };
+        match part {
+            Part::Task(_, decl, body) => {
+                let noted = Decl::new(decl.uses().to_vec(alloc)?);
+                let decl = decl.copy(alloc)?;
+                let body = Arc::try_clone(body)?;
+                self.create(alloc, number, noted, decl, body)
             }
-            _ => {
-                self.advance(taken, group)?;
+            Part::If(_, _, _) => {
+                self.place.branch(taken)?;
                 Ok(None)
             }
+            Part::Wait(_, decl) => {
+                let waiting = Waiting::at(alloc, decl.as_ref())?;
+                self.place.pass_control();
+                self.waiting = waiting;
+                Ok(None)
+            }
+            Part::Group(_, op, cells, body) => {
+                let op = *op;
+                let cells = cells.as_slice().to_vec(alloc)?;
+                let body = Arc::try_clone(body)?;
+                self.place.enter(alloc, group, op, cells, body)?;
+                Ok(None)
+            }
+            Part::End(_) => Ok(None),
         }
     }
 
-    /// Creates the task that comes next, which declares this. It is noted before its statement is taken,
-    /// so that nothing is put back where memory is refused.
+    /// Goes past the control statement that comes next, and creates a task with this declaration, which is noted,
+    /// and this body. Where memory is refused, nothing changes.
     fn create(
         &mut self,
         alloc: Global,
         number: usize,
+        noted: Decl,
         decl: Decl,
+        body: Arc<Vec<Part>>,
     ) -> Result<Option<Task>, AllocError>
-        requires next { option_map (λ c. c.0) (next_task self.old.rest) ≡ Some decl }
-        ensures stepped { OnOk result ((taken : Bool) (g : ℕ) → self.new ≡ with_child decl (stepped taken g self.old)) }
-        ensures child { IfOk result (λ child. child ≡ option_map (child_of number self.old) (next_task self.old.rest)) }
+        requires { noted ≡ decl }
+        ensures created { OnOk result (self.new ≡ with_child decl (with_rest (past_control self.old.rest) self.old)) }
+        ensures child { IfOk result (λ child. child ≡ Some (child_of number self.old (decl, parts_of (arc_value body).items))) }
         ensures refused { OnErr result (self.new ≡ self.old) }
     {
-        let child = self.note_child(alloc, decl)?;
-        match self.place.take_task() {
-            Some((decl, body)) => Ok(Some(Task::new(alloc, number, child, decl, body))),
-            None => Ok(None),
-        }
-    }
-
-    /// Executes the control statement that comes next, if one does, which creates no task.
-    fn advance(&mut self, taken: bool, group: u32) -> Result<(), AllocError>
-        ensures stepped { OnOk result (next_task self.old.rest ≡ None → self.new ≡ stepped taken group self.old) }
-        ensures refused { OnErr result (self.new ≡ self.old) }
-    {
-        match self.place.take() {
-            None => Ok(()),
-            Some(stmt) => {
-                execute(&mut self.place, &mut self.waiting, stmt, taken, group)?;
-                Ok(())
-            }
-        }
-    }
-}
-
-/// Executes a statement that was taken off, as `step` does. A set or a fold is put back, and where
-/// memory is refused, each.
-fn execute(
-    place: &mut Place,
-    waiting: &mut Waiting,
-    stmt: Stmt,
-    taken: bool,
-    group: u32,
-) -> Result<Option<(Decl, Vec<Stmt>)>, AllocError>
-    requires { TakesBack place.old.rest }
-    ensures stepped { OnOk result ((r : Region) → stands_at (standing_of place.new) (waiting_of waiting.new) r
-        ≡ stepped taken group (stands_at (with_next (stmt_of stmt) (standing_of place.old)) (waiting_of waiting.old) r)) }
-    ensures child { IfOk result (λ child. next_task (Next (stmt_of stmt) (standing_of place.old).rest) ≡ option_map (λ c. (c.0, stmts_of c.1.items)) child) }
-    ensures knows { (children : List Sibling) → KnowsFree waiting.old children → KnowsFree waiting.new children }
-    ensures refused { OnErr result ((standing_of place.new ≡ with_next (stmt_of stmt) (standing_of place.old)) × (waiting.new ≡ waiting.old)) }
-{
-    match stmt {
-        Stmt::Wait(decl) => {
-            *waiting = Waiting::at(decl);
-            Ok(None)
-        }
-        Stmt::If(test, one, two) => {
-            place.branch(test, one, two, taken)?;
-            Ok(None)
-        }
-        Stmt::Group(op, cells, body) => {
-            place.open(group, op, cells, body)?;
-            Ok(None)
-        }
-        Stmt::Task(decl, body) => Ok(Some((decl, body))),
-        other => {
-            place.put_back(other);
-            Ok(None)
-        }
+        let child = self.note_child(alloc, noted)?;
+        self.place.pass_control();
+        Ok(Some(Task::new(alloc, number, child, decl, body)))
     }
 }

@@ -1,10 +1,11 @@
-ghost use Rattle.std.specs.Prelude.{◌≡◌, List, Some, not};
+ghost use Rattle.std.specs.Prelude.{◌≡◌, List, Some, not, IfOk, option_map};
 ghost use Rattle.ot_depend.specs.Siblings.{Sibling};
 ghost use Rattle.ot_task.specs.Waits.{is_held};
 ghost use Rattle.ot_task.specs.RegionView.{waiting_of, KnowsFree};
 
 use ot_depend::Siblings;
 use ot_model::Decl;
+use std::alloc::{AllocError, Global};
 
 /// The wait that a task has executed and has not gone on from.
 #[derive(Debug, Drop)]
@@ -19,14 +20,14 @@ pub(crate) enum Waiting {
 }
 
 impl Waiting {
-    /// At a wait that the task executes. It takes no memory.
-    pub(crate) fn at(decl: Option<Decl>) -> Waiting
-        ensures wait { waiting_of result ≡ Some decl }
-        ensures knows { (children : List Sibling) → KnowsFree result children }
+    /// At a wait that the task executes, which declares this.
+    pub(crate) fn at(alloc: Global, decl: Option<&Decl>) -> Result<Waiting, AllocError>
+        ensures wait { IfOk result (λ wait. waiting_of wait ≡ Some (option_map (λ d. d.now) decl.entry)) }
+        ensures knows { IfOk result (λ wait. (children : List Sibling) → KnowsFree wait children) }
     {
         match decl {
-            Some(decl) => Waiting::For(decl, 0),
-            None => Waiting::ForAll,
+            Some(decl) => Ok(Waiting::For(decl.copy(alloc)?, 0)),
+            None => Ok(Waiting::ForAll),
         }
     }
 

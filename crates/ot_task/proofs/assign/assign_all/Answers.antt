@@ -3,7 +3,7 @@ use Rattle.std.proofs.lemmas.List.{drop_more}
 use Rattle.ot_owner.specs.Lending.{value_at}
 use Rattle.ot_task.specs.Copies.{assigned}
 use Rattle.ot_task.specs.Assigns.{assigns_of, assign_of, CanAssign}
-use Rattle.ot_task.specs.declared.assign.Assign.{Assign}
+use Rattle.ot_parts.specs.declared.assign.Assign.{Assign}
 use Rattle.ot_task.proofs.AssignLemmas.{can-kept, assigned-first, can-rest, is_assign}
 use Rattle.ot_task.proofs.assign.assign_all.Goals as goal
 

@@ -1,6 +1,6 @@
 use Rattle.std.proofs.Common.{rules, ◌<◌, arith, length}
 use Rattle.std.proofs.lemmas.Grind.{common_steps}
-use Rattle.ot_task.proofs.WeightLemmas.{some-behind}
+use Rattle.ot_task.proofs.GroupLemmas.{some-behind}
 use Rattle.ot_task.proofs.place.Place.weigh.Goals.{then-out, else-out}
 use Rattle.ot_task.proofs.place.Place.weigh.Goals as goal
 
