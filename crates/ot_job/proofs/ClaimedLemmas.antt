@@ -35,9 +35,8 @@ use Rattle.ot_job.proofs.TakenLemmas.{claim-can}
 use Rattle.ot_job.proofs.WellLemmas.{claim-free, claim-holds, claim-well}
 
 -- the group whose end is passed, as the task tells it
-pub passed-told : (rs now : List Region) (i : ℕ) (t : Region) (told : Option ℕ) → i < length rs → now ≡ rs → t ≡ get_or now i t → told ≡ group_passed t → told ≡ group_passed (at rs i)
-passed-told rs now i t told h same here is =
-    is ∙ ap group_passed (sym (at-here now i t (subst (λ (l : List Region). i < length l) (sym same) h) here) ∙ ap (λ (l : List Region). at l i) same)
+pub passed-told : (rs : List Region) (i : ℕ) (t : Region) (told : Option ℕ) → i < length rs → t ≡ get_or rs i t → told ≡ group_passed t → told ≡ group_passed (at rs i)
+passed-told rs i t told h here is = is ∙ ap group_passed (sym (at-here rs i t h here))
 
 module _ (j : Live) (w : IsWell j) (working : j.failing ≡ false) (i : ℕ) (h : i < length j.regions) (can : is_claimable j.regions i ≡ true) (worker : ℕ) (decl : List Use)
     (are : AreHeld (at j.regions i) decl) (ordered : AreInOrder decl) (slip : Prepared) (slip-is : slip ≡ record { uses = decl; worker = worker })

@@ -1,9 +1,9 @@
 -- The counters beside the tasks, through each change of the regions.
-use Rattle.std.proofs.Common.{◌≡◌, ◌<◌, ◌≤◌, ◌+◌, ◌-◌, ℕ, zero, suc, Bool, true, false, cond, not, ◌||◌, ◌&&◌, List, [], ◌∷◌, ◌++◌, length, refl, sym, ap, ◌∙◌, arith}
+use Rattle.std.proofs.Common.{◌≡◌, ◌<◌, ◌≤◌, ◌+◌, ◌-◌, ℕ, zero, suc, Bool, true, false, cond, not, ◌||◌, List, [], ◌∷◌, ◌++◌, length, refl, sym, ap, ◌∙◌, arith}
 use Rattle.std.specs.Prelude.{◌==◌, None, is_some}
 use Rattle.std.specs.List.{list_any, count_by}
 use Rattle.std.proofs.lemmas.Bool.Decides.{nat_tests}
-use Rattle.std.proofs.lemmas.List.Sums.{sum_by-cons, sum_by_push, count_by-le-length}
+use Rattle.std.proofs.lemmas.List.Sums.{sum_by-cons, sum_by_push}
 use Rattle.ot_model.specs.Tree.{Set, Fold, If, Task as Fork, Wait, Group, Body, End, Next}
 use Rattle.ot_model.specs.declared.stmt.Use.{Use}
 use Rattle.ot_model.specs.Cells.{updated}
@@ -11,7 +11,7 @@ use Rattle.ot_owner.specs.Leases.{Lease}
 use Rattle.ot_task.specs.Regions.{Region, with_child, stepped, stepped_from, stopped, over, without}
 use Rattle.ot_task.specs.Pieces.{begun}
 use Rattle.ot_job.specs.Numbered.{at}
-use Rattle.ot_job.specs.States.{any_out, all_ended}
+use Rattle.ot_job.specs.States.{any_out}
 use Rattle.ot_job.specs.Counting.{out_in, unended_in, AreCounted}
 
 -- ---- counts
@@ -43,21 +43,6 @@ any-counted p (r ∷ rs) = by (any-counted p rs) (p r) refl
 pub out-any : (rs : List Region) → not (out_in rs == 0) ≡ any_out rs
 out-any rs = any-counted (λ r. is_some r.running) rs
 
-pub unended-all : (rs : List Region) → (unended_in rs == 0) ≡ all_ended rs
-unended-all [] = refl
-unended-all (r ∷ rs) = by (unended-all rs) r.ended refl
-  where
-    by : (unended_in rs == 0) ≡ all_ended rs → (b : Bool) → r.ended ≡ b → (unended_in (r ∷ rs) == 0) ≡ (r.ended && all_ended rs)
-    by later false e =
-        let is : one (not r.ended) ≡ 1 = ap (λ b. one (not b)) e in
-        let more : unended_in (r ∷ rs) ≡ 1 + unended_in rs = omega (arith, count-cons (λ r. not r.ended) r rs, is) in
-        let some : (unended_in (r ∷ rs) == 0) ≡ false = grind (arith, nat_tests, more) in
-        some ∙ sym (ap (λ b. b && all_ended rs) e)
-    by later true e =
-        let is : one (not r.ended) ≡ 0 = ap (λ b. one (not b)) e in
-        let same : unended_in (r ∷ rs) ≡ unended_in rs = omega (arith, count-cons (λ r. not r.ended) r rs, is) in
-        ap (λ n. n == 0) same ∙ later ∙ sym (ap (λ b. b && all_ended rs) e)
-
 -- ---- one region changes
 
 pub count-updated : (p : Region → Bool) (f : Region → Region) (rs : List Region) (i : ℕ) → i < length rs
@@ -79,13 +64,6 @@ runs r = is_some r.running
 
 abbrev goes : Region → Bool
 goes r = not r.ended
-
--- what is counted is few
-pub out-few : (rs : List Region) → out_in rs ≤ length rs
-out-few rs = count_by-le-length runs rs
-
-pub unended-few : (rs : List Region) → unended_in rs ≤ length rs
-unended-few rs = count_by-le-length goes rs
 
 -- ---- a piece goes out and comes back
 

@@ -1,6 +1,6 @@
 -- The copies that a piece was lent let each of its touches be made as it is meant: what is read is no fold, what is written
 -- is lent to be written.
-use Rattle.std.proofs.Common.{◌≡◌, ◌<◌, ℕ, ◌+◌, ◌%◌, Bool, true, false, not, cond, ◌&&◌, List, [], ◌∷◌, map, refl, sym, ap, subst, ◌∙◌, inl, inr, arith, true≢false}
+use Rattle.std.proofs.Common.{◌≡◌, ◌<◌, ℕ, ◌+◌, ◌%◌, Bool, true, false, not, cond, List, [], ◌∷◌, map, refl, sym, ap, subst, ◌∙◌, inl, arith, true≢false}
 use Rattle.std.specs.Prelude.{Option, Some, None, option_map, if◌then◌else◌}
 use Rattle.std.specs.List.{find, range_with_len}
 use Rattle.std.proofs.Math.Nat.{mod-lt}
@@ -15,12 +15,11 @@ use Rattle.ot_model.specs.declared.stmt.Mode.{Mode}
 use Rattle.ot_model.specs.declared.stmt.Mode.TheVariants.{Reads, Writes, Folds}
 use Rattle.ot_model.specs.declared.stmt.Use.{Use}
 use Rattle.ot_check.specs.Paths.{use_as, touches}
-use Rattle.ot_check.specs.Offences.{Declared, Openings, allows, folds_to, covers}
+use Rattle.ot_check.specs.Offences.{Declared, Openings, allows, folds_to}
 use Rattle.ot_check.specs.Touches.{EachRead, EachTouch}
 use Rattle.ot_check.specs.walk.Walk.{Children}
 use Rattle.ot_check.specs.walk.Fine.{IsFine, AreAssigns}
 use Rattle.ot_check.specs.declared.fault.Offence.TheVariants.{NotDeclared}
-use Rattle.ot_check.proofs.Bits.{or_true, true_or, or_right, and_left, and_right, and_true}
 use Rattle.ot_owner.specs.Lending.{is_at, uses_of}
 use Rattle.ot_owner.specs.declared.lent.LentCell.{LentCell}
 use Rattle.ot_job.proofs.Given.{Lets, LetsMode}
@@ -91,22 +90,6 @@ mode-lent (l ∷ lent) c = by (same_cell c l.cell) refl (mode-lent lent c)
         → option_map (λ x. x.mode) (cond (same_cell l.cell c) (Some l) (find (is_at c) lent)) ≡ (if same_cell c l.cell then Some l.mode else mode_in (uses_of lent) c)
     by true e more = rw (e, flip c l.cell true e) refl
     by false e more = rw (e, flip c l.cell false e) more
-
--- who may write a cell may read it
-pub writes-reads : (own : Declared) (c : Cell) → allows own (use_as Writes c) ≡ true → allows own (use_as Reads c) ≡ true
-writes-reads None c h = refl
-writes-reads (Some []) c h = h
-writes-reads (Some (d ∷ us)) c h =
-    elim (or_true (same_cell d.cell c && covers d.mode Writes) (allows (Some us) (use_as Writes c)) h) [
-      | inl here ↦ true_or (same_cell d.cell c && covers d.mode Reads) (allows (Some us) (use_as Reads c))
-          (and_true (same_cell d.cell c) (covers d.mode Reads) (and_left (same_cell d.cell c) (covers d.mode Writes) here) (all d.mode (and_right (same_cell d.cell c) (covers d.mode Writes) here)))
-      | inr later ↦ or_right (same_cell d.cell c && covers d.mode Reads) (allows (Some us) (use_as Reads c)) (writes-reads (Some us) c later)
-    ]
-  where
-    all : (m : Mode) → covers m Writes ≡ true → covers m Reads ≡ true
-    all Writes h = refl
-    all Reads h = absurd (true≢false (sym h))
-    all (Folds o) h = absurd (true≢false (sym h))
 
 module _ (lens : List ℕ) (own : Declared) (opened : Openings) (children : Children) (piece rest : Body) (only : AreAssigns piece) (named : NamedIn lens (append piece rest))
     (fine : IsFine own opened children (append piece rest)) (exclusive : (o : Operation) (c : Cell) → folds_to own o c ≡ true → OnlyFolds o own c)

@@ -1,7 +1,7 @@
 -- What pieces hold of the cells of open groups: nothing of their own task's, and of another task's they only fold.
-use Rattle.std.proofs.Common.{◌≡◌, ◌≢◌, ℕ, ◌<◌, ◌≤◌, Bool, true, false, List, [], ◌∷◌, length, refl, sym, ap, subst, ◌∙◌, ◌⊎◌, inl, inr, true≢false, ◌&&◌, arith}
+use Rattle.std.proofs.Common.{◌≡◌, ◌≢◌, ℕ, ◌<◌, ◌≤◌, Bool, true, false, List, [], ◌∷◌, length, refl, sym, ap, subst, ◌∙◌, ◌⊎◌, inl, inr, true≢false, ◌&&◌}
 use Rattle.std.specs.Prelude.{Some, slice_get}
-use Rattle.std.proofs.lemmas.Bool.{cases_eq, cases_lt}
+use Rattle.std.proofs.lemmas.Bool.{cases_lt}
 use Rattle.ot_model.specs.Names.{NamedIn}
 use Rattle.ot_model.specs.Uses.{conflicts, mode_in, same_fold}
 use Rattle.ot_model.specs.declared.expr.Cell.{Cell}
@@ -26,14 +26,12 @@ use Rattle.ot_job.specs.Numbered.{at, parent_of, todo_at, ended_at}
 use Rattle.ot_job.specs.Sound.{may_at, grouped_in, NamedOnce, IsBegun, IsPlaced, IsSound}
 use Rattle.ot_job.specs.Running.{RunsWell}
 use Rattle.ot_job.specs.Whole.{whole, wholes}
-use Rattle.ot_job.proofs.FoldLemmas.{same-op, one-fold, agrees-with, agrees-before, both-fold, writes-all, only-declares, only-unwritten}
+use Rattle.ot_job.proofs.FoldLemmas.{same-op, agrees-before, both-fold, writes-all, only-declares, only-unwritten}
 use Rattle.ot_job.proofs.HoldsLemmas.{Among}
 use Rattle.ot_job.proofs.SoundLemmas.{sound, at-past}
 use Rattle.ot_job.proofs.RightsLemmas.{rights_apart}
-use Rattle.ot_job.proofs.Order.{Anc, IsBefore, branch}
-use Rattle.ot_job.proofs.Kept.{up_to, alive_up, begun_anc}
 use Rattle.ot_job.proofs.GroupLemmas.{writes-agree}
-use Rattle.ot_job.proofs.CreatedLemmas.{grouped-opened, opened-alike}
+use Rattle.ot_job.proofs.CreatedLemmas.{grouped-opened}
 use Rattle.ot_job.proofs.FreeLemmas.{total, at-whole, named-front, piece-may, piece-meets, safe, right-of}
 
 -- ---- who may hold a cell

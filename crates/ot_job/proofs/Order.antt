@@ -1,6 +1,6 @@
 -- The tasks in their serial order.
 use Rattle.std.specs.Prelude.{if◌then◌else◌}
-use Rattle.std.proofs.Common.{◌≡◌, ◌≢◌, ℕ, ◌+◌, ◌<◌, ◌≤◌, List, [], ◌∷◌, ◌++◌, Bool, true, false, cond, eqb, ◌==◌, refl, sym, ◌∙◌, ap, subst, inl, inr, ◌⊎◌, arith}
+use Rattle.std.proofs.Common.{◌≡◌, ◌≢◌, ℕ, ◌+◌, ◌<◌, ◌≤◌, List, [], ◌∷◌, Bool, true, false, cond, eqb, ◌==◌, refl, sym, ◌∙◌, ap, subst, inl, inr, ◌⊎◌, arith}
 use Rattle.std.proofs.lemmas.Bool.{cases_eq}
 use Rattle.std.proofs.lemmas.Bool.Decides.{nat_tests}
 use Rattle.ot_model.specs.Tree.{Body}
@@ -22,10 +22,6 @@ order parents = order_from 1 (0 ∷ []) parents
 abbrev pub run_all : (ℕ → Body) → List ℕ → State → State
 run_all todo [] s = s
 run_all todo (j ∷ js) s = run_all todo js (serial (todo j) s)
-
-pub run_all-append : (todo : ℕ → Body) (xs ys : List ℕ) (s : State) → run_all todo (xs ++ ys) s ≡ run_all todo ys (run_all todo xs s)
-run_all-append todo [] ys s = refl
-run_all-append todo (x ∷ xs) ys s = run_all-append todo xs ys (serial (todo x) s)
 
 -- each with its children before it
 abbrev whole : (ℕ → Body) → ℕ → List ℕ → List ℕ → State → State
@@ -97,10 +93,6 @@ absent-insert q k (x ∷ xs) h =
 pub Each-weaker : (P Q : ℕ → Type 0) → ((x : ℕ) → P x → Q x) → (xs : List ℕ) → Each P xs → Each Q xs
 Each-weaker P Q w [] h = tt
 Each-weaker P Q w (x ∷ xs) h = (w x h.0, Each-weaker P Q w xs h.1)
-
-Each-both : (P Q : ℕ → Type 0) (xs : List ℕ) → Each P xs → Each Q xs → Each (λ x. P x × Q x) xs
-Each-both P Q [] h g = tt
-Each-both P Q (x ∷ xs) h g = ((h.0, g.0), Each-both P Q xs h.1 g.1)
 
 -- the order of two different tasks, both below k
 abbrev Good : (ℕ → ℕ) → ℕ → ℕ → ℕ → Type 0

@@ -59,11 +59,6 @@ all-three true true free a b = refl
 all-three true false free a b = absurd (true≢false (sym b))
 all-three false begun free a b = absurd (true≢false (sym a))
 
-pub not-begun : (idle begun free : Bool) → (idle && begun) ≡ false → false ≡ (idle && (begun && free))
-not-begun true true free h = absurd (true≢false h)
-not-begun true false free h = refl
-not-begun false begun free h = refl
-
 pub zero-or : (i : ℕ) (b : Bool) → i ≡ 0 → ((i == 0) || b) ≡ true
 zero-or i b h = ap (λ n. (n == 0) || b) h
 

@@ -46,12 +46,6 @@ left-≤ false End [] = omega arith
 left-≤ false End (o ∷ os) = omega arith
 left-≤ false (Next x rest) os = omega arith
 
-pub left-≥ : (out : Bool) (rest : Body) (os : List Open) → weight rest + weight_behind os ≤ 1 + weight_left out rest os
-left-≥ true rest os = omega arith
-left-≥ false End [] = omega arith
-left-≥ false End (o ∷ os) = omega arith
-left-≥ false (Next x rest) os = omega arith
-
 -- ---- one region among all
 
 weight-updated : (rs : List Region) (i : ℕ) (f : Region → Region) → i < length rs → weight_of (updated rs i f) + region_weight (at rs i) ≡ weight_of rs + region_weight (f (at rs i))

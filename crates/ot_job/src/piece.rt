@@ -138,7 +138,7 @@ fn answer(condition: Option<&Expr>, lent: &Lent) -> Option<u64>
 }
 
 impl Done {
-    ghost use Rattle.std.specs.Prelude.{◌≡◌, ◌∷◌, ◌↔◌, IsTrue, All, Contains, IsSome, IsPermutation};
+    ghost use Rattle.std.specs.Prelude.{◌≡◌, ◌∷◌, ◌↔◌, IsTrue, All, Contains, IfSome, IsSome, IsPermutation};
     ghost use Rattle.ot_model.specs.Cells.{cell_of, lengths};
     ghost use Rattle.ot_model.specs.declared.stmt.Mode.TheVariants.{Writes};
     ghost use Rattle.ot_owner.specs.Back.{AreStored, all_back};
@@ -161,6 +161,17 @@ impl Done {
         ensures { result ≡ leading_len self.now.assigns }
     {
         self.assigns.len()
+    }
+
+    /// Its sets and folds, held once more, so that whoever holds them lets them go, and not whoever takes the piece
+    /// back. It takes no memory, and there are none where more hold them than can be counted.
+    pub fn hold(&self) -> Option<Assigns>
+        ensures { IfSome result (λ held. held ≡ self.now.assigns) }
+    {
+        match self.assigns.share() {
+            Ok(held) => Some(held),
+            Err(_) => None,
+        }
     }
 
     /// Whether the task runs these assigns with this condition on these inputs.

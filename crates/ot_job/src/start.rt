@@ -6,8 +6,9 @@ ghost use Rattle.ot_task.specs.Regions.{root_region};
 
 use crate::tasks::Tasks;
 use ot_check::JobSpec;
-use ot_model::{Cells, copy_stmts};
+use ot_model::Cells;
 use std::alloc::{AllocError, Global};
+use std::sync::Arc;
 
 /// The cells as a job begins with them, and its root task.
 pub(crate) fn beginning(alloc: Global, spec: &JobSpec) -> Result<(Cells, Tasks), AllocError>
@@ -16,7 +17,7 @@ pub(crate) fn beginning(alloc: Global, spec: &JobSpec) -> Result<(Cells, Tasks),
     ensures root { IfOk result (λ parts. parts.1 ≡ root_region (expanded_of spec.now.checked.program).body ∷ []) }
 {
     let cells = spec.before().copy(alloc)?;
-    let body = copy_stmts(alloc, &spec.checked().program.body)?;
+    let body = Arc::try_clone(&spec.checked().parts)?;
     let tasks = Tasks::root(alloc, body)?;
     Ok((cells, tasks))
 }

@@ -1,10 +1,11 @@
 use crate::arena::execute;
 use crate::listed::Listed;
 use crate::listing::{refresh, refresh_children};
-use ot_model::Stmt;
+use ot_parts::Part;
 use ot_task::{Prepared, Running, Task, prepare};
 use std::alloc::{AllocError, Global};
 use std::marker::Model;
+use std::sync::Arc;
 
 /// The tasks of a job in order of their creation, and what is kept so that none has to be passed over.
 #[derive(Debug, Drop)]
@@ -39,11 +40,13 @@ impl Model for Tasks {
 
 impl Tasks {
     ghost use Rattle.std.specs.Prelude.{◌≡◌, ◌<◌, ℕ, List, [], ◌∷◌, None, true, false, length, is_some, slice_index_or, option_map, All, IsSome, OnOk, OnErr, IfOk};
+    ghost use Rattle.std.specs.Arc.{arc_value};
     ghost use Rattle.ot_model.specs.Cells.{cell_of, lengths, updated};
     ghost use Rattle.ot_model.specs.Names.{NamedIn};
     ghost use Rattle.ot_model.specs.Uses.{AreInOrder};
     ghost use Rattle.ot_task.specs.Modes.{AreHeld};
-    ghost use Rattle.ot_model.specs.View.{expr_of, stmts_of};
+    ghost use Rattle.ot_model.specs.View.{expr_of};
+    ghost use Rattle.ot_parts.specs.Parts.{parts_of};
     ghost use Rattle.ot_depend.specs.Siblings.{IsReady, IsUnfinished};
     ghost use Rattle.ot_job.specs.Numbered.{at, parent_of};
     ghost use Rattle.ot_task.specs.Pieces.{leading, behind, test_of, awake, begun};
@@ -55,8 +58,8 @@ impl Tasks {
     ghost use Rattle.ot_job.specs.States.{any_out, all_ended};
 
     /// The root task alone, at the beginning of the program's body.
-    pub fn root(alloc: Global, body: Vec<Stmt>) -> Result<Tasks, AllocError>
-        ensures { IfOk result (λ tasks. tasks ≡ root_region (stmts_of body.items) ∷ []) }
+    pub fn root(alloc: Global, body: Arc<Vec<Part>>) -> Result<Tasks, AllocError>
+        ensures { IfOk result (λ tasks. tasks ≡ root_region (parts_of (arc_value body).items) ∷ []) }
     {
         let mut tasks = Vec::with_capacity(alloc, 1)?;
         let mut children = Vec::with_capacity(alloc, 1)?;
@@ -121,20 +124,19 @@ impl Tasks {
         self.claimable.at(pick % count)
     }
 
-    /// What the next piece of a task is made of. No task changes.
-    pub fn prepare(&mut self, alloc: Global, i: usize) -> Result<Prepared, AllocError>
-        requires known { i < length self.old }
-        requires named { (lens : List ℕ) × NamedIn lens (awake (at self.old i)).rest }
-        ensures assigns { IfOk result (λ p. p.assigns ≡ leading (awake (at self.old i)).rest) }
-        ensures test { IfOk result (λ p. option_map expr_of p.condition ≡ test_of (behind (awake (at self.old i)).rest)) }
-        ensures held { IfOk result (λ p. AreHeld (at self.old i) p.decl) }
+    /// What the next piece of a task is made of.
+    pub fn prepare(&self, alloc: Global, i: usize) -> Result<Prepared, AllocError>
+        requires known { i < length self.now }
+        requires named { (lens : List ℕ) × NamedIn lens (awake (at self.now i)).rest }
+        ensures assigns { IfOk result (λ p. p.assigns ≡ leading (awake (at self.now i)).rest) }
+        ensures test { IfOk result (λ p. option_map expr_of p.condition ≡ test_of (behind (awake (at self.now i)).rest)) }
+        ensures held { IfOk result (λ p. AreHeld (at self.now i) p.decl) }
         ensures ordered { IfOk result (λ p. AreInOrder p.decl) }
         ensures shared { IfOk result (λ p. p.shared ≡ p.assigns) }
-        ensures there { (cells : List (List ℕ)) → NamedIn (lengths cells) (awake (at self.old i)).rest → IfOk result (λ p. All (λ u. IsSome (cell_of cells u.cell)) p.decl) }
+        ensures there { (cells : List (List ℕ)) → NamedIn (lengths cells) (awake (at self.now i)).rest → IfOk result (λ p. All (λ u. IsSome (cell_of cells u.cell)) p.decl) }
         ensures room { IfOk result (λ p. p.room ≡ p.decl) }
-        ensures same { self.new ≡ self.old }
     {
-        prepare(alloc, &mut self.tasks[i])
+        prepare(alloc, &self.tasks[i])
     }
 
     /// A task goes on with a piece that is out from now on, of which it keeps this. It takes no memory.

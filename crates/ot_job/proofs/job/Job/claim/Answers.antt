@@ -1,4 +1,4 @@
-use Rattle.std.proofs.Common.{rules, [], ◌≡◌, ◌<◌, ◌∙◌, ap, sym, subst, arith, length, List, Bool}
+use Rattle.std.proofs.Common.{rules, [], ◌≡◌, ◌<◌, ◌∙◌, refl, ap, sym, subst, arith, length, List, Bool}
 use Rattle.std.specs.Prelude.{Some, Option, option_map, if◌then◌else◌}
 use Rattle.ot_model.specs.Tree.{E, Body}
 use Rattle.ot_model.specs.Cells.{lengths, updated}
@@ -55,7 +55,7 @@ get-requires c =
     let found = picked-here c.self.inside _ c.args.pick i _ c.self.view_is c.pick.ensures c.in-Some.is in
     let is : picked (claimable_of rs) c.args.pick ≡ Some i = found.1 in
     let both = picked-claimable rs c.args.pick i is in
-    omega (arith, both.0, ap length c.prepare.ensures.same)
+    omega (arith, both.0)
 
 pub lend-lent-requires-clause-is_open : goal.lend-lent-requires-clause-is_open
 lend-lent-requires-clause-is_open c =
@@ -65,7 +65,7 @@ lend-lent-requires-clause-is_open c =
     let found = picked-here c.self.inside _ c.args.pick i _ c.self.view_is c.pick.ensures c.in-Some.is in
     let is : picked (claimable_of rs) c.args.pick ≡ Some i = found.1 in
     let both = picked-claimable rs c.args.pick i is in
-    let told = passed-told rs c.prepare.new.self i c.get.result.now c.group_passed-passed.result both.0 c.prepare.ensures.same c.get.ensures c.group_passed-passed.ensures in
+    let told = passed-told rs i c.get.result.now c.group_passed-passed.result both.0 c.get.ensures c.group_passed-passed.ensures in
     lends-open j c.self.invariant found.0 i both.0 both.1 c.args.worker c.in_ok-assigns.field-0.decl c.in_ok-assigns.ensures.held c.in_ok-assigns.ensures.ordered c.in_ok-slip.slip c.in_ok-slip.ensures.slip c.prepare-2.new.self.owned c.prepare-2.ensures.owned c.group_passed-passed.result told
 
 pub lend-lent-requires-clause-unused : goal.lend-lent-requires-clause-unused
@@ -76,7 +76,7 @@ lend-lent-requires-clause-unused c =
     let found = picked-here c.self.inside _ c.args.pick i _ c.self.view_is c.pick.ensures c.in-Some.is in
     let is : picked (claimable_of rs) c.args.pick ≡ Some i = found.1 in
     let both = picked-claimable rs c.args.pick i is in
-    let told = passed-told rs c.prepare.new.self i c.get.result.now c.group_passed-passed.result both.0 c.prepare.ensures.same c.get.ensures c.group_passed-passed.ensures in
+    let told = passed-told rs i c.get.result.now c.group_passed-passed.result both.0 c.get.ensures c.group_passed-passed.ensures in
     lends-unused j c.self.invariant found.0 i both.0 both.1 c.args.worker c.in_ok-assigns.field-0.decl c.in_ok-assigns.ensures.held c.in_ok-assigns.ensures.ordered c.in_ok-slip.slip c.in_ok-slip.ensures.slip c.prepare-2.new.self.owned c.prepare-2.ensures.owned c.group_passed-passed.result told
 
 pub lend-lent-requires-clause-known : goal.lend-lent-requires-clause-known
@@ -87,7 +87,7 @@ lend-lent-requires-clause-known c =
     let found = picked-here c.self.inside _ c.args.pick i _ c.self.view_is c.pick.ensures c.in-Some.is in
     let is : picked (claimable_of rs) c.args.pick ≡ Some i = found.1 in
     let both = picked-claimable rs c.args.pick i is in
-    let told = passed-told rs c.prepare.new.self i c.get.result.now c.group_passed-passed.result both.0 c.prepare.ensures.same c.get.ensures c.group_passed-passed.ensures in
+    let told = passed-told rs i c.get.result.now c.group_passed-passed.result both.0 c.get.ensures c.group_passed-passed.ensures in
     lends-known j c.self.invariant found.0 i both.0 both.1 c.args.worker c.in_ok-assigns.field-0.decl c.in_ok-assigns.ensures.held c.in_ok-assigns.ensures.ordered c.in_ok-slip.slip c.in_ok-slip.ensures.slip c.prepare-2.new.self.owned c.prepare-2.ensures.owned c.group_passed-passed.result told
 
 pub lend-lent-requires-clause-free : goal.lend-lent-requires-clause-free
@@ -98,7 +98,7 @@ lend-lent-requires-clause-free c =
     let found = picked-here c.self.inside _ c.args.pick i _ c.self.view_is c.pick.ensures c.in-Some.is in
     let is : picked (claimable_of rs) c.args.pick ≡ Some i = found.1 in
     let both = picked-claimable rs c.args.pick i is in
-    let told = passed-told rs c.prepare.new.self i c.get.result.now c.group_passed-passed.result both.0 c.prepare.ensures.same c.get.ensures c.group_passed-passed.ensures in
+    let told = passed-told rs i c.get.result.now c.group_passed-passed.result both.0 c.get.ensures c.group_passed-passed.ensures in
     lends-free j c.self.invariant found.0 i both.0 both.1 c.args.worker c.in_ok-assigns.field-0.decl c.in_ok-assigns.ensures.held c.in_ok-assigns.ensures.ordered c.in_ok-slip.slip c.in_ok-slip.ensures.slip c.prepare-2.new.self.owned c.prepare-2.ensures.owned c.group_passed-passed.result told
 
 pub lend-lent-requires-clause-summed : goal.lend-lent-requires-clause-summed
@@ -109,7 +109,7 @@ lend-lent-requires-clause-summed c =
     let found = picked-here c.self.inside _ c.args.pick i _ c.self.view_is c.pick.ensures c.in-Some.is in
     let is : picked (claimable_of rs) c.args.pick ≡ Some i = found.1 in
     let both = picked-claimable rs c.args.pick i is in
-    let told = passed-told rs c.prepare.new.self i c.get.result.now c.group_passed-passed.result both.0 c.prepare.ensures.same c.get.ensures c.group_passed-passed.ensures in
+    let told = passed-told rs i c.get.result.now c.group_passed-passed.result both.0 c.get.ensures c.group_passed-passed.ensures in
     lends-summed j c.self.invariant found.0 i both.0 both.1 c.args.worker c.in_ok-assigns.field-0.decl c.in_ok-assigns.ensures.held c.in_ok-assigns.ensures.ordered c.in_ok-slip.slip c.in_ok-slip.ensures.slip c.prepare-2.new.self.owned c.prepare-2.ensures.owned c.group_passed-passed.result told
 
 pub lend-lent-requires-clause-there : goal.lend-lent-requires-clause-there
@@ -120,7 +120,7 @@ lend-lent-requires-clause-there c =
     let found = picked-here c.self.inside _ c.args.pick i _ c.self.view_is c.pick.ensures c.in-Some.is in
     let is : picked (claimable_of rs) c.args.pick ≡ Some i = found.1 in
     let both = picked-claimable rs c.args.pick i is in
-    let told = passed-told rs c.prepare.new.self i c.get.result.now c.group_passed-passed.result both.0 c.prepare.ensures.same c.get.ensures c.group_passed-passed.ensures in
+    let told = passed-told rs i c.get.result.now c.group_passed-passed.result both.0 c.get.ensures c.group_passed-passed.ensures in
     lends-there j c.self.invariant found.0 i both.0 both.1 c.args.worker c.in_ok-assigns.field-0.decl c.in_ok-assigns.ensures.held c.in_ok-assigns.ensures.ordered c.in_ok-slip.slip c.in_ok-slip.ensures.slip c.prepare-2.new.self.owned c.prepare-2.ensures.owned c.group_passed-passed.result told
     (c.in_ok-assigns.ensures.there c.self.inside.cells (named-awake j (c.self.invariant.course found.0) i))
 
@@ -132,7 +132,7 @@ new-requires c =
     let found = picked-here c.self.inside _ c.args.pick i _ c.self.view_is c.pick.ensures c.in-Some.is in
     let is : picked (claimable_of rs) c.args.pick ≡ Some i = found.1 in
     let both = picked-claimable rs c.args.pick i is in
-    let told = passed-told rs c.prepare.new.self i c.get.result.now c.group_passed-passed.result both.0 c.prepare.ensures.same c.get.ensures c.group_passed-passed.ensures in
+    let told = passed-told rs i c.get.result.now c.group_passed-passed.result both.0 c.get.ensures c.group_passed-passed.ensures in
     lent-are j c.self.invariant found.0 i both.0 both.1 c.args.worker c.in_ok-assigns.field-0.decl c.in_ok-assigns.ensures.held c.in_ok-assigns.ensures.ordered c.in_ok-slip.slip c.in_ok-slip.ensures.slip c.prepare-2.new.self.owned c.prepare-2.ensures.owned c.group_passed-passed.result told
     c.lend-lent.new.cells c.lend-lent.new.owners.owned c.lend-lent.result c.lend-lent.ensures.lent c.lend-lent.ensures.lengths c.lend-lent.ensures.out c.lend-lent.ensures.groups c.lend-lent.ensures.stored c.lend-lent.ensures.worth ∙ sym c.in_ok-assigns.ensures.room
 
@@ -144,7 +144,7 @@ begin-requires-clause-known c =
     let found = picked-here c.self.inside _ c.args.pick i _ c.self.view_is c.pick.ensures c.in-Some.is in
     let is : picked (claimable_of rs) c.args.pick ≡ Some i = found.1 in
     let both = picked-claimable rs c.args.pick i is in
-    omega (arith, both.0, ap length c.prepare.ensures.same)
+    omega (arith, both.0)
 
 pub begin-requires-clause-idle : goal.begin-requires-clause-idle
 begin-requires-clause-idle c =
@@ -154,12 +154,11 @@ begin-requires-clause-idle c =
     let found = picked-here c.self.inside _ c.args.pick i _ c.self.view_is c.pick.ensures c.in-Some.is in
     let is : picked (claimable_of rs) c.args.pick ≡ Some i = found.1 in
     let both = picked-claimable rs c.args.pick i is in
-    ap (λ (l : List Region). (at l i).running) c.prepare.ensures.same ∙ claimable-idle rs i both.1
+    claimable-idle rs i both.1
 
 pub begin-requires-clause-assigns : goal.begin-requires-clause-assigns
 begin-requires-clause-assigns c =
     ap (λ (r : Run). r.assigns) c.new.ensures ∙ c.in_ok-assigns.ensures.shared ∙ c.in_ok-assigns.ensures.assigns
-    ∙ ap (λ (l : List Region). leading (awake (at l c.in-Some.task)).rest) (sym c.prepare.ensures.same)
 
 pub overflow_cast-task : goal.overflow_cast-task
 overflow_cast-task c =
@@ -180,7 +179,7 @@ new-requires-2 c =
     let found = picked-here c.self.inside _ c.args.pick i _ c.self.view_is c.pick.ensures c.in-Some.is in
     let is : picked (claimable_of rs) c.args.pick ≡ Some i = found.1 in
     let both = picked-claimable rs c.args.pick i is in
-    let told = passed-told rs c.prepare.new.self i c.get.result.now c.group_passed-passed.result both.0 c.prepare.ensures.same c.get.ensures c.group_passed-passed.ensures in
+    let told = passed-told rs i c.get.result.now c.group_passed-passed.result both.0 c.get.ensures c.group_passed-passed.ensures in
     let assigns : c.in_ok-assigns.field-0.assigns ≡ leading (awake (at rs i)).rest = c.in_ok-assigns.ensures.assigns in
     let test : option_map expr_of c.in_ok-assigns.field-0.condition ≡ test_of (behind (awake (at rs i)).rest) = c.in_ok-assigns.ensures.test in
     subst (λ (b : Body). CanRun b (option_map expr_of c.in_ok-assigns.field-0.condition) c.lend-lent.result) (sym assigns)
@@ -196,8 +195,8 @@ invariant_of-self-2 c =
     let found = picked-here c.self.inside _ c.args.pick i _ c.self.view_is c.pick.ensures c.in-Some.is in
     let is : picked (claimable_of rs) c.args.pick ≡ Some i = found.1 in
     let both = picked-claimable rs c.args.pick i is in
-    let told = passed-told rs c.prepare.new.self i c.get.result.now c.group_passed-passed.result both.0 c.prepare.ensures.same c.get.ensures c.group_passed-passed.ensures in
-    let now = c.begin.ensures ∙ ap (λ (l : List Region). updated l i (begun c.new.result.worker c.new.result.lease)) c.prepare.ensures.same ∙ ap (λ (r : Run). updated rs i (begun r.worker r.lease)) c.new.ensures in
+    let told = passed-told rs i c.get.result.now c.group_passed-passed.result both.0 c.get.ensures c.group_passed-passed.ensures in
+    let now = c.begin.ensures ∙ ap (λ (r : Run). updated rs i (begun r.worker r.lease)) c.new.ensures in
     let seen : List Region → Live = λ regions. record j { cells = c.lend-lent.new.cells; owned = c.lend-lent.new.owners.owned; regions = regions } in
     subst (λ (l : List Region). IsWell (seen l)) (sym now)
     (lent-well j c.self.invariant found.0 i both.0 both.1 c.args.worker c.in_ok-assigns.field-0.decl c.in_ok-assigns.ensures.held c.in_ok-assigns.ensures.ordered c.in_ok-slip.slip c.in_ok-slip.ensures.slip c.prepare-2.new.self.owned c.prepare-2.ensures.owned c.group_passed-passed.result told
@@ -211,10 +210,10 @@ returns-clause-claimed c =
     let found = picked-here c.self.inside _ c.args.pick i _ c.self.view_is c.pick.ensures c.in-Some.is in
     let is : picked (claimable_of rs) c.args.pick ≡ Some i = found.1 in
     let both = picked-claimable rs c.args.pick i is in
-    let told = passed-told rs c.prepare.new.self i c.get.result.now c.group_passed-passed.result both.0 c.prepare.ensures.same c.get.ensures c.group_passed-passed.ensures in
+    let told = passed-told rs i c.get.result.now c.group_passed-passed.result both.0 c.get.ensures c.group_passed-passed.ensures in
     let assigns : c.in_ok-assigns.field-0.assigns ≡ leading (awake (at rs i)).rest = c.in_ok-assigns.ensures.assigns in
     let test : option_map expr_of c.in_ok-assigns.field-0.condition ≡ test_of (behind (awake (at rs i)).rest) = c.in_ok-assigns.ensures.test in
-    let now = c.begin.ensures ∙ ap (λ (l : List Region). updated l i (begun c.new.result.worker c.new.result.lease)) c.prepare.ensures.same ∙ ap (λ (r : Run). updated rs i (begun r.worker r.lease)) c.new.ensures in
+    let now = c.begin.ensures ∙ ap (λ (r : Run). updated rs i (begun r.worker r.lease)) c.new.ensures in
     let seen : List Region → Live = λ regions. record j { cells = c.lend-lent.new.cells; owned = c.lend-lent.new.owners.owned; regions = regions } in
     let piece : Taken = record { task = i; assigns = c.in_ok-assigns.field-0.assigns; test = option_map expr_of c.in_ok-assigns.field-0.condition; lent = c.lend-lent.result } in
     let here = ap (λ (b : Bool). picked (if b then [] else claimable_of rs) c.args.pick) found.0 ∙ is in
@@ -287,16 +286,9 @@ returns-in_err-slip-clause-claimed c =
 
 pub returns-in_err-assigns-clause-refused : goal.returns-in_err-assigns-clause-refused
 returns-in_err-assigns-clause-refused c =
-    let seen : List Region → Live = λ regions. record (live_of c.self.inside) { regions = regions } in
-    on_err_always c.from_residual.result (ap seen c.prepare.ensures.same ∙ c.self.view_is)
-
-pub invariant_of-self : goal.invariant_of-self
-invariant_of-self c =
-    let seen : List Region → Live = λ regions. record (live_of c.self.inside) { regions = regions } in
-    subst (λ (l : List Region). IsWell (seen l)) (sym c.prepare.ensures.same) c.self.invariant
+    on_err_always c.from_residual.result refl
 
 pub returns-in_err-slip-clause-refused : goal.returns-in_err-slip-clause-refused
 returns-in_err-slip-clause-refused c =
-    let seen : List Region → Owned → Live = λ regions owned. record (live_of c.self.inside) { regions = regions; owned = owned } in
-    on_err_always c.from_residual-in_err-slip.result
-    (ap (λ (l : List Region). seen l c.prepare-2.new.self.owned) c.prepare.ensures.same ∙ ap (seen c.self.inside.tasks) c.prepare-2.ensures.owned ∙ c.self.view_is)
+    let seen : Owned → Live = λ owned. record (live_of c.self.inside) { owned = owned } in
+    on_err_always c.from_residual-in_err-slip.result (ap seen c.prepare-2.ensures.owned ∙ c.self.view_is)
