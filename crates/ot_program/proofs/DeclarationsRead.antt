@@ -1,14 +1,11 @@
 -- Clauses are read as what they declare.
-use Rattle.std.proofs.Common.{◌≡◌, ℕ, ◌<◌, nat_lt, nat_eq, Bool, true, false, cond, ◌&&◌, ◌||◌, List, [], ◌∷◌, ◌++◌, map, Option, Some, None, refl, sym, ap, ◌∙◌, arith, inl, inr}
-use Rattle.std.specs.Prelude.{not, ◌⊎◌, flat_map}
+use Rattle.std.proofs.Common.{◌≡◌, ℕ, nat_lt, nat_eq, Bool, true, false, cond, ◌&&◌, ◌||◌, List, [], ◌∷◌, ◌++◌, map, Option, Some, None, refl, sym, ap, ◌∙◌, arith}
+use Rattle.std.specs.Prelude.{not, flat_map}
 use Rattle.std.specs.List.{list_any, fold}
 use Rattle.std.specs.Map.{lookup, keys_of}
-use Rattle.std.specs.BTreeMap.{insert_entry, is_at}
-use Rattle.std.specs.Ordering.{nat_cmp, ordering_then, match_ordering}
-use Rattle.std.specs.Cmp.{nat_cmp_is}
-use Rattle.std.specs.declared.cmp.Ordering.{Ordering}
+use Rattle.std.specs.BTreeMap.{is_at}
+use Rattle.std.specs.Ordering.{ordering_then, match_ordering}
 use Rattle.std.specs.declared.cmp.Ordering.TheVariants.{Less, Equal, Greater}
-use Rattle.std.proofs.lemmas.Bool.{cases_lt}
 use Rattle.ot_model.specs.declared.expr.Cell.{Cell}
 use Rattle.ot_model.specs.declared.stmt.Mode.{Mode}
 use Rattle.ot_model.specs.declared.stmt.Use.{Use}
@@ -20,116 +17,13 @@ use Rattle.ot_program.specs.Faults.{unless, mixed}
 use Rattle.ot_program.specs.Meanings.{Clause}
 use Rattle.ot_program.specs.walk.Clauses.{uses_of, declaration}
 use Rattle.ot_program.specs.walk.Namings.{cell_order, Named, name_cell, name_clause}
-use Rattle.ot_program.proofs.CellLists.{cell_of_key, precedes}
+use Rattle.ot_program.proofs.CellLists.{cell_of_key}
 use Rattle.ot_program.proofs.Coded.{code_clause}
 use Rattle.ot_program.proofs.Declared.{key, same_from, at_itself, mode_at, clauses_named, declared_as}
+use Rattle.ot_program.proofs.KeyOrder.{place, under_differs, AllAbove, Sorted, keys_placed, sorted_placed}
 use Rattle.ot_program.proofs.Firsts.{Reads as IsRead, reads_right, reads_made}
 
--- one more in its place, unless it is there
-abbrev place : List (ℕ × ℕ) → ℕ × ℕ → List (ℕ × ℕ)
-place [] k = k ∷ []
-place (j ∷ js) k = match_ordering (cell_order k j) (k ∷ j ∷ js) (j ∷ js) (j ∷ place js k)
-
--- ---- the order of keys
-
-Under : ℕ × ℕ → ℕ × ℕ → Type 0
-Under a b = (a.0 < b.0) ⊎ ((a.0 ≡ b.0) × (a.1 < b.1))
-
-under_trans : (a b c : ℕ × ℕ) → Under a b → Under b c → Under a c
-unfolding Under
-under_trans a b c (inl h) (inl k) = inl (omega arith)
-under_trans a b c (inl h) (inr k) = inl (omega (arith, k.0))
-under_trans a b c (inr h) (inl k) = inl (omega (arith, h.0))
-under_trans a b c (inr h) (inr k) = inr (h.0 ∙ k.0, omega (arith, h.1, k.1))
-
-under_differs : (a b : ℕ × ℕ) → Under a b → b ≡ a → ⊥
-unfolding Under
-under_differs a b (inl h) same = let e : b.0 ≡ a.0 = ap (λ (k : ℕ × ℕ). k.0) same in absurd (omega (arith, e))
-under_differs a b (inr h) same = let e : b.1 ≡ a.1 = ap (λ (k : ℕ × ℕ). k.1) same in absurd (omega (arith, e, h.1))
-
-less_under : (a b : ℕ × ℕ) → cell_order a b ≡ Less → Under a b
-unfolding Under
-less_under a b is = precedes a.0 b.0 a.1 b.1 is
-
-later : (o p : Ordering) → Less ≡ o → ordering_then o p ≡ Greater → ⊥
-later Less p is h = absurd cc
-later Equal p is h = absurd cc
-later Greater p is h = absurd cc
-
-second : (o p : Ordering) → Equal ≡ o → ordering_then o p ≡ p
-second Less p is = absurd cc
-second Equal p is = refl
-second Greater p is = absurd cc
-
-greater_under : (a b : ℕ × ℕ) → cell_order a b ≡ Greater → Under b a
-unfolding Under
-greater_under a b is =
-    elim (cases_lt b.0 a.0) [
-      | inl lt ↦ inl lt
-      | inr ge ↦ elim (cases_lt a.0 b.0) [
-        | inl gt ↦ absurd (later (nat_cmp a.0 b.0) (nat_cmp a.1 b.1) (nat_cmp_is a.0 b.0 Less gt) is)
-        | inr le ↦
-            let same : a.0 ≡ b.0 = omega arith in
-            let rest : nat_cmp a.1 b.1 ≡ Greater = sym (second (nat_cmp a.0 b.0) (nat_cmp a.1 b.1) (nat_cmp_is a.0 b.0 Equal same)) ∙ is in
-            elim (cases_lt b.1 a.1) [
-              | inl lt ↦ inr (sym same, lt)
-              | inr past ↦ elim (cases_lt a.1 b.1) [
-                | inl gt ↦ absurd (let k : Less ≡ Greater = nat_cmp_is a.1 b.1 Less gt ∙ rest in cc)
-                | inr equal ↦ absurd (let k : Equal ≡ Greater = nat_cmp_is a.1 b.1 Equal (omega arith) ∙ rest in cc)
-              ]
-            ]
-      ]
-    ]
-
-AllAbove : ℕ × ℕ → List (ℕ × ℕ) → Type 0
-AllAbove k [] = Unit {0}
-AllAbove k (j ∷ js) = Under k j × AllAbove k js
-
-Sorted : List (ℕ × ℕ) → Type 0
-Sorted [] = Unit {0}
-Sorted (k ∷ ks) = AllAbove k ks × Sorted ks
-
-above_weaker : (k j : ℕ × ℕ) (js : List (ℕ × ℕ)) → Under k j → AllAbove j js → AllAbove k js
-unfolding AllAbove
-above_weaker k j [] h all = tt
-above_weaker k j (i ∷ is) h all = (under_trans k j i h all.0, above_weaker k j is h all.1)
-
-above_placed_by : (b k j : ℕ × ℕ) (js : List (ℕ × ℕ)) (r : Ordering) → Under b k → AllAbove b (j ∷ js) → AllAbove b (place js k)
-    → AllAbove b (match_ordering r (k ∷ j ∷ js) (j ∷ js) (j ∷ place js k))
-unfolding AllAbove
-above_placed_by b k j js Less h all rest = (h, all)
-above_placed_by b k j js Equal h all rest = all
-above_placed_by b k j js Greater h all rest = (all.0, rest)
-
-above_placed : (b k : ℕ × ℕ) (js : List (ℕ × ℕ)) → Under b k → AllAbove b js → AllAbove b (place js k)
-unfolding AllAbove
-above_placed b k [] h all = (h, tt)
-above_placed b k (j ∷ js) h all = above_placed_by b k j js (cell_order k j) h all (above_placed b k js h all.1)
-
-sorted_by : (k j : ℕ × ℕ) (js : List (ℕ × ℕ)) (r : Ordering) → cell_order k j ≡ r → Sorted (j ∷ js) → Sorted (place js k)
-    → Sorted (match_ordering r (k ∷ j ∷ js) (j ∷ js) (j ∷ place js k))
-unfolding Sorted AllAbove
-sorted_by k j js Less is s rest = ((less_under k j is, above_weaker k j js (less_under k j is) s.0), s)
-sorted_by k j js Equal is s rest = s
-sorted_by k j js Greater is s rest = (above_placed j k js (greater_under k j is) s.0, rest)
-
-sorted_placed : (k : ℕ × ℕ) (js : List (ℕ × ℕ)) → Sorted js → Sorted (place js k)
-unfolding Sorted AllAbove
-sorted_placed k [] s = (tt, tt)
-sorted_placed k (j ∷ js) s = sorted_by k j js (cell_order k j) refl s (sorted_placed k js s.1)
-
 -- ---- the keys that are named
-
-keys_by : (k : ℕ × ℕ) (v : Option Mode) (e : (ℕ × ℕ) × Option Mode) (es : Named) (r : Ordering) → keys_of (insert_entry cell_order es k v) ≡ place (keys_of es) k
-    → keys_of (match_ordering r ((k, v) ∷ e ∷ es) ((e.0, v) ∷ es) (e ∷ insert_entry cell_order es k v))
-    ≡ match_ordering r (k ∷ e.0 ∷ keys_of es) (e.0 ∷ keys_of es) (e.0 ∷ place (keys_of es) k)
-keys_by k v e es Less h = refl
-keys_by k v e es Equal h = refl
-keys_by k v e es Greater h = ap (λ (ks : List (ℕ × ℕ)). e.0 ∷ ks) h
-
-keys_placed : (k : ℕ × ℕ) (v : Option Mode) (es : Named) → keys_of (insert_entry cell_order es k v) ≡ place (keys_of es) k
-keys_placed k v [] = refl
-keys_placed k v (e ∷ es) = keys_by k v e es (cell_order k e.0) (keys_placed k v es)
 
 place_by : (p q r s : Bool) (x y z : List (ℕ × ℕ))
     → match_ordering (ordering_then (cond p Less (cond q Equal Greater)) (cond r Less (cond s Equal Greater))) x y z

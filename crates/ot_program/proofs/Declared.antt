@@ -68,11 +68,15 @@ eq_refl a = elim (eqb_tells a a) [ inl k ↦ k.0 | inr k ↦ absurd (k.1 refl) ]
 pair_eq : (q k : ℕ × ℕ) → q.0 ≡ k.0 → q.1 ≡ k.1 → q ≡ k
 pair_eq (a, b) (c, d) one two = ap (λ (x : ℕ). (x, b)) one ∙ ap (λ (y : ℕ). (c, y)) two
 
+pub same_keys : (q k : ℕ × ℕ) → nat_eq q.0 k.0 && nat_eq q.1 k.1 ≡ true → q ≡ k
+same_keys q k h = let t = both_true (nat_eq q.0 k.0) (nat_eq q.1 k.1) h in pair_eq q k (eq_from q.0 k.0 t.0) (eq_from q.1 k.1 t.1)
+
 pub same_from : (q k : ℕ × ℕ) → is_at (cell_order q) k ≡ true → q ≡ k
 unfolding same
-same_from q k h =
-    let t = both_true (nat_eq q.0 k.0) (nat_eq q.1 k.1) (sym (at_is q k) ∙ h) in
-    pair_eq q k (eq_from q.0 k.0 t.0) (eq_from q.1 k.1 t.1)
+same_from q k h = same_keys q k (sym (at_is q k) ∙ h)
+
+pub keys_same : (q k : ℕ × ℕ) → q ≡ k → nat_eq q.0 k.0 && nat_eq q.1 k.1 ≡ true
+keys_same q k h = subst (λ (j : ℕ × ℕ). nat_eq q.0 j.0 && nat_eq q.1 j.1 ≡ true) h (rw (eq_refl q.0, eq_refl q.1) refl)
 
 pub at_itself : (q : ℕ × ℕ) → is_at (cell_order q) q ≡ true
 unfolding same
@@ -128,7 +132,7 @@ again_by : (a b : Fold) (same : Bool) → same_fold a b ≡ same → together (c
 again_by a b true is = rw is refl
 again_by a b false is = refl
 
-again : (s : Option (Option Mode)) (m : Mode) → with_mode (Some (with_mode s m)) m ≡ with_mode s m
+pub again : (s : Option (Option Mode)) (m : Mode) → with_mode (Some (with_mode s m)) m ≡ with_mode s m
 again None Reads = refl
 again None Writes = refl
 again None (Folds op) = rw ((fold-decides op op).1 refl) refl

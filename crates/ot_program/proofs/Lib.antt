@@ -14,6 +14,8 @@ pub mod Conditions
 pub mod Firsts
 pub mod Coded
 pub mod Declared
+pub mod KeyOrder
+pub mod AnyOrder
 pub mod DeclarationsRead
 pub mod PartsRead
 pub mod Tallies

@@ -1,10 +1,10 @@
 -- What an array of the text stands for, and the code's statements with bodies.
-use Rattle.std.proofs.Common.{◌≡◌, ◌∙◌, List, Some, Vec, Global, sym, ap, rules}
+use Rattle.std.proofs.Common.{◌≡◌, ◌∙◌, List, Vec, Global, sym, ap, rules}
 use Rattle.serde_json.specs.Data.{array}
 use Rattle.serde_json.specs.View.{view, items_view}
 use Rattle.serde_json.specs.declared.value.Value.{Value, Array}
 use Rattle.serde_json.proofs.Views.{view-Array}
-use Rattle.ot_model.specs.Tree.{If, Task, Wait, Group}
+use Rattle.ot_model.specs.Tree.{If, Task, Group}
 use Rattle.ot_model.specs.View.{expr_of, stmt_of, stmts_of}
 use Rattle.ot_model.specs.declared.expr.Cell.{Cell}
 use Rattle.ot_model.specs.declared.expr.Expr.{Expr}
@@ -21,9 +21,6 @@ stmt_of-If e a b = search (rules, the_lemmas)
 
 pub stmt_of-Task : (uses : List Use) (b : Vec Stmt Global) → stmt_of (stmt.Task uses b) ≡ Task uses (stmts_of b.items)
 stmt_of-Task uses b = search (rules, the_lemmas)
-
-pub stmt_of-Wait : (uses : List Use) → stmt_of (stmt.Wait (Some uses)) ≡ Wait (Some uses)
-stmt_of-Wait uses = search (rules, the_lemmas)
 
 pub stmt_of-Group : (op : Fold) (cells : Vec Cell Global) (b : Vec Stmt Global) → stmt_of (stmt.Group op cells b) ≡ Group op cells.items (stmts_of b.items)
 stmt_of-Group op cells b = search (rules, the_lemmas)

@@ -1,27 +1,19 @@
 -- What a list is read as, where a size is wanted.
-use Rattle.std.proofs.Common.{◌≡◌, ◌+◌, max, List, [], ◌∷◌, length, get_or, Some, Err, refl, sym, arith}
+use Rattle.std.proofs.Common.{◌≡◌, ◌+◌, max, List, [], ◌∷◌, length, get_or, Err, refl, sym, arith}
 use Rattle.std.specs.Prelude.{◌≢◌}
 use Rattle.serde_json.specs.Data.{array}
 use Rattle.serde_json.specs.View.{view, items_view}
 use Rattle.serde_json.specs.declared.value.Value.{Value}
 use Rattle.ot_program.specs.declared.fault.Refusal.TheVariants.{Form}
-use Rattle.ot_program.specs.declared.size.Sign.{Sign}
 use Rattle.ot_program.specs.Meanings.{Bindings}
 use Rattle.ot_program.specs.Limits.{size_depth}
-use Rattle.ot_program.specs.walk.Sizes.{sign_of, size_operation, size_of}
+use Rattle.ot_program.specs.walk.Sizes.{size_of}
 
 pub no_size_but_three : (variables : Bindings) (vs : List Value) → length vs ≢ 3
     → size_of variables (array (items_view vs)) ≡ Err Form
 unfolding size_of
 no_size_but_three variables (a ∷ b ∷ c ∷ []) other = absurd (other refl)
 no_size_but_three variables _ other = refl
-
-pub size_of-operation : (variables : Bindings) (vs : List Value) (t a b : Value) (sign : Sign) → length vs ≡ 3
-    → t ≡ get_or vs 0 t → a ≡ get_or vs 1 a → b ≡ get_or vs 2 b → sign_of (view t) ≡ Some sign
-    → size_of variables (array (items_view vs)) ≡ size_operation (Some sign) (size_of variables (view a)) (size_of variables (view b))
-unfolding size_of
-size_of-operation variables (x ∷ y ∷ z ∷ []) t a b sign three p q r is = rw (sym p, sym q, sym r, is) refl
-size_of-operation variables _ t a b sign three p q r is = absurd (omega arith)
 
 pub depth_but_three : (vs : List Value) → length vs ≢ 3 → size_depth (array (items_view vs)) ≡ 1
 unfolding size_depth

@@ -125,9 +125,6 @@ AreSized shape cs = Sized (total shape (in_order cs)) (statements_of shape cs)
 abbrev pub IsSized : Arrays → Copy → Type 0
 IsSized shape c = Sized (total shape (in_copy c)) (statement_of shape c)
 
-sized_more : (shape : Arrays) (c : Copy) (ps : Tally) → IsSized shape c → IsSized shape c
-sized_more shape c ps h = h
-
 sized_test : (shape : Arrays) (b : Bool) (c d : Copy) → IsSized shape c → IsSized shape d → IsSized shape (cond b c d)
 sized_test shape true c d h k = h
 sized_test shape false c d h k = k

@@ -39,9 +39,6 @@ Meets shape f ps ss = (n : Tally) → AreWithin shape.tasks n → f (code_counts
 abbrev pub outcome : Arrays → Tally → List Placed → List S → Read
 outcome shape n ps ss = told_or (ss, code_counts (sum_from shape n ps)) (told_from shape n ps)
 
-meets_none : (shape : Arrays) → Meets shape (λ n. Ok ([], n)) [] []
-meets_none shape n w = refl
-
 made_by : {A B : Type 0} (x : A) (f : A → B) (o : Option Refusal) → (told_or x o >>= λ z. Ok (f z)) ≡ told_or (f x) o
 made_by x f None = refl
 made_by x f (Some c) = refl

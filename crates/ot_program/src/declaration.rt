@@ -1,28 +1,35 @@
-ghost use Rattle.std.specs.Prelude.{◌≡◌, ◌++◌, All, OnOk, IfOk, Some, None, if◌then◌else◌, flat_map};
+ghost use Rattle.std.specs.Prelude.{◌≡◌, ◌++◌, ◌≤◌, length, All, OnOk, IfOk, Some, None, if◌then◌else◌, flat_map};
+ghost use Rattle.std.specs.Map.{keys_of};
+ghost use Rattle.std.specs.List.Sorted.{IsStrictlySortedBy};
 ghost use Rattle.ot_model.specs.Uses.{AreInOrder, same_fold};
 ghost use Rattle.ot_model.specs.Value.{cells_of};
 ghost use Rattle.ot_model.specs.declared.stmt.Mode.TheVariants.{Folds};
 ghost use Rattle.ot_program.specs.Returned.{Gives};
-ghost use Rattle.ot_program.specs.walk.Namings.{fits, together, with_mode, name_cell, name_clause};
+ghost use Rattle.ot_program.specs.walk.Namings.{fits, together, cell_order, before, name_cell, name_clause};
 ghost use Rattle.ot_program.specs.walk.Clauses.{uses_of, declaration};
 
 use crate::clause::Clause;
 use crate::fault::{ProgramFault, Refusal};
 use ot_model::{Cell, Decl, Fold, Mode, Section, Use};
 use std::alloc::{AllocError, Global};
-use std::collections::BTreeMap;
 
-// Cells by array and then by index, each with its mode, or with none where one clause that names it
-// is `red` and another isn't, or is `red` with another operation.
-type Named = BTreeMap<(u32, u32), Option<Mode>>;
+// A cell, by its array and its index.
+type Key = (u32, u32);
 
-/// The declaration of a task with these clauses.
-pub(crate) fn declare(alloc: Global, clauses: &[Clause]) -> Result<Decl, ProgramFault>
-    requires { All (λ c. fits c.section) clauses.now }
-    ensures { Gives (λ d. d) result (declaration clauses.now) }
+// Cells in order, each once with its mode, or with none where one clause that names it is `red` and another isn't, or is
+// `red` with another operation.
+type Named = Vec<(Key, Option<Mode>)>;
+
+/// The declaration of a task with these clauses. What they name in all counts, and not how they stand to each
+/// other: they are sorted by where they begin, so that a cell that no clause before named goes to the end.
+pub(crate) fn declare(alloc: Global, clauses: Vec<Clause>) -> Result<Decl, ProgramFault>
+    requires { All (λ c. fits c.section) clauses.items }
+    ensures { Gives (λ d. d) result (declaration clauses.items) }
 {
-    let mut named = BTreeMap::new(alloc);
-    for clause in clauses {
+    let mut sorted = clauses;
+    sorted.sort_unstable_by_key(|clause| (clause.section.array, clause.section.start));
+    let mut named = Vec::new(alloc);
+    for clause in &sorted {
         name_clause(&mut named, *clause)?;
     }
     let uses = uses_of(alloc, &named)?;
@@ -31,36 +38,39 @@ pub(crate) fn declare(alloc: Global, clauses: &[Clause]) -> Result<Decl, Program
 
 // Names each cell of a clause once more.
 fn name_clause(named: &mut Named, clause: Clause) -> Result<(), AllocError>
-    requires { fits clause.section }
-    ensures { OnOk result (named.new.entries ≡ name_clause named.old.entries clause) }
+    requires fits { fits clause.section }
+    requires ordered { IsStrictlySortedBy cell_order (keys_of named.old.items) }
+    ensures { OnOk result (named.new.items ≡ name_clause named.old.items clause) }
 {
-    for step in 0..clause.section.len {
-        let cell = Cell {
-            array: clause.section.array,
-            index: clause.section.start + step,
-        };
-        name_cell(named, clause.mode, cell)?;
+    let Section { array, start, len } = clause.section;
+    let mut place = place_of(named, (array, start));
+    for step in 0..len {
+        name_cell(named, place, clause.mode, (array, start + step))?;
+        place += 1;
     }
     Ok(())
 }
 
-fn name_cell(named: &mut Named, mode: Mode, cell: Cell) -> Result<(), AllocError>
-    ensures { OnOk result (named.new.entries ≡ name_cell mode named.old.entries cell) }
+// How many of the cells come before this one.
+fn place_of(named: &Named, key: Key) -> usize
+    requires { IsStrictlySortedBy cell_order (keys_of named.now.items) }
+    ensures { result ≡ before key named.now.items }
 {
-    let key = (cell.array, cell.index);
-    let earlier = named.get(&key).copied();
-    named.insert(key, with_mode(earlier, mode))?;
-    Ok(())
+    named.partition_point(|one| one.0 < key)
 }
 
-// The mode of a cell that may have been named before.
-fn with_mode(earlier: Option<Option<Mode>>, mode: Mode) -> Option<Mode>
-    ensures { result ≡ with_mode earlier mode }
+// Names a cell once more, before which so many come.
+fn name_cell(named: &mut Named, place: usize, mode: Mode, key: Key) -> Result<(), AllocError>
+    requires ordered { IsStrictlySortedBy cell_order (keys_of named.old.items) }
+    requires place { place ≡ before key named.old.items }
+    ensures { OnOk result (named.new.items ≡ name_cell mode named.old.items (record { array = key.0; index = key.1 })) }
 {
-    match earlier {
-        None => Some(mode),
-        Some(earlier) => together(earlier, mode),
+    if place < named.len() && named[place].0 == key {
+        named[place].1 = together(named[place].1, mode);
+        return Ok(());
     }
+    named.insert(place, (key, Some(mode)))?;
+    Ok(())
 }
 
 // One mode for two. A cell is only read where it is named as read alone.
@@ -87,18 +97,16 @@ fn one_fold(one: Fold, two: Fold) -> Option<Mode>
 }
 
 fn uses_of(alloc: Global, named: &Named) -> Result<Vec<Use>, ProgramFault>
-    ensures uses { Gives (λ v. v.items) result (uses_of named.now.entries) }
+    requires { IsStrictlySortedBy cell_order (keys_of named.now.items) }
+    ensures uses { Gives (λ v. v.items) result (uses_of named.now.items) }
     ensures ordered { IfOk result (λ v. AreInOrder v.items) }
 {
     let mut uses = Vec::with_capacity(alloc, named.len())?;
-    for ((array, index), mode) in named {
-        let Some(mode) = *mode else {
+    for one in named {
+        let ((array, index), Some(mode)) = *one else {
             return Err(ProgramFault::Refused(Refusal::MixedReduction));
         };
-        let cell = Cell {
-            array: *array,
-            index: *index,
-        };
+        let cell = Cell { array, index };
         uses.push(Use { cell, mode })?;
     }
     Ok(uses)

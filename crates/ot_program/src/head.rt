@@ -110,7 +110,7 @@ pub(crate) fn read_declared(
     check_level(scope.level)?;
     *counts = counts.plus(1, 0, clause::cells(&clauses))?;
     *counts = counts.task(scope.shape.tasks())?;
-    declare(alloc, &clauses)
+    declare(alloc, clauses)
 }
 
 /// Of `wait` with clauses: what it declares.
@@ -128,7 +128,7 @@ pub(crate) fn read_waited(
     let clauses = read_wait_clauses(alloc, scope, clauses)?;
     let cells = clause::cells(&clauses);
     *counts = counts.plus(1, 0, cells)?;
-    declare(alloc, &clauses)
+    declare(alloc, clauses)
 }
 
 /// Of `group`: the cells that it names.

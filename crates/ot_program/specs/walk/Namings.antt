@@ -1,9 +1,9 @@
 -- One naming of a cell after the other, as they are collected.
-use Rattle.std.specs.Prelude.{ℕ, ◌+◌, ◌^◌, ◌≤◌, if◌then◌else◌, List, Option, Some, None}
+use Rattle.std.specs.Prelude.{ℕ, ◌+◌, ◌^◌, ◌≤◌, if◌then◌else◌, List, Option, Some, None, count_by}
 use Rattle.std.specs.List.{fold}
 use Rattle.std.specs.Map.{lookup}
 use Rattle.std.specs.BTreeMap.{insert_entry, is_at}
-use Rattle.std.specs.Ordering.{nat_cmp, ordering_then}
+use Rattle.std.specs.Ordering.{nat_cmp, ordering_then, is_lt}
 use Rattle.std.specs.declared.cmp.Ordering.{Ordering}
 use Rattle.ot_model.specs.Uses.{same_fold}
 use Rattle.ot_model.specs.Value.{cells_of}
@@ -24,6 +24,10 @@ cell_order a b = ordering_then (nat_cmp a.0 b.0) (nat_cmp a.1 b.1)
 -- clause that names it is `red` and another isn't, or is `red` with another operation.
 abbrev pub Named : Type 0
 Named = List ((ℕ × ℕ) × Option Mode)
+
+-- how many of them come before a cell
+abbrev pub before : ℕ × ℕ → Named → ℕ
+before key named = count_by (λ e. is_lt (cell_order e.0 key)) named
 
 -- one mode for two: a cell is only read where it is named as read alone
 abbrev pub together : Option Mode → Mode → Option Mode

@@ -5,4 +5,4 @@ use Rattle.ot_program.proofs.declaration.declare.Given as goal
 
 -- the cells that the clauses so far name
 abbrev pub invariant-loop-clause : goal.invariant-loop-clause
-invariant-loop-clause l = l.named.entries ≡ fold name_clause [] (take l.clause-index l.clauses)
+invariant-loop-clause l = l.named.items ≡ fold name_clause [] (take l.clause-index l.clause-items)

@@ -1,7 +1,10 @@
+use Rattle.std.proofs.Common.{drop, arith}
+use Rattle.std.proofs.lemmas.List.{drop_all}
 use Rattle.ot_program.proofs.CellLists.{all_uses_in_order}
 use Rattle.ot_program.proofs.declaration.uses_of.Goals as goal
 
 pub returns-clause-ordered : goal.returns-clause-ordered
 returns-clause-ordered c =
-    all_uses_in_order c.args.named.now.entries c.loop-array.array-iterator c.loop-array.uses.items c.len.ensures.ordered
-    c.in-None.ensures.steps.0 c.loop-array.invariant.2
+    let items = c.deref-one-items.result.now in
+    all_uses_in_order c.args.named.now.items (drop c.loop-one.one-index items) c.loop-one.uses.items c.requires
+    (drop_all c.loop-one.one-index items (omega (arith, c.loop-one-test.false))) c.loop-one.invariant

@@ -11,7 +11,6 @@ use Rattle.ot_program.proofs.head.read_declared.Goals as goal
 pub declare-requires : goal.declare-requires
 declare-requires c =
     let scope = c.args.scope.now in
-    rw c.deref-2.ensures.value
     (read_clauses_fit scope.shape.now c.arrays-arrays.ensures.short scope.profile (bindings_of scope.variables.now) (view c.args.clauses.now)
     c.in_ok-clauses.clauses.items
     (join_reads (λ v. v.items) c.read_clauses.result c.map_err-list.result _ (c.in_ok-clauses.clauses, c.in_ok-clauses.field-0-1)

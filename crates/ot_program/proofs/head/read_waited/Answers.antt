@@ -6,6 +6,5 @@ use Rattle.ot_program.proofs.head.read_waited.Goals as goal
 pub declare-requires : goal.declare-requires
 declare-requires c =
     let scope = c.args.scope.now in
-    rw c.deref-2.ensures.value
     (read_wait_clauses_fit scope.shape.now c.arrays-arrays.ensures.short (bindings_of scope.variables.now) (view c.args.clauses.now)
     c.in_ok-clauses.clauses.items c.in_ok-clauses.ensures)

@@ -1,0 +1,5 @@
+pub mod SizeLemmas
+pub mod CopyLemmas
+pub mod SeekLemmas
+pub mod BodyLemmas
+pub mod PlaceLemmas
