@@ -150,10 +150,6 @@ pub logged-by : (P : Register → Type 0) (b : Register) (line : List ℕ) (memo
 logged-by P b line memory true is anew on = subst P (ap (λ t. if t then appended (cleared b) line memory else appended b line memory) (sym is)) (anew refl)
 logged-by P b line memory false is anew on = subst P (ap (λ t. if t then appended (cleared b) line memory else appended b line memory) (sym is)) (on refl)
 
-pub right-logged : (b : Register) (line : List ℕ) (memory : Bool) → IsRight b → IsRight (logged b line memory)
-right-logged b line memory right =
-    logged-by IsRight b line memory (is_checkpoint line) refl (λ _. right-appended (cleared b) line memory (right-cleared b)) (λ _. right-appended b line memory right)
-
 pub state-logged : (b : Register) (line : List ℕ) (memory : Bool) → state_in (logged b line memory) ≡ (answer_or_lost b.limits (state_in b) line memory).1
 state-logged b line memory =
     logged-by (λ r. state_in r ≡ (answer_or_lost b.limits (state_in b) line memory).1) b line memory (is_checkpoint line) refl

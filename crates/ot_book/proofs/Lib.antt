@@ -8,3 +8,5 @@ pub mod OpenLemmas
 pub mod SerialLengths
 pub mod ShownLemmas
 pub mod CloseLemmas
+pub mod KeptLemmas
+pub mod ShelfLemmas

@@ -6,6 +6,8 @@ pub mod Pieces
 pub mod Requests
 pub mod RequestView
 pub mod Answers
+pub mod Readings
+pub mod Shelves
 pub mod Books
 pub mod Considering
 pub mod BookView

@@ -3,15 +3,18 @@ ghost use Rattle.ot_model.specs.Cells.{lengths};
 ghost use Rattle.ot_model.specs.Names.{FitsShape};
 ghost use Rattle.ot_book.specs.Answers.{shown};
 
+use crate::kept::Kept;
 use crate::reply::Reply;
-use crate::step::{Considered, consider, read_line, wants_checkpoint};
+use crate::shelf::Shelf;
+use crate::step::{Considered, consider, job_over, read_line, wants_checkpoint};
 use crate::told::Told;
-use ot_check::{JobSpec, Outcome};
+use ot_check::{Checked, JobSpec, Outcome};
 use ot_model::{Cells, Section};
 use ot_store::{Limits, Store};
 use serde_json::Value;
 use std::alloc::{AllocError, Global};
 use std::marker::Model;
+use std::sync::Arc;
 
 /// A line with what was told.
 #[derive(Debug, Drop)]
@@ -40,6 +43,8 @@ pub struct Book {
     // The number of the log's first line, and the units of the done replies before it.
     first: u64,
     base_used: u64,
+    // Lines that ran a program, as they were read.
+    kept: Shelf,
 }
 
 /// The greatest number of a request.
@@ -78,6 +83,10 @@ impl Book {
     ghost use Rattle.serde_json.specs.View.{view};
     ghost use Rattle.ot_book.specs.Answers.{value_of, is_checkpoint};
     ghost use Rattle.ot_book.specs.Opening.{Opens, IsFull};
+    ghost use Rattle.std.specs.Arc.{arc_value};
+    ghost use Rattle.std.specs.Prelude.{Some, IfSome};
+    ghost use Rattle.ot_store.specs.Arrays.{shape_in};
+    ghost use Rattle.ot_book.specs.Readings.{IsReading};
 
     /// A book that begins with these arrays.
     pub fn new(alloc: Global, name: &str, limits: Limits, store: Store) -> Result<Book, AllocError>
@@ -95,6 +104,7 @@ impl Book {
             used: 0,
             first: 1,
             base_used: 0,
+            kept: Shelf::new(alloc),
         })
     }
 
@@ -206,8 +216,78 @@ impl Book {
         ensures opened { IfOk result (λ opened. Opens self.old line.now self.new opened) }
         ensures memory { OnErr result (self.new ≡ self.old) }
     {
+        if let Some(checked) = self.read_before(alloc, line) {
+            return self.run_again(alloc, line, checked);
+        }
         let value = read_line(alloc, line)?;
-        self.take(alloc, line, &value)
+        let opened = self.take(alloc, line, &value)?;
+        if let Opened::ToRun(spec) = &opened {
+            self.keep(alloc, line, spec);
+        }
+        Ok(opened)
+    }
+
+    // The line's program, where it is kept and the line would be read as that program again.
+    fn read_before(&mut self, alloc: Global, line: &[u8]) -> Option<Arc<Checked>>
+        ensures reading { IfSome result (λ checked. IsReading (record {
+          line = line.now;
+          shape = shape_in self.old.limits self.old.store;
+          checked = arc_value checked;
+        })) }
+        ensures same { self.new ≡ self.old }
+    {
+        if !self.kept.has_line(line) {
+            return None;
+        }
+        let shape = self.store.shape(alloc, &self.limits).ok()?;
+        self.kept.find(line, &shape)
+    }
+
+    // Takes a line that runs this program.
+    fn run_again(
+        &mut self,
+        alloc: Global,
+        line: &[u8],
+        checked: Arc<Checked>,
+    ) -> Result<Opened, AllocError>
+        requires { IsReading (record { line = line.now; shape = shape_in self.old.limits self.old.store; checked = arc_value checked }) }
+        ensures opened { IfOk result (λ opened. Opens self.old line.now self.new opened) }
+        ensures memory { OnErr result (self.new ≡ self.old) }
+    {
+        if self.is_full(false) {
+            return Ok(Opened::Full);
+        }
+        self.log.reserve(1)?;
+        let line = Vec::from_slice(alloc, line)?;
+        let Ok((spec, shows)) = job_over(alloc, &self.store, checked) else {
+            self.log.push_reserved(Entry {
+                line,
+                told: Told::Lost,
+            });
+            return Ok(Opened::Answered);
+        };
+        self.pending = Some(Pending { line, shows });
+        Ok(Opened::ToRun(spec))
+    }
+
+    // Keeps how the line of the open request was read. Where memory is refused it isn't kept.
+    fn keep(&mut self, alloc: Global, line: &[u8], spec: &JobSpec)
+        requires open { IsOpenFor self.old spec.now }
+        requires line { self.old.pending ≡ Some line.now }
+        ensures { self.new ≡ self.old }
+    {
+        let Ok(line) = Vec::from_slice(alloc, line) else {
+            return;
+        };
+        let Ok(shape) = self.store.shape(alloc, &self.limits) else {
+            return;
+        };
+        // Its clause `named` is what is needed.
+        let _ = spec.checked();
+        let Ok(checked) = spec.share() else {
+            return;
+        };
+        self.kept.keep(Kept::new(line, shape, checked));
     }
 
     // Takes a line, of which this is the value.

@@ -4,9 +4,11 @@
 pub mod book;
 pub mod code;
 pub mod executor;
+mod kept;
 pub mod laws;
 pub mod reply;
 mod request;
+mod shelf;
 mod step;
 pub mod told;
 

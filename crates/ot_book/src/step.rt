@@ -1,9 +1,10 @@
 ghost use Rattle.std.specs.Prelude.{◌≡◌, Some, None, IfOk, IfErr, OnErr, map, length, option_map, option_and_then};
 ghost use Rattle.serde_json.specs.View.{view};
-ghost use Rattle.ot_model.specs.Shapes.{array_lengths};
+ghost use Rattle.std.specs.Arc.{arc_value};
+ghost use Rattle.ot_model.specs.Cells.{lengths};
 ghost use Rattle.ot_model.specs.Programs.{expanded_of, IsNamedIn};
 ghost use Rattle.ot_program.specs.Programs.{program_of};
-ghost use Rattle.ot_store.specs.Arrays.{shape_in};
+ghost use Rattle.ot_store.specs.Arrays.{cells_in, shape_in};
 ghost use Rattle.ot_book.specs.Answers.{value_of, parsed, performed, started, is_checkpoint};
 ghost use Rattle.ot_book.specs.Considering.{Tells, ComesTo};
 ghost use Rattle.ot_book.specs.Requests.{Run, IsProper, request_of, asks_checkpoint};
@@ -15,12 +16,13 @@ use crate::code::Code;
 use crate::request::{Request, asks_checkpoint, read_request};
 use crate::told::Told;
 use ot_check::laws::first_offence_is_first;
-use ot_check::{JobSpec, check};
+use ot_check::{Checked, JobSpec, check};
 use ot_model::Section;
 use ot_program::read_program;
 use ot_store::{Limits, Store};
 use serde_json::Value;
 use std::alloc::{AllocError, Global};
+use std::sync::Arc;
 
 /// What a line comes to before it is logged.
 #[derive(Debug, Drop)]
@@ -148,9 +150,25 @@ fn start(alloc: Global, limits: &Limits, store: &Store, text: &Value) -> Result<
     let program = read_program(alloc, text, &shape)?;
     first_offence_is_first();
     let checked = check(alloc, program, &shape)?;
+    let shared = Arc::new(alloc, checked)?;
+    let (spec, shows) = job_over(alloc, store, shared)?;
+    Ok(Considered::Runs(spec, shows))
+}
+
+/// The job of a checked program over the arrays of the store, and the lists of its reply.
+pub(crate) fn job_over(
+    alloc: Global,
+    store: &Store,
+    checked: Arc<Checked>,
+) -> Result<(JobSpec, Vec<Vec<u64>>), AllocError>
+    requires { IsNamedIn (lengths (cells_in store.now)) (expanded_of (arc_value checked).program) }
+    ensures checked { IfOk result (λ made. made.0.checked ≡ arc_value checked) }
+    ensures before { IfOk result (λ made. made.0.before ≡ cells_in store.now) }
+    ensures shows { IfOk result (λ made. map (λ l. length l.items) made.1.items ≡ map (λ s. s.len) (arc_value checked).program.shows.items) }
+{
     let before = store.cells(alloc)?;
     let shows = empty_lists(alloc, &checked.program.shows)?;
-    Ok(Considered::Runs(JobSpec::new(checked, before), shows))
+    Ok((JobSpec::new(checked, before), shows))
 }
 
 /// A list for each section, as long as it is.

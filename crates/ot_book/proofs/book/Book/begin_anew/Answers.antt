@@ -23,6 +23,7 @@ now_inside c = record {
   used = c.self.inside.used;
   first = c.next_number-self-inside.result;
   base_used = c.self.inside.used;
+  kept = c.self.inside.kept;
 }
 
 closed_at : (c : goal.After-drop-self-inside-5) → c.self.inside.pending ≡ None

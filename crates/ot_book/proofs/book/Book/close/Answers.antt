@@ -43,7 +43,7 @@ set_cells-requires c =
     ∙ ap (λ (r : Register). lengths (cells_in r.store)) (sym c.self.view_is)
 
 -- the fields after the reply was logged
-abbrev now_inside : goal.After-drop-spec-inside-3 → Inside
+abbrev now_inside : goal.After-drop-spec-inside-2 → Inside
 now_inside c = record {
   name = c.self.inside.name;
   limits = c.self.inside.limits;
@@ -54,9 +54,10 @@ now_inside c = record {
   used = c.self.inside.used + c.from.result;
   first = c.self.inside.first;
   base_used = c.self.inside.base_used;
+  kept = c.self.inside.kept;
 }
 
-logged_is : (c : goal.After-drop-spec-inside-3) → register_of (now_inside c) ≡ appended (register_of c.self.inside) c.in-Some.pending.line.items false
+logged_is : (c : goal.After-drop-spec-inside-2) → register_of (now_inside c) ≡ appended (register_of c.self.inside) c.in-Some.pending.line.items false
 logged_is c =
     let inside = c.self.inside in
     let b = register_of inside in

@@ -11,7 +11,7 @@ use Rattle.ot_book.proofs.OpenLemmas.{book-appended}
 use Rattle.ot_book.proofs.book.Book.close_refused.Goals as goal
 
 -- the fields after the reply was logged
-abbrev now_inside : goal.After-drop-spec-inside-3 → Inside
+abbrev now_inside : goal.After-drop-spec-inside-2 → Inside
 now_inside c = record {
   name = c.self.inside.name;
   limits = c.self.inside.limits;
@@ -22,9 +22,10 @@ now_inside c = record {
   used = c.self.inside.used;
   first = c.self.inside.first;
   base_used = c.self.inside.base_used;
+  kept = c.self.inside.kept;
 }
 
-logged_is : (c : goal.After-drop-spec-inside-3) → register_of (now_inside c) ≡ appended (register_of c.self.inside) c.in-Some.pending.line.items true
+logged_is : (c : goal.After-drop-spec-inside-2) → register_of (now_inside c) ≡ appended (register_of c.self.inside) c.in-Some.pending.line.items true
 logged_is c =
     let log = entries_of-pushed c.self.inside.log.items c.push_reserved.new.self.items _ c.push_reserved.ensures.items in
     register-is (register_of c.self.inside) _ _ _ _ _ None _ _ refl log (ap (option_map (λ q. q.line.items)) c.take.ensures.after) refl

@@ -25,6 +25,7 @@ now_inside c = record {
   used = c.self.inside.used;
   first = c.self.inside.first;
   base_used = c.self.inside.base_used;
+  kept = c.self.inside.kept;
 }
 
 free_at : (c : goal.After-push_reserved) → ¬ (IsFull (register_of c.self.inside) c.wants_checkpoint-checkpoint.result)
