@@ -1,5 +1,5 @@
 -- What a tenant's events do to its account.
-use Rattle.std.proofs.Common.{◌≡◌, ◌<◌, ◌≤◌, ◌+◌, ◌^◌, ◌⊎◌, inl, inr, ℕ, List, [], ◌∷◌, ◌++◌, length, map, take, refl, sym, ap, ◌∙◌, subst, arith, append_assoc, Bool, true, false, true≢false}
+use Rattle.std.proofs.Common.{◌≡◌, ◌<◌, ◌≤◌, ◌+◌, ◌^◌, inl, inr, ℕ, List, [], ◌∷◌, ◌++◌, length, map, take, refl, sym, ap, ◌∙◌, subst, arith, append_assoc, Bool, true, false, true≢false}
 use Rattle.std.proofs.Math.Logic.{∥∥₁_elim}
 use Rattle.std.specs.Coded.{Coded, Coded-set, codes}
 use Rattle.std.specs.Prelude.{Option, Some, None, IsSome, is_some, nat_le, if◌then◌else◌, slice_get, unwrap_or}
@@ -9,9 +9,8 @@ use Rattle.std.proofs.lemmas.Option.{same_Some, slice_get_within, slice_get-get_
 use Rattle.std.proofs.lemmas.List.{length-map, length-take, length-append, map-append, take-append-le, take_more, get_or_append_left}
 use Rattle.ot_model.specs.Programs.{expanded_of}
 use Rattle.ot_check.specs.Jobs.{Spec}
-use Rattle.ot_store.specs.Arrays.{Named}
-use Rattle.ot_book.specs.Answers.{State, opening, answers, answer_or_lost, Now, is_checkpoint}
-use Rattle.ot_book.specs.Books.{Register, IsOpenFor, max_number, appended, cleared, logged, opened, open_line, refused, state_in, next_step}
+use Rattle.ot_book.specs.Answers.{State, opening, answers, answer_or_lost, is_checkpoint}
+use Rattle.ot_book.specs.Books.{Register, IsOpenFor, max_number, appended, cleared, logged, opened, open_line, refused, state_in}
 use Rattle.ot_book.specs.Opening.{IsFullFor, AnswersNow, Opens}
 use Rattle.ot_book.specs.declared.book.Opened.{Opened}
 use Rattle.ot_book.specs.declared.book.Opened.TheVariants.{Full, Answered, ToRun}
@@ -27,9 +26,6 @@ bool_code = Prim.hlevel codes
 
 absent : {X : Type 0} {A : Type 0} (x : A) → None ≡ Some x → X
 absent x e = absurd (true≢false (sym (ap is_some e)))
-
-some_of : {A : Type 0} (o : Option A) (x : A) → o ≡ Some x → IsSome o
-some_of o x is = ap is_some is
 
 pub the_some : {A : Type 0} (o : Option A) → IsSome o → (x : A) × (o ≡ Some x)
 the_some None some = absurd (true≢false (sym some))
@@ -234,12 +230,6 @@ checkpoint-is a book kept line asks at is all closed =
 pub opened-is : (a : Account) (book : Register) (line : List ℕ) (s : Spec) → line ≡ next_line a → book ≡ opened a.book line
     → record a { book = book; spec = Some s } ≡ with_open a s
 opened-is a book line s at is = ap (λ b. record a { book = b; spec = Some s }) (is ∙ ap (opened a.book) at)
-
--- what a line is answered at once for is told of the next line
-pub at_once-next : (a : Account) (line : List ℕ) (lost : Bool) → line ≡ next_line a
-    → (lost ≡ true) ⊎ ((told : Told) × (arrays : List Named) × (next_step a.book line ≡ Now told arrays))
-    → (lost ≡ true) ⊎ ((told : Told) × (arrays : List Named) × (next_step a.book (next_line a) ≡ Now told arrays))
-at_once-next a line lost at once = subst (λ l. (lost ≡ true) ⊎ ((told : Told) × (arrays : List Named) × (next_step a.book l ≡ Now told arrays))) at once
 
 -- a line whose request waits for a job is no checkpoint
 pub never-waits : (a b : Account) (s : Spec) (lost : Bool) → Waits a s b → is_checkpoint (next_line a) ≡ true → lost ≡ false

@@ -88,9 +88,6 @@ after-failing n = elim (cases_eq n 0) [
 
 -- ---- sums
 
-pub sum_below-more : (f : ℕ → ℕ) (n : ℕ) → sum_below f (n + 1) ≡ sum_below f n + f n
-sum_below-more f n = let same : n + 1 ≡ suc n = omega arith in ap (sum_below f) same
-
 none-below : (f : ℕ → ℕ) (n : ℕ) → sum_below f n ≡ 0 → (t : ℕ) → t < n → f t ≡ 0
 none-below f zero zero_is t below = absurd (omega (arith, below))
 none-below f (suc n) zero_is t below = elim (cases_lt t n) [

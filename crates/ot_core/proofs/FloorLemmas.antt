@@ -1,6 +1,6 @@
 -- What a call on one tenant's job is to the floor.
-use Rattle.std.proofs.Common.{◌≡◌, ◌<◌, ◌+◌, ◌⊎◌, get_or, inl, inr, ℕ, List, [], length, set, refl, sym, ap, ◌∙◌, subst, arith, Bool, true, false, true≢false}
-use Rattle.std.specs.Prelude.{is_some, Option, Some, None, Result, Ok, Err, IfOk, OnErr, slice_get, ◌↔◌}
+use Rattle.std.proofs.Common.{◌≡◌, ◌<◌, ◌+◌, ◌⊎◌, get_or, inl, inr, ℕ, List, [], length, set, refl, sym, ap, ◌∙◌, subst, arith, true, false, true≢false}
+use Rattle.std.specs.Prelude.{is_some, IsSome, Option, Some, None, Result, Ok, Err, IfOk, OnErr, slice_get}
 use Rattle.std.proofs.lemmas.Bool.{cases_lt}
 use Rattle.std.proofs.lemmas.List.{get_or_past, get_or_default, set-get_or}
 use Rattle.std.proofs.lemmas.Option.{same_Some, slice_get_read}
@@ -10,16 +10,14 @@ use Rattle.ot_job.specs.Live.{Live}
 use Rattle.ot_job.specs.States.{Fails as HasFailed, claimable_in, aborted}
 use Rattle.ot_job.specs.Claims.{Claimed}
 use Rattle.ot_job.specs.Settling.{Settles as HasSettled}
-use Rattle.ot_job.specs.Dealings.{IsOf, NoneOut, state_of}
+use Rattle.ot_job.specs.Dealings.{IsOf, IsOver, NoneOut, state_of}
 use Rattle.ot_job.specs.Taken.{Taken as Piece}
 use Rattle.ot_job.specs.Taken.{Came as Done}
 use Rattle.ot_job.specs.declared.state.State.TheVariants.{Working, Failing, Ended, Failed}
 use Rattle.ot_job.proofs.DealingsLemmas.{claimed-gives}
 use Rattle.ot_core.specs.Index.{job_of, Begins}
-use Rattle.ot_core.specs.Floors.{Floor, with_job, IsFree, Submits, NothingAt, Claims, ClaimsOf, IsWorking, FailsIn, AbortsJob, HasJob, Collects, Settles, units_of}
+use Rattle.ot_core.specs.Floors.{Floor, with_job, IsFree, Submits, Enters, NothingAt, Claims, ClaimsOf, IsWorking, FailsIn, AbortsJob, HasJob, HasOver, Leaves, Collects, Settles, units_of}
 use Rattle.ot_core.specs.Turns.{RunsShort}
-use Rattle.ot_core.specs.declared.hall.SubmitFault.{SubmitFault}
-use Rattle.ot_core.specs.declared.hall.SubmitFault.TheVariants.{Busy, Memory}
 use Rattle.ot_core.specs.declared.hall.Collected.TheVariants as collected
 
 -- who has a job is there
@@ -62,14 +60,6 @@ runs-short f now t job next (Err e) is at working some same = record {
   same = written-again f now t job next is at same;
 }
 
-abbrev is_busy : SubmitFault → Bool
-is_busy Busy = true
-is_busy Memory = false
-
--- only a tenant that isn't there, or has a job, is busy
-pub memory-busy : (f : Floor) (t : ℕ) → IsFree f t → Memory ≡ Busy ↔ ¬ (IsFree f t)
-memory-busy f t free = ((λ is. absurd (true≢false (sym (ap is_busy is)))), (λ not. absurd (not free)))
-
 pub fails-in : (f now : Floor) (t : ℕ) (done : Done) (job next : Live) → f ≡ now → job_of f.jobs t ≡ Some job → HasFailed job done next
     → FailsIn now t done (job_of now.jobs t) (with_job f t (Some next))
 fails-in f now t done job next is at failed =
@@ -80,10 +70,19 @@ pub aborts-job : (f now : Floor) (t : ℕ) (job next : Live) → f ≡ now → j
 aborts-job f now t job next is at fails =
     subst (λ o. AbortsJob o t (with_job f t (Some next))) is (record { job = job; is = at; new_is = ap (λ j. with_job f t (Some j)) fails })
 
-pub is-working : (f now : Floor) (t : ℕ) (job : Live) → f ≡ now → IsWorking now t → job_of f.jobs t ≡ Some job → state_of job ≡ Working
-is-working f now t job is works at =
-    let w = subst (λ o. IsWorking o t) (sym is) works in
-    subst (λ (j : Live). state_of j ≡ Working) (same_Some w.job job (sym w.is ∙ at)) w.working
+-- whose job is over has one
+pub has-over : (f now : Floor) (t : ℕ) → f ≡ now → HasOver now t → IsSome (job_of f.jobs t)
+has-over f now t is over = let o = subst (λ g. HasOver g t) (sym is) over in ap is_some o.is
+
+pub leaves : (f now : Floor) (t : ℕ) (job : Live) (jobs : List (Option Live)) → f ≡ now → HasOver now t → job_of f.jobs t ≡ Some job → jobs ≡ set f.jobs t None
+    → Leaves now t job (record { jobs = jobs; units = f.units })
+leaves f now t job jobs is over at left =
+    let o = subst (λ g. HasOver g t) (sym is) over in
+    subst (λ g. Leaves g t job (record { jobs = jobs; units = f.units })) is (record {
+      is = at;
+      over = subst (λ (j : Live). IsOver (state_of j)) (same_Some o.job job (sym o.is ∙ at)) o.over;
+      new_is = ap (λ js. let r : Floor = record { jobs = js; units = f.units } in r) left;
+    })
 
 abbrev has-job : (f : Floor) (t : ℕ) (spec : Spec) (job : Live) → job_of f.jobs t ≡ Some job → IsOf spec job → HasJob f t spec
 has-job f t spec job at of = record { job = job; is = at; of = of }
@@ -113,6 +112,13 @@ submits f now t spec jobs is free begins = subst (λ o. Submits o t spec (record
   job = begins.job;
   starts = begins.starts;
   new_is = ap (λ js. let r : Floor = record { jobs = js; units = f.units } in r) begins.new_is;
+})
+
+pub enters : (f now : Floor) (t : ℕ) (job : Live) (jobs : List (Option Live)) → f ≡ now → IsFree f t → jobs ≡ set f.jobs t (Some job)
+    → Enters now t job (record { jobs = jobs; units = f.units })
+enters f now t job jobs is free with_it = subst (λ o. Enters o t job (record { jobs = jobs; units = f.units })) is (record {
+  free = free;
+  new_is = ap (λ js. let r : Floor = record { jobs = js; units = f.units } in r) with_it;
 })
 
 -- a tenant that is there and has no job is free

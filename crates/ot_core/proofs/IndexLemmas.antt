@@ -3,7 +3,7 @@ use Rattle.std.proofs.Common.{◌≡◌, ◌≢◌, ◌<◌, ◌⊎◌, inl, inr
 use Rattle.std.proofs.lemmas.Bool.{cases_eq, cases_lt}
 use Rattle.std.proofs.lemmas.List.{get_or-set_same, get_or-set_other, set-get_or, length-map, get_or_default, get_or_past, get_or-replicate, length-replicate}
 use Rattle.std.specs.Prelude.{Option, Some, None, IsSome, is_some, slice_get}
-use Rattle.std.proofs.lemmas.Option.{same_Some, slice_get_within, get_or_from_slice_get}
+use Rattle.std.proofs.lemmas.Option.{same_Some, slice_get_within}
 use Rattle.std.proofs.Math.ListN.{get_or-map}
 use Rattle.slab.specs.Slab.{Slab, get, with_value}
 use Rattle.ot_job.specs.Live.{Live}
@@ -123,10 +123,6 @@ jobs-written slab keys t key w index within mine =
 
 pub within-jobs : (slab : Slab Live) (keys : List (Option ℕ)) (t : ℕ) (o : Option Live) → slice_get (map (job_at slab) keys) t ≡ Some o → t < length keys
 within-jobs slab keys t o is = omega (arith, slice_get_within (map (job_at slab) keys) t o is, length-map keys (job_at slab))
-
--- a tenant that has no job has no key
-pub no_key_of : (slab : Slab Live) (keys : List (Option ℕ)) (t : ℕ) → Indexes slab keys → slice_get (map (job_at slab) keys) t ≡ Some None → get_or (map (job_at slab) keys) t None ≡ None
-no_key_of slab keys t index is = get_or_from_slice_get (map (job_at slab) keys) t None None is
 
 nobody's : (n u k : ℕ) → key_of (replicate n None) u ≢ Some k
 nobody's n u k is = elim (cases_lt u n) [

@@ -2,7 +2,7 @@
 use Rattle.std.proofs.Common.{◌≡◌, ◌≢◌, ◌<◌, ◌≤◌, ◌+◌, inl, inr, ℕ, zero, suc, List, [], ◌∷◌, length, get_or, set, refl, sym, ap, ◌∙◌, subst, arith, true≢false}
 use Rattle.std.specs.Prelude.{Option, Some, None, is_some, slice_get, unwrap_or, Bool, true}
 use Rattle.std.proofs.lemmas.Bool.{cases_eq}
-use Rattle.std.proofs.lemmas.Option.{same_Some, slice_get_within, unwrap_or-slice_get, slice_get_read}
+use Rattle.std.proofs.lemmas.Option.{same_Some, slice_get_within, unwrap_or-slice_get}
 use Rattle.std.proofs.lemmas.List.{get_or-set_same, length-set}
 use Rattle.ot_check.specs.Jobs.{Spec}
 use Rattle.ot_job.specs.Live.{Live}
@@ -173,10 +173,6 @@ jobless s t a scene at free = no-job a.spec (job_of s.floor.jobs t) (scene.each 
 
 pub there : (s : Scene) (t : ℕ) (a : Account) → IsScene s → slice_get s.accounts t ≡ Some a → t < length s.floor.jobs
 there s t a scene at = omega (arith, slice_get_within s.accounts t a at, scene.jobs_many)
-
-pub vacant : (s : Scene) (t : ℕ) (a : Account) → IsScene s → slice_get s.accounts t ≡ Some a → a.spec ≡ None → slice_get s.floor.jobs t ≡ Some None
-vacant s t a scene at free =
-    slice_get_read s.floor.jobs (length s.floor.jobs) t None refl (there s t a scene at) (sym (jobless s t a scene at free))
 
 -- a line is answered at once
 pub scene-answered : (s : Scene) (t : ℕ) (a b : Account) → IsScene s → slice_get s.accounts t ≡ Some a → a.spec ≡ None → IsSound b → IsAnswered a b

@@ -6,7 +6,7 @@ use Rattle.ot_job.specs.Live.{Live}
 use Rattle.ot_job.specs.States.{Starts, Fails as HasFailed, claimable_in, aborted}
 use Rattle.ot_job.specs.Claims.{Claimed}
 use Rattle.ot_job.specs.Settling.{Settles as HasSettled, Refuses}
-use Rattle.ot_job.specs.Dealings.{IsOf, NoneOut, state_of}
+use Rattle.ot_job.specs.Dealings.{IsOf, IsOver, NoneOut, state_of}
 use Rattle.ot_job.specs.Taken.{Taken as Piece}
 use Rattle.ot_job.specs.Taken.{Came as Done}
 use Rattle.ot_job.specs.declared.piece.Refused.{Refused}
@@ -49,6 +49,11 @@ pub record Submits (old : Floor) (t : ℕ) (spec : Spec) (new : Floor) : Type 0 
   pub free : IsFree old t
   pub job : Live
   pub starts : Starts spec job
+  pub new_is : new ≡ with_job old t (Some job)
+
+-- the tenant, which had no job, has this one
+pub record Enters (old : Floor) (t : ℕ) (job : Live) (new : Floor) : Type 0 where
+  pub free : IsFree old t
   pub new_is : new ≡ with_job old t (Some job)
 
 -- the tenant has no claimable task
@@ -121,3 +126,15 @@ Collects old t spec (collected.Ended outcome) new =
     ((has : HasJob old t spec) × (state_of has.job ≡ state.Ended) × NoneOut has.job) × IsMeaning spec outcome × (new ≡ with_job old t None)
 Collects old t spec collected.Failed new =
     ((has : HasJob old t spec) × (state_of has.job ≡ state.Failed) × NoneOut has.job) × (new ≡ with_job old t None)
+
+-- the tenant's job is over
+pub record HasOver (f : Floor) (t : ℕ) : Type 0 where
+  pub job : Live
+  pub is : job_of f.jobs t ≡ Some job
+  pub over : IsOver (state_of job)
+
+-- the tenant's job, which is over, is taken out
+pub record Leaves (old : Floor) (t : ℕ) (job : Live) (new : Floor) : Type 0 where
+  pub is : job_of old.jobs t ≡ Some job
+  pub over : IsOver (state_of job)
+  pub new_is : new ≡ with_job old t None

@@ -66,7 +66,7 @@ impl Hall {
     ghost use Rattle.ot_job.specs.States.{claimable_in};
     ghost use Rattle.ot_job.specs.Dealings.{state_of};
     ghost use Rattle.ot_core.specs.Index.{job_of};
-    ghost use Rattle.ot_core.specs.Floors.{new_floor, units_of, total_of, IsFree, Submits, ClaimsOf, IsWorking, NothingAt, Settles, RefusesIn, FailsIn, AbortsJob, Collects};
+    ghost use Rattle.ot_core.specs.Floors.{new_floor, units_of, total_of, IsFree, Submits, Enters, ClaimsOf, IsWorking, NothingAt, Settles, RefusesIn, FailsIn, AbortsJob, Collects, HasOver, Leaves};
     ghost use Rattle.ot_core.specs.Draining.{claimable_of, over_of, LivelyAt};
     ghost use Rattle.ot_core.specs.Turns.{NothingAnywhere, IsNext, ClaimsSome, RunsShort};
     ghost use Rattle.ot_core.specs.declared.hall.SubmitFault.TheVariants.{Busy};
@@ -105,6 +105,26 @@ impl Hall {
         }
         if let Err((spec, _)) = self.jobs.begin(alloc, tenant, spec) {
             return Err((spec, SubmitFault::Memory));
+        }
+        self.marks.put(tenant, self.jobs.has_claimable(tenant));
+        Ok(())
+    }
+
+    /// Takes in a job for a tenant that has none. It takes no longer however long the job's program is. `Busy` comes
+    /// where the tenant has a job or there is no such tenant, and with each refusal the job comes back.
+    pub fn enter(&mut self, tenant: u32, job: Job) -> Result<(), (Job, SubmitFault)>
+        ensures entered { IfOk result (λ _. Enters self.old tenant job self.new) }
+        ensures busy { IfErr result (λ e. e.1 ≡ Busy ↔ ¬ (IsFree self.old tenant)) }
+        ensures back { IfErr result (λ e. (e.0 ≡ job) × (self.new ≡ self.old)) }
+    {
+        if tenant as usize >= self.jobs.tenants() {
+            return Err((job, SubmitFault::Busy));
+        }
+        if let Some(_) = self.jobs.get(tenant) {
+            return Err((job, SubmitFault::Busy));
+        }
+        if let Err(job) = self.jobs.enter(tenant, job) {
+            return Err((job, SubmitFault::Memory));
         }
         self.marks.put(tenant, self.jobs.has_claimable(tenant));
         Ok(())
@@ -233,6 +253,16 @@ impl Hall {
                 return Collected::Failed;
             }
         }
+    }
+
+    /// Takes the tenant's job out, which is over. It takes no longer however long the job's program is.
+    pub fn leave(&mut self, tenant: u32) -> Job
+        requires { HasOver self.old tenant }
+        ensures { Leaves self.old tenant result self.new }
+    {
+        let job = self.jobs.take(tenant);
+        self.marks.put(tenant, false);
+        job
     }
 
     /// How the tenant's job stands.

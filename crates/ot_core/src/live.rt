@@ -108,6 +108,20 @@ impl Jobs {
         Ok(())
     }
 
+    /// Takes in a job for a tenant that has none. Where memory is refused, the job comes back.
+    pub(crate) fn enter(&mut self, tenant: u32, job: Job) -> Result<(), Job>
+        requires { slice_get self.old tenant ≡ Some None }
+        ensures entered { IfOk result (λ _. self.new ≡ slice_set self.old tenant (Some job)) }
+        ensures back { IfErr result (λ e. (e ≡ job) × (self.new ≡ self.old)) }
+    {
+        if self.slab.reserve(1).is_err() {
+            return Err(job);
+        }
+        let key = self.slab.insert_reserved(job);
+        self.keys[tenant as usize] = Some(key);
+        Ok(())
+    }
+
     /// Takes the tenant's job out.
     pub(crate) fn take(&mut self, tenant: u32) -> Job
         requires { IsSome (job_of self.old tenant) }

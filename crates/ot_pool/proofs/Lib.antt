@@ -1,4 +1,3 @@
-mod KeptLemmas
 mod TurnLemmas
 mod ShareLemmas
 pub mod SendLemmas

@@ -5,8 +5,9 @@ use denote.Param.SendFields.{declared_send}
 use Rattle.std.specs.declared.sync.ledger.Ledger.{Ghosts}
 use Rattle.std.proofs.sync.ledger.Book.TheSendSync as ledger
 use Rattle.std.proofs.Crossing.{crosses}
-use Rattle.ot_model.proofs.expr.Expr.TheLaws.TheKnot.{send-Expr}
-use Rattle.ot_model.proofs.stmt.Stmt.TheLaws.TheKnot.{send-Stmt}
+use Rattle.ot_model.proofs.expr.Expr.TheLaws.TheKnot.{send-Expr, sync-Expr}
+use Rattle.ot_model.proofs.stmt.Stmt.TheLaws.TheKnot.{send-Stmt, sync-Stmt}
+use Rattle.ot_parts.proofs.SendLemmas.{part-send, part-sync}
 use Rattle.ot_check.specs.contracts.job.JobSpec as spec
 use Rattle.ot_task.proofs.SendLemmas.{task-send}
 use Rattle.ot_job.specs.contracts.job.Job as job
@@ -16,7 +17,7 @@ use Rattle.ot_pool.specs.contracts.pool.Pool as pool
 use Rattle.ot_pool.specs.contracts.hub.Hub.TheInside as inside
 
 spec-send : IsSend spec.the_row
-spec-send = search (sendable, crosses, send-Expr, send-Stmt) depth 80 fits 20000
+spec-send = search (sendable, crosses, send-Expr, sync-Expr, send-Stmt, sync-Stmt, part-send, part-sync) depth 80 fits 20000
 
 job-send : IsSend job.the_row
 job-send = search (sendable, crosses, spec-send, task-send) depth 80 fits 20000

@@ -2,6 +2,7 @@
 use Rattle.std.specs.Prelude.{◌≡◌, ◌+◌, ◌<◌, ◌^◌, ◌↔◌, ◌⊎◌, ◌&&◌, ℕ, length, Bool, true, false, not, Option, Some, None, option_map, Result, Ok, Err}
 use Rattle.ot_check.specs.Jobs.{Spec}
 use Rattle.ot_check.specs.declared.job.Outcome.{Outcome}
+use Rattle.ot_job.specs.Live.{Live}
 use Rattle.ot_job.specs.Dealings.{state_of}
 use Rattle.ot_job.specs.declared.state.State.{State}
 use Rattle.ot_job.specs.declared.state.State.TheVariants.{Working, Failing}
@@ -60,6 +61,12 @@ abbrev pub Refuses : Shared → ℕ → NotDone → Type 0
 Refuses old t Closed = old.closed ≡ true
 Refuses old t Stranger = (old.closed ≡ false) × ¬ (IsFree old.floor t)
 Refuses old t Memory = (old.closed ≡ false) × IsFree old.floor t
+
+-- ---- a submit in two calls: the job begins before the turn, and the turn takes it in
+
+-- the tenant has this job
+abbrev pub Enters : Shared → ℕ → Live → Shared → Type 0
+Enters old t job new = Turns (λ f g. floors.Enters f t job g) old new
 
 -- ---- claim
 
@@ -122,6 +129,20 @@ is_going _ = false
 -- the pool is open, and the tenant has a job that isn't over
 abbrev pub is_pending : Shared → ℕ → Bool
 is_pending s t = not s.closed && is_going (option_map (λ j. state_of j) (job_of s.floor.jobs t))
+
+-- ---- a collect in two calls: the turn takes out a job that is over, and behind it the client is told what it came to
+
+-- the tenant has a job that isn't over
+abbrev pub IsGoing : Floor → ℕ → Type 0
+IsGoing f t = is_going (option_map (λ j. state_of j) (job_of f.jobs t)) ≡ true
+
+-- the tenant's job, if it is over, whichever spec it has
+abbrev pub Leaves : Shared → ℕ → Option (Result Live NotDone) → Shared → Type 0
+Leaves old t None new = Turns (λ f g. IsGoing f t × (g ≡ f)) old new
+Leaves old t (Some (Ok job)) new = Turns (λ f g. floors.Leaves f t job g) old new
+Leaves old t (Some (Err Memory)) new = ⊥
+Leaves old t (Some (Err Stranger)) new = Turns (λ f g. (job_of f.jobs t ≡ None) × (g ≡ f)) old new
+Leaves old t (Some (Err Closed)) new = FindsClosed old new
 
 -- ---- a worker's round
 

@@ -5,7 +5,7 @@ use crate::usage::Usage;
 use ot_book::NotDone;
 use ot_check::{JobSpec, Outcome};
 use ot_core::{Collected, Hall, NoMemory, SubmitFault};
-use ot_job::{Done, Piece, State};
+use ot_job::{Done, Job, Piece, State};
 use std::alloc::{AllocError, Global};
 use std::marker::Model;
 use std::sync::ledger::{Book, Ledger, Share};
@@ -67,7 +67,9 @@ impl<L: Ledger> Model for Hub<L> {
 impl<L: Ledger> Hub<L> {
     ghost use Rattle.std.specs.Prelude.{◌≤◌, true, false, IfOk, IfErr, IfSome, IfNone, IsTrue, sum};
     ghost use Rattle.ot_check.specs.Jobs.{IsMeaning};
-    ghost use Rattle.ot_pool.specs.Shared.{new_shared, Submits, Refuses, Claims, Takes, Collects, is_pending};
+    ghost use Rattle.ot_pool.specs.Shared.{new_shared, Submits, Enters, Refuses, Claims, Takes, Collects, Leaves, is_pending};
+    ghost use Rattle.ot_job.specs.States.{Starts};
+    ghost use Rattle.ot_check.specs.Jobs.{Spec};
     ghost use Rattle.ot_core.specs.Turns.{NothingAnywhere};
 
     /// Nobody has a job, nothing was settled, and the mark isn't set.
@@ -102,6 +104,24 @@ impl<L: Ledger> Hub<L> {
             Ok(()) => Ok(()),
             Err((spec, SubmitFault::Busy)) => Err((spec, NotDone::Stranger)),
             Err((spec, SubmitFault::Memory)) => Err((spec, NotDone::Memory)),
+        }
+    }
+
+    /// Takes in a job for a tenant that has none: the turn of a submit whose job was made before, with the lock free.
+    /// Where it isn't taken, the job comes back and nothing changes.
+    pub fn enter(&mut self, tenant: u32, job: Job) -> Result<(), (Job, NotDone)>
+        ensures entered { IfOk result (λ _. Enters self.old tenant job self.new) }
+        ensures submitted { IfOk result (λ _. (spec : Spec) → Starts spec job → Submits self.old tenant spec self.new) }
+        ensures refused { IfErr result (λ e. Refuses self.old tenant e.1) }
+        ensures back { IfErr result (λ e. (e.0 ≡ job) × (self.new ≡ self.old)) }
+    {
+        if self.is_closed {
+            return Err((job, NotDone::Closed));
+        }
+        match self.hall.enter(tenant, job) {
+            Ok(()) => Ok(()),
+            Err((job, SubmitFault::Busy)) => Err((job, NotDone::Stranger)),
+            Err((job, SubmitFault::Memory)) => Err((job, NotDone::Memory)),
         }
     }
 
@@ -178,6 +198,22 @@ impl<L: Ledger> Hub<L> {
         }
     }
 
+    /// Takes the tenant's job out, if it is over, whichever spec it has: the turn of a collect. What the client of a spec is
+    /// told of it is `outcome_of`, with the lock free. None comes where the job isn't over, `Stranger` where the tenant
+    /// has none.
+    pub fn leave(&mut self, tenant: u32) -> Option<Result<Job, NotDone>>
+        ensures { Leaves self.old tenant result self.new }
+    {
+        if self.is_closed {
+            return Some(Err(NotDone::Closed));
+        }
+        match self.hall.state(tenant) {
+            None => return Some(Err(NotDone::Stranger)),
+            Some(State::Working | State::Failing) => return None,
+            Some(State::Ended | State::Failed) => return Some(Ok(self.hall.leave(tenant))),
+        }
+    }
+
     // Whether the tenant has a job that isn't over, in an open pool. Who asks takes no turn.
     pub(crate) fn is_pending(&self, tenant: u32) -> bool
         ensures { result ≡ is_pending self.now tenant }
@@ -232,6 +268,31 @@ impl<L: Ledger> Hub<L> {
             by_tenant.push(units)?;
         }
         Ok(by_tenant)
+    }
+}
+
+ghost use Rattle.std.specs.Prelude.{ℕ, Some, Ok, Err, IfOk};
+ghost use Rattle.ot_check.specs.Jobs.{IsMeaning};
+ghost use Rattle.ot_job.specs.Dealings.{IsOf, IsOver, state_of};
+ghost use Rattle.ot_book.specs.declared.executor.NotDone.TheVariants.{Stranger};
+ghost use Rattle.ot_pool.specs.Shared.{Shared, Leaves, Collects};
+
+/// What whoever submitted this spec is told of a job that is over and was taken out. It takes no lock: with the turn
+/// that took the job out it is a collect. `Stranger` comes where the job is of another spec, which is let go then, and
+/// `Memory` where it has failed.
+pub fn outcome_of(job: Job, spec: &JobSpec) -> Result<Outcome, NotDone>
+    requires over { IsOver (state_of job) }
+    ensures collected { (old new : Shared) (t : ℕ) → Leaves old t (Some (Ok job)) new → IsOf spec.now job → Collects old t spec.now (Some result) new }
+    ensures strange { ¬ (IsOf spec.now job) → result ≡ Err Stranger }
+    ensures meaning { IfOk result (λ outcome. IsMeaning spec.now outcome) }
+{
+    if !job.is_of(spec) {
+        return Err(NotDone::Stranger);
+    }
+    match job.state() {
+        State::Ended => return Ok(job.into_outcome()),
+        State::Failed => return Err(NotDone::Memory),
+        State::Working | State::Failing => unreachable!(),
     }
 }
 

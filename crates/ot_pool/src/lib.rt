@@ -19,7 +19,7 @@ mod worker;
 pub use client::Client;
 pub use crew::{NotStarted, Staffed, staffed};
 pub use gate::{Gate, OpenGate};
-pub use hub::{Claimed, Hub};
+pub use hub::{Claimed, Hub, outcome_of};
 pub use pool::{Pool, close, totals};
 pub use usage::Usage;
 pub use worker::work;

@@ -1,12 +1,12 @@
 ghost use Rattle.std.specs.Prelude.{◌≡◌, ◌<◌, vec_len, IfOk, sum};
 ghost use Rattle.std.specs.List.{sum_by};
 
-use crate::hub::{Claimed, Hub};
+use crate::hub::{Claimed, Hub, outcome_of};
 use crate::locked::Locked;
 use crate::usage::Usage;
 use ot_book::NotDone;
 use ot_check::{JobSpec, Outcome};
-use ot_job::{Done, Piece};
+use ot_job::{Done, Job, Piece};
 use std::alloc::{AllocError, Global};
 use std::sync::ledger::{Blank, Ledger, Share};
 use std::sync::{Condvar, Mutex, Wait};
@@ -77,6 +77,11 @@ impl<L: Ledger> Pool<L> {
         requires worker { (1 ≤ worker) × (worker ≤ 16) }
         ensures { share.new.parts ≡ share.old.parts }
     {
+        // What was run is held once more, so that it is let go with the lock free: that takes as long as it has statements.
+        let mut held = match &back {
+            Some((_, done)) => done.hold(),
+            None => None,
+        };
         let mut looks = 0u32;
         let mut locked = self.locked.lock(rt);
         let mut round = locked.round(alloc, turn, back, share, worker);
@@ -96,11 +101,13 @@ impl<L: Ledger> Pool<L> {
                 Claimed::Aborted(_) | Claimed::Idle => {
                     if tells {
                         drop(locked);
+                        held = None;
                         self.tell(true);
                         locked = self.locked.lock(rt);
                     } else if looks < LOOKS {
                         looks += 1;
                         drop(locked);
+                        held = None;
                         yield_now();
                         locked = self.locked.lock(rt);
                     } else {
@@ -122,8 +129,14 @@ impl<L: Ledger> Pool<L> {
         tenant: u32,
         spec: JobSpec,
     ) -> Result<(), NotDone> {
+        // The job is made, and let go where it is refused, with the lock free: both take as long as its program is.
+        let Ok(job) = Job::start(alloc, spec) else {
+            return Err(NotDone::Memory);
+        };
         let mut locked = self.locked.lock(rt);
-        if let Err((_, refusal)) = locked.hub.submit(alloc, tenant, spec) {
+        if let Err((job, refusal)) = locked.hub.enter(tenant, job) {
+            drop(locked);
+            drop(job);
             return Err(refusal);
         }
         let calls = locked.calls_workers();
@@ -132,8 +145,8 @@ impl<L: Ledger> Pool<L> {
         Ok(())
     }
 
-    /// Waits until the tenant's job of this spec is over. The spec is compared once the tenant has no job that
-    /// goes on.
+    /// Waits until the tenant's job is over, and takes it out. The job is compared with the spec and looked at with the
+    /// lock free, since that takes as long as its program is.
     pub(crate) fn collect<R: Wait>(
         &self,
         rt: &R,
@@ -145,17 +158,22 @@ impl<L: Ledger> Pool<L> {
         let mut locked = self.locked.lock(rt);
         let mut looks = 0u32;
         for _ in rt.forever() {
-            if locked.hub.is_pending(tenant) {
-                if looks < LOOKS {
-                    looks += 1;
+            match locked.hub.leave(tenant) {
+                Some(Ok(job)) => {
                     drop(locked);
-                    yield_now();
-                    locked = self.locked.lock(rt);
-                } else {
-                    locked = self.told.wait(rt, locked);
+                    return outcome_of(job, spec);
                 }
-            } else if let Some(answer) = locked.hub.collect(tenant, spec) {
-                return answer;
+                Some(Err(refusal)) => return Err(refusal),
+                None => {
+                    if looks < LOOKS {
+                        looks += 1;
+                        drop(locked);
+                        yield_now();
+                        locked = self.locked.lock(rt);
+                    } else {
+                        locked = self.told.wait(rt, locked);
+                    }
+                }
             }
         }
         unreachable!()
