@@ -1,0 +1,10 @@
+use Rattle.std.proofs.Common.{◌≡◌, length}
+use Rattle.std.specs.Prelude.{reverse}
+use Rattle.ot_lines.specs.Goodbyes.{without_front_blanks}
+use Rattle.ot_lines.proofs.goodbye.without_back_blanks.Given as goal
+
+abbrev pub invariant-loop-rest : goal.invariant-loop-rest
+invariant-loop-rest l = reverse (without_front_blanks (reverse l.rest)) ≡ reverse (without_front_blanks (reverse l.initial.rest))
+
+abbrev pub decreases-loop-rest : goal.decreases-loop-rest
+decreases-loop-rest l = length l.rest

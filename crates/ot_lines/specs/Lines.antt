@@ -1,0 +1,135 @@
+-- Lines of a stream, however its bytes are read.
+use Rattle.std.specs.Prelude.{◌≡◌, ◌≢◌, ◌<◌, ◌≤◌, ◌+◌, ◌++◌, ◌∷◌, [], ℕ, suc, List, length, take, drop, slice_index, Bool, true, false, Option, Some, None, Result, Ok, Err}
+use Rattle.std.specs.Io.KnownBytes.{Consumes, IsAtEnd, prepend_known}
+use Rattle.ot_lines.specs.Counts.{Flow, count_after}
+use Rattle.ot_lines.specs.declared.lines.Bounds.{Bounds}
+use Rattle.ot_lines.specs.declared.lines.Heard.{Heard}
+use Rattle.ot_lines.specs.declared.lines.Heard.TheVariants.{Line, End, Long}
+use Rattle.ot_lines.specs.declared.lines.LineFault.{LineFault}
+use Rattle.ot_lines.specs.declared.lines.LineFault.TheVariants.{ReadFailed, TooManyReads}
+
+-- no LF stands in the bytes
+abbrev pub HasNoEnd : List ℕ → Type 0
+HasNoEnd bytes = (k : ℕ) → k < length bytes → slice_index bytes k ≢ 10
+
+-- The line that was heard last; what was heard since the last read; what was read and isn't heard yet; how often may be
+-- read still; how many bytes a line may have, without its LF; how many a read takes at most.
+pub record Hearing : Type 0 where
+  pub line : List ℕ
+  pub since : List ℕ
+  pub ahead : List ℕ
+  pub left : ℕ
+  pub longest : ℕ
+  pub most : ℕ
+
+-- nothing is heard yet
+abbrev pub opened : Bounds → Hearing
+opened bounds = record { line = []; since = []; ahead = []; left = bounds.reads; longest = bounds.line; most = bounds.read }
+
+-- what is still to be heard
+abbrev pub stream : Hearing → Flow → Option (List ℕ)
+stream h f = prepend_known h.ahead f.ahead
+
+-- These bytes of the stream were heard: where nothing was read, from the front of what had been read. What was heard since
+-- the last read stands last among them, and that read gave no less than it and what isn't heard yet. So many failures and
+-- ends were told, and each other read gave a byte at least.
+pub record Passes (old : Hearing) (before : Flow) (new : Hearing) (after : Flow) (bytes : List ℕ) (failures ends : ℕ) : Type 0 where
+  pub heard : Consumes (stream old before) (stream new after) bytes
+  pub earlier : List ℕ
+  pub since : old.since ++ bytes ≡ earlier ++ new.since
+  pub latest : length old.since + length old.ahead ≤ before.latest → length new.since + length new.ahead ≤ after.latest
+  pub longest : new.longest ≡ old.longest
+  pub most : new.most ≡ old.most
+  pub reads : ℕ
+  pub unread : reads ≡ 0 → old.ahead ≡ bytes ++ new.ahead
+  pub left : reads + new.left ≡ old.left
+  pub gave : reads + length old.ahead ≤ length bytes + length new.ahead + (failures + ends)
+  pub counted : after.reads ≡ count_after reads before.reads
+  pub failed : after.failures ≡ count_after failures before.failures
+  pub ended : after.ends ≡ count_after ends before.ends
+
+-- the bytes that were heard, where this line stands behind them
+abbrev pub heard_by : Result Heard LineFault → List ℕ → List ℕ
+heard_by (Ok Line) line = line ++ 10 ∷ []
+heard_by result line = line
+
+-- how many failures are told
+abbrev pub failures_by : {A : Type 0} → Result A LineFault → ℕ
+failures_by (Err ReadFailed) = 1
+failures_by result = 0
+
+-- how many ends are told
+abbrev pub ends_by : Result Heard LineFault → ℕ
+ends_by (Ok End) = 1
+ends_by result = 0
+
+-- All that was read is heard, and no line in it is too long.
+pub record IsIdle (h : Hearing) : Type 0 where
+  pub short : length h.line ≤ h.longest
+  pub none : h.ahead ≡ []
+
+-- some of what the last read gave was heard, and no read gives more than it may
+pub record IsAmid (h : Hearing) : Type 0 where
+  pub some : 0 < length h.since
+  pub within : length h.since + length h.ahead ≤ h.most
+
+-- what stands in the line, by the result
+abbrev pub IsHeard : Hearing → Flow → Result Heard LineFault → Type 0
+IsHeard h f (Ok Line) = (length h.line ≤ h.longest) × IsAmid h
+IsHeard h f (Ok Long) = (length h.line ≡ suc h.longest) × IsAmid h
+IsHeard h f (Ok End) = IsIdle h × IsAtEnd f.ahead
+IsHeard h f (Err ReadFailed) = IsIdle h
+IsHeard h f (Err TooManyReads) = IsIdle h × (h.left ≡ 0)
+
+-- A line and its LF; or a rest at the end of input, or one byte too many, or what was heard before a fault.
+pub record Hears (old : Hearing) (before : Flow) (new : Hearing) (after : Flow) (result : Result Heard LineFault) : Type 0 where
+  pub passes : Passes old before new after (heard_by result new.line) (failures_by result) (ends_by result)
+  pub clean : HasNoEnd new.line
+  pub is : IsHeard new after result
+
+-- ---- for private clauses
+
+-- so many bytes more stand in the line
+abbrev pub taken : ℕ → Hearing → Hearing
+taken n h = record h { line = h.line ++ take n h.ahead; since = h.since ++ take n h.ahead; ahead = drop n h.ahead }
+
+-- the next byte is heard, and doesn't stand in the line
+abbrev pub passed : Hearing → Hearing
+passed h = record h { since = h.since ++ take 1 h.ahead; ahead = drop 1 h.ahead }
+
+-- the line's end, if any
+abbrev pub end_of : Option Heard → List ℕ
+end_of (Some Line) = 10 ∷ []
+end_of result = []
+
+abbrev pub IsCut : Hearing → Option Heard → Type 0
+IsCut h (Some Line) = (length h.line ≤ h.longest) × IsAmid h
+IsCut h (Some Long) = (length h.line ≡ suc h.longest) × IsAmid h
+IsCut h (Some End) = ⊥
+IsCut h None = IsIdle h
+
+-- the line grew by bytes from the front of what was read
+pub record Cuts (old new : Hearing) (result : Option Heard) : Type 0 where
+  pub piece : List ℕ
+  pub line : new.line ≡ old.line ++ piece
+  pub passes : (f : Flow) → Passes old f new f (piece ++ end_of result) 0 0
+  pub left : new.left ≡ old.left
+  pub clean : HasNoEnd piece
+  pub is : IsCut new result
+
+abbrev pub ends_at : Result Bool LineFault → ℕ
+ends_at (Ok false) = 1
+ends_at result = 0
+
+-- what is so behind a read
+abbrev pub IsFilled : Hearing → Hearing → Flow → Result Bool LineFault → Type 0
+IsFilled old new f (Ok true) = suc new.left ≡ old.left
+IsFilled old new f (Ok false) = (new.ahead ≡ []) × IsAtEnd f.ahead
+IsFilled old new f (Err ReadFailed) = new.ahead ≡ []
+IsFilled old new f (Err TooManyReads) = (new.ahead ≡ []) × (new.left ≡ 0)
+
+-- the line stands, and more was read
+pub record Fills (old : Hearing) (before : Flow) (new : Hearing) (after : Flow) (result : Result Bool LineFault) : Type 0 where
+  pub line : new.line ≡ old.line
+  pub passes : Passes old before new after [] (failures_by result) (ends_at result)
+  pub is : IsFilled old new after result
