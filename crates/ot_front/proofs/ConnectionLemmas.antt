@@ -1,10 +1,8 @@
 -- A greeting, and what stands behind it.
-use Rattle.std.proofs.Common.{◌≡◌, ℕ, List, Option, refl, subst, inl, inr}
+use Rattle.std.proofs.Common.{ℕ, List, Option, inl, inr}
 use Rattle.std.specs.Prelude.{⊤, Some, None, Result, Ok, Err}
 use Rattle.ot_book.specs.Books.{Register}
 use Rattle.ot_front.specs.Greetings.{NeverAsks, Tells, Greets}
-use Rattle.ot_front.specs.Desks.{IsKnown}
-use Rattle.ot_front.specs.Connections.{HasSession, Connects}
 use Rattle.ot_front.specs.declared.fault.FrontFault.{FrontFault}
 use Rattle.ot_front.specs.declared.fault.FrontFault.TheVariants.{ReadFailed, WriteFailed, Memory, Stranger, TooManyTurns, SocketFailed}
 
@@ -31,15 +29,3 @@ greets_so names ahead left ended start held result greets = record {
   reads = greets.reads;
   tells = tells names greets.bytes left ended start held result greets.tells;
 }
-
-tells_known : (names : List (List ℕ)) (bytes : List ℕ) (left : Option (List ℕ)) (ended : Type 0) (start held : Option (List ℕ)) (book : Register) →
-    Tells names bytes left ended start held (Ok (Some book)) → IsKnown names book.name
-tells_known names bytes left ended start held book (inl asked) = asked.2.0.known
-tells_known names bytes left ended start held book (inr cut) = absurd cut.2
-
--- the desk knows the book that is given
-pub knows : (names : List (List ℕ)) (ahead left : Option (List ℕ)) (ended : Type 0) (start held : Option (List ℕ)) (given : Option Register) (book : Register) → given ≡ Some book →
-    Greets names ahead left ended start held (Ok given) → IsKnown names book.name
-knows names ahead left ended start held given book is greets =
-    let told : Greets names ahead left ended start held (Ok (Some book)) = subst (λ o. Greets names ahead left ended start held (Ok o)) is greets in
-    tells_known names told.bytes left ended start held book told.tells

@@ -1,7 +1,8 @@
 -- What a greeting is answered, and what a connection comes to.
-use Rattle.std.proofs.Common.{◌≡◌, ◌≢◌, ℕ, ◌≤◌, List, [], ◌∷◌, ◌++◌, length, Option, refl, ap, ◌∙◌, subst, inl, inr}
+use Rattle.std.proofs.Common.{◌≡◌, ◌≢◌, ℕ, ◌≤◌, List, [], ◌∷◌, ◌++◌, length, Option, refl, ap, ◌∙◌, subst, inl, inr, arith}
 use Rattle.std.specs.Prelude.{Some, None, Result, Ok, Err, IfOk, codes, decimal}
 use Rattle.std.specs.Io.KnownBytes.{Consumes}
+use Rattle.std.proofs.KnownBytes.{Consumes-nil}
 use Rattle.json.specs.Token as token
 use Rattle.json.specs.Tree.{json_tokens}
 use Rattle.serde_json.specs.Written.{outline}
@@ -10,10 +11,10 @@ use Rattle.serde_json.specs.declared.value.Value.{Value}
 use Rattle.ot_book.specs.Books.{Register, next_number}
 use Rattle.ot_front.specs.Heard.{HasNoEnd}
 use Rattle.ot_front.specs.FirstLines.{read_with}
-use Rattle.ot_front.specs.Greetings.{hello_of, hello_json, Greeting, greeting_of, Asks, IsFirstLine, IsTooLong, IsRefused, IsGiven, refusal_text, hello_text, Writes, Answers, Greets}
-use Rattle.ot_front.specs.declared.device.Failed.{Failed}
-use Rattle.ot_front.specs.declared.first_line.FirstLine.{FirstLine}
-use Rattle.ot_front.specs.declared.first_line.FirstLine.TheVariants.{Whole, TooLong}
+use Rattle.ot_front.specs.Greetings.{hello_of, hello_json, Greeting, greeting_of, Asks, IsFirstLine, IsTooLong, IsCut, IsRefused, IsGiven, refusal_text, hello_text, Writes, Answers, Greets}
+use Rattle.ot_lines.specs.declared.source.Failed.{Failed}
+use Rattle.ot_lines.specs.declared.lines.Heard.{Heard}
+use Rattle.ot_lines.specs.declared.lines.Heard.TheVariants.{Line, Long}
 use Rattle.ot_front.specs.declared.fault.FrontFault.{FrontFault}
 use Rattle.ot_front.specs.declared.fault.FrontFault.TheVariants.{ReadFailed, WriteFailed, Memory, Stranger, TooManyTurns, SocketFailed}
 use Rattle.ot_front.specs.declared.refusal.Refusal.{Refusal}
@@ -84,8 +85,8 @@ greets_asked names ahead left ended start held result bytes greeting reads asks 
 
 -- a whole line came
 pub greets_whole : (names : List (List ℕ)) (ahead left : Option (List ℕ)) (ended : Type 0) (start held : Option (List ℕ)) (result : Result (Option Register) FrontFault)
-    (line : List ℕ) (first : FirstLine) → first ≡ Whole → Consumes ahead left (read_with (Ok first) line) → HasNoEnd line →
-    ((same : Result FirstLine Failed) → same ≡ Ok first → same ≢ Ok TooLong → length line ≤ 64) →
+    (line : List ℕ) (first : Heard) → first ≡ Line → Consumes ahead left (read_with (Ok first) line) → HasNoEnd line →
+    ((same : Result Heard Failed) → same ≡ Ok first → same ≢ Ok Long → length line ≤ 64) →
     Answers names (greeting_of line) start held result → Greets names ahead left ended start held result
 greets_whole names ahead left ended start held result line first is reads one short answers =
     let whole : IsFirstLine (line ++ 10 ∷ []) line = record {
@@ -98,8 +99,8 @@ greets_whole names ahead left ended start held result line first is reads one sh
 
 -- too many bytes came
 pub greets_long : (names : List (List ℕ)) (ahead left : Option (List ℕ)) (ended : Type 0) (start held : Option (List ℕ)) (result : Result (Option Register) FrontFault)
-    (line : List ℕ) (first : FirstLine) → first ≡ TooLong → Consumes ahead left (read_with (Ok first) line) → HasNoEnd line →
-    ((same : Result FirstLine Failed) → same ≡ Ok first → same ≡ Ok TooLong → length line ≡ 65) →
+    (line : List ℕ) (first : Heard) → first ≡ Long → Consumes ahead left (read_with (Ok first) line) → HasNoEnd line →
+    ((same : Result Heard Failed) → same ≡ Ok first → same ≡ Ok Long → length line ≡ 65) →
     Writes start held (refusal_text NotGreeting) result → IfOk result (λ given. given ≡ None) → Greets names ahead left ended start held result
 greets_long names ahead left ended start held result line first is reads clean long writes none =
     let too_long : IsTooLong line = record {
@@ -109,3 +110,15 @@ greets_long names ahead left ended start held result line first is reads clean l
     greets_asked names ahead left ended start held result line (Err NotGreeting)
     (subst (λ f. Consumes ahead left (read_with (Ok f) line)) is reads) (inr (too_long, refl))
     (answers_refused names (Err NotGreeting) NotGreeting start held result refl writes none)
+
+-- nothing was read for want of memory
+pub greets_nothing : (names : List (List ℕ)) (ahead : Option (List ℕ)) (ended : Type 0) (held : Option (List ℕ)) → Greets names ahead ahead ended held held (Err Memory)
+greets_nothing names ahead ended held =
+    let cut : IsCut [] = record {
+      clean = λ k within. absurd (omega (arith, within));
+      short = omega arith;
+    } in record {
+      bytes = [];
+      reads = Consumes-nil ahead;
+      tells = inr (cut, refl, refl);
+    }

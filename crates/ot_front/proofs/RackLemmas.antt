@@ -1,9 +1,8 @@
 -- What becomes of a book at a greeting and behind it.
-use Rattle.std.proofs.Common.{◌≡◌, ◌≢◌, List, ℕ, Option, refl, ◌∙◌, ap, sym, subst, inl, inr}
-use Rattle.std.specs.Prelude.{⊤, Some, None, Result, Ok, Err, IfOk, OnOk, OnErr, slice_get}
+use Rattle.std.proofs.Common.{◌≡◌, List, ℕ, Option, refl, ◌∙◌, ap, subst, inr}
+use Rattle.std.specs.Prelude.{Some, None, Result, Ok, Err, IfOk, OnOk, OnErr}
 use Rattle.ot_book.specs.Books.{Register}
 use Rattle.ot_front.specs.Connections.{HasSession}
-use Rattle.ot_front.specs.Desks.{IsKnown, IsPlaceOf}
 use Rattle.ot_front.specs.Greetings.{Greets}
 use Rattle.ot_front.specs.Racks.{Moves, with_taken, with_laid, Hands, ConnectsOver}
 use Rattle.ot_front.specs.declared.fault.End.{End}
@@ -21,19 +20,7 @@ hands_welcomed book before mid after (Ok (Some other)) taken kept laid given =
     kept ∙ taken ∙ ap (λ b. with_taken b before) same
 hands_welcomed book before mid after (Err fault) taken kept laid given = inr (book, laid ∙ ap (with_laid book) taken)
 
--- no book was taken
-pub hands_refused : (before after : Option Moves) (result : Result (Option Register) FrontFault) → after ≡ before → IfOk result (λ given. given ≡ None) → Hands before after result
-hands_refused before after (Ok None) same none = same
-hands_refused before after (Ok (Some book)) same none = absurd (cc)
-hands_refused before after (Err fault) same none = inl same
-
 -- ---- the connection
-
--- a name that is known has a place
-pub placed : (names others : List (List ℕ)) (name : List ℕ) (place : Option ℕ) → others ≡ names → IsKnown names name → IsPlaceOf others name place → place ≢ None
-placed names others name place same known at none =
-    let here : place ≡ Some known.0 = (at known.0).1 (subst (λ ns. slice_get ns known.0 ≡ Some name) (sym same) known.1) in
-    cc
 
 -- a session behind the greeting
 pub over_session : (names : List (List ℕ)) (ahead next left : Option (List ℕ)) (ended : Type 0) (start told held : Option (List ℕ)) (before mid after : Option Moves)

@@ -19,20 +19,6 @@ use Rattle.ot_front.proofs.SessionLemmas.{session_of, tells_all, breaks_between,
 
 -- ---- a session that begins
 
-pub serving_first : (book : Register) (ahead held : Option (List ℕ)) (partial : List ℕ) → partial ≡ [] → Serving book ahead ahead held partial book held
-serving_first book ahead held partial none =
-    let going : Going book held [] [] book held = record {
-      lines = [];
-      hears = refl;
-      short = omega arith;
-      logs = refl;
-      writes = Appends-nil held;
-    } in record {
-      bytes = [];
-      reads = Consumes-nil ahead;
-      going = subst (λ p. Going book held [] p book held) (sym none) going;
-    }
-
 -- a session that could not begin
 pub serves_nothing : (book : Register) (ahead : Option (List ℕ)) (latest : ℕ) (held : Option (List ℕ)) → Serves book book ahead ahead latest held held (Err Memory)
 serves_nothing book ahead latest held = record {
@@ -43,17 +29,6 @@ serves_nothing book ahead latest held = record {
   session = session_of book held [] book held [] [] [] (Err Memory) refl refl (Appends-nil held) (breaks_between book [] [] [] refl);
   goes_on = refl;
   logs = omega arith;
-}
-
--- ---- a session that goes on
-
-pub serving_on : {first : Register} {ahead left start : Option (List ℕ)} {partial : List ℕ} {book : Register} {held : Option (List ℕ)} →
-    (next : Option (List ℕ)) (chunk more : List ℕ) (new : Register) (now : Option (List ℕ)) → (s : Serving first ahead left start partial book held) →
-    Consumes left next chunk → Going first start (s.bytes ++ chunk) more new now → Serving first ahead next start more new now
-serving_on {first} {ahead} {left} next chunk more new now s consumes going = record {
-  bytes = s.bytes ++ chunk;
-  reads = Consumes-trans ahead left next s.bytes chunk s.reads consumes;
-  going = going;
 }
 
 -- the lines that were logged are no more than in the end
@@ -73,33 +48,12 @@ logs_more first book new bytes lines lost logs new_logs few grows =
     )
 
 -- the lines heard so far are no more than those logged
-heard_logged : {first : Register} {start : Option (List ℕ)} {bytes partial : List ℕ} {book : Register} {held : Option (List ℕ)} →
+pub heard_logged : {first : Register} {start : Option (List ℕ)} {bytes partial : List ℕ} {book : Register} {held : Option (List ℕ)} →
     (going : Going first start bytes partial book held) (new : Register) (now : Option (List ℕ)) (more : List ℕ) (result : Result End FrontFault) →
     (s : Session first new more start now result) → next_number book ≤ next_number new → length (heard_in first bytes).lines ≤ length s.lost
 heard_logged {first} {start} {bytes} {partial} {book} going new now more result s grows =
     let lines = logs_more first book new more going.lines s.lost going.logs s.logs s.few grows in
     omega (arith, lines, ap (λ (h : Heard). length h.lines) going.hears, length-texts going.lines)
-
-length-take-below : (n : ℕ) (xs : List ℕ) → length (take n xs) ≤ n
-length-take-below zero xs = omega arith
-length-take-below (suc n) [] = omega arith
-length-take-below (suc n) (x ∷ xs) = omega (arith, length-take-below n xs)
-
--- it stopped in what the last read gave
-pub serves_chunk : {first : Register} {ahead left start : Option (List ℕ)} {partial : List ℕ} {book : Register} {held : Option (List ℕ)} →
-    (next : Option (List ℕ)) (latest n : ℕ) (buffer : List ℕ) (new : Register) (now : Option (List ℕ)) (result : Result End FrontFault) (stop : Stop) →
-    (s : Serving first ahead left start partial book held) → latest ≡ n → Consumes left next (take n buffer) → result ≡ result_of stop →
-    Session first new (s.bytes ++ take n buffer) start now (result_of stop) → next_number book ≤ next_number new → Serves first new ahead next latest start now result
-serves_chunk {first} {ahead} {left} {start} next latest n buffer new now result stop s gave consumes is session grows =
-    let same = subst (Session first new (s.bytes ++ take n buffer) start now) (sym is) session in record {
-      before = s.bytes;
-      last = take n buffer;
-      reads = Consumes-trans ahead left next s.bytes (take n buffer) s.reads consumes;
-      few = omega (arith, gave, length-take-below n buffer);
-      session = same;
-      goes_on = ap (λ (h : Heard). h.end) s.going.hears;
-      logs = heard_logged s.going new now (s.bytes ++ take n buffer) result same grows;
-    }
 
 -- what a session may answer that wanted more and got none
 abbrev pub IsIdle : Result End FrontFault → Type 0
@@ -144,26 +98,9 @@ serves_idle {first} {ahead} {left} {start} {partial} {book} {held} next latest r
       logs = heard_logged s.going book held (s.bytes ++ []) result session (le_refl (next_number book));
     }
 
--- a read gave no byte
-pub consumes_none : {first : Register} {ahead left start : Option (List ℕ)} {partial : List ℕ} {book : Register} {held : Option (List ℕ)} →
-    (next : Option (List ℕ)) (n : ℕ) (buffer : List ℕ) → (s : Serving first ahead left start partial book held) →
-    n ≡ 0 → Consumes left next (take n buffer) → Consumes ahead next s.bytes
-consumes_none {first} {ahead} {left} next n buffer s none consumes =
-    let nothing : Consumes left next [] = subst (λ k. Consumes left next (take k buffer)) none consumes in
-    subst (Consumes ahead next) (append-nil s.bytes) (Consumes-trans ahead left next s.bytes [] s.reads nothing)
-
--- a read failed
-pub consumes_kept : {first : Register} {ahead left start : Option (List ℕ)} {partial : List ℕ} {book : Register} {held : Option (List ℕ)} →
-    (next : Option (List ℕ)) → (s : Serving first ahead left start partial book held) → Keeps left next → Consumes ahead next s.bytes
-consumes_kept {first} {ahead} {left} next s keeps = Consumes-kept ahead left next s.bytes s.reads keeps
-
 -- ---- no request is left open
 
 pub closed_after : {old new : Register} {ahead left start held : Option (List ℕ)} {latest : ℕ} {result : Result End FrontFault} →
     Serves old new ahead left latest start held result → old.pending ≡ None → new.pending ≡ None
 closed_after {old} s closed =
     ap (λ (b : Register). b.pending) s.session.logs ∙ pending-after old (logged_lines old (s.before ++ s.last) s.session.lost) closed
-
-pub closed_serving : {first : Register} {ahead left start : Option (List ℕ)} {partial : List ℕ} {book : Register} {held : Option (List ℕ)} →
-    Serving first ahead left start partial book held → first.pending ≡ None → book.pending ≡ None
-closed_serving {first} s closed = ap (λ (b : Register). b.pending) s.going.logs ∙ pending-after first s.going.lines closed

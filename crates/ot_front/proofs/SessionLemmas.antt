@@ -327,16 +327,6 @@ stops_in_long {first} {start} {bytes} {partial} {book} {held} {now} piece going 
     let far = hears_long going piece clean long in
     stops_in_closing first start (bytes ++ piece) book held now going.lines far.0 (Some end.LongLine) far.1 going.logs going.writes front
 
--- there was no memory for the piece
-pub stops_at_piece : {first : Register} {start : Option (List ℕ)} {bytes partial : List ℕ} {book : Register} {held : Option (List ℕ)} →
-    (piece : List ℕ) → Going first start bytes partial book held → HasNoEnd piece → length partial + length piece ≤ max_line →
-    Session first book (bytes ++ piece) start held (Err fault.Memory)
-stops_at_piece {first} {start} {bytes} {partial} {book} {held} piece going clean fits =
-    let hears : (heard_in first (bytes ++ piece)).lines ≡ texts going.lines ++ [] =
-    ap (λ (h : Heard). h.lines) (hears_piece going piece clean fits) ∙ sym (append-nil (texts going.lines)) in
-    session_of first start (bytes ++ piece) book held going.lines [] (told first going.lines) (Err fault.Memory) hears going.logs going.writes
-    (breaks_between first (bytes ++ piece) going.lines [] hears)
-
 -- ---- the reply to a line
 
 pub goes_reply : {first : Register} {start : Option (List ℕ)} {bytes line : List ℕ} {book : Register} {held : Option (List ℕ)} →

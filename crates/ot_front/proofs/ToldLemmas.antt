@@ -1,6 +1,6 @@
 -- A book after more lines, and the replies to them.
 use Rattle.std.proofs.Common.{◌≡◌, ℕ, suc, ◌+◌, ◌≤◌, ◌<◌, List, [], ◌∷◌, ◌++◌, length, take, drop, refl, sym, ap, ◌∙◌, arith, append_assoc, append-nil, length-append, Bool, true, false, true≢false}
-use Rattle.std.specs.Prelude.{Some, None, ◌↔◌, slice_get}
+use Rattle.std.specs.Prelude.{Some, None, slice_get}
 use Rattle.std.proofs.Math.ListN.{length-map, get_or-append, take-append-drop}
 use Rattle.std.proofs.Math.Seq.{get_or-append_seam}
 use Rattle.std.proofs.lemmas.List.{map-append}
@@ -77,13 +77,6 @@ next-after book (l ∷ lines) =
     let one : next_number (logged book l.0 l.1) ≡ next_number book + 1 = ap (λ (r : Room). r.next) (room-logged book l.0 l.1) in
     omega (arith, one, next-after (logged book l.0 l.1) lines)
 
--- a line that is taken makes the numbers grow
-pub number-grows : (book new : Register) (line : List ℕ) (took : Bool) → Takes book line took new → next_number book ≤ next_number new
-number-grows book new line true is =
-    let one : next_number (logged book line is.1) ≡ next_number book + 1 = ap (λ (r : Room). r.next) (room-logged book line is.1) in
-    omega (arith, one, ap next_number is.2)
-number-grows book new line false is = omega (arith, ap next_number is.1)
-
 -- a log has the line that it took last
 pub some-logged : (book : Register) (line : List ℕ) (lost : Bool) → 0 < length (logged book line lost).log
 some-logged book line lost =
@@ -100,10 +93,6 @@ pending-logged book line lost = logged-by (λ b. b.pending ≡ None) book line l
 pub pending-after : (book : Register) (lines : Lines) → book.pending ≡ None → (after book lines).pending ≡ None
 pending-after book [] closed = closed
 pending-after book (l ∷ lines) closed = pending-after (logged book l.0 l.1) lines (pending-logged book l.0 l.1)
-
--- a test that answered no
-pub not_so : (P : Type 0) (test : Bool) → ((test ≡ true) ↔ P) → test ≡ false → ¬ P
-not_so P test tells no_test = λ so. let yes : test ≡ true = tells.1 so in cc
 
 -- ---- places of a list
 

@@ -1,27 +1,10 @@
 -- What a session hears: its input as lines, and where it ends.
-use Rattle.std.specs.Prelude.{◌≢◌, ◌<◌, ℕ, slice_index, ◌==◌, ◌||◌, List, [], ◌∷◌, ◌++◌, length, reverse, fold, codes, bytes_eq, nat_le, is_some, Bool, if◌then◌else◌, Option, Some, None}
+use Rattle.std.specs.Prelude.{ℕ, ◌==◌, List, [], ◌∷◌, ◌++◌, length, fold, nat_le, is_some, if◌then◌else◌, Option, Some, None}
 use Rattle.ot_book.specs.Room.{Room, takes, room_after}
 use Rattle.ot_front.specs.declared.fault.End.{End}
 use Rattle.ot_front.specs.declared.fault.End.TheVariants.{Bye, Full, LongLine}
-
--- no LF stands in the bytes
-abbrev pub HasNoEnd : List ℕ → Type 0
-HasNoEnd bytes = (k : ℕ) → k < length bytes → slice_index bytes k ≢ 10
-
--- the white space of JSON that a line can have: space, tab, CR
-abbrev pub is_blank : ℕ → Bool
-is_blank b = b == 32 || b == 9 || b == 13
-
-abbrev pub without_front_blanks : List ℕ → List ℕ
-without_front_blanks [] = []
-without_front_blanks (b ∷ bs) = if is_blank b then without_front_blanks bs else b ∷ bs
-
--- with no white space at either end
-abbrev pub trimmed : List ℕ → List ℕ
-trimmed line = reverse (without_front_blanks (reverse (without_front_blanks line)))
-
-abbrev pub is_bye : List ℕ → Bool
-is_bye line = bytes_eq (trimmed line) (codes "[\"bye\"]")
+pub use Rattle.ot_lines.specs.Lines.{HasNoEnd}
+pub use Rattle.ot_lines.specs.Goodbyes.{is_blank, without_front_blanks, trimmed, is_bye}
 
 -- bytes of a line, without its LF
 abbrev pub max_line : ℕ

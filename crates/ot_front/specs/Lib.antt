@@ -1,5 +1,4 @@
 pub mod Device
-pub mod Reading
 pub mod Writing
 pub mod Heard
 pub mod Told

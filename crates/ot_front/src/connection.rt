@@ -8,12 +8,14 @@ ghost use Rattle.ot_front.specs.declared.fault.End.TheVariants.{EndOfInput};
 ghost use Rattle.ot_front.specs.declared.fault.FrontFault.TheVariants.{ReadFailed, WriteFailed, TooManyTurns};
 
 use crate::desk::Desk;
-use crate::device::{Sink, Source};
+use crate::device::Sink;
 use crate::fault::{End, FrontFault};
+use crate::first_line::first_bounds;
 use crate::greeting::greet_from;
 use crate::rack::{OnDesk, Rack};
-use crate::session::serve;
+use crate::session::serve_behind;
 use ot_book::{Book, Executor};
+use ot_lines::{Lines, Source};
 use ot_pool::{Client, Pool};
 use std::alloc::Global;
 use std::sync::Wait;
@@ -62,23 +64,27 @@ fn connect<B: Rack, R: Source, W: Sink, L: Ledger, T: Wait>(
     ensures write_failed { result ≡ Some (Err WriteFailed) → W.failures sink.new ≡ next_count (W.failures sink.old) }
     ensures write_worked { IfSome result (λ end. end ≢ Err WriteFailed → W.failures sink.new ≡ W.failures sink.old) }
 {
-    match greet_from(alloc, rack, source, sink) {
+    let Ok(mut lines) = Lines::new(alloc, first_bounds()) else {
+        return None;
+    };
+    match greet_from(alloc, rack, &mut lines, source, sink) {
         Ok(Some(book)) => {
             let Some(tenant) = rack.position(book.name()) else {
                 unreachable!()
             };
             let mut client = Client::new(rt, pool, tenant);
-            Some(hold_session(alloc, rack, book, &mut client, source, sink))
+            Some(hold_session(alloc, rack, &mut lines, book, &mut client, source, sink))
         }
         Ok(None) => None,
         Err(_) => None,
     }
 }
 
-/// Serves the session of a book that was taken, and lays it back. How it ended.
+/// Serves the session of a book that was taken, in the room of the greeting, and lays it back. How it ended.
 fn hold_session<B: Rack, E: Executor, R: Source, W: Sink>(
     alloc: Global,
     rack: &mut B,
+    lines: &mut Lines,
     mut book: Book,
     executor: &mut E,
     source: &mut R,
@@ -95,7 +101,7 @@ fn hold_session<B: Rack, E: Executor, R: Source, W: Sink>(
     ensures write_failed { result ≡ Err WriteFailed → W.failures sink.new ≡ next_count (W.failures sink.old) }
     ensures write_worked { result ≢ Err WriteFailed → W.failures sink.new ≡ W.failures sink.old }
 {
-    let end = serve(alloc, &mut book, executor, source, sink);
+    let end = serve_behind(alloc, lines, &mut book, executor, source, sink);
     rack.lay_back(book);
     end
 }

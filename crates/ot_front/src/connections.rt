@@ -5,8 +5,8 @@ ghost use Rattle.ot_front.specs.declared.fault.FrontFault.TheVariants.{SocketFai
 use crate::connection::serve_connection;
 use crate::desk::Desk;
 use crate::fault::FrontFault;
-use crate::reader::Reading;
 use crate::writer::Writing;
+use ot_lines::Reading;
 use ot_pool::Pool;
 use std::alloc::Global;
 use std::os::unix::net::UnixListener;
@@ -42,21 +42,21 @@ pub fn listen<L: Ledger + Send + Sync, R: Threads + Wait + Sync>(
     }
 }
 
-/// What serves connections. A thread borrows a pool as such a service: so whether it may is asked of the pool
-/// alone, and not of all that it is made of.
-trait Service {
+/// What serves connections from a desk. A thread borrows a pool as such a service, and its desk: so whether it may is
+/// asked of the two alone, and not of all that they are made of.
+trait Service<D> {
     /// Takes one connection after another, as long as there are turns. Whether each was accepted.
     fn take_connections<R: Wait>(
         &self,
         rt: &R,
         alloc: Global,
-        desk: &Desk,
+        desk: &D,
         listener: &UnixListener,
         left: &Mutex<Option<u32>>,
     ) -> bool;
 }
 
-impl<L: Ledger> Service for Pool<L> {
+impl<L: Ledger> Service<Desk> for Pool<L> {
     fn take_connections<R: Wait>(
         &self,
         rt: &R,
@@ -81,11 +81,11 @@ impl<L: Ledger> Service for Pool<L> {
 }
 
 /// Takes connections in so many threads. Whether each was accepted.
-fn listen_in_threads<P: Service + Sync, R: Threads + Wait + Sync>(
+fn listen_in_threads<P: Service<D> + Sync, D: Sync, R: Threads + Wait + Sync>(
     rt: &R,
     alloc: Global,
     service: &P,
-    desk: &Desk,
+    desk: &D,
     listener: &UnixListener,
     sessions: u32,
     left: &Mutex<Option<u32>>,

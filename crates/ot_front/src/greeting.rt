@@ -5,20 +5,23 @@ ghost use Rattle.serde_json.specs.View.{view, items_view};
 ghost use Rattle.ot_book.specs.Answers.{value_of};
 ghost use Rattle.ot_book.specs.Requests.{name_in};
 ghost use Rattle.ot_front.specs.Device.{next_count, count_after};
+ghost use Rattle.ot_lines.specs.Lines.{opened};
+ghost use Rattle.ot_front.specs.FirstLines.{first_bounds};
 ghost use Rattle.ot_front.specs.Greetings.{hello_of, greeting_of, hello_text, refusal_text, Writes, Answers, Greets, IsGiven, IsRefused};
 ghost use Rattle.ot_front.specs.Racks.{with_taken, with_laid, Hands};
 ghost use Rattle.ot_front.specs.declared.fault.FrontFault.TheVariants.{ReadFailed, WriteFailed, Memory};
 ghost use Rattle.ot_front.specs.declared.refusal.Refusal.TheVariants.{NotJson, NotGreeting};
 
 use crate::desk::{Desk, DeskFault};
-use crate::device::{Sink, Source};
+use crate::device::Sink;
 use crate::fault::FrontFault;
-use crate::first_line::{FirstLine, MAX_READ, read_first_line};
+use crate::first_line::{first_bounds, hear_first};
 use crate::rack::{OnDesk, Rack};
 use crate::refusal::Refusal;
 use crate::whole::write_whole;
 use json::Writer;
 use ot_book::Book;
+use ot_lines::{Heard, Lines, Source};
 use ot_program::{is_name, is_word};
 use serde_json::Value;
 use std::alloc::{AllocError, Global};
@@ -44,16 +47,21 @@ pub fn greet<R: Source, W: Sink, T: Wait>(
     ensures write_failed { result ≡ Err WriteFailed → W.failures sink.new ≡ next_count (W.failures sink.old) }
     ensures write_worked { result ≢ Err WriteFailed → W.failures sink.new ≡ W.failures sink.old }
 {
-    greet_from(alloc, &mut OnDesk { rt, desk }, source, sink)
+    let Ok(mut lines) = Lines::new(alloc, first_bounds()) else {
+        return Err(FrontFault::Memory);
+    };
+    greet_from(alloc, &mut OnDesk { rt, desk }, &mut lines, source, sink)
 }
 
-/// Greets for any rack of books.
+/// Greets for any rack of books. Its line is the first of these lines, and the session's are heard behind it.
 pub(crate) fn greet_from<B: Rack, R: Source, W: Sink>(
     alloc: Global,
     rack: &mut B,
+    lines: &mut Lines,
     source: &mut R,
     sink: &mut W,
 ) -> Result<Option<Book>, FrontFault>
+    requires { lines.old ≡ opened first_bounds }
     ensures greets { Greets (B.names rack.old) (R.ahead source.old) (R.ahead source.new) (R.ends source.new ≡ next_count (R.ends source.old))
         (W.contents sink.old) (W.contents sink.new) result }
     ensures names { B.names rack.new ≡ B.names rack.old }
@@ -66,13 +74,10 @@ pub(crate) fn greet_from<B: Rack, R: Source, W: Sink>(
     ensures write_failed { result ≡ Err WriteFailed → W.failures sink.new ≡ next_count (W.failures sink.old) }
     ensures write_worked { result ≢ Err WriteFailed → W.failures sink.new ≡ W.failures sink.old }
 {
-    let Ok(mut line) = Vec::with_capacity(alloc, MAX_READ) else {
-        return Err(FrontFault::Memory);
-    };
-    match read_first_line(source, &mut line) {
-        Ok(FirstLine::Whole) => answer_line(alloc, rack, &line, sink),
-        Ok(FirstLine::TooLong) => refuse(Refusal::NotGreeting, sink),
-        Ok(FirstLine::Cut) => Ok(None),
+    match hear_first(lines, source) {
+        Ok(Heard::Line) => answer_line(alloc, rack, lines.line(), sink),
+        Ok(Heard::Long) => refuse(Refusal::NotGreeting, sink),
+        Ok(Heard::End) => Ok(None),
         Err(_) => Err(FrontFault::ReadFailed),
     }
 }

@@ -6,7 +6,7 @@ use crate::fault::{End, FrontFault};
 
 /// Why no further line is taken.
 #[derive(Clone, Copy, Debug)]
-pub(crate) enum Stop {
+pub enum Stop {
     /// The client said goodbye.
     Bye,
     /// The log was full, and a further line came.
@@ -25,7 +25,7 @@ pub(crate) enum Stop {
 
 impl Stop {
     /// What the session answers.
-    pub(crate) fn result(self) -> Result<End, FrontFault>
+    pub fn result(self) -> Result<End, FrontFault>
         ensures { result ≡ result_of self }
     {
         match self {

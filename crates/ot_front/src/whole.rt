@@ -3,7 +3,8 @@ ghost use Rattle.std.specs.Prelude.{◌≡◌, OnOk, OnErr};
 ghost use Rattle.std.specs.Io.KnownBytes.{Appends};
 ghost use Rattle.ot_front.specs.Device.{next_count, AppendsFront};
 
-use crate::device::{Failed, Sink};
+use crate::device::Sink;
+use ot_lines::Failed;
 
 /// Writes `bytes` from the first to the last, each once. It goes on behind a short write, and stops
 /// at the first failure.

@@ -2,7 +2,8 @@
 //! them, over a file or a socket none.
 ghost use Rattle.std.specs.Prelude.{◌≡◌};
 
-use crate::device::{Failed, Sink};
+use crate::device::Sink;
+use ot_lines::Failed;
 use std::io::Write;
 
 /// A sink over a writer. Each error of the writer is a failure, and so is a write of no byte.

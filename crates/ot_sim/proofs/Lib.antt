@@ -1,5 +1,3 @@
 pub mod WordLemmas
-pub mod PlaceLemmas
-pub mod Counting
 pub mod PlayLemmas
 pub mod TalkLemmas

@@ -1,39 +1,19 @@
 -- The world that begins, and the replies that are told.
-use Rattle.std.proofs.Common.{◌≡◌, ℕ, zero, suc, ◌+◌, ◌<◌, List, [], ◌∷◌, ◌++◌, map, length, drop, replicate, get_or, inl, inr, refl, sym, ap, ◌∙◌, arith, append_assoc, length-append, String}
-use Rattle.std.specs.Prelude.{codes, string_bytes, MatchOption, Option, Some, None, Result, Ok, Err, OnOk, ⊤}
-use Rattle.std.specs.Io.KnownBytes.{Appends}
+use Rattle.std.proofs.Common.{◌≡◌, ℕ, zero, suc, ◌+◌, ◌<◌, List, [], ◌∷◌, ◌++◌, map, length, drop, get_or, inl, inr, refl, sym, ap, ◌∙◌, arith, append_assoc, length-append, String}
+use Rattle.std.specs.Prelude.{codes, string_bytes}
 use Rattle.std.specs.declared.alloc.Global.{Global}
 use Rattle.std.proofs.lemmas.List.{length-map, at_drop_more, get_or_append_left, get_or-append-add}
 use Rattle.std.proofs.lemmas.Bool.Decides.{leb_tells}
-use Rattle.ot_store.specs.Arrays.{Named}
-use Rattle.ot_store.specs.declared.limits.Limits.{Limits}
 use Rattle.ot_book.specs.Replies.{Told, text_of as reply_text}
-use Rattle.ot_book.specs.ReplyView.{reply_of}
-use Rattle.ot_book.specs.declared.reply.Reply.{Reply}
-use Rattle.ot_core.specs.Accounts.{Account}
-use Rattle.ot_core.specs.Floors.{new_floor}
-use Rattle.ot_core.specs.Openings.{opening_of, new_scene}
 use Rattle.ot_core.specs.Scenes.{Scene}
-use Rattle.ot_sim.specs.Playing.{newcomer, opening, reply_lines, replies_at, count_at, news}
-use Rattle.ot_sim.specs.Running.{Writes, counts_at}
-
--- tenants as they begin make the world where nothing has happened
-pub opening-same : (openings : List (String Global × Limits × List Named)) (names : List (List ℕ)) → map opening_of openings ≡ map newcomer names → new_scene openings ≡ opening names
-opening-same openings names same =
-    let many : length openings ≡ length names = sym (length-map openings opening_of) ∙ ap length same ∙ length-map names newcomer in
-    ap (λ (accounts : List Account). record { accounts = accounts; floor = new_floor (length openings); hands = replicate 16 None }) same
-    ∙ ap (λ n. record { accounts = map newcomer names; floor = new_floor n; hands = replicate 16 None }) many
+use Rattle.ot_sim.specs.Playing.{reply_lines, replies_at, count_at, news}
+use Rattle.ot_sim.specs.Running.{counts_at}
 
 -- a text so far, and one more reply of the rest
 pub reply-on : (name text : List ℕ) (r : ℕ × Told) (rs : List (ℕ × Told)) (one all : List ℕ) →
     text ++ reply_lines name (r ∷ rs) ≡ all → one ≡ name ++ codes " " ++ reply_text r.0 r.1 ++ codes "\n" → (text ++ one) ++ reply_lines name rs ≡ all
 reply-on name text r rs one all so_far is =
     append_assoc text one (reply_lines name rs) ∙ ap (λ o. text ++ (o ++ reply_lines name rs)) is ∙ so_far
-
--- what is left behind the first
-pub behind-first : (r : Option Reply) (old new : List (ℕ × Told)) → MatchOption r ((old ≡ []) × (new ≡ [])) (λ x. old ≡ reply_of x ∷ new) → new ≡ drop 1 old
-behind-first None old new steps = steps.1 ∙ ap (drop 1) (sym steps.0)
-behind-first (Some x) old new steps = ap (drop 1) (sym steps)
 
 -- ---- the counts of all tenants
 
@@ -42,11 +22,6 @@ length-counts s zero = refl
 length-counts s (suc n) = length-append (counts_at s n) (count_at s n ∷ []) ∙ omega (arith, length-counts s n)
 
 -- ---- what is written
-
--- this text is written, of which that holds
-pub told-writes : {E : Type 0} (a b : Option (List ℕ)) (P : List ℕ → Type 0) (text : List ℕ) (r : Result ⊤ E) → P text → OnOk r (Appends a b text) → OnOk r (Writes a b P)
-told-writes a b P text (Ok done) holds appends = (text, holds, appends)
-told-writes a b P text (Err e) holds appends = tt
 
 pub counts-lookup : (s : Scene) (n t : ℕ) → t < n → get_or (counts_at s n) t 0 ≡ count_at s t
 counts-lookup s zero t within = absurd (omega (arith, within))

@@ -1,201 +1,228 @@
--- What sim has heard and written, one piece, one line and one read further.
-use Rattle.std.proofs.Common.{◌≡◌, ℕ, ◌+◌, ◌-◌, ◌<◌, ◌≤◌, List, [], ◌∷◌, ◌++◌, length, take, refl, sym, ap, ◌∙◌, subst, arith, append_assoc, append-nil, length-append, inl, inr}
-use Rattle.std.specs.Prelude.{All, Option, Result, Err, ⊤, slice_index}
-use Rattle.std.specs.Io.KnownBytes.{Appends, Consumes, Keeps}
-use Rattle.std.proofs.KnownBytes.{Appends-nil, Appends-trans, Consumes-nil, Consumes-trans, Consumes-kept}
-use Rattle.std.proofs.lemmas.List.{get_or_append_left, get_or-append-add}
-use Rattle.std.proofs.lemmas.List.Elements.{All-append, All-cons}
-use Rattle.std.proofs.lemmas.Bool.Decides.{leb_tells}
-use Rattle.ot_front.specs.Heard.{HasNoEnd}
+-- A run of sim over the lines that were heard.
+use Rattle.std.proofs.Common.{◌≡◌, ◌≢◌, ℕ, ◌+◌, ◌<◌, ◌≤◌, List, [], ◌∷◌, ◌++◌, length, append_assoc, append-nil, refl, sym, ap, ◌∙◌, subst, arith}
+use Rattle.std.specs.Prelude.{All, Option, Result, Ok, Err, OnOk, ⊤}
+use Rattle.std.specs.Io.KnownBytes.{Appends, Consumes, IsAtEnd}
+use Rattle.std.proofs.KnownBytes.{Appends-nil, Appends-trans, Consumes-nil}
+use Rattle.ot_lines.specs.Counts.{Flow, next_count, count_after}
+use Rattle.ot_lines.specs.Lines.{Hearing, HasNoEnd, opened, Passes, IsIdle}
+use Rattle.ot_lines.specs.Listening.{ended, Went, Through, Ends, Listens, Stops as StopsAt, IsLine as IsOneLine}
+use Rattle.ot_lines.specs.declared.lines.LineFault.{LineFault}
+use Rattle.ot_lines.specs.declared.lines.LineFault.TheVariants as lines
+use Rattle.ot_lines.specs.declared.listener.Ended.{Ended}
+use Rattle.ot_lines.specs.declared.listener.Ended.TheVariants as ended_as
+use Rattle.ot_front.proofs.PrefixLemmas.{consumed}
 use Rattle.ot_sim.specs.declared.play.Play.{Play}
-use Rattle.ot_sim.specs.declared.fault.Stop.{Stop}
-use Rattle.ot_sim.specs.declared.fault.Stop.TheVariants as stop
+use Rattle.ot_sim.specs.declared.fault.Untold.{Untold}
+use Rattle.ot_sim.specs.declared.fault.Untold.TheVariants as untold
+use Rattle.ot_sim.specs.declared.fault.SimFault.{SimFault}
+use Rattle.ot_sim.specs.declared.fault.SimFault.TheVariants as fault
 use Rattle.ot_sim.specs.Playing.{PlaysLine, empty_play}
-use Rattle.ot_sim.specs.Talk.{max_line, ended, IsLine, PlaysAll, Talks, TalksAll, StopsAtLong, TalksBy}
-use Rattle.ot_sim.specs.Running.{fault_of, Going, Goes, Reads}
+use Rattle.ot_sim.specs.Talk.{max_line, IsLine, PlaysAll, Talks, TalksAll, StopsAtLong, TalksBy, TalksOver}
+use Rattle.ot_sim.specs.Running.{fault_of, untold_writes, sim_bounds, TakesLine, IsRun}
 
--- ---- bytes without an LF
+-- ---- what is told
 
-pub no_end-append : (a b : List ℕ) → HasNoEnd a → HasNoEnd b → HasNoEnd (a ++ b)
-no_end-append a b none_a none_b = λ k within is. elim (leb_tells (length a) k) [
-  | inr (test, below) ↦ none_a k below (sym (get_or_append_left a b 0 k below) ∙ is)
-  | inl (test, above) ↦
-      let j : ℕ = k - length a in
-      let at : length a + j ≡ k = omega (arith, above) in
-      none_b j (omega (arith, at, within, length-append a b)) (sym (get_or-append-add a b j 0) ∙ ap (λ i. slice_index (a ++ b) i) at ∙ is)
-]
+abbrev read_failures : Result ⊤ SimFault → ℕ
+read_failures (Err fault.ReadFailed) = 1
+read_failures result = 0
 
-no_end-nil : HasNoEnd []
-no_end-nil = λ k within is. absurd (omega (arith, within))
+abbrev write_failures : Result ⊤ SimFault → ℕ
+write_failures (Err fault.WriteFailed) = 1
+write_failures result = 0
 
--- ---- one line more
+no_read_failed : (r : Result ⊤ SimFault) → r ≢ Err fault.ReadFailed → read_failures r ≡ 0
+no_read_failed (Ok done) other = refl
+no_read_failed (Err fault.ReadFailed) other = absurd (other refl)
+no_read_failed (Err fault.WriteFailed) other = refl
+no_read_failed (Err fault.Memory) other = refl
+no_read_failed (Err fault.LongLine) other = refl
+no_read_failed (Err fault.TooManyTurns) other = refl
 
-ended-append : (lines : List (List ℕ)) (line rest : List ℕ) → ended (lines ++ line ∷ []) ++ rest ≡ ended lines ++ (line ++ 10 ∷ rest)
-ended-append [] line rest = append_assoc line (10 ∷ []) rest
-ended-append (l ∷ ls) line rest =
-    append_assoc l (10 ∷ ended (ls ++ line ∷ [])) rest
-    ∙ ap (λ bs. l ++ 10 ∷ bs) (ended-append ls line rest)
-    ∙ sym (append_assoc l (10 ∷ ended ls) (line ++ 10 ∷ rest))
+no_write_failed : (r : Result ⊤ SimFault) → r ≢ Err fault.WriteFailed → write_failures r ≡ 0
+no_write_failed (Ok done) other = refl
+no_write_failed (Err fault.ReadFailed) other = refl
+no_write_failed (Err fault.WriteFailed) other = absurd (other refl)
+no_write_failed (Err fault.Memory) other = refl
+no_write_failed (Err fault.LongLine) other = refl
+no_write_failed (Err fault.TooManyTurns) other = refl
 
-plays-more : (old mid new : Play) (lines : List (List ℕ)) (line text more : List ℕ) → PlaysAll old lines text mid → PlaysLine mid line more new →
-    PlaysAll old (lines ++ line ∷ []) (text ++ more) new
-plays-more old mid new [] line text more plays next =
-    let same : PlaysLine old line more new = subst (λ p. PlaysLine p line more new) plays.1 next in
-    (new, more, [], same, (refl, refl), ap (λ t. t ++ more) plays.0 ∙ sym (append-nil more))
-plays-more old mid new (l ∷ ls) line text more plays next = (
-  plays.0,
-  plays.1,
-  plays.2 ++ more,
-  plays.3,
-  plays-more plays.0 mid new ls line plays.2 more plays.4 next,
-  ap (λ t. t ++ more) plays.5 ∙ append_assoc plays.1 plays.2 more,
-)
-
--- ---- sim begins
-
-none_lines : All IsLine []
-none_lines = λ k line within. absurd (omega (arith, within))
-
-talks-first : (held : Option (List ℕ)) → Talks [] [] held held empty_play
-talks-first held = record { lines = []; heard = refl; are = none_lines; text = []; plays = (refl, refl); writes = Appends-nil held }
-
-pub going-first : (held : Option (List ℕ)) → Going held [] [] empty_play held
-going-first held = record { talks = talks-first held; is_line = (no_end-nil, omega arith) }
-
--- ---- a piece
-
-pub going-piece : {start : Option (List ℕ)} {bytes partial : List ℕ} {play : Play} {held : Option (List ℕ)} →
-    (piece : List ℕ) → Going start bytes partial play held → HasNoEnd piece → length partial + length piece ≤ max_line → Going start (bytes ++ piece) (partial ++ piece) play held
-going-piece {start} {bytes} {partial} {play} {held} piece going clean fits = record {
-  talks = record {
-    lines = going.talks.lines;
-    heard = ap (λ bs. bs ++ piece) going.talks.heard ∙ append_assoc (ended going.talks.lines) partial piece;
-    are = going.talks.are;
-    text = going.talks.text;
-    plays = going.talks.plays;
-    writes = going.talks.writes;
-  };
-  is_line = (no_end-append partial piece going.is_line.0 clean, omega (arith, fits, length-append partial piece));
+run : {f h : Flow} {start held : Option (List ℕ)} {result : Result ⊤ SimFault} (before later reads left : ℕ) → TalksOver f.ahead h.ahead start held result → reads + left ≡ 1000000 →
+    h.reads ≡ count_after reads f.reads → (result ≡ Err fault.TooManyTurns → left ≡ 0) → OnOk result (IsAtEnd h.ahead) → OnOk result (h.ends ≡ next_count f.ends) →
+    h.failures ≡ count_after (read_failures result) f.failures → later ≡ count_after (write_failures result) before → IsRun f h start held before later result
+run {f = f} {h = h} {result = result} before later reads left talks sum counted turns at_end end_told failures writes = record {
+  talks = talks;
+  reads = (reads, omega (arith, sum), counted);
+  turns = λ is. counted ∙ ap (λ k. count_after k f.reads) (let all : reads ≡ 1000000 = omega (arith, sum, turns is) in all);
+  at_end = at_end;
+  end_told = end_told;
+  read_failed = λ is. failures ∙ ap (λ r. count_after (read_failures r) f.failures) is;
+  read_worked = λ other. failures ∙ ap (λ n. count_after n f.failures) (no_read_failed result other);
+  write_failed = λ is. writes ∙ ap (λ r. count_after (write_failures r) before) is;
+  write_worked = λ other. writes ∙ ap (λ n. count_after n before) (no_write_failed result other);
 }
 
-pub stops-long : {start : Option (List ℕ)} {bytes partial : List ℕ} {play : Play} {held : Option (List ℕ)} →
-    (piece : List ℕ) → Going start bytes partial play held → HasNoEnd piece → max_line < length partial + length piece → StopsAtLong (bytes ++ piece) start held
-stops-long {start} {bytes} {partial} {play} {held} piece going clean long = record {
-  front = partial ++ piece;
-  behind = [];
-  no_end = no_end-append partial piece going.is_line.0 clean;
-  long = omega (arith, long, length-append partial piece);
-  play = play;
-  talks = record {
-    lines = going.talks.lines;
-    heard = ap (λ bs. bs ++ piece) going.talks.heard ∙ append_assoc (ended going.talks.lines) partial piece ∙ ap (λ bs. ended going.talks.lines ++ bs) (sym (append-nil (partial ++ piece)));
-    are = going.talks.are;
-    text = going.talks.text;
-    plays = going.talks.plays;
-    writes = going.talks.writes;
-  };
-}
+-- ---- all lines
 
--- ---- a line
+module _ {A : Type 0} (contents : A → Option (List ℕ)) (failures : A → ℕ) where
+  abbrev pub Took : Play → A → List ℕ → Play → A → Result ⊤ Untold → Type 0
+  Took old a line new b result = TakesLine old (contents a) (failures a) line new (contents b) (failures b) result
 
-pub going-line : {start : Option (List ℕ)} {bytes line : List ℕ} {play : Play} {held : Option (List ℕ)} →
-    (new : Play) (now : Option (List ℕ)) (text : List ℕ) → Going start bytes line play held → PlaysLine play line text new → Appends held now text → Going start (bytes ++ 10 ∷ []) [] new now
-going-line {start} {bytes} {line} {play} {held} new now text going plays writes = record {
-  talks = record {
-    lines = going.talks.lines ++ line ∷ [];
-    heard =
-        ap (λ bs. bs ++ 10 ∷ []) going.talks.heard
-        ∙ append_assoc (ended going.talks.lines) line (10 ∷ [])
-        ∙ sym (ended-append going.talks.lines line []);
-    are = All-append IsLine going.talks.lines (line ∷ []) going.talks.are (All-cons IsLine line [] going.is_line none_lines);
-    text = going.talks.text ++ text;
-    plays = plays-more empty_play play new going.talks.lines line going.talks.text text going.talks.plays plays;
-    writes = Appends-trans start held now going.talks.text text going.talks.writes writes;
-  };
-  is_line = (no_end-nil, omega arith);
-}
+  -- lines that were played, and what was written
+  record Played (old : Play) (a : A) (lines : List (List ℕ)) (new : Play) (b : A) : Type 0 where
+    pub text : List ℕ
+    pub plays : PlaysAll old lines text new
+    pub writes : Appends (contents a) (contents b) text
+    pub worked : failures b ≡ failures a
 
--- ---- more bytes behind where sim has stopped
+  played : (lines : List (List ℕ)) (old : Play) (a : A) (new : Play) (b : A) → Went Took old a lines new b → Played old a lines new b
+  played [] old a new b went = record {
+    text = [];
+    plays = (refl, went.0);
+    writes = subst (λ s. Appends (contents a) (contents s) []) (sym went.1) (Appends-nil (contents a));
+    worked = ap failures went.1;
+  }
+  played (line ∷ lines) old a new b (mid, more, took, later) =
+      let rest = played lines mid more new b later in
+      let first = took.plays in record {
+        text = first.0 ++ rest.text;
+        plays = (mid, first.0, rest.text, first.1, rest.plays, refl);
+        writes = Appends-trans (contents a) (contents more) (contents b) first.0 rest.text first.2 rest.writes;
+        worked = rest.worked ∙ took.failures;
+      }
 
-pub stopped-more : (start held : Option (List ℕ)) (bytes more : List ℕ) (s : Stop) → TalksBy bytes start held (Err (fault_of s)) → TalksBy (bytes ++ more) start held (Err (fault_of s))
-stopped-more start held bytes more stop.WriteFailed talks = tt
-stopped-more start held bytes more stop.Memory talks = tt
-stopped-more start held bytes more stop.LongLine stops = record {
-  front = stops.front;
-  behind = stops.behind ++ more;
-  no_end = stops.no_end;
-  long = stops.long;
-  play = stops.play;
-  talks = record {
-    lines = stops.talks.lines;
-    heard =
-        ap (λ bs. bs ++ more) stops.talks.heard
-        ∙ append_assoc (ended stops.talks.lines) (stops.front ++ stops.behind) more
-        ∙ ap (λ bs. ended stops.talks.lines ++ bs) (append_assoc stops.front stops.behind more);
-    are = stops.talks.are;
-    text = stops.talks.text;
-    plays = stops.talks.plays;
-    writes = stops.talks.writes;
-  };
-}
+  talks : {to : Hearing} {f h : Flow} {new : Play} {a b : A} {rest : List ℕ} {n m : ℕ} (more : List ℕ) →
+      (t : Through Took (opened sim_bounds) f empty_play a to h new b rest n m) → Talks ((ended t.lines ++ rest) ++ more) (rest ++ more) (contents a) (contents b) new
+  talks {new = new} {a = a} {b = b} {rest = rest} more t =
+      let p = played t.lines empty_play a new b t.went in record {
+        lines = t.lines;
+        heard = append_assoc (ended t.lines) rest more;
+        are = λ k line within. let is = t.are k line within in (is.clean, is.short);
+        text = p.text;
+        plays = p.plays;
+        writes = p.writes;
+      }
 
--- ---- the pieces of a chunk
+  worked : {to : Hearing} {f h : Flow} {new : Play} {a b : A} {rest : List ℕ} {n m : ℕ} → (t : Through Took (opened sim_bounds) f empty_play a to h new b rest n m) → failures b ≡ failures a
+  worked {new = new} {a = a} {b = b} t = (played t.lines empty_play a new b t.went).worked
 
-joined : (bytes done piece : List ℕ) → ((bytes ++ done) ++ piece) ++ 10 ∷ [] ≡ bytes ++ ((done ++ piece) ++ 10 ∷ [])
-joined bytes done piece =
-    append_assoc (bytes ++ done) piece (10 ∷ [])
-    ∙ append_assoc bytes done (piece ++ 10 ∷ [])
-    ∙ ap (λ xs. bytes ++ xs) (sym (append_assoc done piece (10 ∷ [])))
+  -- all that was read is lines and a rest
+  talks_all : {to : Hearing} {f h : Flow} {new : Play} {a b : A} {n m : ℕ} (t : Through Took (opened sim_bounds) f empty_play a to h new b to.line n m) → HasNoEnd to.line → IsIdle to →
+      TalksAll ((ended t.lines ++ to.line) ++ to.ahead) (contents a) (contents b)
+  talks_all {to} {new = new} {a = a} {b = b} t clean idle =
+      let top : to.longest ≡ 65600 = t.passes.longest in record {
+        rest = to.line;
+        is_rest = (clean, omega (arith, idle.short, top));
+        play = new;
+        talks = subst (λ rest. Talks ((ended t.lines ++ to.line) ++ to.ahead) rest (contents a) (contents b) new)
+            (ap (λ ahead. to.line ++ ahead) idle.none ∙ append-nil to.line) (talks to.ahead t);
+      }
 
-pub going-joined : {start : Option (List ℕ)} {partial : List ℕ} {play : Play} {held : Option (List ℕ)} (bytes done piece : List ℕ) →
-    Going start (((bytes ++ done) ++ piece) ++ 10 ∷ []) partial play held → Going start (bytes ++ ((done ++ piece) ++ 10 ∷ [])) partial play held
-going-joined {start} {partial} {play} {held} bytes done piece going = subst (λ all. Going start all partial play held) (joined bytes done piece) going
+  reads : {to : Hearing} {f h : Flow} {bytes : List ℕ} {n m : ℕ} → Passes (opened sim_bounds) f to h bytes n m → Consumes f.ahead h.ahead (bytes ++ to.ahead)
+  reads {to} {f} {h} {bytes} p = consumed f.ahead h.ahead to.ahead bytes p.heard
 
-pub stopped-chunk : (start held : Option (List ℕ)) (s : Stop) (bytes chunk done piece after : List ℕ) → ((done ++ piece) ++ 10 ∷ []) ++ after ≡ chunk →
-    TalksBy (((bytes ++ done) ++ piece) ++ 10 ∷ []) start held (Err (fault_of s)) → TalksBy (bytes ++ chunk) start held (Err (fault_of s))
-stopped-chunk start held s bytes chunk done piece after is talks =
-    let all : (((bytes ++ done) ++ piece) ++ 10 ∷ []) ++ after ≡ bytes ++ chunk =
-    ap (λ xs. xs ++ after) (joined bytes done piece)
-    ∙ append_assoc bytes ((done ++ piece) ++ 10 ∷ []) after
-    ∙ ap (λ xs. bytes ++ xs) is in
-    subst (λ bs. TalksBy bs start held (Err (fault_of s))) all (stopped-more start held _ after s talks)
+  -- ---- by how it was listened to
 
-pub goes-chunk : (start : Option (List ℕ)) (partial : List ℕ) (play : Play) (held : Option (List ℕ)) (result : Result ⊤ Stop) (bytes chunk done rest : List ℕ) →
-    done ++ rest ≡ chunk → Goes start ((bytes ++ done) ++ rest) partial play held result → Goes start (bytes ++ chunk) partial play held result
-goes-chunk start partial play held result bytes chunk done rest is goes =
-    subst (λ all. Goes start all partial play held result) (append_assoc bytes done rest ∙ ap (λ xs. bytes ++ xs) is) goes
+  -- lines that are listened to from the start
+  begun : (from to : Hearing) (f h : Flow) (first new : Play) (a b : A) (result : Result (Ended Untold) LineFault) → from ≡ opened sim_bounds → first ≡ empty_play →
+      Listens Took from f first a to h new b result → Listens Took (opened sim_bounds) f empty_play a to h new b result
+  begun from to f h first new a b result begins nobody l =
+      subst (λ p. Listens Took (opened sim_bounds) f p a to h new b result) nobody (subst (λ x. Listens Took x f first a to h new b result) begins l)
 
--- ---- one read after another
+  stop_writes : (why : Untold) → untold_writes (Err why) ≡ write_failures (Err (fault_of why))
+  stop_writes untold.WriteFailed = refl
+  stop_writes untold.Memory = refl
 
-pub reads-first : (ahead held : Option (List ℕ)) (play : Play) (partial : List ℕ) → play ≡ empty_play → partial ≡ [] → Reads ahead ahead held partial play held
-reads-first ahead held play partial nobody none = record {
-  bytes = [];
-  reads = Consumes-nil ahead;
-  going = subst (λ p. Going held [] p play held) (sym none) (subst (λ p. Going held [] [] p held) (sym nobody) (going-first held));
-}
+  stop_reads : (why : Untold) → read_failures (Err (fault_of why)) ≡ 0
+  stop_reads untold.WriteFailed = refl
+  stop_reads untold.Memory = refl
 
-pub reads-on : {ahead left start : Option (List ℕ)} {partial : List ℕ} {play : Play} {held : Option (List ℕ)} →
-    (next : Option (List ℕ)) (chunk more : List ℕ) (new : Play) (now : Option (List ℕ)) → (r : Reads ahead left start partial play held) →
-    Consumes left next chunk → Going start (r.bytes ++ chunk) more new now → Reads ahead next start more new now
-reads-on {ahead} {left} next chunk more new now r consumes going = record {
-  bytes = r.bytes ++ chunk;
-  reads = Consumes-trans ahead left next r.bytes chunk r.reads consumes;
-  going = going;
-}
+  no_turns : (why : Untold) (r : Result ⊤ SimFault) → r ≡ Err (fault_of why) → r ≢ Err fault.TooManyTurns
+  no_turns untold.WriteFailed r is same = cc
+  no_turns untold.Memory r is same = cc
 
--- all lines are answered
-pub talks-all : {ahead left start : Option (List ℕ)} {partial : List ℕ} {play : Play} {held : Option (List ℕ)} →
-    (r : Reads ahead left start partial play held) → TalksAll r.bytes start held
-talks-all {partial = partial} {play} r = record { rest = partial; is_rest = r.going.is_line; play = play; talks = r.going.talks }
+  stop_talks : (bytes : List ℕ) (start held : Option (List ℕ)) (why : Untold) → TalksBy bytes start held (Err (fault_of why))
+  stop_talks bytes start held untold.WriteFailed = tt
+  stop_talks bytes start held untold.Memory = tt
 
--- the input ended
-pub consumes-none : {ahead left start : Option (List ℕ)} {partial : List ℕ} {play : Play} {held : Option (List ℕ)} →
-    (next : Option (List ℕ)) (n : ℕ) (buffer : List ℕ) → (r : Reads ahead left start partial play held) → n ≡ 0 → Consumes left next (take n buffer) → Consumes ahead next r.bytes
-consumes-none {ahead} {left} next n buffer r none consumes =
-    let nothing : Consumes left next [] = subst (λ k. Consumes left next (take k buffer)) none consumes in
-    subst (Consumes ahead next) (append-nil r.bytes) (Consumes-trans ahead left next r.bytes [] r.reads nothing)
+  pub by_stop : (from to : Hearing) (f h : Flow) (first new : Play) (a b : A) (field : Ended Untold) (why : Untold) (told : SimFault) →
+      field ≡ ended_as.Stopped why → told ≡ fault_of why → from ≡ opened sim_bounds → first ≡ empty_play → Listens Took from f first a to h new b (Ok field) →
+      IsRun f h (contents a) (contents b) (failures a) (failures b) (Err told)
+  by_stop from to f h first new a b field why told is fault_is begins nobody l =
+      let s : StopsAt Took (opened sim_bounds) f empty_play a to h new b why =
+      subst (λ (e : Ended Untold). Listens Took (opened sim_bounds) f empty_play a to h new b (Ok e)) is (begun from to f h first new a b (Ok field) begins nobody l) in
+      let t = s.through in
+      let bytes = (ended t.lines ++ (to.line ++ 10 ∷ [])) ++ to.ahead in
+      let over : TalksOver f.ahead h.ahead (contents a) (contents b) (Err (fault_of why)) = record {
+        bytes = bytes;
+        reads = reads t.passes;
+        talks = stop_talks bytes (contents a) (contents b) why;
+      } in
+      subst (λ e. IsRun f h (contents a) (contents b) (failures a) (failures b) (Err e)) (sym fault_is)
+      (run {result = Err (fault_of why)} (failures a) (failures b) t.passes.reads to.left over t.passes.left t.passes.counted (λ same. absurd (no_turns why (Err (fault_of why)) refl same)) tt tt
+      (t.passes.failed ∙ ap (λ n. count_after n f.failures) (sym (stop_reads why)))
+      (s.last.failures ∙ ap (λ n. count_after n (failures s.more)) (stop_writes why) ∙ ap (count_after (write_failures (Err (fault_of why)))) (worked t)))
 
--- a read failed
-pub consumes-kept : {ahead left start : Option (List ℕ)} {partial : List ℕ} {play : Play} {held : Option (List ℕ)} →
-    (next : Option (List ℕ)) → (r : Reads ahead left start partial play held) → Keeps left next → Consumes ahead next r.bytes
-consumes-kept {ahead} {left} next r keeps = Consumes-kept ahead left next r.bytes r.reads keeps
+  pub by_end : (from to : Hearing) (f h : Flow) (first new : Play) (a b : A) (field : Ended Untold) →
+      field ≡ ended_as.End → from ≡ opened sim_bounds → first ≡ empty_play → Listens Took from f first a to h new b (Ok field) →
+      IsRun f h (contents a) (contents b) (failures a) (failures b) (Ok tt)
+  by_end from to f h first new a b field is begins nobody l =
+      let s : Ends Took (opened sim_bounds) f empty_play a to h new b (Ok ended_as.End) =
+      subst (λ (e : Ended Untold). Listens Took (opened sim_bounds) f empty_play a to h new b (Ok e)) is (begun from to f h first new a b (Ok field) begins nobody l) in
+      let t = s.through in
+      let over : TalksOver f.ahead h.ahead (contents a) (contents b) (Ok tt) = record {
+        bytes = (ended t.lines ++ to.line) ++ to.ahead;
+        reads = reads t.passes;
+        talks = talks_all t s.clean s.is.0;
+      } in
+      run {result = Ok tt} (failures a) (failures b) t.passes.reads to.left over t.passes.left t.passes.counted (λ same. absurd (cc)) s.is.1 t.passes.ended t.passes.failed (worked t)
+
+  pub by_long : (from to : Hearing) (f h : Flow) (first new : Play) (a b : A) (field : Ended Untold) →
+      field ≡ ended_as.Long → from ≡ opened sim_bounds → first ≡ empty_play → Listens Took from f first a to h new b (Ok field) →
+      IsRun f h (contents a) (contents b) (failures a) (failures b) (Err fault.LongLine)
+  by_long from to f h first new a b field is begins nobody l =
+      let s : Ends Took (opened sim_bounds) f empty_play a to h new b (Ok ended_as.Long) =
+      subst (λ (e : Ended Untold). Listens Took (opened sim_bounds) f empty_play a to h new b (Ok e)) is (begun from to f h first new a b (Ok field) begins nobody l) in
+      let t = s.through in
+      let top : to.longest ≡ 65600 = t.passes.longest in
+      let stops : StopsAtLong ((ended t.lines ++ to.line) ++ to.ahead) (contents a) (contents b) = record {
+        front = to.line;
+        behind = to.ahead;
+        no_end = s.clean;
+        long = omega (arith, s.is.0, top);
+        play = new;
+        talks = talks to.ahead t;
+      } in
+      let over : TalksOver f.ahead h.ahead (contents a) (contents b) (Err fault.LongLine) = record {
+        bytes = (ended t.lines ++ to.line) ++ to.ahead;
+        reads = reads t.passes;
+        talks = stops;
+      } in
+      run {result = Err fault.LongLine} (failures a) (failures b) t.passes.reads to.left over t.passes.left t.passes.counted (λ same. absurd (cc)) tt tt t.passes.failed (worked t)
+
+  pub by_read_failed : (from to : Hearing) (f h : Flow) (first new : Play) (a b : A) (field : LineFault) →
+      field ≡ lines.ReadFailed → from ≡ opened sim_bounds → first ≡ empty_play → Listens Took from f first a to h new b (Err field) →
+      IsRun f h (contents a) (contents b) (failures a) (failures b) (Err fault.ReadFailed)
+  by_read_failed from to f h first new a b field is begins nobody l =
+      let s : Ends Took (opened sim_bounds) f empty_play a to h new b (Err lines.ReadFailed) =
+      subst (λ (e : LineFault). Listens Took (opened sim_bounds) f empty_play a to h new b (Err e)) is (begun from to f h first new a b (Err field) begins nobody l) in
+      let t = s.through in
+      let over : TalksOver f.ahead h.ahead (contents a) (contents b) (Err fault.ReadFailed) = record {
+        bytes = (ended t.lines ++ to.line) ++ to.ahead;
+        reads = reads t.passes;
+        talks = talks_all t s.clean s.is;
+      } in
+      run {result = Err fault.ReadFailed} (failures a) (failures b) t.passes.reads to.left over t.passes.left t.passes.counted (λ same. absurd (cc)) tt tt t.passes.failed (worked t)
+
+  pub by_turns : (from to : Hearing) (f h : Flow) (first new : Play) (a b : A) (field : LineFault) →
+      field ≡ lines.TooManyReads → from ≡ opened sim_bounds → first ≡ empty_play → Listens Took from f first a to h new b (Err field) →
+      IsRun f h (contents a) (contents b) (failures a) (failures b) (Err fault.TooManyTurns)
+  by_turns from to f h first new a b field is begins nobody l =
+      let s : Ends Took (opened sim_bounds) f empty_play a to h new b (Err lines.TooManyReads) =
+      subst (λ (e : LineFault). Listens Took (opened sim_bounds) f empty_play a to h new b (Err e)) is (begun from to f h first new a b (Err field) begins nobody l) in
+      let t = s.through in
+      let over : TalksOver f.ahead h.ahead (contents a) (contents b) (Err fault.TooManyTurns) = record {
+        bytes = (ended t.lines ++ to.line) ++ to.ahead;
+        reads = reads t.passes;
+        talks = talks_all t s.clean s.is.0;
+      } in
+      run {result = Err fault.TooManyTurns} (failures a) (failures b) t.passes.reads to.left over t.passes.left t.passes.counted (λ same. s.is.1) tt tt t.passes.failed (worked t)

@@ -1,33 +1,23 @@
--- Sim in the middle: within a line, and between two reads.
-use Rattle.std.specs.Prelude.{ℕ, zero, suc, List, [], ◌∷◌, ◌++◌, Option, Some, Result, Ok, Err, ⊤}
-use Rattle.std.specs.Io.KnownBytes.{Appends, Consumes}
+-- Sim in the middle of a line, and a whole run of it.
+use Rattle.std.specs.Prelude.{◌≡◌, ◌≢◌, ◌≤◌, ℕ, zero, suc, List, [], ◌∷◌, ◌++◌, Option, Some, Result, Ok, Err, OnOk, ⊤}
+use Rattle.std.specs.Io.KnownBytes.{Appends, IsAtEnd}
+use Rattle.ot_lines.specs.Counts.{Flow, next_count, count_after}
+use Rattle.ot_lines.specs.declared.lines.Bounds.{Bounds}
 use Rattle.ot_core.specs.Scenes.{Scene}
 use Rattle.ot_sim.specs.declared.play.Play.{Play}
 use Rattle.ot_sim.specs.declared.fault.SimFault.{SimFault}
 use Rattle.ot_sim.specs.declared.fault.SimFault.TheVariants as fault
-use Rattle.ot_sim.specs.declared.fault.Stop.{Stop}
-use Rattle.ot_sim.specs.declared.fault.Stop.TheVariants as stop
 use Rattle.ot_sim.specs.declared.fault.Untold.{Untold}
 use Rattle.ot_sim.specs.declared.fault.Untold.TheVariants as untold
-use Rattle.ot_sim.specs.Playing.{count_at, world_of}
-use Rattle.ot_sim.specs.Talk.{IsLine, Talks, TalksBy}
+use Rattle.ot_sim.specs.Playing.{PlaysLine, count_at, world_of}
+use Rattle.ot_sim.specs.Talk.{TalksOver}
 
--- what sim answers that stops so
-abbrev pub fault_of : Stop → SimFault
-fault_of stop.WriteFailed = fault.WriteFailed
-fault_of stop.Memory = fault.Memory
-fault_of stop.LongLine = fault.LongLine
-
--- why sim stops where a line isn't answered whole
-abbrev pub stop_of : Untold → Stop
-stop_of untold.WriteFailed = stop.WriteFailed
-stop_of untold.Memory = stop.Memory
+-- what sim answers that stops at a line
+abbrev pub fault_of : Untold → SimFault
+fault_of untold.WriteFailed = fault.WriteFailed
+fault_of untold.Memory = fault.Memory
 
 -- how many writes failed
-abbrev pub failed_writes : Result ⊤ Stop → ℕ
-failed_writes (Err stop.WriteFailed) = 1
-failed_writes result = 0
-
 abbrev pub untold_writes : Result ⊤ Untold → ℕ
 untold_writes (Err untold.WriteFailed) = 1
 untold_writes result = 0
@@ -45,18 +35,25 @@ abbrev pub counts_at : Scene → ℕ → List ℕ
 counts_at s zero = []
 counts_at s (suc t) = counts_at s t ++ count_at s t ∷ []
 
--- all lines that were heard are answered, and the next one has begun
-pub record Going (start : Option (List ℕ)) (bytes partial : List ℕ) (play : Play) (held : Option (List ℕ)) : Type 0 where
-  pub talks : Talks bytes partial start held play
-  pub is_line : IsLine partial
+-- ---- a whole run
 
--- sim goes on, or it has stopped in these bytes
-abbrev pub Goes : Option (List ℕ) → List ℕ → List ℕ → Play → Option (List ℕ) → Result ⊤ Stop → Type 0
-Goes start bytes partial play held (Ok done) = Going start bytes partial play held
-Goes start bytes partial play held (Err stop) = TalksBy bytes start held (Err (fault_of stop))
+-- lines of at most 65,600 bytes, 65,536 bytes a read, and 1,000,000 reads
+abbrev pub sim_bounds : Bounds
+sim_bounds = record { line = 65600; read = 65536; reads = 1000000 }
 
--- the bytes that were read, and sim that goes on over them
-pub record Reads (ahead left start : Option (List ℕ)) (partial : List ℕ) (play : Play) (held : Option (List ℕ)) : Type 0 where
-  pub bytes : List ℕ
-  pub reads : Consumes ahead left bytes
-  pub going : Going start bytes partial play held
+-- a line without its LF, by what it came to
+pub record TakesLine (old : Play) (held : Option (List ℕ)) (before : ℕ) (line : List ℕ) (new : Play) (now : Option (List ℕ)) (later : ℕ) (result : Result ⊤ Untold) : Type 0 where
+  pub plays : OnOk result (Writes held now (λ text. PlaysLine old line text new))
+  pub failures : later ≡ count_after (untold_writes result) before
+
+-- A run over what a source tells before it and after it, and the failures of its sink.
+pub record IsRun (before after : Flow) (start held : Option (List ℕ)) (failures later : ℕ) (result : Result ⊤ SimFault) : Type 0 where
+  pub talks : TalksOver before.ahead after.ahead start held result
+  pub reads : (k : ℕ) × (k ≤ 1000000) × (after.reads ≡ count_after k before.reads)
+  pub turns : result ≡ Err fault.TooManyTurns → after.reads ≡ count_after 1000000 before.reads
+  pub at_end : OnOk result (IsAtEnd after.ahead)
+  pub end_told : OnOk result (after.ends ≡ next_count before.ends)
+  pub read_failed : result ≡ Err fault.ReadFailed → after.failures ≡ next_count before.failures
+  pub read_worked : result ≢ Err fault.ReadFailed → after.failures ≡ before.failures
+  pub write_failed : result ≡ Err fault.WriteFailed → later ≡ next_count failures
+  pub write_worked : result ≢ Err fault.WriteFailed → later ≡ failures

@@ -1,7 +1,8 @@
 -- A whole run of sim: what it hears, and what it writes.
 use Rattle.std.specs.Prelude.{◌≡◌, ◌<◌, ◌≤◌, ℕ, List, [], ◌∷◌, ◌++◌, length, All, Option, Result, Ok, Err, ⊤}
 use Rattle.std.specs.Io.KnownBytes.{Appends, Consumes}
-use Rattle.ot_front.specs.Heard.{HasNoEnd}
+use Rattle.ot_lines.specs.Lines.{HasNoEnd}
+use Rattle.ot_lines.specs.Listening.{ended}
 use Rattle.ot_sim.specs.declared.play.Play.{Play}
 use Rattle.ot_sim.specs.declared.fault.SimFault.{SimFault}
 use Rattle.ot_sim.specs.declared.fault.SimFault.TheVariants.{ReadFailed, WriteFailed, Memory, LongLine, TooManyTurns}
@@ -10,11 +11,6 @@ use Rattle.ot_sim.specs.Playing.{PlaysLine, empty_play}
 -- bytes of a line, without its LF
 abbrev pub max_line : ℕ
 max_line = 65600
-
--- lines, each ended by one LF
-abbrev pub ended : List (List ℕ) → List ℕ
-ended [] = []
-ended (line ∷ lines) = line ++ 10 ∷ ended lines
 
 -- a line, or the beginning of one
 abbrev pub IsLine : List ℕ → Type 0

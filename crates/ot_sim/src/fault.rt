@@ -1,6 +1,6 @@
 //! How sim goes wrong.
 ghost use Rattle.std.specs.Prelude.{◌≡◌};
-ghost use Rattle.ot_sim.specs.Running.{fault_of, stop_of};
+ghost use Rattle.ot_sim.specs.Running.{fault_of};
 
 use std::alloc::{AllocError, AllocFailed};
 
@@ -16,27 +16,7 @@ pub enum SimFault {
     TooManyTurns,
 }
 
-/// Why no further line is taken.
-#[derive(Clone, Copy, Debug)]
-pub(crate) enum Stop {
-    WriteFailed,
-    Memory,
-    LongLine,
-}
-
-impl Stop {
-    pub(crate) fn fault(self) -> SimFault
-        ensures { result ≡ fault_of self }
-    {
-        match self {
-            Stop::WriteFailed => SimFault::WriteFailed,
-            Stop::Memory => SimFault::Memory,
-            Stop::LongLine => SimFault::LongLine,
-        }
-    }
-}
-
-/// Why a line isn't answered whole.
+/// Why a line isn't answered whole, and no further line is taken.
 #[derive(Clone, Copy, Debug)]
 pub(crate) enum Untold {
     WriteFailed,
@@ -44,12 +24,12 @@ pub(crate) enum Untold {
 }
 
 impl Untold {
-    pub(crate) fn stop(self) -> Stop
-        ensures { result ≡ stop_of self }
+    pub(crate) fn fault(self) -> SimFault
+        ensures { result ≡ fault_of self }
     {
         match self {
-            Untold::WriteFailed => Stop::WriteFailed,
-            Untold::Memory => Stop::Memory,
+            Untold::WriteFailed => SimFault::WriteFailed,
+            Untold::Memory => SimFault::Memory,
         }
     }
 }

@@ -1,6 +1,6 @@
 use Rattle.ot_front.specs.Greetings.{greeting_of}
 use Rattle.ot_front.proofs.GreetingLemmas.{answers_given}
-use Rattle.ot_front.proofs.RackLemmas.{hands_welcomed, hands_refused}
+use Rattle.ot_front.proofs.RackLemmas.{hands_welcomed}
 use Rattle.ot_front.proofs.greeting.answer_line.Goals as goal
 
 pub returns-in-Ok-clause-answers : goal.returns-in-Ok-clause-answers
