@@ -1,29 +1,33 @@
 -- What an explained session is after a piece, a line or a read more.
-use Rattle.std.proofs.Common.{◌≡◌, ℕ, ◌+◌, ◌-◌, ◌≤◌, ◌<◌, List, [], ◌∷◌, ◌++◌, length, take, slice_index, refl, sym, ap, ◌∙◌, subst, arith, append_assoc, append-nil, length-append, take_all, inl, inr, Bool}
-use Rattle.std.specs.Prelude.{◌⊎◌, Option, Some, None, Result, Ok, Err, IfOk, IfErr}
-use Rattle.std.specs.Io.KnownBytes.{Appends, Consumes, IsAtEnd}
-use Rattle.std.proofs.KnownBytes.{Appends-trans, Appends-nil, Consumes-trans}
+use Rattle.std.proofs.Common.{◌≡◌, ℕ, ◌+◌, ◌-◌, ◌<◌, List, [], ◌∷◌, ◌++◌, length, take, slice_index, refl, sym, ap, ◌∙◌, subst, arith, append_assoc, append-nil, length-append, inl, inr, Bool}
+use Rattle.std.specs.Prelude.{◌⊎◌, Option, Some, None, Result, Ok, Err, IfOk, IfErr, is_some}
+use Rattle.std.specs.Io.KnownBytes.{Appends, Consumes}
+use Rattle.std.proofs.KnownBytes.{Appends-trans, Appends-nil}
 use Rattle.std.proofs.lemmas.List.{get_or_append_left, get_or-append-add}
 use Rattle.std.proofs.lemmas.Bool.Decides.{leb_tells}
-use Rattle.ot_book.specs.Books.{Register, next_number}
+use Rattle.ot_book.specs.Books.{Register}
 use Rattle.ot_front.specs.Device.{AppendsFront}
-use Rattle.ot_front.specs.Heard.{HasNoEnd, max_line}
+use Rattle.ot_book.specs.Room.{room_in}
+use Rattle.ot_front.specs.Heard.{Heard, HasNoEnd, max_line}
 use Rattle.ot_front.specs.Told.{Lines, marked, after, told}
-use Rattle.ot_front.specs.Session.{closing, heard_in, session_text, logged_lines, TellsAll, BreaksOff, Tells, Session, Serves}
+use Rattle.ot_front.specs.Session.{closing, heard_in, session_text, logged_lines, TellsAll, BreaksOff, Tells, Session}
 use Rattle.ot_front.specs.Serving.{Going, Serving}
 use Rattle.ot_front.specs.declared.fault.End.{End}
 use Rattle.ot_front.specs.declared.fault.End.TheVariants as end
 use Rattle.ot_front.specs.declared.fault.FrontFault.{FrontFault}
 use Rattle.ot_front.specs.declared.fault.FrontFault.TheVariants as fault
-use Rattle.ot_front.proofs.ToldLemmas.{length-marked, told-take}
 use Rattle.ot_front.proofs.SessionLemmas.{going_piece, stops_long, stops_in_long}
 use Rattle.ot_front.proofs.ServingLemmas.{IsIdle, serves_nothing, serves_idle}
-use Rattle.ot_front.proofs.StopLemmas.{Stops, session_longer, serves_stopped}
-use Rattle.ot_explain.specs.Remarks.{without_remarks, IsRemarks, IsWhole}
-use Rattle.ot_explain.specs.Explaining.{Explains, Explaining, IsStop, Stopped, GoesOn, Served, stop_of}
-use Rattle.ot_explain.proofs.LineLemmas.{whole-nil, whole-append, IsPlain, plain-all, plain-append, plain-front, hidden-all, remarks-whole, remarks-hidden}
+use Rattle.ot_front.proofs.StopLemmas.{Stops, session_longer}
+use Rattle.ot_explain.specs.Remarks.{without_remarks, IsWhole, last_code, AreOn}
+use Rattle.ot_explain.specs.Explaining.{Explains, Explaining, IsStop, Stopped, Served, said_at, Noted, Closing, Remarks}
+use Rattle.ot_explain.specs.declared.explaining.Explained.{Explained}
+use Rattle.ot_explain.specs.declared.explaining.Explained.TheVariants.{AllTaken}
+use Rattle.ot_explain.proofs.LineLemmas.{whole-nil, whole-append, IsPlain, plain-all, plain-append, plain-front, hidden-all}
 use Rattle.ot_explain.proofs.ReplyLemmas.{whole-told, plain-told, plain-closing}
-use Rattle.ot_explain.proofs.JoinLemmas.{session_joined, going_joined, breaks_joined}
+use Rattle.ot_explain.proofs.JoinLemmas.{session_joined, going_joined, breaks_joined, heard_behind}
+use Rattle.ot_explain.proofs.RemarkLemmas.{on-whole, on-hidden, said_on}
+use Rattle.ot_explain.proofs.NotedLemmas.{IsOneLine, one_line, quiet_all, quiet_run, replied_of, noted_first, noted_more, closing_noted, closing_longer, remarks_of_closing}
 
 -- ---- bytes without an LF
 
@@ -76,7 +80,7 @@ all_whole book bytes lost written t =
 
 -- ---- a line
 
-stops_of : (result : Result End FrontFault) → IsStop result → Stops result
+pub stops_of : (result : Result End FrontFault) → IsStop result → Stops result
 stops_of (Ok end.Bye) h = tt
 stops_of (Ok end.EndOfInput) h = h
 stops_of (Ok end.Full) h = tt
@@ -92,42 +96,59 @@ stops_of (Err fault.SocketFailed) h = h
 stays : (text written : List ℕ) → IsWhole text → without_remarks written ≡ written → without_remarks (text ++ written) ≡ without_remarks text ++ written
 stays text written whole plain = whole written ∙ ap (λ w. without_remarks text ++ w) plain
 
+closes_longer : (first new : Register) (bytes more text : List ℕ) (said : Explained) (result : Result End FrontFault) →
+    IfOk result (λ e. Closing first new bytes text e said) → IfOk result (λ e. Closing first new (bytes ++ more) text e said)
+closes_longer first new bytes more text said (Ok e) h = closing_longer more h
+closes_longer first new bytes more text said (Err why) h = tt
+
 -- more bytes behind those in which it stopped
-pub stopped_more : {first new : Register} {start : Option (List ℕ)} {bytes : List ℕ} {held : Option (List ℕ)} {result : Result End FrontFault} →
-    (more : List ℕ) → Stopped first new start bytes held result → Stopped first new start (bytes ++ more) held result
-stopped_more {first} {new} {start} {bytes} {held} {result} more s = record {
+pub stopped_more : {first new : Register} {start : Option (List ℕ)} {bytes : List ℕ} {held : Option (List ℕ)} {said : Explained} {result : Result End FrontFault} →
+    (more : List ℕ) → Stopped first new start bytes held said result → Stopped first new start (bytes ++ more) held said result
+stopped_more {first} {new} {start} {bytes} {held} {said} {result} more s = record {
   stops = s.stops;
   text = s.text;
   writes = s.writes;
   session = session_longer first (Some []) bytes more new (Some (without_remarks s.text)) result (stops_of result s.stops) s.session;
+  closes = closes_longer first new bytes more s.text said result s.closes;
 }
-
-pub stopped_at : {first new : Register} {start : Option (List ℕ)} {bytes same : List ℕ} {held : Option (List ℕ)} {result : Result End FrontFault} →
-    bytes ≡ same → Stopped first new start bytes held result → Stopped first new start same held result
-stopped_at {first} {new} {start} {held = held} {result = result} is s = subst (λ bs. Stopped first new start bs held result) is s
 
 -- the bytes by the line that has begun
-bytes_on : {first : Register} {start : Option (List ℕ)} {bytes partial : List ℕ} {book : Register} {held : Option (List ℕ)} →
-    (e : Explaining first start bytes partial book held) (more : List ℕ) → e.begun ++ (partial ++ more) ≡ bytes ++ more
+bytes_on : {first : Register} {start : Option (List ℕ)} {bytes partial : List ℕ} {book : Register} {held : Option (List ℕ)} {said : Explained} →
+    (e : Explaining first start bytes partial book held said) (more : List ℕ) → e.begun ++ (partial ++ more) ≡ bytes ++ more
 bytes_on {partial = partial} e more = sym (append_assoc e.begun partial more) ∙ ap (λ bs. bs ++ more) (sym e.is)
 
--- there was no memory for more
-pub stops_memory : {first : Register} {start : Option (List ℕ)} {bytes partial : List ℕ} {book : Register} {held : Option (List ℕ)} →
-    (more : List ℕ) → Explaining first start bytes partial book held → Stopped first book start (bytes ++ more) held (Err fault.Memory)
-stops_memory {first} {start} {bytes} {partial} {book} {held} more e = record {
-  stops = tt;
-  text = e.text;
-  writes = e.writes;
-  session = subst (λ bs. Session first book bs (Some []) (Some (without_remarks e.text)) (Err fault.Memory)) (bytes_on e more)
-      (session_longer first (Some []) e.begun (partial ++ more) book (Some (without_remarks e.text)) (Err fault.Memory) tt (breaks_joined e.going).0);
-}
+-- what is heard in the line that ends here
+one_line_of : {first : Register} {start : Option (List ℕ)} {bytes partial : List ℕ} {book : Register} {held : Option (List ℕ)} {said : Explained} →
+    Explaining first start bytes partial book held said → (piece : List ℕ) → HasNoEnd piece → IsOneLine (heard_in book (partial ++ (piece ++ 10 ∷ [])))
+one_line_of {partial = partial} {book = book} e piece clean =
+    subst (λ line. IsOneLine (heard_in book line)) (append_assoc partial piece (10 ∷ [])) (one_line (room_in book) (partial ++ piece) (no_end-append partial piece e.clean clean))
+
+-- how it closes where the session over a line stopped
+closes_served : (first book new : Register) (begun line text : List ℕ) (said : Explained) (start held : Option (List ℕ)) (result : Result End FrontFault) → IsStop result →
+    IsOneLine (heard_in book line) → Noted first book begun text said → (s : Session book new line start held result) →
+    IfOk result (λ e. Closing first new (begun ++ line) (text ++ s.written) e said)
+closes_served first book new begun line text said start held (Ok end.EndOfInput) stops one n s = absurd stops
+closes_served first book new begun line text said start held (Ok end.Bye) stops one n s =
+    let quiet = quiet_all book line s.lost s.written end.Bye one s.tells in
+    closing_noted line s.written new end.Bye n (s.logs ∙ ap (after book) quiet.1) quiet.0
+closes_served first book new begun line text said start held (Ok end.Full) stops one n s =
+    let quiet = quiet_all book line s.lost s.written end.Full one s.tells in
+    closing_noted line s.written new end.Full n (s.logs ∙ ap (after book) quiet.1) quiet.0
+closes_served first book new begun line text said start held (Ok end.LongLine) stops one n s =
+    let quiet = quiet_all book line s.lost s.written end.LongLine one s.tells in
+    closing_noted line s.written new end.LongLine n (s.logs ∙ ap (after book) quiet.1) quiet.0
+closes_served first book new begun line text said start held (Ok end.Closed) stops one n s =
+    let quiet = quiet_run book line s.lost s.written one s.tells in
+    closing_noted line s.written new end.Closed n (s.logs ∙ ap (after book) quiet.1) quiet.0
+closes_served first book new begun line text said start held (Err why) stops one n s = tt
 
 -- the session over the line stopped
-pub stops_served : {first : Register} {start : Option (List ℕ)} {bytes partial : List ℕ} {book : Register} {held : Option (List ℕ)} →
-    (more : List ℕ) (new : Register) (now : Option (List ℕ)) (result : Result End FrontFault) → Explaining first start bytes partial book held →
-    Served book new (partial ++ more) held now (Some result) → Stopped first new start (bytes ++ more) now result
-stops_served {first} {start} {bytes} {partial} {book} {held} more new now result e served =
-    let s = served.1 in record {
+pub stops_served : {first : Register} {start : Option (List ℕ)} {bytes partial : List ℕ} {book : Register} {held : Option (List ℕ)} {said : Explained} →
+    (piece : List ℕ) (new : Register) (now : Option (List ℕ)) (result : Result End FrontFault) → Explaining first start bytes partial book held said → HasNoEnd piece →
+    Served book new (partial ++ (piece ++ 10 ∷ [])) held now (Some result) → Stopped first new start (bytes ++ (piece ++ 10 ∷ [])) now said result
+stops_served {first} {start} {bytes} {partial} {book} {held} {said} piece new now result e clean served =
+    let s = served.1 in
+    let more = piece ++ 10 ∷ [] in record {
       stops = served.0;
       text = e.text ++ s.written;
       writes = Appends-trans start held now e.text s.written e.writes s.writes;
@@ -135,19 +156,28 @@ stops_served {first} {start} {bytes} {partial} {book} {held} more new now result
           (subst (λ p. Session first new (e.begun ++ (partial ++ more)) (Some []) (Some p) result)
           (sym (stays e.text s.written e.whole (written_plain book (partial ++ more) s.lost s.written result s.tells)))
           (session_joined (partial ++ more) new held now result e.going s));
+      closes = subst (λ bs. IfOk result (λ x. Closing first new bs (e.text ++ s.written) x said)) (bytes_on e more)
+          (closes_served first book new e.begun (partial ++ more) e.text said held now result served.0 (one_line_of e piece clean) e.noted s);
     }
 
 -- a line that was served, before its remarks
-record Answered (first : Register) (start : Option (List ℕ)) (bytes : List ℕ) (new : Register) (now : Option (List ℕ)) : Type 0 where
+record Answered (first : Register) (start : Option (List ℕ)) (bytes : List ℕ) (new : Register) (now : Option (List ℕ)) (said : Explained) : Type 0 where
   pub text : List ℕ
   pub writes : Appends start now text
   pub whole : IsWhole text
   pub going : Going first (Some []) bytes [] new (Some (without_remarks text))
+  pub noted : (remarks : List ℕ) (later : Explained) → AreOn (last_code new) remarks → later ≡ said_on said (is_some (last_code new)) → Noted first new bytes (text ++ remarks) later
 
-answered : {first : Register} {start : Option (List ℕ)} {bytes partial : List ℕ} {book : Register} {held : Option (List ℕ)} →
-    (piece : List ℕ) (new : Register) (now : Option (List ℕ)) → Explaining first start bytes partial book held →
-    Served book new (partial ++ (piece ++ 10 ∷ [])) held now None → Answered first start (bytes ++ (piece ++ 10 ∷ [])) new now
-answered {first} {start} {bytes} {partial} {book} {held} piece new now e served =
+-- the lines heard in a line more
+joined_lines : {first : Register} {start : Option (List ℕ)} {bytes partial : List ℕ} {book : Register} {held : Option (List ℕ)} {said : Explained} →
+    (e : Explaining first start bytes partial book held said) (more : List ℕ) → (heard_in first (e.begun ++ more)).lines ≡ (heard_in first e.begun).lines ++ (heard_in book more).lines
+joined_lines {book = book} e more =
+    ap (λ (h : Heard). h.lines) (heard_behind e.going more) ∙ ap (λ (h : Heard). h.lines ++ (heard_in book more).lines) (sym e.going.hears)
+
+answered : {first : Register} {start : Option (List ℕ)} {bytes partial : List ℕ} {book : Register} {held : Option (List ℕ)} {said : Explained} →
+    (piece : List ℕ) (new : Register) (now : Option (List ℕ)) → Explaining first start bytes partial book held said → HasNoEnd piece →
+    Served book new (partial ++ (piece ++ 10 ∷ [])) held now None → Answered first start (bytes ++ (piece ++ 10 ∷ [])) new now said
+answered {first} {start} {bytes} {partial} {book} {held} piece new now e clean served =
     let line : partial ++ (piece ++ 10 ∷ []) ≡ (partial ++ piece) ++ 10 ∷ [] = sym (append_assoc partial piece (10 ∷ [])) in
     let s : Session book new ((partial ++ piece) ++ 10 ∷ []) held now (Ok end.EndOfInput) = subst (λ l. Session book new l held now (Ok end.EndOfInput)) line served in
     let g = going_joined (partial ++ piece) new held now e.going s in
@@ -158,90 +188,86 @@ answered {first} {start} {bytes} {partial} {book} {held} piece new now e served 
       going = subst (λ bs. Going first (Some []) bs [] new (Some (without_remarks (e.text ++ s.written))))
           (ap (λ l. e.begun ++ l) (sym line) ∙ bytes_on e (piece ++ 10 ∷ []))
           (subst (λ p. Going first (Some []) (e.begun ++ ((partial ++ piece) ++ 10 ∷ [])) [] new (Some p)) (sym (stays e.text s.written e.whole plain)) g);
+      noted = λ remarks later are is.
+          let more = (partial ++ piece) ++ 10 ∷ [] in
+          let one = one_line (room_in book) (partial ++ piece) (no_end-append partial piece e.clean clean) in
+          subst (λ bs. Noted first new bs ((e.text ++ s.written) ++ remarks) later) (ap (λ l. e.begun ++ l) (sym line) ∙ bytes_on e (piece ++ 10 ∷ []))
+          (subst (λ t. Noted first new (e.begun ++ more) t later) (sym (append_assoc e.text s.written remarks))
+          (noted_more more s.written remarks new later (joined_lines e more) e.noted (replied_of book new more s.lost s.written one s.logs s.tells) are is));
     }
 
 -- the line was served and explained
-pub explaining_on : {first : Register} {start : Option (List ℕ)} {bytes partial : List ℕ} {book : Register} {held : Option (List ℕ)} →
-    (piece : List ℕ) (new : Register) (mid now : Option (List ℕ)) → Explaining first start bytes partial book held →
-    Served book new (partial ++ (piece ++ 10 ∷ [])) held mid None → (text : List ℕ) × IsRemarks text × Appends mid now text →
-    Explaining first start (bytes ++ (piece ++ 10 ∷ [])) [] new now
-explaining_on {first} {start} {bytes} {partial} {book} {held} piece new mid now e served remarks =
-    let a = answered piece new mid e served in
-    let hidden = hidden-all remarks.0 (remarks-hidden remarks.0 remarks.1) in
+pub explaining_on : {first : Register} {start : Option (List ℕ)} {bytes partial : List ℕ} {book : Register} {held : Option (List ℕ)} {said : Explained} →
+    (piece : List ℕ) (new : Register) (mid now : Option (List ℕ)) (later : Explained) → Explaining first start bytes partial book held said → HasNoEnd piece →
+    Served book new (partial ++ (piece ++ 10 ∷ [])) held mid None → (text : List ℕ) × AreOn (last_code new) text × Appends mid now text →
+    later ≡ said_on said (is_some (last_code new)) → Explaining first start (bytes ++ (piece ++ 10 ∷ [])) [] new now later
+explaining_on {first} {start} {bytes} {partial} {book} {held} piece new mid now later e clean served remarks is =
+    let a = answered piece new mid e clean served in
+    let hidden = hidden-all remarks.0 (on-hidden (last_code new) remarks.0 remarks.1) in
     let same : without_remarks (a.text ++ remarks.0) ≡ without_remarks a.text =
     a.whole remarks.0 ∙ ap (λ t. without_remarks a.text ++ t) hidden ∙ append-nil (without_remarks a.text) in record {
       text = a.text ++ remarks.0;
       writes = Appends-trans start mid now a.text remarks.0 a.writes remarks.2;
-      whole = whole-append a.text remarks.0 a.whole (remarks-whole remarks.0 remarks.1);
+      whole = whole-append a.text remarks.0 a.whole (on-whole (last_code new) remarks.0 remarks.1);
       begun = bytes ++ (piece ++ 10 ∷ []);
       is = sym (append-nil (bytes ++ (piece ++ 10 ∷ [])));
       clean = no_end-nil;
       short = omega arith;
       going = subst (λ p. Going first (Some []) (bytes ++ (piece ++ 10 ∷ [])) [] new (Some p)) (sym same) a.going;
+      noted = a.noted remarks.0 later remarks.1 is;
     }
 
 -- the remarks broke off
-pub stops_in_remarks : {first : Register} {start : Option (List ℕ)} {bytes partial : List ℕ} {book : Register} {held : Option (List ℕ)} →
-    (piece : List ℕ) (new : Register) (mid now : Option (List ℕ)) (why : FrontFault) → Explaining first start bytes partial book held →
+pub stops_in_remarks : {first : Register} {start : Option (List ℕ)} {bytes partial : List ℕ} {book : Register} {held : Option (List ℕ)} {said : Explained} →
+    (piece : List ℕ) (new : Register) (mid now : Option (List ℕ)) (why : FrontFault) → Explaining first start bytes partial book held said → HasNoEnd piece →
     Served book new (partial ++ (piece ++ 10 ∷ [])) held mid None → (text : List ℕ) × (without_remarks text ≡ []) × Appends mid now text →
-    (why ≡ fault.Memory) ⊎ (why ≡ fault.WriteFailed) → Stopped first new start (bytes ++ (piece ++ 10 ∷ [])) now (Err why)
-stops_in_remarks {first} {start} {bytes} {partial} {book} {held} piece new mid now why e served remarks cause =
-    let a = answered piece new mid e served in
+    (why ≡ fault.Memory) ⊎ (why ≡ fault.WriteFailed) → Stopped first new start (bytes ++ (piece ++ 10 ∷ [])) now said (Err why)
+stops_in_remarks {first} {start} {bytes} {partial} {book} {held} {said} piece new mid now why e clean served remarks cause =
+    let a = answered piece new mid e clean served in
     let same : without_remarks (a.text ++ remarks.0) ≡ without_remarks a.text =
     a.whole remarks.0 ∙ ap (λ t. without_remarks a.text ++ t) remarks.1 ∙ append-nil (without_remarks a.text) in
     let off = breaks_joined a.going in
     let writes = Appends-trans start mid now a.text remarks.0 a.writes remarks.2 in
     elim cause [
-      | inl memory ↦ subst (λ f. Stopped first new start (bytes ++ (piece ++ 10 ∷ [])) now (Err f)) (sym memory) (record {
+      | inl memory ↦ subst (λ f. Stopped first new start (bytes ++ (piece ++ 10 ∷ [])) now said (Err f)) (sym memory) (record {
         stops = tt;
         text = a.text ++ remarks.0;
         writes = writes;
         session = subst (λ p. Session first new (bytes ++ (piece ++ 10 ∷ [])) (Some []) (Some p) (Err fault.Memory)) (sym same) off.0;
+        closes = tt;
       })
-      | inr failed ↦ subst (λ f. Stopped first new start (bytes ++ (piece ++ 10 ∷ [])) now (Err f)) (sym failed) (record {
+      | inr failed ↦ subst (λ f. Stopped first new start (bytes ++ (piece ++ 10 ∷ [])) now said (Err f)) (sym failed) (record {
         stops = tt;
         text = a.text ++ remarks.0;
         writes = writes;
         session = subst (λ p. Session first new (bytes ++ (piece ++ 10 ∷ [])) (Some []) (Some p) (Err fault.WriteFailed)) (sym same) off.1;
+        closes = tt;
       })
     ]
 
 -- ---- a piece of a line
 
-pub explaining_piece : {first : Register} {start : Option (List ℕ)} {bytes partial : List ℕ} {book : Register} {held : Option (List ℕ)} →
-    (piece : List ℕ) → Explaining first start bytes partial book held → HasNoEnd piece → length partial + length piece ≤ max_line →
-    Explaining first start (bytes ++ piece) (partial ++ piece) book held
-explaining_piece {partial = partial} piece e clean fits = record {
-  text = e.text;
-  writes = e.writes;
-  whole = e.whole;
-  begun = e.begun;
-  is = sym (bytes_on e piece);
-  clean = no_end-append partial piece e.clean clean;
-  short = omega (arith, fits, length-append partial piece);
-  going = e.going;
-}
-
 -- the text and the last words of a session
-closes : (text last : List ℕ) → IsWhole text → without_remarks last ≡ last → Appends (Some (without_remarks text)) (Some (without_remarks (text ++ last))) last
-closes text last whole plain = stays text last whole plain
+closing_stays : (text last : List ℕ) → IsWhole text → without_remarks last ≡ last → Appends (Some (without_remarks text)) (Some (without_remarks (text ++ last))) last
+closing_stays text last whole plain = stays text last whole plain
 
-pub explaining_long : {first : Register} {start : Option (List ℕ)} {bytes partial : List ℕ} {book : Register} {held : Option (List ℕ)} →
-    (piece : List ℕ) (now : Option (List ℕ)) → Explaining first start bytes partial book held → HasNoEnd piece → max_line < length partial + length piece →
-    Appends held now (closing (Some end.LongLine)) → Stopped first book start (bytes ++ piece) now (Ok end.LongLine)
-explaining_long {first} {start} {bytes} {partial} {book} {held} piece now e clean long writes =
+pub explaining_long : {first : Register} {start : Option (List ℕ)} {bytes partial : List ℕ} {book : Register} {held : Option (List ℕ)} {said : Explained} →
+    (piece : List ℕ) (now : Option (List ℕ)) → Explaining first start bytes partial book held said → HasNoEnd piece → max_line < length partial + length piece →
+    Appends held now (closing (Some end.LongLine)) → Stopped first book start (bytes ++ piece) now said (Ok end.LongLine)
+explaining_long {first} {start} {bytes} {partial} {book} {held} {said} piece now e clean long writes =
     let last = closing (Some end.LongLine) in record {
       stops = tt;
       text = e.text ++ last;
       writes = Appends-trans start held now e.text last e.writes writes;
       session = subst (λ bs. Session first book bs (Some []) (Some (without_remarks (e.text ++ last))) (Ok end.LongLine)) (bytes_on e piece)
           (stops_long (partial ++ piece) e.going (no_end-append partial piece e.clean clean) (omega (arith, long, length-append partial piece))
-          (closes e.text last e.whole (plain-all last (plain-closing (Some end.LongLine)))));
+          (closing_stays e.text last e.whole (plain-all last (plain-closing (Some end.LongLine)))));
+      closes = subst (λ bs. Closing first book bs (e.text ++ last) end.LongLine said) (bytes_on e piece) (closing_noted (partial ++ piece) last book end.LongLine e.noted refl refl);
     }
 
-pub explaining_in_long : {first : Register} {start : Option (List ℕ)} {bytes partial : List ℕ} {book : Register} {held : Option (List ℕ)} →
-    (piece : List ℕ) (now : Option (List ℕ)) → Explaining first start bytes partial book held → HasNoEnd piece → max_line < length partial + length piece →
-    AppendsFront held now (closing (Some end.LongLine)) → Stopped first book start (bytes ++ piece) now (Err fault.WriteFailed)
+pub explaining_in_long : {first : Register} {start : Option (List ℕ)} {bytes partial : List ℕ} {book : Register} {held : Option (List ℕ)} {said : Explained} →
+    (piece : List ℕ) (now : Option (List ℕ)) → Explaining first start bytes partial book held said → HasNoEnd piece → max_line < length partial + length piece →
+    AppendsFront held now (closing (Some end.LongLine)) → Stopped first book start (bytes ++ piece) now said (Err fault.WriteFailed)
 explaining_in_long {first} {start} {bytes} {partial} {book} {held} piece now e clean long front =
     let last = take front.0 (closing (Some end.LongLine)) in record {
       stops = tt;
@@ -249,124 +275,24 @@ explaining_in_long {first} {start} {bytes} {partial} {book} {held} piece now e c
       writes = Appends-trans start held now e.text last e.writes front.2;
       session = subst (λ bs. Session first book bs (Some []) (Some (without_remarks (e.text ++ last))) (Err fault.WriteFailed)) (bytes_on e piece)
           (stops_in_long (partial ++ piece) e.going (no_end-append partial piece e.clean clean) (omega (arith, long, length-append partial piece))
-          (front.0, front.1, closes e.text last e.whole (plain-closing (Some end.LongLine) front.0)));
+          (front.0, front.1, closing_stays e.text last e.whole (plain-closing (Some end.LongLine) front.0)));
+      closes = tt;
     }
 
 -- the session ends at a line that is too long
-pub explaining_ends : {first : Register} {start : Option (List ℕ)} {bytes partial : List ℕ} {book : Register} {held : Option (List ℕ)} →
-    (piece : List ℕ) (now : Option (List ℕ)) (result : Result End FrontFault) → Explaining first start bytes partial book held → HasNoEnd piece →
+pub explaining_ends : {first : Register} {start : Option (List ℕ)} {bytes partial : List ℕ} {book : Register} {held : Option (List ℕ)} {said : Explained} →
+    (piece : List ℕ) (now : Option (List ℕ)) (result : Result End FrontFault) → Explaining first start bytes partial book held said → HasNoEnd piece →
     max_line < length partial + length piece → IfOk result (λ e. (e ≡ end.LongLine) × Appends held now (closing (Some end.LongLine))) →
-    IfErr result (λ f. (f ≡ fault.WriteFailed) × AppendsFront held now (closing (Some end.LongLine))) → Stopped first book start (bytes ++ piece) now result
-explaining_ends {first} {start} {bytes} {partial} {book} piece now (Ok last) e clean long told cut =
-    subst (λ x. Stopped first book start (bytes ++ piece) now (Ok x)) (sym told.0) (explaining_long piece now e clean long told.1)
-explaining_ends {first} {start} {bytes} {partial} {book} piece now (Err why) e clean long told cut =
-    subst (λ x. Stopped first book start (bytes ++ piece) now (Err x)) (sym cut.0) (explaining_in_long piece now e clean long cut.1)
-
--- the bytes of a line, as it is put together
-pub line_is : (partial piece mid line : List ℕ) → mid ≡ partial ++ piece → line ≡ mid ++ 10 ∷ [] → line ≡ partial ++ (piece ++ 10 ∷ [])
-line_is partial piece mid line one two = two ∙ ap (λ l. l ++ 10 ∷ []) one ∙ append_assoc partial piece (10 ∷ [])
-
--- ---- a line as a session of its own
-
--- it was read to its end
-pub served_all : {old new : Register} {line : List ℕ} {start held : Option (List ℕ)} {latest : ℕ} {result : Result End FrontFault} →
-    (left : Option (List ℕ)) → Serves old new (Some line) left latest start held result → IsAtEnd left → Session old new line start held result
-served_all None s ended = absurd s.reads
-served_all {old} {new} {line} {start} {held} {latest} {result} (Some rest) s ended =
-    let bytes = s.before ++ s.last in
-    let all : line ≡ bytes = s.reads ∙ ap (λ r. bytes ++ r) ended ∙ append-nil bytes in
-    subst (λ bs. Session old new bs start held result) (sym all) s.session
-
-pub served_stop : {old new : Register} {line : List ℕ} {start held : Option (List ℕ)} {latest : ℕ} (left : Option (List ℕ)) (result : Result End FrontFault) →
-    IsStop result → Serves old new (Some line) left latest start held result → IsStop result × Session old new line start held result
-served_stop None result stops s = absurd s.reads
-served_stop {old} {new} {line} {start} {held} {latest} (Some rest) result stops s =
-    let bytes = s.before ++ s.last in (
-      stops,
-      subst (λ bs. Session old new bs start held result) (sym s.reads) (session_longer old start bytes rest new held result (stops_of result stops) s.session),
-    )
-
--- where all is told nothing is missing
-all_off : (book : Register) (bytes : List ℕ) (lost : List Bool) (written : List ℕ) → TellsAll book bytes lost written None → BreaksOff book bytes lost written
-all_off book bytes lost written t =
-    let lines = marked (heard_in book bytes).lines lost in
-    let is : written ≡ told book lines = t.tells ∙ ap (λ e. told book lines ++ closing e) t.ends ∙ append-nil (told book lines) in
-    let logged : logged_lines book bytes lost ≡ lines = take_all (length lost) lines (omega (arith, t.logs, length-marked (heard_in book bytes).lines lost)) in record {
-      missing = [];
-      begins = sym t.tells ∙ sym (append-nil written);
-      all_but_last = omega (arith, ap length is, ap (λ ls. length (told book (take (length lost - 1) ls))) logged, told-take book lines (length lost - 1));
-      no_other = inr t.logs;
-    }
-
--- a fault that a line in memory hasn't is told as want of memory
-as_memory : {old new : Register} {line : List ℕ} {start held : Option (List ℕ)} {latest : ℕ} (left : Option (List ℕ)) (result : Result End FrontFault) →
-    (s : Serves old new (Some line) left latest start held result) → TellsAll old (s.before ++ s.last) s.session.lost s.session.written None →
-    Serves old new (Some line) left latest start held (Err fault.Memory)
-as_memory {old} left result s t =
-    let one = s.session in record {
-      before = s.before;
-      last = s.last;
-      reads = s.reads;
-      few = s.few;
-      session = record {
-        lost = one.lost;
-        written = one.written;
-        few = one.few;
-        grown = one.grown;
-        logs = one.logs;
-        writes = one.writes;
-        tells = all_off old (s.before ++ s.last) one.lost one.written t;
-      };
-      goes_on = s.goes_on;
-      logs = s.logs;
-    }
-
-pub served_of : {old new : Register} {line : List ℕ} {start held : Option (List ℕ)} {latest : ℕ} (left : Option (List ℕ)) (result : Result End FrontFault) →
-    Serves old new (Some line) left latest start held result → (result ≡ Ok end.EndOfInput → IsAtEnd left) → Served old new line start held (stop_of result)
-served_of left (Ok end.EndOfInput) s ended = served_all left s (ended refl)
-served_of left (Ok end.Bye) s ended = served_stop left (Ok end.Bye) tt s
-served_of left (Ok end.Full) s ended = served_stop left (Ok end.Full) tt s
-served_of left (Ok end.LongLine) s ended = served_stop left (Ok end.LongLine) tt s
-served_of left (Ok end.Closed) s ended = served_stop left (Ok end.Closed) tt s
-served_of left (Err fault.ReadFailed) s ended = served_stop left (Err fault.Memory) tt (as_memory left (Err fault.ReadFailed) s s.session.tells)
-served_of left (Err fault.WriteFailed) s ended = served_stop left (Err fault.WriteFailed) tt s
-served_of left (Err fault.Memory) s ended = served_stop left (Err fault.Memory) tt s
-served_of left (Err fault.Stranger) s ended = served_stop left (Err fault.Stranger) tt s
-served_of left (Err fault.TooManyTurns) s ended = served_stop left (Err fault.Memory) tt (as_memory left (Err fault.TooManyTurns) s s.session.tells)
-served_of left (Err fault.SocketFailed) s ended = absurd s.session.tells
-
--- the numbers grow
-pub served_grows : (old new : Register) (line : List ℕ) (start held : Option (List ℕ)) (result : Option (Result End FrontFault)) →
-    Served old new line start held result → next_number old ≤ next_number new
-served_grows old new line start held None s = omega (arith, s.grown)
-served_grows old new line start held (Some result) s = omega (arith, s.1.grown)
-
--- ---- a chunk
-
--- a line of the chunk more
-on_line : (bytes done piece : List ℕ) → (bytes ++ done) ++ (piece ++ 10 ∷ []) ≡ bytes ++ ((done ++ piece) ++ 10 ∷ [])
-on_line bytes done piece = append_assoc bytes done (piece ++ 10 ∷ []) ∙ ap (λ l. bytes ++ l) (sym (append_assoc done piece (10 ∷ [])))
-
-pub explaining_line : {first : Register} {start : Option (List ℕ)} {partial : List ℕ} {book : Register} {held : Option (List ℕ)} (bytes done piece : List ℕ) →
-    Explaining first start ((bytes ++ done) ++ (piece ++ 10 ∷ [])) partial book held → Explaining first start (bytes ++ ((done ++ piece) ++ 10 ∷ [])) partial book held
-explaining_line {first} {start} {partial} {book} {held} bytes done piece e = subst (λ bs. Explaining first start bs partial book held) (on_line bytes done piece) e
-
-pub stopped_in_chunk : {first new : Register} {start held : Option (List ℕ)} {result : Result End FrontFault} (bytes chunk done piece after : List ℕ) →
-    ((done ++ piece) ++ 10 ∷ []) ++ after ≡ chunk → Stopped first new start ((bytes ++ done) ++ (piece ++ 10 ∷ [])) held result → Stopped first new start (bytes ++ chunk) held result
-stopped_in_chunk bytes chunk done piece after is s =
-    let line = (done ++ piece) ++ 10 ∷ [] in
-    stopped_at (append_assoc bytes line after ∙ ap (λ l. bytes ++ l) is) (stopped_more after (stopped_at (on_line bytes done piece) s))
-
--- what is left of it behind its last line
-pub goes_chunk : (first : Register) (start : Option (List ℕ)) (partial : List ℕ) (book : Register) (held : Option (List ℕ)) (result : Option (Result End FrontFault)) (bytes chunk done rest : List ℕ) →
-    done ++ rest ≡ chunk → GoesOn first start ((bytes ++ done) ++ rest) partial book held result → GoesOn first start (bytes ++ chunk) partial book held result
-goes_chunk first start partial book held result bytes chunk done rest is goes =
-    subst (λ bs. GoesOn first start bs partial book held result) (append_assoc bytes done rest ∙ ap (λ l. bytes ++ l) is) goes
+    IfErr result (λ f. (f ≡ fault.WriteFailed) × AppendsFront held now (closing (Some end.LongLine))) → Stopped first book start (bytes ++ piece) now said result
+explaining_ends {first} {start} {bytes} {partial} {book} {said = said} piece now (Ok last) e clean long told cut =
+    subst (λ x. Stopped first book start (bytes ++ piece) now said (Ok x)) (sym told.0) (explaining_long piece now e clean long told.1)
+explaining_ends {first} {start} {bytes} {partial} {book} {said = said} piece now (Err why) e clean long told cut =
+    subst (λ x. Stopped first book start (bytes ++ piece) now said (Err x)) (sym cut.0) (explaining_in_long piece now e clean long cut.1)
 
 -- ---- the whole session
 
-pub explaining_first : (book : Register) (held : Option (List ℕ)) (partial : List ℕ) → partial ≡ [] → Explaining book held [] partial book held
-explaining_first book held partial none = subst (λ p. Explaining book held [] p book held) (sym none) (record {
+pub explaining_first : (book : Register) (held : Option (List ℕ)) (partial : List ℕ) (said : Explained) → partial ≡ [] → said ≡ AllTaken → Explaining book held [] partial book held said
+explaining_first book held partial said none is = subst (λ p. Explaining book held [] p book held said) (sym none) (record {
   text = [];
   writes = Appends-nil held;
   whole = whole-nil;
@@ -375,38 +301,33 @@ explaining_first book held partial none = subst (λ p. Explaining book held [] p
   clean = no_end-nil;
   short = omega arith;
   going = record { lines = []; hears = refl; short = omega arith; logs = refl; writes = refl };
+  noted = noted_first book said is;
 })
 
-abbrev serving_of : {first : Register} {ahead left start : Option (List ℕ)} {bytes partial : List ℕ} {book : Register} {held : Option (List ℕ)} →
-    Consumes ahead left bytes → (e : Explaining first start bytes partial book held) → Serving first ahead left (Some []) partial book (Some (without_remarks e.text))
+abbrev serving_of : {first : Register} {ahead left start : Option (List ℕ)} {bytes partial : List ℕ} {book : Register} {held : Option (List ℕ)} {said : Explained} →
+    Consumes ahead left bytes → (e : Explaining first start bytes partial book held said) → Serving first ahead left (Some []) partial book (Some (without_remarks e.text))
 serving_of {first} {bytes = bytes} {partial = partial} {book = book} reads e = record {
   bytes = bytes;
   reads = reads;
   going = subst (λ bs. Going first (Some []) bs partial book (Some (without_remarks e.text))) (sym e.is) (going_piece partial e.going e.clean (omega (arith, e.short)));
 }
 
--- a read gave no byte
-pub reads_none : (ahead left next : Option (List ℕ)) (bytes : List ℕ) (n : ℕ) (buffer : List ℕ) → Consumes ahead left bytes → n ≡ 0 → Consumes left next (take n buffer) →
-    Consumes ahead next bytes
-reads_none ahead left next bytes n buffer reads none consumes =
-    subst (Consumes ahead next) (append-nil bytes) (Consumes-trans ahead left next bytes [] reads (subst (λ k. Consumes left next (take k buffer)) none consumes))
-
 pub explains_nothing : (book : Register) (ahead : Option (List ℕ)) (latest : ℕ) (held : Option (List ℕ)) → Explains book book ahead ahead latest held held (Err fault.Memory)
 explains_nothing book ahead latest held = record { text = []; writes = Appends-nil held; serves = serves_nothing book ahead latest (Some []) }
 
-pub explains_idle : {first : Register} {ahead start : Option (List ℕ)} {bytes partial : List ℕ} {book : Register} {held : Option (List ℕ)} →
-    (left next : Option (List ℕ)) (latest : ℕ) (result : Result End FrontFault) → Consumes ahead left bytes → Explaining first start bytes partial book held →
+pub explains_idle : {first : Register} {ahead start : Option (List ℕ)} {bytes partial : List ℕ} {book : Register} {held : Option (List ℕ)} {said : Explained} →
+    (left next : Option (List ℕ)) (latest : ℕ) (result : Result End FrontFault) → Consumes ahead left bytes → Explaining first start bytes partial book held said →
     Consumes ahead next bytes → IsIdle result → Explains first book ahead next latest start held result
 explains_idle left next latest result reads e all idle =
     let s = serving_of reads e in
     record { text = e.text; writes = e.writes; serves = serves_idle next latest result s all idle }
 
-pub explains_chunk : {first : Register} {ahead start : Option (List ℕ)} {bytes partial : List ℕ} {book : Register} {held : Option (List ℕ)} →
-    (left next : Option (List ℕ)) (latest n : ℕ) (buffer : List ℕ) (new : Register) (now : Option (List ℕ)) (result : Result End FrontFault) →
-    Consumes ahead left bytes → Explaining first start bytes partial book held → latest ≡ n → Consumes left next (take n buffer) →
-    Stopped first new start (bytes ++ take n buffer) now result → next_number book ≤ next_number new → Explains first new ahead next latest start now result
-explains_chunk left next latest n buffer new now result reads e gave consumes s grows = record {
-  text = s.text;
-  writes = s.writes;
-  serves = serves_stopped next latest n buffer new (Some (without_remarks s.text)) result (stops_of result s.stops) (serving_of reads e) gave consumes s.session grows;
-}
+-- the input ended, in a line or between two
+pub remarks_idle : {first : Register} {start : Option (List ℕ)} {bytes partial : List ℕ} {book : Register} {held : Option (List ℕ)} {said : Explained} →
+    (ahead next : Option (List ℕ)) → Explaining first start bytes partial book held said → Consumes ahead next bytes →
+    Remarks first book ahead next start held end.EndOfInput (said_at end.EndOfInput said)
+remarks_idle {first} {start} {bytes} {partial} {book} {held} {said} ahead next e reads =
+    let closed = closing_noted partial [] book end.EndOfInput e.noted refl refl in
+    remarks_of_closing ahead next start held
+    (subst (λ bs. Closing first book bs (e.text ++ []) end.EndOfInput said) (sym e.is) closed) reads
+    (subst (Appends start held) (sym (append-nil e.text)) e.writes)

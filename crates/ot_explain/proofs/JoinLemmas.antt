@@ -67,7 +67,7 @@ behind-all room lines h [] = refl
 behind-all room lines h (b ∷ bytes) =
     ap (λ x. fold (hear room) x bytes) (behind-hear room lines h b) ∙ behind-all room lines (hear (room_after room lines) h b) bytes
 
-heard_behind : {first : Register} {start : Option (List ℕ)} {bytes : List ℕ} {book : Register} {held : Option (List ℕ)} →
+pub heard_behind : {first : Register} {start : Option (List ℕ)} {bytes : List ℕ} {book : Register} {held : Option (List ℕ)} →
     (going : Going first start bytes [] book held) (more : List ℕ) → heard_in first (bytes ++ more) ≡ behind (texts going.lines) (heard_in book more)
 heard_behind {first} {start} {bytes} {book} going more =
     let room = room_in first in

@@ -1,7 +1,10 @@
-pub mod WalkLemmas
-pub mod TouchLemmas
 pub mod LineLemmas
 pub mod ReplyLemmas
+pub mod RemarkLemmas
+pub mod NotedLemmas
 pub mod JoinLemmas
 pub mod ExplainLemmas
-pub mod AwaitsLemmas
+pub mod ListenLemmas
+pub mod QuietLemmas
+pub mod ChunkLemmas
+pub mod SayingLemmas

@@ -1,8 +1,7 @@
 -- Texts by their lines: what stays of them without their remarks.
-use Rattle.std.proofs.Common.{◌≡◌, ◌≢◌, ℕ, zero, suc, ◌+◌, ◌-◌, ◌<◌, List, [], ◌∷◌, ◌++◌, length, take, refl, sym, ap, ap₂, subst, ◌∙◌, arith, append_assoc, append-nil, take_all, ◌⊎◌, Bool, true, false, ◌||◌, ◌==◌, true≢false, inl, inr, flat_map, All, slice_index_or}
+use Rattle.std.proofs.Common.{◌≡◌, ◌≢◌, ℕ, zero, suc, ◌+◌, ◌-◌, List, [], ◌∷◌, ◌++◌, length, take, refl, sym, ap, ap₂, subst, ◌∙◌, arith, append_assoc, append-nil, take_all, ◌⊎◌, Bool, true, false, ◌||◌, ◌==◌, true≢false, inl, inr, flat_map, All}
 use Rattle.std.specs.List.{list_any}
 use Rattle.std.proofs.lemmas.List.{take-append-le}
-use Rattle.std.proofs.lemmas.List.Elements.{All-append}
 use Rattle.std.proofs.lemmas.List.Folds.{list_any-append}
 use Rattle.std.proofs.lemmas.Bool.Decides.{leb_tells, nat_tests}
 use Rattle.ot_front.specs.Heard.{HasNoEnd}
@@ -104,7 +103,7 @@ pub plain-nil : IsPlain []
 plain-nil zero = refl
 plain-nil (suc n) = refl
 
-hidden-nil : IsHidden []
+pub hidden-nil : IsHidden []
 hidden-nil zero = refl
 hidden-nil (suc n) = refl
 
@@ -181,21 +180,6 @@ remarks-whole text r = subst IsWhole (sym r.is) (whole-remarks r.lines r.are)
 pub remarks-hidden : (text : List ℕ) → IsRemarks text → IsHidden text
 remarks-hidden text r = subst IsHidden (sym r.is) (hidden-remarks r.lines r.are)
 
-pub remarks_none : IsRemarks []
-remarks_none = record { lines = []; are = λ k d within. absurd (omega (arith, within)); is = refl }
-
-flat_more : (lines : List (List ℕ)) (line : List ℕ) → flat_map remark_line (lines ++ line ∷ []) ≡ flat_map remark_line lines ++ remark_line line
+pub flat_more : (lines : List (List ℕ)) (line : List ℕ) → flat_map remark_line (lines ++ line ∷ []) ≡ flat_map remark_line lines ++ remark_line line
 flat_more [] line = append-nil (remark_line line)
 flat_more (l ∷ lines) line = ap (λ t. remark_line l ++ t) (flat_more lines line) ∙ sym (append_assoc (remark_line l) (flat_map remark_line lines) (remark_line line))
-
--- a remark more
-pub remarks_on : (old new line : List ℕ) → IsRemarks old → HasNoEnd line → new ≡ old ++ remark_line line → IsRemarks new
-remarks_on old new line r clean is = record {
-  lines = r.lines ++ line ∷ [];
-  are = All-append HasNoEnd r.lines (line ∷ []) r.are (λ k d within. only k d within);
-  is = is ∙ ap (λ t. t ++ remark_line line) r.is ∙ sym (flat_more r.lines line);
-}
-  where
-    only : (k : ℕ) (d : List ℕ) → k < 1 → HasNoEnd (slice_index_or (line ∷ []) k d)
-    only zero d within = clean
-    only (suc k) d within = absurd (omega (arith, within))

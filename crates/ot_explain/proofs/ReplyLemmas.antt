@@ -46,7 +46,7 @@ none_digits (suc k) base upper n acc none =
     by_if HasNone (n / base == 0) (digit_glyph upper (n % base) ∷ acc) (digits_onto k base upper (n / base) (digit_glyph upper (n % base) ∷ acc)) (λ _. more)
     (λ _. none_digits k base upper (n / base) (digit_glyph upper (n % base) ∷ acc) more)
 
-none_decimal : (n : ℕ) → HasNone (decimal n)
+pub none_decimal : (n : ℕ) → HasNone (decimal n)
 unfolding digits
 none_decimal n = none_digits 64 10 false n [] refl
 

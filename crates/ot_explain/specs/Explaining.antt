@@ -1,16 +1,19 @@
 -- An explained session: without its remarks it is a session like any other.
-use Rattle.std.specs.Prelude.{◌≡◌, ◌≤◌, ℕ, List, [], ◌++◌, length, codes, Option, Some, None, Result, Ok, Err}
-use Rattle.std.specs.Io.KnownBytes.{Appends}
+use Rattle.std.specs.Prelude.{◌≡◌, ◌≤◌, ℕ, List, [], ◌∷◌, ◌++◌, length, codes, Bool, true, false, ◌||◌, Option, Some, None, Result, Ok, Err, IfOk, ⊤}
+use Rattle.std.specs.Io.KnownBytes.{Appends, Consumes}
 use Rattle.ot_store.specs.Usual.{usual_limits}
-use Rattle.ot_book.specs.Books.{Register, new_register}
+use Rattle.ot_book.specs.Books.{Register, new_register, next_number}
 use Rattle.ot_front.specs.Heard.{HasNoEnd, max_line}
-use Rattle.ot_front.specs.Session.{Session, Serves}
+use Rattle.ot_front.specs.Session.{closing, heard_in, Session, Serves}
 use Rattle.ot_front.specs.Serving.{Going}
+use Rattle.ot_front.specs.Told.{Lines, texts, after}
 use Rattle.ot_front.specs.declared.fault.End.{End}
-use Rattle.ot_front.specs.declared.fault.End.TheVariants.{EndOfInput}
+use Rattle.ot_front.specs.declared.fault.End.TheVariants.{Bye, EndOfInput, Full, LongLine, Closed}
 use Rattle.ot_front.specs.declared.fault.FrontFault.{FrontFault}
-use Rattle.ot_front.specs.declared.fault.FrontFault.TheVariants.{ReadFailed, Memory, TooManyTurns, SocketFailed}
-use Rattle.ot_explain.specs.Remarks.{without_remarks, IsWhole}
+use Rattle.ot_front.specs.declared.fault.FrontFault.TheVariants.{ReadFailed, TooManyTurns, SocketFailed}
+use Rattle.ot_explain.specs.Remarks.{without_remarks, IsWhole, Remarked, refuses}
+use Rattle.ot_explain.specs.declared.explaining.Explained.{Explained}
+use Rattle.ot_explain.specs.declared.explaining.Explained.TheVariants.{AllTaken, SomeRefused}
 
 -- the book of the tenant `t1` before its first request
 abbrev pub beginner : Register
@@ -23,10 +26,64 @@ pub record Explains (first new : Register) (ahead left : Option (List ℕ)) (lat
   pub writes : Appends start held text
   pub serves : Serves first new ahead left latest (Some []) (Some (without_remarks text)) result
 
+-- whether the session ends at a line that it doesn't take
+abbrev pub is_untaken : End → Bool
+is_untaken Bye = false
+is_untaken EndOfInput = false
+is_untaken Full = true
+is_untaken LongLine = true
+is_untaken Closed = false
+
+-- what is said where something is refused, and where nothing is
+abbrev pub says : Bool → Explained
+says true = SomeRefused
+says false = AllTaken
+
+-- What was written is the reply to each line that was logged, with the remarks on it behind it, and then how the session
+-- closes. It is said whether one of the replies is a refusal, or the last line wasn't taken.
+pub record Remarks (first new : Register) (ahead left start held : Option (List ℕ)) (end : End) (said : Explained) : Type 0 where
+  pub bytes : List ℕ
+  pub reads : Consumes ahead left bytes
+  pub lines : Lines
+  pub others : List (List ℕ)
+  pub hears : (heard_in first bytes).lines ≡ texts lines ++ others
+  pub logs : new ≡ after first lines
+  pub replies : List ℕ
+  pub remarked : Remarked first lines replies
+  pub writes : Appends start held (replies ++ closing (Some end))
+  pub tells : said ≡ says (refuses first lines || is_untaken end)
+
 -- ---- for private clauses
 
+-- what is said at such an end, where this was said of the lines before it
+abbrev pub said_at : End → Explained → Explained
+said_at Bye said = said
+said_at EndOfInput said = said
+said_at Full said = SomeRefused
+said_at LongLine said = SomeRefused
+said_at Closed said = said
+
+-- the lines that are heard in these bytes are logged, and their replies are remarked on
+pub record Noted (first book : Register) (bytes text : List ℕ) (said : Explained) : Type 0 where
+  pub lines : Lines
+  pub hears : (heard_in first bytes).lines ≡ texts lines
+  pub logs : book ≡ after first lines
+  pub remarked : Remarked first lines text
+  pub tells : said ≡ says (refuses first lines)
+
+-- so are those that were logged before the session came to this end
+pub record Closing (first new : Register) (bytes text : List ℕ) (end : End) (said : Explained) : Type 0 where
+  pub lines : Lines
+  pub others : List (List ℕ)
+  pub hears : (heard_in first bytes).lines ≡ texts lines ++ others
+  pub logs : new ≡ after first lines
+  pub replies : List ℕ
+  pub remarked : Remarked first lines replies
+  pub is : text ≡ replies ++ closing (Some end)
+  pub tells : said ≡ says (refuses first lines)
+
 -- The session goes on over these bytes, in a line that has begun; what is written ends where a line ends.
-pub record Explaining (first : Register) (start : Option (List ℕ)) (bytes partial : List ℕ) (book : Register) (held : Option (List ℕ)) : Type 0 where
+pub record Explaining (first : Register) (start : Option (List ℕ)) (bytes partial : List ℕ) (book : Register) (held : Option (List ℕ)) (said : Explained) : Type 0 where
   pub text : List ℕ
   pub writes : Appends start held text
   pub whole : IsWhole text
@@ -35,6 +92,7 @@ pub record Explaining (first : Register) (start : Option (List ℕ)) (bytes part
   pub clean : HasNoEnd partial
   pub short : length partial ≤ max_line
   pub going : Going first (Some []) begun [] book (Some (without_remarks text))
+  pub noted : Noted first book begun text said
 
 -- a session may stop so with bytes behind it
 abbrev pub IsStop : Result End FrontFault → Type 0
@@ -45,24 +103,23 @@ IsStop (Err SocketFailed) = ⊥
 IsStop result = Unit {0}
 
 -- it stopped in these bytes
-pub record Stopped (first new : Register) (start : Option (List ℕ)) (bytes : List ℕ) (held : Option (List ℕ)) (result : Result End FrontFault) : Type 0 where
+pub record Stopped (first new : Register) (start : Option (List ℕ)) (bytes : List ℕ) (held : Option (List ℕ)) (said : Explained) (result : Result End FrontFault) : Type 0 where
   pub stops : IsStop result
   pub text : List ℕ
   pub writes : Appends start held text
   pub session : Session first new bytes (Some []) (Some (without_remarks text)) result
+  pub closes : IfOk result (λ end. Closing first new bytes text end said)
 
 -- it goes on, or it has stopped
-abbrev pub GoesOn : Register → Option (List ℕ) → List ℕ → List ℕ → Register → Option (List ℕ) → Option (Result End FrontFault) → Type 0
-GoesOn first start bytes partial book held None = Explaining first start bytes partial book held
-GoesOn first start bytes partial book held (Some result) = Stopped first book start bytes held result
+abbrev pub GoesOn : Register → Option (List ℕ) → List ℕ → List ℕ → Register → Option (List ℕ) → Explained → Result ⊤ (Result End FrontFault) → Type 0
+GoesOn first start bytes partial book held said (Ok done) = Explaining first start bytes partial book held said
+GoesOn first start bytes partial book held said (Err result) = Stopped first book start bytes held said result
 
--- how a session over a line ends the whole one, if at all; a line in memory can be read, and in a few reads
-abbrev pub stop_of : Result End FrontFault → Option (Result End FrontFault)
-stop_of (Ok EndOfInput) = None
-stop_of (Err ReadFailed) = Some (Err Memory)
-stop_of (Err TooManyTurns) = Some (Err Memory)
-stop_of (Err SocketFailed) = Some (Err Memory)
-stop_of result = Some result
+-- a line without its LF, by what it came to
+pub record ExplainsLine (old : Register) (said : Explained) (held : Option (List ℕ)) (line : List ℕ) (new : Register) (later : Explained) (now : Option (List ℕ)) (result : Result ⊤ (Result End FrontFault)) : Type 0 where
+  pub goes : (first : Register) (start : Option (List ℕ)) (bytes : List ℕ) → first.pending ≡ None → HasNoEnd line → length line ≤ max_line →
+      Explaining first start bytes [] old held said → GoesOn first start (bytes ++ (line ++ 10 ∷ [])) [] new now later result
+  pub grows : next_number old ≤ next_number new
 
 -- a line was served whole, or a session over it stopped
 abbrev pub Served : Register → Register → List ℕ → Option (List ℕ) → Option (List ℕ) → Option (Result End FrontFault) → Type 0

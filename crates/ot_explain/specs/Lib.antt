@@ -1,4 +1,3 @@
-pub mod Races
-pub mod Walk
 pub mod Remarks
 pub mod Explaining
+pub mod Quiet

@@ -1,28 +1,19 @@
 //! A session with remarks behind its refusals.
-ghost use Rattle.std.specs.Prelude.{◌≡◌, ◌<◌, ◌≤◌, ◌++◌, ◌∷◌, [], ℕ, List, Option, None, Ok, Err, length, OnOk, IfOk, IfErr};
+ghost use Rattle.std.specs.Prelude.{◌≡◌, ◌≤◌, ◌++◌, ◌∷◌, [], ℕ, List, Option, None, Ok, Err, length, IfOk, IfErr};
+ghost use Rattle.ot_lines.specs.Lines.{opened};
 ghost use Rattle.ot_book.specs.Books.{Register, next_number};
-ghost use Rattle.ot_front.specs.Heard.{HasNoEnd};
+ghost use Rattle.ot_front.specs.Heard.{HasNoEnd, max_line};
+ghost use Rattle.ot_front.specs.Serving.{session_bounds};
 ghost use Rattle.ot_front.specs.declared.fault.End.{End};
-ghost use Rattle.ot_explain.specs.Explaining.{beginner, Explains, Explaining, GoesOn, Served, stop_of};
+ghost use Rattle.ot_explain.specs.Explaining.{beginner, Explains, Explaining, GoesOn, Remarks, said_at};
+ghost use Rattle.ot_explain.specs.declared.explaining.Explained.TheVariants.{AllTaken};
 
-use crate::telling::{tell_last, tell_long};
-use memchr::memchr;
+use crate::telling::tell_last;
 use ot_book::{Book, Solo};
-use ot_front::{End, FrontFault, Reading, Sink, Source, serve_into};
+use ot_front::{End, FrontFault, Sink, session_bounds, take_line, tell_long};
+use ot_lines::{Ended, LineFault, Lines, Listener, Source, listen};
 use ot_store::{Limits, Store};
-use std::alloc::{AllocError, Global};
-
-/// How many bytes a line may have, without its LF.
-const MAX_LINE: usize = 65_536;
-
-/// How many bytes a read has room for.
-const READ_SIZE: usize = 65_536;
-
-/// How many bytes a read of one line has room for: most lines are short, and the room is made for each.
-const PIECE_SIZE: usize = 1_024;
-
-/// How often a session reads at most.
-const MAX_READS: u32 = 1_000_000;
+use std::alloc::Global;
 
 /// Whether a session refused a request, or a line that it didn't take.
 #[derive(Clone, Copy, Debug, PartialEq, Eq)]
@@ -33,195 +24,120 @@ pub enum Explained {
 
 /// A session that goes on.
 #[derive(Drop)]
-struct Talk {
-    book: Book,
-    /// The line that has begun.
-    partial: Vec<u8>,
-    said: Explained,
-    ghost closed: { book.pending ≡ None },
+pub(crate) struct Talk {
+    pub book: Book,
+    pub said: Explained,
 }
 
 /// Serves the one session of a new tenant, called `t1`, and writes what a session writes. Behind each refusal
-/// stand lines that begin with `# `: what its code means, and of a program what is wrong with it.
+/// stand lines that begin with `# `: the first has its code and what that means, and of a program more tell what is
+/// wrong with it. It answers `SomeRefused` where there was a refusal, or where the session ended at a line that it
+/// didn't take, for its length or because the log was full.
 pub fn explain<R: Source, W: Sink>(
     alloc: Global,
     source: &mut R,
     sink: &mut W,
 ) -> Result<Explained, FrontFault>
     ensures ended { IfOk result (λ said. (new : Register) × (end : End) × Explains beginner new
-        (R.ahead source.old) (R.ahead source.new) (R.latest source.new) (W.contents sink.old) (W.contents sink.new) (Ok end)) }
+        (R.ahead source.old) (R.ahead source.new) (R.latest source.new) (W.contents sink.old) (W.contents sink.new) (Ok end)
+        × Remarks beginner new (R.ahead source.old) (R.ahead source.new) (W.contents sink.old) (W.contents sink.new) end said) }
     ensures failed { IfErr result (λ fault. (new : Register) × Explains beginner new
         (R.ahead source.old) (R.ahead source.new) (R.latest source.new) (W.contents sink.old) (W.contents sink.new) (Err fault)) }
 {
     let Ok(book) = Book::new(alloc, "t1", Limits::usual(), Store::empty(alloc)) else {
         return Err(FrontFault::Memory);
     };
-    let Ok(mut room) = vec![in alloc; 0u8; READ_SIZE] else {
+    let Ok(mut lines) = Lines::new(alloc, session_bounds()) else {
         return Err(FrontFault::Memory);
     };
     let mut talk = Talk {
         book,
-        partial: Vec::new(alloc),
         said: Explained::AllTaken,
     };
-    match converse(alloc, &mut talk, source, sink, room.as_mut_slice()) {
-        Ok(End::Full | End::LongLine) => Ok(Explained::SomeRefused),
-        Ok(_) => Ok(talk.said),
+    match explain_lines(alloc, &mut lines, &mut talk, source, sink) {
+        Ok(end) => Ok(said_at(end, talk.said)),
         Err(fault) => Err(fault),
     }
 }
 
-/// Serves a session that reads into `room`.
-fn converse<R: Source, W: Sink>(
+/// What is said of a session that ends so, where this was said of its lines.
+pub(crate) fn said_at(end: End, said: Explained) -> Explained
+    ensures { result ≡ said_at end said }
+{
+    match end {
+        End::Full | End::LongLine => Explained::SomeRefused,
+        End::Bye | End::EndOfInput | End::Closed => said,
+    }
+}
+
+/// Serves a session line by line.
+fn explain_lines<R: Source, W: Sink>(
     alloc: Global,
+    lines: &mut Lines,
     talk: &mut Talk,
     source: &mut R,
     sink: &mut W,
-    room: &mut [u8],
 ) -> Result<End, FrontFault>
-    requires room { 0 < length room.old }
-    requires begins { talk.old.partial.items ≡ [] }
-    ensures { Explains talk.old.book talk.new.book (R.ahead source.old) (R.ahead source.new) (R.latest source.new)
+    requires begun { lines.old ≡ opened session_bounds }
+    requires closed { talk.old.book.pending ≡ None }
+    requires says { talk.old.said ≡ AllTaken }
+    ensures explains { Explains talk.old.book talk.new.book (R.ahead source.old) (R.ahead source.new) (R.latest source.new)
         (W.contents sink.old) (W.contents sink.new) result }
+    ensures remarks { IfOk result (λ end. Remarks talk.old.book talk.new.book (R.ahead source.old) (R.ahead source.new)
+        (W.contents sink.old) (W.contents sink.new) end (said_at end talk.new.said)) }
 {
-    for _ in 0..MAX_READS {
-        let Ok(count) = source.read(room) else {
-            return Err(FrontFault::ReadFailed);
-        };
-        if count == 0 {
-            return Ok(End::EndOfInput);
-        }
-        if let Some(ended) = take_chunk(alloc, talk, sink, &room[..count]) {
-            return ended;
-        }
+    match listen(lines, source, &mut Explainer { alloc }, talk, sink) {
+        Ok(Ended::Stopped(ended)) => ended,
+        Ok(Ended::End) => Ok(End::EndOfInput),
+        Ok(Ended::Long) => tell_long(sink),
+        Err(LineFault::ReadFailed) => Err(FrontFault::ReadFailed),
+        Err(LineFault::TooManyReads) => Err(FrontFault::TooManyTurns),
     }
-    Err(FrontFault::TooManyTurns)
 }
 
-/// The bytes of one read. It answers how the session ends, where it ends in them.
-fn take_chunk<W: Sink>(
+/// Takes the lines of a session, and tells of each what is to be said of its reply. An error is how the session ends.
+#[derive(Drop)]
+struct Explainer {
+    alloc: Global,
+}
+
+impl<W: Sink> Listener<Talk, W, Result<End, FrontFault>> for Explainer {
+    ghost use Rattle.ot_explain.specs.Explaining.{ExplainsLine};
+
+    ghost took = { λ old sink line new next result. ExplainsLine old.book old.said (W.contents sink) line new.book new.said (W.contents next) result };
+
+    fn take(
+        &mut self,
+        talk: &mut Talk,
+        sink: &mut W,
+        line: &[u8],
+    ) -> Result<(), Result<End, FrontFault>> {
+        explain_line(self.alloc, talk, sink, line)
+    }
+}
+
+/// A whole line of the session, without its LF.
+fn explain_line<W: Sink>(
     alloc: Global,
     talk: &mut Talk,
     sink: &mut W,
-    chunk: &[u8],
-) -> Option<Result<End, FrontFault>>
-    ensures goes { (first : Register) (start : Option (List ℕ)) (bytes : List ℕ) →
-        Explaining first start bytes talk.old.partial.items talk.old.book (W.contents sink.old) →
-        GoesOn first start (bytes ++ chunk.now) talk.new.partial.items talk.new.book (W.contents sink.new) result }
+    line: &[u8],
+) -> Result<(), Result<End, FrontFault>>
+    ensures goes { (first : Register) (start : Option (List ℕ)) (bytes : List ℕ) → first.pending ≡ None → HasNoEnd line.now → length line.now ≤ max_line →
+        Explaining first start bytes [] talk.old.book (W.contents sink.old) talk.old.said →
+        GoesOn first start (bytes ++ (line.now ++ 10 ∷ [])) [] talk.new.book (W.contents sink.new) talk.new.said result }
     ensures grows { next_number talk.old.book ≤ next_number talk.new.book }
 {
-    let mut rest = chunk;
-    while let Some(at) = memchr(b'\n', rest) {
-        let (piece, behind) = rest.split_at(at);
-        let (_, after) = behind.split_at(1);
-        if let Some(ended) = take_line(alloc, talk, sink, piece) {
-            return Some(ended);
-        }
-        rest = after;
+    if let Err(stop) = take_line(alloc, &mut talk.book, &mut Solo, sink, line) {
+        return Err(stop.result());
     }
-    take_rest(talk, sink, rest)
-}
-
-/// The last piece of a line, behind which its LF stands.
-fn take_line<W: Sink>(
-    alloc: Global,
-    talk: &mut Talk,
-    sink: &mut W,
-    piece: &[u8],
-) -> Option<Result<End, FrontFault>>
-    requires { HasNoEnd piece.now }
-    ensures goes { (first : Register) (start : Option (List ℕ)) (bytes : List ℕ) →
-        Explaining first start bytes talk.old.partial.items talk.old.book (W.contents sink.old) →
-        GoesOn first start (bytes ++ (piece.now ++ 10 ∷ [])) talk.new.partial.items talk.new.book (W.contents sink.new) result }
-    ensures grows { next_number talk.old.book ≤ next_number talk.new.book }
-{
-    if let Err(_) = put_end(&mut talk.partial, piece) {
-        return Some(Err(FrontFault::Memory));
-    }
-    if let Some(ended) = serve_line(alloc, &mut talk.book, sink, talk.partial.as_slice()) {
-        return Some(ended);
-    }
-    talk.partial.clear();
     match tell_last(alloc, &talk.book, sink) {
         Ok(refused) => {
             if refused {
                 talk.said = Explained::SomeRefused;
             }
-            None
+            Ok(())
         }
-        Err(fault) => Some(Err(fault)),
-    }
-}
-
-/// Puts the last piece of a line and its LF behind what has begun.
-fn put_end(partial: &mut Vec<u8>, piece: &[u8]) -> Result<(), AllocError>
-    ensures { OnOk result (partial.new.items ≡ partial.old.items ++ (piece.now ++ 10 ∷ [])) }
-{
-    partial.extend_from_slice(piece)?;
-    partial.push(b'\n')?;
-    Ok(())
-}
-
-/// A piece of a line, without its LF.
-fn take_rest<W: Sink>(
-    talk: &mut Talk,
-    sink: &mut W,
-    piece: &[u8],
-) -> Option<Result<End, FrontFault>>
-    requires { HasNoEnd piece.now }
-    ensures goes { (first : Register) (start : Option (List ℕ)) (bytes : List ℕ) →
-        Explaining first start bytes talk.old.partial.items talk.old.book (W.contents sink.old) →
-        GoesOn first start (bytes ++ piece.now) talk.new.partial.items talk.new.book (W.contents sink.new) result }
-    ensures grows { talk.new.book ≡ talk.old.book }
-{
-    if talk.partial.len() + piece.len() > MAX_LINE {
-        return Some(tell_long(sink));
-    }
-    match talk.partial.extend_from_slice(piece) {
-        Ok(()) => None,
-        Err(_) => Some(Err(FrontFault::Memory)),
-    }
-}
-
-/// Serves a line as a session of its own. It answers how that ends, where it ends the whole session.
-fn serve_line<W: Sink>(
-    alloc: Global,
-    book: &mut Book,
-    sink: &mut W,
-    line: &[u8],
-) -> Option<Result<End, FrontFault>>
-    requires { book.old.pending ≡ None }
-    ensures served { Served book.old book.new line.now (W.contents sink.old) (W.contents sink.new) result }
-    ensures closed { book.new.pending ≡ None }
-{
-    let mut source = Reading::new(line);
-    let mut room = [0u8; PIECE_SIZE];
-    let ended = serve_into(
-        alloc,
-        book,
-        &mut Solo,
-        &mut source,
-        sink,
-        room.as_mut_slice(),
-    );
-    stop_of(ended)
-}
-
-/// How a session over a line ends the whole one, where it does. A line in memory can be read, and in a few reads.
-fn stop_of(ended: Result<End, FrontFault>) -> Option<Result<End, FrontFault>>
-    ensures { result ≡ stop_of ended }
-{
-    match ended {
-        Ok(End::EndOfInput) => None,
-        Ok(End::Bye) => Some(Ok(End::Bye)),
-        Ok(End::Full) => Some(Ok(End::Full)),
-        Ok(End::LongLine) => Some(Ok(End::LongLine)),
-        Ok(End::Closed) => Some(Ok(End::Closed)),
-        Err(FrontFault::WriteFailed) => Some(Err(FrontFault::WriteFailed)),
-        Err(FrontFault::Stranger) => Some(Err(FrontFault::Stranger)),
-        Err(FrontFault::Memory)
-        | Err(FrontFault::ReadFailed)
-        | Err(FrontFault::TooManyTurns)
-        | Err(FrontFault::SocketFailed) => Some(Err(FrontFault::Memory)),
+        Err(fault) => Err(Err(fault)),
     }
 }

@@ -1,22 +1,12 @@
-//! Explains refusals: what a session writes, with remarks for people behind each refusal, and what each code
-//! means.
+//! Explains refusals: what a session writes, with remarks for people behind each refusal.
 #![tactic(auto)]
 
-mod child;
-mod code;
 mod explaining;
-mod left;
-mod numbers;
-mod pending;
-mod race;
+mod quiet;
 mod remarks;
-mod sentences;
+mod saying;
 mod telling;
-mod through;
-mod touch;
-mod walk;
-mod wanted;
-mod wrong;
 
-pub use code::code_page;
 pub use explaining::{Explained, explain};
+pub use quiet::explain_quietly;
+pub use saying::{heading, remarks_on};

@@ -1,24 +1,26 @@
 //! What is said of a refusal, line by line.
-use crate::left::find_left;
-use crate::race::{find_race, statement_at};
-use crate::sentences::{page_of, wrong_in_program};
-use crate::wanted::{Touched, Wanted};
-use crate::wrong::{wrong, wrong_by};
+ghost use Rattle.std.specs.Prelude.{◌≡◌, ℕ, List, IfOk, MatchOption, None, Some, string_bytes};
+ghost use Rattle.ot_book.specs.Codes.{number_of};
+ghost use Rattle.ot_check.specs.Codes.{code_of};
+ghost use Rattle.ot_explain.specs.Remarks.{last_code, with_code};
+
+use ot_blame::{Blame, Blamed, find_blame};
 use ot_book::{Book, Code, Entry, Told};
 use ot_check::Offence;
-use ot_model::{Program, Shape};
-use ot_print::Printer;
-use ot_program::{Refusal, is_word, read_program};
-use serde_json::Value;
+use ot_reason::{Telling, has_operations, place_in_line, program_in_line, reasons, sentence_of};
 use std::alloc::{AllocError, Global};
 
-/// What is said of the last request of a book, where it was refused: lines with an LF between them.
-pub(crate) fn remarks_on_last(alloc: Global, book: &Book) -> Result<Option<String>, AllocError> {
+/// What is said of the last request of a book, where it was refused: lines with an LF between them, of which the first
+/// begins with the code.
+pub(crate) fn remarks_on_last(alloc: Global, book: &Book) -> Result<Option<String>, AllocError>
+    ensures { IfOk result (λ remarks. MatchOption remarks (last_code book.now ≡ None)
+        (λ text. (code : ℕ) × (last_code book.now ≡ Some code) × (first : List ℕ) × (string_bytes text ≡ with_code code first))) }
+{
     let Some(entry) = book.log().last() else {
         return Ok(None);
     };
     match &entry.told {
-        Told::Refused(code) => Ok(Some(refused(alloc, entry, *code)?)),
+        Told::Refused(code) => Ok(Some(refused(alloc, book, entry, *code)?)),
         Told::Offends(offence, place) => {
             Ok(Some(offends(alloc, book, entry, *offence, *place)?))
         }
@@ -28,37 +30,35 @@ pub(crate) fn remarks_on_last(alloc: Global, book: &Book) -> Result<Option<Strin
 }
 
 /// `427: ` and the code's sentence.
-fn sentence(alloc: Global, code: u32) -> Result<String, AllocError> {
-    match page_of(code) {
-        Some(page) => format!(in alloc; "{code}: {}", page.sentence),
-        None => format!(in alloc; "{code}"),
-    }
+pub(crate) fn sentence(alloc: Global, code: u32) -> Result<String, AllocError>
+    ensures { IfOk result (λ text. (first : List ℕ) × (string_bytes text ≡ with_code code first)) }
+{
+    let sentence = sentence_of(code);
+    format!(in alloc; "{code}: {sentence}")
 }
 
-fn refused(alloc: Global, entry: &Entry, code: Code) -> Result<String, AllocError> {
+/// The sentence, and what more can be said of a refusal without a place.
+fn refused(alloc: Global, book: &Book, entry: &Entry, code: Code) -> Result<String, AllocError>
+    ensures { IfOk result (λ text. (first : List ℕ) × (string_bytes text ≡ with_code (number_of code) first)) }
+{
     let mut said = sentence(alloc, code.number())?;
-    if let Code::Program(refusal) = code {
-        said.push_str("\n")?;
-        said.push_str(wrong_in_program(refusal))?;
-        if refusal == Refusal::MixedReduction && has_operations(alloc, entry.line.as_slice()) {
-            said.push_str(", or under `red` by two operations")?;
-        }
-    }
+    let more = behind(alloc, book, entry, code)?;
+    said.push_str(more.as_str())?;
     Ok(said)
 }
 
-/// Whether a line runs a program whose folds have operations.
-fn has_operations(alloc: Global, line: &[u8]) -> bool {
-    let Ok(Value::Array(items)) = Value::from_slice(alloc, line) else {
-        return false;
-    };
-    let Some(Value::Array(program)) = items.get(1) else {
-        return false;
-    };
-    match program.first() {
-        Some(word) => is_word(word, "program2"),
-        None => false,
+/// The reasons of the refusal, each behind an LF. No array has changed since.
+fn behind(alloc: Global, book: &Book, entry: &Entry, code: Code) -> Result<String, AllocError> {
+    let line = entry.line.as_slice();
+    let mut said = String::new(alloc);
+    let limits = book.limits();
+    let shape = book.store().shape(alloc, &limits)?;
+    let told = reasons(alloc, line, shape.arrays(), &limits, code, Telling::Line)?;
+    for reason in &told {
+        said.push_str("\n")?;
+        said.push_str(reason.as_str())?;
     }
+    Ok(said)
 }
 
 /// The sentence, the statement at the place, and what it offends against.
@@ -68,95 +68,54 @@ fn offends(
     entry: &Entry,
     offence: Offence,
     place: u32,
-) -> Result<String, AllocError> {
+) -> Result<String, AllocError>
+    ensures { IfOk result (λ text. (first : List ℕ) × (string_bytes text ≡ with_code (code_of offence) first)) }
+{
     let mut said = sentence(alloc, offence.code())?;
+    let blamed = blamed(alloc, book, entry.line.as_slice(), offence, place)?;
+    said.push_str(blamed.as_str())?;
+    Ok(said)
+}
+
+/// The statement at the place, and what it offends against, each behind an LF. No array has changed since.
+fn blamed(
+    alloc: Global,
+    book: &Book,
+    line: &[u8],
+    offence: Offence,
+    place: u32,
+) -> Result<String, AllocError> {
     let shape = book.store().shape(alloc, &book.limits())?;
-    if let Some(program) = program_of(alloc, entry.line.as_slice(), &shape)? {
-        let names = has_operations(alloc, entry.line.as_slice());
-        let shown = explained(alloc, &program, &shape, offence, place, names)?;
-        said.push_str(shown.as_str())?;
+    let Some(program) = program_in_line(alloc, line, &shape)? else {
+        return Ok(String::new(alloc));
+    };
+    let blamed = Blamed {
+        program: &program,
+        arrays: shape.arrays(),
+        has_operations: has_operations(alloc, line),
+    };
+    match find_blame(alloc, blamed, place, offence)? {
+        Some(blame) => shown(alloc, line, place, &blame),
+        None => Ok(String::new(alloc)),
+    }
+}
+
+fn shown(alloc: Global, line: &[u8], place: u32, blame: &Blame) -> Result<String, AllocError> {
+    let mut said = String::from_str(alloc, "\n")?;
+    put_place(alloc, line, place, &mut said)?;
+    said.push_str(": ")?;
+    said.push_str(blame.statement.as_str())?;
+    said.push_str("\n")?;
+    said.push_str(blame.before.as_str())?;
+    if let Some(other) = blame.other {
+        put_place(alloc, line, other, &mut said)?;
+        said.push_str(blame.behind.as_str())?;
     }
     Ok(said)
 }
 
-/// The program that a line runs. No array has changed since it was refused.
-fn program_of(alloc: Global, line: &[u8], shape: &Shape) -> Result<Option<Program>, AllocError> {
-    let Ok(Value::Array(items)) = Value::from_slice(alloc, line) else {
-        return Ok(None);
-    };
-    let Some(text) = items.get(1) else {
-        return Ok(None);
-    };
-    match read_program(alloc, text, shape) {
-        Ok(program) => Ok(Some(program)),
-        Err(_) => Ok(None),
-    }
-}
-
-/// Of an offence: the statement, and with which child it conflicts or which it leaves.
-fn explained(
-    alloc: Global,
-    program: &Program,
-    shape: &Shape,
-    offence: Offence,
-    place: u32,
-    has_operations: bool,
-) -> Result<String, AllocError> {
-    let mut printer = Printer::new(alloc, shape.arrays());
-    let Some(stmt) = statement_at(&program.body, place) else {
-        return Ok(printer.into_text());
-    };
-    printer.words("\nstatement ")?;
-    printer.number(u64::from(place))?;
-    printer.words(": ")?;
-    printer.statement(stmt)?;
-    printer.words("\n")?;
-    match offence {
-        Offence::ConflictsWithChild => {
-            let touched = Touched::by(alloc, shape.arrays(), stmt)?;
-            conflict(
-                alloc,
-                &mut printer,
-                program,
-                place,
-                &Wanted::Touching(touched),
-            )?;
-        }
-        Offence::EndsWithChildren => left(alloc, &mut printer, program, place)?,
-        _ => wrong(alloc, &mut printer, stmt, offence, has_operations)?,
-    }
-    Ok(printer.into_text())
-}
-
-fn conflict(
-    alloc: Global,
-    printer: &mut Printer<'_>,
-    program: &Program,
-    place: u32,
-    wanted: &Wanted,
-) -> Result<(), AllocError> {
-    let Some(race) = find_race(alloc, &program.body, place, wanted)? else {
-        return printer.words(wrong_by(Offence::ConflictsWithChild));
-    };
-    printer.words("conflicts at ")?;
-    printer.cell(race.cell)?;
-    printer.words(" with statement ")?;
-    printer.number(u64::from(race.child.place))?;
-    printer.words(", which may be pending: ")?;
-    printer.task(race.child.decl)
-}
-
-fn left(
-    alloc: Global,
-    printer: &mut Printer<'_>,
-    program: &Program,
-    place: u32,
-) -> Result<(), AllocError> {
-    let Some(child) = find_left(alloc, &program.body, place)? else {
-        return printer.words(wrong_by(Offence::EndsWithChildren));
-    };
-    printer.words("can end before its child, statement ")?;
-    printer.number(u64::from(child.place))?;
-    printer.words(": ")?;
-    printer.task(child.decl)
+/// `statement 5 at [1][2][0], where i = 31`
+fn put_place(alloc: Global, line: &[u8], place: u32, said: &mut String) -> Result<(), AllocError> {
+    let at = place_in_line(alloc, line, place, Telling::Line)?;
+    said.push_str(format!(in alloc; "statement {place}{}", at.as_str())?.as_str())
 }

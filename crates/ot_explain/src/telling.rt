@@ -1,25 +1,25 @@
 //! The remarks behind a reply.
-ghost use Rattle.std.specs.Prelude.{◌≡◌, ◌⊎◌, ℕ, List, [], ◌++◌, OnOk, OnErr, IfOk, IfErr, Ok, Err, codes, ◌∷◌};
+ghost use Rattle.std.specs.Prelude.{◌≡◌, ◌⊎◌, ℕ, List, [], ◌++◌, OnOk, OnErr, IfOk, IfErr, is_some};
 ghost use Rattle.std.specs.Io.KnownBytes.{Appends};
-ghost use Rattle.ot_front.specs.Device.{AppendsFront};
 ghost use Rattle.ot_front.specs.Heard.{HasNoEnd};
-ghost use Rattle.ot_front.specs.declared.fault.End.TheVariants as end;
 ghost use Rattle.ot_front.specs.declared.fault.FrontFault.TheVariants as fault;
-ghost use Rattle.ot_explain.specs.Remarks.{without_remarks, remark_line, IsRemarks};
+ghost use Rattle.ot_explain.specs.Remarks.{without_remarks, remark_line, with_code, last_code, OpensWith, AreOn};
 
 use crate::remarks::remarks_on_last;
 use memchr::memchr;
 use ot_book::Book;
-use ot_front::{End, FrontFault, Sink, write_whole};
+use ot_front::{FrontFault, Sink, write_whole};
 use std::alloc::{AllocError, Global};
 
-/// Writes what is said of the last request of a book, where it was refused, and answers whether it was.
+/// Writes what is said of the last request of a book, where it was refused, and answers whether it was. A part may be
+/// written where it fails.
 pub(crate) fn tell_last<W: Sink>(
     alloc: Global,
     book: &Book,
     sink: &mut W,
 ) -> Result<bool, FrontFault>
-    ensures told { OnOk result ((text : List ℕ) × IsRemarks text × Appends (W.contents sink.old) (W.contents sink.new) text) }
+    ensures told { OnOk result ((text : List ℕ) × AreOn (last_code book.now) text × Appends (W.contents sink.old) (W.contents sink.new) text) }
+    ensures refused { IfOk result (λ refused. refused ≡ is_some (last_code book.now)) }
     ensures cut { OnErr result ((text : List ℕ) × (without_remarks text ≡ []) × Appends (W.contents sink.old) (W.contents sink.new) text) }
     ensures fails { IfErr result (λ why. (why ≡ fault.Memory) ⊎ (why ≡ fault.WriteFailed)) }
 {
@@ -38,20 +38,9 @@ pub(crate) fn tell_last<W: Sink>(
     }
 }
 
-/// Tells that a line is too long, which ends the session.
-pub(crate) fn tell_long<W: Sink>(sink: &mut W) -> Result<End, FrontFault>
-    ensures told { IfOk result (λ ended. (ended ≡ end.LongLine) × Appends (W.contents sink.old) (W.contents sink.new) (codes "[\"long\"]" ++ 10 ∷ [])) }
-    ensures cut { IfErr result (λ why. (why ≡ fault.WriteFailed) × AppendsFront (W.contents sink.old) (W.contents sink.new) (codes "[\"long\"]" ++ 10 ∷ [])) }
-{
-    match write_whole(sink, b"[\"long\"]\n".as_slice()) {
-        Ok(()) => Ok(End::LongLine),
-        Err(_) => Err(FrontFault::WriteFailed),
-    }
-}
-
 /// Each line of a text behind `# `.
-fn remarked(alloc: Global, text: &[u8]) -> Result<Vec<u8>, AllocError>
-    ensures { IfOk result (λ out. IsRemarks out.items) }
+pub(crate) fn remarked(alloc: Global, text: &[u8]) -> Result<Vec<u8>, AllocError>
+    ensures { IfOk result (λ out. (code : ℕ) (first : List ℕ) → text.now ≡ with_code code first → OpensWith code out.items) }
 {
     let mut out = Vec::new(alloc);
     let mut rest = text;

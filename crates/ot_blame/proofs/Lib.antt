@@ -1,0 +1,5 @@
+pub mod WalkLemmas
+pub mod TouchLemmas
+pub mod AwaitsLemmas
+pub mod FollowLemmas
+pub mod FindLemmas

@@ -1,0 +1,3 @@
+pub mod Races
+pub mod Named
+pub mod Walk

@@ -1,0 +1,11 @@
+//! What is at fault in a program that is refused.
+#![tactic(auto)]
+
+mod find;
+mod look;
+mod mixed;
+mod own;
+mod why;
+
+pub use find::{Found, first_fault};
+pub use why::{Count, Wanted, Why};

@@ -1,0 +1,4 @@
+pub mod FaultLemmas
+pub mod NumberLemmas
+pub mod DueLemmas
+pub mod RunLemmas

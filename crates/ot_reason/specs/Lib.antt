@@ -1,0 +1,4 @@
+pub mod Faults
+pub mod FaultView
+pub mod Sentences
+pub mod Runs

@@ -1,0 +1,170 @@
+//! Why a program is refused, and where in the line that is.
+use crate::place::{Telling, at_line, shown};
+use crate::reasoning::{all_of, cells};
+use crate::statement::unlike_statement;
+use ot_fault::{Count, Wanted, Why, first_fault};
+use ot_model::{ArrayShape, Op};
+use ot_place::{entry_of, value_at};
+use ot_program::{Refusal, is_word};
+use ot_store::Limits;
+use serde_json::Value;
+use std::alloc::{AllocError, Global};
+
+/// Where the first fault is of the program that a request runs, and what it is. There is nothing to tell where that isn't
+/// what the request was refused for.
+pub(crate) fn of_program(
+    alloc: Global,
+    request: &Value,
+    arrays: &[ArrayShape],
+    limits: &Limits,
+    refusal: Refusal,
+    telling: Telling,
+) -> Result<Vec<String>, AllocError> {
+    let mut reasons = Vec::new(alloc);
+    let Some(found) = first_fault(alloc, request, arrays, limits.tasks)? else {
+        return Ok(reasons);
+    };
+    if found.why.refusal() != refusal {
+        return Ok(reasons);
+    }
+    if let Some(place) = entry_of(alloc, request, found.index)? {
+        if let Some(statement) = value_at(request, place.path.as_slice()) {
+            reasons.push(at_line(alloc, &place, statement, telling)?)?;
+        }
+    }
+    let second = is_second(request);
+    match found.why {
+        Why::Form(part, Wanted::Statement) => unlike_statement(alloc, second, part, &mut reasons)?,
+        why => reasons.push(words_of(alloc, why, second)?)?,
+    }
+    if let Why::Unknown(_) = found.why {
+        reasons.push(all_of(alloc, arrays)?)?;
+    }
+    Ok(reasons)
+}
+
+/// Whether a request runs a program whose folds have operations.
+pub(crate) fn is_second(request: &Value) -> bool {
+    let Value::Array(items) = request else {
+        return false;
+    };
+    let Some(Value::Array(program)) = items.get(1) else {
+        return false;
+    };
+    match program.first() {
+        Some(word) => is_word(word, "program2"),
+        None => false,
+    }
+}
+
+/// A fault in words.
+fn words_of(alloc: Global, why: Why<'_>, second: bool) -> Result<String, AllocError> {
+    match why {
+        Why::Form(part, wanted) => {
+            let shown = shown(alloc, part)?;
+            format!(in alloc; "{shown} is {}", wanted_words(wanted, second))
+        }
+        Why::Unbound(name) => format!(in alloc; "no loop around binds the variable {name}"),
+        Why::TooGreat(number) => format!(in alloc; "{number} is no size: it is above 4294967295"),
+        Why::NotExact(sign, one, two) => not_exact(alloc, sign, one, two),
+        Why::Unknown(name) => format!(in alloc; "there is no array {name}"),
+        Why::NoCell(name, index, has) => {
+            let noun = cells(u64::from(has));
+            format!(in alloc; "the array {name} has {has} {noun}, and index {index} is beyond")
+        }
+        Why::NoCells(name, start, len, has) => {
+            let noun = cells(u64::from(has));
+            let sum = start.saturating_add(len);
+            format!(in alloc;
+                "the array {name} has {has} {noun}, and index {start} + length {len} is {sum}"
+            )
+        }
+        Why::Empty(name, start) => {
+            format!(in alloc; "the section of {name} from index {start} on has length 0")
+        }
+        Why::Mixed(name, index) => mixed_words(alloc, name, index, second),
+        _ => too_much(alloc, why),
+    }
+}
+
+/// An operation of two sizes that is no size.
+fn not_exact(alloc: Global, sign: Op, one: u64, two: u64) -> Result<String, AllocError> {
+    match sign {
+        Op::Minus => format!(in alloc; "{one} - {two} is no size: it is below 0"),
+        Op::Times => format!(in alloc; "{one} * {two} is no size: it is above 4294967295"),
+        _ => format!(in alloc; "{one} + {two} is no size: it is above 4294967295"),
+    }
+}
+
+fn mixed_words(alloc: Global, name: &str, index: u32, second: bool) -> Result<String, AllocError> {
+    let more = if second {
+        ", or under `red` by two operations"
+    } else {
+        ""
+    };
+    format!(in alloc; "{name}[{index}] stands under `red` and under another kind{more}")
+}
+
+/// What is too deep, or too many.
+fn too_much(alloc: Global, why: Why<'_>) -> Result<String, AllocError> {
+    match why {
+        Why::Nested(level) => {
+            let nesting = level.saturating_add(1);
+            format!(in alloc; "its body is at nesting {nesting}, and may be at 16 at most")
+        }
+        Why::Deep(part, depth) => {
+            let shown = shown(alloc, part)?;
+            format!(in alloc; "{shown} has depth {depth}, and may have 24")
+        }
+        Why::TooMany(count, has, may) => {
+            let what = counted(count);
+            format!(in alloc; "with it the program has {has} {what}, and may have {may}")
+        }
+        Why::TooManyTasks(has, may) => {
+            format!(in alloc; "with it the program has {has} task statements, and may have {may}")
+        }
+        _ => Ok(String::new(alloc)),
+    }
+}
+
+fn counted(count: Count) -> &'static str {
+    match count {
+        Count::Statements => "statements",
+        Count::Turns => "turns of loops",
+        Count::Nodes => "nodes of values",
+        Count::Cells => "cells of sections",
+    }
+}
+
+/// What stands where something else was wanted.
+fn wanted_words(wanted: Wanted, second: bool) -> &'static str {
+    match wanted {
+        Wanted::Program => {
+            "no program: it is [\"program\",[section,..],body] or [\"program2\",[section,..],body]"
+        }
+        Wanted::Statement => "no statement",
+        Wanted::List => "no list",
+        Wanted::Name => "no name: a letter a to z, then at most 15 letters a to z, digits and _",
+        Wanted::Number => "no whole number from 0 to 18446744073709551615",
+        Wanted::Sign => "none of + - *, which are the operations of sizes",
+        Wanted::Size => {
+            "no size: a whole number from 0 to 4294967295, a variable, or [op,size,size]"
+        }
+        Wanted::Cell => "no cell: [\"c\",name,size]",
+        Wanted::Section => "no section: [name,size,size]",
+        Wanted::Operation => "none of + - * & | ^ < = min max, \"c\" and \"pick\"",
+        Wanted::Value => {
+            "no value: a number, a variable, [\"c\",name,size], [op,value,value] or [\"pick\",section,value]"
+        }
+        Wanted::Clause if second => {
+            "no clause: [\"in\",section], [\"out\",section], [\"inout\",section] or [\"red\",op,section]"
+        }
+        Wanted::Clause => {
+            "no clause: [\"in\",section], [\"out\",section], [\"inout\",section] or [\"red\",section]"
+        }
+        Wanted::WaitClause => {
+            "no clause of a wait: [\"in\",section], [\"out\",section] or [\"inout\",section]"
+        }
+        Wanted::Fold => "none of + * & | ^ min max, which are the operations of folds",
+    }
+}
