@@ -1,87 +1,99 @@
 -- What a client reads, sends, hears and prints.
-use Rattle.std.specs.Prelude.{◌≡◌, ◌⊎◌, ℕ, Bool, true, false, if◌then◌else◌, List, length, map, Option, Result, Ok, Err, ⊤}
-use Rattle.std.specs.List.{All, concat, list_any}
-use Rattle.std.specs.Io.KnownBytes.{Appends, Consumes}
-use Rattle.ot_program.specs.Names.{is_name}
-use Rattle.ot_front.specs.Device.{AppendsFront}
-use Rattle.ot_ask.specs.Lines.{IsWhole, busy_text, hello_line, is_last, is_refusal, is_welcome, says_bye, sent_for, unknown_text}
+use Rattle.std.specs.Prelude.{◌≡◌, ◌⊎◌, ◌-◌, ◌^◌, ◌&&◌, ℕ, Bool, true, false, if◌then◌else◌, List, [], ◌∷◌, ◌++◌, length, map, take, Result, Ok, Err}
+use Rattle.std.specs.List.{All, AllZip, concat, list_any}
+use Rattle.std.specs.Io.KnownBytes.{Consumes}
+use Rattle.ot_ask.specs.Greeting.{Greets}
+use Rattle.ot_ask.specs.Lines.{IsWhole, goodbye, is_last, is_refusal, says_bye, sent_for}
+use Rattle.ot_ask.specs.Streams.{BreaksOff, Gives, GivesLine, HasFailed, Incoming, IsLost, IsOver, Link, Outgoing, Writes, link}
+use Rattle.ot_ask.specs.Tallies.{none_counted, tally_of}
+use Rattle.ot_ask.specs.declared.asked.Tally.{Tally}
 use Rattle.ot_ask.specs.declared.asked.Asked.{Asked}
 use Rattle.ot_ask.specs.declared.asked.Asked.TheVariants.{AllTaken, SomeRefused, CutShort}
 use Rattle.ot_ask.specs.declared.asked.AskFault.{AskFault}
-use Rattle.ot_ask.specs.declared.asked.AskFault.TheVariants.{Busy, UnknownTenant, WriteFailed}
+use Rattle.ot_ask.specs.declared.asked.AskFault.TheVariants.{Closed, Memory, ReadFailed, TooManyLines, WriteFailed}
 use Rattle.ot_ask.specs.declared.exchange.Step.{Step}
 use Rattle.ot_ask.specs.declared.exchange.Step.TheVariants as step
 
-abbrev pub Known : Type 0
-Known = Option (List ℕ)
-
--- the lines to come, the replies to come, what was sent, and what was printed, where these are known
+-- the lines to come, the stream to and from the server, and what was printed
 pub record Ways : Type 0 where
-  pub typed : Known
-  pub heard : Known
-  pub sent : Known
-  pub printed : Known
+  pub typed : Incoming
+  pub link : Link
+  pub printed : Outgoing
 
-abbrev pub ways : Known → Known → Known → Known → Ways
-ways typed heard sent printed = record { typed = typed; heard = heard; sent = sent; printed = printed }
+abbrev pub ways : Incoming → Incoming → Outgoing → Outgoing → Ways
+ways typed heard sent printed = record { typed = typed; link = link heard sent; printed = printed }
+
+-- ---- what is said behind replies
+
+-- nothing is said
+abbrev pub is_silent : List ℕ → List ℕ → Type 0
+is_silent reply remarks = remarks ≡ []
+
+-- a reply as it is printed, with what may be said behind it
+abbrev pub IsShown : (List ℕ → List ℕ → Type 0) → List ℕ → List ℕ → Type 0
+IsShown Says reply text = (remarks : List ℕ) × Says reply remarks × (text ≡ reply ++ remarks)
 
 -- ---- one line
 
--- a line is read and sent, and its reply heard and printed
-pub record IsAnswered (old new : Ways) (is_refused : Bool) : Type 0 where
-  pub line : List ℕ
-  pub reply : List ℕ
-  pub reads : Consumes old.typed new.typed line
-  pub sends : Appends old.sent new.sent (sent_for line)
-  pub hears : Consumes old.heard new.heard reply
-  pub prints : Appends old.printed new.printed reply
-  pub whole : IsWhole reply
-  pub goes_on : is_last reply ≡ false
-  pub told : is_refused ≡ is_refusal reply
-
--- a goodbye is read and sent, or the lines are over and one is sent
+-- A goodbye is read and sent, or the lines are over and one is sent, and then the server's stream is over.
 pub record SaysBye (old new : Ways) : Type 0 where
   pub line : List ℕ
-  pub reads : Consumes old.typed new.typed line
-  pub sends : Appends old.sent new.sent (sent_for line)
+  pub reads : Gives old.typed new.typed line
+  pub sends : Writes old.link.sent new.link.sent (sent_for line)
   pub bye : says_bye (sent_for line) ≡ true
+  pub waits : IsOver old.link.heard new.link.heard
   pub prints : new.printed ≡ old.printed
 
--- the server ends the session with this reply, which is printed
+-- The server ends the session with this reply, which is printed, and then its stream is over. Of the line that it doesn't
+-- take maybe only a front was sent.
 pub record IsCutShort (old new : Ways) : Type 0 where
   pub line : List ℕ
   pub reply : List ℕ
-  pub reads : Consumes old.typed new.typed line
-  pub prints : Appends old.printed new.printed reply
-  pub whole : IsWhole reply
+  pub mid : Incoming
+  pub reads : Gives old.typed new.typed line
+  pub sends : Writes old.link.sent new.link.sent (sent_for line) ⊎ BreaksOff old.link.sent new.link.sent (sent_for line)
+  pub hears : GivesLine old.link.heard mid reply
+  pub waits : IsOver mid new.link.heard
+  pub prints : Writes old.printed new.printed reply
   pub last : is_last reply ≡ true
 
--- What is printed where something goes wrong: nothing more, and of a reply that can't be printed a front.
-abbrev pub Breaks : AskFault → Ways → Ways → Type 0
-Breaks WriteFailed old new = (reply : List ℕ) × IsWhole reply × AppendsFront old.printed new.printed reply
-Breaks fault old new = new.printed ≡ old.printed
+module _ (Says : List ℕ → List ℕ → Type 0) where
+  -- a line is read and sent, and its reply heard and printed, with what may be said behind it
+  pub record IsAnswered (old new : Ways) (is_refused : Bool) : Type 0 where
+    pub line : List ℕ
+    pub reply : List ℕ
+    pub reads : Gives old.typed new.typed line
+    pub sends : Writes old.link.sent new.link.sent (sent_for line)
+    pub hears : GivesLine old.link.heard new.link.heard reply
+    pub text : List ℕ
+    pub shows : IsShown Says reply text
+    pub prints : Writes old.printed new.printed text
+    pub goes_on : is_last reply ≡ false
+    pub told : is_refused ≡ is_refusal reply
 
--- one line, by what it came to
-abbrev pub Steps : Ways → Ways → Result Step AskFault → Type 0
-Steps old new (Ok (step.Answered is_refused)) = IsAnswered old new is_refused
-Steps old new (Ok step.Bye) = SaysBye old new
-Steps old new (Ok step.CutShort) = IsCutShort old new
-Steps old new (Err fault) = Breaks fault old new
+  -- Where something goes wrong: which failure it was, and that nothing more is printed, but of a reply that can't be printed
+  -- a front.
+  abbrev pub Breaks : AskFault → Ways → Ways → Type 0
+  Breaks ReadFailed old new = HasFailed old.typed new.typed × (new.link.sent ≡ old.link.sent) × (new.printed ≡ old.printed)
+  Breaks Closed old new =
+      (((line : List ℕ) × BreaksOff old.link.sent new.link.sent (sent_for line)) ⊎ IsLost old.link.heard new.link.heard) × (new.printed ≡ old.printed)
+  Breaks WriteFailed old new =
+      (reply : List ℕ)
+      × (text : List ℕ)
+      × GivesLine old.link.heard new.link.heard reply
+      × ((text ≡ reply) ⊎ IsShown Says reply text)
+      × BreaksOff old.printed new.printed text
+  Breaks Memory old new = new.printed ≡ old.printed
+  Breaks fault old new = ⊥
+
+  -- one line, by what it came to
+  abbrev pub Steps : Ways → Ways → Result Step AskFault → Type 0
+  Steps old new (Ok (step.Answered is_refused)) = IsAnswered old new is_refused
+  Steps old new (Ok step.Bye) = SaysBye old new
+  Steps old new (Ok step.CutShort) = IsCutShort old new
+  Steps old new (Err fault) = Breaks fault old new
 
 -- ---- all lines
-
--- lines are read and sent in order, and for each one whole reply is heard and printed
-pub record Talk (old new : Ways) (is_refused : Bool) : Type 0 where
-  pub lines : List (List ℕ)
-  pub replies : List (List ℕ)
-  pub each : length replies ≡ length lines
-  pub reads : Consumes old.typed new.typed (concat lines)
-  pub sends : Appends old.sent new.sent (concat (map sent_for lines))
-  pub hears : Consumes old.heard new.heard (concat replies)
-  pub prints : Appends old.printed new.printed (concat replies)
-  pub whole : All IsWhole replies
-  pub goes_on : All (λ reply. is_last reply ≡ false) replies
-  pub told : is_refused ≡ list_any is_refusal replies
 
 -- what a client comes to whose lines were all answered
 abbrev pub asked_of : Bool → Asked
@@ -92,38 +104,66 @@ asked_of true = SomeRefused
 abbrev pub asked_after : Asked → Bool → Asked
 asked_after asked is_refused = if is_refused then SomeRefused else asked
 
--- what comes behind the lines that were answered
-abbrev pub Ends : Ways → Ways → Bool → Result Asked AskFault → Type 0
-Ends old new is_refused (Ok AllTaken) = (is_refused ≡ false) × SaysBye old new
-Ends old new is_refused (Ok SomeRefused) = (is_refused ≡ true) × SaysBye old new
-Ends old new is_refused (Ok CutShort) = IsCutShort old new
-Ends old new is_refused (Err fault) = Breaks fault old new
+-- behind a refusal a goodbye is sent, and then the server's stream is over; or it can't be sent
+abbrev pub Leaves : Link → Link → Result Asked AskFault → Type 0
+Leaves old new (Ok SomeRefused) = Writes old.sent new.sent goodbye × IsOver old.heard new.heard
+Leaves old new (Err Closed) = BreaksOff old.sent new.sent goodbye × (new.heard ≡ old.heard)
+Leaves old new result = ⊥
 
--- lines that are answered, and then an end
-pub record Talks (old new : Ways) (result : Result Asked AskFault) : Type 0 where
-  pub last : Ways
-  pub is_refused : Bool
-  pub talk : Talk old last is_refused
-  pub ends : Ends last new is_refused result
+-- the replies that were printed are counted, also the one that ends the session
+abbrev pub Counts : List (List ℕ) → Result Asked AskFault → Tally → Type 0
+Counts replies (Ok CutShort) tally = (last : List ℕ) × (is_last last ≡ true) × (tally ≡ tally_of (replies ++ last ∷ []))
+Counts replies result tally = tally ≡ tally_of replies
 
--- ---- the greeting
+module _ (Says : List ℕ → List ℕ → Type 0) where
+  -- Lines are read and sent in order, and for each one whole reply is heard and printed, with what may be said behind it. Nothing
+  -- fails.
+  pub record Talk (old new : Ways) (is_refused : Bool) : Type 0 where
+    pub lines : List (List ℕ)
+    pub replies : List (List ℕ)
+    pub each : length replies ≡ length lines
+    pub reads : Consumes old.typed.ahead new.typed.ahead (concat lines)
+    pub sends : Writes old.link.sent new.link.sent (concat (map sent_for lines))
+    pub hears : Consumes old.link.heard.ahead new.link.heard.ahead (concat replies)
+    pub texts : List (List ℕ)
+    pub shows : AllZip (IsShown Says) replies texts
+    pub prints : Writes old.printed new.printed (concat texts)
+    pub whole : All IsWhole replies
+    pub goes_on : All (λ reply. is_last reply ≡ false) replies
+    pub told : is_refused ≡ list_any is_refusal replies
+    pub typed_worked : new.typed.failures ≡ old.typed.failures
+    pub heard_worked : new.link.heard.failures ≡ old.link.heard.failures
+    pub heard_untold : new.link.heard.ends ≡ old.link.heard.ends
 
--- the server's answer to a greeting is this
-pub record IsGreeted (name : List ℕ) (old new : Ways) (reply : List ℕ) : Type 0 where
-  pub sends : Appends old.sent new.sent (hello_line name)
-  pub hears : Consumes old.heard new.heard reply
-  pub reads : new.typed ≡ old.typed
-  pub prints : new.printed ≡ old.printed
+  -- what comes of the lines behind so many that were answered
+  abbrev pub GoesOn : ℕ → Ways → Ways → Bool → Result Asked AskFault → Type 0
+  GoesOn count old new is_refused (Ok AllTaken) = (is_refused ≡ false) × SaysBye old new
+  GoesOn count old new is_refused (Ok SomeRefused) = (is_refused ≡ true) × SaysBye old new
+  GoesOn count old new is_refused (Ok CutShort) = IsCutShort old new
+  GoesOn count old new is_refused (Err TooManyLines) = (count ≡ 2 ^ 64 - 1) × (new ≡ old)
+  GoesOn count old new is_refused (Err fault) = Breaks Says fault old new
 
--- a greeting, by what it came to
-abbrev pub Greets : List ℕ → Ways → Ways → Result ⊤ AskFault → Type 0
-Greets name old new (Ok done) = (reply : List ℕ) × IsGreeted name old new reply × (is_welcome reply ≡ true)
-Greets name old new (Err Busy) = IsGreeted name old new busy_text
-Greets name old new (Err UnknownTenant) = ((is_name name ≡ false) × (new ≡ old)) ⊎ IsGreeted name old new unknown_text
-Greets name old new (Err fault) = new.printed ≡ old.printed
+  -- What comes behind so many lines that were answered. Where the session stops at the last of them, no line is read any more.
+  abbrev pub Ends : Bool → ℕ → Ways → Ways → Bool → Result Asked AskFault → Type 0
+  Ends true count old new is_refused result = Leaves old.link new.link result × (new.typed ≡ old.typed) × (new.printed ≡ old.printed)
+  Ends false count old new is_refused result = GoesOn count old new is_refused result
 
--- a session of a client: the greeting, and the lines behind it, or a greeting that isn't answered with a welcome
-abbrev pub Asks : List ℕ → Ways → Ways → Result Asked AskFault → Type 0
-Asks name old new result =
-    ((greeted : Ways) × Greets name old greeted (Ok tt) × Talks greeted new result)
-    ⊎ ((fault : AskFault) × (result ≡ Err fault) × Greets name old new (Err fault))
+  -- Lines that are answered, and then an end. A session that is to stop at a refusal stops behind the first reply that is one.
+  pub record Talks (stop : Bool) (old new : Ways) (result : Result Asked AskFault) (tally : Tally) : Type 0 where
+    pub last : Ways
+    pub is_refused : Bool
+    pub talk : Talk old last is_refused
+    pub first : stop ≡ true → All (λ reply. is_refusal reply ≡ false) (take (length talk.replies - 1) talk.replies)
+    pub ends : Ends (stop && is_refused) (length talk.lines) last new is_refused result
+    pub counts : Counts talk.replies result tally
+
+  -- a session of a client: the greeting, and the lines behind it, or a greeting that isn't answered with a welcome
+  abbrev pub Asks : List ℕ → Bool → Ways → Ways → Result Asked AskFault → Tally → Type 0
+  Asks name stop old new result tally =
+      ((greeted : Link) × Greets name old.link greeted (Ok tt) × Talks stop (record old { link = greeted }) new result tally)
+      ⊎ ((fault : AskFault)
+      × (result ≡ Err fault)
+      × Greets name old.link new.link (Err fault)
+      × (new.typed ≡ old.typed)
+      × (new.printed ≡ old.printed)
+      × (tally ≡ none_counted))

@@ -1,7 +1,7 @@
 -- The lines between a client and a server.
 use Rattle.std.specs.Prelude.{◌≡◌, ◌==◌, ◌&&◌, ◌||◌, ◌-◌, ℕ, nat_le, Bool, true, if◌then◌else◌, List, [], ◌∷◌, ◌++◌, length, take, slice_get, unwrap_or, codes, bytes_eq}
 use Rattle.std.specs.Io.{StopsAt}
-use Rattle.ot_front.specs.Heard.{is_bye}
+use Rattle.ot_lines.specs.Goodbyes.{is_bye}
 
 -- the last byte is an LF
 abbrev pub is_ended : List ℕ → Bool
@@ -17,9 +17,13 @@ IsWhole bytes = (is_ended bytes ≡ true) × StopsAt bytes 10
 abbrev pub hello_line : List ℕ → List ℕ
 hello_line name = codes "[\"hello\",\"" ++ name ++ codes "\"]\n"
 
+-- the goodbye
+abbrev pub goodbye : List ℕ
+goodbye = codes "[\"bye\"]\n"
+
 -- for what was read of the input: the line, which gets an LF where it has none, and a goodbye at the end
 abbrev pub sent_for : List ℕ → List ℕ
-sent_for [] = codes "[\"bye\"]\n"
+sent_for [] = goodbye
 sent_for (b ∷ bs) = if is_ended (b ∷ bs) then b ∷ bs else (b ∷ bs) ++ 10 ∷ []
 
 -- a line with its LF is the goodbye

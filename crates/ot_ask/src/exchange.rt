@@ -1,12 +1,16 @@
-//! One line and its reply.
-ghost use Rattle.ot_ask.specs.Asking.{Steps, ways};
+//! One line and its reply, and a goodbye behind a refusal.
+ghost use Rattle.std.specs.Prelude.{◌≡◌, OnOk, IfErr};
+ghost use Rattle.ot_ask.specs.declared.asked.AskFault.TheVariants.{Memory};
+ghost use Rattle.ot_ask.specs.Asking.{IsShown, Leaves, Steps, ways};
+ghost use Rattle.ot_ask.specs.Streams.{link, outgoing};
 
-use crate::asked::AskFault;
-use crate::hearing::{hear, read_line, wait_for_end};
+use crate::asked::{AskFault, Asked};
+use crate::hearing::{hear, read_line};
 use crate::line::{is_last, is_refusal, says_bye};
+use crate::remarker::Remarker;
+use crate::stream::LineSource;
 use ot_front::{Sink, write_whole};
 use std::alloc::Global;
-use std::io::BufRead;
 
 /// What one line came to.
 #[derive(Clone, Copy, Debug)]
@@ -19,18 +23,21 @@ pub(crate) enum Step {
     CutShort,
 }
 
-/// Reads a line, sends it, and prints its reply. A server that has no use for the line may end the stream
-/// before it has read all of it, so its reply is looked for also where not all was sent.
-pub(crate) fn exchange<T: BufRead, H: BufRead, W: Sink, P: Sink>(
+/// Reads a line, sends it, and prints its reply, and behind that what is said of the two. A server that has no use for the
+/// line may end the stream before it has read all of it, so its reply is looked for also where not all was sent.
+pub(crate) fn exchange<M: Remarker, T: LineSource, H: LineSource, W: Sink, P: Sink>(
     alloc: Global,
+    remarker: &mut M,
     typed: &mut T,
     heard: &mut H,
     wire: &mut W,
     printed: &mut P,
 ) -> Result<Step, AskFault>
-    ensures { Steps
-        (ways (T.remaining typed.old) (H.remaining heard.old) (W.contents wire.old) (P.contents printed.old))
-        (ways (T.remaining typed.new) (H.remaining heard.new) (W.contents wire.new) (P.contents printed.new)) result }
+    ensures { Steps M.says
+        (ways (T.coming typed.old) (H.coming heard.old) (outgoing (W.contents wire.old) (W.failures wire.old))
+        (outgoing (P.contents printed.old) (P.failures printed.old)))
+        (ways (T.coming typed.new) (H.coming heard.new) (outgoing (W.contents wire.new) (W.failures wire.new))
+        (outgoing (P.contents printed.new) (P.failures printed.new))) result }
 {
     let mut line = Vec::new(alloc);
     if let Err(fault) = read_line(typed, &mut line) {
@@ -38,7 +45,7 @@ pub(crate) fn exchange<T: BufRead, H: BufRead, W: Sink, P: Sink>(
     }
     let is_sent = write_whole(wire, &line).is_ok();
     if is_sent && says_bye(&line) {
-        wait_for_end(heard);
+        heard.wait_for_end();
         return Ok(Step::Bye);
     }
     let mut reply = Vec::new(alloc);
@@ -49,14 +56,58 @@ pub(crate) fn exchange<T: BufRead, H: BufRead, W: Sink, P: Sink>(
         if write_whole(printed, &reply).is_err() {
             return Err(AskFault::WriteFailed);
         }
-        wait_for_end(heard);
+        heard.wait_for_end();
         return Ok(Step::CutShort);
     }
     if !is_sent {
         return Err(AskFault::Closed);
     }
+    let is_refused = is_refusal(&reply);
+    if let Err(fault) = put_remarks(alloc, remarker, &line, &mut reply) {
+        return Err(fault);
+    }
     if write_whole(printed, &reply).is_err() {
         return Err(AskFault::WriteFailed);
     }
-    Ok(Step::Answered(is_refusal(&reply)))
+    Ok(Step::Answered(is_refused))
+}
+
+/// Puts behind the reply to a line what is said of the two.
+fn put_remarks<M: Remarker>(
+    alloc: Global,
+    remarker: &mut M,
+    line: &[u8],
+    reply: &mut Vec<u8>,
+) -> Result<(), AskFault>
+    ensures shown { OnOk result (IsShown M.says reply.old.items reply.new.items) }
+    ensures fails { IfErr result (λ fault. fault ≡ Memory) }
+{
+    let Ok(remarks) = remarker.remark(alloc, without_end(line), reply) else {
+        return Err(AskFault::Memory);
+    };
+    match reply.extend_from_slice(&remarks) {
+        Ok(()) => Ok(()),
+        Err(_) => Err(AskFault::Memory),
+    }
+}
+
+/// A line without its LF.
+fn without_end(line: &[u8]) -> &[u8] {
+    match line {
+        [before @ .., last] if *last == b'\n' => before,
+        _ => line,
+    }
+}
+
+/// Says goodbye behind a line that was refused, and waits until the server has ended the session.
+pub(crate) fn leave<H: LineSource, W: Sink>(heard: &mut H, wire: &mut W) -> Result<Asked, AskFault>
+    ensures { Leaves
+        (link (H.coming heard.old) (outgoing (W.contents wire.old) (W.failures wire.old)))
+        (link (H.coming heard.new) (outgoing (W.contents wire.new) (W.failures wire.new))) result }
+{
+    if write_whole(wire, b"[\"bye\"]\n".as_slice()).is_err() {
+        return Err(AskFault::Closed);
+    }
+    heard.wait_for_end();
+    Ok(Asked::SomeRefused)
 }

@@ -1,25 +1,25 @@
 //! The greeting.
-ghost use Rattle.ot_ask.specs.Asking.{Greets, ways};
-ghost use Rattle.std.specs.Prelude.{Option, List, ℕ};
+ghost use Rattle.ot_ask.specs.Greeting.{Greets};
+ghost use Rattle.ot_ask.specs.Streams.{link, outgoing};
 
 use crate::asked::AskFault;
 use crate::hearing::hear;
 use crate::line::{hello_line, is_welcome};
+use crate::stream::LineSource;
 use ot_front::{Sink, write_whole};
 use ot_program::is_name;
 use std::alloc::Global;
-use std::io::BufRead;
 
 /// Says whose session is wanted, and hears whether there is one. The welcome isn't printed.
-pub(crate) fn greet<H: BufRead, W: Sink>(
+pub fn greet<H: LineSource, W: Sink>(
     alloc: Global,
     name: &str,
     heard: &mut H,
     wire: &mut W,
 ) -> Result<(), AskFault>
-    ensures { (typed printed : Option (List ℕ)) → Greets name.now
-        (ways typed (H.remaining heard.old) (W.contents wire.old) printed)
-        (ways typed (H.remaining heard.new) (W.contents wire.new) printed) result }
+    ensures { Greets name.now
+        (link (H.coming heard.old) (outgoing (W.contents wire.old) (W.failures wire.old)))
+        (link (H.coming heard.new) (outgoing (W.contents wire.new) (W.failures wire.new))) result }
 {
     if !is_name(name) {
         return Err(AskFault::UnknownTenant);

@@ -4,9 +4,15 @@
 pub mod asked;
 pub mod asking;
 mod exchange;
-mod greeting;
-mod hearing;
+pub mod greeting;
+pub mod hearing;
 mod line;
+pub mod remarker;
+pub mod stream;
 
-pub use asked::{AskFault, Asked};
-pub use asking::ask;
+pub use asked::{AskFault, Asked, Tally};
+pub use asking::{ask, converse};
+pub use greeting::greet;
+pub use hearing::hear;
+pub use remarker::{Remarker, Silence};
+pub use stream::{LineEnd, LineFault, LineSource, Lines};

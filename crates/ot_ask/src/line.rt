@@ -1,8 +1,8 @@
 //! Lines that are sent, and lines that are heard.
-ghost use Rattle.std.specs.Prelude.{◌≡◌, OnOk, reverse, string_bytes, IfOk};
-ghost use Rattle.ot_front.specs.Heard.{is_blank, is_bye, without_front_blanks};
+ghost use Rattle.std.specs.Prelude.{◌≡◌, OnOk, string_bytes, IfOk};
 ghost use Rattle.ot_ask.specs.Lines.{begins_with, hello_line, is_ended, is_last, is_refusal, is_welcome, says_bye, sent_for};
 
+use ot_lines::is_bye;
 use std::alloc::{AllocError, Global};
 
 /// Makes what was read the line that is sent: one without an LF gets one, and the end of the input is a
@@ -44,45 +44,6 @@ pub(crate) fn says_bye(line: &[u8]) -> bool
         [before @ .., _] => is_bye(before),
         _ => false,
     }
-}
-
-fn is_bye(line: &[u8]) -> bool
-    ensures { result ≡ is_bye line.now }
-{
-    without_back_blanks(without_front_blanks(line)) == b"[\"bye\"]".as_slice()
-}
-
-fn without_front_blanks(line: &[u8]) -> &[u8]
-    ensures { result.now ≡ without_front_blanks line.now }
-{
-    let mut rest = line;
-    while let [first, after @ ..] = rest {
-        if !is_blank(*first) {
-            return rest;
-        }
-        rest = after;
-    }
-    rest
-}
-
-fn without_back_blanks(line: &[u8]) -> &[u8]
-    ensures { result.now ≡ reverse (without_front_blanks (reverse line.now)) }
-{
-    let mut rest = line;
-    while let [before @ .., last] = rest {
-        if !is_blank(*last) {
-            return rest;
-        }
-        rest = before;
-    }
-    rest
-}
-
-/// Whether the byte is white space that JSON allows on a line: space, tab or CR.
-fn is_blank(byte: u8) -> bool
-    ensures { result ≡ is_blank byte }
-{
-    byte == b' ' || byte == b'\t' || byte == b'\r'
 }
 
 /// Whether a reply refuses its line.

@@ -1,5 +1,5 @@
 -- A session after a piece or a line more, and where it stops.
-use Rattle.std.proofs.Common.{◌≡◌, ℕ, ◌+◌, ◌≤◌, ◌<◌, List, [], ◌∷◌, ◌++◌, length, refl, sym, ap, ◌∙◌, subst, arith, append_assoc, append-nil, length-append, inl, true, false}
+use Rattle.std.proofs.Common.{◌≡◌, ℕ, suc, ◌+◌, ◌≤◌, ◌<◌, List, [], ◌∷◌, ◌++◌, length, refl, sym, ap, ◌∙◌, subst, arith, append_assoc, append-nil, length-append, inl, true, false}
 use Rattle.std.specs.Prelude.{Option, Some, None, Result, Ok, Err, ⊤, fold}
 use Rattle.std.proofs.Math.ListN.{length-map}
 use Rattle.std.proofs.lemmas.List.{map-append}
@@ -18,6 +18,8 @@ use Rattle.ot_last.specs.Going.{run_in, kept, Going, Says, Goes, result_of, told
 use Rattle.ot_last.specs.declared.found.LastRun.{LastRun}
 use Rattle.ot_last.specs.declared.fault.LastFault.{LastFault}
 use Rattle.ot_last.specs.declared.fault.LastFault.TheVariants as fault
+use Rattle.ot_last.specs.declared.fault.Untaken.{Untaken}
+use Rattle.ot_last.specs.declared.fault.Untaken.TheVariants as answer
 use Rattle.ot_last.specs.declared.stop.Stop.{Stop}
 use Rattle.ot_last.specs.declared.stop.Stop.TheVariants.{Bye, Bad, Memory}
 use Rattle.ot_last.proofs.FoundLemmas.{found-append, found-bad, closed_bad}
@@ -63,14 +65,14 @@ going_piece {bytes} {partial} piece g clean fits = record {
 }
 
 pub stops_long : {bytes partial : List ℕ} {book : Register} {last : Option Run} → (piece : List ℕ) (number : ℕ) → Going bytes partial book last → HasNoEnd piece →
-    max_line < length partial + length piece → number ≡ next_number book → (more : List ℕ) → Says ((bytes ++ piece) ++ more) last (Bad number)
+    max_line < length partial + length piece → number ≡ next_number book → (more : List ℕ) → Says ((bytes ++ piece) ++ more) last (Bad number answer.Long)
 stops_long {bytes} {partial} piece number g clean past is = λ more.
     let long = heard-long first_room g.lines partial piece clean g.short past in
     let h : Heard = record { lines = g.lines; partial = long.0; end = Some end.LongLine } in
     let hears : heard_in beginner (bytes ++ piece) ≡ h = heard-append first_room bytes piece ∙ ap (λ x. fold (hear first_room) x piece) g.hears ∙ long.1 in
     found_from ((bytes ++ piece) ++ more) h (heard_stays (bytes ++ piece) more h end.LongLine hears refl)
     ∙ ap (closed_by (Some end.LongLine) (next_number beginner + length g.lines)) g.taken
-    ∙ ap BadAt (sym (is ∙ number_is g))
+    ∙ ap (λ n. BadAt n answer.Long) (sym (is ∙ number_is g))
 
 -- ---- a whole line
 
@@ -83,14 +85,14 @@ stops_bye {bytes} {line} g bye = λ more.
     (ap (λ (x : Heard). x.end) stays, found_from ((bytes ++ 10 ∷ []) ++ more) h stays ∙ g.taken)
 
 pub stops_full : {bytes line : List ℕ} {book : Register} {last : Option Run} → (number : ℕ) → Going bytes line book last → is_bye line ≡ false →
-    takes (room_in book) line ≡ false → number ≡ next_number book → (more : List ℕ) → Says ((bytes ++ 10 ∷ []) ++ more) last (Bad number)
+    takes (room_in book) line ≡ false → number ≡ next_number book → (more : List ℕ) → Says ((bytes ++ 10 ∷ []) ++ more) last (Bad number answer.Full)
 stops_full {bytes} {line} number g bye full is = λ more.
     let h : Heard = record { lines = g.lines; partial = []; end = Some end.Full } in
     let no : takes (room_after first_room g.lines) line ≡ false = ap (λ r. takes r line) (sym (room_is g)) ∙ full in
     let hears : heard_in beginner (bytes ++ 10 ∷ []) ≡ h = hears_line g ∙ with_line-full first_room g.lines line bye no in
     found_from ((bytes ++ 10 ∷ []) ++ more) h (heard_stays (bytes ++ 10 ∷ []) more h end.Full hears refl)
     ∙ ap (closed_by (Some end.Full) (next_number beginner + length g.lines)) g.taken
-    ∙ ap BadAt (sym (is ∙ number_is g))
+    ∙ ap (λ n. BadAt n answer.Full) (sym (is ∙ number_is g))
 
 hears_request : {bytes line : List ℕ} {book : Register} {last : Option Run} → (g : Going bytes line book last) → is_bye line ≡ false → takes (room_in book) line ≡ true →
     heard_in beginner (bytes ++ 10 ∷ []) ≡ at_line (g.lines ++ line ∷ []) []
@@ -116,19 +118,19 @@ going_line {bytes} {line} {book} {last} now g bye free is = record {
 }
 
 -- a line that isn't
-pub stops_refused : {bytes line : List ℕ} {book : Register} {last : Option Run} → (number : ℕ) → Going bytes line book last → is_bye line ≡ false →
-    takes (room_in book) line ≡ true → found book last (line ∷ []) ≡ BadAt number → (more : List ℕ) → Says ((bytes ++ 10 ∷ []) ++ more) last (Bad number)
-stops_refused {bytes} {line} {book} {last} number g bye free is = λ more.
+pub stops_refused : {bytes line : List ℕ} {book : Register} {last : Option Run} → (number : ℕ) (answer : Untaken) → Going bytes line book last → is_bye line ≡ false →
+    takes (room_in book) line ≡ true → found book last (line ∷ []) ≡ BadAt number answer → (more : List ℕ) → Says ((bytes ++ 10 ∷ []) ++ more) last (Bad number answer)
+stops_refused {bytes} {line} {book} {last} number answer g bye free is = λ more.
     let begun : Heard = at_line (g.lines ++ line ∷ []) [] in
     let h : Heard = fold (hear first_room) begun more in
     let hears : heard_in beginner ((bytes ++ 10 ∷ []) ++ more) ≡ h =
     heard-append first_room (bytes ++ 10 ∷ []) more ∙ ap (λ x. fold (hear first_room) x more) (hears_request g bye free) in
     let grows = lines_grow first_room begun more in
-    let bad : found beginner None h.lines ≡ BadAt number =
-    ap (found beginner None) grows.1 ∙ found-bad beginner None number (g.lines ++ line ∷ []) grows.0 (found_line g ∙ is) in
+    let bad : found beginner None h.lines ≡ BadAt number answer =
+    ap (found beginner None) grows.1 ∙ found-bad beginner None number answer (g.lines ++ line ∷ []) grows.0 (found_line g ∙ is) in
     found_from ((bytes ++ 10 ∷ []) ++ more) h hears
     ∙ ap (closed_by h.end (next_number beginner + length h.lines)) bad
-    ∙ closed_bad h.end (next_number beginner + length h.lines) number
+    ∙ closed_bad h.end (next_number beginner + length h.lines) number answer
 
 -- ---- more bytes
 
@@ -136,43 +138,7 @@ stops_refused {bytes} {line} {book} {last} number g bye free is = λ more.
 pub stop_more : (last : Option Run) (stop : Stop) (bytes behind : List ℕ) → ((more : List ℕ) → Says (bytes ++ more) last stop) → (more : List ℕ) → Says ((bytes ++ behind) ++ more) last stop
 stop_more last stop bytes behind says = λ more. subst (λ bs. Says bs last stop) (sym (append_assoc bytes behind more)) (says (behind ++ more))
 
-joined : (bytes done piece : List ℕ) → ((bytes ++ done) ++ piece) ++ 10 ∷ [] ≡ bytes ++ ((done ++ piece) ++ 10 ∷ [])
-joined bytes done piece =
-    append_assoc (bytes ++ done) piece (10 ∷ [])
-    ∙ append_assoc bytes done (piece ++ 10 ∷ [])
-    ∙ ap (λ xs. bytes ++ xs) (sym (append_assoc done piece (10 ∷ [])))
-
--- one line further in a chunk
-pub going_joined : {partial : List ℕ} {book : Register} {last : Option Run} → (bytes done piece : List ℕ) →
-    Going (((bytes ++ done) ++ piece) ++ 10 ∷ []) partial book last → Going (bytes ++ ((done ++ piece) ++ 10 ∷ [])) partial book last
-going_joined {partial} {book} {last} bytes done piece going = subst (λ all. Going all partial book last) (joined bytes done piece) going
-
--- the session stopped at a line of the chunk
-pub stopped_in_chunk : (last : Option Run) (stop : Stop) (bytes chunk done piece behind : List ℕ) → ((done ++ piece) ++ 10 ∷ []) ++ behind ≡ chunk →
-    ((more : List ℕ) → Says ((((bytes ++ done) ++ piece) ++ 10 ∷ []) ++ more) last stop) → (more : List ℕ) → Says ((bytes ++ chunk) ++ more) last stop
-stopped_in_chunk last stop bytes chunk done piece behind is says =
-    let all : (((bytes ++ done) ++ piece) ++ 10 ∷ []) ++ behind ≡ bytes ++ chunk =
-    ap (λ xs. xs ++ behind) (joined bytes done piece)
-    ∙ append_assoc bytes ((done ++ piece) ++ 10 ∷ []) behind
-    ∙ ap (λ xs. bytes ++ xs) is in
-    subst (λ bs. (more : List ℕ) → Says (bs ++ more) last stop) all (stop_more last stop (((bytes ++ done) ++ piece) ++ 10 ∷ []) behind says)
-
--- the last piece of a chunk
-pub goes_chunk : (partial : List ℕ) (book : Register) (last : Option Run) (result : Result ⊤ Stop) (bytes chunk done rest : List ℕ) →
-    done ++ rest ≡ chunk → Goes ((bytes ++ done) ++ rest) partial book last result → Goes (bytes ++ chunk) partial book last result
-goes_chunk partial book last result bytes chunk done rest is goes =
-    subst (λ all. Goes all partial book last result) (append_assoc bytes done rest ∙ ap (λ xs. bytes ++ xs) is) goes
-
 -- ---- a session that begins, and one that ends
-
-pub begins : (book : Register) (last : Option Run) → book ≡ beginner → last ≡ None → Going [] [] book last
-begins book last is none = record {
-  lines = [];
-  hears = refl;
-  short = omega arith;
-  logs = is;
-  taken = ap Taken (sym none);
-}
 
 -- no request is open
 pub closed_going : {bytes partial : List ℕ} {book : Register} {last : Option Run} → Going bytes partial book last → book.pending ≡ None
@@ -185,7 +151,7 @@ found_going {bytes} {partial} g =
 
 says_so : (left : Option (List ℕ)) (bytes : List ℕ) (last : Option Run) (stop : Stop) → Says bytes last stop → SaysAfter left bytes last (result_of stop)
 says_so left bytes last Bye says = (inl says.0, says.1)
-says_so left bytes last (Bad number) says = says
+says_so left bytes last (Bad number answer) says = says
 says_so left bytes last Memory says = tt
 
 -- what is told where it stopped
@@ -199,7 +165,7 @@ tells_so : (left : Option (List ℕ)) (bytes : List ℕ) (result : Result ⊤ La
 tells_so left bytes (Ok done) (Some last) says = says
 tells_so left bytes (Ok done) None says = says
 tells_so left bytes (Err fault.NoRun) last says = absurd says
-tells_so left bytes (Err (fault.BadLine number)) last says = says
+tells_so left bytes (Err (fault.BadLine number answer)) last says = says
 tells_so left bytes (Err fault.ReadFailed) last says = tt
 tells_so left bytes (Err fault.TooManyReads) last says = tt
 tells_so left bytes (Err fault.Memory) last says = tt

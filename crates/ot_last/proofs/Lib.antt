@@ -1,4 +1,4 @@
 pub mod FoundLemmas
 pub mod GoingLemmas
 pub mod LineLemmas
-pub mod ReadingLemmas
+pub mod HearingLemmas

@@ -11,7 +11,7 @@ use Rattle.ot_check.specs.Jobs.{Spec}
 use Rattle.ot_store.specs.Arrays.{Named, listed, cells_in}
 use Rattle.ot_book.specs.Replies as r
 use Rattle.ot_book.specs.Answers.{Now, Runs, answer_or_lost, finished, is_checkpoint}
-use Rattle.ot_book.specs.Books.{Register, state_in, next_number, next_step, appended, cleared, logged, opened, open_step, closed, IsOpenFor}
+use Rattle.ot_book.specs.Books.{Register, state_in, next_number, next_step, appended, cleared, logged, opened, open_step, closed}
 use Rattle.ot_book.specs.Opening.{IsFullFor, AnswersNow, Opens}
 use Rattle.ot_book.specs.declared.book.Opened.{Opened}
 use Rattle.ot_book.specs.declared.book.Opened.TheVariants.{Full, Answered, ToRun}
@@ -20,8 +20,9 @@ use Rattle.ot_book.proofs.RoomLemmas.{free-takes, full-takes}
 use Rattle.ot_front.specs.Heard.{is_bye}
 use Rattle.ot_front.proofs.RunLemmas.{run_asked}
 use Rattle.ot_front.proofs.ToldLemmas.{slice_get-seam, some-logged}
-use Rattle.ot_last.specs.LastRuns.{Run, Taken, BadAt, is_refusal, run_with, run_over, found_by, found}
+use Rattle.ot_last.specs.LastRuns.{Run, Taken, BadAt, answer_of, is_refusal, run_with, run_over, found_by, found}
 use Rattle.ot_last.specs.Going.{Going, Goes, Says, last_told, judged}
+use Rattle.ot_last.specs.declared.fault.Untaken.TheVariants as answer
 use Rattle.ot_last.specs.declared.stop.Stop.{Stop}
 use Rattle.ot_last.specs.declared.stop.Stop.TheVariants.{Bad, Memory}
 use Rattle.ot_last.proofs.GoingLemmas.{going_line, stops_refused, stops_full, closed_going}
@@ -58,12 +59,12 @@ told-now b line told arrays is = told-logged b line false ∙ ap (λ s. Some (fi
 not_refused : (book : Register) (last : Option Run) (line : List ℕ) (told : r.Told) (arrays : List Named) → next_step book line ≡ Now told arrays → is_refusal told ≡ false →
     found book last (line ∷ []) ≡ Taken last
 not_refused book last line told arrays is fine =
-    ap (λ s. found_by s book last (λ now. Taken now)) is ∙ ap (λ t. if t then BadAt (next_number book) else Taken last) fine
+    ap (λ s. found_by s book last (λ now. Taken now)) is ∙ ap (λ t. if t then BadAt (next_number book) (answer_of told) else Taken last) fine
 
 refused : (book : Register) (last : Option Run) (line : List ℕ) (told : r.Told) (arrays : List Named) (number : ℕ) → next_step book line ≡ Now told arrays → is_refusal told ≡ true →
-    number ≡ next_number book → found book last (line ∷ []) ≡ BadAt number
+    number ≡ next_number book → found book last (line ∷ []) ≡ BadAt number (answer_of told)
 refused book last line told arrays number is bad same =
-    ap (λ s. found_by s book last (λ now. Taken now)) is ∙ ap (λ t. if t then BadAt (next_number book) else Taken last) bad ∙ ap BadAt (sym same)
+    ap (λ s. found_by s book last (λ now. Taken now)) is ∙ ap (λ t. if t then BadAt (next_number book) (answer_of told) else Taken last) bad ∙ ap (λ n. BadAt n (answer_of told)) (sym same)
 
 goes_told : {bytes line : List ℕ} {book : Register} {last : Option Run} → (told : r.Told) (arrays : List Named) (number : ℕ) → Going bytes line book last → is_bye line ≡ false →
     ¬ (IsFullFor book line) → next_step book line ≡ Now told arrays → number ≡ next_number book → Goes (bytes ++ 10 ∷ []) [] (logged book line false) last (judged told number)
@@ -72,8 +73,8 @@ goes_told {bytes} {line} {book} {last} (r.Cells v) arrays number g bye free is s
 goes_told {bytes} {line} {book} {last} (r.Arrays v) arrays number g bye free is same = going_line last g bye (free-takes book line free) (not_refused book last line _ arrays is refl)
 goes_told {bytes} {line} {book} {last} (r.Used v) arrays number g bye free is same = going_line last g bye (free-takes book line free) (not_refused book last line _ arrays is refl)
 goes_told {bytes} {line} {book} {last} (r.Done t u v) arrays number g bye free is same = going_line last g bye (free-takes book line free) (not_refused book last line _ arrays is refl)
-goes_told {bytes} {line} {book} {last} (r.Refused code) arrays number g bye free is same = stops_refused number g bye (free-takes book line free) (refused book last line _ arrays number is refl same)
-goes_told {bytes} {line} {book} {last} (r.Offends code place) arrays number g bye free is same = stops_refused number g bye (free-takes book line free) (refused book last line _ arrays number is refl same)
+goes_told {bytes} {line} {book} {last} (r.Refused code) arrays number g bye free is same = stops_refused number (answer.Refused code) g bye (free-takes book line free) (refused book last line _ arrays number is refl same)
+goes_told {bytes} {line} {book} {last} (r.Offends code place) arrays number g bye free is same = stops_refused number (answer.Offends code place) g bye (free-takes book line free) (refused book last line _ arrays number is refl same)
 goes_told {bytes} {line} {book} {last} r.Lost arrays number g bye free is same = λ more. tt
 
 by_memory : {bytes line : List ℕ} {book : Register} {last : Option Run} → (memory : Bool) (new : Register) (number : ℕ) (result : Result ⊤ Stop) → Going bytes line book last →
@@ -146,7 +147,7 @@ some-answered book line new now = omega (arith, some-logged book line now.memory
 -- ---- by what the book answered
 
 pub full_line : {bytes line : List ℕ} {book : Register} {last : Option Run} → (mid : Register) (o : Opened) (number : ℕ) → Going bytes line book last → is_bye line ≡ false →
-    Opens book line mid o → o ≡ Full → number ≡ next_number book → (more : List ℕ) → Says ((bytes ++ 10 ∷ []) ++ more) last (Bad number)
+    Opens book line mid o → o ≡ Full → number ≡ next_number book → (more : List ℕ) → Says ((bytes ++ 10 ∷ []) ++ more) last (Bad number answer.Full)
 full_line {bytes} {line} {book} mid o number g bye opens is same =
     let h : Opens book line mid Full = subst (Opens book line mid) is opens in
     stops_full number g bye (full-takes book line (closed_going g) h.0) same
@@ -161,7 +162,3 @@ now_line {bytes} {line} {book} new o number result g bye opens is same says =
 pub some-opened : (book : Register) (line : List ℕ) (new : Register) (o : Opened) → Opens book line new o → o ≡ Answered → 0 < length new.log
 some-opened book line new o opens is =
     let h : Opens book line new Answered = subst (Opens book line new) is opens in some-answered book line new h.1
-
-pub open_run : (book : Register) (line : List ℕ) (new : Register) (o : Opened) (spec : Spec) → Opens book line new o → o ≡ ToRun spec → IsOpenFor new spec
-open_run book line new o spec opens is =
-    let h : Opens book line new (ToRun spec) = subst (Opens book line new) is opens in h.2

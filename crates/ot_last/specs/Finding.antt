@@ -16,7 +16,7 @@ IsOver left bytes = ((heard_in beginner bytes).end ≡ Some Bye) ⊎ IsAtEnd lef
 abbrev pub TellsOf : Option (List ℕ) → List ℕ → Result LastRun LastFault → Type 0
 TellsOf left bytes (Ok last) = IsOver left bytes × (found_in beginner bytes ≡ Taken (Some (run_of last)))
 TellsOf left bytes (Err NoRun) = IsOver left bytes × (found_in beginner bytes ≡ Taken None)
-TellsOf left bytes (Err (BadLine number)) = found_in beginner bytes ≡ BadAt number
+TellsOf left bytes (Err (BadLine number answer)) = found_in beginner bytes ≡ BadAt number answer
 TellsOf left bytes (Err fault) = Unit {0}
 
 -- These bytes were read, and so much is told of them.

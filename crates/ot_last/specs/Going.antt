@@ -1,5 +1,5 @@
 -- A session in the middle: between two bytes, and where it stops.
-use Rattle.std.specs.Prelude.{◌≡◌, ◌≤◌, ◌-◌, ◌++◌, ℕ, List, map, length, false, Option, Some, None, option_map, Result, Ok, Err, ⊤}
+use Rattle.std.specs.Prelude.{◌≡◌, ◌≤◌, ◌-◌, ◌++◌, ◌∷◌, [], ℕ, List, map, length, false, Option, Some, None, option_map, Result, Ok, Err, ⊤}
 use Rattle.std.specs.Io.KnownBytes.{Consumes}
 use Rattle.ot_book.specs.Replies as r
 use Rattle.ot_book.specs.Books.{Register, reply_at}
@@ -12,6 +12,7 @@ use Rattle.ot_last.specs.Finding.{IsOver}
 use Rattle.ot_last.specs.declared.found.LastRun.{LastRun}
 use Rattle.ot_last.specs.declared.fault.LastFault.{LastFault}
 use Rattle.ot_last.specs.declared.fault.LastFault.TheVariants as fault
+use Rattle.ot_last.specs.declared.fault.Untaken.TheVariants as answer
 use Rattle.ot_last.specs.declared.stop.Stop.{Stop}
 use Rattle.ot_last.specs.declared.stop.Stop.TheVariants.{Bye, Bad, Memory}
 
@@ -34,7 +35,7 @@ pub record Going (bytes partial : List ℕ) (book : Register) (last : Option Run
 -- what is so of these bytes where the session stopped
 abbrev pub Says : List ℕ → Option Run → Stop → Type 0
 Says bytes last Bye = ((heard_in beginner bytes).end ≡ Some end.Bye) × (found_in beginner bytes ≡ Taken last)
-Says bytes last (Bad number) = found_in beginner bytes ≡ BadAt number
+Says bytes last (Bad number answer) = found_in beginner bytes ≡ BadAt number answer
 Says bytes last Memory = Unit {0}
 
 -- it goes on, or it has stopped in these bytes, whatever follows
@@ -53,14 +54,14 @@ judged (r.Cells values) number = Ok tt
 judged (r.Arrays arrays) number = Ok tt
 judged (r.Used units) number = Ok tt
 judged (r.Done tasks units shows) number = Ok tt
-judged (r.Refused code) number = Err (Bad number)
-judged (r.Offends code place) number = Err (Bad number)
+judged (r.Refused code) number = Err (Bad number (answer.Refused code))
+judged (r.Offends code place) number = Err (Bad number (answer.Offends code place))
 judged r.Lost number = Err Memory
 
 -- what is told where the session stopped
 abbrev pub result_of : Stop → Result ⊤ LastFault
 result_of Bye = Ok tt
-result_of (Bad number) = Err (fault.BadLine number)
+result_of (Bad number answer) = Err (fault.BadLine number answer)
 result_of Memory = Err fault.Memory
 
 -- the last run, where all was read
@@ -73,7 +74,7 @@ told_by (Err why) last = Err why
 abbrev pub SaysAfter : Option (List ℕ) → List ℕ → Option Run → Result ⊤ LastFault → Type 0
 SaysAfter left bytes last (Ok done) = IsOver left bytes × (found_in beginner bytes ≡ Taken last)
 SaysAfter left bytes last (Err fault.NoRun) = ⊥
-SaysAfter left bytes last (Err (fault.BadLine number)) = found_in beginner bytes ≡ BadAt number
+SaysAfter left bytes last (Err (fault.BadLine number answer)) = found_in beginner bytes ≡ BadAt number answer
 SaysAfter left bytes last (Err other) = Unit {0}
 
 -- the bytes that were read, and what is so of them
@@ -82,8 +83,6 @@ pub record Hears (ahead left : Option (List ℕ)) (last : Option Run) (result : 
   pub reads : Consumes ahead left bytes
   pub says : SaysAfter left bytes last result
 
--- the bytes that were read, and the session that goes on over them
-pub record Reading (ahead left : Option (List ℕ)) (partial : List ℕ) (book : Register) (last : Option Run) : Type 0 where
-  pub bytes : List ℕ
-  pub reads : Consumes ahead left bytes
-  pub going : Going bytes partial book last
+-- a line without its LF, by what it came to
+abbrev pub TakesLine : Register → Option Run → List ℕ → Register → Option Run → Result ⊤ Stop → Type 0
+TakesLine old last line new now result = (bytes : List ℕ) → Going bytes line old last → Goes (bytes ++ 10 ∷ []) [] new now result

@@ -10,6 +10,8 @@ use Rattle.ot_book.specs.Books.{Register, new_register, next_number, next_step, 
 use Rattle.ot_front.specs.Session.{heard_in}
 use Rattle.ot_front.specs.declared.fault.End.{End}
 use Rattle.ot_front.specs.declared.fault.End.TheVariants.{Full, LongLine}
+use Rattle.ot_last.specs.declared.fault.Untaken.{Untaken}
+use Rattle.ot_last.specs.declared.fault.Untaken.TheVariants as answer
 use Rattle.ot_last.specs.declared.found.LastRun.{LastRun}
 
 -- a program that is run, the names and lengths of the arrays, and the cells before it
@@ -18,10 +20,11 @@ pub record Run : Type 0 where
   pub arrays : List (List ℕ × ℕ)
   pub cells : List (List ℕ)
 
--- what lines come to: all are taken, and the last run among them, if any; or the first that isn't taken, by its number
+-- what lines come to: all are taken, and the last run among them, if any; or the first that isn't taken, by its number, and what
+-- it is answered
 pub data Found : Type 0 where
   Taken : Option Run → Found
-  BadAt : ℕ → Found
+  BadAt : ℕ → Untaken → Found
 
 -- whether what is told is a refusal
 abbrev pub is_refusal : r.Told → Bool
@@ -29,6 +32,12 @@ is_refusal (r.Refused code) = true
 is_refusal (r.Offends code place) = true
 is_refusal r.Lost = true
 is_refusal told = false
+
+-- the answer that is a refusal
+abbrev pub answer_of : r.Told → Untaken
+answer_of (r.Refused code) = answer.Refused code
+answer_of (r.Offends code place) = answer.Offends code place
+answer_of told = answer.Refused 508
 
 abbrev pub run_with : Expanded → List (List ℕ × ℕ) → List (List ℕ) → Run
 run_with program arrays cells = record { program = program; arrays = arrays; cells = cells }
@@ -40,7 +49,7 @@ run_over arrays program = run_with program (listed arrays) (cells_in arrays)
 -- what a line comes to with those behind it, which go on from the run that is the last so far
 abbrev pub found_by : Step → Register → Option Run → (Option Run → Found) → Found
 found_by (Runs program) book last more = more (Some (run_over book.store program))
-found_by (Now told arrays) book last more = if is_refusal told then BadAt (next_number book) else more last
+found_by (Now told arrays) book last more = if is_refusal told then BadAt (next_number book) (answer_of told) else more last
 
 -- what lines come to as the next requests of a book, where this is the last run so far
 abbrev pub found : Register → Option Run → List (List ℕ) → Found
@@ -49,8 +58,8 @@ found book last (line ∷ lines) = found_by (next_step book line) book last (λ 
 
 -- a line at which a session closes isn't taken where it is too long, or the log is full; a goodbye isn't bad
 abbrev pub closed_by : Option End → ℕ → Found → Found
-closed_by (Some Full) number (Taken last) = BadAt number
-closed_by (Some LongLine) number (Taken last) = BadAt number
+closed_by (Some Full) number (Taken last) = BadAt number answer.Full
+closed_by (Some LongLine) number (Taken last) = BadAt number answer.Long
 closed_by end number all = all
 
 -- what a session comes to that hears these bytes

@@ -3,11 +3,10 @@
 
 mod fault;
 mod found;
-mod line;
 mod reading;
 mod request;
 mod stop;
 
-pub use fault::LastFault;
+pub use fault::{LastFault, Untaken};
 pub use found::LastRun;
 pub use reading::last_run;

@@ -9,15 +9,37 @@ ghost use Rattle.ot_last.specs.LastRuns.{run_with};
 ghost use Rattle.ot_last.specs.declared.stop.Stop.TheVariants.{Memory};
 ghost use Rattle.ot_last.specs.Going.{Going, Goes, run_in, last_told, judged};
 
+use crate::fault::Untaken;
 use crate::found::LastRun;
-use crate::line::is_bye;
 use crate::stop::Stop;
 use ot_book::{Book, Executor, Opened, Solo, Told};
 use ot_check::JobSpec;
+use ot_lines::{Listener, is_bye};
 use std::alloc::Global;
 
+/// Takes the lines of a session into its book, and keeps its last run.
+#[derive(Drop)]
+pub(crate) struct Runner {
+    pub alloc: Global,
+}
+
+impl Listener<Book, Option<LastRun>, Stop> for Runner {
+    ghost use Rattle.ot_last.specs.Going.{TakesLine, run_in};
+
+    ghost took = { λ old last line new next result. TakesLine old (run_in last) line new (run_in next) result };
+
+    fn take(
+        &mut self,
+        book: &mut Book,
+        last: &mut Option<LastRun>,
+        line: &[u8],
+    ) -> Result<(), Stop> {
+        take_line(self.alloc, book, last, line)
+    }
+}
+
 /// A whole line of the input.
-pub(crate) fn take_line(
+fn take_line(
     alloc: Global,
     book: &mut Book,
     last: &mut Option<LastRun>,
@@ -34,7 +56,7 @@ pub(crate) fn take_line(
         return Err(Stop::Memory);
     };
     match opened {
-        Opened::Full => Err(Stop::Bad(number)),
+        Opened::Full => Err(Stop::Bad(number, Untaken::Full)),
         Opened::Answered => answered(book, number),
         Opened::ToRun(spec) => run(alloc, book, last, spec),
     }
@@ -57,7 +79,11 @@ fn judge(told: &Told, number: u64) -> Result<(), Stop>
 {
     match told {
         Told::Lost => Err(Stop::Memory),
-        Told::Refused(_) | Told::Offends(_, _) => Err(Stop::Bad(number)),
+        Told::Refused(code) => Err(Stop::Bad(number, Untaken::Refused(code.number()))),
+        Told::Offends(offence, place) => Err(Stop::Bad(
+            number,
+            Untaken::Offends(offence.code(), *place),
+        )),
         _ => Ok(()),
     }
 }

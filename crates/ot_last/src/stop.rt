@@ -2,15 +2,15 @@
 ghost use Rattle.std.specs.Prelude.{◌≡◌};
 ghost use Rattle.ot_last.specs.Going.{result_of};
 
-use crate::fault::LastFault;
+use crate::fault::{LastFault, Untaken};
 
 /// Why no further line is taken.
 #[derive(Clone, Copy, Debug)]
 pub(crate) enum Stop {
     /// The client said goodbye.
     Bye,
-    /// The line with this number isn't taken.
-    Bad(u64),
+    /// The line with this number isn't taken, and answered so.
+    Bad(u64, Untaken),
     /// There was no memory.
     Memory,
 }
@@ -22,7 +22,7 @@ impl Stop {
     {
         match self {
             Stop::Bye => Ok(()),
-            Stop::Bad(number) => Err(LastFault::BadLine(number)),
+            Stop::Bad(number, answer) => Err(LastFault::BadLine(number, answer)),
             Stop::Memory => Err(LastFault::Memory),
         }
     }

@@ -1,0 +1,10 @@
+use Rattle.std.proofs.Common.{◌≡◌}
+use Rattle.ot_ask.proofs.StreamLemmas.{StaysKnown}
+use Rattle.ot_ask.proofs.stream.LinesLineSource.wait_for_end.Given as goal
+
+-- it has neither told its end so far, nor failed
+abbrev pub invariant-loop : goal.invariant-loop
+invariant-loop g l =
+    (l.self.ends ≡ l.initial.self.ends)
+    × (l.self.failures ≡ l.initial.self.failures)
+    × StaysKnown (g.R.Read.remaining l.initial.self.reader) (g.R.Read.remaining l.self.reader)

@@ -1,0 +1,10 @@
+use Rattle.std.proofs.Common.{◌≡◌, ◌∷◌, ◌++◌, map, take}
+use Rattle.json.specs.Token.{begin_array}
+use Rattle.ot_book.specs.Replies.{nat}
+use Rattle.ot_book.specs.Pieces.{tokens_of_all}
+use Rattle.ot_keep.proofs.body.write_numbers.Given as goal
+
+abbrev pub invariant-loop-number : goal.invariant-loop-number
+invariant-loop-number l =
+    (l.out.tokens ≡ l.fn.out.tokens ++ (begin_array ∷ tokens_of_all (map nat (take l.number-index l.numbers))))
+    × (l.out.before ≡ l.fn.out.before)

@@ -1,0 +1,72 @@
+-- What is asked of a server, and what it answers.
+use Rattle.std.specs.Prelude.{◌≡◌, ◌==◌, ℕ, Bool, true, false, if◌then◌else◌, List, [], ◌∷◌, ◌++◌, length, codes, decimal, Option, Some, None, option_and_then, ⊤}
+use Rattle.ot_ask.specs.Streams.{GivesLine, IsUnanswered, Link, Writes}
+use Rattle.ot_ask.specs.declared.asked.AskFault.TheVariants as ask
+use Rattle.ot_keep.specs.Replies.{Reply, Taken, Used, Listed, Cells, reply_in}
+use Rattle.ot_keep.specs.declared.fault.KeepFault.{KeepFault}
+use Rattle.ot_keep.specs.declared.fault.KeepFault.TheVariants.{Ask, StrangeReply}
+
+pub data Question : Type 0 where
+  Checkpoint : Question
+  Units : Question
+  Arrays : Question
+  CellsOf : List ℕ → ℕ → Question
+  Line : List ℕ → Question
+
+-- `["get","NAME",0,LEN]` and an LF
+abbrev pub cells_line : List ℕ → ℕ → List ℕ
+cells_line name len = codes "[\"get\",\"" ++ name ++ codes "\",0," ++ decimal len ++ codes "]\n"
+
+-- the line that is sent
+abbrev pub line_of : Question → List ℕ
+line_of Checkpoint = codes "[\"checkpoint\"]\n"
+line_of Units = codes "[\"used\"]\n"
+line_of Arrays = codes "[\"list\"]\n"
+line_of (CellsOf name len) = cells_line name len
+line_of (Line line) = line
+
+-- the reply is of the kind that the request asks for
+abbrev pub answers : Question → Reply → Bool
+answers Checkpoint (Taken n) = true
+answers Units (Used units) = true
+answers Arrays (Listed arrays) = true
+answers (CellsOf name len) (Cells cells) = length cells == len
+answers (Line line) (Taken n) = true
+answers question reply = false
+
+-- what a line tells in answer to a request
+abbrev pub answer_to : Question → List ℕ → Option Reply
+answer_to question line = option_and_then (λ r. if answers question r then Some r else None) (reply_in line)
+
+-- a line is sent, and this one heard
+pub record IsReplied (line : List ℕ) (old new : Link) (reply : List ℕ) : Type 0 where
+  pub sends : Writes old.sent new.sent line
+  pub hears : GivesLine old.heard new.heard reply
+
+-- a request is sent, and what it asks for is heard
+pub record Turn (question : Question) (old new : Link) (reply : Reply) : Type 0 where
+  pub line : List ℕ
+  pub replied : IsReplied (line_of question) old new line
+  pub told : answer_to question line ≡ Some reply
+
+-- why it isn't
+abbrev pub Fails : Question → Link → Link → KeepFault → Type 0
+Fails question old new (Ask ask.Closed) = IsUnanswered (line_of question) old new
+Fails question old new (Ask ask.Memory) = ⊤
+Fails question old new StrangeReply = (line : List ℕ) × IsReplied (line_of question) old new line × (answer_to question line ≡ None)
+Fails question old new fault = ⊥
+
+-- ---- one after another
+
+-- requests with what they are told
+abbrev pub Talks : Link → Link → List (Question × Reply) → Type 0
+Talks old new [] = new ≡ old
+Talks old new (t ∷ ts) = (mid : Link) × Turn t.0 old mid t.1 × Talks mid new ts
+
+-- some are told what they ask for, and then one isn't
+pub record Stops (old new : Link) (fault : KeepFault) : Type 0 where
+  pub turns : List (Question × Reply)
+  pub last : Link
+  pub talk : Talks old last turns
+  pub question : Question
+  pub fails : Fails question last new fault

@@ -1,0 +1,193 @@
+//! What a server's replies tell.
+ghost use Rattle.std.specs.Prelude.{◌≡◌, IfOk, option_map};
+ghost use Rattle.serde_json.specs.Data.{item, no_items};
+ghost use Rattle.serde_json.specs.View.{view, items_view};
+ghost use Rattle.ot_model.specs.ShapeView.{arrays_of};
+ghost use Rattle.ot_book.specs.Answers.{value_of};
+ghost use Rattle.ot_book.specs.Requests.{all_numbers, name_in, size_in};
+ghost use Rattle.ot_keep.specs.Replies.{all_sized, list_in, listed_of, reply_in, reply_of, sized_in, sized_of};
+ghost use Rattle.ot_keep.specs.Answers.{sized_by, told_by};
+
+use ot_model::ArrayShape;
+use ot_program::{is_name, is_word};
+use serde_json::Value;
+use std::alloc::{AllocError, Global};
+
+/// What a reply tells, for a request that was performed. Of its number nothing is kept but where a line was taken.
+#[derive(Debug, Drop)]
+pub(crate) enum Answer {
+    /// The request was taken, and had this number.
+    Taken(u32),
+    /// The units of all runs.
+    Used(u64),
+    /// Names and lengths.
+    Listed(Vec<ArrayShape>),
+    /// The numbers of cells.
+    Cells(Vec<u64>),
+}
+
+/// What a reply tells, where it is of one of the four forms.
+pub(crate) fn read_answer(alloc: Global, reply: &[u8]) -> Result<Option<Answer>, AllocError>
+    ensures { IfOk result (λ answer. option_map told_by answer ≡ reply_in reply.now) }
+{
+    match read_value(alloc, reply)? {
+        Some(value) => read_reply(alloc, &value),
+        None => Ok(None),
+    }
+}
+
+/// The value of a line, where it is JSON in UTF-8.
+fn read_value(alloc: Global, line: &[u8]) -> Result<Option<Value>, AllocError>
+    ensures { IfOk result (λ value. option_map view value ≡ value_of line.now) }
+{
+    match Value::from_slice(alloc, line) {
+        Ok(value) => Ok(Some(value)),
+        Err(error) => {
+            if error.is_memory() {
+                return Err(AllocError);
+            }
+            Ok(None)
+        }
+    }
+}
+
+fn read_reply(alloc: Global, value: &Value) -> Result<Option<Answer>, AllocError>
+    ensures { IfOk result (λ answer. option_map told_by answer ≡ reply_of (view value.now)) }
+{
+    match value {
+        Value::Array(items) => read_list(alloc, items),
+        _ => Ok(None),
+    }
+}
+
+#[tactic(auto, using(crate::proofs::ReplyLemmas::no_reply))]
+fn read_list(alloc: Global, items: &[Value]) -> Result<Option<Answer>, AllocError>
+    ensures { IfOk result (λ answer. option_map told_by answer ≡ list_in (items_view items.now)) }
+{
+    let len = items.len();
+    if len != 2 && len != 3 {
+        return Ok(None);
+    }
+    match items {
+        [tag, number] => Ok(read_taken(tag, number)),
+        [tag, number, told] => match read_size(number) {
+            Some(_) => read_told(alloc, tag, told),
+            None => Ok(None),
+        },
+        _ => unreachable!(),
+    }
+}
+
+fn read_taken(tag: &Value, number: &Value) -> Option<Answer>
+    ensures { option_map told_by result ≡ list_in (item (view tag.now) (item (view number.now) no_items)) }
+{
+    if !is_word(tag, "ok") {
+        return None;
+    }
+    match read_size(number) {
+        Some(number) => Some(Answer::Taken(number)),
+        None => None,
+    }
+}
+
+fn read_told(alloc: Global, tag: &Value, told: &Value) -> Result<Option<Answer>, AllocError>
+    ensures { IfOk result (λ answer. option_map told_by answer ≡ listed_of (view tag.now) (view told.now)) }
+{
+    if is_word(tag, "used") {
+        return Ok(match told.as_u64() {
+            Some(units) => Some(Answer::Used(units)),
+            None => None,
+        });
+    }
+    let Value::Array(items) = told else {
+        return Ok(None);
+    };
+    if is_word(tag, "arrays") {
+        return Ok(match read_arrays(alloc, items)? {
+            Some(arrays) => Some(Answer::Listed(arrays)),
+            None => None,
+        });
+    }
+    if is_word(tag, "cells") {
+        return Ok(match read_numbers(alloc, items)? {
+            Some(cells) => Some(Answer::Cells(cells)),
+            None => None,
+        });
+    }
+    Ok(None)
+}
+
+/// A whole number from 1 to 2^32 - 1.
+fn read_size(value: &Value) -> Option<u32>
+    ensures { result ≡ size_in 1 (view value.now) }
+{
+    match value.as_u64() {
+        Some(number) if 1 <= number && number < 1 << 32 => Some(number as u32),
+        _ => None,
+    }
+}
+
+fn read_numbers(alloc: Global, items: &Vec<Value>) -> Result<Option<Vec<u64>>, AllocError>
+    ensures { IfOk result (λ numbers. option_map (λ v. v.items) numbers ≡ all_numbers (items_view items.now.items)) }
+{
+    let mut numbers = Vec::with_capacity(alloc, items.len())?;
+    for item in items {
+        let Some(number) = item.as_u64() else {
+            return Ok(None);
+        };
+        numbers.push(number)?;
+    }
+    Ok(Some(numbers))
+}
+
+fn read_arrays(alloc: Global, items: &Vec<Value>) -> Result<Option<Vec<ArrayShape>>, AllocError>
+    ensures { IfOk result (λ arrays. option_map (λ v. arrays_of v.items) arrays ≡ all_sized (items_view items.now.items)) }
+{
+    let mut arrays = Vec::new(alloc);
+    for item in items {
+        let Some(array) = read_sized(alloc, item)? else {
+            return Ok(None);
+        };
+        arrays.push(array)?;
+    }
+    Ok(Some(arrays))
+}
+
+/// A name with a length.
+fn read_sized(alloc: Global, value: &Value) -> Result<Option<ArrayShape>, AllocError>
+    ensures { IfOk result (λ array. option_map sized_by array ≡ sized_in (view value.now)) }
+{
+    match value {
+        Value::Array(items) => read_pair(alloc, items),
+        _ => Ok(None),
+    }
+}
+
+#[tactic(auto, using(crate::proofs::ReplyLemmas::no_pair))]
+fn read_pair(alloc: Global, items: &[Value]) -> Result<Option<ArrayShape>, AllocError>
+    ensures { IfOk result (λ array. option_map sized_by array ≡ sized_of (items_view items.now)) }
+{
+    if items.len() != 2 {
+        return Ok(None);
+    }
+    match items {
+        [name, len] => match (read_name(name), read_size(len)) {
+            (Some(name), Some(len)) => Ok(Some(ArrayShape {
+                name: String::from_str(alloc, name)?,
+                len,
+            })),
+            _ => Ok(None),
+        },
+        _ => unreachable!(),
+    }
+}
+
+/// A name of an array.
+fn read_name(value: &Value) -> Option<&str>
+    ensures { option_map (λ name. name.now) result ≡ name_in (view value.now) }
+{
+    match value {
+        Value::String(text) if is_name(text.as_str()) => Some(text.as_str()),
+        _ => None,
+    }
+}

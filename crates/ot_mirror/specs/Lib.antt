@@ -1,0 +1,4 @@
+pub mod Heard
+pub mod HeardView
+pub mod Mirrors
+pub mod Given

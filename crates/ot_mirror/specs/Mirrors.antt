@@ -1,0 +1,45 @@
+-- The arrays of a tenant as far as a server's replies tell: their names and lengths.
+use Rattle.std.specs.Prelude.{◌≡◌, ◌<◌, ◌≤◌, ℕ, List, map, length, sum, replicate, bytes_eq, All, Bool, Option, Some}
+use Rattle.std.specs.List.{IsDistinct}
+use Rattle.ot_store.specs.Arrays.{Named, listed}
+use Rattle.ot_store.specs.Usual.{usual_limits}
+use Rattle.ot_book.specs.Answers.{Step, Now, Runs, step_of, value_of, answer_or_lost}
+use Rattle.ot_book.specs.Books.{Register, state_in, logged}
+use Rattle.ot_book.specs.Replies.{Told, Accepted, json_of}
+use Rattle.ot_mirror.specs.Heard.{told_in}
+
+-- names with lengths, in order of creation
+abbrev pub Sizes : Type 0
+Sizes = List (List ℕ × ℕ)
+
+-- a tenant with the usual limits may have such arrays
+pub record MayHave (sizes : Sizes) : Type 0 where
+  pub distinct : IsDistinct bytes_eq (map (λ a. a.0) sizes)
+  pub filled : All (λ n. 0 < n) (map (λ a. a.1) sizes)
+  pub few : length sizes ≤ usual_limits.arrays
+  pub small : sum (map (λ a. a.1) sizes) ≤ usual_limits.cells
+
+-- such arrays, with zeros in their cells
+abbrev pub blank : Sizes → List Named
+blank sizes = map (λ a. (a.0, replicate a.1 0)) sizes
+
+-- what a line leaves that does this: a run keeps names and lengths
+abbrev pub left_by : Sizes → Step → Sizes
+left_by sizes (Now told arrays) = listed arrays
+left_by sizes (Runs program) = sizes
+
+-- what a line leaves that a tenant with such arrays sends
+abbrev pub sent : Sizes → List ℕ → Sizes
+sent sizes line = left_by sizes (step_of usual_limits (blank sizes) 0 line)
+
+-- and what it leaves behind such a reply: `ok` tells that it was taken, and whatever else is told, names and lengths stay
+abbrev pub behind : Sizes → List ℕ → Option Told → Sizes
+behind sizes line (Some Accepted) = sent sizes line
+behind sizes line other = sizes
+
+-- Where a book has arrays of some sizes, whatever is in their cells, and a reply tells what the book answers to a line, the
+-- book has arrays of the sizes behind it.
+abbrev pub Follows : Type 0
+Follows = (book : Register) (line reply : List ℕ) (memory : Bool) (number : ℕ) → book.limits ≡ usual_limits →
+    value_of reply ≡ Some (json_of number (answer_or_lost book.limits (state_in book) line memory).0) →
+    listed (logged book line memory).store ≡ behind (listed book.store) line (told_in reply)

@@ -1,0 +1,198 @@
+//! What a server's reply tells.
+ghost use Rattle.std.specs.Prelude.{◌≡◌, IfOk, option_map};
+ghost use Rattle.serde_json.specs.Data.{item, no_items};
+ghost use Rattle.serde_json.specs.View.{view, items_view};
+ghost use Rattle.ot_model.specs.ShapeView.{arrays_of};
+ghost use Rattle.ot_book.specs.Answers.{value_of};
+ghost use Rattle.ot_book.specs.Requests.{name_in, size_in};
+ghost use Rattle.ot_mirror.specs.Heard.{all_sized, one_behind, sized_in, sized_of, told_by, told_in, told_of, two_behind};
+ghost use Rattle.ot_mirror.specs.HeardView.{sized_as, told_as};
+
+use ot_model::ArrayShape;
+use ot_program::{is_name, is_word};
+use serde_json::Value;
+use std::alloc::{AllocError, Global};
+
+/// What a reply tells, of the replies that a mirror goes by. The request's number isn't kept.
+#[derive(Debug, Drop)]
+pub(crate) enum Heard {
+    /// The line was taken.
+    Taken,
+    /// Names and lengths.
+    Listed(Vec<ArrayShape>),
+    /// The line was refused.
+    Refused(Refusal),
+}
+
+/// What a server tells of a line that it refuses: the code, and of a program that could race the number of the statement.
+#[derive(Clone, Copy, Debug, PartialEq, Eq)]
+pub(crate) struct Refusal {
+    pub(crate) code: u32,
+    pub(crate) place: Option<u32>,
+}
+
+/// What a reply tells, where it is of one of the four forms.
+pub(crate) fn hear(alloc: Global, reply: &[u8]) -> Result<Option<Heard>, AllocError>
+    ensures { IfOk result (λ heard. option_map told_as heard ≡ told_in reply.now) }
+{
+    match read_value(alloc, reply)? {
+        Some(value) => read_reply(alloc, &value),
+        None => Ok(None),
+    }
+}
+
+/// The value of a reply, where it is JSON in UTF-8.
+fn read_value(alloc: Global, reply: &[u8]) -> Result<Option<Value>, AllocError>
+    ensures { IfOk result (λ value. option_map view value ≡ value_of reply.now) }
+{
+    match Value::from_slice(alloc, reply) {
+        Ok(value) => Ok(Some(value)),
+        Err(error) => {
+            if error.is_memory() {
+                return Err(AllocError);
+            }
+            Ok(None)
+        }
+    }
+}
+
+fn read_reply(alloc: Global, value: &Value) -> Result<Option<Heard>, AllocError>
+    ensures { IfOk result (λ heard. option_map told_as heard ≡ told_of (view value.now)) }
+{
+    match value {
+        Value::Array(items) => read_items(alloc, items),
+        _ => Ok(None),
+    }
+}
+
+#[tactic(auto, using(crate::proofs::HeardLemmas::no_reply))]
+fn read_items(alloc: Global, items: &[Value]) -> Result<Option<Heard>, AllocError>
+    ensures { IfOk result (λ heard. option_map told_as heard ≡ told_by (items_view items.now)) }
+{
+    let len = items.len();
+    if len < 2 || len > 4 {
+        return Ok(None);
+    }
+    match items {
+        [tag, number] => Ok(read_taken(tag, number)),
+        [tag, number, told] => match number.as_u64() {
+            Some(_) => read_one(alloc, tag, told),
+            None => Ok(None),
+        },
+        [tag, number, code, place] => match number.as_u64() {
+            Some(_) => Ok(read_two(tag, code, place)),
+            None => Ok(None),
+        },
+        _ => unreachable!(),
+    }
+}
+
+fn read_taken(tag: &Value, number: &Value) -> Option<Heard>
+    ensures { option_map told_as result ≡ told_by (item (view tag.now) (item (view number.now) no_items)) }
+{
+    if !is_word(tag, "ok") {
+        return None;
+    }
+    match number.as_u64() {
+        Some(_) => Some(Heard::Taken),
+        None => None,
+    }
+}
+
+fn read_one(alloc: Global, tag: &Value, told: &Value) -> Result<Option<Heard>, AllocError>
+    ensures { IfOk result (λ heard. option_map told_as heard ≡ one_behind (view tag.now) (view told.now)) }
+{
+    if is_word(tag, "arrays") {
+        let Value::Array(items) = told else {
+            return Ok(None);
+        };
+        return Ok(match read_arrays(alloc, items)? {
+            Some(arrays) => Some(Heard::Listed(arrays)),
+            None => None,
+        });
+    }
+    if is_word(tag, "err") {
+        return Ok(match read_size(told) {
+            Some(code) => Some(Heard::Refused(Refusal { code, place: None })),
+            None => None,
+        });
+    }
+    Ok(None)
+}
+
+fn read_two(tag: &Value, code: &Value, place: &Value) -> Option<Heard>
+    ensures { option_map told_as result ≡ two_behind (view tag.now) (view code.now) (view place.now) }
+{
+    if !is_word(tag, "err") {
+        return None;
+    }
+    match (read_size(code), read_size(place)) {
+        (Some(code), Some(place)) => Some(Heard::Refused(Refusal {
+            code,
+            place: Some(place),
+        })),
+        _ => None,
+    }
+}
+
+/// A whole number from 0 to 2^32 - 1.
+fn read_size(value: &Value) -> Option<u32>
+    ensures { result ≡ size_in 0 (view value.now) }
+{
+    match value.as_u64() {
+        Some(number) if number < 1 << 32 => Some(number as u32),
+        _ => None,
+    }
+}
+
+fn read_arrays(alloc: Global, items: &Vec<Value>) -> Result<Option<Vec<ArrayShape>>, AllocError>
+    ensures { IfOk result (λ arrays. option_map (λ v. arrays_of v.items) arrays ≡ all_sized (items_view items.now.items)) }
+{
+    let mut arrays = Vec::new(alloc);
+    for item in items {
+        let Some(array) = read_sized(alloc, item)? else {
+            return Ok(None);
+        };
+        arrays.push(array)?;
+    }
+    Ok(Some(arrays))
+}
+
+/// A name with a length.
+fn read_sized(alloc: Global, value: &Value) -> Result<Option<ArrayShape>, AllocError>
+    ensures { IfOk result (λ array. option_map sized_as array ≡ sized_in (view value.now)) }
+{
+    match value {
+        Value::Array(items) => read_pair(alloc, items),
+        _ => Ok(None),
+    }
+}
+
+#[tactic(auto, using(crate::proofs::HeardLemmas::no_pair))]
+fn read_pair(alloc: Global, items: &[Value]) -> Result<Option<ArrayShape>, AllocError>
+    ensures { IfOk result (λ array. option_map sized_as array ≡ sized_of (items_view items.now)) }
+{
+    if items.len() != 2 {
+        return Ok(None);
+    }
+    match items {
+        [name, len] => match (read_name(name), read_size(len)) {
+            (Some(name), Some(len)) => Ok(Some(ArrayShape {
+                name: String::from_str(alloc, name)?,
+                len,
+            })),
+            _ => Ok(None),
+        },
+        _ => unreachable!(),
+    }
+}
+
+/// A name of an array.
+fn read_name(value: &Value) -> Option<&str>
+    ensures { option_map (λ name. name.now) result ≡ name_in (view value.now) }
+{
+    match value {
+        Value::String(text) if is_name(text.as_str()) => Some(text.as_str()),
+        _ => None,
+    }
+}
