@@ -1,2 +1,13 @@
 pub mod RowLemmas
 pub mod CellLemmas
+pub mod ArrayLemmas
+pub mod DeclaredLemmas
+pub mod NameLemmas
+pub mod WordLemmas
+pub mod ValueLemmas
+pub mod OrderLemmas
+pub mod DependenceLemmas
+pub mod ClauseLemmas
+pub mod WriteLemmas
+pub mod StatementLemmas
+pub mod ProgramLemmas

@@ -4,6 +4,7 @@
 mod array;
 mod clause;
 mod fold;
+pub mod laws;
 mod named;
 mod statement;
 mod value;

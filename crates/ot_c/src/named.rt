@@ -1,18 +1,46 @@
 //! What a program names: arrays, and the functions `min` and `max`.
-use ot_model::{Cell, Decl, Expr, Fold, Op, Program, Stmt};
+ghost use Rattle.std.specs.Prelude.{◌≡◌};
+ghost use Rattle.ot_model.specs.Programs.{expanded_of};
+ghost use Rattle.ot_model.specs.View.{expr_of, stmt_of, stmts_of};
+ghost use Rattle.ot_c.specs.Named as named;
 
-/// Whether a program names the array: in its body, or in what it shows.
-pub(crate) fn names(program: &Program, array: u32) -> bool {
-    for section in &program.shows {
-        if section.array == array {
+use ot_model::{Cell, Decl, Expr, Fold, Op, Program, Section, Stmt};
+
+/// A function that values and folds may call.
+#[derive(Clone, Copy)]
+pub(crate) enum Call {
+    Min,
+    Max,
+}
+
+/// Whether a program names the array of this number: in its body, or in what it shows.
+pub(crate) fn names(program: &Program, array: usize) -> bool
+    ensures { result ≡ named.names (expanded_of program.now) array }
+{
+    sections_name(&program.shows, array) || body_names(&program.body, array)
+}
+
+fn is_array(number: u32, array: usize) -> bool
+    ensures { result ≡ named.is_array array number }
+{
+    number as usize == array
+}
+
+fn sections_name(sections: &[Section], array: usize) -> bool
+    ensures { result ≡ named.sections_name array sections.now }
+{
+    for section in sections {
+        if is_array(section.array, array) {
             return true;
         }
     }
-    body_names(&program.body, array)
+    false
 }
 
 #[cycle(names)]
-fn body_names(stmts: &[Stmt], array: u32) -> bool {
+fn body_names(stmts: &[Stmt], array: usize) -> bool
+    ensures { result ≡ named.body_names array (stmts_of stmts.now) }
+{
     for stmt in stmts {
         if stmt_names(stmt, array) {
             return true;
@@ -22,11 +50,12 @@ fn body_names(stmts: &[Stmt], array: u32) -> bool {
 }
 
 #[cycle(names)]
-fn stmt_names(stmt: &Stmt, array: u32) -> bool {
+fn stmt_names(stmt: &Stmt, array: usize) -> bool
+    ensures { result ≡ named.statement_names array (stmt_of stmt.now) }
+{
     match stmt {
-        Stmt::Set(cell, expr) | Stmt::Fold(_, cell, expr) => {
-            cell.array == array || value_names(expr, array)
-        }
+        Stmt::Set(cell, expr) => is_array(cell.array, array) || value_names(expr, array),
+        Stmt::Fold(_, cell, expr) => is_array(cell.array, array) || value_names(expr, array),
         Stmt::If(expr, one, two) => {
             value_names(expr, array) || body_names(one, array) || body_names(two, array)
         }
@@ -37,38 +66,48 @@ fn stmt_names(stmt: &Stmt, array: u32) -> bool {
     }
 }
 
-fn value_names(expr: &Expr, array: u32) -> bool {
+fn value_names(expr: &Expr, array: usize) -> bool
+    ensures { result ≡ named.value_names array (expr_of expr.now) }
+{
     match expr {
         Expr::Number(_) => false,
-        Expr::Cell(cell) => cell.array == array,
+        Expr::Cell(cell) => is_array(cell.array, array),
         Expr::Op(_, one, two) => value_names(one, array) || value_names(two, array),
-        Expr::Pick(section, chosen) => section.array == array || value_names(chosen, array),
+        Expr::Pick(section, chosen) => {
+            is_array(section.array, array) || value_names(chosen, array)
+        }
     }
 }
 
-fn decl_names(decl: &Decl, array: u32) -> bool {
+fn decl_names(decl: &Decl, array: usize) -> bool
+    ensures { result ≡ named.uses_name array decl.now }
+{
     for used in decl.uses() {
-        if used.cell.array == array {
+        if is_array(used.cell.array, array) {
             return true;
         }
     }
     false
 }
 
-fn cells_name(cells: &[Cell], array: u32) -> bool {
+fn cells_name(cells: &[Cell], array: usize) -> bool
+    ensures { result ≡ named.cells_name array cells.now }
+{
     for cell in cells {
-        if cell.array == array {
+        if is_array(cell.array, array) {
             return true;
         }
     }
     false
 }
 
-/// Whether statements call the function of this operation: `min` or `max`.
+/// Whether statements call the function.
 #[cycle(calls)]
-pub(crate) fn body_calls(stmts: &[Stmt], op: Op) -> bool {
+pub(crate) fn body_calls(stmts: &[Stmt], call: Call) -> bool
+    ensures { result ≡ named.body_calls call (stmts_of stmts.now) }
+{
     for stmt in stmts {
-        if stmt_calls(stmt, op) {
+        if stmt_calls(stmt, call) {
             return true;
         }
     }
@@ -76,27 +115,48 @@ pub(crate) fn body_calls(stmts: &[Stmt], op: Op) -> bool {
 }
 
 #[cycle(calls)]
-fn stmt_calls(stmt: &Stmt, op: Op) -> bool {
+fn stmt_calls(stmt: &Stmt, call: Call) -> bool
+    ensures { result ≡ named.statement_calls call (stmt_of stmt.now) }
+{
     match stmt {
-        Stmt::Set(_, expr) => value_calls(expr, op),
-        Stmt::Fold(by, _, expr) => folds_by(*by, op) || value_calls(expr, op),
+        Stmt::Set(_, expr) => value_calls(expr, call),
+        Stmt::Fold(by, _, expr) => is_fold(call, *by) || value_calls(expr, call),
         Stmt::If(expr, one, two) => {
-            value_calls(expr, op) || body_calls(one, op) || body_calls(two, op)
+            value_calls(expr, call) || body_calls(one, call) || body_calls(two, call)
         }
-        Stmt::Task(_, body) | Stmt::Group(_, _, body) => body_calls(body, op),
+        Stmt::Task(_, body) => body_calls(body, call),
         Stmt::Wait(_) => false,
+        Stmt::Group(_, _, body) => body_calls(body, call),
     }
 }
 
-/// Whether a fold by the one is a call of the other.
-fn folds_by(by: Fold, op: Op) -> bool {
-    matches!((by, op), (Fold::Min, Op::Min) | (Fold::Max, Op::Max))
-}
-
-fn value_calls(expr: &Expr, op: Op) -> bool {
+fn value_calls(expr: &Expr, call: Call) -> bool
+    ensures { result ≡ named.value_calls call (expr_of expr.now) }
+{
     match expr {
         Expr::Number(_) | Expr::Cell(_) => false,
-        Expr::Op(by, one, two) => *by == op || value_calls(one, op) || value_calls(two, op),
-        Expr::Pick(_, chosen) => value_calls(chosen, op),
+        Expr::Op(op, one, two) => {
+            is_op(call, *op) || value_calls(one, call) || value_calls(two, call)
+        }
+        Expr::Pick(_, chosen) => value_calls(chosen, call),
+    }
+}
+
+fn is_op(call: Call, op: Op) -> bool
+    ensures { result ≡ named.is_op call op }
+{
+    match call {
+        Call::Min => matches!(op, Op::Min),
+        Call::Max => matches!(op, Op::Max),
+    }
+}
+
+/// Whether a fold by this operation calls the function.
+fn is_fold(call: Call, op: Fold) -> bool
+    ensures { result ≡ named.is_fold call op }
+{
+    match call {
+        Call::Min => matches!(op, Fold::Min),
+        Call::Max => matches!(op, Fold::Max),
     }
 }

@@ -1,14 +1,15 @@
 //! Programs of C, from their first line to their last.
 ghost use Rattle.std.specs.Prelude.{◌≡◌, ◌++◌, OnOk, IfOk, string_bytes};
 ghost use Rattle.ot_model.specs.Programs.{expanded_of};
+ghost use Rattle.ot_model.specs.ShapeView.{arrays_of};
+ghost use Rattle.ot_c.specs.Arrays as shape;
 ghost use Rattle.ot_c.specs.Programs as written;
-ghost use Rattle.ot_c.specs.Programs.{IsProgram};
+ghost use Rattle.ot_c.specs.Programs.{IsProgram, lists_of};
 
-use crate::array::arrays_in_c;
-use crate::named::{body_calls, names};
+use crate::array::{arrays_in_c, declaration};
+use crate::named::{Call, body_calls, names};
 use crate::statement::{block, line};
-use crate::value::constant;
-use ot_model::{ArrayShape, Cell, Decl, Op, Program, Section};
+use ot_model::{ArrayShape, Cell, Decl, Program, Section};
 use ot_print::Printer;
 use std::alloc::{AllocError, Global};
 
@@ -53,15 +54,15 @@ const REGION: &str = "    #pragma omp parallel
     #pragma omp single
 ";
 
-/// The program as C, over arrays of these names and lengths that begin with these numbers. It prints the lists of the
-/// run's reply, on one line. Only arrays that the program names are in it.
+/// The program as C, over arrays of these names and lengths that begin with these numbers, a list for each. It prints the
+/// lists of the run's reply, on one line. Only arrays that the program names are in it. Its one refusal is of memory.
 pub fn c_text(
     alloc: Global,
     program: &Program,
     arrays: &[ArrayShape],
     before: &[Vec<u64>],
 ) -> Result<String, AllocError>
-    ensures { IfOk result (λ text. IsProgram (expanded_of program.now) (string_bytes text)) }
+    ensures { IfOk result (λ text. IsProgram (arrays_of arrays.now) (lists_of before.now) (expanded_of program.now) (string_bytes text)) }
 {
     let arrays = arrays_in_c(alloc, arrays)?;
     let mut out = Printer::new(alloc, &arrays);
@@ -77,11 +78,14 @@ fn front(
     program: &Program,
     arrays: &[ArrayShape],
     before: &[Vec<u64>],
-) -> Result<(), AllocError> {
+) -> Result<(), AllocError>
+    ensures text { OnOk result (out.new.text ≡ out.old.text ++ written.front (written.declared_from (expanded_of program.now) 0 (arrays_of arrays.now) (lists_of before.now)) (expanded_of program.now)) }
+    ensures names { out.new.names ≡ out.old.names }
+{
     out.words(HEAD)?;
     functions(out, program)?;
     out.words(MAIN)?;
-    declarations(out, program, arrays, before)?;
+    declarations(out, MARGIN, program, arrays, before)?;
     out.words(REGION)
 }
 
@@ -102,15 +106,27 @@ fn region(
 }
 
 /// The functions that the program calls.
-fn functions(out: &mut Printer<'_>, program: &Program) -> Result<(), AllocError> {
-    if body_calls(&program.body, Op::Min) {
-        out.words(MIN)?;
-    }
-    if body_calls(&program.body, Op::Max) {
-        out.words(MAX)?;
-    }
-    if !program.shows.is_empty() {
-        out.words(SHOW)?;
+fn functions(out: &mut Printer<'_>, program: &Program) -> Result<(), AllocError>
+    ensures text { OnOk result (out.new.text ≡ out.old.text ++ written.functions (expanded_of program.now)) }
+    ensures names { out.new.names ≡ out.old.names }
+{
+    words_if(out, body_calls(&program.body, Call::Min), MIN)?;
+    words_if(out, body_calls(&program.body, Call::Max), MAX)?;
+    words_if(out, any_shown(&program.shows), SHOW)
+}
+
+fn any_shown(shows: &[Section]) -> bool
+    ensures { result ≡ written.any_shown shows.now }
+{
+    !shows.is_empty()
+}
+
+fn words_if(out: &mut Printer<'_>, wanted: bool, words: &str) -> Result<(), AllocError>
+    ensures text { OnOk result (out.new.text ≡ out.old.text ++ shape.words_if wanted words.now) }
+    ensures names { out.new.names ≡ out.old.names }
+{
+    if wanted {
+        return out.words(words);
     }
     Ok(())
 }
@@ -118,44 +134,37 @@ fn functions(out: &mut Printer<'_>, program: &Program) -> Result<(), AllocError>
 /// The arrays that are named, with a line behind them.
 fn declarations(
     out: &mut Printer<'_>,
+    margin: &str,
     program: &Program,
     arrays: &[ArrayShape],
     before: &[Vec<u64>],
-) -> Result<(), AllocError> {
+) -> Result<(), AllocError>
+    ensures text { OnOk result (out.new.text ≡ out.old.text ++ shape.declarations margin.now (written.declared_from (expanded_of program.now) 0 (arrays_of arrays.now) (lists_of before.now))) }
+    ensures names { out.new.names ≡ out.old.names }
+{
     let mut any = false;
-    let mut number: u32 = 0;
-    for (array, numbers) in arrays.iter().zip(before) {
-        if names(program, number) {
-            declaration(out, array, numbers)?;
-            any = true;
-        }
-        number = number.saturating_add(1);
+    for number in 0..arrays.len().min(before.len()) {
+        let named = names(program, number);
+        declaration_if(out, named, margin, &arrays[number], &before[number])?;
+        any |= named;
     }
-    if any {
-        out.words("\n")?;
-    }
-    Ok(())
+    words_if(out, any, "\n")
 }
 
-/// `static uint64_t a[3] = {1, 2, 3};`, without the zeros at the end. It is static, as a stack may be small.
-fn declaration(
+fn declaration_if(
     out: &mut Printer<'_>,
+    wanted: bool,
+    margin: &str,
     array: &ArrayShape,
     numbers: &[u64],
-) -> Result<(), AllocError> {
-    out.words(MARGIN)?;
-    out.words("static uint64_t ")?;
-    out.words(array.name.as_str())?;
-    out.words("[")?;
-    out.number(u64::from(array.len))?;
-    out.words("]")?;
-    let mut before = " = {";
-    for number in up_to_last(numbers) {
-        out.words(before)?;
-        before = ", ";
-        constant(out, *number)?;
+) -> Result<(), AllocError>
+    ensures text { OnOk result (out.new.text ≡ out.old.text ++ shape.words_if wanted (shape.declaration margin.now (shape.declared (shape.array_of array.now) numbers.now))) }
+    ensures names { out.new.names ≡ out.old.names }
+{
+    if wanted {
+        return declaration(out, margin, array, numbers);
     }
-    out.words(if before == ", " { "};\n" } else { ";\n" })
+    Ok(())
 }
 
 /// Prints the lists of the reply.
@@ -197,13 +206,4 @@ fn show(out: &mut Printer<'_>, margin: &str, section: Section) -> Result<(), All
     out.words(", ")?;
     out.number(u64::from(section.len))?;
     out.words(");\n")
-}
-
-/// The numbers without the zeros at the end.
-fn up_to_last(numbers: &[u64]) -> &[u64] {
-    let mut len = numbers.len();
-    while len > 0 && numbers[len - 1] == 0 {
-        len -= 1;
-    }
-    &numbers[..len]
 }

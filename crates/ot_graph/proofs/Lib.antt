@@ -1,1 +1,6 @@
 pub mod LinkLemmas
+pub mod RunLemmas
+pub mod LabelLemmas
+pub mod DotLemmas
+pub mod PassedLemmas
+pub mod UnawaitedLemmas

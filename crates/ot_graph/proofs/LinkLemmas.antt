@@ -28,11 +28,6 @@ one_more zero (x ∷ xs) within = refl
 one_more (suc n) [] within = absurd (omega (arith, within))
 one_more (suc n) (x ∷ xs) within = ap (λ ys. done x ∷ ys) (one_more n xs (omega (arith, within)))
 
-pub length-finished_first : (n : ℕ) (xs : List Sibling) → length (finished_first n xs) ≡ length xs
-length-finished_first zero xs = refl
-length-finished_first (suc n) [] = refl
-length-finished_first (suc n) (x ∷ xs) = ap suc (length-finished_first n xs)
-
 -- those before the place have finished
 pub before_done : (n place : ℕ) (xs : List Sibling) (s : Sibling) → place < n → slice_get (finished_first n xs) place ≡ Some s → IsTrue s.finished
 before_done zero place xs s below is = absurd (omega (arith, below))
@@ -45,10 +40,6 @@ pub at_place : (n : ℕ) (xs : List Sibling) → slice_get (finished_first n xs)
 at_place zero xs = refl
 at_place (suc n) [] = refl
 at_place (suc n) (x ∷ xs) = at_place n xs
-
--- children of whom none has finished
-abbrev pub decl_at : List (List Use) → ℕ → Option Sibling
-decl_at decls n = slice_get (siblings_with decls) n
 
 pub known : (decls : List (List Use)) (n : ℕ) → n < length decls → (s : Sibling) × (slice_get (siblings_with decls) n ≡ Some s) × (s.finished ≡ false)
 known [] n within = absurd (omega (arith, within))
@@ -123,10 +114,10 @@ all_done (suc n) (x ∷ xs) (suc j) short =
 
 -- ---- links from one child
 
-same_number : (n : ℕ) → (n == n) ≡ true
+pub same_number : (n : ℕ) → (n == n) ≡ true
 same_number n = grind (arith, nat_tests)
 
-other_number : (n m : ℕ) → n ≢ m → (n == m) ≡ false
+pub other_number : (n m : ℕ) → n ≢ m → (n == m) ≡ false
 other_number n m other = grind (arith, nat_tests)
 
 pub links_same : (n j : ℕ) (ws : List ℕ) → count_by (is_link n j) (map (link_from n) ws) ≡ times j ws
@@ -157,14 +148,6 @@ pub record AreSoFar (decls : List (List Use)) (n : ℕ) (links : List Link) (sib
   pub earlier : (e j : ℕ) → e < n → count_by (is_link e j) links ≡ bit (waits_itself (siblings_with decls) e j)
   pub none : (e j : ℕ) → n ≤ e → count_by (is_link e j) links ≡ 0
   pub counted : (j : ℕ) → count_by (is_into j) links + waiting_for (finished_first n (siblings_with decls)) j ≡ waiting_for (siblings_with decls) j
-
-pub none_yet : (decls : List (List Use)) → AreSoFar decls 0 [] (siblings_with decls)
-none_yet decls = record {
-  finished = refl;
-  earlier = λ e j below. absurd (omega (arith, below));
-  none = λ e j above. refl;
-  counted = λ j. omega arith;
-}
 
 length-siblings_with : (decls : List (List Use)) → length (siblings_with decls) ≡ length decls
 length-siblings_with decls = length-map decls (λ uses. created uses [])

@@ -1,5 +1,7 @@
 -- Who of the children of one body waits for whom by itself.
-use Rattle.std.specs.Prelude.{◌≡◌, ℕ, suc, ◌==◌, ◌&&◌, Bool, false, cond, List, [], map, take, drop, slice_get, count_by, option_map, unwrap_or}
+use Rattle.std.specs.Prelude.{◌≡◌, ℕ, suc, ◌==◌, ◌&&◌, Bool, false, cond, List, [], ◌∷◌, map, take, drop, slice_get, count_by, option_map, unwrap_or}
+use Rattle.std.specs.List.{filter}
+use Rattle.ot_model.specs.declared.expr.Cell.{Cell}
 use Rattle.ot_model.specs.declared.stmt.Use.{Use}
 use Rattle.ot_depend.specs.Siblings.{Sibling, created}
 use Rattle.ot_depend.specs.Direct.{is_direct, waiting_for}
@@ -23,6 +25,15 @@ is_link earlier later link = (link.earlier == earlier) && (link.later == later)
 -- the link from the one to the other
 abbrev pub link_from : ℕ → ℕ → Link
 link_from earlier later = record { earlier = earlier; later = later }
+
+-- what those declare that stand between the two
+abbrev pub between : Link → List (List Use) → List (List Use)
+between link decls = drop (suc link.earlier) (take link.later decls)
+
+-- the cells at which the later of two siblings waits for the earlier by itself: those of its uses each of which alone would
+-- make it wait so
+abbrev pub cells_at : (earlier : List Use) (between : List (List Use)) (later : List Use) → List Cell
+cells_at earlier between later = map (λ v. v.cell) (filter (λ v. is_direct earlier (siblings_with between) (v ∷ [])) later)
 
 -- The links of children with these declarations: of two there is one link where the later waits for the earlier by itself,
 -- and else none. So into each child there are as many as it waits for.

@@ -1,11 +1,19 @@
 //! A task graph in the language of `dot`.
+ghost use Rattle.std.specs.Prelude.{◌≡◌, ◌+◌, ◌++◌, ◌<◌, ◌^◌, IfOk, OnOk, decimal, length, map, option_copied, string_bytes};
+ghost use Rattle.ot_print.specs.Shown.{names_of};
+ghost use Rattle.ot_graph.specs.Children.{created_of, all_of, decls_of};
+ghost use Rattle.ot_graph.specs.Graphs.{marks_of, passed_of};
+ghost use Rattle.ot_graph.specs.Written.{AreRows};
+ghost use Rattle.ot_print.specs.Shown as shown;
+ghost use Rattle.ot_graph.specs.Dot as dot;
+
 use crate::child::Child;
 use crate::family::Family;
 use crate::graph::Graph;
-use crate::label::{Meeting, meetings_of};
+use crate::label::{cells_of, rows_of};
 use crate::link::Link;
 use crate::mark::Mark;
-use ot_model::{ArrayShape, Cell};
+use ot_model::{ArrayShape, Cell, Decl, Fold};
 use ot_print::Printer;
 use std::alloc::{AllocError, Global};
 
@@ -17,148 +25,213 @@ pub fn dot_text(
     alloc: Global,
     graph: &Graph<'_>,
     arrays: &[ArrayShape],
-) -> Result<String, AllocError> {
+) -> Result<String, AllocError>
+    ensures { IfOk result (λ text. string_bytes text ≡ dot.text (names_of arrays.now) graph.now) }
+{
     let mut out = Printer::new(alloc, arrays);
     out.words("digraph tasks {\n  t0 [label=\"program\"];\n")?;
     nodes(&mut out, &graph.marks)?;
     creations(&mut out, &graph.marks)?;
-    for family in &graph.families {
-        links(alloc, &mut out, family)?;
-    }
+    edges_of(alloc, &mut out, &graph.families)?;
     out.words("}\n")?;
     Ok(out.into_text())
 }
 
 /// The tasks and waits, with a box around those of each group.
-fn nodes(out: &mut Printer<'_>, marks: &[Mark<'_>]) -> Result<(), AllocError> {
-    let mut waits: u32 = 0;
-    let mut groups: u32 = 0;
+fn nodes(out: &mut Printer<'_>, marks: &[Mark<'_>]) -> Result<(), AllocError>
+    ensures text { OnOk result (out.new.text ≡ out.old.text ++ dot.nodes out.old.names 0 0 (marks_of marks.now)) }
+    ensures names { out.new.names ≡ out.old.names }
+{
+    let mut waits: u64 = 0;
+    let mut groups: u64 = 0;
     for mark in marks {
-        match mark {
-            Mark::Task(_, child) => task_node(out, *child)?,
-            Mark::Wait(_, decl, _) => {
-                waits = waits.saturating_add(1);
-                node(out, "  w", waits)?;
-                out.words(" [shape=box, label=\"")?;
-                match decl {
-                    None => out.wait_for_all()?,
-                    Some(decl) => out.wait_for(decl)?,
-                }
-                out.words("\"];\n")?;
-            }
-            Mark::Enter(op, cells) => {
-                groups = groups.saturating_add(1);
-                node(out, "  subgraph cluster_", groups)?;
-                out.words(" {\n  label=\"")?;
-                out.group(*op, cells)?;
-                out.words("\";\n")?;
-            }
-            Mark::Leave => out.words("  }\n")?,
-        }
+        node(out, waits + 1, groups + 1, mark)?;
+        waits += waits_in(mark);
+        groups += groups_in(mark);
     }
     Ok(())
 }
 
-fn task_node(out: &mut Printer<'_>, child: Child<'_>) -> Result<(), AllocError> {
-    node(out, "  t", child.number)?;
-    node(out, " [label=\"", child.place)?;
+/// What is written of a mark: of a wait with the one number, of the beginning of a group with the other.
+fn node(out: &mut Printer<'_>, wait: u64, group: u64, mark: &Mark<'_>) -> Result<(), AllocError>
+    ensures text { OnOk result (out.new.text ≡ out.old.text ++ dot.node out.old.names wait group (passed_of mark.now)) }
+    ensures names { out.new.names ≡ out.old.names }
+{
+    match mark {
+        Mark::Task(_, child) => task_node(out, *child),
+        Mark::Wait(_, decl, _) => wait_node(out, wait, *decl),
+        Mark::Enter(op, cells) => open_box(out, group, *op, cells),
+        Mark::Leave => out.words("  }\n"),
+    }
+}
+
+/// One for a wait.
+fn waits_in(mark: &Mark<'_>) -> u64
+    ensures { result ≡ dot.waits_in (passed_of mark.now) }
+{
+    match mark {
+        Mark::Wait(_, _, _) => 1,
+        Mark::Task(_, _) | Mark::Enter(_, _) | Mark::Leave => 0,
+    }
+}
+
+/// One for the beginning of a group.
+fn groups_in(mark: &Mark<'_>) -> u64
+    ensures { result ≡ dot.groups_in (passed_of mark.now) }
+{
+    match mark {
+        Mark::Enter(_, _) => 1,
+        Mark::Task(_, _) | Mark::Wait(_, _, _) | Mark::Leave => 0,
+    }
+}
+
+fn task_node(out: &mut Printer<'_>, child: Child<'_>) -> Result<(), AllocError>
+    ensures text { OnOk result (out.new.text ≡ out.old.text ++ dot.task_node out.old.names (created_of child.entry)) }
+    ensures names { out.new.names ≡ out.old.names }
+{
+    numbered(out, "  t", u64::from(child.number))?;
+    numbered(out, " [label=\"", u64::from(child.place))?;
     out.words(": ")?;
     out.task(child.decl)?;
     out.words("\"];\n")
 }
 
+fn wait_node(out: &mut Printer<'_>, number: u64, wait: Option<&Decl>) -> Result<(), AllocError>
+    ensures text { OnOk result (out.new.text ≡ out.old.text ++ dot.wait_node out.old.names number (option_copied wait.entry)) }
+    ensures names { out.new.names ≡ out.old.names }
+{
+    numbered(out, "  w", number)?;
+    out.words(" [shape=box, label=\"")?;
+    wait_label(out, wait)?;
+    out.words("\"];\n")
+}
+
+fn wait_label(out: &mut Printer<'_>, wait: Option<&Decl>) -> Result<(), AllocError>
+    ensures text { OnOk result (out.new.text ≡ out.old.text ++ shown.wait out.old.names (option_copied wait.entry)) }
+    ensures names { out.new.names ≡ out.old.names }
+{
+    match wait {
+        None => out.wait_for_all(),
+        Some(decl) => out.wait_for(decl),
+    }
+}
+
+/// The beginning of the box around what is created in a group.
+fn open_box(out: &mut Printer<'_>, number: u64, op: Fold, cells: &[Cell]) -> Result<(), AllocError>
+    ensures text { OnOk result (out.new.text ≡ out.old.text ++ dot.box out.old.names number op cells.now) }
+    ensures names { out.new.names ≡ out.old.names }
+{
+    numbered(out, "  subgraph cluster_", number)?;
+    out.words(" {\n  label=\"")?;
+    out.group(op, cells)?;
+    out.words("\";\n")
+}
+
 /// Words with a number behind them.
-fn node(out: &mut Printer<'_>, words: &str, number: u32) -> Result<(), AllocError> {
+fn numbered(out: &mut Printer<'_>, words: &str, number: u64) -> Result<(), AllocError>
+    ensures text { OnOk result (out.new.text ≡ out.old.text ++ dot.numbered words.now number) }
+    ensures names { out.new.names ≡ out.old.names }
+{
     out.words(words)?;
-    out.number(u64::from(number))
+    out.number(number)
 }
 
 /// Who creates whom, and what each wait awaits.
-fn creations(out: &mut Printer<'_>, marks: &[Mark<'_>]) -> Result<(), AllocError> {
-    let mut waits: u32 = 0;
+fn creations(out: &mut Printer<'_>, marks: &[Mark<'_>]) -> Result<(), AllocError>
+    ensures text { OnOk result (out.new.text ≡ out.old.text ++ dot.creations 0 (marks_of marks.now)) }
+    ensures names { out.new.names ≡ out.old.names }
+{
+    let mut waits: u64 = 0;
     for mark in marks {
-        match mark {
-            Mark::Task(parent, child) => {
-                node(out, "  t", *parent)?;
-                node(out, " -> t", child.number)?;
-                out.words(" [style=dashed];\n")?;
-            }
-            Mark::Wait(parent, _, awaited) => {
-                waits = waits.saturating_add(1);
-                wait_edges(out, waits, *parent, awaited)?;
-            }
-            Mark::Enter(_, _) | Mark::Leave => {}
-        }
+        creation(out, waits + 1, mark)?;
+        waits += waits_in(mark);
     }
     Ok(())
 }
 
-fn wait_edges(
-    out: &mut Printer<'_>,
-    wait: u32,
-    parent: u32,
-    awaited: &[Child<'_>],
-) -> Result<(), AllocError> {
-    node(out, "  t", parent)?;
-    node(out, " -> w", wait)?;
-    out.words(" [style=dashed];\n")?;
+/// The edges of a mark, which has this number where it is a wait.
+fn creation(out: &mut Printer<'_>, wait: u64, mark: &Mark<'_>) -> Result<(), AllocError>
+    ensures text { OnOk result (out.new.text ≡ out.old.text ++ dot.creation wait (passed_of mark.now)) }
+    ensures names { out.new.names ≡ out.old.names }
+{
+    match mark {
+        Mark::Task(parent, child) => {
+            numbered(out, "  t", u64::from(*parent))?;
+            numbered(out, " -> t", u64::from(child.number))?;
+            out.words(" [style=dashed];\n")
+        }
+        Mark::Wait(parent, _, awaited) => {
+            numbered(out, "  t", u64::from(*parent))?;
+            numbered(out, " -> w", wait)?;
+            out.words(" [style=dashed];\n")?;
+            awaited_edges(out, wait, awaited)
+        }
+        Mark::Enter(_, _) | Mark::Leave => Ok(()),
+    }
+}
+
+fn awaited_edges(out: &mut Printer<'_>, wait: u64, awaited: &[Child<'_>]) -> Result<(), AllocError>
+    ensures text { OnOk result (out.new.text ≡ out.old.text ++ dot.awaited_edges wait (all_of awaited.now)) }
+    ensures names { out.new.names ≡ out.old.names }
+{
     for child in awaited {
-        node(out, "  t", child.number)?;
-        node(out, " -> w", wait)?;
+        numbered(out, "  t", u64::from(child.number))?;
+        numbered(out, " -> w", wait)?;
         out.words(" [style=dotted];\n")?;
     }
     Ok(())
 }
 
-/// Who of a family waits for whom by itself.
-fn links(alloc: Global, out: &mut Printer<'_>, family: &Family<'_>) -> Result<(), AllocError> {
-    let meetings = meetings_of(alloc, family)?;
-    let mut next = 0;
-    for link in &family.links {
-        let (cells, after) = cells_of(alloc, &meetings, next, *link)?;
-        next = after;
-        link_edge(out, family, *link, &cells)?;
+/// Who of each family waits for whom by itself.
+fn edges_of(alloc: Global, out: &mut Printer<'_>, families: &[Family<'_>]) -> Result<(), AllocError>
+    ensures text { OnOk result (out.new.text ≡ out.old.text ++ dot.edges_of out.old.names families.now) }
+    ensures names { out.new.names ≡ out.old.names }
+{
+    for family in families {
+        edges(alloc, out, &family.children, &family.links)?;
     }
     Ok(())
 }
 
-/// The cells of a link among the meetings from a place on, and the place behind them.
-fn cells_of(
+fn edges(
     alloc: Global,
-    meetings: &[Meeting],
-    from: usize,
-    link: Link,
-) -> Result<(Vec<Cell>, usize), AllocError> {
-    let mut cells = Vec::new(alloc);
-    let mut at = from;
-    while at < meetings.len() {
-        let meeting = meetings[at];
-        if meeting.is_behind(link) {
-            break;
-        }
-        if meeting.is_of(link) {
-            cells.push(meeting.cell())?;
-        }
-        at += 1;
+    out: &mut Printer<'_>,
+    children: &[Child<'_>],
+    links: &[Link],
+) -> Result<(), AllocError>
+    ensures text { OnOk result (out.new.text ≡ out.old.text ++ dot.edges out.old.names children.now links.now) }
+    ensures names { out.new.names ≡ out.old.names }
+{
+    let rows = rows_of(alloc, children)?;
+    for link in links {
+        edge(alloc, out, children, &rows, *link)?;
     }
-    Ok((cells, at))
+    Ok(())
 }
 
-fn link_edge(
+/// The edge of a link between two of these children.
+fn edge(
+    alloc: Global,
     out: &mut Printer<'_>,
-    family: &Family<'_>,
+    children: &[Child<'_>],
+    rows: &[Vec<usize>],
     link: Link,
-    cells: &[Cell],
-) -> Result<(), AllocError> {
-    let Some(earlier) = family.children.get(link.earlier) else {
+) -> Result<(), AllocError>
+    requires rows { AreRows (decls_of children.now) (map (λ r. r.items) rows.now) }
+    requires len { length rows.now ≡ length children.now }
+    ensures text { OnOk result (out.new.text ≡ out.old.text ++ dot.edge out.old.names children.now link) }
+    ensures names { out.new.names ≡ out.old.names }
+{
+    if link.earlier >= children.len() || link.later >= children.len() {
         return Ok(());
-    };
-    let Some(later) = family.children.get(link.later) else {
-        return Ok(());
-    };
-    node(out, "  t", earlier.number)?;
-    node(out, " -> t", later.number)?;
+    }
+    let earlier = children[link.earlier];
+    let later = children[link.later];
+    let row = rows[link.later].as_slice();
+    let cells = cells_of(alloc, earlier.decl, link.earlier, later.decl, row)?;
+    numbered(out, "  t", u64::from(earlier.number))?;
+    numbered(out, " -> t", u64::from(later.number))?;
     out.words(" [label=\"")?;
-    out.cells(cells)?;
+    out.cells(&cells)?;
     out.words("\"];\n")
 }

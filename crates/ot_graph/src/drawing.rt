@@ -1,4 +1,7 @@
 //! The task graph of the last run of a session.
+ghost use Rattle.std.specs.Prelude.{IfOk};
+ghost use Rattle.ot_graph.specs.Drawn.{Draws, DrawsLast};
+
 use crate::dot::dot_text;
 use crate::graph::graph_of;
 use ot_front::Source;
@@ -15,21 +18,27 @@ pub struct Drawing {
 }
 
 /// The task graph of the last program that a session runs.
-pub fn draw<R: Source>(alloc: Global, source: &mut R) -> Result<Drawing, LastFault> {
+pub fn draw<R: Source>(alloc: Global, source: &mut R) -> Result<Drawing, LastFault>
+    ensures { IfOk result (λ drawing. DrawsLast (R.ahead source.old) (R.ahead source.new) drawing) }
+{
     match last_run(alloc, source) {
         Ok(last) => drawing_of(alloc, &last),
         Err(fault) => Err(fault),
     }
 }
 
-fn drawing_of(alloc: Global, last: &LastRun) -> Result<Drawing, LastFault> {
+fn drawing_of(alloc: Global, last: &LastRun) -> Result<Drawing, LastFault>
+    ensures { IfOk result (λ drawing. Draws last.now.spec last.now.arrays.items drawing) }
+{
     match drawn(alloc, last) {
         Ok(drawing) => Ok(drawing),
         Err(_) => Err(LastFault::Memory),
     }
 }
 
-fn drawn(alloc: Global, last: &LastRun) -> Result<Drawing, AllocError> {
+fn drawn(alloc: Global, last: &LastRun) -> Result<Drawing, AllocError>
+    ensures { IfOk result (λ drawing. Draws last.now.spec last.now.arrays.items drawing) }
+{
     let graph = graph_of(alloc, &last.spec)?;
     let text = dot_text(alloc, &graph, last.arrays.as_slice())?;
     Ok(Drawing {

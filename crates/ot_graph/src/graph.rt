@@ -1,8 +1,11 @@
 //! The task graph of a run.
 ghost use Rattle.std.specs.Prelude.{◌≡◌, IfOk};
 ghost use Rattle.ot_model.specs.Programs.{expanded_of};
+ghost use Rattle.ot_check.specs.Jobs.{meaning_of};
 ghost use Rattle.ot_graph.specs.Families.{families};
-ghost use Rattle.ot_graph.specs.Graphs.{families_of};
+ghost use Rattle.ot_graph.specs.Passing.{marks};
+ghost use Rattle.ot_graph.specs.Unawaited.{AwaitExactly};
+ghost use Rattle.ot_graph.specs.Graphs.{families_of, marks_of};
 
 use crate::family::Family;
 use crate::mark::Mark;
@@ -23,10 +26,14 @@ pub struct Graph<'a> {
     pub tasks: u32,
 }
 
-/// The task graph of a program that is run from its cells: the families are those of the serial run, and the
-/// links of each are those of its children.
+/// The task graph of a program that is run from its cells: the families, each with its children and their numbers and
+/// places, and the marks, each wait with the children that it awaits, are those of the serial run, and the links of each
+/// family are those of its children.
 pub fn graph_of<'a>(alloc: Global, spec: &'a JobSpec) -> Result<Graph<'a>, AllocError>
-    ensures { IfOk result (λ graph. families_of graph.families.items ≡ families (expanded_of spec.now.checked.program).body spec.now.before) }
+    ensures families { IfOk result (λ graph. families_of graph.families.items ≡ families (expanded_of spec.now.checked.program).body spec.now.before) }
+    ensures marks { IfOk result (λ graph. marks_of graph.marks.items ≡ marks (expanded_of spec.now.checked.program).body spec.now.before) }
+    ensures awaited { IfOk result (λ graph. AwaitExactly (marks_of graph.marks.items)) }
+    ensures tasks { IfOk result (λ graph. graph.tasks ≡ (meaning_of spec.now).tasks) }
 {
     let cells = spec.before().copy(alloc)?;
     let checked = spec.checked();

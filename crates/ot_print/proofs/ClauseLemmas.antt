@@ -183,7 +183,7 @@ task_apart = (reads_alone, (writes_alone, (plus_alone, (times_alone, (and_alone,
 pub task_ends : Ends task_kinds []
 task_ends = (refl, (refl, (refl, (refl, (refl, (refl, (refl, (refl, (refl, tt)))))))))
 
-task_shown : (names : List Text) (us : List Use) → task names us ≡ codes "task" ++ clauses names task_kinds us []
+pub task_shown : (names : List Text) (us : List Use) → task names us ≡ codes "task" ++ clauses names task_kinds us []
 task_shown names us =
     parts (codes "task") (declared names (codes " in(") us m.Reads) (declared names (codes " out(") us m.Writes)
     (folded names us f.Plus) (folded names us f.Times) (folded names us f.And) (folded names us f.Or) (folded names us f.Xor) (folded names us f.Min) (folded names us f.Max)

@@ -5,3 +5,4 @@ pub mod ClauseLemmas
 pub mod GroupLemmas
 pub mod WriteLemmas
 pub mod WaitLemmas
+pub mod StatementLemmas

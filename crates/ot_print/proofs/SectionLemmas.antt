@@ -36,7 +36,7 @@ pub record GoesOn (s : Section) (c : Cell) : Type 0 where
   pub index : s.start + s.len ≡ c.index
   pub small : s.len + 1 < 2 ^ 32
 
-goes_on_is : (s : Section) (c : Cell) → goes_on s c ≡ true → GoesOn s c
+pub goes_on_is : (s : Section) (c : Cell) → goes_on s c ≡ true → GoesOn s c
 goes_on_is s c h =
     let one = and_true (s.array == c.array) ((s.start + s.len == c.index) && nat_lt (s.len + 1) (2 ^ 32)) h in
     let two = and_true (s.start + s.len == c.index) (nat_lt (s.len + 1) (2 ^ 32)) one.1 in

@@ -50,7 +50,7 @@ not_true : (b : Bool) → not b ≡ true → b ≡ false
 not_true true h = absurd (true≢false (sym h))
 not_true false h = refl
 
-name_word : (w : Text) → is_name w ≡ true → all_word w ≡ true
+pub name_word : (w : Text) → is_name w ≡ true → all_word w ≡ true
 name_word [] h = refl
 name_word (b ∷ bs) h = (and_true (not (is_digit b)) (all_word (b ∷ bs)) h).1
 
@@ -113,7 +113,7 @@ op_back o.Equal t = refl
 op_back o.Min t = refl
 op_back o.Max t = refl
 
-same_op : (op other : Op) (t u : Text) → sign op ++ t ≡ sign other ++ u → (op ≡ other) × (t ≡ u)
+pub same_op : (op other : Op) (t u : Text) → sign op ++ t ≡ sign other ++ u → (op ≡ other) × (t ≡ u)
 same_op op other t u is =
     let one : op ≡ other = sym (op_back op t) ∙ ap op_at is ∙ op_back other u in
     (one, append_cancel_left (sign op) t u (is ∙ ap (λ q. sign q ++ u) (sym one)))
@@ -238,10 +238,10 @@ cell_side names are c fits (PickFrom t e) r s other hr hs is =
 cell_side names are c fits (Literal n) r s other hr hs is = absurd (omega (arith, same_shape names are (CellAt c) (Literal n) r s fits other is))
 cell_side names are c fits (Apply op x y) r s other hr hs is = absurd (omega (arith, same_shape names are (CellAt c) (Apply op x y) r s fits other is, shape_small op (is_call op) refl))
 
-pick_eq : (s t : Section) (a b : E) → s ≡ t → a ≡ b → PickFrom s a ≡ PickFrom t b
+pub pick_eq : (s t : Section) (a b : E) → s ≡ t → a ≡ b → PickFrom s a ≡ PickFrom t b
 pick_eq s t a b p q = ap (λ x. PickFrom x a) p ∙ ap (PickFrom t) q
 
-apply_eq : (o p : Op) (a b x y : E) → o ≡ p → a ≡ x → b ≡ y → Apply o a b ≡ Apply p x y
+pub apply_eq : (o p : Op) (a b x y : E) → o ≡ p → a ≡ x → b ≡ y → Apply o a b ≡ Apply p x y
 apply_eq o p a b x y i j k = ap (λ q. Apply q a b) i ∙ ap (λ q. Apply p q b) j ∙ ap (Apply p x) k
 
 pick_side : (names : List Text) → AreNames names → (t : Section) (e : E) → Fits names (PickFrom t e) → Determined names e → IsBySide names (PickFrom t e)

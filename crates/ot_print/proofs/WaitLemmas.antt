@@ -15,13 +15,13 @@ use Rattle.ot_print.proofs.WordLemmas.{and_true, head_of, tail_of}
 use Rattle.ot_print.proofs.SectionLemmas.{section_shown, all_fit, behind_start}
 use Rattle.ot_print.proofs.ClauseLemmas.{clause_shown, Kind, clauses, Agree, Apart, Ends, same_clauses, reads, writes, alone, passed, cells_fit, same_uses}
 
-abbrev wait_kinds : List Kind
+abbrev pub wait_kinds : List Kind
 wait_kinds = reads ∷ writes ∷ []
 
 wait_apart : Apart wait_kinds
 wait_apart = (alone reads.words (writes ∷ []) (λ t. refl, tt), (alone writes.words [] tt, tt))
 
-dependences_shown : (names : List Text) (us : List Use) → dependences names us ≡ clauses names wait_kinds us []
+pub dependences_shown : (names : List Text) (us : List Use) → dependences names us ≡ clauses names wait_kinds us []
 dependences_shown names us =
     ap (λ t. declared names (codes " in(") us m.Reads ++ t) (sym (append-nil (declared names (codes " out(") us m.Writes)))
 

@@ -11,12 +11,12 @@ use Rattle.ot_print.specs.Laws.{write_sign, HasSign, WriteIsDetermined, CalledFo
 use Rattle.ot_print.proofs.WordLemmas.{tail_of}
 use Rattle.ot_print.proofs.ValueLemmas.{opened, same_cell, cell_shown, determined}
 
-abbrev kind_at : Text → Option Operation
+abbrev pub kind_at : Text → Option Operation
 kind_at [] = None
 kind_at (b ∷ []) = None
 kind_at (b ∷ c ∷ t) = if c == 43 then Some f.Plus else if c == 42 then Some f.Times else if c == 38 then Some f.And else if c == 124 then Some f.Or else if c == 94 then Some f.Xor else None
 
-kind_back : (k : Option Operation) (t : Text) → HasSign k → kind_at (write_sign k ++ t) ≡ k
+pub kind_back : (k : Option Operation) (t : Text) → HasSign k → kind_at (write_sign k ++ t) ≡ k
 kind_back None t h = refl
 kind_back (Some f.Plus) t h = refl
 kind_back (Some f.Times) t h = refl
@@ -26,7 +26,7 @@ kind_back (Some f.Xor) t h = refl
 kind_back (Some f.Min) t h = absurd (true≢false h)
 kind_back (Some f.Max) t h = absurd (true≢false h)
 
-write_shown : (names : List Text) (k : Option Operation) (c : Cell) (a : E) → cell names c ++ write_sign k ++ value names a ≡ name names c.array ++ (91 ∷ (decimal c.index ++ (93 ∷ (write_sign k ++ value names a))))
+pub write_shown : (names : List Text) (k : Option Operation) (c : Cell) (a : E) → cell names c ++ write_sign k ++ value names a ≡ name names c.array ++ (91 ∷ (decimal c.index ++ (93 ∷ (write_sign k ++ value names a))))
 write_shown names k c a = append_assoc (cell names c) (write_sign k) (value names a) ∙ cell_shown names c (write_sign k ++ value names a)
 
 pub write_law : WriteIsDetermined

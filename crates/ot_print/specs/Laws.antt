@@ -9,7 +9,7 @@ use Rattle.ot_model.specs.declared.fold.Fold.{Fold as Operation}
 use Rattle.std.specs.Prelude.{◌++◌, codes, Option, Some, None}
 use Rattle.ot_model.specs.declared.expr.Op.TheVariants as o
 use Rattle.ot_model.specs.declared.fold.Fold.TheVariants as f
-use Rattle.ot_model.specs.Tree.{Set, Fold}
+use Rattle.ot_model.specs.Tree.{S, Set, Fold, If, Task, Wait, Group, End}
 use Rattle.ot_print.specs.Shown.{Text, name, cell, value, sections, task, wait, group, statement}
 use Rattle.ot_model.specs.Signs.{fold_sign, is_called}
 use Rattle.ot_print.specs.Sections.{sections_of, cells_of}
@@ -115,3 +115,41 @@ WriteIsDetermined = (names : List Text) → AreNames names → (k l : Option Ope
 abbrev pub CalledFoldIsShownAsSet : Type 0
 CalledFoldIsShownAsSet = (names : List Text) (c : Cell) (e : E)
     → (statement names (Fold f.Max c e) ≡ statement names (Set c (Apply o.Max (CellAt c) e))) × (statement names (Fold f.Min c e) ≡ statement names (Set c (Apply o.Min (CellAt c) e)))
+
+-- ---- whole statements
+
+-- what a fold by `min` or `max` computes as a value; any other is told as a fold
+abbrev pub fold_as_shown : Operation → Cell → E → S
+fold_as_shown f.Min c e = Set c (Apply o.Min (CellAt c) e)
+fold_as_shown f.Max c e = Set c (Apply o.Max (CellAt c) e)
+fold_as_shown op c e = Fold op c e
+
+-- the operation of a group over no cell isn't told
+abbrev pub group_as_shown : Operation → List Cell → S
+group_as_shown op [] = Group f.Plus [] End
+group_as_shown op (c ∷ cs) = Group op (c ∷ cs) End
+
+-- what is told of a statement: bodies aren't, nor whether a cell is set to its `min` or `max` with a value by a fold
+abbrev pub as_shown : S → S
+as_shown (Set c e) = Set c e
+as_shown (Fold op c e) = fold_as_shown op c e
+as_shown (If e a b) = If e End End
+as_shown (Task us b) = Task us End
+as_shown (Wait w) = Wait w
+as_shown (Group op cs b) = group_as_shown op cs
+
+abbrev pub FitsStatement : List Text → S → Type 0
+FitsStatement names (Set c e) = Fits names (CellAt c) × Fits names e
+FitsStatement names (Fold op c e) = Fits names (CellAt c) × Fits names e
+FitsStatement names (If e a b) = Fits names e
+FitsStatement names (Task us b) = AreInOrder us × UsesFit names us
+FitsStatement names (Wait w) = WaitFits names w
+FitsStatement names (Group op cs b) = CellsFit names cs
+
+-- a statement is shown as what is told of it
+abbrev pub StatementIsShownSo : Type 0
+StatementIsShownSo = (names : List Text) (s : S) → statement names (as_shown s) ≡ statement names s
+
+-- statements of one text, of whatever kinds, are one as far as it tells them
+abbrev pub StatementIsDetermined : Type 0
+StatementIsDetermined = (names : List Text) → AreNames names → (s t : S) → FitsStatement names s → FitsStatement names t → statement names s ≡ statement names t → as_shown s ≡ as_shown t

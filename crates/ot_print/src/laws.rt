@@ -1,5 +1,5 @@
 //! Laws of what is written. Each is the contract of a function that does nothing.
-ghost use Rattle.ot_print.specs.Laws.{ValueIsDetermined, CellsComeBack, SectionsAreDetermined, CellsAreDetermined, TaskIsDetermined, WaitIsDetermined, GroupIsDetermined, WriteIsDetermined, CalledFoldIsShownAsSet};
+ghost use Rattle.ot_print.specs.Laws.{ValueIsDetermined, CellsComeBack, SectionsAreDetermined, CellsAreDetermined, TaskIsDetermined, WaitIsDetermined, GroupIsDetermined, WriteIsDetermined, CalledFoldIsShownAsSet, StatementIsShownSo, StatementIsDetermined};
 
 /// A value's text determines the value, where names differ.
 pub fn value_is_determined()
@@ -44,4 +44,16 @@ pub fn write_is_determined()
 /// A fold by min or max is shown as the set that does the same.
 pub fn called_fold_is_shown_as_set()
     ensures { CalledFoldIsShownAsSet }
+{}
+
+/// A statement is shown as what is told of it.
+pub fn statement_is_shown_so()
+    ensures { StatementIsShownSo }
+{}
+
+/// The text of a statement, of whatever kind, determines what is told of it, where names differ: its kind, cells, value
+/// and declaration. Only a fold by min or max shares its text with a statement of another kind, the set that does the
+/// same, and only groups over no cell share one whatever their operations.
+pub fn statement_is_determined()
+    ensures { StatementIsDetermined }
 {}

@@ -233,7 +233,7 @@ impl<'a> Printer<'a> {
         ensures text { OnOk result (self.new.text ≡ self.old.text ++ shown.wait self.old.names (Some decl.now)) }
         ensures names { self.new.names ≡ self.old.names }
     {
-        self.words("taskwait")?;
+        self.wait_for_all()?;
         self.waited(decl)
     }
 

@@ -5,20 +5,31 @@ use Rattle.ot_model.specs.Serial.{serial}
 use Rattle.ot_model.specs.Names.{NamedIn}
 use Rattle.ot_model.specs.Cells.{lengths}
 use Rattle.ot_model.specs.Runs.{state_of}
-use Rattle.ot_graph.specs.Families.{children_in, inside, decls_of}
-use Rattle.ot_graph.specs.Graphs.{families_of}
+use Rattle.ot_graph.specs.Families.{children_in, inside}
+use Rattle.ot_graph.specs.Passing.{passes, unawaited}
+use Rattle.ot_graph.specs.Children.{all_of}
+use Rattle.ot_graph.specs.Graphs.{families_of, marks_of}
 use Rattle.ot_graph.proofs.run.+run.Given as goal
 
 -- what is left of the body, run from the cells and counts as they are now, gives what the whole body gives
 abbrev pub invariant-run_all-loop-stmt : goal.invariant-run_all-loop-stmt
-invariant-run_all-loop-stmt l =
-    (serial (stmts_of (drop l.stmt-index l.body.items)) (state_of l.run.cells l.run.counts)
-    ≡ serial (stmts_of l.body.items) (state_of l.initial.run.cells l.initial.run.counts))
-    × (lengths l.run.cells ≡ lengths l.initial.run.cells)
-    × NamedIn (lengths l.initial.run.cells) (stmts_of (drop l.stmt-index l.body.items))
-    × (l.run.counts.units + size (stmts_of (drop l.stmt-index l.body.items)) ≤ l.initial.run.counts.units + size (stmts_of l.body.items))
-    × (l.run.counts.tasks + tasks_in (stmts_of (drop l.stmt-index l.body.items)) ≤ l.initial.run.counts.tasks + tasks_in (stmts_of l.body.items))
-    × (decls_of l.region.children.items ++ children_in (stmts_of (drop l.stmt-index l.body.items)) (state_of l.run.cells l.run.counts)
-    ≡ decls_of l.initial.region.children.items ++ children_in (stmts_of l.body.items) (state_of l.initial.run.cells l.initial.run.counts))
-    × (families_of l.run.families.items ++ inside (stmts_of (drop l.stmt-index l.body.items)) (state_of l.run.cells l.run.counts)
-    ≡ families_of l.initial.run.families.items ++ inside (stmts_of l.body.items) (state_of l.initial.run.cells l.initial.run.counts))
+invariant-run_all-loop-stmt l = record {
+  serial : serial (stmts_of (drop l.stmt-index l.body.items)) (state_of l.run.cells l.run.counts)
+      ≡ serial (stmts_of l.body.items) (state_of l.initial.run.cells l.initial.run.counts);
+  kept : lengths l.run.cells ≡ lengths l.initial.run.cells;
+  named : NamedIn (lengths l.initial.run.cells) (stmts_of (drop l.stmt-index l.body.items));
+  units : l.run.counts.units + size (stmts_of (drop l.stmt-index l.body.items)) ≤ l.initial.run.counts.units + size (stmts_of l.body.items);
+  tasks : l.run.counts.tasks + tasks_in (stmts_of (drop l.stmt-index l.body.items)) ≤ l.initial.run.counts.tasks + tasks_in (stmts_of l.body.items);
+  place : l.next + size (stmts_of (drop l.stmt-index l.body.items)) ≡ l.place + size (stmts_of l.body.items);
+  parent : l.region.parent ≡ l.initial.region.parent;
+  children : all_of l.region.children.items ++ children_in l.next (stmts_of (drop l.stmt-index l.body.items)) (state_of l.run.cells l.run.counts)
+      ≡ all_of l.initial.region.children.items ++ children_in l.place (stmts_of l.body.items) (state_of l.initial.run.cells l.initial.run.counts);
+  families : families_of l.run.families.items ++ inside l.next (stmts_of (drop l.stmt-index l.body.items)) (state_of l.run.cells l.run.counts)
+      ≡ families_of l.initial.run.families.items ++ inside l.place (stmts_of l.body.items) (state_of l.initial.run.cells l.initial.run.counts);
+  pending : unawaited l.next (stmts_of (drop l.stmt-index l.body.items)) (state_of l.run.cells l.run.counts) (all_of l.region.pending.items)
+      ≡ unawaited l.place (stmts_of l.body.items) (state_of l.initial.run.cells l.initial.run.counts) (all_of l.initial.region.pending.items);
+  marks : marks_of l.run.marks.items
+      ++ passes l.region.parent l.next (stmts_of (drop l.stmt-index l.body.items)) (state_of l.run.cells l.run.counts) (all_of l.region.pending.items)
+      ≡ marks_of l.initial.run.marks.items
+      ++ passes l.initial.region.parent l.place (stmts_of l.body.items) (state_of l.initial.run.cells l.initial.run.counts) (all_of l.initial.region.pending.items);
+}

@@ -1,0 +1,110 @@
+-- Words in C, and what stands behind them.
+use Rattle.std.proofs.Common.{◌≡◌, ℕ, ◌<◌, ◌^◌, ◌==◌, List, [], ◌∷◌, ◌++◌, Bool, true, false, not, ◌&&◌, ◌||◌, length, refl, sym, ap, ◌∙◌, arith, true≢false}
+use Rattle.std.specs.Prelude.{decimal}
+use Rattle.std.proofs.lemmas.Bool.Decides.{nat_tests}
+use Rattle.std.proofs.lemmas.Fmt.{decimal_by_steps, decimal_injective}
+use Rattle.std.proofs.Common.{◌+◌, ◌%◌}
+use Rattle.ot_print.specs.Shown.{Text, name}
+use Rattle.ot_print.specs.Laws.{is_digit}
+use Rattle.ot_print.proofs.WordLemmas.{and_true, or_false, head_of, tail_of, digits_are}
+use Rattle.ot_c.specs.Laws.{in_identifier, all_identifier, is_identifier, AreIdentifiers}
+use Rattle.ot_c.proofs.NameLemmas.{all_words}
+
+-- whether a byte of a word stands in front
+abbrev pub starts : Text → Bool
+starts [] = false
+starts (b ∷ bs) = in_identifier b
+
+-- whether a value goes on here: a byte of a word or a blank stands in front
+abbrev pub goes : Text → Bool
+goes [] = false
+goes (b ∷ bs) = in_identifier b || b == 32
+
+pub no_start : (t : Text) → goes t ≡ false → starts t ≡ false
+no_start [] h = refl
+no_start (b ∷ bs) h = (or_false (in_identifier b) (b == 32) h).0
+
+-- two words with something behind them that is no part of a word
+pub split : (xs ys r s : Text) → all_identifier xs ≡ true → all_identifier ys ≡ true → starts r ≡ false → starts s ≡ false → xs ++ r ≡ ys ++ s → (xs ≡ ys) × (r ≡ s)
+split [] [] r s hx hy hr hs is = (refl, is)
+split [] (y ∷ ys) r s hx hy hr hs is = absurd (true≢false (sym (and_true (in_identifier y) (all_identifier ys) hy).0 ∙ sym (ap starts is) ∙ hr))
+split (x ∷ xs) [] r s hx hy hr hs is = absurd (true≢false (sym (and_true (in_identifier x) (all_identifier xs) hx).0 ∙ ap starts is ∙ hs))
+split (x ∷ xs) (y ∷ ys) r s hx hy hr hs is =
+    let inner = split xs ys r s (and_true (in_identifier x) (all_identifier xs) hx).1 (and_true (in_identifier y) (all_identifier ys) hy).1 hr hs (ap tail_of is) in
+    (ap (λ b. b ∷ xs) (ap head_of is) ∙ ap (λ bs. y ∷ bs) inner.0, inner.1)
+
+-- ---- digits
+
+abbrev pub all_digits : Text → Bool
+all_digits [] = true
+all_digits (b ∷ bs) = is_digit b && all_digits bs
+
+abbrev digit_first : Text → Bool
+digit_first [] = false
+digit_first (b ∷ bs) = is_digit b
+
+digits_append : (xs ys : Text) → all_digits xs ≡ true → all_digits ys ≡ true → all_digits (xs ++ ys) ≡ true
+digits_append [] ys hx hy = hy
+digits_append (x ∷ xs) ys hx hy = rw ((and_true (is_digit x) (all_digits xs) hx).0) (digits_append xs ys (and_true (is_digit x) (all_digits xs) hx).1 hy)
+
+digit_of : (d : ℕ) → d < 10 → is_digit (48 + d) ≡ true
+digit_of d small = grind (arith, nat_tests)
+
+one_digit : (d : ℕ) → d < 10 → all_digits ((48 + d) ∷ []) ≡ true
+one_digit d small = rw (digit_of d small) refl
+
+pub only_digits : (n : ℕ) → n < 2 ^ 64 → all_digits (decimal n) ≡ true
+only_digits n small = decimal_by_steps (λ n ds. all_digits ds ≡ true) one_digit (λ n ds large all. digits_append ds ((48 + n % 10) ∷ []) all (one_digit (n % 10) (omega arith))) n small
+
+-- digits with something behind them that is no digit
+pub split_digits : (xs ys r s : Text) → all_digits xs ≡ true → all_digits ys ≡ true → digit_first r ≡ false → digit_first s ≡ false → xs ++ r ≡ ys ++ s → (xs ≡ ys) × (r ≡ s)
+split_digits [] [] r s hx hy hr hs is = (refl, is)
+split_digits [] (y ∷ ys) r s hx hy hr hs is = absurd (true≢false (sym (and_true (is_digit y) (all_digits ys) hy).0 ∙ sym (ap digit_first is) ∙ hr))
+split_digits (x ∷ xs) [] r s hx hy hr hs is = absurd (true≢false (sym (and_true (is_digit x) (all_digits xs) hx).0 ∙ ap digit_first is ∙ hs))
+split_digits (x ∷ xs) (y ∷ ys) r s hx hy hr hs is =
+    let inner = split_digits xs ys r s (and_true (is_digit x) (all_digits xs) hx).1 (and_true (is_digit y) (all_digits ys) hy).1 hr hs (ap tail_of is) in
+    (ap (λ b. b ∷ xs) (ap head_of is) ∙ ap (λ bs. y ∷ bs) inner.0, inner.1)
+
+pub number_word : (n : ℕ) → n < 2 ^ 64 → all_identifier (decimal n) ≡ true
+number_word n small = all_words (decimal n) (digits_are n small).word
+
+-- ---- constants
+
+-- what may stand behind the digits of a constant
+pub record IsSuffix (u : Text) : Type 0 where
+  pub word : all_identifier u ≡ true
+  pub no_digit : digit_first u ≡ false
+
+pub no_suffix : IsSuffix []
+no_suffix = record { word = refl; no_digit = refl }
+
+pub long_suffix : IsSuffix (85 ∷ 76 ∷ 76 ∷ [])
+long_suffix = record { word = refl; no_digit = refl }
+
+pub word_append : (xs ys : Text) → all_identifier xs ≡ true → all_identifier ys ≡ true → all_identifier (xs ++ ys) ≡ true
+word_append [] ys hx hy = hy
+word_append (x ∷ xs) ys hx hy = rw ((and_true (in_identifier x) (all_identifier xs) hx).0) (word_append xs ys (and_true (in_identifier x) (all_identifier xs) hx).1 hy)
+
+-- constants with something behind them that is no part of a word are of one number
+pub same_constant : (m n : ℕ) (u v r s : Text) → m < 2 ^ 64 → n < 2 ^ 64 → IsSuffix u → IsSuffix v → starts r ≡ false → starts s ≡ false → (decimal m ++ u) ++ r ≡ (decimal n ++ v) ++ s → (m ≡ n) × (r ≡ s)
+same_constant m n u v r s hm hn su sv hr hs is =
+    let words = split (decimal m ++ u) (decimal n ++ v) r s (word_append (decimal m) u (number_word m hm) su.word) (word_append (decimal n) v (number_word n hn) sv.word) hr hs is in
+    let digits = split_digits (decimal m) (decimal n) u v (only_digits m hm) (only_digits n hn) su.no_digit sv.no_digit words.0 in
+    (decimal_injective m n hm hn digits.0, words.1)
+
+pub same_number : (m n : ℕ) (r s : Text) → m < 2 ^ 64 → n < 2 ^ 64 → starts r ≡ false → starts s ≡ false → decimal m ++ r ≡ decimal n ++ s → (m ≡ n) × (r ≡ s)
+same_number m n r s hm hn hr hs is =
+    let words = split (decimal m) (decimal n) r s (number_word m hm) (number_word n hn) hr hs is in
+    (decimal_injective m n hm hn words.0, words.1)
+
+-- ---- names
+
+pub name_word : (w : Text) → is_identifier w ≡ true → all_identifier w ≡ true
+name_word [] h = refl
+name_word (b ∷ bs) h = (and_true (not (is_digit b)) (all_identifier (b ∷ bs)) h).1
+
+-- an array behind its name
+pub same_array : (names : List Text) → AreIdentifiers names → (i j : ℕ) (t u : Text) → i < length names → j < length names → starts t ≡ false → starts u ≡ false → name names i ++ t ≡ name names j ++ u → (i ≡ j) × (t ≡ u)
+same_array names are i j t u hi hj ht hu is =
+    let both = split (name names i) (name names j) t u (name_word (name names i) (are.each i hi)) (name_word (name names j) (are.each j hj)) ht hu is in
+    (are.differ i j hi hj both.0, both.1)
