@@ -1,0 +1,7 @@
+pub mod Places
+pub mod Comments
+pub mod Cuts
+pub mod OneLine
+pub mod Positions
+pub mod Items
+pub mod Laws

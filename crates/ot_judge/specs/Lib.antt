@@ -1,0 +1,5 @@
+pub mod Lines
+pub mod Judging
+pub mod Places
+pub mod Going
+pub mod Found

@@ -1,0 +1,16 @@
+use Rattle.std.proofs.Common.{◌∙◌, subst}
+use Rattle.ot_check.proofs.WalkLemmas.{if_ok}
+use Rattle.ot_file.specs.Comments.{blanked}
+use Rattle.ot_judge.specs.Judging.{refusals_in, finds}
+use Rattle.ot_judge.specs.Going.{Goes}
+use Rattle.ot_report.specs.Report.{Reports}
+use Rattle.ot_report.proofs.reporting.report_on.Goals as goal
+
+pub returns : goal.returns
+returns c =
+    let found = c.in_ok-findings.ensures in
+    let all = refusals_in (finds found.0) (blanked c.args.text.now) in
+    let text_is = c.as_slice.ensures.value ∙ c.in_ok-blank.ensures in
+    if_ok c.report_all.result _ _
+    (λ report h. (found.0, found.1, subst (λ blank. Reports c.args.name.now blank all report.text.items) (found.2 ∙ text_is) h.0, h.1))
+    (c.report_all.ensures all (subst (λ text. Goes (refusals_in (finds found.0) text) c.in_ok-findings.findings) text_is found.3))

@@ -1,0 +1,51 @@
+-- What is written of a file whose requests were judged: as compilers write it, a line for each refusal, with its notes behind it.
+use Rattle.std.specs.Prelude.{◌≡◌, ℕ, ◌==◌, List, [], ◌∷◌, ◌++◌, map, flat_map, codes, if◌then◌else◌, Option, Some, None, option_and_then}
+use Rattle.std.specs.Fmt.{decimal}
+use Rattle.ot_file.specs.declared.position.Position.{Position}
+use Rattle.ot_reason.specs.Sentences.{sentence_of}
+use Rattle.ot_judge.specs.Judging.{Refusal, code_in, told_in}
+use Rattle.ot_judge.specs.Places.{IsPlaced, statement_position}
+use Rattle.ot_report.specs.Names.{Names}
+
+-- `NAME:LINE:COLUMN`
+abbrev pub place_text : List ℕ → Position → List ℕ
+place_text name p = name ++ (codes ":" ++ (decimal p.line ++ (codes ":" ++ decimal p.column)))
+
+-- a code, and what it means; a full log has none
+abbrev pub words_of : Option ℕ → List ℕ
+words_of (Some code) = decimal code ++ (codes ": " ++ sentence_of code)
+words_of None = codes "full: the log has no room for this request; a checkpoint begins it anew"
+
+-- `NAME:LINE:COLUMN: error: CODE: ..`
+abbrev pub error_line : List ℕ → Position → Option ℕ → List ℕ
+error_line name p code = place_text name p ++ (codes ": error: " ++ (words_of code ++ codes "\n"))
+
+-- a byte of words that stand on one line
+abbrev pub on_line : ℕ → ℕ
+on_line b = if b == 10 then 32 else b
+
+-- `NAME:LINE:COLUMN: note: ..`
+abbrev pub note_line : List ℕ → Position → List ℕ → List ℕ
+note_line name p words = place_text name p ++ (codes ": note: " ++ (map on_line words ++ codes "\n"))
+
+-- a note stands at the statement of this number, or where the request is refused
+abbrev pub note_position : List ℕ → ℕ → ℕ → Position → Option ℕ → Position
+note_position blank start end p None = p
+note_position blank start end p (Some number) = statement_position blank start end number
+
+-- notes, each at its statement, with its words
+abbrev pub notes_text : List ℕ → List ℕ → ℕ → ℕ → Position → List (Option ℕ × List ℕ) → List ℕ
+notes_text name blank start end p notes = flat_map (λ note. note_line name (note_position blank start end p note.0) note.1) notes
+
+-- the notes behind a refusal that is placed here: they stand at the statements that are named
+pub record AreNotes (name blank : List ℕ) (one : Refusal) (p : Position) (text : List ℕ) : Type 0 where
+  pub notes : List (Option ℕ × List ℕ)
+  pub names : Names one (map (λ note. note.0) notes)
+  pub is : text ≡ notes_text name blank one.start one.end p notes
+
+-- each refusal where it is placed, by its code, and its notes behind it
+abbrev pub Reports : List ℕ → List ℕ → List Refusal → List ℕ → Type 0
+Reports name blank [] text = text ≡ []
+Reports name blank (one ∷ others) text =
+    (p : Position) × (notes : List ℕ) × (later : List ℕ) × IsPlaced blank one p × AreNotes name blank one p notes
+    × (text ≡ error_line name p (option_and_then code_in (told_in one)) ++ (notes ++ later)) × Reports name blank others later

@@ -1,0 +1,147 @@
+//! The notes behind a refusal.
+ghost use Rattle.std.specs.Prelude.{◌≡◌, ◌++◌, ◌≤◌, ℕ, List, OnOk, IfOk, length, map, string_bytes, option_and_then};
+ghost use Rattle.ot_judge.specs.Judging.{Refusal, code_in, told_in};
+ghost use Rattle.ot_judge.specs.Going.{IsBehind};
+ghost use Rattle.ot_report.specs.Names.{Names};
+ghost use Rattle.ot_report.specs.NoteView.{note_by, stands_of};
+ghost use Rattle.ot_report.specs.Report.{notes_text};
+
+use crate::line::put_note;
+use crate::note::Note;
+use crate::reasons::reason_notes;
+use ot_blame::{Blame, Blamed, find_blame};
+use ot_book::{Book, Entry, Told};
+use ot_check::Offence;
+use ot_judge::{Finding, Findings};
+use ot_reason::{Telling, has_operations, place_in_line, program_in_line};
+use std::alloc::{AllocError, Global};
+
+/// Writes notes behind a refusal, each at its place.
+pub(crate) fn put_notes(
+    alloc: Global,
+    name: &str,
+    findings: &mut Findings<'_>,
+    finding: &Finding,
+    notes: &Vec<Note>,
+    out: &mut Vec<u8>,
+) -> Result<(), AllocError>
+    requires { (finding.now.start ≤ finding.now.end) × (finding.now.end ≤ length findings.old.blank) }
+    ensures text { OnOk result (out.new.items ≡ out.old.items ++ notes_text name.now findings.old.blank finding.now.start finding.now.end finding.now.position (map note_by notes.now.items)) }
+    ensures same { findings.new ≡ findings.old }
+{
+    for note in notes {
+        let position = match note.number {
+            Some(number) => findings.statement(alloc, finding, number)?,
+            None => finding.position,
+        };
+        put_note(alloc, name, position, note.words.as_bytes(), out)?;
+    }
+    Ok(())
+}
+
+/// The notes behind a refusal, which is what the book told last: of an offence the statement, and what it offends against; else
+/// the reasons.
+pub(crate) fn notes_of(
+    alloc: Global,
+    book: &Book,
+    finding: &Finding,
+) -> Result<Vec<Note>, AllocError>
+    ensures { IfOk result (λ notes. (one : Refusal) → IsBehind one book.now → finding.now.code ≡ option_and_then code_in (told_in one) → Names one (stands_of notes.items)) }
+{
+    let Some(_) = finding.code else {
+        return Ok(Vec::new(alloc));
+    };
+    match last_entry(book) {
+        Some(entry) => notes_on(alloc, book, entry),
+        None => Ok(Vec::new(alloc)),
+    }
+}
+
+ghost use Rattle.std.specs.Prelude.{Some, option_map};
+ghost use Rattle.ot_book.specs.ReplyView.{told_of};
+ghost use Rattle.ot_report.specs.Names.{NamesBy, StandIn, last_entry};
+
+/// The last line of a book's log.
+fn last_entry(book: &Book) -> Option<&Entry>
+    ensures { option_map (λ entry. (entry.now.line.items, told_of entry.now.told)) result ≡ last_entry book.now }
+{
+    book.log().last()
+}
+
+/// The notes behind what an entry of the log was told.
+fn notes_on(alloc: Global, book: &Book, entry: &Entry) -> Result<Vec<Note>, AllocError>
+    ensures { IfOk result (λ notes. NamesBy book.now (Some (entry.now.line.items, told_of entry.now.told)) (stands_of notes.items)) }
+{
+    let line = entry.line.as_slice();
+    match &entry.told {
+        Told::Refused(code) => reason_notes(alloc, book, line, *code),
+        Told::Offends(offence, place) => blame_notes(alloc, book, line, *offence, *place),
+        _ => Ok(Vec::new(alloc)),
+    }
+}
+
+ghost use Rattle.ot_check.specs.Codes.{code_of};
+ghost use Rattle.ot_store.specs.Arrays.{shape_in};
+ghost use Rattle.ot_reason.specs.Runs.{run_in};
+
+/// The statement that offends, and what it offends against. No array has changed since.
+fn blame_notes(
+    alloc: Global,
+    book: &Book,
+    line: &[u8],
+    offence: Offence,
+    place: u32,
+) -> Result<Vec<Note>, AllocError>
+    ensures { IfOk result (λ notes. StandIn (run_in (shape_in book.now.limits book.now.store) line.now) (code_of offence) place (stands_of notes.items)) }
+{
+    let shape = book.store().shape(alloc, &book.limits())?;
+    let Some(program) = program_in_line(alloc, line, &shape)? else {
+        return Ok(Vec::new(alloc));
+    };
+    let blamed = Blamed {
+        program: &program,
+        arrays: shape.arrays(),
+        has_operations: has_operations(alloc, line),
+    };
+    match find_blame(alloc, blamed, place, offence)? {
+        Some(blame) => two_notes(alloc, line, place, &blame),
+        None => Ok(Vec::new(alloc)),
+    }
+}
+
+ghost use Rattle.std.specs.Prelude.{[], ◌∷◌};
+
+/// The note on a statement, and that on the other one, which has a part in its offence.
+fn two_notes(alloc: Global, line: &[u8], place: u32, blame: &Blame) -> Result<Vec<Note>, AllocError>
+    ensures { IfOk result (λ notes. stands_of notes.items ≡ Some place ∷ blame.now.other ∷ []) }
+{
+    let mut words = statement_words(alloc, line, place)?;
+    words.push_str(": ")?;
+    words.push_str(blame.statement.as_str())?;
+    let mut notes = Vec::new(alloc);
+    notes.push(Note {
+        number: Some(place),
+        words,
+    })?;
+    notes.push(Note {
+        number: blame.other,
+        words: blame_words(alloc, line, blame)?,
+    })?;
+    Ok(notes)
+}
+
+/// What a statement offends against, with the other statement where there is one.
+fn blame_words(alloc: Global, line: &[u8], blame: &Blame) -> Result<String, AllocError> {
+    let mut words = String::from_str(alloc, blame.before.as_str())?;
+    if let Some(other) = blame.other {
+        words.push_str(statement_words(alloc, line, other)?.as_str())?;
+        words.push_str(blame.behind.as_str())?;
+    }
+    Ok(words)
+}
+
+/// `statement 5, where i = 31`
+fn statement_words(alloc: Global, line: &[u8], number: u32) -> Result<String, AllocError> {
+    let place = place_in_line(alloc, line, number, Telling::File)?;
+    format!(in alloc; "statement {number}{}", place.as_str())
+}
