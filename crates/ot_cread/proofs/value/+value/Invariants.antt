@@ -1,0 +1,23 @@
+use Rattle.std.proofs.Common.{◌+◌, ◌*◌}
+use Rattle.ot_cread.proofs.value.+value.Given as goal
+
+abbrev pub decreases-more : goal.decreases-more
+decreases-more l = 32 * l.depth + l.turns + 1
+
+abbrev pub decreases-named : goal.decreases-named
+decreases-named l = 32 * l.depth + 1
+
+abbrev pub decreases-called : goal.decreases-called
+decreases-called l = 32 * l.depth + 1
+
+abbrev pub decreases-bracket : goal.decreases-bracket
+decreases-bracket l = 32 * l.depth + 1
+
+abbrev pub decreases-cast : goal.decreases-cast
+decreases-cast l = 32 * l.depth + 1
+
+abbrev pub decreases-operand : goal.decreases-operand
+decreases-operand l = 32 * l.depth + 2
+
+abbrev pub decreases-value : goal.decreases-value
+decreases-value l = 32 * l.depth

@@ -1,0 +1,4 @@
+pub mod Signs
+pub mod Tree
+pub mod Reading
+pub mod Clauses

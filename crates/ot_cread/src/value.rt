@@ -1,0 +1,191 @@
+//! Values, by how tightly signs bind.
+ghost use Rattle.std.specs.Prelude.{◌≡◌, ◌≤◌};
+ghost use Rattle.ot_cread.specs.Signs.{found};
+ghost use Rattle.ot_cread.specs.Tree.{expr_of};
+ghost use Rattle.ot_cread.specs.Reading.{Gives, operand_at, indexed_at, named_at, called_at, bracket_at, cast_at, more_at, value_at};
+ghost use Rattle.ot_cread.specs.Reading as read;
+
+use crate::fault::{Fault, ReadError};
+use crate::marks::{close, close_index, comma, open_bracket};
+use crate::sign::{binds, front_sign};
+use crate::tree::{Call, Expr};
+use ot_words::{Known, Mark, Name, Word};
+use std::alloc::Global;
+
+/// How deep values nest: a bracket and what stands in it are two.
+const MAX_DEPTH: u32 = 48;
+
+/// How many signs stand in a row.
+const MAX_SIGNS: u32 = 24;
+
+#[tactic(auto, unfolding(crate::specs::Reading::call_of))]
+fn call_of(name: Name) -> Option<Call>
+    ensures { result ≡ read.call_of name }
+{
+    match name {
+        Name::Known(Known::Min) => Some(Call::Min),
+        Name::Known(Known::Max) => Some(Call::Max),
+        _ => None,
+    }
+}
+
+#[tactic(auto, unfolding(crate::specs::Reading::is_unsigned))]
+fn is_unsigned(name: Name) -> bool
+    ensures { result ≡ read.is_unsigned name }
+{
+    matches!(name, Name::Known(Known::Word64))
+}
+
+/// Behind `uint64_t ) (`.
+#[tactic(auto, unfolding(crate::specs::Reading::cast_end))]
+fn cast_end(words: &[Word]) -> Option<&[Word]>
+    ensures { found (λ x. x.now) result ≡ read.cast_end words.now }
+{
+    match words {
+        [
+            Word::Name(name),
+            Word::Mark(Mark::Close),
+            Word::Mark(Mark::Open),
+            rest @ ..,
+        ] => { if is_unsigned(*name) { Some(rest) } else { None } }
+        _ => None,
+    }
+}
+
+/// Behind a name: a cell's place, or nothing.
+#[cycle(value)]
+#[tactic(auto, unfolding(crate::specs::Reading::named_at, crate::specs::Reading::indexed_at))]
+fn named(
+    alloc: Global,
+    depth: u32,
+    name: Name,
+    words: &[Word],
+) -> Result<(Expr, &[Word]), ReadError>
+    requires { depth ≤ 48 }
+    ensures { Gives (λ x. (expr_of x.0, x.1.now)) result (named_at (value_at depth) name words.now) }
+{
+    match words {
+        [Word::Mark(Mark::OpenIndex), rest @ ..] => {
+            let (index, rest) = value(alloc, depth, 1, rest)?;
+            let rest = close_index(rest)?;
+            Ok((Expr::Cell(name, Box::new(alloc, index)?), rest))
+        }
+        _ => Ok((Expr::Variable(name), words)),
+    }
+}
+
+/// Behind a function's name: its two values.
+#[cycle(value)]
+#[tactic(auto, unfolding(crate::specs::Reading::called_at))]
+fn called(
+    alloc: Global,
+    depth: u32,
+    call: Call,
+    words: &[Word],
+) -> Result<(Expr, &[Word]), ReadError>
+    requires { depth ≤ 48 }
+    ensures { Gives (λ x. (expr_of x.0, x.1.now)) result (called_at (value_at depth) call words.now) }
+{
+    let rest = open_bracket(words)?;
+    let (one, rest) = value(alloc, depth, 1, rest)?;
+    let rest = comma(rest)?;
+    let (two, rest) = value(alloc, depth, 1, rest)?;
+    let rest = close(rest)?;
+    let expr = Expr::Call(call, Box::new(alloc, one)?, Box::new(alloc, two)?);
+    Ok((expr, rest))
+}
+
+/// Behind a bracket.
+#[cycle(value)]
+#[tactic(auto, unfolding(crate::specs::Reading::bracket_at))]
+fn bracket(alloc: Global, depth: u32, words: &[Word]) -> Result<(Expr, &[Word]), ReadError>
+    requires { depth ≤ 48 }
+    ensures { Gives (λ x. (expr_of x.0, x.1.now)) result (bracket_at (value_at depth) words.now) }
+{
+    let (expr, rest) = value(alloc, depth, 1, words)?;
+    let rest = close(rest)?;
+    Ok((expr, rest))
+}
+
+/// Behind `(uint64_t)(`.
+#[cycle(value)]
+#[tactic(auto, unfolding(crate::specs::Reading::cast_at))]
+fn cast(alloc: Global, depth: u32, words: &[Word]) -> Result<(Expr, &[Word]), ReadError>
+    requires { depth ≤ 48 }
+    ensures { Gives (λ x. (expr_of x.0, x.1.now)) result (cast_at (value_at depth) words.now) }
+{
+    let (expr, rest) = value(alloc, depth, 1, words)?;
+    let rest = close(rest)?;
+    Ok((Expr::Cast(Box::new(alloc, expr)?), rest))
+}
+
+#[cycle(value)]
+#[tactic(auto, unfolding(crate::specs::Reading::operand_at))]
+fn operand(alloc: Global, depth: u32, words: &[Word]) -> Result<(Expr, &[Word]), ReadError>
+    requires { depth ≤ 48 }
+    ensures { Gives (λ x. (expr_of x.0, x.1.now)) result (operand_at (value_at depth) words.now) }
+{
+    match words {
+        [Word::Number(number, kind), rest @ ..] => Ok((Expr::Number(*number, *kind), rest)),
+        [Word::Name(name), rest @ ..] => match call_of(*name) {
+            Some(call) => called(alloc, depth, call, rest),
+            None => named(alloc, depth, *name, rest),
+        },
+        [Word::Mark(Mark::Open), rest @ ..] => match cast_end(rest) {
+            Some(rest) => cast(alloc, depth, rest),
+            None => bracket(alloc, depth, rest),
+        },
+        _ => Err(ReadError::Fault(Fault::NoValue(words.len()))),
+    }
+}
+
+/// What goes on behind a value, with signs that bind at least so tightly.
+#[cycle(value)]
+#[tactic(auto, unfolding(crate::specs::Reading::more_at))]
+fn more(
+    alloc: Global,
+    depth: u32,
+    turns: u32,
+    least: u32,
+    left: Expr,
+    words: &[Word],
+) -> Result<(Expr, &[Word]), ReadError>
+    requires depth { depth ≤ 48 }
+    requires turns { turns ≤ 24 }
+    ensures { Gives (λ x. (expr_of x.0, x.1.now)) result (more_at (value_at depth) turns least (expr_of left) words.now) }
+{
+    let Some((sign, rest)) = front_sign(least, words) else {
+        return Ok((left, words));
+    };
+    if turns == 0 {
+        return Err(ReadError::Fault(Fault::TooDeep(words.len())));
+    }
+    let (right, rest) = value(alloc, depth, binds(sign) + 1, rest)?;
+    let both = Expr::Op(sign, Box::new(alloc, left)?, Box::new(alloc, right)?);
+    more(alloc, depth, turns - 1, least, both, rest)
+}
+
+#[cycle(value)]
+#[tactic(auto, unfolding(crate::specs::Reading::value_at))]
+fn value(
+    alloc: Global,
+    depth: u32,
+    least: u32,
+    words: &[Word],
+) -> Result<(Expr, &[Word]), ReadError>
+    requires { depth ≤ 48 }
+    ensures { Gives (λ x. (expr_of x.0, x.1.now)) result (value_at depth least words.now) }
+{
+    if depth == 0 {
+        return Err(ReadError::Fault(Fault::TooDeep(words.len())));
+    }
+    let (first, rest) = operand(alloc, depth - 1, words)?;
+    more(alloc, depth - 1, MAX_SIGNS, least, first, rest)
+}
+
+/// The value at the front, and the words behind it.
+pub fn read_value(alloc: Global, words: &[Word]) -> Result<(Expr, &[Word]), ReadError>
+    ensures { Gives (λ x. (expr_of x.0, x.1.now)) result (value_at 48 1 words.now) }
+{
+    value(alloc, MAX_DEPTH, 1, words)
+}

@@ -1,0 +1,95 @@
+-- Directives, and which clauses each has (OpenMP API 5.2, chapters 10 and 12).
+use Rattle.std.specs.Prelude.{ℕ, Bool, true, false, ◌&&◌, List, [], ◌∷◌, Option, Some, None, Result, Ok, Err, if◌then◌else◌}
+use Rattle.ot_words.specs.declared.known.Known.TheVariants as k
+use Rattle.ot_words.specs.declared.word.Name.{Name}
+use Rattle.ot_words.specs.declared.word.Name.TheVariants as n
+use Rattle.ot_words.specs.declared.word.Word.{Word}
+use Rattle.ot_cread.specs.declared.tree.Role.{Role}
+use Rattle.ot_cread.specs.declared.tree.Role.TheVariants as r
+use Rattle.ot_cread.specs.Tree.{Claim}
+use Rattle.ot_cstatement.specs.declared.fault.Fault.{Fault}
+use Rattle.ot_cstatement.specs.declared.fault.Fault.TheVariants.{OtherClause}
+use Rattle.ot_cstatement.specs.declared.directive.Directive.{Directive}
+use Rattle.ot_cstatement.specs.declared.directive.Directive.TheVariants as d
+use Rattle.ot_cstatement.specs.Reading.{◌>>=◌, clauses}
+
+unfoldable pub directive_of : Name → Option Directive
+directive_of (n.Known k.Task) = Some d.Task
+directive_of (n.Known k.Taskwait) = Some d.Wait
+directive_of (n.Known k.Taskgroup) = Some d.Group
+directive_of (n.Known k.Taskyield) = Some d.Yield
+directive_of (n.Known k.Parallel) = Some d.Parallel
+directive_of _ = None
+
+-- what may be said of a task: on which cells it depends, what it reduces, and what doesn't change what it does
+abbrev pub fits_task : Role → Bool
+fits_task r.In = true
+fits_task r.Out = true
+fits_task r.Inout = true
+fits_task (r.Reduces op) = true
+fits_task (r.Combines op) = false
+fits_task r.Shared = true
+fits_task r.Firstprivate = true
+fits_task r.Default = false
+fits_task r.NumThreads = false
+fits_task r.Priority = true
+fits_task r.Untied = true
+fits_task r.Mergeable = true
+
+abbrev pub fits_wait : Role → Bool
+fits_wait r.In = true
+fits_wait r.Out = true
+fits_wait r.Inout = true
+fits_wait (r.Reduces op) = false
+fits_wait (r.Combines op) = false
+fits_wait r.Shared = false
+fits_wait r.Firstprivate = false
+fits_wait r.Default = false
+fits_wait r.NumThreads = false
+fits_wait r.Priority = false
+fits_wait r.Untied = false
+fits_wait r.Mergeable = false
+
+abbrev pub fits_group : Role → Bool
+fits_group r.In = false
+fits_group r.Out = false
+fits_group r.Inout = false
+fits_group (r.Reduces op) = false
+fits_group (r.Combines op) = true
+fits_group r.Shared = false
+fits_group r.Firstprivate = false
+fits_group r.Default = false
+fits_group r.NumThreads = false
+fits_group r.Priority = false
+fits_group r.Untied = false
+fits_group r.Mergeable = false
+
+abbrev pub fits_parallel : Role → Bool
+fits_parallel r.In = false
+fits_parallel r.Out = false
+fits_parallel r.Inout = false
+fits_parallel (r.Reduces op) = false
+fits_parallel (r.Combines op) = false
+fits_parallel r.Shared = true
+fits_parallel r.Firstprivate = false
+fits_parallel r.Default = true
+fits_parallel r.NumThreads = true
+fits_parallel r.Priority = false
+fits_parallel r.Untied = false
+fits_parallel r.Mergeable = false
+
+-- whether a directive may have a clause that says this
+abbrev pub fits : Directive → Role → Bool
+fits d.Task role = fits_task role
+fits d.Wait role = fits_wait role
+fits d.Group role = fits_group role
+fits d.Yield role = false
+fits d.Parallel role = fits_parallel role
+
+abbrev pub all_fit : Directive → List Claim → Bool
+all_fit d [] = true
+all_fit d (c ∷ cs) = fits d c.role && all_fit d cs
+
+-- the clauses of a directive that begins where so many words are left
+unfoldable pub own_clauses : Directive → ℕ → List Word → Result (List Claim × List Word) Fault
+own_clauses d left ws = clauses ws >>= λ x. if all_fit d x.0 then Ok x else Err (OtherClause left)

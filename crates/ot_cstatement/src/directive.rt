@@ -1,0 +1,121 @@
+//! Directives, and which clauses each has (OpenMP API 5.2, chapters 10 and 12).
+ghost use Rattle.std.specs.Prelude.{◌≡◌};
+ghost use Rattle.ot_cread.specs.Tree.{clauses_of};
+ghost use Rattle.ot_cstatement.specs.Reading.{Gives};
+ghost use Rattle.ot_cstatement.specs.Directives as read;
+
+use crate::fault::{Fault, ReadError};
+use crate::part::clauses;
+use ot_cread::{Clause, Role};
+use ot_words::{Known, Name, Word};
+use std::alloc::Global;
+
+#[derive(Clone, Copy)]
+pub enum Directive {
+    Task,
+    Wait,
+    Group,
+    Yield,
+    /// Which stands in `main` alone.
+    Parallel,
+}
+
+#[tactic(auto, unfolding(crate::specs::Directives::directive_of))]
+pub(crate) fn directive_of(name: Name) -> Option<Directive>
+    ensures { result ≡ read.directive_of name }
+{
+    match name {
+        Name::Known(Known::Task) => Some(Directive::Task),
+        Name::Known(Known::Taskwait) => Some(Directive::Wait),
+        Name::Known(Known::Taskgroup) => Some(Directive::Group),
+        Name::Known(Known::Taskyield) => Some(Directive::Yield),
+        Name::Known(Known::Parallel) => Some(Directive::Parallel),
+        _ => None,
+    }
+}
+
+fn fits_task(role: Role) -> bool
+    ensures { result ≡ read.fits_task role }
+{
+    match role {
+        Role::In | Role::Out | Role::Inout | Role::Reduces(_) => true,
+        Role::Shared | Role::Firstprivate => true,
+        Role::Untied | Role::Mergeable | Role::Priority => true,
+        Role::Combines(_) | Role::Default | Role::NumThreads => false,
+    }
+}
+
+fn fits_wait(role: Role) -> bool
+    ensures { result ≡ read.fits_wait role }
+{
+    match role {
+        Role::In | Role::Out | Role::Inout => true,
+        Role::Reduces(_) | Role::Combines(_) | Role::Shared | Role::Firstprivate => false,
+        Role::Untied | Role::Mergeable | Role::Priority => false,
+        Role::Default | Role::NumThreads => false,
+    }
+}
+
+fn fits_group(role: Role) -> bool
+    ensures { result ≡ read.fits_group role }
+{
+    match role {
+        Role::Combines(_) => true,
+        Role::In | Role::Out | Role::Inout | Role::Reduces(_) => false,
+        Role::Shared | Role::Firstprivate => false,
+        Role::Untied | Role::Mergeable | Role::Priority => false,
+        Role::Default | Role::NumThreads => false,
+    }
+}
+
+fn fits_parallel(role: Role) -> bool
+    ensures { result ≡ read.fits_parallel role }
+{
+    match role {
+        Role::Shared | Role::Default | Role::NumThreads => true,
+        Role::In | Role::Out | Role::Inout | Role::Reduces(_) | Role::Combines(_) => false,
+        Role::Firstprivate | Role::Untied | Role::Mergeable | Role::Priority => false,
+    }
+}
+
+/// Whether a directive may have a clause that says this.
+fn fits(directive: Directive, role: Role) -> bool
+    ensures { result ≡ read.fits directive role }
+{
+    match directive {
+        Directive::Task => fits_task(role),
+        Directive::Wait => fits_wait(role),
+        Directive::Group => fits_group(role),
+        Directive::Yield => false,
+        Directive::Parallel => fits_parallel(role),
+    }
+}
+
+fn all_fit(directive: Directive, clauses: &[Clause]) -> bool
+    ensures { result ≡ read.all_fit directive (clauses_of clauses.now) }
+{
+    for clause in clauses {
+        if !fits(directive, clause.role) {
+            return false;
+        }
+    }
+    true
+}
+
+/// The clauses of a directive that begins where so many words are left.
+#[tactic(auto, unfolding(crate::specs::Directives::own_clauses))]
+pub fn own_clauses(
+    alloc: Global,
+    directive: Directive,
+    left: usize,
+    words: &[Word],
+) -> Result<(Vec<Clause>, &[Word]), ReadError>
+    ensures { Gives (λ x. (clauses_of x.0.items, x.1.now)) result (read.own_clauses directive left words.now) }
+{
+    let (clauses, rest) = clauses(alloc, words)?;
+    if all_fit(directive, &clauses) {
+        Ok((clauses, rest))
+    } else {
+        Err(ReadError::Fault(Fault::OtherClause(left)))
+    }
+}

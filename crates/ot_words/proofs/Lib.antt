@@ -1,0 +1,5 @@
+pub mod SpanLemmas
+pub mod ValueLemmas
+pub mod MarkLemmas
+pub mod WordLemmas
+pub mod ReadLemmas
