@@ -1,0 +1,59 @@
+-- The test of a dependence finds what it tests.
+use Rattle.std.proofs.Common.{◌≡◌, ◌&&◌, List, Bool, true, IsTrue, ap, arith}
+use Rattle.std.specs.Prelude.{Contains}
+use Rattle.std.specs.List.{Any, list_any}
+use Rattle.std.proofs.lemmas.Bool.Decides.{nat_tests}
+use Rattle.std.proofs.lemmas.List.Folds.{Any-from_list_any, list_any-from_Any}
+use Rattle.ot_check.proofs.Bits.{and_left, and_right, and_true}
+use Rattle.ot_model.proofs.CellsLemmas as cells
+use Rattle.ot_model.specs.Cells.{same_cell}
+use Rattle.ot_model.specs.Uses.{DependsOn, depends_on, one_writes}
+use Rattle.ot_model.specs.declared.expr.Cell.{Cell}
+use Rattle.ot_model.specs.declared.stmt.Use.{Use}
+
+-- a test of some element finds one that passes, and one that passes is found
+any_found : {A : Type 0} (P : A → Type 0) (p : A → Bool) → ((x : A) → p x ≡ true → P x) → (xs : List A) → list_any p xs ≡ true → Any P xs
+any_found P p passes xs passed = let found = Any-from_list_any p xs passed in (found.0, found.1, found.2, found.3, passes found.1 found.4)
+
+any_tested : {A : Type 0} (P : A → Type 0) (p : A → Bool) → ((x : A) → P x → p x ≡ true) → (xs : List A) → Any P xs → list_any p xs ≡ true
+any_tested P p passes xs (k, x, within, is, holds) = list_any-from_Any p xs (k, x, within, is, passes x holds)
+
+same_cell-is : (c d : Cell) → same_cell c d ≡ true → c ≡ d
+same_cell-is c d same = cells.same_cell c d (grind (arith, nat_tests)) (grind (arith, nat_tests))
+
+same_cell-of : (c d : Cell) → c ≡ d → same_cell c d ≡ true
+same_cell-of c d is = let array : c.array ≡ d.array = ap (λ x. x.array) is in let index : c.index ≡ d.index = ap (λ x. x.index) is in grind (arith, nat_tests)
+
+abbrev Shares : Use → Use → Type 0
+Shares u v = (u.cell ≡ v.cell) × IsTrue (one_writes u.mode v.mode)
+
+abbrev shares : Use → Use → Bool
+shares u v = same_cell u.cell v.cell && one_writes u.mode v.mode
+
+found : (earlier later : List Use) → depends_on earlier later ≡ true → DependsOn earlier later
+found earlier later =
+    any_found (λ u. Any (Shares u) later) (λ u. list_any (shares u) later)
+    (λ u. any_found (Shares u) (shares u)
+    (λ v passed. (
+      same_cell-is u.cell v.cell (and_left (same_cell u.cell v.cell) (one_writes u.mode v.mode) passed),
+      and_right (same_cell u.cell v.cell) (one_writes u.mode v.mode) passed,
+    )) later) earlier
+
+tested : (earlier later : List Use) → DependsOn earlier later → depends_on earlier later ≡ true
+tested earlier later =
+    any_tested (λ u. Any (Shares u) later) (λ u. list_any (shares u) later)
+    (λ u. any_tested (Shares u) (shares u)
+    (λ v here. and_true (same_cell u.cell v.cell) (one_writes u.mode v.mode) (same_cell-of u.cell v.cell here.0) here.1) later) earlier
+
+-- a use of each list that are of one cell, one of them a write
+pub depends_by : (earlier later : List Use) (u v : Use) → Contains earlier u → Contains later v → u.cell ≡ v.cell → one_writes u.mode v.mode ≡ true
+    → depends_on earlier later ≡ true
+depends_by earlier later u v a b same written =
+    tested earlier later (a.0, u, a.1, a.2, (b.0, v, b.1, b.2, (same, written)))
+
+pub depended : (earlier later : List Use) → depends_on earlier later ≡ true
+    → (u v : Use) × Contains earlier u × Contains later v × (u.cell ≡ v.cell) × (one_writes u.mode v.mode ≡ true)
+depended earlier later h =
+    let f = found earlier later h in
+    let g = f.4 in
+    (f.1, g.1, (f.0, f.2, f.3), (g.0, g.2, g.3), g.4.0, g.4.1)

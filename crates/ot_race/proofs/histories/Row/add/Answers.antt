@@ -1,0 +1,22 @@
+use Rattle.std.proofs.Common.{◌≡◌, ◌∙◌, get_or, sym, ap}
+use Rattle.std.proofs.lemmas.Result.{on_ok_weaker}
+use Rattle.ot_race.specs.Histories.{Phases, phases_of, row_of, untouched, touched_by}
+use Rattle.ot_race.proofs.PlaceLemmas.{read_at, set_here, set_other, place_read}
+use Rattle.ot_race.proofs.histories.Row.add.Goals as goal
+
+pub returns-clause-there : goal.returns-clause-there
+returns-clause-there c =
+    let items = c.reach.new.self.histories.items in
+    let i = c.args.index in
+    let there = c.in_ok-reach.ensures.there in
+    let before : phases_of c.index_mut.result.now ≡ get_or (row_of c.args.self.now) i untouched =
+    sym (read_at phases_of items i c.index_mut.result.now untouched (place_read items i c.index_mut.result.now there c.index_mut.ensures.value))
+    ∙ c.in_ok-reach.ensures.same i in
+    on_ok_weaker c.add.result
+    (λ e. set_here phases_of items i c.add.new.self untouched there ∙ e ∙ ap (λ (ph : Phases). touched_by ph c.args.mode c.args.event) before) c.add.ensures
+
+pub returns-clause-others : goal.returns-clause-others
+returns-clause-others c =
+    let items = c.reach.new.self.histories.items in
+    on_ok_weaker c.add.result
+    (λ e j apart. set_other phases_of items c.args.index j c.add.new.self untouched apart ∙ c.in_ok-reach.ensures.same j) c.add.ensures

@@ -1,0 +1,11 @@
+pub mod Events
+pub mod View
+pub mod Sets
+pub mod Order
+pub mod Ends
+pub mod Standings
+pub mod Siblings
+pub mod Stands
+pub mod Histories
+pub mod Races
+pub mod Laws

@@ -1,0 +1,11 @@
+//! Tests of races. It has nothing but tests.
+#![tactic(auto)]
+
+#[cfg(test)]
+mod costs;
+#[cfg(test)]
+mod kernels;
+#[cfg(test)]
+mod schedules;
+#[cfg(test)]
+mod telling;
