@@ -1,11 +1,15 @@
 -- What the words ask for.
-use Rattle.std.specs.Prelude.{◌≡◌, ◌≢◌, ◌&&◌, ℕ, nat_le, if◌then◌else◌, List, [], Option, Some, None, IfSome, codes, option_map, string_bytes, unwrap_or}
+use Rattle.std.specs.Prelude.{◌≡◌, ◌≢◌, ◌&&◌, ℕ, Bool, true, false, nat_le, if◌then◌else◌, List, [], map, Option, Some, None, IfSome, codes, option_map, slice_get, string_bytes, unwrap_or}
 use Rattle.std.specs.Str.Parse.{digits_value, without_leading_plus}
 use Rattle.clap.specs.Values.{IsUnsignedIn}
-use Rattle.clap.specs.Words.{Row, Text, first_of, one_of}
+use Rattle.clap.specs.Words.{Row, Text, all_of, first_of, one_of}
 use Rattle.omptask.specs.declared.asked.Ask.{Ask}
+use Rattle.omptask.specs.declared.asked.Check.{Check}
+use Rattle.omptask.specs.declared.asked.Manner.{Manner}
 use Rattle.omptask.specs.declared.asked.Words.{Words}
 use Rattle.omptask.specs.declared.asked.Words.TheVariants as asked
+use Rattle.omptask.specs.declared.fault.Fault.{Fault}
+use Rattle.omptask.specs.declared.fault.Fault.TheVariants as of
 
 -- a number, where it is from 1 to `most`
 abbrev pub within : ℕ → Option ℕ → Option ℕ
@@ -17,10 +21,26 @@ abbrev pub IsRead : ℕ → Option Text → Option ℕ → Type 0
 IsRead most None number = number ≡ None
 IsRead most (Some text) number = IsUnsignedIn 1 most text → number ≡ Some (digits_value 10 (without_leading_plus text))
 
--- the session that the words behind `ask` ask for
+-- a flag that is said is true, and one that isn't is false
+abbrev pub IsSaid : Option Text → Bool → Type 0
+IsSaid None flag = flag ≡ false
+IsSaid (Some text) flag = (text ≡ codes "true" → flag ≡ true) × (text ≡ codes "false" → flag ≡ false)
+
+-- the tenant that the words behind `ask`, `save` or `restore` ask for
 pub record AsksServer (rows : List Row) (ask : Ask) : Type 0 where
   pub socket : string_bytes ask.socket ≡ unwrap_or (first_of (codes "socket") rows) []
   pub name : string_bytes ask.name ≡ unwrap_or (first_of (codes "name") rows) []
+
+-- how the words behind `ask` ask that a session be held
+pub record AsksManner (rows : List Row) (manner : Manner) : Type 0 where
+  pub stop : IsSaid (one_of (codes "stop") rows) manner.stop
+  pub explain : IsSaid (one_of (codes "explain") rows) manner.explain
+
+-- the files that the words behind `check` ask for, with the arrays before them
+pub record AsksFiles (rows : List Row) (check : Check) : Type 0 where
+  pub defined : map string_bytes check.defined.items ≡ unwrap_or (all_of (codes "define") rows) []
+  pub lines : IsSaid (one_of (codes "lines") rows) check.lines
+  pub files : map string_bytes check.files.items ≡ unwrap_or (all_of (codes "file") rows) []
 
 -- the name of the subcommand that `clap` enters, and what it finds behind it
 abbrev pub entered_name : Option (Text × List Row) → Option Text
@@ -31,12 +51,34 @@ entered_rows entered = option_map (λ s. s.1) entered
 
 -- what a subcommand asks for
 abbrev pub AsksFor : Option (Text × List Row) → Words → Type 0
-AsksFor entered (asked.Explain code) =
+AsksFor entered (asked.Explain code quiet) =
     (entered_name entered ≢ Some (codes "ask"))
+    × (entered_name entered ≢ Some (codes "save"))
+    × (entered_name entered ≢ Some (codes "restore"))
     × (entered_name entered ≢ Some (codes "graph"))
     × (entered_name entered ≢ Some (codes "c"))
-    × (entered_name entered ≡ Some (codes "explain") → IfSome (entered_rows entered) (λ rows. IsRead 999 (one_of (codes "code") rows) code))
-AsksFor entered (asked.Ask ask) =
-    (entered_name entered ≡ Some (codes "ask")) × IfSome (entered_rows entered) (λ rows. AsksServer rows ask)
+    × (entered_name entered ≢ Some (codes "check"))
+    × (entered_name entered ≡ Some (codes "explain") → IfSome (entered_rows entered) (λ rows. IsRead 999 (one_of (codes "code") rows) code × IsSaid (one_of (codes "quiet") rows) quiet))
+AsksFor entered (asked.Ask ask manner) =
+    (entered_name entered ≡ Some (codes "ask")) × IfSome (entered_rows entered) (λ rows. AsksServer rows ask × AsksManner rows manner)
+AsksFor entered (asked.Save ask) =
+    (entered_name entered ≡ Some (codes "save")) × IfSome (entered_rows entered) (λ rows. AsksServer rows ask)
+AsksFor entered (asked.Restore ask) =
+    (entered_name entered ≡ Some (codes "restore")) × IfSome (entered_rows entered) (λ rows. AsksServer rows ask)
 AsksFor entered asked.Graph = entered_name entered ≡ Some (codes "graph")
 AsksFor entered asked.C = entered_name entered ≡ Some (codes "c")
+AsksFor entered (asked.Check check) =
+    (entered_name entered ≡ Some (codes "check")) × IfSome (entered_rows entered) (λ rows. AsksFiles rows check)
+
+-- the path of the socket that the words name, empty where they name none
+abbrev pub socket_of : Words → List ℕ
+socket_of (asked.Ask ask manner) = string_bytes ask.socket
+socket_of (asked.Save ask) = string_bytes ask.socket
+socket_of (asked.Restore ask) = string_bytes ask.socket
+socket_of other = []
+
+-- the word of which a fault tells, empty where there is none
+abbrev pub word_of : Words → Fault → List ℕ
+word_of (asked.Check check) (of.BadDefinition place) = unwrap_or (option_map string_bytes (slice_get check.defined.items place)) []
+word_of (asked.Check check) (of.Unread place want) = unwrap_or (option_map string_bytes (slice_get check.files.items place)) []
+word_of words fault = socket_of words

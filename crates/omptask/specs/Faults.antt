@@ -1,33 +1,87 @@
 -- What the program tells of a fault, and the status that it ends with.
-use Rattle.std.specs.Prelude.{ℕ, List, codes}
+use Rattle.std.specs.Prelude.{ℕ, Bool, if◌then◌else◌, List, codes}
+use Rattle.std.specs.declared.io.ErrorKind.{ErrorKind}
+use Rattle.std.specs.declared.io.ErrorKind.TheVariants as kind
 use Rattle.ot_ask.specs.declared.asked.AskFault.{AskFault}
 use Rattle.ot_ask.specs.declared.asked.AskFault.TheVariants as ask
 use Rattle.ot_ask.specs.declared.asked.Asked.{Asked}
 use Rattle.ot_ask.specs.declared.asked.Asked.TheVariants as asked
 use Rattle.ot_front.specs.declared.fault.FrontFault.{FrontFault}
 use Rattle.ot_front.specs.declared.fault.FrontFault.TheVariants as front
+use Rattle.ot_keep.specs.declared.fault.KeepFault.{KeepFault}
+use Rattle.ot_keep.specs.declared.fault.KeepFault.TheVariants as keep
 use Rattle.ot_last.specs.declared.fault.LastFault.{LastFault}
 use Rattle.ot_last.specs.declared.fault.LastFault.TheVariants as last
 use Rattle.omptask.specs.declared.ended.Ended.{Ended}
 use Rattle.omptask.specs.declared.ended.Ended.TheVariants.{Well, Refused}
+use Rattle.omptask.specs.declared.reaching.Cause.{Cause}
+use Rattle.omptask.specs.declared.reaching.Cause.TheVariants as cause
 use Rattle.omptask.specs.declared.fault.Fault.{Fault}
 use Rattle.omptask.specs.declared.fault.Fault.TheVariants as of
+use Rattle.omptask.specs.declared.fault.Want.{Want}
+use Rattle.omptask.specs.declared.fault.Want.TheVariants as want
 
--- the line on standard error; behind that of a bad line stands its number
+-- why nobody is reached, by the error of the connection, where something that is no socket is at the path, or isn't
+abbrev pub cause_for : ErrorKind → Bool → Cause
+cause_for kind.NotFound is_other_file = cause.NoFile
+cause_for kind.NotADirectory is_other_file = cause.NoFolder
+cause_for kind.PermissionDenied is_other_file = cause.NotPermitted
+cause_for kind.ConnectionRefused is_other_file = if is_other_file then cause.NoSocket else cause.NobodyAnswers
+cause_for kind.InvalidInput is_other_file = cause.NoPath
+cause_for error is_other_file = cause.Other
+
+-- what is told of it, behind the path
+abbrev pub cause_text : Cause → List ℕ
+cause_text cause.NoFile = codes "no such file"
+cause_text cause.NoFolder = codes "no such folder"
+cause_text cause.NotPermitted = codes "permission denied"
+cause_text cause.NoSocket = codes "not a socket"
+cause_text cause.NobodyAnswers = codes "nobody answers"
+cause_text cause.NoPath = codes "no path of a socket"
+cause_text cause.Other = codes "socket failed"
+
+-- why a file isn't read, by the error
+abbrev pub want_for : ErrorKind → Want
+want_for kind.NotFound = want.NoFile
+want_for kind.NotADirectory = want.NoFolder
+want_for kind.IsADirectory = want.IsFolder
+want_for kind.PermissionDenied = want.NotPermitted
+want_for kind.InvalidInput = want.NoPath
+want_for error = want.Other
+
+-- what is told of it, behind the path
+abbrev pub want_text : Want → List ℕ
+want_text want.NoFile = codes "no such file"
+want_text want.NoFolder = codes "no such folder"
+want_text want.IsFolder = codes "a folder"
+want_text want.NotPermitted = codes "permission denied"
+want_text want.NoPath = codes "no path of a file"
+want_text want.Other = codes "read failed"
+
+-- The line on standard error. Behind that of a bad or a refused line stands its number, and behind that of a server that isn't
+-- reached the path and the cause. Behind that of a bad definition stands the word, and behind that of a file that isn't read the path
+-- and why.
 abbrev pub line_of : Fault → List ℕ
 line_of of.Busy = codes "omptask: busy"
 line_of of.UnknownTenant = codes "omptask: unknown tenant"
 line_of of.StrangeGreeting = codes "omptask: strange greeting"
 line_of of.Closed = codes "omptask: closed"
 line_of of.UnknownCode = codes "omptask: unknown code"
-line_of (of.BadLine number) = codes "omptask: bad line"
+line_of (of.BadLine number answer) = codes "omptask: bad line"
 line_of of.NoRun = codes "omptask: no run"
-line_of of.SocketFailed = codes "omptask: socket failed"
+line_of of.StrangeReply = codes "omptask: strange reply"
+line_of of.NotWhole = codes "omptask: not whole"
+line_of of.HasArrays = codes "omptask: has arrays"
+line_of (of.RefusedLine number) = codes "omptask: refused line"
+line_of of.Differs = codes "omptask: differs"
+line_of (of.Unreached cause) = codes "omptask:"
 line_of of.ReadFailed = codes "omptask: read failed"
 line_of of.WriteFailed = codes "omptask: write failed"
 line_of of.Memory = codes "omptask: no memory"
 line_of of.TooManyReads = codes "omptask: too many reads"
 line_of of.Stranger = codes "omptask: stranger"
+line_of (of.BadDefinition place) = codes "omptask: bad definition"
+line_of (of.Unread place want) = codes "omptask:"
 
 -- the program's fault where a session with a server failed
 abbrev pub fault_of : AskFault → Fault
@@ -47,21 +101,39 @@ fault_of_session front.WriteFailed = of.WriteFailed
 fault_of_session front.Memory = of.Memory
 fault_of_session front.Stranger = of.Stranger
 fault_of_session front.TooManyTurns = of.TooManyReads
-fault_of_session front.SocketFailed = of.SocketFailed
+fault_of_session front.SocketFailed = of.Unreached cause.Other
 
 -- the program's fault where a session has no last run
 abbrev pub fault_of_last : LastFault → Fault
 fault_of_last last.NoRun = of.NoRun
-fault_of_last (last.BadLine number) = of.BadLine number
+fault_of_last (last.BadLine number answer) = of.BadLine number answer
 fault_of_last last.ReadFailed = of.ReadFailed
 fault_of_last last.TooManyReads = of.TooManyReads
 fault_of_last last.Memory = of.Memory
+
+-- the program's fault where a tenant isn't saved, or isn't restored
+abbrev pub fault_of_keep : KeepFault → Fault
+fault_of_keep (keep.Ask fault) = fault_of fault
+fault_of_keep keep.StrangeReply = of.StrangeReply
+fault_of_keep keep.WriteFailed = of.WriteFailed
+fault_of_keep keep.NotWhole = of.NotWhole
+fault_of_keep keep.HasArrays = of.HasArrays
+fault_of_keep (keep.Refused number) = of.RefusedLine number
+fault_of_keep keep.Differs = of.Differs
 
 -- how the program ends where a session with a server came to this
 abbrev pub ended_of : Asked → Ended
 ended_of asked.AllTaken = Well
 ended_of asked.SomeRefused = Refused
 ended_of asked.CutShort = Refused
+
+-- the status of a fault: where another session is there it can be tried again, and where a line was refused it can't; a bad
+-- definition is a word of the command line that can't be read
+abbrev pub status_of_fault : Fault → ℕ
+status_of_fault of.Busy = 4
+status_of_fault (of.RefusedLine number) = 3
+status_of_fault (of.BadDefinition place) = 2
+status_of_fault fault = 1
 
 -- the status where nothing went wrong
 abbrev pub status_of : Ended → ℕ

@@ -3,21 +3,48 @@
 /// The words of a command line, read.
 #[derive(Debug, PartialEq, Eq, Drop)]
 pub enum Words {
-    /// A session, with what is wrong in words behind each refusal; or the page of one code.
-    Explain(Option<u32>),
-    /// A session with a server.
-    Ask(Ask),
+    /// A session, with what is wrong in words behind each refusal, or the page of one code; and whether what is wrong is to be
+    /// told alone, without the replies.
+    Explain(Option<u32>, bool),
+    /// A session with a server, and how it is to be held.
+    Ask(Ask, Manner),
+    /// A tenant of a server as a file.
+    Save(Ask),
+    /// A file as a tenant of a server.
+    Restore(Ask),
     /// The last run of a session as a task graph.
     Graph,
     /// The last run of a session as a program in C.
     C,
+    /// Files of requests, judged with no program run.
+    Check(Check),
 }
 
-/// A session with a server, over its Unix socket.
+/// A tenant of a server, which listens at a Unix socket.
 #[derive(Debug, PartialEq, Eq, Drop)]
 pub struct Ask {
     /// The path of the socket.
     pub socket: String,
     /// The name of the tenant.
     pub name: String,
+}
+
+/// How a session with a server is to be held.
+#[derive(Clone, Copy, Debug, PartialEq, Eq)]
+pub struct Manner {
+    /// Whether the first refusal is to end it.
+    pub stop: bool,
+    /// Whether what is wrong is to be told behind each refusal.
+    pub explain: bool,
+}
+
+/// Files whose requests are to be judged, or written as lines.
+#[derive(Debug, PartialEq, Eq, Drop)]
+pub struct Check {
+    /// Arrays that are there before each file, as `NAME=LEN`.
+    pub defined: Vec<String>,
+    /// Whether the requests are to be written, one a line, and nothing is judged.
+    pub lines: bool,
+    /// The paths of the files; `-` is standard input.
+    pub files: Vec<String>,
 }

@@ -1,12 +1,12 @@
 //! The command line.
 ghost use Rattle.std.specs.Prelude.{◌≡◌, map, IfOk};
 ghost use Rattle.clap.specs.Words.{FailsBy, app_of, fault_of, found_of, rows_of, subcommand_of, subcommand_rows_of};
-ghost use Rattle.omptask.specs.Asked.{AsksFor, AsksServer};
+ghost use Rattle.omptask.specs.Asked.{AsksFor, AsksFiles, AsksManner, AsksServer};
 ghost use Rattle.omptask.specs.Grammar.{program_words};
 
-use crate::asked::{Ask, Words};
+use crate::asked::{Ask, Check, Manner, Words};
 use crate::commands::{MAX_CODE, program_command};
-use crate::matched::{number, text};
+use crate::matched::{flag, number, text, texts};
 use clap::{ArgMatches, Error};
 use std::alloc::{AllocError, Global};
 
@@ -29,10 +29,18 @@ fn asked_for(alloc: Global, matches: &ArgMatches<'_>) -> Result<Words, AllocErro
 {
     if let Some(found) = matches.subcommand_matches("ask") {
         let ask = ask_of(alloc, found)?;
-        return Ok(Words::Ask(ask));
+        return Ok(Words::Ask(ask, manner_of(found)));
+    }
+    if let Some(found) = matches.subcommand_matches("save") {
+        let ask = ask_of(alloc, found)?;
+        return Ok(Words::Save(ask));
+    }
+    if let Some(found) = matches.subcommand_matches("restore") {
+        let ask = ask_of(alloc, found)?;
+        return Ok(Words::Restore(ask));
     }
     if let Some(found) = matches.subcommand_matches("explain") {
-        return Ok(Words::Explain(number(found, "code", MAX_CODE)));
+        return Ok(Words::Explain(number(found, "code", MAX_CODE), flag(found, "quiet")));
     }
     if matches.subcommand_matches("graph").is_some() {
         return Ok(Words::Graph);
@@ -40,15 +48,40 @@ fn asked_for(alloc: Global, matches: &ArgMatches<'_>) -> Result<Words, AllocErro
     if matches.subcommand_matches("c").is_some() {
         return Ok(Words::C);
     }
-    Ok(Words::Explain(None))
+    if let Some(found) = matches.subcommand_matches("check") {
+        let check = check_of(alloc, found)?;
+        return Ok(Words::Check(check));
+    }
+    Ok(Words::Explain(None, false))
 }
 
-/// The session that is asked for.
+/// The tenant that is asked for.
 fn ask_of(alloc: Global, found: &ArgMatches<'_>) -> Result<Ask, AllocError>
     ensures { IfOk result (AsksServer (rows_of (found_of found.now))) }
 {
     Ok(Ask {
         socket: text(alloc, found, "socket")?,
         name: text(alloc, found, "name")?,
+    })
+}
+
+/// How the session is to be held.
+fn manner_of(found: &ArgMatches<'_>) -> Manner
+    ensures { AsksManner (rows_of (found_of found.now)) result }
+{
+    Manner {
+        stop: flag(found, "stop"),
+        explain: flag(found, "explain"),
+    }
+}
+
+/// The files that are to be judged.
+fn check_of(alloc: Global, found: &ArgMatches<'_>) -> Result<Check, AllocError>
+    ensures { IfOk result (AsksFiles (rows_of (found_of found.now))) }
+{
+    Ok(Check {
+        defined: texts(alloc, found, "define")?,
+        lines: flag(found, "lines"),
+        files: texts(alloc, found, "file")?,
     })
 }

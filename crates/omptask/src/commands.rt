@@ -2,9 +2,9 @@
 ghost use Rattle.std.specs.Prelude.{◌≡◌, IfOk, false};
 ghost use Rattle.clap.specs.Words.{app_of, rule_of, shape_of};
 ghost use Rattle.clap.specs.declared.builder.command.Command.TheViews.{out-Command as fields_of};
-ghost use Rattle.omptask.specs.Grammar.{program_words, explain_words, ask_words, graph_words, c_words, code_rule, socket_rule, name_rule};
+ghost use Rattle.omptask.specs.Grammar.{program_words, explain_words, ask_words, save_words, restore_words, graph_words, c_words, check_words, code_rule, socket_rule, stop_rule, name_rule, define_rule, lines_rule, files_rule, quiet_rule, explain_rule};
 
-use clap::{Arg, Command, value_parser};
+use clap::{Arg, ArgAction, Command, value_parser};
 use std::alloc::{AllocError, Global};
 
 /// What `--version` prints behind the program's name.
@@ -17,13 +17,27 @@ pub(crate) const MAX_CODE: u32 = 999;
 const EXPLAIN_HELP: &str = "\
 It reads a session of one tenant on standard input and writes what `omptaskd solo` writes. Behind each
 refusal stand lines that begin with `# `: what its code means, and for a program what is wrong in it.
-The status is 3 where anything was refused.";
+With --quiet these lines are written alone. The status is 3 where anything was refused.";
 
 /// What `ask` does.
 const ASK_HELP: &str = "\
 It reads lines on standard input. Each is sent, and its reply is printed before the next one is read. At
-the end of the lines, or behind a line [\"bye\"], it waits until the server has ended the session.
+the end of the lines, or behind a line [\"bye\"], it waits until the server has ended the session. A terminal
+gets a prompt; of other input standard error tells at the end how many lines were answered and refused.
+With --explain a request [\"list\"] goes first, and lines that begin with `# ` say what a refusal means.
 The status is 3 where a line was refused, and 1 where the session couldn't be held.";
+
+/// What `save` does.
+const SAVE_HELP: &str = "\
+It asks the server for the tenant's arrays, and writes a file of them on standard output: a session that makes
+them again, and a line with the number of the next request, the used units, and a sum. The log begins anew.
+The status is 4 where the tenant has another session, and 1 where the tenant couldn't be saved; take no file then.";
+
+/// What `restore` does.
+const RESTORE_HELP: &str = "\
+It reads such a file on standard input, and makes the arrays at the server, where the tenant has none; it asks
+for them then, and compares. Numbers and used units begin anew. A file that isn't whole is refused at once.
+The status is 4 where the tenant has another session, 3 where a line was refused, and 1 for other faults.";
 
 /// What `graph` writes.
 const GRAPH_HELP: &str = "\
@@ -39,12 +53,23 @@ It reads a session of one tenant on standard input, as `omptaskd solo` reads it,
 compiles with -fopenmp, has the arrays as the run found them, and prints what the run shows.
 The status is 1 where a line isn't taken, behind the last run too, or none runs a program.";
 
+/// What `check` reads and writes.
+const CHECK_HELP: &str = "\
+A FILE has requests over any number of lines, and comments from `//` to a line's end; what begins with \"program\"
+or \"program2\" stands for the `run` of it. `-` is standard input. No program is run. For each request that is refused
+a line `FILE:LINE:COLUMN: error: CODE: ..` is written, and behind it lines `FILE:LINE:COLUMN: note: ..`. Each FILE
+begins with the arrays of --define; it makes others by its own requests.
+The status is 3 where anything was refused, and 1 where a FILE couldn't be judged.";
+
 /// The program's command.
 pub(crate) fn program_command<'a>(alloc: Global) -> Result<Command<'a>, AllocError>
     ensures { IfOk result (λ command. app_of command ≡ program_words) }
 {
     let explain = explain_command(alloc)?;
     let ask = ask_command(alloc)?;
+    let save = save_command(alloc)?;
+    let restore = restore_command(alloc)?;
+    let check = check_command(alloc)?;
     Command::new(alloc, "omptask")
         .about(
             "What omptaskd refuses, said in words, its runs as graphs and in C, and a client for people",
@@ -53,8 +78,11 @@ pub(crate) fn program_command<'a>(alloc: Global) -> Result<Command<'a>, AllocErr
         .subcommand_required(true)
         .subcommand(explain)?
         .subcommand(ask)?
+        .subcommand(save)?
+        .subcommand(restore)?
         .subcommand(graph_command(alloc))?
-        .subcommand(c_command(alloc))
+        .subcommand(c_command(alloc))?
+        .subcommand(check)
 }
 
 fn explain_command<'a>(alloc: Global) -> Result<Command<'a>, AllocError>
@@ -64,6 +92,7 @@ fn explain_command<'a>(alloc: Global) -> Result<Command<'a>, AllocError>
     Command::new(alloc, "explain")
         .about("Say what each refusal of a session means, or what one code means")
         .after_help(EXPLAIN_HELP)
+        .arg(quiet_arg(alloc))?
         .arg(code_arg(alloc))
 }
 
@@ -74,6 +103,30 @@ fn ask_command<'a>(alloc: Global) -> Result<Command<'a>, AllocError>
     Command::new(alloc, "ask")
         .about("Send lines to a server, and print its replies")
         .after_help(ASK_HELP)
+        .arg(socket_arg(alloc))?
+        .arg(stop_arg(alloc))?
+        .arg(explain_arg(alloc))?
+        .arg(name_arg(alloc))
+}
+
+fn save_command<'a>(alloc: Global) -> Result<Command<'a>, AllocError>
+    ensures words { IfOk result (λ command. shape_of command ≡ save_words) }
+    ensures own { IfOk result (λ command. (fields_of command).has_globals ≡ false) }
+{
+    Command::new(alloc, "save")
+        .about("Write a tenant of a server as a file")
+        .after_help(SAVE_HELP)
+        .arg(socket_arg(alloc))?
+        .arg(name_arg(alloc))
+}
+
+fn restore_command<'a>(alloc: Global) -> Result<Command<'a>, AllocError>
+    ensures words { IfOk result (λ command. shape_of command ≡ restore_words) }
+    ensures own { IfOk result (λ command. (fields_of command).has_globals ≡ false) }
+{
+    Command::new(alloc, "restore")
+        .about("Make a tenant of a server of its file")
+        .after_help(RESTORE_HELP)
         .arg(socket_arg(alloc))?
         .arg(name_arg(alloc))
 }
@@ -96,6 +149,18 @@ fn c_command<'a>(alloc: Global) -> Command<'a>
         .after_help(C_HELP)
 }
 
+fn check_command<'a>(alloc: Global) -> Result<Command<'a>, AllocError>
+    ensures words { IfOk result (λ command. shape_of command ≡ check_words) }
+    ensures own { IfOk result (λ command. (fields_of command).has_globals ≡ false) }
+{
+    Command::new(alloc, "check")
+        .about("Say where the requests of files are refused, with no program run")
+        .after_help(CHECK_HELP)
+        .arg(define_arg(alloc))?
+        .arg(lines_arg(alloc))?
+        .arg(files_arg(alloc))
+}
+
 fn code_arg<'a>(alloc: Global) -> Arg<'a>
     ensures rule { rule_of result ≡ code_rule }
     ensures own { result.global ≡ false }
@@ -104,6 +169,36 @@ fn code_arg<'a>(alloc: Global) -> Arg<'a>
         .value_name("CODE")
         .value_parser(value_parser!(u32).range(1..=999))
         .help("A code of a refusal, as 427: what it means, and no session")
+}
+
+fn quiet_arg<'a>(alloc: Global) -> Arg<'a>
+    ensures rule { rule_of result ≡ quiet_rule }
+    ensures own { result.global ≡ false }
+{
+    Arg::new(alloc, "quiet")
+        .long("quiet")
+        .action(ArgAction::SetTrue)
+        .help("Write what is wrong alone, and no replies")
+}
+
+fn stop_arg<'a>(alloc: Global) -> Arg<'a>
+    ensures rule { rule_of result ≡ stop_rule }
+    ensures own { result.global ≡ false }
+{
+    Arg::new(alloc, "stop")
+        .long("stop")
+        .action(ArgAction::SetTrue)
+        .help("End the session behind the first line that is refused")
+}
+
+fn explain_arg<'a>(alloc: Global) -> Arg<'a>
+    ensures rule { rule_of result ≡ explain_rule }
+    ensures own { result.global ≡ false }
+{
+    Arg::new(alloc, "explain")
+        .long("explain")
+        .action(ArgAction::SetTrue)
+        .help("Say behind each refusal what is wrong, as omptask explain does")
 }
 
 fn socket_arg<'a>(alloc: Global) -> Arg<'a>
@@ -125,4 +220,36 @@ fn name_arg<'a>(alloc: Global) -> Arg<'a>
         .value_name("NAME")
         .required(true)
         .help("The tenant")
+}
+
+fn define_arg<'a>(alloc: Global) -> Arg<'a>
+    ensures rule { rule_of result ≡ define_rule }
+    ensures own { result.global ≡ false }
+{
+    Arg::new(alloc, "define")
+        .long("define")
+        .action(ArgAction::Append)
+        .value_name("NAME=LEN")
+        .help("An array that is there before each file, as a=3; may be given again")
+}
+
+fn lines_arg<'a>(alloc: Global) -> Arg<'a>
+    ensures rule { rule_of result ≡ lines_rule }
+    ensures own { result.global ≡ false }
+{
+    Arg::new(alloc, "lines")
+        .long("lines")
+        .action(ArgAction::SetTrue)
+        .help("Write the requests of the files, one a line, and judge nothing")
+}
+
+fn files_arg<'a>(alloc: Global) -> Arg<'a>
+    ensures rule { rule_of result ≡ files_rule }
+    ensures own { result.global ≡ false }
+{
+    Arg::new(alloc, "file")
+        .value_name("FILE")
+        .num_args(1..)
+        .required(true)
+        .help("The files; - is standard input")
 }

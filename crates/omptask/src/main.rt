@@ -1,35 +1,48 @@
 //! omptask, a companion of omptaskd for people.
 #![tactic(auto)]
 
-ghost use Rattle.std.specs.Prelude.{◌≡◌, ◌≢◌};
+ghost use Rattle.std.specs.Prelude.{◌≡◌, ◌≢◌, [], option_map, slice_get, string_bytes, unwrap_or};
 ghost use Rattle.std.specs.Process.{exit_status};
 ghost use Rattle.clap.specs.Words.{kind_of};
-ghost use Rattle.omptask.specs.Faults.{ended_of, status_of};
+ghost use Rattle.omptask.specs.Asked.{socket_of, word_of};
+ghost use Rattle.omptask.specs.Faults.{ended_of, status_of, status_of_fault};
 
 pub mod asked;
+mod checking;
 pub mod command_line;
 mod commands;
 pub mod ended;
+mod explaining;
 pub mod fault;
 mod matched;
+mod prompt;
+pub mod reaching;
 
-pub use asked::{Ask, Words};
+pub use asked::{Ask, Check, Manner, Words};
+use checking::check_files;
 use clap::error::ErrorKind;
 pub use command_line::words;
 pub use ended::Ended;
-pub use fault::{Fault, fault_line};
-use ot_ask::{Asked, ask};
+use explaining::ask_explained;
+pub use fault::{Fault, Want, fault_line, want_text};
+use ot_ask::{Asked, LineSource, Lines, Tally, ask};
 use ot_c::c_text;
-use ot_explain::{Explained, code_page, explain};
-use ot_front::{Reading, Writing, write_whole};
+use ot_explain::{Explained, explain, explain_quietly};
+use ot_front::{Reading, Sink, Writing, write_whole};
 use ot_graph::draw;
-use ot_last::last_run;
+use ot_keep::{restore, save};
+use ot_last::{Untaken, last_run};
+use ot_reason::code_page;
+use prompt::Prompted;
+use reaching::reach;
+pub use reaching::{Cause, cause_text};
 use std::alloc::Global;
 use std::env::Env;
-use std::io::BufReader;
+use std::io::{BufReader, IsTerminal, Read};
 use std::net::Net;
 use std::os::unix::net::UnixStream;
 use std::process::ExitCode;
+use std::rt::Files;
 use std::{env, io};
 
 /// How many bytes of a server's replies are read at a time.
@@ -46,8 +59,8 @@ fn main(rt: HostRuntime) -> ExitCode {
     };
     let given: Result<Vec<&str>, _> = owned.iter().map(|word| word.as_str()).collect(alloc);
     match given {
-        Ok(given) => run(&rt, alloc, given.as_slice()),
-        Err(_) => tell(&rt, &Fault::Memory),
+        Ok(given) => run(&rt, alloc, given.as_slice(), rt.stdin().is_terminal()),
+        Err(_) => tell(&rt, "", &Fault::Memory),
     }
 }
 
@@ -59,28 +72,67 @@ fn given_words(rt: &(impl Env + AllocGlobal), alloc: Global) -> io::Result<Vec<S
 /// Tells why the words of the command line could not be had, and answers the status for it.
 fn refuse(rt: &impl Eprint, error: &io::Error) -> ExitCode {
     if error.kind() == io::ErrorKind::OutOfMemory {
-        return tell(rt, &Fault::Memory);
+        return tell(rt, "", &Fault::Memory);
     }
     let _ = eprintln!(rt; "error: invalid UTF-8 was detected in one or more arguments");
     ExitCode::from(2)
 }
 
-/// Does what the words ask for, and answers the status.
-fn run<R: Input + Print + Eprint + Net>(rt: &R, alloc: Global, given: &[&str]) -> ExitCode {
+/// Does what the words ask for, and answers the status. Standard input is typed where it is a terminal.
+fn run<R: Input + Print + Eprint + Files + Net>(
+    rt: &R,
+    alloc: Global,
+    given: &[&str],
+    is_typed: bool,
+) -> ExitCode {
     let asked = match words(alloc, given) {
         Ok(asked) => asked,
         Err(error) => return show(rt, &error),
     };
-    let ended = match asked {
-        Words::Ask(asked) => ask_server(rt, alloc, &asked),
-        Words::Explain(None) => explain_session(rt, alloc),
-        Words::Explain(Some(code)) => explain_code(rt, alloc, code),
+    let ended = match &asked {
+        Words::Ask(asked, manner) => ask_server(rt, alloc, asked, *manner, is_typed),
+        Words::Save(asked) => save_tenant(rt, alloc, asked),
+        Words::Restore(asked) => restore_tenant(rt, alloc, asked),
+        Words::Explain(None, quiet) => explain_session(rt, alloc, *quiet),
+        Words::Explain(Some(code), _) => explain_code(rt, alloc, *code),
         Words::Graph => draw_run(rt, alloc),
         Words::C => write_run(rt, alloc),
+        Words::Check(asked) => check_files(rt, alloc, asked),
     };
     match ended {
         Ok(ended) => status_of(ended),
-        Err(fault) => tell(rt, &fault),
+        Err(fault) => tell(rt, word_of(&asked, &fault), &fault),
+    }
+}
+
+/// The word of which a fault tells: a definition, a file's path, or the path of the socket.
+fn word_of<'a>(asked: &'a Words, fault: &Fault) -> &'a str
+    ensures { result.now ≡ word_of asked.now fault.now }
+{
+    match (asked, fault) {
+        (Words::Check(check), Fault::BadDefinition(place)) => word_at(&check.defined, *place),
+        (Words::Check(check), Fault::Unread(place, _)) => word_at(&check.files, *place),
+        _ => socket_of(asked),
+    }
+}
+
+/// The word at a place, empty where there is none.
+fn word_at(words: &Vec<String>, place: usize) -> &str
+    ensures { result.now ≡ unwrap_or (option_map string_bytes (slice_get words.now.items place)) [] }
+{
+    match words.get(place) {
+        Some(word) => word.as_str(),
+        None => "",
+    }
+}
+
+/// The path of the socket that the words name, empty where they name none.
+fn socket_of(asked: &Words) -> &str
+    ensures { result.now ≡ socket_of asked.now }
+{
+    match asked {
+        Words::Ask(asked, _) | Words::Save(asked) | Words::Restore(asked) => asked.socket.as_str(),
+        _ => "",
     }
 }
 
@@ -91,7 +143,7 @@ fn show(rt: &(impl Print + Eprint), error: &clap::Error) -> ExitCode
         kind_of error.now ≢ ErrorKind.DisplayVersion → exit_status result ≡ 2 }
 {
     if error.kind() == ErrorKind::OutOfMemory {
-        return tell(rt, &Fault::Memory);
+        return tell(rt, "", &Fault::Memory);
     }
     let printed = error.print(rt);
     if error.use_stderr() {
@@ -99,15 +151,20 @@ fn show(rt: &(impl Print + Eprint), error: &clap::Error) -> ExitCode
     }
     match printed {
         Ok(()) => ExitCode::SUCCESS,
-        Err(_) => tell(rt, &Fault::WriteFailed),
+        Err(_) => tell(rt, "", &Fault::WriteFailed),
     }
 }
 
-/// Explains the session that comes on standard input.
-fn explain_session<R: Input + Print>(rt: &R, alloc: Global) -> Result<Ended, Fault> {
+/// Explains the session that comes on standard input, or quietly writes the remarks alone.
+fn explain_session<R: Input + Print>(rt: &R, alloc: Global, quiet: bool) -> Result<Ended, Fault> {
     let mut source = Reading::new(rt.reader());
     let mut sink = Writing::new(io::writer(rt));
-    match explain(alloc, &mut source, &mut sink) {
+    let explained = if quiet {
+        explain_quietly(alloc, &mut source, &mut sink)
+    } else {
+        explain(alloc, &mut source, &mut sink)
+    };
+    match explained {
         Ok(Explained::AllTaken) => Ok(Ended::Well),
         Ok(Explained::SomeRefused) => Ok(Ended::Refused),
         Err(fault) => Err(Fault::from(fault)),
@@ -162,27 +219,130 @@ fn print_text<R: Print>(rt: &R, text: &str) -> Result<Ended, Fault> {
     }
 }
 
-/// Holds a session with a server: lines come from standard input, and replies go to standard output.
-fn ask_server<R: Input + Print + Net>(rt: &R, alloc: Global, asked: &Ask) -> Result<Ended, Fault> {
-    let Ok(stream) = UnixStream::connect(rt, asked.socket.as_str()) else {
-        return Err(Fault::SocketFailed);
-    };
-    let Ok(mut typed) = BufReader::new(alloc, rt.reader()) else {
+/// Holds a session with a server: lines come from standard input, and replies go to standard output. Where nobody
+/// types them, it tells at the end how many were answered.
+fn ask_server<R: Input + Print + Eprint + Files + Net>(
+    rt: &R,
+    alloc: Global,
+    asked: &Ask,
+    manner: Manner,
+    is_typed: bool,
+) -> Result<Ended, Fault> {
+    let stream = server_of(rt, asked)?;
+    let Ok(typed) = BufReader::new(alloc, rt.reader()) else {
         return Err(Fault::Memory);
     };
-    let Ok(mut heard) = BufReader::with_capacity(alloc, READ_SIZE, &stream) else {
+    let Ok(heard) = BufReader::with_capacity(alloc, READ_SIZE, &stream) else {
         return Err(Fault::Memory);
     };
-    let ended = ask(
+    let mut lines = Prompted {
+        rt,
+        lines: Lines::new(typed),
+        is_typed,
+    };
+    let (ended, tally) = hold(
         alloc,
         asked.name.as_str(),
-        &mut typed,
-        &mut heard,
+        manner,
+        &mut lines,
+        &mut Lines::new(heard),
         &mut Writing::new(&stream),
         &mut Writing::new(io::writer(rt)),
     );
+    if !is_typed && (ended.is_ok() || tally.lines > 0) {
+        tell_tally(rt, tally);
+    }
     match ended {
         Ok(asked) => Ok(ended_of(asked)),
+        Err(fault) => Err(fault),
+    }
+}
+
+/// Holds a session with a server in this manner.
+fn hold<T: LineSource, H: LineSource, W: Sink, P: Sink>(
+    alloc: Global,
+    name: &str,
+    manner: Manner,
+    typed: &mut T,
+    heard: &mut H,
+    wire: &mut W,
+    printed: &mut P,
+) -> (Result<Asked, Fault>, Tally) {
+    if manner.explain {
+        return ask_explained(alloc, name, manner.stop, typed, heard, wire, printed);
+    }
+    let (ended, tally) = ask(alloc, name, manner.stop, typed, heard, wire, printed);
+    match ended {
+        Ok(asked) => (Ok(asked), tally),
+        Err(fault) => (Err(Fault::from(fault)), tally),
+    }
+}
+
+/// Connects to the server of a tenant.
+fn server_of<R: Files + Net>(rt: &R, asked: &Ask) -> Result<UnixStream, Fault> {
+    match reach(rt, asked.socket.as_str()) {
+        Ok(stream) => Ok(stream),
+        Err(cause) => Err(Fault::Unreached(cause)),
+    }
+}
+
+/// Tells how many lines were answered and refused, where standard error takes it.
+fn tell_tally(rt: &impl Eprint, tally: Tally) {
+    let lines = if tally.lines == 1 { "line" } else { "lines" };
+    let _ = match tally.first_refused {
+        Some(first) => eprintln!(rt;
+            "omptask: {} {lines}, {} refused, the first refused: {first}",
+            tally.lines, tally.refused
+        ),
+        None => eprintln!(rt; "omptask: {} {lines}, none refused", tally.lines),
+    };
+}
+
+/// Writes a tenant of a server as a file on standard output.
+fn save_tenant<R: Print + Files + Net>(rt: &R, alloc: Global, asked: &Ask) -> Result<Ended, Fault> {
+    let stream = server_of(rt, asked)?;
+    let Ok(heard) = BufReader::with_capacity(alloc, READ_SIZE, &stream) else {
+        return Err(Fault::Memory);
+    };
+    let saved = save(
+        alloc,
+        asked.name.as_str(),
+        &mut Lines::new(heard),
+        &mut Writing::new(&stream),
+        &mut Writing::new(io::writer(rt)),
+    );
+    match saved {
+        Ok(_) => Ok(Ended::Well),
+        Err(fault) => Err(Fault::from(fault)),
+    }
+}
+
+/// Makes a tenant of a server of the file on standard input.
+fn restore_tenant<R: Input + Files + Net>(
+    rt: &R,
+    alloc: Global,
+    asked: &Ask,
+) -> Result<Ended, Fault> {
+    let mut file = Vec::new(alloc);
+    if let Err(error) = rt.reader().read_to_end(&mut file) {
+        if error.kind() == io::ErrorKind::OutOfMemory {
+            return Err(Fault::Memory);
+        }
+        return Err(Fault::ReadFailed);
+    }
+    let stream = server_of(rt, asked)?;
+    let Ok(heard) = BufReader::with_capacity(alloc, READ_SIZE, &stream) else {
+        return Err(Fault::Memory);
+    };
+    let restored = restore(
+        alloc,
+        asked.name.as_str(),
+        file.as_slice(),
+        &mut Lines::new(heard),
+        &mut Writing::new(&stream),
+    );
+    match restored {
+        Ok(_) => Ok(Ended::Well),
         Err(fault) => Err(Fault::from(fault)),
     }
 }
@@ -206,14 +366,37 @@ fn status_of(ended: Ended) -> ExitCode
     }
 }
 
-/// Prints what went wrong, where standard error takes it, and answers the status for it.
-fn tell(rt: &impl Eprint, fault: &Fault) -> ExitCode
-    ensures { exit_status result ≡ 1 }
+/// Prints what went wrong, with the word of which it tells, where standard error takes it, and answers the status for it.
+fn tell(rt: &impl Eprint, path: &str, fault: &Fault) -> ExitCode
+    ensures { exit_status result ≡ status_of_fault fault.now }
 {
     let line = fault_line(fault);
     let _ = match fault {
-        Fault::BadLine(number) => eprintln!(rt; "{line} {number}"),
+        Fault::BadLine(number, answer) => tell_bad_line(rt, line, *number, *answer),
+        Fault::RefusedLine(number) => eprintln!(rt; "{line} {number}"),
+        Fault::Unreached(cause) => eprintln!(rt; "{line} {path}: {}", cause_text(*cause)),
+        Fault::BadDefinition(_) => eprintln!(rt; "{line} {path}, see omptask check --help"),
+        Fault::Unread(_, want) => eprintln!(rt; "{line} {path}: {}", want_text(*want)),
         _ => eprintln!(rt; "{line}"),
     };
-    ExitCode::from(1)
+    match fault {
+        Fault::Busy => ExitCode::from(4),
+        Fault::RefusedLine(_) => ExitCode::from(3),
+        Fault::BadDefinition(_) => ExitCode::from(2),
+        _ => ExitCode::from(1),
+    }
+}
+
+/// Prints which line of a session isn't taken, and what a server answers it.
+fn tell_bad_line(rt: &impl Eprint, line: &str, number: u64, answer: Untaken) -> io::Result<()> {
+    match answer {
+        Untaken::Refused(code) => {
+            eprintln!(rt; "{line} {number}: [\"err\",{number},{code}], see omptask explain")
+        }
+        Untaken::Offends(code, place) => {
+            eprintln!(rt; "{line} {number}: [\"err\",{number},{code},{place}], see omptask explain")
+        }
+        Untaken::Full => eprintln!(rt; "{line} {number}: [\"full\"], see omptask explain"),
+        Untaken::Long => eprintln!(rt; "{line} {number}: [\"long\"], see omptask explain"),
+    }
 }

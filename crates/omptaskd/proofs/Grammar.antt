@@ -1,11 +1,8 @@
 -- What the words of the program are to `clap`.
-use Rattle.std.proofs.Common.{◌≡◌, Option, option_map, Some, None, List, [], ◌∷◌, Result, Ok, Err, IfOk, IsErrAnd, true, codes, refl, sym, ap, subst, ◌∙◌, inl, inr, length, arith}
-use Rattle.std.specs.Prelude.{Box, unwrap_or}
-use Rattle.std.specs.Box.{box_value}
-use Rattle.clap.specs.Words.{App, FailsBy, HasKind, HasMatchesOf, Kinds, Row, Text, fault_of, is_simple, is_simple_and_free, kind_of, subcommand_name_of, subcommand_of, subcommand_rows, subcommand_rows_of}
+use Rattle.std.proofs.Common.{◌≡◌, Option, Some, List, [], ◌∷◌, Result, Ok, Err, IfOk, IsErrAnd, true, codes, refl, sym, ap, subst, ◌∙◌, inl, inr, length, arith}
+use Rattle.std.specs.Prelude.{unwrap_or}
+use Rattle.clap.specs.Words.{App, FailsBy, HasKind, HasMatchesOf, Kinds, Row, Text, fault_of, is_simple, is_simple_and_free, kind_of, subcommand_of, subcommand_rows_of}
 use Rattle.clap.specs.declared.parser.matches.ArgMatches.{ArgMatches}
-use Rattle.clap.specs.declared.parser.matches.ArgMatches.TheViews.{out-ArgMatches, out-SubCommand}
-use Rattle.clap.specs.declared.parser.matches.SubCommand.{SubCommand}
 use Rattle.clap.specs.declared.error.Error.{Error}
 use Rattle.clap.specs.declared.error.kind.ErrorKind.TheVariants.{OutOfMemory}
 use Rattle.clap.proofs.OnLiterals.{clap_on_literals}
@@ -47,15 +44,6 @@ pub subcommand_rows_of-program_words : (app : App) (words : List Text) (m : ArgM
     → HasMatchesOf app words m → subcommand_rows_of m ≡ subcommand_of program_words words
 subcommand_rows_of-program_words app words m same has =
     (has (ap is_simple same ∙ program_words-is_simple)).1 ∙ ap (λ a. subcommand_of a words) same
-
-name-rows : {Z : Type 0} (o : Option (Box SubCommand Z))
-    → option_map (λ b. (out-SubCommand (box_value b)).name.now) o ≡ option_map (λ s. s.0) (subcommand_rows o)
-name-rows None = refl
-name-rows (Some b) = refl
-
--- the name of the matches' subcommand
-pub subcommand_name_of-rows : (m : ArgMatches) → subcommand_name_of m ≡ option_map (λ s. s.0) (subcommand_rows_of m)
-subcommand_name_of-rows m = name-rows (out-ArgMatches m).subcommand
 
 -- ---- `solo` and `sim`, each alone behind the program's name
 

@@ -16,7 +16,10 @@ returns c =
     let top = required ∙ ap (on_top (λ (s : Shape). record s { subcommand_required = true })) versioned in
     let with_explain = c.in_ok-subcommand.ensures.shape c.in_ok-explain.ensures.own ∙ ap₂ with_subcommand top c.in_ok-explain.ensures.words in
     let with_ask = c.in_ok-subcommand-2.ensures.shape c.in_ok-ask.ensures.own ∙ ap₂ with_subcommand with_explain c.in_ok-ask.ensures.words in
-    let with_graph = c.in_ok-subcommand-3.ensures.shape c.graph_command.ensures.own ∙ ap₂ with_subcommand with_ask c.graph_command.ensures.words in
-    IfOk-weaker c.subcommand-4.result _ _
-    (λ command added. added.shape c.c_command.ensures.own ∙ ap₂ with_subcommand with_graph c.c_command.ensures.words)
-    c.subcommand-4.ensures
+    let with_save = c.in_ok-subcommand-3.ensures.shape c.in_ok-save.ensures.own ∙ ap₂ with_subcommand with_ask c.in_ok-save.ensures.words in
+    let with_restore = c.in_ok-subcommand-4.ensures.shape c.in_ok-restore.ensures.own ∙ ap₂ with_subcommand with_save c.in_ok-restore.ensures.words in
+    let with_graph = c.in_ok-subcommand-5.ensures.shape c.graph_command.ensures.own ∙ ap₂ with_subcommand with_restore c.graph_command.ensures.words in
+    let with_c = c.in_ok-subcommand-6.ensures.shape c.c_command.ensures.own ∙ ap₂ with_subcommand with_graph c.c_command.ensures.words in
+    IfOk-weaker c.subcommand-7.result _ _
+    (λ command added. added.shape c.in_ok-check.ensures.own ∙ ap₂ with_subcommand with_c c.in_ok-check.ensures.words)
+    c.subcommand-7.ensures
