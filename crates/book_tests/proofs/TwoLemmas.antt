@@ -19,7 +19,7 @@ use Rattle.ot_model.specs.declared.stmt.Mode.TheVariants.{Reads, Folds}
 use Rattle.ot_owner.specs.Lending.{use_of, uses_of, MayChange}
 use Rattle.ot_owner.specs.Back.{taken_back, all_back}
 use Rattle.ot_owner.specs.Owning.{Loan, IsFreeFor}
-use Rattle.ot_owner.specs.Rows.{Summed, is_of, place_in, names, IsNamed, IsSummed, IsSummedBy, folds_in, folded_in, folded, begun_in, begun_for, without}
+use Rattle.ot_owner.specs.Rows.{Summed, is_of, place_in, names, IsNamed, IsSummed, IsSummedBy, folded_in, folded, without}
 use Rattle.ot_owner.specs.declared.lent.LentCell.{LentCell}
 use Rattle.ot_owner.proofs.NameLemmas.{place-named}
 use Rattle.book_tests.specs.TwoGroups.{nth, IsFoldOf, IsOver, AreTwo}
@@ -33,16 +33,6 @@ over-same n o i g h group op uses is = record {
   named = ap (λ us. is_some (place_in us (nth i))) uses ∙ is.named;
   only = subst (All (λ u. u.cell ≡ nth i)) (sym uses) is.only;
 }
-
-over-begun : (w n : ℕ) (o : Operation) (i : ℕ) (g : Summed) (b : Bool) → IsOver n o i g → IsOver n o i (if b then begun_in w g else g)
-over-begun w n o i g true is = over-same n o i g (begun_in w g) refl refl refl is
-over-begun w n o i g false is = is
-
-pub two-begun : (w : ℕ) (o : Operation) (uses : List Use) (gs : List Summed) → AreTwo o gs → AreTwo o (begun_for w uses gs)
-two-begun w o uses [] two = absurd two
-two-begun w o uses (g ∷ []) two = absurd two
-two-begun w o uses (outer ∷ inner ∷ []) two = (over-begun w 1 o 0 outer (folds_in outer.uses uses) two.0, over-begun w 2 o 1 inner (folds_in inner.uses uses) two.1)
-two-begun w o uses (g ∷ h ∷ k ∷ gs) two = absurd two
 
 two-folded : (w v : ℕ) (o : Operation) (c : Cell) (gs : List Summed) → AreTwo o gs → AreTwo o (folded w c v gs)
 two-folded w v o c [] two = absurd two
@@ -132,10 +122,6 @@ two-there cells n o (outer ∷ inner ∷ []) long two = each
     each (suc zero) d within same = over-there cells 2 o 1 inner long (omega arith) two.1
     each (suc (suc k)) d within same = absurd (omega (arith, within))
 two-there cells n o (g ∷ h ∷ k ∷ gs) long two = absurd two
-
--- where nothing is out, each is unused
-pub none-unused : (out : List Loan) (n : ℕ) (gs : List Summed) → out ≡ [] → All (λ g. g.group ≡ n → IsFreeFor out g.uses) gs
-none-unused out n gs none k d within same = none-free out (get_or gs k d).uses none
 
 -- ---- the inner one is closed
 

@@ -7,8 +7,8 @@ use test_reading::read;
 
 /// Tasks over `a` and `b` of 9 cells each, and before them a mark for each but the last: `x` where it
 /// has finished. The last declares what a wait behind the others does. Whether that wait has to wait,
-/// how many of the others have not finished, and how many of its cells are free before the first at which it has
-/// to wait.
+/// how many of the others have not finished, and the place of its first cell at which it has to wait, or how many
+/// cells it has: of all of them, or of those from a place on that stands behind the marks.
 const AWAITING: &str = r#"none of [],[["task",[["inout",["a",0,9]]],[]]] gives false 0 9
 - of [],[["task",[["in",["a",0,1]]],[]],["task",[["in",["a",0,1]]],[]]] gives false 1 1
 - of [],[["task",[["in",["a",0,1]]],[]],["task",[["out",["a",0,1]]],[]]] gives true 1 0
@@ -50,26 +50,42 @@ xx- of [],[["task",[["out",["a",0,1]]],[]],["task",[["out",["a",0,1]]],[]],["tas
 x-- of [],[["task",[["out",["a",0,1]]],[]],["task",[["in",["a",0,1]],["out",["a",1,1]]],[]],["task",[["in",["a",2,1]]],[]],["task",[["in",["a",1,1]]],[]]] gives true 2 0
 -- of [],[["task",[["out",["a",4,1]]],[]],["task",[["out",["a",2,1]],["in",["a",6,3]]],[]],["task",[["in",["a",0,5]]],[]]] gives true 2 2
 -x of [],[["task",[["out",["a",4,1]]],[]],["task",[["out",["a",2,1]],["in",["a",6,3]]],[]],["task",[["in",["a",0,5]]],[]]] gives true 1 4
-xx of [],[["task",[["out",["a",4,1]]],[]],["task",[["out",["a",2,1]],["in",["a",6,3]]],[]],["task",[["in",["a",0,5]]],[]]] gives false 0 5"#;
+xx of [],[["task",[["out",["a",4,1]]],[]],["task",[["out",["a",2,1]],["in",["a",6,3]]],[]],["task",[["in",["a",0,5]]],[]]] gives false 0 5
+- from 0 of [],[["task",[["out",["a",0,1]],["out",["a",4,1]]],[]],["task",[["in",["a",0,9]]],[]]] gives true 1 0
+- from 1 of [],[["task",[["out",["a",0,1]],["out",["a",4,1]]],[]],["task",[["in",["a",0,9]]],[]]] gives true 1 4
+- from 4 of [],[["task",[["out",["a",0,1]],["out",["a",4,1]]],[]],["task",[["in",["a",0,9]]],[]]] gives true 1 4
+- from 5 of [],[["task",[["out",["a",0,1]],["out",["a",4,1]]],[]],["task",[["in",["a",0,9]]],[]]] gives true 1 9
+- from 9 of [],[["task",[["out",["a",0,1]],["out",["a",4,1]]],[]],["task",[["in",["a",0,9]]],[]]] gives true 1 9
+x- from 1 of [],[["task",[["out",["a",0,1]]],[]],["task",[["out",["a",2,1]]],[]],["task",[["in",["a",0,5]]],[]]] gives true 1 2
+-x from 1 of [],[["task",[["out",["a",0,1]]],[]],["task",[["out",["a",2,1]]],[]],["task",[["in",["a",0,5]]],[]]] gives true 1 5
+xx from 3 of [],[["task",[["out",["a",0,1]]],[]],["task",[["out",["a",2,1]]],[]],["task",[["in",["a",0,5]]],[]]] gives false 0 5
+- from 1 of [],[["task",[["in",["a",0,5]]],[]],["task",[["out",["a",0,1]],["in",["a",1,3]],["out",["a",4,1]]],[]]] gives true 1 4"#;
 
 /// Whether the wait has to wait, how many children have not finished, and how many cells are free.
 pub(crate) fn awaited(alloc: Global, text: &str, shape: &Shape) -> Result<String, AllocError> {
     let Some((marks, text)) = text.split_once(" of ") else {
         return String::from_str(alloc, "no marks");
     };
+    let (marks, from) = marks.split_once(" from ").unwrap_or((marks, "0"));
+    let from = from.parse().unwrap_or(0);
     match read(alloc, text, shape) {
-        Ok(program) => said_of_last(alloc, marks, program.body.as_slice()),
+        Ok(program) => said_of_last(alloc, marks, from, program.body.as_slice()),
         Err(fault) => format!(in alloc; "{fault:?}"),
     }
 }
 
-fn said_of_last(alloc: Global, marks: &str, body: &[Stmt]) -> Result<String, AllocError> {
+fn said_of_last(
+    alloc: Global,
+    marks: &str,
+    from: usize,
+    body: &[Stmt],
+) -> Result<String, AllocError> {
     let Some((Stmt::Task(wait, _), children)) = body.split_last() else {
         return String::from_str(alloc, "no task");
     };
     let siblings = marked(alloc, marks, children)?;
     let (waits, unfinished) = (siblings.waits_for(wait), siblings.unfinished());
-    let free = siblings.count_free(wait, 0);
+    let free = siblings.count_free(wait, from);
     format!(in alloc; "{waits} {unfinished} {free}")
 }
 

@@ -44,8 +44,10 @@ fn refuse(alloc: Global, book: &mut Book, line: &str) -> Result<String, AllocErr
     last_reply(alloc, book, line)
 }
 
-/// Opens a line and gives up its run where it has one. The book is to be as before.
+/// Opens a line and gives up its run where it has one, twice. The second time the book is to be as before: the first time
+/// it may keep one program more.
 fn forget(alloc: Global, book: &mut Book, line: &str) -> Result<String, AllocError> {
+    undone(alloc, book, line)?;
     let before = format!(in alloc; "{book:?}")?;
     let said = undone(alloc, book, line)?;
     let after = format!(in alloc; "{book:?}")?;
@@ -127,6 +129,15 @@ fn ask_broken(alloc: Global, book: &mut Book, line: &str) -> Result<String, Allo
     ask(alloc, book, line.as_str())
 }
 
+/// How many programs a book says that it keeps: that stands last where it is printed.
+fn keeps(alloc: Global, book: &Book) -> Result<String, AllocError> {
+    let text = format!(in alloc; "{book:?}")?;
+    match text.as_str().rsplit_once("kept: ") {
+        Some((_, kept)) => String::from_str(alloc, kept),
+        None => String::from_str(alloc, "nothing"),
+    }
+}
+
 /// What is told of a row: a word says what is done with the line behind it.
 fn told(alloc: Global, book: &mut Book, word: &str, line: &str) -> Result<String, AllocError> {
     match word {
@@ -135,6 +146,7 @@ fn told(alloc: Global, book: &mut Book, word: &str, line: &str) -> Result<String
         "refuse" => refuse(alloc, book, line),
         "forget" => forget(alloc, book, line),
         "copy" => copy(alloc, book, line),
+        "keeps" => keeps(alloc, book),
         "begins" => tell_beginning(alloc, book),
         _ => tell(alloc, book),
     }
@@ -273,12 +285,57 @@ broken "a b" gives ["err",8,410]
 tell gives t1 Limits { arrays: 16, cells: 65536, tasks: 1024, log: 4096 } false 1 8 Cells { arrays: [] }
 ask ["run",["program",[],[["wait"],["wait"],["wait"]]]] gives ["done",9,0,3,[]]
 tell gives t1 Limits { arrays: 16, cells: 65536, tasks: 1024, log: 4096 } false 4 9 Cells { arrays: [] }
-copy ["run",["program",[["a",0,3]],[["wait"]]]] gives JobSpec { checked: Checked { program: Program { shows: [Section { array: 0, start: 0, len: 3 }], body: [Wait(None)], statements: 1, tasks: 0 } }, before: Cells { arrays: [[9, 2, 3]] } }"#;
+copy ["run",["program",[["a",0,3]],[["wait"]]]] gives JobSpec { checked: Checked { program: Program { shows: [Section { array: 0, start: 0, len: 3 }], body: [Wait(None)], statements: 1, tasks: 0 }, parts: [Wait(Run { assigns: Assigns { list: None }, uses: Decl { uses: [] } }, None)] }, before: Cells { arrays: [[9, 2, 3]] } }"#;
 
 #[test]
 fn runs_that_end_in_other_ways(rt: HostRuntime) {
     let none = Ok(Store::empty(rt.alloc()));
     assert_rows(&rt, rt.alloc(), Limits::usual(), none, RUNS);
+}
+
+const KEPT: &str = r#"ask ["new","a",3] gives ["ok",1]
+ask ["put","a",0,[1,2,3]] gives ["ok",2]
+keeps gives 0 }
+ask ["run",["program",[["a",0,3]],[["add",["c","a",0],1]]]] gives ["done",3,0,1,[[2,2,3]]]
+keeps gives 1 }
+ask ["run",["program",[["a",0,3]],[["add",["c","a",0],1]]]] gives ["done",4,0,1,[[3,2,3]]]
+refuse ["run",["program",[["a",0,3]],[["add",["c","a",0],1]]]] gives ["err",5,508]
+forget ["run",["program",[["a",0,3]],[["add",["c","a",0],1]]]] gives forgotten
+ask ["get","a",0,1] gives ["cells",6,[3]]
+ask ["run",["program",[],[["add",["c","b",0],1]]]] gives ["err",7,412]
+keeps gives 1 }
+ask ["new","b",1] gives ["ok",8]
+ask ["run",["program",[["a",0,3]],[["add",["c","a",0],1]]]] gives ["done",9,0,1,[[4,2,3]]]
+keeps gives 2 }
+ask ["free","b"] gives ["ok",10]
+ask ["run",["program",[["a",0,3]],[["add",["c","a",0],1]]]] gives ["done",11,0,1,[[5,2,3]]]
+keeps gives 2 }
+ask ["checkpoint"] gives ["ok",12]
+ask ["run",["program",[["a",0,3]],[["add",["c","a",0],1]]]] gives ["done",13,0,1,[[6,2,3]]]
+keeps gives 2 }
+ask ["run",["program",[],[["set",["c","a",0],0]]]] gives ["done",14,0,1,[]]
+ask ["run",["program",[],[["set",["c","a",0],1]]]] gives ["done",15,0,1,[]]
+ask ["run",["program",[],[["set",["c","a",0],2]]]] gives ["done",16,0,1,[]]
+ask ["run",["program",[],[["set",["c","a",0],3]]]] gives ["done",17,0,1,[]]
+ask ["run",["program",[],[["set",["c","a",0],4]]]] gives ["done",18,0,1,[]]
+ask ["run",["program",[],[["set",["c","a",0],5]]]] gives ["done",19,0,1,[]]
+ask ["run",["program",[],[["set",["c","a",0],6]]]] gives ["done",20,0,1,[]]
+keeps gives 8 }
+ask ["run",["program",[],[["for","i",0,20000,[["set",["c","a",0],0]]]]]] gives ["done",21,0,20000,[]]
+ask ["run",["program",[],[["for","i",0,20000,[["set",["c","a",0],1]]]]]] gives ["done",22,0,20000,[]]
+ask ["run",["program",[],[["for","i",0,20000,[["set",["c","a",0],2]]]]]] gives ["done",23,0,20000,[]]
+ask ["run",["program",[],[["for","i",0,20000,[["set",["c","a",0],3]]]]]] gives ["done",24,0,20000,[]]
+ask ["run",["program",[],[["for","i",0,20000,[["set",["c","a",0],4]]]]]] gives ["done",25,0,20000,[]]
+keeps gives 4 }
+ask ["run",["program",[["a",0,3]],[["add",["c","a",0],1]]]] gives ["done",26,0,1,[[5,2,3]]]
+keeps gives 4 }"#;
+
+/// The same line over the same arrays isn't read again, and is answered as if it were. A book tells how many programs it
+/// keeps: at most 8, with at most 80,000 statements in all.
+#[test]
+fn lines_that_come_again(rt: HostRuntime) {
+    let none = Ok(Store::empty(rt.alloc()));
+    assert_rows(&rt, rt.alloc(), Limits::usual(), none, KEPT);
 }
 
 /// Two arrays.

@@ -151,7 +151,7 @@ fn outcome_of_check(alloc: Global, program: Program, shape: &Shape) -> Result<St
     requires shape { array_lengths shape.now ≡ 3 ∷ [] }
 {
     match check(alloc, program, shape) {
-        Ok(checked) => left_by(alloc, &checked.copy(alloc)?.program),
+        Ok(checked) => left_by(alloc, &checked.program),
         Err(CheckFault::Offence(offence, place)) => {
             format!(in alloc; "{} {place}", offence.code())
         }

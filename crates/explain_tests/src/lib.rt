@@ -6,4 +6,6 @@ mod pages;
 #[cfg(test)]
 mod programs;
 #[cfg(test)]
+mod requests;
+#[cfg(test)]
 mod sessions;

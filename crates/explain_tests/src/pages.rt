@@ -1,5 +1,5 @@
 //! The pages of codes.
-use ot_explain::code_page;
+use ot_reason::code_page;
 use std::alloc::{AllocError, Global};
 use std::test::Fail;
 

@@ -33,28 +33,28 @@ const ROWS: [(&str, Explained, &str); 8] = [
     (
         "{\n{}\n[\"list\"]\n",
         Explained::SomeRefused,
-        "[\"err\",1,410]\n# 410: the line is no JSON, no UTF-8, or nested deeper than 127\n[\"err\",2,411]\n# 411: the line is JSON, but no request\n[\"arrays\",3,[]]\n",
+        "[\"err\",1,410]\n# 410: the line is no JSON, no UTF-8, or nested deeper than 127\n# EOF while parsing at line 1 column 1\n[\"err\",2,411]\n# 411: the line is JSON, but no request\n# a request is a list, and this is an object\n# a request begins with one of the words new, free, put, get, list, used, checkpoint and run\n[\"arrays\",3,[]]\n",
     ),
     (
         "[\"free\",\"a\"]\n[\"new\",\"a\",3]\n[\"new\",\"a\",1]\n[\"get\",\"a\",2,2]\n",
         Explained::SomeRefused,
-        "[\"err\",1,412]\n# 412: no array has this name\n[\"ok\",2]\n[\"err\",3,413]\n# 413: an array has this name already\n[\"err\",4,414]\n# 414: the array has no such cells\n",
+        "[\"err\",1,412]\n# 412: no array has this name\n# there is no array a\n# the tenant has no arrays\n[\"ok\",2]\n[\"err\",3,413]\n# 413: an array has this name already\n# the array a has 3 cells\n[\"err\",4,414]\n# 414: the array has no such cells\n# the array a has 3 cells, and index 2 + length 2 is 4\n",
     ),
     (
         "[\"new\",\"a\",65537]\n",
         Explained::SomeRefused,
-        "[\"err\",1,415]\n# 415: too many cells\n",
+        "[\"err\",1,415]\n# 415: too many cells\n# the tenant has 0 cells, and may have 65536: 65537 more are too many\n",
     ),
     ("[\"new\",\"a\",3]", Explained::AllTaken, ""),
     (
         "[\"get\",\"a\",0,1]\n[\"checkpoint\"]\n[\"get\",\"a\",0,1]\n",
         Explained::SomeRefused,
-        "[\"err\",1,412]\n# 412: no array has this name\n[\"ok\",2]\n[\"err\",3,412]\n# 412: no array has this name\n",
+        "[\"err\",1,412]\n# 412: no array has this name\n# there is no array a\n# the tenant has no arrays\n[\"ok\",2]\n[\"err\",3,412]\n# 412: no array has this name\n# there is no array a\n# the tenant has no arrays\n",
     ),
     (
         "[ \"bye\"]\n",
         Explained::SomeRefused,
-        "[\"err\",1,411]\n# 411: the line is JSON, but no request\n",
+        "[\"err\",1,411]\n# 411: the line is JSON, but no request\n# no request begins with \"bye\"\n# a request begins with one of the words new, free, put, get, list, used, checkpoint and run\n# a goodbye is [\"bye\"] alone, with nothing between its signs\n",
     ),
 ];
 

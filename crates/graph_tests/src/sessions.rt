@@ -1,6 +1,6 @@
 //! Sessions: which run is the last, and which line is bad.
 use ot_front::Reading;
-use ot_last::{LastFault, last_run};
+use ot_last::{LastFault, Untaken, last_run};
 use std::alloc::Global;
 use std::test::Fail;
 
@@ -70,16 +70,19 @@ const FAULTS: [(&str, LastFault); 7] = [
         "[\"bye\"]\n[\"new\",\"a\",1]\n[\"run\",[\"program\",[],[]]]\n",
         LastFault::NoRun,
     ),
-    ("{\n", LastFault::BadLine(1)),
-    ("[\"new\",\"a\",1]\n\n", LastFault::BadLine(2)),
+    ("{\n", LastFault::BadLine(1, Untaken::Refused(410))),
+    (
+        "[\"new\",\"a\",1]\n\n",
+        LastFault::BadLine(2, Untaken::Refused(410)),
+    ),
     // A run that is refused, and one that could race.
     (
         "[\"run\",[\"program\",[],[]]]\n[\"run\",[\"program\",[],[[\"set\",[\"c\",\"a\",0],7]]]]\n",
-        LastFault::BadLine(2),
+        LastFault::BadLine(2, Untaken::Refused(412)),
     ),
     (
         "[\"new\",\"a\",1]\n[\"run\",[\"program\",[],[[\"task\",[[\"out\",[\"a\",0,1]]],[]],[\"set\",[\"c\",\"a\",0],7]]]]\n[\"run\",[\"program\",[],[]]]\n",
-        LastFault::BadLine(2),
+        LastFault::BadLine(2, Untaken::Offends(427, 2)),
     ),
 ];
 
@@ -102,7 +105,10 @@ fn bad_lines_are_told(rt: HostRuntime) -> Result<(), Fail> {
 
 /// How many spaces stand behind a list request that follows another. With its 8 bytes the line is as long as a
 /// line may be, or a byte longer.
-const LONG: [(usize, LastFault); 2] = [(65_528, LastFault::NoRun), (65_529, LastFault::BadLine(2))];
+const LONG: [(usize, LastFault); 2] = [
+    (65_528, LastFault::NoRun),
+    (65_529, LastFault::BadLine(2, Untaken::Long)),
+];
 
 fn first_other_long(alloc: Global) -> Result<Option<usize>, Fail> {
     for (spaces, fault) in &LONG {

@@ -1,5 +1,5 @@
-//! What a task costs where one thread claims, runs and settles the pieces of a job one after another. It measures,
-//! and tests nothing: scripts/job_bench runs it.
+//! What a task costs where one thread claims, runs and settles the pieces of a job one after another, by shapes of
+//! jobs: scripts/job_bench measures by it.
 use super::shapes::{SIZES, Shape, wide};
 use ot_check::JobSpec;
 use ot_job::{Job, State};
@@ -73,13 +73,19 @@ fn row<R: Clock>(rt: &R, alloc: Global, shape: Shape) -> Result<String, Fail> {
     Ok(text)
 }
 
-/// It prints a row for each shape where JOB_BENCH is set, and does nothing otherwise.
+/// The job of each shape ends where its pieces are settled one after another: a small one of each, or, where JOB_BENCH
+/// is set, one of each size, of which a row is printed.
 #[test]
 fn shapes_of_jobs(rt: HostRuntime) -> Result<(), Fail> {
+    let alloc = rt.alloc();
     if env::var(&rt, "JOB_BENCH").is_err() {
+        let [small, _, _] = SIZES;
+        for shape in Shape::ALL {
+            let spec = shape.job(alloc, small)?;
+            let _ = once(&rt, alloc, &spec).ok_or("not ended")?;
+        }
         return Ok(());
     }
-    let alloc = rt.alloc();
     for shape in Shape::ALL {
         let text = row(&rt, alloc, shape)?;
         println!(rt; "{text}")?;

@@ -274,14 +274,14 @@ const SCENES: [Scene; 2] = [
 ];
 
 /// What serves connections. A thread borrows a pool as such a service.
-trait Service {
+trait Service<D> {
     /// What is written on connections, one after another, up to the first for which there is no memory.
-    fn written<R: Wait>(&self, rt: &R, alloc: Global, desk: &Desk, inputs: &[&str]) -> Vec<u8>;
+    fn written<R: Wait>(&self, rt: &R, alloc: Global, desk: &D, inputs: &[&str]) -> Vec<u8>;
 
     fn close<R: Wait>(&self, rt: &R);
 }
 
-impl<L: Ledger> Service for Pool<L> {
+impl<L: Ledger> Service<Desk> for Pool<L> {
     fn written<R: Wait>(&self, rt: &R, alloc: Global, desk: &Desk, inputs: &[&str]) -> Vec<u8> {
         let mut written = Vec::new(alloc);
         for input in inputs {
@@ -302,11 +302,11 @@ impl<L: Ledger> Service for Pool<L> {
 
 /// The connection of `t1`, and once a piece of it is held at the door those beside it. When these are over the door
 /// is opened.
-fn side_by_side<P: Service + Sync, R: Threads + Wait + Sync>(
+fn side_by_side<P: Service<D> + Sync, D: Sync, R: Threads + Wait + Sync>(
     rt: &R,
     alloc: Global,
     service: &P,
-    desk: &Desk,
+    desk: &D,
     door: &Door,
     scene: &Scene,
 ) -> (Vec<u8>, Vec<u8>) {
@@ -318,11 +318,11 @@ fn side_by_side<P: Service + Sync, R: Threads + Wait + Sync>(
 }
 
 /// What is written on the connections beside the first. Where none of its pieces has come there are none.
-fn connect_behind<P: Service, R: Wait>(
+fn connect_behind<P: Service<D>, D, R: Wait>(
     rt: &R,
     alloc: Global,
     service: &P,
-    desk: &Desk,
+    desk: &D,
     door: &Door,
     scene: &Scene,
 ) -> Vec<u8> {

@@ -7,6 +7,7 @@ use crate::connections::{GREETING, connect};
 use ot_book::{Book, Solo, reply_text};
 use ot_front::{End, FrontFault, Reading, Writing, serve};
 use ot_pool::Pool;
+use ot_store::{Limits, Store};
 use std::alloc::{AllocError, Global};
 use std::marker::Brand;
 use std::sync::Wait;
@@ -15,12 +16,19 @@ use std::sync::ledger::{Blank, Ledger};
 /// Makes an array of 1, 2, 3.
 const BEFORE: &str = "[\"new\",\"a\",3]\n[\"put\",\"a\",0,[1,2,3]]\n";
 
+/// Gives the array 1, 2, 3.
+const PUT: &str = "[\"put\",\"a\",0,[1,2,3]]\n";
+
 /// Its second task reads what the first writes.
 const RUN: &str =
     "[\"run\",[\"program\",[[\"a\",0,3]],[[\"task\",[[\"out\",[\"a\",0,1]]],[[\"set\",[\"c\",\"a\",0],7]]],\
 [\"task\",[[\"in\",[\"a\",0,1]],[\"out\",[\"a\",1,1]]],[[\"set\",[\"c\",\"a\",1],[\"+\",[\"c\",\"a\",0],1]]]],[\"wait\"]]]]\n";
 
 const BEHIND: &str = "[\"get\",\"a\",0,3]\n";
+
+const FIRST_DONE: &str = "[\"done\",1,2,5,[[7,8,0]]]\n";
+
+const PUT_DONE: &str = "[\"ok\",2]\n";
 
 const DONE: &str = "[\"done\",3,2,5,[[7,8,3]]]\n";
 
@@ -60,6 +68,40 @@ fn begun(alloc: Global) -> Option<Book>
         Ok(over) if over.written.as_slice() == b"[\"ok\",1]\n[\"ok\",2]\n".as_slice() => Some(book),
         _ => None,
     }
+}
+
+/// A book with an array of three cells, that has no requests. It is none where memory is refused.
+fn with_array(alloc: Global) -> Option<Book>
+    ensures { IfSome result (λ book. book.pending ≡ None) }
+{
+    let mut store = Store::empty(alloc);
+    if store.create(alloc, "a", 3, &Limits::usual()).is_err() {
+        return None;
+    }
+    Book::new(alloc, "t1", Limits::usual(), store).ok()
+}
+
+/// Whether a session of this line writes this. It writes something else where memory is refused.
+fn answers(alloc: Global, book: &mut Book, line: &str, written: &str) -> bool
+    requires { book.old.pending ≡ None }
+    ensures { book.new.pending ≡ None }
+{
+    match session(alloc, book, line) {
+        Ok(over) => over.written.as_slice() == written.as_bytes(),
+        Err(_) => false,
+    }
+}
+
+/// A book whose first two requests are the run, over the same array, and a put of what the array has before the run. It
+/// is none where memory is refused before the run comes again.
+fn begun_again(alloc: Global) -> Option<Book>
+    ensures { IfSome result (λ book. book.pending ≡ None) }
+{
+    let mut book = with_array(alloc)?;
+    if answers(alloc, &mut book, RUN, FIRST_DONE) && answers(alloc, &mut book, PUT, PUT_DONE) {
+        return Some(book);
+    }
+    None
 }
 
 /// The third reply, or nothing. Where memory is refused it is asked again.
@@ -155,22 +197,33 @@ fn told_of_run(alloc: Global, book: &mut Book) -> Result<Option<&'static str>, A
     Ok(None)
 }
 
+/// What is printed of a run for which memory is refused once at most. It is none where the run came to another end.
+fn told_of(alloc: Global, book: Option<Book>) -> Option<&'static str>
+    requires { IfSome book (λ book. book.pending ≡ None) }
+{
+    let Some(mut book) = book else {
+        return Some("memory was refused before the run");
+    };
+    match told_of_run(alloc, &mut book) {
+        Ok(told) => told,
+        Err(_) => Some("memory was refused beside the run"),
+    }
+}
+
 /// It passes whichever allocation fails, and prints what came of it.
 #[test]
 fn a_run_is_lost_whole_or_done_whole(rt: HostRuntime) {
-    let Some(mut book) = begun(rt.alloc()) else {
-        let _ = println!(rt; "memory was refused before the run");
-        return;
-    };
-    match told_of_run(rt.alloc(), &mut book) {
-        Ok(told) => {
-            assert!(rt; told.is_some());
-            let _ = println!(rt; "{}", told.unwrap_or(""));
-        }
-        Err(_) => {
-            let _ = println!(rt; "memory was refused beside the run");
-        }
-    }
+    let told = told_of(rt.alloc(), begun(rt.alloc()));
+    assert!(rt; told.is_some());
+    let _ = println!(rt; "{}", told.unwrap_or(""));
+}
+
+/// The same of a run whose line came before.
+#[test]
+fn a_run_that_comes_again_is_lost_whole_or_done_whole(rt: HostRuntime) {
+    let told = told_of(rt.alloc(), begun_again(rt.alloc()));
+    assert!(rt; told.is_some());
+    let _ = println!(rt; "{}", told.unwrap_or(""));
 }
 
 /// A connection, and what is written on it where nothing is refused.

@@ -10,6 +10,7 @@ use ot_model::{ArrayShape, Cells, Program, Shape};
 use ot_program::{ProgramFault, read_program};
 use serde_json::Value;
 use std::alloc::{AllocError, Global};
+use std::sync::Arc;
 
 /// An array `a` of so many cells, and a limit of task statements.
 pub fn one_array(alloc: Global, len: u32, tasks: u32) -> Result<Shape, AllocError>
@@ -62,6 +63,7 @@ pub fn job_over(alloc: Global, array: Vec<u64>, body: &str) -> Result<JobSpec, P
     let Ok(checked) = check(alloc, program, &shape) else {
         return Err(ProgramFault::Memory);
     };
+    let checked = Arc::new(alloc, checked)?;
     let before = Cells::new(vec![in alloc; array]?);
     Ok(JobSpec::new(checked, before))
 }
