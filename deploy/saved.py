@@ -97,7 +97,7 @@ def numbers(name, cells):
             at += 1
             continue
         end, last, size = at, at, 0
-        while end < len(cells) and end - last < GAP and size < LINE:
+        while end < len(cells) and end - last <= GAP and size < LINE:
             if cells[end]:
                 last = end
             size += len(str(cells[end])) + 1
@@ -169,12 +169,12 @@ def put_back(session, text, replace=False, exact=False):
 
 
 def clear(session, replace):
+    session.ask(["checkpoint"])  # a full log is no hindrance
     found = session.ask(["list"])[2]
     if found and not replace:
         raise Fault("the tenant has arrays")
     for name, _ in found:
         session.ask(["free", name])
-    session.ask(["checkpoint"])
 
 
 def go_on(session, number, units):
