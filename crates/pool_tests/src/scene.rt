@@ -170,7 +170,7 @@ impl Scene {
         door: &Door,
     ) -> Result<String, AllocError> {
         let mut all = String::new(alloc);
-        for told in side_by_side(rt, alloc, pool, self, door)? {
+        for told in side_by_side(rt, alloc, pool, self, self.clients(), door)? {
             all.push_str(told?.as_str())?;
             all.push('\n')?;
         }
@@ -178,21 +178,21 @@ impl Scene {
     }
 }
 
-/// Where scenes are played. A client's thread borrows a pool as such a place: so whether it may is asked of the
-/// pool alone, and not of all that it is made of.
-trait Stage {
+/// Where scenes are played. A client's thread borrows a pool as such a place, and a scene as what is played there: so
+/// whether it may is asked of the two alone, and not of all that they are made of.
+trait Stage<S> {
     /// What a client of a scene is told.
     fn part<R: Wait>(
         &self,
         rt: &R,
         alloc: Global,
-        scene: &Scene,
+        scene: &S,
         door: &Door,
         client: u32,
     ) -> Result<String, AllocError>;
 }
 
-impl<L: Ledger> Stage for Pool<L> {
+impl<L: Ledger> Stage<Scene> for Pool<L> {
     fn part<R: Wait>(
         &self,
         rt: &R,
@@ -205,18 +205,19 @@ impl<L: Ledger> Stage for Pool<L> {
     }
 }
 
-/// What each client of a scene is told.
-fn side_by_side<S: Stage + Sync, R: Threads + Wait + Sync>(
+/// What each of so many clients of a scene is told.
+fn side_by_side<P: Stage<S> + Sync, S: Sync, R: Threads + Wait + Sync>(
     rt: &R,
     alloc: Global,
-    stage: &S,
-    scene: &Scene,
+    stage: &P,
+    scene: &S,
+    clients: usize,
     door: &Door,
 ) -> Result<Vec<Result<String, AllocError>>, AllocError> {
     thread::map_indices(
         rt,
         alloc,
-        scene.clients(),
+        clients,
         &|client: usize| {
             let client = u32::try_from(client).unwrap_or(NO_TENANT);
             stage.part(rt, alloc, scene, door, client)
