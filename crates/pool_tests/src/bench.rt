@@ -2,9 +2,7 @@
 ghost use Rattle.std.specs.Prelude.{◌≡◌, ◌≤◌};
 
 use super::crowd::{Crowd, Known};
-use super::door::Door;
-use super::play::play;
-use super::scene::Scene;
+use super::play::play_crowd;
 use super::shapes::{SIZES, Shape};
 use ot_book::NotDone;
 use ot_check::JobSpec;
@@ -86,14 +84,14 @@ fn least<R: Threads + Wait + Sync + Clock>(
     alloc: Global,
     workers: u32,
     times: u32,
-    scene: &Scene,
+    crowd: &Crowd,
 ) -> Option<Duration>
     requires { (1 ≤ workers) × (workers ≤ 16) }
 {
     let mut least: Option<Duration> = None;
     for _ in 0..5_u32 {
         let begun = Instant::now(rt).ok()?;
-        let told = play(rt, alloc, 1, workers, &Door::none(), scene).ok()?;
+        let told = play_crowd(rt, alloc, 1, workers, crowd).ok()?;
         let taken = begun.elapsed(rt).ok()?.checked_div(times)?;
         if told.said.as_str() != "0 others\n" {
             return None;
@@ -125,11 +123,11 @@ fn row<R: Threads + Wait + Sync + Clock>(
     let alone = drive(rt, alloc, &spec)?;
     let job = Known::new(alloc, spec).ok()?;
     let tasks = job.tasks();
-    let scene = Scene::Many(Crowd {
+    let crowd = Crowd {
         clients: 1,
         asked: times,
         jobs: vec![in alloc; job].ok()?,
-    });
+    };
     let mut text = format!(in alloc;
         "{:6} {:6} {:6}",
         alone.pieces,
@@ -138,7 +136,7 @@ fn row<R: Threads + Wait + Sync + Clock>(
     )
     .ok()?;
     for workers in [1, 2, 4] {
-        let taken = least(rt, alloc, workers, times, &scene)?;
+        let taken = least(rt, alloc, workers, times, &crowd)?;
         let column = format!(in alloc;
             " {:8} {:4}%",
             for_each_task(taken, tasks),

@@ -1,16 +1,16 @@
 //! Many clients, who ask for one job after the other.
 ghost use Rattle.std.specs.Prelude.{◌≤◌};
 
-use super::door::Door;
-use super::play::play;
+use super::play::play_crowd;
 use super::reading::job_of;
-use super::scene::Scene;
+use super::scene::{NO_TENANT, in_lines};
 use ot_book::{Executor, NotDone, Solo};
 use ot_check::{JobSpec, Outcome};
 use ot_pool::{Client, Pool};
 use std::alloc::{AllocError, Global};
 use std::sync::Wait;
 use std::sync::ledger::Ledger;
+use std::thread;
 use std::thread::Threads;
 
 /// A job, and its outcome where one thread runs each of its tasks where it is created.
@@ -83,10 +83,65 @@ impl Crowd {
         format!(in alloc; "{others} others")
     }
 
+    /// What the clients are told, one after the other, with a line feed behind each.
+    pub(crate) fn played<L: Ledger + Send + Sync, R: Threads + Wait + Sync>(
+        &self,
+        rt: &R,
+        alloc: Global,
+        pool: &Pool<L>,
+    ) -> Result<String, AllocError> {
+        let clients = self.clients as usize;
+        in_lines(alloc, side_by_side(rt, alloc, pool, self, clients)?)
+    }
+
     /// What all clients are told whose jobs all have their outcomes.
     pub(crate) fn all_meant(&self, alloc: Global) -> Result<String, AllocError> {
         "0 others\n".repeat(alloc, self.clients as usize)
     }
+}
+
+/// Where a crowd asks. A client's thread borrows a pool as such a place, and a crowd as what asks there: so whether it
+/// may is asked of the two alone, and not of all that they are made of.
+trait Asked<C> {
+    /// What a client of a crowd is told.
+    fn told<R: Wait>(
+        &self,
+        rt: &R,
+        alloc: Global,
+        crowd: &C,
+        client: u32,
+    ) -> Result<String, AllocError>;
+}
+
+impl<L: Ledger> Asked<Crowd> for Pool<L> {
+    fn told<R: Wait>(
+        &self,
+        rt: &R,
+        alloc: Global,
+        crowd: &Crowd,
+        client: u32,
+    ) -> Result<String, AllocError> {
+        crowd.ask(rt, alloc, self, client)
+    }
+}
+
+/// What each of so many clients of a crowd is told.
+fn side_by_side<P: Asked<C> + Sync, C: Sync, R: Threads + Wait + Sync>(
+    rt: &R,
+    alloc: Global,
+    asked: &P,
+    crowd: &C,
+    clients: usize,
+) -> Result<Vec<Result<String, AllocError>>, AllocError> {
+    thread::map_indices(
+        rt,
+        alloc,
+        clients,
+        &|client: usize| {
+            let client = u32::try_from(client).unwrap_or(NO_TENANT);
+            asked.told(rt, alloc, crowd, client)
+        },
+    )
 }
 
 /// Bodies over 1 to 8: chains, readers beside writers, tasks in tasks, and reductions with two to eight
@@ -163,8 +218,7 @@ fn is_told<R: Threads + Wait + Sync>(
     let said = crowd.all_meant(alloc)?;
     let by_tenant = vec![in alloc; of_each; clients as usize]?;
     let total = of_each.saturating_mul(u64::from(clients));
-    let scene = Scene::Many(crowd);
-    let told = play(rt, alloc, clients, workers, &Door::none(), &scene)?;
+    let told = play_crowd(rt, alloc, clients, workers, &crowd)?;
     Ok(told.is(said.as_str(), by_tenant.as_slice(), total))
 }
 

@@ -1,5 +1,4 @@
 //! What clients do on a pool, and what each of them is told.
-use super::crowd::Crowd;
 use super::door::Door;
 use super::players::{By, ask, session};
 use ot_pool::{Pool, close};
@@ -26,7 +25,6 @@ pub(crate) enum Scene {
     Unknown,
     /// A session asks of a tenant that the pool doesn't have.
     UnknownSession,
-    Many(Crowd),
 }
 
 /// Its second task reads what the first writes. It takes six pieces and leaves 7, 8, 3.
@@ -46,7 +44,7 @@ const LINES: &str = r#"["new","a",3]
 "#;
 
 /// A number that no pool of a test has.
-const NO_TENANT: u32 = 64;
+pub(crate) const NO_TENANT: u32 = 64;
 
 /// What the job of a tenant is.
 fn body_of(tenant: u32) -> &'static str {
@@ -105,6 +103,19 @@ fn close_behind<L: Ledger, R: Wait>(
     format!(in alloc; "{came} {one} {other}")
 }
 
+/// What clients are told, one after the other, with a line feed behind each.
+pub(crate) fn in_lines(
+    alloc: Global,
+    all_told: Vec<Result<String, AllocError>>,
+) -> Result<String, AllocError> {
+    let mut lines = String::new(alloc);
+    for told in all_told {
+        lines.push_str(told?.as_str())?;
+        lines.push('\n')?;
+    }
+    Ok(lines)
+}
+
 impl Scene {
     fn clients(&self) -> usize {
         match self {
@@ -114,7 +125,6 @@ impl Scene {
             | Scene::Asleep(_)
             | Scene::Closing(_, _) => 2,
             Scene::Unknown | Scene::UnknownSession => 1,
-            Scene::Many(crowd) => crowd.clients as usize,
         }
     }
 
@@ -152,7 +162,6 @@ impl Scene {
         client: u32,
     ) -> Result<String, AllocError> {
         match self {
-            Scene::Many(crowd) => crowd.ask(rt, alloc, pool, client),
             Scene::Unknown => ask(rt, alloc, pool, NO_TENANT, By::Client, READ_AFTER_WRITE),
             Scene::UnknownSession => session(rt, alloc, pool, NO_TENANT, LINES),
             Scene::Asleep(body) if client == 0 => ask_and_open(rt, alloc, pool, door, body),
@@ -169,30 +178,25 @@ impl Scene {
         pool: &Pool<L>,
         door: &Door,
     ) -> Result<String, AllocError> {
-        let mut all = String::new(alloc);
-        for told in side_by_side(rt, alloc, pool, self, self.clients(), door)? {
-            all.push_str(told?.as_str())?;
-            all.push('\n')?;
-        }
-        Ok(all)
+        in_lines(alloc, side_by_side(rt, alloc, pool, self, door)?)
     }
 }
 
-/// Where scenes are played. A client's thread borrows a pool as such a place, and a scene as what is played there: so
-/// whether it may is asked of the two alone, and not of all that they are made of.
-trait Stage<S> {
+/// Where scenes are played. A client's thread borrows a pool as such a place: so whether it may is asked of the
+/// pool alone, and not of all that it is made of.
+trait Stage {
     /// What a client of a scene is told.
     fn part<R: Wait>(
         &self,
         rt: &R,
         alloc: Global,
-        scene: &S,
+        scene: &Scene,
         door: &Door,
         client: u32,
     ) -> Result<String, AllocError>;
 }
 
-impl<L: Ledger> Stage<Scene> for Pool<L> {
+impl<L: Ledger> Stage for Pool<L> {
     fn part<R: Wait>(
         &self,
         rt: &R,
@@ -205,19 +209,18 @@ impl<L: Ledger> Stage<Scene> for Pool<L> {
     }
 }
 
-/// What each of so many clients of a scene is told.
-fn side_by_side<P: Stage<S> + Sync, S: Sync, R: Threads + Wait + Sync>(
+/// What each client of a scene is told.
+fn side_by_side<S: Stage + Sync, R: Threads + Wait + Sync>(
     rt: &R,
     alloc: Global,
-    stage: &P,
-    scene: &S,
-    clients: usize,
+    stage: &S,
+    scene: &Scene,
     door: &Door,
 ) -> Result<Vec<Result<String, AllocError>>, AllocError> {
     thread::map_indices(
         rt,
         alloc,
-        clients,
+        scene.clients(),
         &|client: usize| {
             let client = u32::try_from(client).unwrap_or(NO_TENANT);
             stage.part(rt, alloc, scene, door, client)
