@@ -28,4 +28,3 @@ pub mod ApartLemmas
 pub mod FoldLemmas
 pub mod TouchLemmas
 pub mod InsideLemmas
-pub mod OneLemmas

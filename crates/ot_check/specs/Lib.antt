@@ -7,4 +7,3 @@ pub mod Jobs
 pub mod walk
 pub mod FirstOffence
 pub mod Laws
-pub mod one

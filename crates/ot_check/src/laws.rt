@@ -2,7 +2,6 @@
 //! caller that needs the law calls it.
 ghost use Rattle.ot_check.specs.FirstOffence.{FirstOffenceIsFirst};
 ghost use Rattle.ot_check.specs.Laws.{Apart, Inside};
-ghost use Rattle.ot_check.specs.one.Upward.{FirstOffenceIsKept, OffencesAreKept};
 ghost use Rattle.ot_check.specs.walk.Fine.{DisciplinedIsFine};
 
 /// The first offence of a body is the first of its offences on paths, and no other value is.
@@ -25,16 +24,4 @@ pub fn inside()
 /// A body that offends nowhere is fine, statement by statement, from no children and no open group.
 pub fn disciplined_is_fine()
     ensures { DisciplinedIsFine }
-{}
-
-/// A body of the first profile, whose reductions are all sums, offends where the first profile
-/// said, and in the same way.
-pub fn offences_are_kept()
-    ensures { OffencesAreKept }
-{}
-
-/// What a check tells of a body of the first profile is the first of the offences that the first
-/// profile defined, and no other value is.
-pub fn first_offence_is_kept()
-    ensures { FirstOffenceIsKept }
 {}

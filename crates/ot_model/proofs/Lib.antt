@@ -8,4 +8,3 @@ pub mod NamesLemmas
 pub mod CountsLemmas
 pub mod SerialLemmas
 pub mod SameLemmas
-pub mod OneLemmas

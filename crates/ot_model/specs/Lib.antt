@@ -15,4 +15,3 @@ pub mod Runs
 pub mod Programs
 pub mod Code
 pub mod Signs
-pub mod one

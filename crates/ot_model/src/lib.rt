@@ -6,7 +6,6 @@ pub mod cells;
 mod declared;
 pub mod expr;
 pub mod fold;
-pub mod laws;
 mod meeting;
 pub mod plain;
 pub mod program;

@@ -32,4 +32,3 @@ pub mod Accepted
 pub mod PrintedBack
 pub mod PrintedClean
 pub mod PrintedAccepted
-pub mod OneLemmas

@@ -11,4 +11,3 @@ pub mod Returned
 pub mod Accepted
 pub mod Printed
 pub mod walk
-pub mod one

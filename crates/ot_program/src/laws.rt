@@ -2,7 +2,6 @@
 //! the law calls it.
 ghost use Rattle.ot_program.specs.Printed.{PrintedReadsAsItself, PrintedIsAccepted};
 ghost use Rattle.ot_program.specs.Accepted.{AcceptedIsSmall};
-ghost use Rattle.ot_program.specs.one.Upward.{FirstIsNotSecond, ReadingIsKept};
 
 /// What is printed of a tree denotes the tree.
 pub fn printed_reads_as_itself()
@@ -18,11 +17,4 @@ pub fn printed_is_accepted()
 /// The tree of a program that is accepted, measured by itself, is within the limits.
 pub fn accepted_is_small()
     ensures { AcceptedIsSmall }
-{}
-
-/// A text that doesn't begin with `program2` is read as the first profile defined: the same program,
-/// each of its folds by `+`, or the same fault. None that begins with `program` does.
-pub fn reading_is_kept()
-    ensures kept { ReadingIsKept }
-    ensures first { FirstIsNotSecond }
 {}

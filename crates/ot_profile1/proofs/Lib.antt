@@ -1,0 +1,4 @@
+mod Profiles
+mod SerialLemmas
+mod OffenceLemmas
+mod ReadingLemmas
