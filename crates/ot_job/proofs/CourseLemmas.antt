@@ -57,7 +57,7 @@ use Rattle.ot_job.proofs.EnteredLemmas.{each-settled}
 use Rattle.ot_job.proofs.HoldingLemmas.{course-holds, course-apart}
 use Rattle.ot_job.proofs.StopLemmas.{sound-piece, may-run}
 use Rattle.ot_job.proofs.OpeningLemmas.{open-settled, open-back}
-use Rattle.ot_job.proofs.SettleLemmas.{run_of, is-known, cells-there}
+use Rattle.ot_job.proofs.SettleLemmas.{run_of, has-piece, cells-there}
 use Rattle.ot_job.proofs.WellLemmas.{settle-may}
 use Rattle.ot_job.proofs.LetsLemmas.{lets-piece, lets-test}
 use Rattle.ot_job.proofs.InputsLemmas.{has-inputs, inputs-kept}
@@ -105,7 +105,7 @@ module _ (j : Live) (w : IsWell j) (working : j.failing ≡ false) (d : Came) (o
   well = o.runs i run out.0.1
 
   known : i < length j.regions
-  known = is-known j d (settle-may j w o) out
+  known = (has-piece j.regions d out).known
 
   -- ---- the piece
 

@@ -23,7 +23,7 @@ use Rattle.ot_job.specs.Live.{Live}
 use Rattle.ot_job.specs.Taken.{Taken}
 use Rattle.ot_task.specs.Pieces.{behind, test_of, begun}
 use Rattle.ot_job.specs.Whole.{with_loan, loans_out}
-use Rattle.ot_job.proofs.SettleLemmas.{run_of}
+use Rattle.ot_job.proofs.SettleLemmas.{run_of, runs-within}
 use Rattle.ot_job.specs.Claiming.{is_claimable, claimable_of, picked}
 use Rattle.ot_task.specs.Waits.{is_let_go}
 use Rattle.ot_depend.specs.Siblings.{is_ready}
@@ -42,7 +42,7 @@ use Rattle.ot_job.proofs.KeptLemmas.{at-updated, at-updated-other, at-more, at-n
 use Rattle.ot_job.proofs.SoundLemmas.{at-past}
 use Rattle.ot_job.proofs.WellLemmas.{claimable-idle}
 use Rattle.ot_job.proofs.PickLemmas.{picked-claimable}
-use Rattle.ot_job.proofs.StartLemmas.{runs-within, each-ended, one-out, root-light}
+use Rattle.ot_job.proofs.StartLemmas.{each-ended, one-out, root-light}
 use Rattle.ot_job.proofs.MovesLemmas.{Alike, tell, tell-field, others-moved, still-out, loans-settled}
 use Rattle.ot_job.proofs.WeighingLemmas.{weight-begun}
 

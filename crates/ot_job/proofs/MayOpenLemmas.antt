@@ -39,9 +39,9 @@ use Rattle.ot_job.proofs.KeptLemmas.{at-updated, at-updated-other}
 use Rattle.ot_job.proofs.MovesLemmas.{one-less}
 use Rattle.ot_job.proofs.OpenLemmas.{MayHold, holders-agree, placed, group-holds, piece-holds}
 use Rattle.ot_job.proofs.OpeningLemmas.{has-cell, kept-new, meets-none, not_summed}
-use Rattle.ot_job.proofs.StartLemmas.{runs-within}
 use Rattle.ot_job.proofs.StopLemmas.{placed-piece}
 use Rattle.ot_job.proofs.WholeLemmas.{loans-each}
+use Rattle.ot_job.proofs.SettleLemmas.{runs-within}
 
 -- ---- a group comes next in a task whose piece is out
 

@@ -29,6 +29,10 @@ at-here [] i t within is = absurd (omega (arith, within))
 at-here (x ∷ tasks) zero t within is = sym is
 at-here (x ∷ tasks) (suc i) t within is = at-here tasks i t (omega (arith, within)) is
 
+-- the place that a record tells is its task's
+pub place-told : (tasks : List Region) (i : ℕ) (t : Region) → i < length tasks → t ≡ get_or tasks i t → (place : ℕ × ℕ) → place ≡ (t.parent, t.child) → (place.0 ≡ (at tasks i).parent) × (place.1 ≡ (at tasks i).child)
+place-told tasks i t within here place is = subst (λ (r : Region). (place.0 ≡ r.parent) × (place.1 ≡ r.child)) (sym (at-here tasks i t within here)) (ap (λ (q : ℕ × ℕ). q.0) is, ap (λ (q : ℕ × ℕ). q.1) is)
+
 -- ---- ready
 
 -- whether an earlier sibling lets one with these uses run

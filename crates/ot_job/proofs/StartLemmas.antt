@@ -43,7 +43,7 @@ use Rattle.ot_job.proofs.Kept.{touch-all}
 use Rattle.ot_job.proofs.KeptLemmas.{at-updated, at-updated-other}
 use Rattle.ot_job.proofs.FreeLemmas.{at-whole}
 use Rattle.ot_job.proofs.OpeningLemmas.{none-open, open-none, none-combined}
-use Rattle.ot_job.proofs.SettleLemmas.{run_of}
+use Rattle.ot_job.proofs.SettleLemmas.{run_of, runs-within}
 use Rattle.ot_job.proofs.WellLemmas.{out-contained}
 use Rattle.ot_job.proofs.MovesLemmas.{one-less}
 
@@ -196,11 +196,6 @@ ended-meaning j w working ended =
     ∙ o.kept
 
 -- ---- a piece comes back without results
-
-pub runs-within : (rs : List Region) (i : ℕ) (run : Run) → (at rs i).running ≡ Some run → i < length rs
-runs-within [] i run is = cc
-runs-within (r ∷ rs) zero run is = omega arith
-runs-within (r ∷ rs) (suc i) run is = omega (arith, runs-within rs i run is)
 
 pub fails-out : (j : Live) (d : Came) → IsWell j → (out : IsOut j.regions d) → Contains j.owned.out (loan_of out.0.0 d.lent)
 fails-out j d w out =

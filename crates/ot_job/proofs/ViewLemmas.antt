@@ -37,10 +37,6 @@ children_at-here [] i r within is = absurd (omega (arith, within))
 children_at-here (x ∷ rs) zero r within is = ap (λ (y : Region). length y.children) (sym is)
 children_at-here (x ∷ rs) (suc i) r within is = children_at-here rs i r (omega (arith, within)) is
 
-pub if_ok_also : {T E : Type 0} {P Q : T → Type 0} (r : Result T E) → ((x : T) → P x → Q x) → IfOk r P → IfOk r Q
-if_ok_also (Ok x) f h = f x h
-if_ok_also (Err e) f h = h
-
 -- what is said of an answer alone says nothing of a refusal
 pub on_ok_of_err : {T E : Type 0} (P : Type 0) (r : Result T E) → IsErr r → OnOk r P
 on_ok_of_err P (Ok x) h = absurd (true≢false (sym h))
@@ -53,10 +49,6 @@ if_ok_of_err P (Err e) h = tt
 pub on_err_always : {T E P : Type 0} (r : Result T E) → P → OnErr r P
 on_err_always (Ok x) p = tt
 on_err_always (Err e) p = p
-
-pub on_err_also : {T E P Q : Type 0} (r : Result T E) → (P → Q) → OnErr r P → OnErr r Q
-on_err_also (Ok x) f p = tt
-on_err_also (Err e) f p = f p
 
 -- what follows from the one and from the other holds in any case
 pub on_both : {T E P Q A : Type 0} (r : Result T E) → OnOk r P → OnErr r Q → (P → A) → (Q → A) → A
