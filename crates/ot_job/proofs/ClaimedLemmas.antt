@@ -1,16 +1,15 @@
 -- What a job is once its owners have lent for a claim.
-use Rattle.std.proofs.Common.{◌≡◌, ℕ, ◌<◌, true, List, [], ◌∷◌, length, refl, sym, ap, subst, ◌∙◌}
-use Rattle.std.specs.Prelude.{Option, Bool, get_or, All, IsSome, IsPermutation, if◌then◌else◌, option_map}
+use Rattle.std.proofs.Common.{◌≡◌, ℕ, List, [], refl, sym, ap, subst, ◌∙◌}
+use Rattle.std.specs.Prelude.{Option, Bool, get_or, All, IsSome, if◌then◌else◌}
 use Rattle.ot_model.specs.Tree.{E, Body}
 use Rattle.ot_model.specs.Cells.{cell_of, lengths, updated}
 use Rattle.ot_model.specs.Names.{NamedIn}
 use Rattle.ot_model.specs.Uses.{AreInOrder}
-use Rattle.ot_model.specs.declared.expr.Cell.{Cell}
 use Rattle.ot_model.specs.declared.stmt.Use.{Use}
 use Rattle.ot_owner.specs.Keeping.{Keeping, Prepared, IsLast}
-use Rattle.ot_owner.specs.Leases.{Lease, lease_of, lent_from}
+use Rattle.ot_owner.specs.Leases.{lease_of, lent_from}
 use Rattle.ot_owner.specs.Lending.{uses_of}
-use Rattle.ot_owner.specs.Owning.{Owned, loan_of}
+use Rattle.ot_owner.specs.Owning.{Owned}
 use Rattle.ot_owner.specs.Rows.{begun_for}
 use Rattle.ot_owner.specs.Worth.{worths}
 use Rattle.ot_owner.specs.declared.lent.LentCell.{LentCell}

@@ -4,6 +4,7 @@ use Rattle.std.specs.Prelude.{Option, Some, None, IsSome, IsTrue, option_map, un
 use Rattle.std.specs.List.{All, find}
 use Rattle.std.proofs.lemmas.List.Elements.{All-nil, All-cons, All-head, All-tail}
 use Rattle.std.proofs.lemmas.Option.{same_Some}
+use Rattle.std.proofs.lemmas.Iterator.Adapters.{option_map_id}
 use Rattle.ot_model.specs.Cells.{cell_of}
 use Rattle.ot_model.specs.Uses.{conflicts, is_fold, joined, first_of, Conflict}
 use Rattle.ot_model.specs.declared.expr.Cell.{Cell}
@@ -74,10 +75,6 @@ module _ (lent : List LentCell) (before after : List (List ℕ)) (back : AreJoin
   stays : (u : Use) → Among u us → is_fold u.mode ≡ false → cell_of after u.cell ≡ cell_of before u.cell
   stays u k other = pick (find (is_at u.cell) lent) refl
     where
-      as_is : (o : Option ℕ) → option_map (λ (n : ℕ). n) o ≡ o
-      as_is None = refl
-      as_is (Some n) = refl
-
       reads : (m n : Mode) → is_fold n ≡ false → conflicts m n ≡ false → m ≡ Reads
       reads Reads n other h = refl
       reads Writes n other h = absurd (true≢false h)
@@ -94,7 +91,7 @@ module _ (lent : List LentCell) (before after : List (List ℕ)) (back : AreJoin
       pick (Some l) e =
           let f = found (λ x. cell_of after x.cell ≡ option_map (λ stored. joined x.mode stored x.value) (cell_of before x.cell)) lent u.cell l back.lent_cells e in
           let m : l.mode ≡ Reads = reads l.mode u.mode other (agree u k l e f.1) in
-          ap (cell_of after) (sym f.1) ∙ f.0 ∙ ap (λ (n : Mode). option_map (λ stored. joined n stored l.value) (cell_of before l.cell)) m ∙ as_is (cell_of before l.cell) ∙ ap (cell_of before) f.1
+          ap (cell_of after) (sym f.1) ∙ f.0 ∙ ap (λ (n : Mode). option_map (λ stored. joined n stored l.value) (cell_of before l.cell)) m ∙ option_map_id (cell_of before l.cell) ∙ ap (cell_of before) f.1
 
   same-copy : (u : Use) → Among u us → copy_of after u ≡ copy_of before u
   same-copy u k = ap (λ n. record { cell = u.cell; mode = u.mode; first = n; value = n }) (by u.mode refl)

@@ -25,7 +25,7 @@ use Rattle.ot_job.specs.States.{claimable_in}
 use Rattle.ot_job.specs.Taken.{Came, IsOut, taken_by, worker_in}
 use Rattle.ot_job.specs.Well.{IsWell, IsOnCourse, MaySettle}
 use Rattle.ot_job.specs.declared.job.Job.TheInside.{Inside}
-use Rattle.ot_job.proofs.CourseLemmas.{counts-few, settle-course, settle-lighter, settle-well}
+use Rattle.ot_job.proofs.CourseLemmas.{counts-few, settle-lighter, settle-well}
 use Rattle.ot_job.proofs.DealingsLemmas.{picked-in, works}
 use Rattle.ot_job.proofs.LendingLemmas.{back-unsummed, opens}
 use Rattle.ot_job.proofs.MayOpenLemmas.{may-open}
@@ -124,9 +124,12 @@ module _ (s : Inside) (w : IsWell (live_of s)) (working : s.failing ≡ false) (
     groups-now : Opens (group_next r.rest) s.counts.units (all_back out.0.0 d.lent s.owners.owned.groups) owned.groups
     groups-now = opens (group_next r.rest) room s.counts.units (all_back out.0.0 d.lent s.owners.owned.groups) owned.groups names b.groups
 
+    well-now : IsWell (after s cells owned (settled (taken_by d.answer) s.counts.units d.task s.tasks) (tasks_next r.rest) (units_of d.assigns r.rest))
+    well-now = settle-well (live_of s) w working d out b.run.made b.run.told cells owned b.worth b.lengths b.ended groups-now ordered
+
     few : (s.counts.tasks + tasks ≤ 20000) × (s.counts.units + units ≤ 20000)
     few =
-        let counts = counts-few _ (settle-course (live_of s) w working d out b.run.made b.run.told cells owned b.worth b.lengths b.ended groups-now ordered) in
+        let counts = counts-few _ (well-now.course working) in
         let small : size (expanded_of s.spec.checked.program).body ≤ 20000 = omega (arith, s.spec.checked.program.few, s.spec.checked.program.statements_are) in
         (omega (arith, counts.0, tasks-are, small, tasks_in-≤-size (expanded_of s.spec.checked.program).body), omega (arith, counts.1, units-are, small))
 
@@ -142,7 +145,7 @@ module _ (s : Inside) (w : IsWell (live_of s)) (working : s.failing ≡ false) (
     is-settled = record {
       tasks-few = few.0;
       units-few = few.1;
-      well = subst IsWell (sym now-is) (settle-well (live_of s) w working d out b.run.made b.run.told cells owned b.worth b.lengths b.ended groups-now ordered);
+      well = subst IsWell (sym now-is) well-now;
       settles = record {
         out = out;
         working = works (live_of s) d w out working;

@@ -12,7 +12,7 @@ use Rattle.ot_depend.specs.Siblings.{with_finished}
 use Rattle.ot_depend.specs.Waiting.{LetsTheSame}
 use Rattle.ot_model.specs.Tree.{Body, End, Next}
 use Rattle.ot_task.specs.Regions.{Region, root_region, with_child, new_region, children_at, stepped, stopped, with_created, executed, without, tasks_next}
-use Rattle.ot_job.proofs.StepLemmas.{stepped-parent, stepped-child, stepped-children, stepped-running, created-running, executed-some}
+use Rattle.ot_job.proofs.StepLemmas.{stepped-parent, stepped-child, stepped-children, stepped-running, created-running, executed-some, children-here}
 use Rattle.ot_job.proofs.CountingLemmas.{counted-told, counted-stepped, counted-created}
 use Rattle.std.specs.List.{All}
 use Rattle.std.proofs.lemmas.List.{get_or_default}
@@ -23,9 +23,10 @@ use Rattle.ot_job.specs.Counting.{AreCounted}
 use Rattle.ot_job.specs.Listed.{Numbers}
 use Rattle.ot_job.specs.Listing.{IsListBelow, TellsOf, IsNumbered, AreKept}
 use Rattle.ot_job.proofs.ListingLemmas.{those, those-same, listed, list-is, has-those, below-more, below-but, below-fewer}
-use Rattle.ot_job.proofs.ClaimableLemmas.{field-kept, claimable-busy, claimable-other, claimable-told, claimable-created, claimable-root}
+use Rattle.ot_job.proofs.ClaimableLemmas.{claimable-busy, claimable-other, claimable-told, claimable-created, claimable-root}
 use Rattle.ot_job.proofs.KeptLemmas.{at-updated}
 use Rattle.ot_job.proofs.NumberedLemmas.{numbered-same, numbered-created, child-known}
+use Rattle.ot_job.proofs.EachLemmas.{field-kept}
 
 -- ---- the list that is kept
 
@@ -195,7 +196,7 @@ module _ (taken : Bool) (g i : ℕ) (rs : List Region) (within : i < length rs) 
   parent : (d : List Use × Body) → TellsOf (created d) list.listed i
   parent d =
       let still : (at (created d) i).running ≡ (at rs i).running =
-      created-running i (Some d) rs1 (omega (arith, within, long-rs1)) ∙ field-kept (λ r. r.running) (stepped taken g) (stepped-running taken g) rs i i in
+      created-running i (Some d) rs1 i ∙ field-kept (λ r. r.running) (stepped taken g) (stepped-running taken g) rs i i in
       list-tells rs list.listed old.claimable i within ∙ claimable-busy rs i out ∙ sym (claimable-busy (created d) i (ap is_some still ∙ out))
 
   -- and the others are where they were
@@ -208,7 +209,7 @@ module _ (taken : Bool) (g i : ℕ) (rs : List Region) (within : i < length rs) 
   kept-created d new now = record {
     counted = counted-created rs1 i runs goes d.0 (new_region i (children_at rs1 i) d.0 d.1) refl refl (counted-stepped taken g rs i runs goes old.counted);
     numbered = subst (λ n. IsNumbered (created d) (updated numbers i (λ l. l ++ n ∷ []) ++ [] ∷ [])) long-rs1
-        (numbered-created rs1 numbers numbered-rs1 i d.0 (new_region i (children_at rs1 i) d.0 d.1) (omega (arith, within, long-rs1)) refl (children-at rs1 i) refl);
+        (numbered-created rs1 numbers numbered-rs1 i d.0 (new_region i (children_at rs1 i) d.0 d.1) (omega (arith, within, long-rs1)) refl (children-here rs1 i) refl);
     claimable = list-from (created d) new.listed now.list.ordered (λ k h. elim (cases_eq k i) [
       | inl is ↦ now.others k (subst (TellsOf (created d) list.listed) (sym is) (parent d))
       | inr apart ↦ elim (cases_lt k (length rs)) [
@@ -218,11 +219,6 @@ module _ (taken : Bool) (g i : ℕ) (rs : List Region) (within : i < length rs) 
     ]);
     room = now.list.room;
   }
-    where
-      children-at : (rs : List Region) (i : ℕ) → children_at rs i ≡ length (at rs i).children
-      children-at [] i = refl
-      children-at (r ∷ rs) zero = refl
-      children-at (r ∷ rs) (suc i) = children-at rs i
 
   -- the same, where the regions are told
   module _ (tasks : List Region) (is : tasks ≡ executed taken g i rs) where

@@ -1,7 +1,6 @@
 -- A job begins well, and where it has ended its cells and counts are the serial meaning of its program.
-use Rattle.std.proofs.Common.{◌≡◌, ℕ, zero, suc, ◌+◌, ◌*◌, ◌<◌, ◌≤◌, Bool, true, false, List, [], ◌∷◌, length, refl, sym, ap, subst, ◌∙◌, ◌⊎◌, inl, inr, arith, true≢false, ◌==◌}
+use Rattle.std.proofs.Common.{◌≡◌, ℕ, zero, suc, ◌+◌, ◌*◌, ◌<◌, ◌≤◌, Bool, true, false, List, [], ◌∷◌, length, refl, sym, ap, subst, ◌∙◌, arith, true≢false, ◌==◌}
 use Rattle.std.specs.Prelude.{Option, option_map, is_some, ◌||◌, Some, None, slice_get, if◌then◌else◌, IsPermutation, Contains, All}
-use Rattle.std.proofs.lemmas.Bool.{cases_eq}
 use Rattle.std.proofs.lemmas.List.Elements.{All-nil}
 use Rattle.std.proofs.lemmas.List.Sorted.{IsPermutation-refl, IsPermutation-sym, IsPermutation-trans, Contains-permutation}
 use Rattle.ot_model.specs.Tree.{Body, End, Next}
@@ -40,12 +39,11 @@ use Rattle.ot_job.specs.States.{all_ended, any_out, state_in}
 use Rattle.ot_job.specs.declared.state.State.TheVariants.{Working, Failing, Ended, Failed}
 use Rattle.ot_job.specs.Taken.{Came, IsOut}
 use Rattle.ot_job.proofs.Kept.{touch-all}
-use Rattle.ot_job.proofs.KeptLemmas.{at-updated, at-updated-other}
 use Rattle.ot_job.proofs.FreeLemmas.{at-whole}
 use Rattle.ot_job.proofs.OpeningLemmas.{none-open, open-none, none-combined}
 use Rattle.ot_job.proofs.SettleLemmas.{run_of, runs-within}
 use Rattle.ot_job.proofs.WellLemmas.{out-contained}
-use Rattle.ot_job.proofs.MovesLemmas.{one-less}
+use Rattle.ot_job.proofs.MovesLemmas.{one-less, stopped-others}
 
 -- ---- the root alone
 
@@ -228,13 +226,7 @@ fails-well j d owned w out ended groups = record {
 
     -- who has a piece out still has it, and nothing else of it changed
     still : (k : ℕ) (run : Run) → (at (updated j.regions d.task stopped) k).running ≡ Some run → at (updated j.regions d.task stopped) k ≡ at j.regions k
-    still k run is = pick (cases_eq k d.task)
-      where
-        pick : (k ≡ d.task) ⊎ (k ≡ d.task → ⊥) → at (updated j.regions d.task stopped) k ≡ at j.regions k
-        pick (inl e) =
-            let none : None ≡ Some run = sym (ap (λ (r : Region). r.running) (ap (at (updated j.regions d.task stopped)) e ∙ at-updated j.regions d.task stopped known)) ∙ is in
-            cc
-        pick (inr e) = at-updated-other j.regions d.task k stopped e
+    still k run is = (stopped-others j.regions d.task k run is).1
 
     was : (k : ℕ) (run : Run) → (at (updated j.regions d.task stopped) k).running ≡ Some run → (at j.regions k).running ≡ Some run
     was k run is = sym (ap (λ (r : Region). r.running) (still k run is)) ∙ is

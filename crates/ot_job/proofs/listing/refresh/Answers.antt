@@ -1,4 +1,4 @@
-use Rattle.std.proofs.Common.{◌≢◌, ◌≡◌, ◌≤◌, ◌<◌, ◌∙◌, ℕ, List, sym, subst, inl, inr, arith, length}
+use Rattle.std.proofs.Common.{◌≢◌, ◌≡◌, ◌<◌, ◌∙◌, ℕ, List, sym, subst, inl, inr, arith, length}
 use Rattle.std.proofs.lemmas.Bool.{cases_eq}
 use Rattle.ot_depend.specs.Kept.{has}
 use Rattle.ot_task.specs.Regions.{Region}

@@ -1,4 +1,5 @@
 use Rattle.std.proofs.Common.{rules, ◌≡◌, ◌<◌, ◌∙◌, refl, ap, sym, subst, arith, length, List}
+use Rattle.std.proofs.lemmas.Result.{IfOk-from_err}
 use Rattle.std.specs.Prelude.{option_map}
 use Rattle.ot_model.specs.Cells.{lengths, updated}
 use Rattle.ot_model.specs.View.{expr_of}
@@ -19,7 +20,7 @@ use Rattle.ot_job.proofs.ClaimedLemmas.{AreLent, picked-is, picked-named, may-le
 use Rattle.ot_job.proofs.CourseLemmas.{counts-few}
 use Rattle.ot_job.proofs.DealingsLemmas.{picked-some, picked-working}
 use Rattle.ot_job.proofs.InsideLemmas.{IsPicked, picked-here}
-use Rattle.ot_job.proofs.ViewLemmas.{if_ok_of_err, on_err_always}
+use Rattle.ot_job.proofs.ViewLemmas.{on_err_always}
 use Rattle.ot_job.proofs.WellLemmas.{claimable-idle}
 use Rattle.ot_job.proofs.job.Job.claim.Goals.{In-Some, After-lend-lent, After-begin}
 use Rattle.ot_job.proofs.job.Job.claim.Goals as goal
@@ -114,7 +115,7 @@ pub returns-in_err-assigns : goal.returns-in_err-assigns
 returns-in_err-assigns c =
     let told = c.from_residual.result in
     let at_task = (goal.at.returns-in_err-assigns c).In-Some in
-    record { claimed = if_ok_of_err _ told c.from_residual.ensures.0; working = on_err_always told (working at_task); some = on_err_always told (some at_task); refused = on_err_always told refl }
+    record { claimed = IfOk-from_err told _ c.from_residual.ensures.0; working = on_err_always told (working at_task); some = on_err_always told (some at_task); refused = on_err_always told refl }
 
 pub returns-in_err-slip : goal.returns-in_err-slip
 returns-in_err-slip c =
@@ -122,7 +123,7 @@ returns-in_err-slip c =
     let at_task = (goal.at.returns-in_err-slip c).In-Some in
     let seen : Owned → Live = λ owned. record (live_of c.self.inside) { owned = owned } in
     record {
-      claimed = if_ok_of_err _ told c.from_residual-in_err-slip.ensures.0;
+      claimed = IfOk-from_err told _ c.from_residual-in_err-slip.ensures.0;
       working = on_err_always told (working at_task);
       some = on_err_always told (some at_task);
       refused = on_err_always told (ap seen c.prepare-2.ensures.owned ∙ c.self.view_is);

@@ -1,4 +1,4 @@
-use Rattle.std.proofs.Common.{◌≡◌, ◌≢◌, ◌<◌, ◌+◌, ◌*◌, ◌/◌, ◌%◌, ◌==◌, ◌∙◌, ℕ, true, false, length, refl, ap, sym, subst, arith, set}
+use Rattle.std.proofs.Common.{◌≡◌, ◌+◌, ◌/◌, ◌==◌, ◌∙◌, true, false, length, refl, ap, sym, subst, arith, set}
 use Rattle.std.proofs.lemmas.List.{length-set}
 use Rattle.ot_depend.specs.Kept.{has}
 use Rattle.ot_job.specs.Listed.{Numbers, numbers_in}

@@ -4,9 +4,9 @@ use Rattle.ot_model.proofs.CellsLemmas.{length-updated}
 use Rattle.ot_task.specs.Regions.{Region, without}
 use Rattle.ot_job.specs.Calls.{HasPiece}
 use Rattle.ot_job.specs.Numbered.{at, parent_of}
-use Rattle.ot_job.proofs.ClaimableLemmas.{field-kept}
 use Rattle.ot_job.proofs.tasks.Tasks.close.Goals.{then-i-gt0, else-i-gt0}
 use Rattle.ot_job.proofs.tasks.Tasks.close.Goals as goal
+use Rattle.ot_job.proofs.EachLemmas.{field-kept}
 
 pub tell_parent-requires : goal.tell_parent-requires
 tell_parent-requires c = record { known = c.requires.piece.known; finish = c.requires.finish c.if-i-gt0.true }

@@ -1,6 +1,7 @@
 use Rattle.std.proofs.Common.{◌≡◌, ◌<◌, ◌+◌, ◌∙◌, ap, sym, subst, arith, ℕ, List, [], ◌∷◌, ◌++◌, map, set, length}
 use Rattle.std.proofs.lemmas.List.{length-map, length-set, map-append, get_or-set_same}
 use Rattle.std.proofs.lemmas.List.Sums.{count_by-le-length}
+use Rattle.std.proofs.lemmas.Result.{IfOk-from_err}
 use Rattle.std.specs.Prelude.{not, vec_len, vec_capacity, get_or}
 use Rattle.ot_model.specs.Cells.{updated}
 use Rattle.ot_task.specs.Regions.{Region, executed, tasks_next}
@@ -9,7 +10,7 @@ use Rattle.ot_job.specs.Listing.{numbers_of, AreKept}
 use Rattle.ot_job.specs.Numbered.{at}
 use Rattle.ot_job.specs.Settling.{CreatesInOrder}
 use Rattle.ot_job.proofs.KeepingLemmas.{kept-roomy, long-tasks, listed-tasks, kept-tasks}
-use Rattle.ot_job.proofs.ViewLemmas.{map-kept, map-changed, on_err_always, on_ok_of_err}
+use Rattle.ot_job.proofs.ViewLemmas.{map-kept, map-changed, on_err_always}
 use Rattle.ot_job.proofs.tasks.Tasks.create.Goals.{After-index_mut, After-reserve, After-reserve-2, After-make_room_for, After-deref}
 use Rattle.ot_job.proofs.tasks.Tasks.create.Goals as goal
 
@@ -62,25 +63,25 @@ pub returns-in_err-reserve : goal.returns-in_err-reserve
 returns-in_err-reserve c =
     let told = c.from_residual.result in
     let err = c.from_residual.ensures.0 in
-    record { ordered = on_ok_of_err _ told err; executed = on_ok_of_err _ told err; refused = on_err_always told c.self.view_is }
+    record { ordered = IfOk-from_err told _ err; executed = IfOk-from_err told _ err; refused = on_err_always told c.self.view_is }
 
 pub returns-in_err-reserve-2 : goal.returns-in_err-reserve-2
 returns-in_err-reserve-2 c =
     let told = c.from_residual-in_err-reserve-2.result in
     let err = c.from_residual-in_err-reserve-2.ensures.0 in
-    record { ordered = on_ok_of_err _ told err; executed = on_ok_of_err _ told err; refused = on_err_always told c.self.view_is }
+    record { ordered = IfOk-from_err told _ err; executed = IfOk-from_err told _ err; refused = on_err_always told c.self.view_is }
 
 pub returns-in_err-make_room_for : goal.returns-in_err-make_room_for
 returns-in_err-make_room_for c =
     let told = c.from_residual-in_err-make_room_for.result in
     let err = c.from_residual-in_err-make_room_for.ensures.0 in
-    record { ordered = on_ok_of_err _ told err; executed = on_ok_of_err _ told err; refused = on_err_always told c.self.view_is }
+    record { ordered = IfOk-from_err told _ err; executed = IfOk-from_err told _ err; refused = on_err_always told c.self.view_is }
 
 pub returns-in_err-execute : goal.returns-in_err-execute
 returns-in_err-execute c =
     let told = c.from_residual-in_err-execute.result in
     let err = c.from_residual-in_err-execute.ensures.0 in
-    record { ordered = on_ok_of_err _ told err; executed = on_ok_of_err _ told err; refused = on_err_always told (c.in_err-execute.ensures.refused ∙ c.self.view_is) }
+    record { ordered = IfOk-from_err told _ err; executed = IfOk-from_err told _ err; refused = on_err_always told (c.in_err-execute.ensures.refused ∙ c.self.view_is) }
 
 pub returns-clause-executed : goal.returns-clause-executed
 returns-clause-executed c = c.in_ok-execute.ensures.executed ∙ ap (λ (l : List Region). executed c.args.taken c.args.group c.args.i l) c.self.view_is

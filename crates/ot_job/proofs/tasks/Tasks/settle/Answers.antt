@@ -1,12 +1,13 @@
-use Rattle.std.proofs.Common.{◌≡◌, ◌∙◌, ap, sym, subst, arith, List, length}
+use Rattle.std.proofs.Common.{◌∙◌, ap, sym, subst, arith, List}
+use Rattle.std.proofs.lemmas.Result.{IfOk-from_err}
 use Rattle.std.specs.Prelude.{is_some}
 use Rattle.ot_model.specs.Cells.{updated}
 use Rattle.ot_task.specs.Regions.{Region, stopped}
 use Rattle.ot_task.specs.Standing.{is_at_end}
 use Rattle.ot_job.specs.Calls.{HasPiece}
 use Rattle.ot_job.specs.Numbered.{at}
-use Rattle.ot_job.proofs.StepLemmas.{moved-running, moved-length}
-use Rattle.ot_job.proofs.ViewLemmas.{on_ok_of_err, on_err_always}
+use Rattle.ot_job.proofs.StepLemmas.{moved-running, moved-long}
+use Rattle.ot_job.proofs.ViewLemmas.{on_err_always}
 use Rattle.ot_job.proofs.tasks.Tasks.settle.Goals as goal
 
 pub stop-requires : goal.stop-requires
@@ -16,8 +17,8 @@ stop-requires c =
     let piece = c.requires.piece in
     let ends = is_at_end (at rs i).rest (at rs i).groups in
     subst (λ (l : List Region). HasPiece l i) (sym c.in_ok-move_on.ensures.moved) (record {
-      known = omega (arith, piece.known, moved-length ends c.args.taken c.args.group i rs);
-      out = ap is_some (moved-running ends c.args.taken c.args.group i rs piece.known) ∙ piece.out;
+      known = omega (arith, piece.known, moved-long c.args.taken c.args.group i rs);
+      out = ap is_some (moved-running ends c.args.taken c.args.group i rs i) ∙ piece.out;
     })
 
 pub returns-clause-settled : goal.returns-clause-settled
@@ -27,4 +28,4 @@ pub returns-in_err-move_on : goal.returns-in_err-move_on
 returns-in_err-move_on c =
     let told = c.from_residual.result in
     let err = c.from_residual.ensures.0 in
-    record { ordered = on_ok_of_err _ told err; settled = on_ok_of_err _ told err; refused = on_err_always told c.in_err-move_on.ensures.refused }
+    record { ordered = IfOk-from_err told _ err; settled = IfOk-from_err told _ err; refused = on_err_always told c.in_err-move_on.ensures.refused }
