@@ -4,7 +4,7 @@ use Rattle.ot_task.specs.Waits.{is_awaited_at}
 use Rattle.std.specs.Prelude.{None, option_map}
 use Rattle.std.specs.Prelude.{Some, slice_get, nat_lt, ◌==◌}
 use Rattle.std.specs.List.{list_any}
-use Rattle.std.proofs.lemmas.Bool.{cases_eq, cases_lt}
+use Rattle.std.proofs.lemmas.Bool.{cases_eq, cases_lt, true_from_ne_false}
 use Rattle.std.proofs.lemmas.Bool.Decides.{nat_tests}
 use Rattle.ot_model.specs.Tree.{End}
 use Rattle.ot_model.specs.Cells.{updated}
@@ -122,16 +122,12 @@ placed-over r p was none = placed-as r p r.rest r.waiting true p.fine p.inside p
 -- a body that ends leaves no child unfinished, but the root's
 all-finished : (r : Region) → IsPlaced r → r.rest ≡ End → r.groups ≡ [] → r.waiting ≡ None → (uses : List Use) → r.own ≡ Some uses
     → (k : ℕ) (s : Sibling) → slice_get r.children k ≡ Some s → s.finished ≡ true
-all-finished r p was none calm uses own k s there = by s.finished refl
+all-finished r p was none calm uses own k s there = true_from_ne_false s.finished (λ e. true≢false (kid-none r.children (λ x. true) k s left there e))
   where
     left : list_any (λ x. is_unfinished x && true) r.children ≡ false
     left =
         let at = subst (λ gs. AwaitsAll (unawaited r.waiting r.children) End gs) none (subst (λ b. AwaitsAll (unawaited r.waiting r.children) b r.groups) was (p.awaits uses own)) in
         ap (λ w. unawaited w r.children (λ x. true)) (sym calm) ∙ awaits-end (unawaited r.waiting r.children) at
-
-    by : (b : Bool) → s.finished ≡ b → s.finished ≡ true
-    by true e = e
-    by false e = absurd (true≢false (kid-none r.children (λ x. true) k s left there e))
 
 -- ---- all regions
 

@@ -7,6 +7,7 @@ use Rattle.std.proofs.lemmas.Option.{same_Some, none-some, slice_get-get_or}
 use Rattle.std.proofs.lemmas.List.FromFn.{length-range_with_len}
 use Rattle.std.proofs.lemmas.List.Sums.{length-filter, count_by-le-length}
 use Rattle.std.proofs.lemmas.List.Sorted.{length_permutation}
+use Rattle.std.proofs.lemmas.Bool.{false_from_ne_true}
 use Rattle.ot_model.specs.Tree.{E, Body}
 use Rattle.ot_model.specs.Programs.{expanded_of}
 use Rattle.ot_model.specs.Cells.{updated}
@@ -112,13 +113,9 @@ pub none-out : (j : Live) → any_out j.regions ≡ false → NoneOut j
 none-out j h k = work-none (at j.regions k) (none-at j.regions h k)
 
 pub out-none : (j : Live) → NoneOut j → any_out j.regions ≡ false
-out-none j none = by (any_out j.regions) refl
-  where
-    by : (b : Bool) → any_out j.regions ≡ b → b ≡ false
-    by false e = refl
-    by true e =
-        let o = one-out j.regions e in
-        absurd (none-some (run_with (test_of (at j.regions o.0).rest) o.1) (sym (none o.0) ∙ ap (option_map (run_with (test_of (at j.regions o.0).rest))) o.2))
+out-none j none = false_from_ne_true (any_out j.regions) (λ e.
+    let o = one-out j.regions e in
+    none-some (run_with (test_of (at j.regions o.0).rest) o.1) (sym (none o.0) ∙ ap (option_map (run_with (test_of (at j.regions o.0).rest))) o.2))
 
 failed-state : (rs : List Region) → (if any_out rs then Failing else Failed) ≡ after_failure (out_in rs)
 failed-state rs = ap (λ (b : Bool). if b then Failing else Failed) (sym (out-any rs)) ∙ by (out_in rs == 0)
@@ -135,11 +132,7 @@ working-is j working left =
     ∙ ap (λ (e : Bool). if e then Ended else Working) left
 
 one-alive : (rs : List Region) (i : ℕ) → (at rs i).ended ≡ false → all_ended rs ≡ false
-one-alive rs i alive = by (all_ended rs) refl
-  where
-    by : (b : Bool) → all_ended rs ≡ b → b ≡ false
-    by false e = refl
-    by true e = absurd (true≢false (sym (each-ended rs e i) ∙ alive))
+one-alive rs i alive = false_from_ne_true (all_ended rs) (λ e. true≢false (sym (each-ended rs e i) ∙ alive))
 
 -- ---- a job begins
 

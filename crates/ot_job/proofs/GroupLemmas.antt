@@ -68,6 +68,15 @@ unused (d ∷ cs) kids k s c free there alive named m =
       | inr later ↦ unused cs kids k s c (or_false_right (unawaited None kids (λ s. clashes (use_as Writes d) s.uses)) (list_any (λ c. unawaited None kids (λ s. clashes (use_as Writes c) s.uses)) cs) free) there alive later m
     ]
 
+-- a group that is no offence names cells that the body may write, that no open group names, and that no child clashes with
+pub clean-group : (r : Region) (op : Operation) (cs : List Cell) (b : Body) → r.waiting ≡ None → IsClean r.own (opened r.groups) (children_of (unawaited r.waiting r.children)) (Group op cs b)
+    → (list_any (λ c. not (allows r.own (use_as Writes c)) || opened_by_any (opened r.groups) c) cs ≡ false) × (list_any (λ c. unawaited None r.children (λ s. clashes (use_as Writes c) s.uses)) cs ≡ false)
+clean-group r op cs b calm clean = (
+  sym (is_offence-Group r.own (opened r.groups) (children_of (unawaited r.waiting r.children)) op cs b ReductionMisuse) ∙ clean ReductionMisuse,
+  ap (λ w. list_any (λ c. unawaited w r.children (λ s. clashes (use_as Writes c) s.uses)) cs) (sym calm)
+      ∙ sym (is_offence-Group r.own (opened r.groups) (children_of (unawaited r.waiting r.children)) op cs b ConflictsWithChild) ∙ clean ConflictsWithChild,
+)
+
 module _ (r : Region) (p : IsPlaced r) where
   pub placed-enter : (g : ℕ) (op : Operation) (cs : List Cell) (b rest : Body) → r.rest ≡ Next (Group op cs b) rest → r.waiting ≡ None
       → IsClean r.own (opened r.groups) (children_of (unawaited r.waiting r.children)) (Group op cs b)
@@ -98,11 +107,10 @@ module _ (r : Region) (p : IsPlaced r) where
       never e = cc
 
       fits : list_any (λ c. not (allows r.own (use_as Writes c)) || opened_by_any (opened r.groups) c) cs ≡ false
-      fits = sym (is_offence-Group r.own (opened r.groups) (children_of (unawaited r.waiting r.children)) op cs b ReductionMisuse) ∙ clean ReductionMisuse
+      fits = (clean-group r op cs b calm clean).0
 
       awaited : list_any (λ c. unawaited None r.children (λ s. clashes (use_as Writes c) s.uses)) cs ≡ false
-      awaited = ap (λ w. list_any (λ c. unawaited w r.children (λ s. clashes (use_as Writes c) s.uses)) cs) (sym calm)
-          ∙ sym (is_offence-Group r.own (opened r.groups) (children_of (unawaited r.waiting r.children)) op cs b ConflictsWithChild) ∙ clean ConflictsWithChild
+      awaited = (clean-group r op cs b calm clean).1
 
   pub placed-leave : (o : Open) (os : List Open) → r.rest ≡ End → r.groups ≡ o ∷ os
       → ((k : ℕ) (s : Sibling) → slice_get r.children k ≡ Some s → s.finished ≡ false → is_in o.group s ≡ false)

@@ -5,6 +5,7 @@ use Rattle.std.specs.List.{All, find}
 use Rattle.std.proofs.lemmas.List.Elements.{All-nil, All-cons, All-head, All-tail}
 use Rattle.std.proofs.lemmas.Option.{same_Some}
 use Rattle.std.proofs.lemmas.Iterator.Adapters.{option_map_id}
+use Rattle.std.proofs.lemmas.Bool.{false_from_ne_true}
 use Rattle.ot_model.specs.Cells.{cell_of}
 use Rattle.ot_model.specs.Uses.{conflicts, is_fold, joined, first_of, Conflict}
 use Rattle.ot_model.specs.declared.expr.Cell.{Cell}
@@ -64,12 +65,9 @@ found-among (x ∷ lent) c l h = by (is_at c x) refl (found-among lent c l)
 
 module _ (lent : List LentCell) (before after : List (List ℕ)) (back : AreJoined lent (cell_of before) (cell_of after)) (us : List Use) (free : Conflict (uses_of lent) us → ⊥) where
   agree : (u : Use) → Among u us → (l : LentCell) → find (is_at u.cell) lent ≡ Some l → l.cell ≡ u.cell → conflicts l.mode u.mode ≡ false
-  agree u k l h at = by (conflicts l.mode u.mode) refl
-    where
-      by : (b : Bool) → conflicts l.mode u.mode ≡ b → conflicts l.mode u.mode ≡ false
-      by false e = e
-      by true e = absurd (free (among-any (λ x. Any (λ v. (x.cell ≡ v.cell) × IsTrue (conflicts x.mode v.mode)) us) (uses_of lent) (use_of l) (found-among lent u.cell l h)
-          (among-any (λ v. (l.cell ≡ v.cell) × IsTrue (conflicts l.mode v.mode)) us u k (at, e))))
+  agree u k l h at = false_from_ne_true (conflicts l.mode u.mode) (λ e.
+      free (among-any (λ x. Any (λ v. (x.cell ≡ v.cell) × IsTrue (conflicts x.mode v.mode)) us) (uses_of lent) (use_of l) (found-among lent u.cell l h)
+      (among-any (λ v. (l.cell ≡ v.cell) × IsTrue (conflicts l.mode v.mode)) us u k (at, e))))
 
   -- a cell that it reads or writes stays
   stays : (u : Use) → Among u us → is_fold u.mode ≡ false → cell_of after u.cell ≡ cell_of before u.cell

@@ -14,11 +14,9 @@ use Rattle.ot_model.specs.declared.stmt.Mode.TheVariants.{Writes, Folds}
 use Rattle.ot_model.specs.declared.stmt.Use.{Use}
 use Rattle.ot_check.specs.Paths.{use_as}
 use Rattle.ot_check.specs.Offences.{allows, clashes, has_cell, opened_by_any}
-use Rattle.ot_check.specs.walk.Fine.{IsClean, IsFine}
-use Rattle.ot_check.specs.declared.fault.Offence.TheVariants.{ReductionMisuse, ConflictsWithChild}
+use Rattle.ot_check.specs.walk.Fine.{IsFine}
 use Rattle.ot_check.proofs.Bits.{or_right, and_true}
 use Rattle.ot_check.proofs.InsideLemmas.{group_free, groups_inside}
-use Rattle.ot_check.proofs.OffenceLemmas.{is_offence-Group}
 use Rattle.ot_check.proofs.OpeningLemmas.{opened-none}
 use Rattle.ot_owner.specs.Owning.{Loan}
 use Rattle.ot_owner.specs.Rows.{IsNamed}
@@ -34,7 +32,7 @@ use Rattle.ot_job.specs.Well.{IsWell, IsOnCourse}
 use Rattle.ot_job.specs.Whole.{assigns_out, whole, loan_in, loans_out}
 use Rattle.ot_job.proofs.FoldLemmas.{same-op}
 use Rattle.ot_job.proofs.FreeLemmas.{fine-innermost}
-use Rattle.ot_job.proofs.GroupLemmas.{unused, writes-agree}
+use Rattle.ot_job.proofs.GroupLemmas.{unused, writes-agree, clean-group}
 use Rattle.ot_job.proofs.MovesLemmas.{one-less, stopped-others}
 use Rattle.ot_job.proofs.OpenLemmas.{MayHold, holders-agree, placed, group-holds, piece-holds}
 use Rattle.ot_job.proofs.OpeningLemmas.{has-cell, kept-new, meets-none, not_summed}
@@ -54,16 +52,9 @@ module _ (j : Live) (o : IsOnCourse j) (i : ℕ) (run : Run) (out : (at j.region
       placed-piece (whole r) (placed j.regions o.sound i) run.assigns r.rest (ap (λ x. append (assigns_out x) r.rest) out)
       (o.runs i run out).assigns (o.runs i run out).alive
 
-  clean : IsClean r.own (opened r.groups) (children_of (unawaited r.waiting r.children)) (Group op cs b)
-  clean = (subst (λ x. IsFine r.own (opened r.groups) (children_of (unawaited r.waiting r.children)) x) next
+  clean : (list_any (λ c. not (allows r.own (use_as Writes c)) || opened_by_any (opened r.groups) c) cs ≡ false) × (list_any (λ c. unawaited None r.children (λ s. clashes (use_as Writes c) s.uses)) cs ≡ false)
+  clean = clean-group r op cs b (o.runs i run out).calm (subst (λ x. IsFine r.own (opened r.groups) (children_of (unawaited r.waiting r.children)) x) next
       (fine-innermost r.own (unawaited r.waiting r.children) r.rest r.groups behind.fine)).0
-
-  fits : list_any (λ c. not (allows r.own (use_as Writes c)) || opened_by_any (opened r.groups) c) cs ≡ false
-  fits = sym (is_offence-Group r.own (opened r.groups) (children_of (unawaited r.waiting r.children)) op cs b ReductionMisuse) ∙ clean ReductionMisuse
-
-  awaited : list_any (λ c. unawaited None r.children (λ s. clashes (use_as Writes c) s.uses)) cs ≡ false
-  awaited = ap (λ w. list_any (λ c. unawaited w r.children (λ s. clashes (use_as Writes c) s.uses)) cs) (sym (o.runs i run out).calm)
-      ∙ sym (is_offence-Group r.own (opened r.groups) (children_of (unawaited r.waiting r.children)) op cs b ConflictsWithChild) ∙ clean ConflictsWithChild
 
   module _ (c : Cell) (named : has_cell cs c ≡ true) where
     -- the task may write each of its cells
@@ -71,8 +62,8 @@ module _ (j : Live) (o : IsOnCourse j) (i : ℕ) (run : Run) (out : (at j.region
     entry-holds = record {
       begun = o.begun i run out;
       alive = (o.runs i run out).alive;
-      may = groups_inside r.own (opened r.groups) op cs behind.writes fits op c (or_right (opened r.groups op c) (same_fold op op && has_cell cs c) (and_true (same_fold op op) (has_cell cs c) (same-op op) named));
-      alone = λ k s there unfinished m may. absurd (true≢false (sym may ∙ unused cs r.children k s c awaited there unfinished named m));
+      may = groups_inside r.own (opened r.groups) op cs behind.writes clean.0 op c (or_right (opened r.groups op c) (same_fold op op && has_cell cs c) (and_true (same_fold op op) (has_cell cs c) (same-op op) named));
+      alone = λ k s there unfinished m may. absurd (true≢false (sym may ∙ unused cs r.children k s c clean.1 there unfinished named m));
     }
 
     -- no open group names one
@@ -80,7 +71,7 @@ module _ (j : Live) (o : IsOnCourse j) (i : ℕ) (run : Run) (out : (at j.region
     entry-unopened k by = pick (cases_eq i k)
       where
         pick : (i ≡ k) ⊎ (i ≡ k → ⊥) → opened (at j.regions k).groups by c ≡ false
-        pick (inl same) = ap (λ n. opened (at j.regions n).groups by c) (sym same) ∙ opened-none (opened r.groups) by c (group_free r.own (opened r.groups) cs c fits named)
+        pick (inl same) = ap (λ n. opened (at j.regions n).groups by c) (sym same) ∙ opened-none (opened r.groups) by c (group_free r.own (opened r.groups) cs c clean.0 named)
         pick (inr other) = false_from_ne_true (opened (at j.regions k).groups by c) (λ is.
             writes-agree (Folds by) (holders-agree j.regions o.sound i k (use_as Writes c) (use_as (Folds by) c) entry-holds (group-holds j.regions o.sound k by c is) other refl))
 

@@ -1,7 +1,7 @@
 -- What pieces hold of the cells of open groups: nothing of their own task's, and of another task's they only fold.
 use Rattle.std.proofs.Common.{◌≡◌, ◌≢◌, ℕ, ◌<◌, ◌≤◌, Bool, true, false, List, [], ◌∷◌, length, refl, sym, ap, subst, ◌∙◌, ◌⊎◌, inl, inr, true≢false, ◌&&◌}
 use Rattle.std.specs.Prelude.{Some, slice_get}
-use Rattle.std.proofs.lemmas.Bool.{cases_lt}
+use Rattle.std.proofs.lemmas.Bool.{cases_lt, false_from_ne_true}
 use Rattle.ot_model.specs.Names.{NamedIn}
 use Rattle.ot_model.specs.Uses.{conflicts, mode_in, same_fold, Conflict}
 use Rattle.ot_model.specs.declared.expr.Cell.{Cell}
@@ -88,11 +88,7 @@ module _ (rs : List Region) (s : IsSound (wholes rs)) where
       by (o ∷ os) some = s.entered i o os (ap (λ (r : Region). r.groups) (at-whole rs i) ∙ some)
 
   pub opened-alive : (i : ℕ) (op : Operation) (c : Cell) → opened (at rs i).groups op c ≡ true → (at rs i).ended ≡ false
-  opened-alive i op c is = by (at rs i).ended refl
-    where
-      by : (b : Bool) → (at rs i).ended ≡ b → b ≡ false
-      by true over = absurd (true≢false (sym is ∙ ap (λ (gs : List Open). opened gs op c) ((placed i).shut over)))
-      by false alive = refl
+  opened-alive i op c is = false_from_ne_true (at rs i).ended (λ over. true≢false (sym is ∙ ap (λ (gs : List Open). opened gs op c) ((placed i).shut over)))
 
   -- the cells of an open group are its task's to fold by the group's operation
   pub group-holds : (i : ℕ) (op : Operation) (c : Cell) → opened (at rs i).groups op c ≡ true → MayHold rs i (use_as (Folds op) c)

@@ -3,6 +3,7 @@ use Rattle.std.proofs.Common.{◌≡◌, ℕ, zero, suc, ◌+◌, ◌*◌, ◌<�
 use Rattle.std.specs.Prelude.{Option, option_map, is_some, ◌||◌, Some, None, slice_get, if◌then◌else◌, IsPermutation, Contains, All}
 use Rattle.std.proofs.lemmas.List.Elements.{All-nil}
 use Rattle.std.proofs.lemmas.List.Sorted.{IsPermutation-refl, IsPermutation-sym, IsPermutation-trans, Contains-permutation}
+use Rattle.std.proofs.lemmas.Bool.{false_from_ne_true}
 use Rattle.ot_model.specs.Tree.{Body, End, Next}
 use Rattle.ot_model.specs.Counts.{size}
 use Rattle.ot_task.specs.Weighing.{weight_of}
@@ -268,10 +269,6 @@ one-out (r ∷ rs) h = by r.running refl (λ g. one-out rs g)
 
 -- no piece of an ended job is out
 pub ended-none-out : (j : Live) → IsWell j → j.failing ≡ false → all_ended j.regions ≡ true → any_out j.regions ≡ false
-ended-none-out j w working ended = by (any_out j.regions) refl
-  where
-    by : (b : Bool) → any_out j.regions ≡ b → b ≡ false
-    by false e = refl
-    by true e =
-        let o = one-out j.regions e in
-        absurd (true≢false (sym (each-ended j.regions ended o.0) ∙ ((w.course working).runs o.0 o.1 o.2).alive))
+ended-none-out j w working ended = false_from_ne_true (any_out j.regions) (λ e.
+    let o = one-out j.regions e in
+    true≢false (sym (each-ended j.regions ended o.0) ∙ ((w.course working).runs o.0 o.1 o.2).alive))

@@ -86,14 +86,16 @@ pub record IsListFor (count : ℕ) (list : Numbers) : Type 0 where
 abbrev pub TellsToo : List Region → (old new : Numbers) → Type 0
 TellsToo tasks old new = (k : ℕ) → TellsOf tasks old.listed k → TellsOf tasks new.listed k
 
--- the list is right about the task, and about each that it was right about
+-- the list is right about the task, and about each that it was right about, and has no less room
 pub record IsRefreshed (tasks : List Region) (old new : Numbers) (i : ℕ) : Type 0 where
   pub list : IsListFor (length tasks) new
   pub told : TellsOf tasks new.listed i
   pub others : TellsToo tasks old new
+  pub room : old.room ≤ new.room
 
 -- the same of some children, by the numbers of the tasks
 pub record AreRefreshed (tasks : List Region) (old new : Numbers) (numbers children : List ℕ) : Type 0 where
   pub list : IsListFor (length tasks) new
   pub told : (c : ℕ) → has c children ≡ true → TellsOf tasks new.listed (slice_index_or numbers c 0)
   pub others : TellsToo tasks old new
+  pub room : old.room ≤ new.room

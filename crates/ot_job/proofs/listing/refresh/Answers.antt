@@ -21,6 +21,7 @@ told tasks old new i known list ordered now others room = record {
     | inl is ↦ subst (TellsOf tasks new.listed) (sym is) now
     | inr apart ↦ others k apart ∙ was
   ];
+  room = omega (arith, room);
 }
 
 pub returns-then-is_claimable : goal.returns-then-is_claimable

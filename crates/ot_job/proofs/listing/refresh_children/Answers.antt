@@ -1,4 +1,4 @@
-use Rattle.std.proofs.Common.{◌≡◌, ◌∙◌, ◌||◌, ◌==◌, sym, subst, Bool, true, false, true≢false, get_or, take, ℕ, inl, inr}
+use Rattle.std.proofs.Common.{◌≡◌, ◌∙◌, ◌||◌, ◌==◌, sym, subst, Bool, true, false, true≢false, get_or, take, ℕ, inl, inr, arith}
 use Rattle.std.proofs.lemmas.Bool.{cases_Bool, eqb-true}
 use Rattle.std.proofs.lemmas.List.Folds.{list_any_more}
 use Rattle.ot_depend.specs.Kept.{has}
@@ -28,7 +28,8 @@ loop-child-preserved c =
             subst (λ (m : ℕ). TellsOf c.args.tasks.now c.refresh.new.list.listed (get_or c.args.numbers.now m 0)) (eqb-true (get_or xs i 0) n here) now.told)
       ];
       others = λ k was. now.others k (old.others k was);
+      room = omega (arith, now.room, old.room);
     }
 
 pub loop-child-init : goal.loop-child-init
-loop-child-init c = record { list = c.requires.list; told = λ n there. absurd (true≢false (sym there)); others = λ k was. was }
+loop-child-init c = record { list = c.requires.list; told = λ n there. absurd (true≢false (sym there)); others = λ k was. was; room = omega arith }
