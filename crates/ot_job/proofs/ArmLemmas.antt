@@ -7,7 +7,7 @@ use Rattle.std.specs.Prelude.{if◌then◌else◌, Some}
 use Rattle.ot_depend.specs.Siblings.{Sibling}
 use Rattle.ot_model.specs.declared.expr.Cell.{Cell}
 use Rattle.ot_model.specs.declared.fold.Fold.{Fold as Operation}
-use Rattle.ot_model.specs.Tree.{E, If, Group, Wait, Body, Next, append}
+use Rattle.ot_model.specs.Tree.{E, If, Group, Wait, Body, Next, append, End}
 use Rattle.ot_model.specs.Cells.{updated}
 use Rattle.ot_model.specs.declared.stmt.Use.{Use}
 use Rattle.ot_check.specs.Offences.{allows}
@@ -24,29 +24,14 @@ use Rattle.ot_job.proofs.KeptLemmas.{todo-append, todo-next}
 use Rattle.ot_job.proofs.GroupLemmas.{touch-append, task-append, placed-enter}
 use Rattle.ot_job.proofs.AwaitsLemmas.{awaits-one, awaits-two, awaits-wait, awaits-enter}
 use Rattle.ot_job.proofs.FreeLemmas.{fine-innermost}
-use Rattle.ot_job.proofs.ChangedLemmas.{sound-changed}
+use Rattle.ot_job.proofs.ChangedLemmas.{sound-changed, placed-as}
 
 abbrev pub waits : Option (List Use) → Body → Region → Region
 waits w rest r = record r { rest = rest; waiting = Some w }
 
 module _ (r : Region) (p : IsPlaced r) (alive : r.ended ≡ false) where
-  placed-next : (next : Body) → IsFineAt r.own (unawaited r.waiting r.children) next r.groups → EachTouch (λ u. allows r.own u ≡ true) (todo next r.groups)
-      → EachTask LetsAll (todo next r.groups) → ((uses : List Use) → r.own ≡ Some uses → AwaitsAll (unawaited r.waiting r.children) next r.groups) → IsPlaced (with_rest next r)
-  placed-next next fine inside tasks awaits = record {
-    fine = fine;
-    inside = inside;
-    tasks = tasks;
-    awaits = awaits;
-    within = p.within;
-    apart = p.apart;
-    over = λ e. absurd (true≢false (sym e ∙ alive));
-    shut = p.shut;
-    once = p.once;
-    writes = p.writes;
-    grouped = p.grouped;
-    reduced = p.reduced;
-    exclusive = p.exclusive;
-  }
+  ends : (next : Body) → r.ended ≡ true → todo next r.groups ≡ End
+  ends next e = absurd (true≢false (sym e ∙ alive))
 
   pub placed-branch : (taken : Bool) (e : E) (a b rest : Body) → r.rest ≡ Next (If e a b) rest → IsPlaced (with_rest (append (if taken then a else b) rest) r)
   placed-branch taken e a b rest was = by taken
@@ -65,36 +50,25 @@ module _ (r : Region) (p : IsPlaced r) (alive : r.ended ≡ false) where
 
       by : (t : Bool) → IsPlaced (with_rest (append (if t then a else b) rest) r)
       by true = let t = subst (EachTouch (λ u. allows r.own u ≡ true)) (ap (λ x. todo x r.groups) was ∙ todo-next (If e a b) rest r.groups) p.inside in
-          placed-next (append a rest) (at-one r.own (unawaited r.waiting r.children) (monotone r.waiting r.children) e a b rest r.groups fine)
+          placed-as r p (append a rest) r.waiting r.ended (at-one r.own (unawaited r.waiting r.children) (monotone r.waiting r.children) e a b rest r.groups fine)
           (subst (EachTouch (λ u. allows r.own u ≡ true)) (sym (todo-append a rest r.groups)) (touch-append (λ u. allows r.own u ≡ true) a (todo rest r.groups) t.0.1 t.1))
           (subst (EachTask LetsAll) (sym (todo-append a rest r.groups)) (task-append LetsAll a (todo rest r.groups) each.0.0 each.1))
-          (λ uses own. awaits-one (unawaited r.waiting r.children) (monotone r.waiting r.children) e a b rest r.groups (await uses own))
+          (λ uses own. awaits-one (unawaited r.waiting r.children) (monotone r.waiting r.children) e a b rest r.groups (await uses own)) (ends (append a rest)) p.shut
       by false = let t = subst (EachTouch (λ u. allows r.own u ≡ true)) (ap (λ x. todo x r.groups) was ∙ todo-next (If e a b) rest r.groups) p.inside in
-          placed-next (append b rest) (at-two r.own (unawaited r.waiting r.children) (monotone r.waiting r.children) e a b rest r.groups fine)
+          placed-as r p (append b rest) r.waiting r.ended (at-two r.own (unawaited r.waiting r.children) (monotone r.waiting r.children) e a b rest r.groups fine)
           (subst (EachTouch (λ u. allows r.own u ≡ true)) (sym (todo-append b rest r.groups)) (touch-append (λ u. allows r.own u ≡ true) b (todo rest r.groups) t.0.2 t.1))
           (subst (EachTask LetsAll) (sym (todo-append b rest r.groups)) (task-append LetsAll b (todo rest r.groups) each.0.1 each.1))
-          (λ uses own. awaits-two (unawaited r.waiting r.children) (monotone r.waiting r.children) e a b rest r.groups (await uses own))
+          (λ uses own. awaits-two (unawaited r.waiting r.children) (monotone r.waiting r.children) e a b rest r.groups (await uses own)) (ends (append b rest)) p.shut
 
   pub placed-wait : (w : Option (List Use)) (rest : Body) → r.rest ≡ Next (Wait w) rest → r.waiting ≡ None → IsPlaced (waits w rest r)
   placed-wait w rest was calm =
-      let t = subst (EachTouch (λ u. allows r.own u ≡ true)) (ap (λ x. todo x r.groups) was ∙ todo-next (Wait w) rest r.groups) p.inside in
-      record {
-        fine = at-wait r.own (unawaited r.waiting r.children) (unawaited (Some w) r.children) (monotone r.waiting r.children) w rest r.groups fewer
-            (subst (λ x. IsFineAt r.own (unawaited r.waiting r.children) x r.groups) was p.fine);
-        inside = t.1;
-        tasks = (subst (EachTask LetsAll) (ap (λ x. todo x r.groups) was ∙ todo-next (Wait w) rest r.groups) p.tasks).1;
-        awaits = λ uses own. awaits-wait (unawaited r.waiting r.children) (unawaited (Some w) r.children) (monotone r.waiting r.children) w rest r.groups fewer
-            (subst (λ x. AwaitsAll (unawaited r.waiting r.children) x r.groups) was (p.awaits uses own));
-        within = p.within;
-        apart = p.apart;
-        over = λ e. absurd (true≢false (sym e ∙ alive));
-        shut = p.shut;
-        once = p.once;
-        writes = p.writes;
-        grouped = p.grouped;
-        reduced = p.reduced;
-        exclusive = p.exclusive;
-      }
+      placed-as r p rest (Some w) r.ended
+      (at-wait r.own (unawaited r.waiting r.children) (unawaited (Some w) r.children) (monotone r.waiting r.children) w rest r.groups fewer
+      (subst (λ x. IsFineAt r.own (unawaited r.waiting r.children) x r.groups) was p.fine))
+      (subst (EachTouch (λ u. allows r.own u ≡ true)) (ap (λ x. todo x r.groups) was ∙ todo-next (Wait w) rest r.groups) p.inside).1
+      (subst (EachTask LetsAll) (ap (λ x. todo x r.groups) was ∙ todo-next (Wait w) rest r.groups) p.tasks).1
+      (λ uses own. awaits-wait (unawaited r.waiting r.children) (unawaited (Some w) r.children) (monotone r.waiting r.children) w rest r.groups fewer
+      (subst (λ x. AwaitsAll (unawaited r.waiting r.children) x r.groups) was (p.awaits uses own))) (ends rest) p.shut
     where
       fewer : (test : Sibling → Bool) → unawaited (Some w) r.children test ≡ true → unawaited r.waiting r.children (λ s. test s && not (awaits w s.uses)) ≡ true
       fewer test h = subst (λ x. unawaited x r.children (λ s. test s && not (awaits w s.uses)) ≡ true) (sym calm) (executed-wait w r.children test h)

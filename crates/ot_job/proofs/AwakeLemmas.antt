@@ -1,5 +1,5 @@
 -- A task goes on where neither a wait nor a group's end holds it.
-use Rattle.std.proofs.Common.{◌≡◌, ℕ, zero, suc, ◌+◌, ◌<◌, Bool, true, false, cond, not, ◌&&◌, ◌||◌, List, [], ◌∷◌, length, refl, sym, ap, subst, ◌∙◌, arith, true≢false}
+use Rattle.std.proofs.Common.{◌≡◌, ℕ, ◌+◌, ◌<◌, Bool, true, false, cond, not, ◌&&◌, ◌||◌, List, [], ◌∷◌, length, refl, sym, ap, subst, ◌∙◌, arith, true≢false}
 use Rattle.std.specs.Prelude.{None}
 use Rattle.std.specs.Prelude.{Some, slice_get, count_by, ◌==◌}
 use Rattle.std.specs.List.{list_any}
@@ -19,8 +19,8 @@ use Rattle.ot_job.specs.Sound.{IsBegun, IsPlaced, IsSound}
 use Rattle.ot_task.specs.Pieces.{passed, awake}
 use Rattle.ot_task.specs.Waits.{is_held, is_let_go, end_lets_go}
 use Rattle.ot_job.proofs.UnawaitedLemmas.{let-go}
-use Rattle.ot_job.proofs.GroupLemmas.{placed-leave}
-use Rattle.ot_job.proofs.ChangedLemmas.{sound-changed}
+use Rattle.ot_job.proofs.GroupLemmas.{placed-leave, kid-none}
+use Rattle.ot_job.proofs.ChangedLemmas.{sound-changed, placed-as}
 
 -- none passes where none is counted
 pub none-counted : (p : Sibling → Bool) (kids : List Sibling) → count_by p kids ≡ 0 → list_any p kids ≡ false
@@ -39,41 +39,14 @@ is-zero n h = grind (arith, nat_tests)
 
 module _ (r : Region) (p : IsPlaced r) where
   pub placed-calm : is_held r.waiting r.children ≡ false → IsPlaced (record r { waiting = None })
-  placed-calm none = record {
-    fine = at-fewer r.own (unawaited None r.children) (unawaited r.waiting r.children) r.rest r.groups (λ test h. let-go r.waiting r.children test none h) p.fine;
-    inside = p.inside;
-    tasks = p.tasks;
-    awaits = λ uses own. awaits-fewer (unawaited None r.children) (unawaited r.waiting r.children) r.rest r.groups (λ test h. let-go r.waiting r.children test none h) (p.awaits uses own);
-    within = p.within;
-    apart = p.apart;
-    over = p.over;
-    shut = p.shut;
-    once = p.once;
-    writes = p.writes;
-    grouped = p.grouped;
-    reduced = p.reduced;
-    exclusive = p.exclusive;
-  }
+  placed-calm none =
+      placed-as r p r.rest None r.ended
+      (at-fewer r.own (unawaited None r.children) (unawaited r.waiting r.children) r.rest r.groups (λ test h. let-go r.waiting r.children test none h) p.fine) p.inside p.tasks
+      (λ uses own. awaits-fewer (unawaited None r.children) (unawaited r.waiting r.children) r.rest r.groups (λ test h. let-go r.waiting r.children test none h) (p.awaits uses own)) p.over p.shut
 
 -- none that has not finished was created in the group
 not-in : (g : ℕ) (kids : List Sibling) → list_any (is_unfinished_in g) kids ≡ false → (k : ℕ) (s : Sibling) → slice_get kids k ≡ Some s → s.finished ≡ false → is_in g s ≡ false
-not-in g [] none k s there alive = cc
-not-in g (x ∷ kids) none zero s there alive =
-    let here : x ≡ s = cc in
-    bits (is_unfinished s) (is_in g s) (ap not alive) (subst (λ (y : Sibling). (is_unfinished y && is_in g y) ≡ false) here (left (is_unfinished_in g x) (list_any (is_unfinished_in g) kids) none))
-  where
-    left : (a b : Bool) → (a || b) ≡ false → a ≡ false
-    left true b h = h
-    left false b h = refl
-
-    bits : (u t : Bool) → u ≡ true → (u && t) ≡ false → t ≡ false
-    bits true t h g = g
-    bits false t h g = absurd (true≢false (sym h))
-not-in g (x ∷ kids) none (suc k) s there alive = not-in g kids (right (is_unfinished_in g x) (list_any (is_unfinished_in g) kids) none) k s there alive
-  where
-    right : (a b : Bool) → (a || b) ≡ false → b ≡ false
-    right true b h = absurd (true≢false h)
-    right false b h = h
+not-in g kids none k s there alive = kid-none kids (is_in g) k s none there alive
 
 -- they are all created elsewhere
 elsewhere : (g : ℕ) (kids : List Sibling) → list_any (is_unfinished_in g) kids ≡ false → (test : Sibling → Bool)

@@ -3,6 +3,7 @@ use Rattle.std.proofs.Common.{◌≡◌, ℕ, suc, Bool, true, false, cond, List
 use Rattle.std.specs.Prelude.{Option, Some, None, IsSome, option_map}
 use Rattle.std.specs.List.{find, All}
 use Rattle.std.proofs.lemmas.Option.{same_Some}
+use Rattle.std.proofs.lemmas.Iterator.Adapters.{option_map_id}
 use Rattle.ot_model.specs.Tree.{E, Body}
 use Rattle.ot_model.specs.Value.{val}
 use Rattle.ot_check.specs.Paths.{use_as}
@@ -86,11 +87,7 @@ module _ (first last : List LentCell) (before after : List (List ℕ)) (piece : 
             → ((op : Operation) → l.mode ≡ Folds op → l.value ≡ unit_of op → cell_of after l.cell ≡ cell_of before l.cell)
             → IsSome (cell_of before l.cell) → IsGiven (Some m) (cell_of before c) (Some l.value) now → cell_of after c ≡ now
         joins l Reads now is at j u there g =
-            ap (cell_of after) (sym at) ∙ j ∙ ap (λ (m : Mode). option_map (λ stored. joined m stored l.value) (cell_of before l.cell)) is ∙ as_is (cell_of before l.cell) ∙ ap (cell_of before) at ∙ sym g.0
-          where
-            as_is : (o : Option ℕ) → option_map (λ (n : ℕ). n) o ≡ o
-            as_is None = refl
-            as_is (Some n) = refl
+            ap (cell_of after) (sym at) ∙ j ∙ ap (λ (m : Mode). option_map (λ stored. joined m stored l.value) (cell_of before l.cell)) is ∙ option_map_id (cell_of before l.cell) ∙ ap (cell_of before) at ∙ sym g.0
         joins l Writes now is at j u there g =
             ap (cell_of after) (sym at) ∙ j ∙ ap (λ (m : Mode). option_map (λ stored. joined m stored l.value) (cell_of before l.cell)) is ∙ value (cell_of before l.cell) there ∙ sym g
           where

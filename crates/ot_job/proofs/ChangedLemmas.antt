@@ -1,15 +1,21 @@
 -- One region moves on, and who is whose child stays.
-use Rattle.std.proofs.Common.{◌≡◌, ℕ, ◌<◌, List, ◌∷◌, length, sym, ap, subst, ◌∙◌, ◌⊎◌, inl, inr, arith}
-use Rattle.std.specs.Prelude.{slice_get}
+use Rattle.std.proofs.Common.{◌≡◌, ℕ, ◌<◌, List, ◌∷◌, length, sym, ap, subst, ◌∙◌, ◌⊎◌, inl, inr, arith, Bool, true, []}
+use Rattle.std.specs.Prelude.{slice_get, Some}
 use Rattle.std.proofs.lemmas.Bool.{cases_eq}
 use Rattle.ot_model.specs.Cells.{updated}
+use Rattle.ot_model.specs.Tree.{Body, End}
+use Rattle.ot_model.specs.declared.stmt.Use.{Use}
 use Rattle.ot_model.proofs.CellsLemmas.{length-updated}
 use Rattle.ot_depend.specs.Siblings.{IsReady}
-use Rattle.ot_task.specs.Place.{Open}
-use Rattle.ot_task.specs.Regions.{Region}
+use Rattle.ot_task.specs.Place.{Open, todo}
+use Rattle.ot_task.specs.Regions.{Region, Waiting}
 use Rattle.ot_job.specs.Numbered.{at, parent_of}
-use Rattle.ot_job.specs.Sound.{IsBegun, IsPlaced, IsSound}
+use Rattle.ot_job.specs.Sound.{IsBegun, IsPlaced, IsSound, LetsAll}
+use Rattle.ot_job.specs.Awaiting.{IsFineAt, AwaitsAll, unawaited}
 use Rattle.ot_job.proofs.KeptLemmas.{at-updated, at-updated-other}
+use Rattle.ot_job.proofs.EachLemmas.{at-each, field-kept}
+use Rattle.ot_check.specs.Touches.{EachTouch, EachTask}
+use Rattle.ot_check.specs.Offences.{allows}
 
 -- what says who is whose child stays
 pub record IsKept (f : Region → Region) : Type 0 where
@@ -21,11 +27,7 @@ pub record IsKept (f : Region → Region) : Type 0 where
 
 module _ (rs : List Region) (i : ℕ) (f : Region → Region) (h : i < length rs) (k : IsKept f) where
   field : {A : Type 0} (g : Region → A) → ((r : Region) → g (f r) ≡ g r) → (j : ℕ) → g (at (updated rs i f) j) ≡ g (at rs j)
-  field g keeps j = pick (cases_eq j i)
-    where
-      pick : (j ≡ i) ⊎ (j ≡ i → ⊥) → g (at (updated rs i f) j) ≡ g (at rs j)
-      pick (inl e) = ap (λ n. g (at (updated rs i f) n)) e ∙ ap g (at-updated rs i f h) ∙ keeps (at rs i) ∙ ap (λ n. g (at rs n)) (sym e)
-      pick (inr e) = ap g (at-updated-other rs i j f e)
+  field g keeps = field-kept g f keeps rs i
 
   parents-same : (j : ℕ) → parent_of (updated rs i f) j ≡ parent_of rs j
   parents-same = field (λ r. r.parent) k.parent
@@ -67,7 +69,7 @@ module _ (rs : List Region) (i : ℕ) (f : Region → Region) (h : i < length rs
         omega (arith, o, field (λ r. r.child) k.child a, field (λ r. r.child) k.child b);
     begun = λ j pos below. subst (IsBegun (updated rs i f)) (sym (parents-same j)) (begun-changed (parent_of rs j) (s.begun j pos (omega (arith, below, length-updated rs i f))));
     entered = λ j o os is. begun-changed j (opened-at j o os is (cases_eq j i));
-    placed = λ j. at-place j (cases_eq j i);
+    placed = at-each IsPlaced rs i f s.placed placed;
     done = λ j pos over l x there.
         s.done j pos (sym (field (λ r. r.ended) k.ended j) ∙ over) l x (ap (λ t. slice_get t l) (sym (field (λ r. r.children) k.children j)) ∙ there);
   }
@@ -77,6 +79,22 @@ module _ (rs : List Region) (i : ℕ) (f : Region → Region) (h : i < length rs
           subst (IsBegun rs) (sym e) (opens o os (ap (λ (r : Region). r.groups) (sym (at-updated rs i f h)) ∙ ap (λ n. (at (updated rs i f) n).groups) (sym e) ∙ is))
       opened-at j o os is (inr e) = s.entered j o os (ap (λ (r : Region). r.groups) (sym (at-updated-other rs i j f e)) ∙ is)
 
-      at-place : (j : ℕ) → (j ≡ i) ⊎ (j ≡ i → ⊥) → IsPlaced (at (updated rs i f) j)
-      at-place j (inl e) = subst (λ n. IsPlaced (at (updated rs i f) n)) (sym e) (subst IsPlaced (sym (at-updated rs i f h)) placed)
-      at-place j (inr e) = subst IsPlaced (sym (at-updated-other rs i j f e)) (s.placed j)
+-- its body and its wait go on, or it ends: what its children and its groups ask stays
+pub placed-as : (r : Region) → IsPlaced r → (rest : Body) (waiting : Waiting) (ended : Bool) → IsFineAt r.own (unawaited waiting r.children) rest r.groups → EachTouch (λ u. allows r.own u ≡ true) (todo rest r.groups)
+    → EachTask LetsAll (todo rest r.groups) → ((uses : List Use) → r.own ≡ Some uses → AwaitsAll (unawaited waiting r.children) rest r.groups) → (ended ≡ true → todo rest r.groups ≡ End)
+    → (ended ≡ true → r.groups ≡ []) → IsPlaced (record r { rest = rest; waiting = waiting; ended = ended })
+placed-as r p rest waiting ended fine inside tasks awaits over shut = record {
+  fine = fine;
+  inside = inside;
+  tasks = tasks;
+  awaits = awaits;
+  within = p.within;
+  apart = p.apart;
+  over = over;
+  shut = shut;
+  once = p.once;
+  writes = p.writes;
+  grouped = p.grouped;
+  reduced = p.reduced;
+  exclusive = p.exclusive;
+}

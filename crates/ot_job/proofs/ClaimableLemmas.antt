@@ -14,6 +14,8 @@ use Rattle.ot_job.specs.Numbered.{at}
 use Rattle.ot_job.specs.Claiming.{is_claimable}
 use Rattle.ot_task.specs.Waits.{is_let_go}
 use Rattle.ot_job.proofs.KeptLemmas.{at-updated, at-updated-other, at-more}
+use Rattle.ot_job.proofs.EachLemmas.{field-kept, field-more}
+use Rattle.ot_depend.proofs.SiblingsLemmas.{slice_get-push}
 
 -- ---- what a claim looks at
 
@@ -41,13 +43,6 @@ claimable-busy rs i out = ap (λ b. (not (at rs i).ended && not b) && others) ou
 
 -- ---- one region changes
 
-pub field-kept : {A : Type 0} (g : Region → A) (f : Region → Region) → ((r : Region) → g (f r) ≡ g r) → (rs : List Region) (i p : ℕ) → g (at (updated rs i f) p) ≡ g (at rs p)
-field-kept g f same [] i p = refl
-field-kept g f same (r ∷ rs) zero zero = same r
-field-kept g f same (r ∷ rs) zero (suc p) = refl
-field-kept g f same (r ∷ rs) (suc i) zero = refl
-field-kept g f same (r ∷ rs) (suc i) (suc p) = field-kept g f same rs i p
-
 pub claimable-other : (f : Region → Region) → ((r : Region) → (f r).children ≡ r.children) → (rs : List Region) (i k : ℕ) → k ≢ i → is_claimable (updated rs i f) k ≡ is_claimable rs k
 claimable-other f same rs i k apart =
     same-claim rs (updated rs i f) k (at-updated-other rs i k f apart)
@@ -73,20 +68,9 @@ claimable-told rs p c k apart same = same-claim rs (updated rs p (without c)) k 
 abbrev ready_among : List Sibling → Option Sibling → Bool
 ready_among before found = unwrap_or (option_map (λ (itself : Sibling). list_all (λ earlier. earlier.finished || not (depends_on earlier.uses itself.uses)) before) found) false
 
-slice_get-behind : {A : Type 0} (xs : List A) (y : A) (c : ℕ) → c < length xs → slice_get (xs ++ y ∷ []) c ≡ slice_get xs c
-slice_get-behind [] y c h = absurd (omega (arith, h))
-slice_get-behind (x ∷ xs) y zero h = refl
-slice_get-behind (x ∷ xs) y (suc c) h = slice_get-behind xs y c (omega (arith, h))
-
 is_ready-behind : (cs : List Sibling) (s : Sibling) (c : ℕ) → c < length cs → is_ready (cs ++ s ∷ []) c ≡ is_ready cs c
 is_ready-behind cs s c h =
-    ap (λ l. ready_among l (slice_get (cs ++ s ∷ []) c)) (take-append-le c cs (s ∷ []) (omega (arith, h))) ∙ ap (ready_among (take c cs)) (slice_get-behind cs s c h)
-
-children-more : (new : Region) → new.children ≡ [] → (rs : List Region) (q : ℕ) → (at (rs ++ new ∷ []) q).children ≡ (at rs q).children
-children-more new none [] zero = none
-children-more new none [] (suc q) = refl
-children-more new none (r ∷ rs) zero = refl
-children-more new none (r ∷ rs) (suc q) = children-more new none rs q
+    ap (λ l. ready_among l (slice_get (cs ++ s ∷ []) c)) (take-append-le c cs (s ∷ []) (omega (arith, h))) ∙ ap (ready_among (take c cs)) (slice_get-push cs s c h)
 
 pub claimable-created : (rs : List Region) (i : ℕ) (uses : List Use) (new : Region) → i < length rs → new.children ≡ [] → (k : ℕ) → k < length rs → k ≢ i
     → (0 < k → (at rs k).child < length (at rs (at rs k).parent).children) → is_claimable (updated rs i (with_child uses) ++ new ∷ []) k ≡ is_claimable rs k
@@ -100,7 +84,7 @@ claimable-created rs i uses new within none k h apart known = by k refl
 
     ready : (at rs k).child < length (at rs (at rs k).parent).children
         → is_ready (at (now ++ new ∷ []) (at rs k).parent).children (at rs k).child ≡ is_ready (at rs (at rs k).parent).children (at rs k).child
-    ready before = ap (λ (cs : List Sibling). is_ready cs (at rs k).child) (children-more new none now (at rs k).parent) ∙ elim (cases_eq (at rs k).parent i) [
+    ready before = ap (λ (cs : List Sibling). is_ready cs (at rs k).child) (field-more (λ r. r.children) now new none (at rs k).parent) ∙ elim (cases_eq (at rs k).parent i) [
       | inl is ↦ ap (λ q. is_ready (at now q).children (at rs k).child) is ∙ ap (λ (r : Region). is_ready r.children (at rs k).child) (at-updated rs i (with_child uses) within)
           ∙ is_ready-behind (at rs i).children _ (at rs k).child (omega (arith, before, ap (λ q. length (at rs q).children) is)) ∙ sym (ap (λ q. is_ready (at rs q).children (at rs k).child) is)
       | inr other ↦ ap (λ (r : Region). is_ready r.children (at rs k).child) (at-updated-other rs i (at rs k).parent (with_child uses) other)

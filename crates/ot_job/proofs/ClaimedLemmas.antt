@@ -1,19 +1,17 @@
 -- What a job is once its owners have lent for a claim.
-use Rattle.std.proofs.Common.{◌≡◌, ℕ, ◌<◌, true, false, List, [], ◌∷◌, length, refl, sym, ap, subst, ◌∙◌}
-use Rattle.std.specs.Prelude.{Option, Some, get_or, All, Any, IsSome, IfSome, IsPermutation, option_map}
+use Rattle.std.proofs.Common.{◌≡◌, ℕ, List, [], refl, sym, ap, subst, ◌∙◌}
+use Rattle.std.specs.Prelude.{Option, Bool, get_or, All, IsSome, if◌then◌else◌}
 use Rattle.ot_model.specs.Tree.{E, Body}
 use Rattle.ot_model.specs.Cells.{cell_of, lengths, updated}
+use Rattle.ot_model.specs.Names.{NamedIn}
 use Rattle.ot_model.specs.Uses.{AreInOrder}
-use Rattle.ot_model.specs.declared.expr.Cell.{Cell}
-use Rattle.ot_model.specs.declared.fold.Fold.{Fold as Operation}
-use Rattle.ot_model.specs.declared.stmt.Mode.TheVariants.{Folds}
 use Rattle.ot_model.specs.declared.stmt.Use.{Use}
-use Rattle.ot_owner.specs.Keeping.{Prepared}
-use Rattle.ot_owner.specs.Leases.{Lease, lease_of, lent_from}
+use Rattle.ot_owner.specs.Keeping.{Keeping, Prepared, IsLast}
+use Rattle.ot_owner.specs.Leases.{lease_of, lent_from}
 use Rattle.ot_owner.specs.Lending.{uses_of}
-use Rattle.ot_owner.specs.Owning.{Owned, loan_of, IsFreeFor}
-use Rattle.ot_owner.specs.Rows.{Summed, IsSummedBy, begun_for}
-use Rattle.ot_owner.specs.Worth.{worths, AreWorthSame}
+use Rattle.ot_owner.specs.Owning.{Owned}
+use Rattle.ot_owner.specs.Rows.{begun_for}
+use Rattle.ot_owner.specs.Worth.{worths}
 use Rattle.ot_owner.specs.declared.lent.LentCell.{LentCell}
 use Rattle.ot_owner.proofs.RightsLemmas.{lent_uses}
 use Rattle.ot_task.specs.Assigns.{CanRun}
@@ -21,122 +19,133 @@ use Rattle.ot_task.specs.Modes.{AreHeld}
 use Rattle.ot_task.specs.Pieces.{leading, behind, test_of, awake, begun, group_passed}
 use Rattle.ot_task.specs.Regions.{Region}
 use Rattle.ot_task.specs.Touched.{piece_touches}
-use Rattle.ot_job.specs.Claiming.{is_claimable, picked}
-use Rattle.ot_job.specs.Claims.{Claims}
+use Rattle.ot_job.specs.Calls.{IsLent, MayLend}
+use Rattle.ot_job.specs.Claiming.{claimable_of, picked}
+use Rattle.ot_job.specs.Claims.{Claims, ahead}
 use Rattle.ot_job.specs.Holding.{Holds}
+use Rattle.ot_job.specs.JobView.{live_of}
 use Rattle.ot_job.specs.Live.{Live}
 use Rattle.ot_job.specs.Numbered.{at}
-use Rattle.ot_job.specs.Opening.{left_open, passed_over}
-use Rattle.ot_job.specs.States.{claimable_in}
+use Rattle.ot_job.specs.Opening.{left_open}
 use Rattle.ot_job.specs.Well.{IsWell, IsOnCourse}
+use Rattle.ot_job.specs.declared.job.Job.TheInside.{Inside}
+use Rattle.ot_job.proofs.InsideLemmas.{IsPicked}
 use Rattle.ot_job.proofs.LendingLemmas.{claim-open, claim-unused, claim-known, claim-folds, claim-fresh}
 use Rattle.ot_job.proofs.PickLemmas.{at-here}
 use Rattle.ot_job.proofs.TakenLemmas.{claim-can}
-use Rattle.ot_job.proofs.WellLemmas.{claim-free, claim-holds, claim-well}
+use Rattle.ot_job.proofs.WellLemmas.{claim-free, claim-holds, claim-well, named-awake}
 
--- the group whose end is passed, as the task tells it
-pub passed-told : (rs : List Region) (i : ℕ) (t : Region) (told : Option ℕ) → i < length rs → t ≡ get_or rs i t → told ≡ group_passed t → told ≡ group_passed (at rs i)
-passed-told rs i t told h here is = is ∙ ap group_passed (sym (at-here rs i t h here))
+-- the region of the task that is picked, as the code looks at it
+module _ (s : Inside) (w : IsWell (live_of s)) (pick i : ℕ) (p : IsPicked s pick i) (t : Region) (here : t ≡ get_or s.tasks i t) where
+  pub picked-is : at s.tasks i ≡ t
+  picked-is = at-here s.tasks i t p.known here
 
-module _ (j : Live) (w : IsWell j) (working : j.failing ≡ false) (i : ℕ) (h : i < length j.regions) (can : is_claimable j.regions i ≡ true) (worker : ℕ) (decl : List Use)
-    (are : AreHeld (at j.regions i) decl) (ordered : AreInOrder decl) (slip : Prepared) (slip-is : slip ≡ record { uses = decl; worker = worker })
-    (before : Owned) (before-is : before ≡ j.owned) (told : Option ℕ) (told-is : told ≡ group_passed (at j.regions i)) where
+  pub picked-named : NamedIn (lengths s.cells) (awake t).rest
+  picked-named = subst (λ (r : Region). NamedIn (lengths s.cells) (awake r).rest) picked-is (named-awake (live_of s) (w.course p.working) i)
+
+-- what the calls have made of the job: the copies are of the declaration's cells, the piece may run on them, and the job is as
+-- it always is and as the claim has it
+pub record AreLent (j : Live) (t : Region) (pick i worker : ℕ) (decl : List Use) (lent : List LentCell) (new : Live) : Type 0 where
+  pub are : uses_of lent ≡ decl
+  pub can : (assigns : Body) (test : Option E) → assigns ≡ leading (awake t).rest → test ≡ test_of (behind (awake t).rest) → CanRun assigns test lent
+  pub well : IsWell new
+  pub claims : (assigns : Body) (test : Option E) → assigns ≡ leading (awake t).rest → test ≡ test_of (behind (awake t).rest) → Claims j pick worker (record { task = i; assigns = assigns; test = test; lent = lent }) new
+
+module _ (s : Inside) (w : IsWell (live_of s)) (pick i : ℕ) (p : IsPicked s pick i) (t : Region) (here : t ≡ get_or s.tasks i t) (worker : ℕ) (decl : List Use) (are : AreHeld t decl) (ordered : AreInOrder decl)
+    (slip : Prepared) (slip-is : slip ≡ record { uses = decl; worker = worker }) (owners : Keeping) (before-is : owners.owned ≡ s.owners.owned) (told : Option ℕ) (told-is : told ≡ group_passed t) where
+  abbrev j : Live
+  j = live_of s
+
   o : IsOnCourse j
-  o = w.course working
+  o = w.course p.working
 
-  uses-are : slip.uses ≡ decl
-  uses-are = ap (λ (s : Prepared). s.uses) slip-is
+  same : at s.tasks i ≡ t
+  same = picked-is s w pick i p t here
 
-  abbrev lease : Lease
-  lease = record { uses = decl; firsts = [] }
+  abbrev passed : Option ℕ
+  passed = group_passed (at s.tasks i)
 
-  -- ---- what the owners ask
+  passed-is : told ≡ passed
+  passed-is = told-is ∙ ap group_passed (sym same)
 
-  pub lends-open : IfSome told (λ group. Any (λ g. g.group ≡ group) before.groups)
-  lends-open = subst (λ (b : Owned). IfSome told (λ group. Any (λ (g : Summed). g.group ≡ group) b.groups)) (sym before-is) (claim-open j w o i h can told told-is)
+  decl-held : AreHeld (at s.tasks i) decl
+  decl-held = subst (λ (r : Region). AreHeld r decl) (sym same) are
 
-  pub lends-unused : IfSome told (λ group. All (λ g. g.group ≡ group → IsFreeFor before.out g.uses) before.groups)
-  lends-unused = subst (λ (b : Owned). IfSome told (λ group. All (λ (g : Summed). g.group ≡ group → IsFreeFor b.out g.uses) b.groups)) (sym before-is) (claim-unused j w o i h can told told-is)
+  abbrev asked : Prepared
+  asked = record { uses = decl; worker = worker }
 
-  pub lends-known : IfSome told (λ group. All (λ g. g.group ≡ group → All (λ u. IsSome (cell_of j.cells u.cell)) g.uses) before.groups)
-  lends-known = subst (λ (b : Owned). IfSome told (λ group. All (λ (g : Summed). g.group ≡ group → All (λ u. IsSome (cell_of j.cells u.cell)) g.uses) b.groups)) (sym before-is) (claim-known j w o i h can told told-is)
+  -- what the owners ask
+  pub may-lend : IsLast owners slip → All (λ u. IsSome (cell_of s.cells u.cell)) decl → MayLend owners s.cells told slip
+  may-lend last there =
+      let place = last.place in
+      let rows = (subst (IsLast owners) slip-is last).rows in
+      subst (MayLend owners s.cells told) (sym slip-is)
+      (subst (λ (n : Option ℕ). MayLend owners s.cells n asked) (sym passed-is)
+      (subst (λ (b : Owned). MayLend (record owners { owned = b }) s.cells passed asked) (sym before-is) (record {
+        last = record { place = place; rows = rows };
+        is_open = claim-open j w o i p.known p.can passed refl;
+        unused = claim-unused j w o i p.known p.can passed refl;
+        known = claim-known j w o i p.known p.can passed refl;
+        free = claim-free j w o i p.known p.can decl decl-held ordered;
+        there = there;
+        summed = claim-folds j w o i p.known p.can worker (record { uses = decl; firsts = [] }) decl-held ordered;
+      })))
 
-  pub lends-free : IsFreeFor before.out slip.uses
-  lends-free = subst (λ (b : Owned). IsFreeFor b.out slip.uses) (sym before-is) (subst (IsFreeFor j.owned.out) (sym uses-are) (claim-free j w o i h can decl are ordered))
-
-  pub lends-there : All (λ u. IsSome (cell_of j.cells u.cell)) decl → All (λ u. IsSome (cell_of j.cells u.cell)) slip.uses
-  lends-there there = subst (All (λ (u : Use). IsSome (cell_of j.cells u.cell))) (sym uses-are) there
-
-  pub lends-summed : All (λ u. (op : Operation) → u.mode ≡ Folds op → IsSummedBy (left_open told before.groups) op u.cell) slip.uses
-  lends-summed =
-      subst (λ (b : Owned). All (λ u. (op : Operation) → u.mode ≡ Folds op → IsSummedBy (left_open told b.groups) op u.cell) slip.uses) (sym before-is)
-      (subst (λ (n : Option ℕ). All (λ u. (op : Operation) → u.mode ≡ Folds op → IsSummedBy (left_open n j.owned.groups) op u.cell) slip.uses) (sym told-is)
-      (subst (All (λ (u : Use). (op : Operation) → u.mode ≡ Folds op → IsSummedBy (left_open (group_passed (at j.regions i)) j.owned.groups) op u.cell)) (sym uses-are)
-      (claim-folds j w o i h can worker lease are ordered)))
-
-  -- ---- what they have lent
-
-  module _ (cells : List (List ℕ)) (owned : Owned) (lent : List LentCell) (is : lent ≡ lent_from cells slip.uses) (long : lengths cells ≡ lengths j.cells)
-      (out : IsPermutation (loan_of slip.worker lent ∷ before.out) owned.out) (groups : owned.groups ≡ begun_for slip.worker slip.uses (left_open told before.groups))
-      (stored : (cell : Cell) → cell_of cells cell ≡ option_map (passed_over told before.groups cell) (cell_of j.cells cell))
-      (same : AreWorthSame before owned j.cells cells) where
-    pub lent-are : uses_of lent ≡ decl
-    lent-are = lent_uses cells slip.uses lent is ∙ uses-are
-
-    lent-held : AreHeld (at j.regions i) (uses_of lent)
-    lent-held = subst (AreHeld (at j.regions i)) (sym lent-are) are
-
-    lent-ordered : AreInOrder (uses_of lent)
-    lent-ordered = subst AreInOrder (sym lent-are) ordered
-
+  -- what they have lent
+  module _ (cells : List (List ℕ)) (owned : Owned) (lent : List LentCell) (are-lent : IsLent owners.owned s.cells told slip lent owned cells) where
     -- told of the job that was
-    out-now : IsPermutation (loan_of worker lent ∷ j.owned.out) owned.out
-    out-now =
-        subst (λ (b : Owned). IsPermutation (loan_of worker lent ∷ b.out) owned.out) before-is
-        (subst (λ n. IsPermutation (loan_of n lent ∷ before.out) owned.out) (ap (λ (s : Prepared). s.worker) slip-is) out)
+    l : IsLent s.owners.owned s.cells passed asked lent owned cells
+    l =
+        subst (λ (a : Prepared). IsLent s.owners.owned s.cells passed a lent owned cells) slip-is
+        (subst (λ (n : Option ℕ). IsLent s.owners.owned s.cells n slip lent owned cells) passed-is
+        (subst (λ (b : Owned). IsLent b s.cells told slip lent owned cells) before-is are-lent))
 
-    groups-now : owned.groups ≡ begun_for worker (uses_of lent) (left_open (group_passed (at j.regions i)) j.owned.groups)
-    groups-now =
-        groups ∙ ap (λ (s : Prepared). begun_for s.worker s.uses (left_open told before.groups)) slip-is
-        ∙ ap (λ (us : List Use). begun_for worker us (left_open told before.groups)) (sym lent-are)
-        ∙ ap (λ (b : Owned). begun_for worker (uses_of lent) (left_open told b.groups)) before-is
-        ∙ ap (λ (n : Option ℕ). begun_for worker (uses_of lent) (left_open n j.owned.groups)) told-is
+    uses-are : uses_of lent ≡ decl
+    uses-are = lent_uses cells decl lent l.lent
 
-    stored-now : (cell : Cell) → cell_of cells cell ≡ option_map (passed_over (group_passed (at j.regions i)) j.owned.groups cell) (cell_of j.cells cell)
-    stored-now cell =
-        stored cell ∙ ap (λ (b : Owned). option_map (passed_over told b.groups cell) (cell_of j.cells cell)) before-is
-        ∙ ap (λ (n : Option ℕ). option_map (passed_over n j.owned.groups cell) (cell_of j.cells cell)) told-is
+    held : AreHeld (at s.tasks i) (uses_of lent)
+    held = subst (AreHeld (at s.tasks i)) (sym uses-are) decl-held
 
-    same-now : AreWorthSame j.owned owned j.cells cells
-    same-now = subst (λ (b : Owned). AreWorthSame b owned j.cells cells) before-is same
+    in-order : AreInOrder (uses_of lent)
+    in-order = subst AreInOrder (sym uses-are) ordered
 
-    pub lent-worth : lent ≡ lent_from (worths j.owned j.cells) (uses_of lent)
-    lent-worth = is ∙ ap (lent_from cells) (uses-are ∙ sym lent-are) ∙ claim-fresh j w o i h can worker (lease_of lent) lent-held lent-ordered cells owned long same-now groups-now
+    groups-now : owned.groups ≡ begun_for worker (uses_of lent) (left_open passed s.owners.owned.groups)
+    groups-now = l.groups ∙ ap (λ (us : List Use). begun_for worker us (left_open passed s.owners.owned.groups)) (sym uses-are)
 
-    pub lent-can : CanRun (leading (awake (at j.regions i)).rest) (test_of (behind (awake (at j.regions i)).rest)) lent
-    lent-can = claim-can j o i lent lent-held (worths j.owned j.cells) lent-worth
+    worth-now : lent ≡ lent_from (worths s.owners.owned s.cells) (uses_of lent)
+    worth-now = l.lent ∙ ap (lent_from cells) (sym uses-are) ∙ claim-fresh j w o i p.known p.can worker (lease_of lent) held in-order cells owned l.lengths l.worth groups-now
 
-    abbrev pub lent-now : Live
-    lent-now = record j { regions = updated j.regions i (begun worker (lease_of lent)); cells = cells; owned = owned }
+    abbrev new : Live
+    new = record j { regions = updated s.tasks i (begun worker (lease_of lent)); cells = cells; owned = owned }
 
-    pub lent-well : IsWell lent-now
-    lent-well = claim-well j w working i h can worker (lease_of lent) lent-held lent-ordered (ap lease_of lent-worth) cells owned long same-now out-now groups-now
+    -- what was taken of its body
+    ahead-is : (b : Body) → b ≡ leading (awake t).rest → b ≡ leading (ahead j i)
+    ahead-is b is = is ∙ ap (λ (r : Region). leading (awake r).rest) (sym same)
 
-    pub lent-claims : (pick : ℕ) (assigns : Body) (test : Option E) → picked (claimable_in j) pick ≡ Some i → assigns ≡ leading (awake (at j.regions i)).rest
-        → test ≡ test_of (behind (awake (at j.regions i)).rest) → Claims j pick worker (record { task = i; assigns = assigns; test = test; lent = lent }) lent-now
-    lent-claims pick assigns test here assigns-are test-is = record {
-      task = here;
-      assigns = assigns-are;
-      test = test-is;
-      held =
-          subst (λ (b : Body). Holds (at j.regions i).own (piece_touches b test) (uses_of lent)) (sym assigns-are)
-          (subst (λ (t : Option E). Holds (at j.regions i).own (piece_touches (leading (awake (at j.regions i)).rest) t) (uses_of lent)) (sym test-is)
-          (claim-holds j w working i h can worker (lease_of lent) lent-held lent-ordered (ap lease_of lent-worth) cells owned long same-now out-now groups-now));
-      inputs = lent-worth;
-      out = out-now;
-      groups = groups-now;
-      stored = stored-now;
-      lengths = long;
-      worth = same-now;
-      now = refl;
+    test-is : (e : Option E) → e ≡ test_of (behind (awake t).rest) → e ≡ test_of (behind (ahead j i))
+    test-is e is = is ∙ ap (λ (r : Region). test_of (behind (awake r).rest)) (sym same)
+
+    pub lends : AreLent j t pick i worker decl lent new
+    lends = record {
+      are = uses-are;
+      can = λ b e taken asks.
+          subst (λ (b : Body). CanRun b e lent) (sym (ahead-is b taken))
+          (subst (λ (e : Option E). CanRun (leading (ahead j i)) e lent) (sym (test-is e asks)) (claim-can j o i lent held (worths s.owners.owned s.cells) worth-now));
+      well = claim-well j w p.working i p.known p.can worker (lease_of lent) held in-order (ap lease_of worth-now) cells owned l.lengths l.worth l.out groups-now;
+      claims = λ b e taken asks. record {
+        task = ap (λ (b : Bool). picked (if b then [] else claimable_of s.tasks) pick) p.working ∙ p.is;
+        assigns = ahead-is b taken;
+        test = test-is e asks;
+        held =
+            subst (λ (b : Body). Holds (at s.tasks i).own (piece_touches b e) (uses_of lent)) (sym (ahead-is b taken))
+            (subst (λ (e : Option E). Holds (at s.tasks i).own (piece_touches (leading (ahead j i)) e) (uses_of lent)) (sym (test-is e asks))
+            (claim-holds j w p.working i p.known p.can worker (lease_of lent) held in-order (ap lease_of worth-now) cells owned l.lengths l.worth l.out groups-now));
+        inputs = worth-now;
+        out = l.out;
+        groups = groups-now;
+        stored = l.stored;
+        lengths = l.lengths;
+        worth = l.worth;
+        now = refl;
+      };
     }

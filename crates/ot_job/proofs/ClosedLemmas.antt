@@ -1,15 +1,15 @@
 -- A task ends its body, and its parent's table tells so: what holds of the regions stays.
-use Rattle.std.proofs.Common.{◌≡◌, ◌≢◌, ℕ, zero, suc, ◌<◌, ◌≤◌, Bool, true, false, not, ◌&&◌, ◌||◌, List, [], ◌∷◌, length, refl, sym, ap, subst, ◌∙◌, ◌⊎◌, inl, inr, arith, true≢false}
+use Rattle.std.proofs.Common.{◌≡◌, ◌≢◌, ℕ, zero, suc, ◌<◌, ◌≤◌, Bool, true, false, not, ◌&&◌, ◌||◌, List, [], ◌∷◌, length, refl, sym, ap, subst, ◌∙◌, ◌⊎◌, inl, inr, arith, true≢false, eq-zero-or-pos}
 use Rattle.ot_task.specs.Waits.{is_awaited_at}
-use Rattle.std.specs.Prelude.{None}
+use Rattle.std.specs.Prelude.{None, option_map}
 use Rattle.std.specs.Prelude.{Some, slice_get, nat_lt, ◌==◌}
 use Rattle.std.specs.List.{list_any}
-use Rattle.std.proofs.lemmas.Bool.{cases_eq, cases_lt}
+use Rattle.std.proofs.lemmas.Bool.{cases_eq, cases_lt, true_from_ne_false}
 use Rattle.std.proofs.lemmas.Bool.Decides.{nat_tests}
 use Rattle.ot_model.specs.Tree.{End}
 use Rattle.ot_model.specs.Cells.{updated}
 use Rattle.ot_model.specs.declared.stmt.Use.{Use}
-use Rattle.ot_model.proofs.CellsLemmas.{length-updated}
+use Rattle.ot_model.proofs.CellsLemmas.{length-updated, slice_get-updated, slice_get-updated-other}
 use Rattle.ot_depend.specs.Siblings.{Sibling, is_unfinished, with_finished, IsReady, is_in}
 use Rattle.ot_depend.proofs.SiblingsLemmas.{IsReady-finished}
 use Rattle.ot_check.proofs.Bits.{or_true, true_or, or_right}
@@ -27,6 +27,7 @@ use Rattle.ot_job.proofs.PlaceLemmas.{at-fewer}
 use Rattle.ot_job.proofs.AwaitsLemmas.{awaits-fewer, awaits-end}
 use Rattle.ot_job.proofs.KeptLemmas.{at-updated, at-updated-other, parents-updated}
 use Rattle.ot_job.proofs.GroupLemmas.{kid-none}
+use Rattle.ot_job.proofs.ChangedLemmas.{placed-as}
 
 -- ---- a table that tells of one more
 
@@ -61,16 +62,10 @@ before (x ∷ kids) (suc c) (suc k) s h =
     record { entry = b.entry; there = b.there; uses = b.uses; groups = b.groups; unfinished = b.unfinished; finished = b.finished }
 
 told : (kids : List Sibling) (c : ℕ) (s : Sibling) → slice_get kids c ≡ Some s → slice_get (with_finished kids c) c ≡ Some (record s { finished = true })
-told [] c s h = cc
-told (x ∷ kids) zero s h = let is : x ≡ s = cc in ap (λ (y : Sibling). Some (record y { finished = true })) is
-told (x ∷ kids) (suc c) s h = told kids c s h
+told kids c s h = slice_get-updated kids c (λ x. record x { finished = true }) ∙ ap (option_map (λ (x : Sibling). record x { finished = true })) h
 
 untold : (kids : List Sibling) (c k : ℕ) (s : Sibling) → k ≢ c → slice_get kids k ≡ Some s → slice_get (with_finished kids c) k ≡ Some s
-untold [] c k s other h = h
-untold (x ∷ kids) zero zero s other h = absurd (other refl)
-untold (x ∷ kids) zero (suc k) s other h = h
-untold (x ∷ kids) (suc c) zero s other h = h
-untold (x ∷ kids) (suc c) (suc k) s other h = untold kids c k s (λ e. other (ap suc e)) h
+untold kids c k s other h = slice_get-updated-other kids c k (λ x. record x { finished = true }) (λ e. other (sym e)) ∙ h
 
 fewer-any : (kids : List Sibling) (c : ℕ) (test : Sibling → Bool)
     → list_any (λ s. is_unfinished s && test s) (with_finished kids c) ≡ true → list_any (λ s. is_unfinished s && test s) kids ≡ true
@@ -122,35 +117,17 @@ placed-without c r p = record {
 
 -- it has ended its body
 placed-over : (r : Region) → IsPlaced r → r.rest ≡ End → r.groups ≡ [] → IsPlaced (over r)
-placed-over r p was none = record {
-  fine = p.fine;
-  inside = p.inside;
-  tasks = p.tasks;
-  awaits = p.awaits;
-  within = p.within;
-  apart = p.apart;
-  over = λ e. ap (λ b. todo b r.groups) was ∙ ap (todo End) none;
-  shut = λ e. none;
-  once = p.once;
-  writes = p.writes;
-  grouped = p.grouped;
-  reduced = p.reduced;
-  exclusive = p.exclusive;
-}
+placed-over r p was none = placed-as r p r.rest r.waiting true p.fine p.inside p.tasks p.awaits (λ e. ap (λ b. todo b r.groups) was ∙ ap (todo End) none) (λ e. none)
 
 -- a body that ends leaves no child unfinished, but the root's
 all-finished : (r : Region) → IsPlaced r → r.rest ≡ End → r.groups ≡ [] → r.waiting ≡ None → (uses : List Use) → r.own ≡ Some uses
     → (k : ℕ) (s : Sibling) → slice_get r.children k ≡ Some s → s.finished ≡ true
-all-finished r p was none calm uses own k s there = by s.finished refl
+all-finished r p was none calm uses own k s there = true_from_ne_false s.finished (λ e. true≢false (kid-none r.children (λ x. true) k s left there e))
   where
     left : list_any (λ x. is_unfinished x && true) r.children ≡ false
     left =
         let at = subst (λ gs. AwaitsAll (unawaited r.waiting r.children) End gs) none (subst (λ b. AwaitsAll (unawaited r.waiting r.children) b r.groups) was (p.awaits uses own)) in
         ap (λ w. unawaited w r.children (λ x. true)) (sym calm) ∙ awaits-end (unawaited r.waiting r.children) at
-
-    by : (b : Bool) → s.finished ≡ b → s.finished ≡ true
-    by true e = e
-    by false e = absurd (true≢false (kid-none r.children (λ x. true) k s left there e))
 
 -- ---- all regions
 
@@ -179,12 +156,8 @@ module _ (ws : List Region) (s : IsSound ws) (i : ℕ) (h : i < length ws) (was 
   told-none : i ≡ 0 → told_parent i ws ≡ ws
   told-none zero_ = let test : nat_lt 0 i ≡ false = grind (arith, nat_tests) in rw test refl
 
-  zero_or : (n : ℕ) → (n ≡ 0) ⊎ (0 < n)
-  zero_or zero = inl refl
-  zero_or (suc n) = inr (omega arith)
-
   told-long : length (told_parent i ws) ≡ length ws
-  told-long = by (zero_or i)
+  told-long = by (eq-zero-or-pos i)
     where
       by : (i ≡ 0) ⊎ (0 < i) → length (told_parent i ws) ≡ length ws
       by (inl e) = ap length (told-none e)
@@ -195,7 +168,7 @@ module _ (ws : List Region) (s : IsSound ws) (i : ℕ) (h : i < length ws) (was 
 
   -- the table, before the task itself is marked
   at-told : (j : ℕ) → ((0 < i) × (j ≡ p) × (at (told_parent i ws) j ≡ without c (at ws p))) ⊎ ((0 < i → j ≢ p) × (at (told_parent i ws) j ≡ at ws j))
-  at-told j = by (zero_or i)
+  at-told j = by (eq-zero-or-pos i)
     where
       by : (i ≡ 0) ⊎ (0 < i) → ((0 < i) × (j ≡ p) × (at (told_parent i ws) j ≡ without c (at ws p))) ⊎ ((0 < i → j ≢ p) × (at (told_parent i ws) j ≡ at ws j))
       by (inl e) = inr ((λ pos. absurd (omega (arith, pos, e))), ap (λ l. at l j) (told-none e))
@@ -332,7 +305,7 @@ module _ (ws : List Region) (s : IsSound ws) (i : ℕ) (h : i < length ws) (was 
       by (inr e) = b.finished (s.done j pos (sym (ended-other j e) ∙ ended) k b.entry b.there)
 
   pub parents-closed : parents now ≡ parents ws
-  parents-closed = parents-updated (told_parent i ws) i over (λ r. refl) ∙ by (zero_or i)
+  parents-closed = parents-updated (told_parent i ws) i over (λ r. refl) ∙ by (eq-zero-or-pos i)
     where
       by : (i ≡ 0) ⊎ (0 < i) → parents (told_parent i ws) ≡ parents ws
       by (inl e) = ap parents (told-none e)

@@ -4,15 +4,15 @@ use Rattle.std.specs.Prelude.{◌==◌, None, is_some}
 use Rattle.std.specs.List.{list_any, count_by}
 use Rattle.std.proofs.lemmas.Bool.Decides.{nat_tests}
 use Rattle.std.proofs.lemmas.List.Sums.{sum_by-cons, sum_by_push}
-use Rattle.ot_model.specs.Tree.{Set, Fold, If, Task as Fork, Wait, Group, Body, End, Next}
 use Rattle.ot_model.specs.declared.stmt.Use.{Use}
 use Rattle.ot_model.specs.Cells.{updated}
 use Rattle.ot_owner.specs.Leases.{Lease}
-use Rattle.ot_task.specs.Regions.{Region, with_child, stepped, stepped_from, stopped, over, without}
+use Rattle.ot_task.specs.Regions.{Region, with_child, stepped, stopped, over, without}
 use Rattle.ot_task.specs.Pieces.{begun}
 use Rattle.ot_job.specs.Numbered.{at}
 use Rattle.ot_job.specs.States.{any_out}
 use Rattle.ot_job.specs.Counting.{out_in, unended_in, AreCounted}
+use Rattle.ot_job.proofs.StepLemmas.{stepped-field}
 
 -- ---- counts
 
@@ -119,34 +119,10 @@ counted-told rs p child out unended c = record {
 
 -- ---- a task executes a control statement
 
-pub stepped-runs : (taken : Bool) (g : ℕ) (r : Region) → is_some (stepped taken g r).running ≡ is_some r.running
-stepped-runs taken g r = by r.rest
-  where
-    by : (b : Body) → is_some (stepped_from taken g b r).running ≡ is_some r.running
-    by End = refl
-    by (Next (Set c e) rest) = refl
-    by (Next (Fold op c e) rest) = refl
-    by (Next (If e a b) rest) = refl
-    by (Next (Fork d b) rest) = refl
-    by (Next (Wait w) rest) = refl
-    by (Next (Group op cs b) rest) = refl
-
-pub stepped-goes : (taken : Bool) (g : ℕ) (r : Region) → goes (stepped taken g r) ≡ goes r
-stepped-goes taken g r = by r.rest
-  where
-    by : (b : Body) → goes (stepped_from taken g b r) ≡ goes r
-    by End = refl
-    by (Next (Set c e) rest) = refl
-    by (Next (Fold op c e) rest) = refl
-    by (Next (If e a b) rest) = refl
-    by (Next (Fork d b) rest) = refl
-    by (Next (Wait w) rest) = refl
-    by (Next (Group op cs b) rest) = refl
-
 pub counted-stepped : (taken : Bool) (g : ℕ) (rs : List Region) (i out unended : ℕ) → AreCounted rs out unended → AreCounted (updated rs i (stepped taken g)) out unended
 counted-stepped taken g rs i out unended c = record {
-  out = c.out ∙ sym (count-kept runs (stepped taken g) (stepped-runs taken g) rs i);
-  unended = c.unended ∙ sym (count-kept goes (stepped taken g) (stepped-goes taken g) rs i);
+  out = c.out ∙ sym (count-kept runs (stepped taken g) (stepped-field runs (λ r rest groups waiting. refl) taken g) rs i);
+  unended = c.unended ∙ sym (count-kept goes (stepped taken g) (stepped-field goes (λ r rest groups waiting. refl) taken g) rs i);
 }
 
 -- a task that is created has not ended, and no piece of it is out

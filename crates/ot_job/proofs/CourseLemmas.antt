@@ -1,8 +1,7 @@
 -- A settle leaves a job on its course.
-use Rattle.std.proofs.Common.{◌≡◌, ℕ, zero, suc, ◌<◌, ◌≤◌, true, false, List, [], ◌∷◌, length, refl, sym, ap, subst, ◌∙◌, ◌⊎◌, inl, inr, arith, ◌+◌}
+use Rattle.std.proofs.Common.{◌≡◌, ℕ, ◌<◌, ◌≤◌, true, false, List, ◌∷◌, length, refl, sym, ap, subst, ◌∙◌, arith, ◌+◌}
 use Rattle.std.specs.Prelude.{Option, Some, None, option_map, nat_lt, IsSome, IsPermutation}
 use Rattle.std.specs.List.{All}
-use Rattle.std.proofs.lemmas.Bool.{cases_eq}
 use Rattle.std.proofs.lemmas.List.{length-map}
 use Rattle.std.proofs.lemmas.List.Elements.{All-weaker}
 use Rattle.std.proofs.lemmas.List.Sorted.{IsPermutation-sym, IsPermutation-trans}
@@ -50,20 +49,21 @@ use Rattle.ot_job.specs.Well.{IsOnCourse, IsWell}
 use Rattle.ot_job.specs.Taken.{Came, IsOut, taken_by}
 use Rattle.ot_job.specs.Settling.{moved_on, settled, counted, counts_after, units_of}
 use Rattle.ot_job.proofs.BackLemmas.{mode_at, back-serial, test-serial, HasInputs}
-use Rattle.ot_job.proofs.KeptLemmas.{at-updated, at-updated-other, todo-append, kept-piece}
+use Rattle.ot_job.proofs.KeptLemmas.{at-updated, todo-append, kept-piece}
 use Rattle.ot_job.proofs.ChangedLemmas.{begun-changed}
 use Rattle.ot_job.proofs.FreeLemmas.{at-whole, fine-innermost, named-front, named-back}
 use Rattle.ot_job.proofs.EnteredLemmas.{each-settled}
 use Rattle.ot_job.proofs.HoldingLemmas.{course-holds, course-apart}
 use Rattle.ot_job.proofs.StopLemmas.{sound-piece, may-run}
 use Rattle.ot_job.proofs.OpeningLemmas.{open-settled, open-back}
-use Rattle.ot_job.proofs.SettleLemmas.{run_of, is-known, cells-there}
+use Rattle.ot_job.proofs.SettleLemmas.{run_of, has-piece, cells-there, runs-within}
 use Rattle.ot_job.proofs.WellLemmas.{settle-may}
 use Rattle.ot_job.proofs.LetsLemmas.{lets-piece, lets-test}
 use Rattle.ot_job.proofs.InputsLemmas.{has-inputs, inputs-kept}
 use Rattle.ot_job.proofs.CountLemmas.{left-grows, serial-few, piece-cells, piece-lengths, settled-state}
 use Rattle.ot_job.proofs.MovedLemmas.{Goes, goes-on}
 use Rattle.ot_job.proofs.MovesLemmas.{wholes-settled, still-out, loans-settled, length-settled}
+use Rattle.ot_job.proofs.EachLemmas.{at-each}
 
 -- a job on its course has counted at most what its program has
 pub counts-few : (j : Live) → IsOnCourse j → (j.counts.tasks ≤ tasks_in j.program.body) × (j.counts.units ≤ size j.program.body)
@@ -105,7 +105,7 @@ module _ (j : Live) (w : IsWell j) (working : j.failing ≡ false) (d : Came) (o
   well = o.runs i run out.0.1
 
   known : i < length j.regions
-  known = is-known j d (settle-may j w o) out
+  known = (has-piece j.regions d out).known
 
   -- ---- the piece
 
@@ -203,15 +203,9 @@ module _ (j : Live) (w : IsWell j) (working : j.failing ≡ false) (d : Came) (o
   begun1 = begun-changed ws i (with_rest r.rest) h (record { parent = λ r. refl; child = λ r. refl; own = λ r. refl; children = λ r. refl; ended = λ r. refl })
 
   named1 : (k : ℕ) → NamedIn lens (todo_at ws1 k)
-  named1 k = pick (cases_eq k i)
-    where
-      mine : NamedIn lens (todo r.rest (at ws i).groups)
-      mine = named-back lens d.assigns (todo r.rest (at ws i).groups)
-          (subst (NamedIn lens) (ap (λ b. todo b (at ws i).groups) rest-was ∙ todo-append d.assigns r.rest (at ws i).groups) (o.named i))
-
-      pick : (k ≡ i) ⊎ (k ≡ i → ⊥) → NamedIn lens (todo_at ws1 k)
-      pick (inl e) = subst (λ (x : Region). NamedIn lens (todo x.rest x.groups)) (sym (ap (at ws1) e ∙ here1)) mine
-      pick (inr e) = subst (λ (x : Region). NamedIn lens (todo x.rest x.groups)) (sym (at-updated-other ws i k (with_rest r.rest) e)) (o.named k)
+  named1 = at-each (λ x. NamedIn lens (todo x.rest x.groups)) ws i (with_rest r.rest) o.named
+      (named-back lens d.assigns (todo r.rest (at ws i).groups)
+      (subst (NamedIn lens) (ap (λ b. todo b (at ws i).groups) rest-was ∙ todo-append d.assigns r.rest (at ws i).groups) (o.named i)))
 
   cells1 : t1.cells ≡ after
   cells1 = piece-cells d.assigns t ∙ sym cells-now
@@ -246,33 +240,28 @@ module _ (j : Live) (w : IsWell j) (working : j.failing ≡ false) (d : Came) (o
   -- ---- the pieces of others
 
   other-out : (k : ℕ) (x : Run) → (at settles.regions k).running ≡ Some x → (at j.regions k).running ≡ Some x
-  other-out k x is = sym (still-out (taken_by d.answer) j.counts.units i j.regions k x is).1.running ∙ is
+  other-out k x is = sym (ap (λ (r : Region). r.running) (still-out (taken_by d.answer) j.counts.units i j.regions k x is).1.1) ∙ is
 
   runs-now : (k : ℕ) (x : Run) → (at settles.regions k).running ≡ Some x → RunsWell (at settles.regions k) x
   runs-now k x is =
-      let a = (still-out (taken_by d.answer) j.counts.units i j.regions k x is).1 in
+      let a = (still-out (taken_by d.answer) j.counts.units i j.regions k x is).1.1 in
       let v = o.runs k x (other-out k x is) in
       let before = at j.regions k in
       let now = at settles.regions k in
       record {
-        modes = λ c. v.modes c ∙ ap (λ p. held p (piece_touches x.assigns (test_of before.rest)) c) (sym a.own) ∙ ap (λ b. held now.own (piece_touches x.assigns (test_of b)) c) (sym a.rest);
+        modes = λ c. v.modes c ∙ ap (λ p. held p (piece_touches x.assigns (test_of before.rest)) c) (sym (ap (λ (r : Region). r.own) a)) ∙ ap (λ b. held now.own (piece_touches x.assigns (test_of b)) c) (sym (ap (λ (r : Region). r.rest) a));
         ordered = v.ordered;
         assigns = v.assigns;
-        stops = ap leading a.rest ∙ v.stops;
-        calm = a.waiting ∙ v.calm;
-        alive = a.ended ∙ v.alive;
+        stops = ap leading (ap (λ (r : Region). r.rest) a) ∙ v.stops;
+        calm = ap (λ (r : Region). r.waiting) a ∙ v.calm;
+        alive = ap (λ (r : Region). r.ended) a ∙ v.alive;
       }
-
-  runs-known : (rs : List Region) (k : ℕ) (x : Run) → (at rs k).running ≡ Some x → k < length rs
-  runs-known [] k x is = cc
-  runs-known (y ∷ rs) zero x is = omega arith
-  runs-known (y ∷ rs) (suc k) x is = omega (arith, runs-known rs k x is)
 
   begun-now : (k : ℕ) (x : Run) → (at settles.regions k).running ≡ Some x → IsBegun (wholes settles.regions) k
   begun-now k x is =
       let was = other-out k x is in
       subst (λ l. IsBegun l k) (sym now-is)
-      (goes.begun k (omega (arith, runs-known j.regions k x was, length-map j.regions whole, length-updated ws i (with_rest r.rest))) (begun1 k (o.begun k x was)))
+      (goes.begun k (omega (arith, runs-within j.regions k x was, length-map j.regions whole, length-updated ws i (with_rest r.rest))) (begun1 k (o.begun k x was)))
 
   inputs-now : (k : ℕ) (x : Run) → (at settles.regions k).running ≡ Some x → x.lease ≡ lease_of (lent_from after x.lease.uses)
   inputs-now k x is =
@@ -322,7 +311,7 @@ module _ (j : Live) (w : IsWell j) (working : j.failing ≡ false) (d : Came) (o
         (loans-settled (taken_by d.answer) j.counts.units i j.regions run known out.0.1)));
     few = (counts-few settles settle-course).1;
     lengths = long ∙ w.lengths;
-    created = omega (arith, length-settled (taken_by d.answer) j.counts.units i j.regions known, w.created);
+    created = omega (arith, length-settled (taken_by d.answer) j.counts.units i j.regions, w.created);
     light = omega (arith, w.light, weight-settled (taken_by d.answer) j.counts.units i j.regions run known out.0.1 well.alive well.stops);
     holds = course-holds settles settle-course;
     present = inputs-now;

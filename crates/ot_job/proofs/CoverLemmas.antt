@@ -1,5 +1,6 @@
 -- Each touch of a piece may be made on what it holds.
 use Rattle.std.proofs.Common.{◌≡◌, ◌≢◌, ◌<◌, ℕ, zero, suc, ◌+◌, Bool, true, false, List, [], ◌∷◌, ◌++◌, map, refl, sym, ap, subst, ◌∙◌, inl, inr, arith, true≢false}
+use Rattle.std.proofs.lemmas.Bool.{false_from_ne_true}
 use Rattle.std.specs.Prelude.{Option, Some, None, IsSome, cond, option_map, if◌then◌else◌}
 use Rattle.std.specs.List.{fold, find, range_with_len}
 use Rattle.ot_model.specs.Tree.{E, Literal, CellAt, Apply, PickFrom, Set, Fold, If, Task, Wait, Group, Body, End, Next}
@@ -86,11 +87,7 @@ module _ (own : Declared) where
 
 pub flip : (c d : Cell) (b : Bool) → same_cell c d ≡ b → same_cell d c ≡ b
 flip c d true e = same_self d c (sym (same_is c d e))
-flip c d false e = by (same_cell d c) refl
-  where
-    by : (b : Bool) → same_cell d c ≡ b → same_cell d c ≡ false
-    by true k = absurd (true≢false (sym (same_self c d (sym (same_is d c k))) ∙ e))
-    by false k = k
+flip c d false e = false_from_ne_true (same_cell d c) (λ k. true≢false (sym (same_self c d (sym (same_is d c k))) ∙ e))
 
 valued : (cells : List (List ℕ)) (d : List Use) (c : Cell) (w : Mode) → Covers (mode_in d c) w → IsSome (value_at (lent_from cells d) c)
 valued cells [] c w h = absurd h

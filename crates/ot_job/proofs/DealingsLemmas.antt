@@ -1,35 +1,33 @@
 -- A job's calls, as whoever deals with it sees them.
-use Rattle.std.proofs.Common.{◌≡◌, ◌≢◌, ℕ, zero, suc, ◌+◌, ◌<◌, ◌≤◌, Bool, true, false, not, ◌&&◌, ◌||◌, List, [], ◌∷◌, ◌++◌, length, get_or, refl, sym, ap, subst, ◌∙◌, ◌⊎◌, inl, inr, arith, true≢false, length-append}
-use Rattle.std.specs.Prelude.{◌==◌, ◌%◌, Option, Some, None, is_some, option_map, nat_lt, if◌then◌else◌}
+use Rattle.std.proofs.Common.{◌≡◌, ◌≢◌, ℕ, zero, suc, ◌+◌, ◌<◌, ◌≤◌, Bool, true, false, not, ◌&&◌, ◌||◌, List, [], ◌∷◌, length, get_or, refl, sym, ap, subst, ◌∙◌, ◌⊎◌, inl, inr, arith, true≢false}
+use Rattle.std.specs.Prelude.{◌==◌, ◌%◌, Option, Some, None, is_some, option_map, if◌then◌else◌}
 use Rattle.std.specs.List.{range_with_len}
-use Rattle.std.proofs.lemmas.Bool.{cases_eq, cases_lt}
 use Rattle.std.proofs.lemmas.Nat.{mod_below}
 use Rattle.std.proofs.lemmas.Option.{same_Some, none-some, slice_get-get_or}
 use Rattle.std.proofs.lemmas.List.FromFn.{length-range_with_len}
 use Rattle.std.proofs.lemmas.List.Sums.{length-filter, count_by-le-length}
 use Rattle.std.proofs.lemmas.List.Sorted.{length_permutation}
+use Rattle.std.proofs.lemmas.Bool.{false_from_ne_true}
 use Rattle.ot_model.specs.Tree.{E, Body}
 use Rattle.ot_model.specs.Programs.{expanded_of}
 use Rattle.ot_model.specs.Cells.{updated}
-use Rattle.ot_model.specs.declared.stmt.Use.{Use}
-use Rattle.ot_model.proofs.CellsLemmas.{length-updated}
 use Rattle.ot_check.specs.Jobs.{Spec}
 use Rattle.ot_check.proofs.Bits.{and_left, not_true}
 use Rattle.ot_owner.specs.Leases.{Lease, lease_of}
 use Rattle.ot_owner.specs.Owning.{loan_of}
-use Rattle.ot_task.specs.Regions.{Region, Run, with_child, new_region, with_created, stepped, executed, next_task, rest_at, children_at, over, stopped, root_region}
-use Rattle.ot_job.specs.Numbered.{at, parent_of}
+use Rattle.ot_task.specs.Regions.{Region, Run, stopped, root_region}
+use Rattle.ot_job.specs.Numbered.{at}
 use Rattle.ot_job.specs.Live.{Live}
 use Rattle.ot_job.specs.Taken.{Taken}
 use Rattle.ot_task.specs.Pieces.{behind, test_of, begun}
 use Rattle.ot_job.specs.Whole.{with_loan, loans_out}
-use Rattle.ot_job.proofs.SettleLemmas.{run_of}
+use Rattle.ot_job.proofs.SettleLemmas.{run_of, runs-within}
 use Rattle.ot_job.specs.Claiming.{is_claimable, claimable_of, picked}
 use Rattle.ot_task.specs.Waits.{is_let_go}
 use Rattle.ot_depend.specs.Siblings.{is_ready}
 use Rattle.ot_job.specs.Claims.{Claims, Claimed, ahead}
 use Rattle.ot_job.specs.Taken.{Came, IsOut, taken_by}
-use Rattle.ot_job.specs.Settling.{Settles, closed, moved_on, settled}
+use Rattle.ot_job.specs.Settling.{Settles, moved_on, settled}
 use Rattle.ot_task.specs.Standing.{is_at_end}
 use Rattle.ot_job.specs.States.{Starts, FailsBy, any_out, all_ended, claimable_in, aborted}
 use Rattle.ot_task.specs.Weighing.{region_weight, weight_left, weight_of as weight_in}
@@ -38,13 +36,14 @@ use Rattle.ot_job.specs.declared.state.State.TheVariants.{Working, Failing, Ende
 use Rattle.ot_job.specs.Dealings.{Work, work_of, brought, run_with, work_in, work_at, NoneOut, out_of, state_of, weight_of, after_failure, IsFresh, Takes, Returns, Gives, Pays, Breaks, Aborts}
 use Rattle.ot_job.specs.Counting.{out_in}
 use Rattle.ot_job.proofs.CountingLemmas.{one, count-cons, count-updated, out-any}
-use Rattle.ot_job.proofs.KeptLemmas.{at-updated, at-updated-other, at-more, at-new}
-use Rattle.ot_job.proofs.SoundLemmas.{at-past}
+use Rattle.ot_job.proofs.KeptLemmas.{at-updated, at-updated-other}
 use Rattle.ot_job.proofs.WellLemmas.{claimable-idle}
 use Rattle.ot_job.proofs.PickLemmas.{picked-claimable}
-use Rattle.ot_job.proofs.StartLemmas.{runs-within, each-ended, one-out, root-light}
-use Rattle.ot_job.proofs.MovesLemmas.{Alike, tell, tell-field, others-moved, still-out, loans-settled}
+use Rattle.ot_job.proofs.StartLemmas.{each-ended, one-out, root-light}
+use Rattle.ot_job.proofs.MovesLemmas.{Alike, others-moved, still-out, loans-settled}
 use Rattle.ot_job.proofs.WeighingLemmas.{weight-begun}
+use Rattle.ot_job.proofs.StepLemmas.{moved-running}
+use Rattle.ot_job.proofs.FreeTaskLemmas.{none-out as none-at}
 
 -- ---- the piece that is out
 
@@ -110,26 +109,13 @@ any-at (r ∷ rs) (suc i) run is = by (is_some r.running) (any-at rs i run is)
     by true h = refl
     by false h = h
 
-none-at : (rs : List Region) → any_out rs ≡ false → (k : ℕ) → (at rs k).running ≡ None
-none-at [] h k = refl
-none-at (r ∷ rs) h k = by r.running refl (none-at rs) k
-  where
-    by : (o : Option Run) → r.running ≡ o → (any_out rs ≡ false → (k : ℕ) → (at rs k).running ≡ None) → (k : ℕ) → (at (r ∷ rs) k).running ≡ None
-    by (Some run) e more k = absurd (true≢false (sym (ap (λ (o : Option Run). is_some o || any_out rs) e) ∙ h))
-    by None e more zero = e
-    by None e more (suc k) = more (ap (λ (o : Option Run). is_some o || any_out rs) (sym e) ∙ h) k
-
 pub none-out : (j : Live) → any_out j.regions ≡ false → NoneOut j
 none-out j h k = work-none (at j.regions k) (none-at j.regions h k)
 
 pub out-none : (j : Live) → NoneOut j → any_out j.regions ≡ false
-out-none j none = by (any_out j.regions) refl
-  where
-    by : (b : Bool) → any_out j.regions ≡ b → b ≡ false
-    by false e = refl
-    by true e =
-        let o = one-out j.regions e in
-        absurd (none-some (run_with (test_of (at j.regions o.0).rest) o.1) (sym (none o.0) ∙ ap (option_map (run_with (test_of (at j.regions o.0).rest))) o.2))
+out-none j none = false_from_ne_true (any_out j.regions) (λ e.
+    let o = one-out j.regions e in
+    none-some (run_with (test_of (at j.regions o.0).rest) o.1) (sym (none o.0) ∙ ap (option_map (run_with (test_of (at j.regions o.0).rest))) o.2))
 
 failed-state : (rs : List Region) → (if any_out rs then Failing else Failed) ≡ after_failure (out_in rs)
 failed-state rs = ap (λ (b : Bool). if b then Failing else Failed) (sym (out-any rs)) ∙ by (out_in rs == 0)
@@ -146,11 +132,7 @@ working-is j working left =
     ∙ ap (λ (e : Bool). if e then Ended else Working) left
 
 one-alive : (rs : List Region) (i : ℕ) → (at rs i).ended ≡ false → all_ended rs ≡ false
-one-alive rs i alive = by (all_ended rs) refl
-  where
-    by : (b : Bool) → all_ended rs ≡ b → b ≡ false
-    by false e = refl
-    by true e = absurd (true≢false (sym (each-ended rs e i) ∙ alive))
+one-alive rs i alive = false_from_ne_true (all_ended rs) (λ e. true≢false (sym (each-ended rs e i) ∙ alive))
 
 -- ---- a job begins
 
@@ -267,44 +249,13 @@ claimable-few rs =
 
 -- ---- a settle
 
-running-created : (i : ℕ) (child : Option (List Use × Body)) (rs : List Region) (k : ℕ) → k ≢ i → (at (with_created i child rs) k).running ≡ (at rs k).running
-running-created i None rs k other = refl
-running-created i (Some child) rs k other = pick (cases_lt k (length two))
-  where
-    two : List Region
-    two = updated rs i (with_child child.0)
-
-    new : Region
-    new = new_region i (children_at rs i) child.0 child.1
-
-    pick-new : length two ≤ k → (k ≡ length two) ⊎ (k ≡ length two → ⊥) → (at (two ++ new ∷ []) k).running ≡ None
-    pick-new past (inl e) = ap (λ (r : Region). r.running) (ap (at (two ++ new ∷ [])) e ∙ at-new two new)
-    pick-new past (inr e) = ap (λ (r : Region). r.running) (at-past (two ++ new ∷ []) k (omega (arith, past, e, length-append two (new ∷ []))))
-
-    pick : (k < length two) ⊎ (length two ≤ k) → (at (two ++ new ∷ []) k).running ≡ (at rs k).running
-    pick (inl below) = ap (λ (r : Region). r.running) (at-more two new k below ∙ at-updated-other rs i k (with_child child.0) other)
-    pick (inr past) =
-        pick-new past (cases_eq k (length two))
-        ∙ sym (ap (λ (r : Region). r.running) (at-past rs k (omega (arith, past, length-updated rs i (with_child child.0)))))
-
-running-moved : (taken : Bool) (g i : ℕ) (rs : List Region) (k : ℕ) → k ≢ i → (at (moved_on taken g i rs) k).running ≡ (at rs k).running
-running-moved taken g i rs k other = by (is_at_end (at rs i).rest (at rs i).groups)
-  where
-    by : (b : Bool) → (at (if b then closed i rs else executed taken g i rs) k).running ≡ (at rs k).running
-    by true =
-        ap (λ (r : Region). r.running) (at-updated-other (tell (nat_lt 0 i) (parent_of rs i) (at rs i).child rs) i k over other)
-        ∙ tell-field (λ r. r.running) (λ c r. refl) (nat_lt 0 i) (parent_of rs i) (at rs i).child rs k
-    by false =
-        running-created i (next_task (rest_at rs i)) (updated rs i (stepped taken g)) k other
-        ∙ ap (λ (r : Region). r.running) (at-updated-other rs i k (stepped taken g) other)
-
 work-settled-other : (taken : Bool) (g i : ℕ) (rs : List Region) (k : ℕ) → k ≢ i → work_in (at (settled taken g i rs) k) ≡ work_in (at rs k)
 work-settled-other taken g i rs k other = ap work_in (at-updated-other (moved_on taken g i rs) i k stopped other) ∙ pick (others-moved taken g i rs k other)
   where
     pick : Alike (at (moved_on taken g i rs) k) (at rs k) ⊎ ((at (moved_on taken g i rs) k).running ≡ None) → work_in (at (moved_on taken g i rs) k) ≡ work_in (at rs k)
-    pick (inl a) = work-same (at (moved_on taken g i rs) k) (at rs k) a.running a.rest
+    pick (inl (kids, a)) = work-same (at (moved_on taken g i rs) k) (at rs k) (ap (λ (r : Region). r.running) a) (ap (λ (r : Region). r.rest) a)
     pick (inr none) =
-        work-none (at (moved_on taken g i rs) k) none ∙ sym (work-none (at rs k) (sym (running-moved taken g i rs k other) ∙ none))
+        work-none (at (moved_on taken g i rs) k) none ∙ sym (work-none (at rs k) (sym (moved-running (is_at_end (at rs i).rest (at rs i).groups) taken g i rs k) ∙ none))
 
 work-settled : (taken : Bool) (g i : ℕ) (rs : List Region) → work_in (at (settled taken g i rs) i) ≡ None
 work-settled taken g i rs = by (at (settled taken g i rs) i).running refl

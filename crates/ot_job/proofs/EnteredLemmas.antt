@@ -1,5 +1,5 @@
 -- What is true of each open group, through each change of the regions.
-use Rattle.std.proofs.Common.{◌≡◌, ℕ, zero, suc, Bool, true, false, List, [], ◌∷◌, ◌++◌, refl}
+use Rattle.std.proofs.Common.{◌≡◌, ℕ, Bool, true, false, List, [], ◌∷◌, refl}
 use Rattle.std.specs.Prelude.{Option, Some, None, if◌then◌else◌, nat_lt, All}
 use Rattle.std.proofs.lemmas.List.Elements.{All-nil, All-cons, All-tail}
 use Rattle.ot_model.specs.Tree.{Set, Fold, If, Task, Wait, Group, Body, End, Next}
@@ -14,20 +14,7 @@ use Rattle.ot_task.specs.Pieces.{passed, begun}
 use Rattle.ot_task.specs.Standing.{is_at_end}
 use Rattle.ot_job.specs.Numbered.{at, parent_of}
 use Rattle.ot_job.specs.Settling.{told_parent, closed, moved_on, settled}
-
--- what is true of each region, where one changes, and where one more is there
-at-each : (P : Region → Type 0) (rs : List Region) (i : ℕ) (f : Region → Region) → ((k : ℕ) → P (at rs k)) → P (f (at rs i)) → (k : ℕ) → P (at (updated rs i f) k)
-at-each P [] i f old new k = old k
-at-each P (r ∷ rs) zero f old new zero = new
-at-each P (r ∷ rs) zero f old new (suc k) = old (suc k)
-at-each P (r ∷ rs) (suc i) f old new zero = old 0
-at-each P (r ∷ rs) (suc i) f old new (suc k) = at-each P rs i f (λ n. old (suc n)) new k
-
-more-each : (P : Region → Type 0) (rs : List Region) (n : Region) → ((k : ℕ) → P (at rs k)) → P n → (k : ℕ) → P (at (rs ++ n ∷ []) k)
-more-each P [] n old new zero = new
-more-each P [] n old new (suc k) = old k
-more-each P (r ∷ rs) n old new zero = old 0
-more-each P (r ∷ rs) n old new (suc k) = more-each P rs n (λ m. old (suc m)) new k
+use Rattle.ot_job.proofs.EachLemmas.{at-each, more-each}
 
 module _ (P : Open → Type 0) where
   abbrev Each : Region → Type 0

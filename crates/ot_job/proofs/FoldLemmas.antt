@@ -1,5 +1,6 @@
 -- Modes that fold, and what a declaration lets a body fold.
 use Rattle.std.proofs.Common.{◌≡◌, Bool, true, false, not, ◌&&◌, List, [], ◌∷◌, refl, sym, ap, subst, ◌∙◌, inl, inr, true≢false}
+use Rattle.std.proofs.lemmas.Bool.{false_from_ne_true}
 use Rattle.std.specs.Prelude.{Some, None}
 use Rattle.ot_model.specs.Cells.{same_cell}
 use Rattle.ot_model.specs.Uses.{conflicts, same_fold}
@@ -129,8 +130,4 @@ only-unwritten o own c only may = never (only Writes may)
 pub only-declares : (uses : List Use) (o : Operation) (c : Cell) → OnlyFolds o (Some uses) c → (m : Mode) → allows (Some uses) (use_as m c) ≡ true → folds_to (Some uses) o c ≡ true
 only-declares uses o c only m may =
     declares-fold uses o c (subst (λ (n : Mode). allows (Some uses) (use_as n c) ≡ true) (only m may) may)
-    (unread (allows (Some uses) (use_as Reads c)) (only-unread o (Some uses) c only))
-  where
-    unread : (b : Bool) → (b ≡ true → ⊥) → b ≡ false
-    unread true h = absurd (h refl)
-    unread false h = refl
+    (false_from_ne_true (allows (Some uses) (use_as Reads c)) (only-unread o (Some uses) c only))

@@ -1,7 +1,6 @@
 -- Two pieces that are out hold nothing that conflicts.
-use Rattle.std.proofs.Common.{◌≡◌, ◌≢◌, ℕ, zero, suc, ◌<◌, ◌≤◌, Bool, true, false, not, ◌&&◌, ◌||◌, List, [], ◌∷◌, length, get_or, refl, sym, ap, subst, ◌∙◌, ◌⊎◌, inl, inr, ⊎_elim, arith, true≢false}
+use Rattle.std.proofs.Common.{◌≡◌, ◌≢◌, ℕ, zero, suc, ◌<◌, Bool, true, false, ◌&&◌, List, [], ◌∷◌, length, get_or, refl, sym, ap, subst, ◌∙◌, ◌⊎◌, inl, inr, ⊎_elim, arith, true≢false}
 use Rattle.std.specs.Prelude.{Some, None, slice_get, if◌then◌else◌, IsTrue, Any}
-use Rattle.std.proofs.lemmas.Bool.{cases_lt}
 use Rattle.ot_check.specs.declared.fault.Offence.TheVariants.{NotDeclared}
 use Rattle.ot_model.specs.Tree.{Set, Fold, If, Task, Wait, Group, Body, End, Next, append}
 use Rattle.ot_model.specs.Names.{NamedIn}
@@ -17,7 +16,7 @@ use Rattle.ot_check.specs.Offences.{Declared, Openings, allows, covers, folds_by
 use Rattle.ot_check.specs.walk.Walk.{Children}
 use Rattle.ot_model.specs.Cells.{same_cell}
 use Rattle.ot_check.specs.Touches.{Agree}
-use Rattle.ot_check.proofs.Bits.{or_true, true_or, or_right}
+use Rattle.ot_check.proofs.Bits.{or_true, true_or, or_right, or_false_left, or_false_right, not_false}
 use Rattle.ot_check.specs.walk.Fine.{IsFine}
 use Rattle.ot_job.specs.Rights.{IsRight}
 use Rattle.ot_task.specs.Place.{Open, todo}
@@ -28,15 +27,14 @@ use Rattle.ot_check.specs.walk.Fine.{IsHarmless, AreAssigns}
 use Rattle.ot_check.proofs.TouchLemmas.{harmless, harmless_if}
 use Rattle.ot_check.proofs.SameLemmas.{same_is}
 use Rattle.ot_task.proofs.CellLemmas.{same_self}
-use Rattle.ot_job.proofs.RightsLemmas.{right_apart, right_may, rights_apart}
+use Rattle.ot_job.proofs.RightsLemmas.{right_apart, right_may}
 use Rattle.ot_task.specs.Regions.{Region, Run}
-use Rattle.ot_job.specs.Numbered.{at, parent_of, todo_at, ended_at, parents}
-use Rattle.ot_job.specs.Sound.{may_at, IsBegun, IsPlaced, IsSound}
+use Rattle.ot_job.specs.Numbered.{at, parent_of, parents}
+use Rattle.ot_job.specs.Sound.{IsPlaced, IsSound}
 use Rattle.ot_task.specs.Pieces.{test_of}
 use Rattle.ot_task.specs.Touched.{piece_touches, assign_touches, test_touches}
 use Rattle.ot_job.specs.Running.{RunsWell}
 use Rattle.ot_job.specs.Whole.{assigns_out, whole, wholes}
-use Rattle.ot_job.proofs.SoundLemmas.{sound, at-past}
 use Rattle.ot_job.proofs.KeptLemmas.{here, family_of}
 use Rattle.ot_job.proofs.CreatedLemmas.{grouped-opened}
 use Rattle.ot_job.proofs.FoldLemmas.{held-alike}
@@ -45,21 +43,16 @@ use Rattle.ot_job.proofs.HoldsLemmas.{Among, among-split, held-right, each-assig
 
 -- ---- who stands where
 
+at-each : (P : ℕ → Type 0) (xs : List ℕ) (j : ℕ) → Each P xs → In j xs → P j
+at-each P [] j h k = absurd k
+at-each P (x ∷ xs) j h (inl e) = subst P (sym e) h.0
+at-each P (x ∷ xs) j h (inr k) = at-each P xs j h.1 k
+
 pair-ordered : (R : ℕ → ℕ → Type 0) (xs : List ℕ) (i j : ℕ) → Ordered R xs → In i xs → In j xs → i ≢ j → R i j ⊎ R j i
 pair-ordered R [] i j o a b n = absurd a
 pair-ordered R (x ∷ xs) i j o (inl a) (inl b) n = absurd (n (a ∙ sym b))
 pair-ordered R (x ∷ xs) i j o (inl a) (inr b) n = inl (subst (λ k. R k j) (sym a) (at-each (R x) xs j o.0 b))
-  where
-    at-each : (P : ℕ → Type 0) (xs : List ℕ) (j : ℕ) → Each P xs → In j xs → P j
-    at-each P [] j h k = absurd k
-    at-each P (x ∷ xs) j h (inl e) = subst P (sym e) h.0
-    at-each P (x ∷ xs) j h (inr k) = at-each P xs j h.1 k
 pair-ordered R (x ∷ xs) i j o (inr a) (inl b) n = inr (subst (λ k. R k i) (sym b) (at-each (R x) xs i o.0 a))
-  where
-    at-each : (P : ℕ → Type 0) (xs : List ℕ) (j : ℕ) → Each P xs → In j xs → P j
-    at-each P [] j h k = absurd k
-    at-each P (x ∷ xs) j h (inl e) = subst P (sym e) h.0
-    at-each P (x ∷ xs) j h (inr k) = at-each P xs j h.1 k
 pair-ordered R (x ∷ xs) i j o (inr a) (inr b) n = pair-ordered R xs i j o.1 a b n
 
 pub total : (ws : List Region) (s : IsSound ws) (i j : ℕ) → i < length ws → j < length ws → i ≢ j → IsBefore (parent_of ws) j i ⊎ IsBefore (parent_of ws) i j
@@ -120,18 +113,10 @@ allowed-writes None o c may none = refl
 allowed-writes (Some []) o c may none = may
 allowed-writes (Some (d ∷ us)) o c may none =
     elim (or_true (same_cell d.cell c && covers d.mode (Folds o)) (allows (Some us) (use_as (Folds o) c)) may) [
-      | inl h ↦ true_or (same_cell d.cell c && covers d.mode Writes) (allows (Some us) (use_as Writes c)) (one (same_cell d.cell c) d.mode h (left (same_cell d.cell c && folds_by o d.mode) (folds_to (Some us) o c) none))
-      | inr h ↦ or_right (same_cell d.cell c && covers d.mode Writes) (allows (Some us) (use_as Writes c)) (allowed-writes (Some us) o c h (right (same_cell d.cell c && folds_by o d.mode) (folds_to (Some us) o c) none))
+      | inl h ↦ true_or (same_cell d.cell c && covers d.mode Writes) (allows (Some us) (use_as Writes c)) (one (same_cell d.cell c) d.mode h (or_false_left (same_cell d.cell c && folds_by o d.mode) (folds_to (Some us) o c) none))
+      | inr h ↦ or_right (same_cell d.cell c && covers d.mode Writes) (allows (Some us) (use_as Writes c)) (allowed-writes (Some us) o c h (or_false_right (same_cell d.cell c && folds_by o d.mode) (folds_to (Some us) o c) none))
     ]
   where
-    left : (a b : Bool) → (a || b) ≡ false → a ≡ false
-    left true b h = h
-    left false b h = refl
-
-    right : (a b : Bool) → (a || b) ≡ false → b ≡ false
-    right true b h = absurd (true≢false h)
-    right false b h = h
-
     one : (b : Bool) (m : Mode) → (b && covers m (Folds o)) ≡ true → (b && folds_by o m) ≡ false → (b && covers m Writes) ≡ true
     one true Reads h n = absurd (true≢false (sym h))
     one true Writes h n = refl
@@ -179,13 +164,13 @@ at-whole [] i = refl
 at-whole (r ∷ rs) zero = refl
 at-whole (r ∷ rs) (suc i) = at-whole rs i
 
+pub named-half : (lens : List ℕ) (a b : Body) → NamedIn lens (append a b) → NamedIn lens a
+named-half lens End b n = tt
+named-half lens (Next x a) b n = (n.0, named-half lens a b n.1)
+
 pub named-front : (lens : List ℕ) (rest : Body) (gs : List Open) → NamedIn lens (todo rest gs) → NamedIn lens rest
 named-front lens rest [] n = n
-named-front lens rest (o ∷ os) n = named-append rest (todo o.behind os) n
-  where
-    named-append : (a b : Body) → NamedIn lens (append a b) → NamedIn lens a
-    named-append End b n = tt
-    named-append (Next x a) b n = (n.0, named-append a b n.1)
+named-front lens rest (o ∷ os) n = named-half lens rest (todo o.behind os) n
 
 pub named-back : (lens : List ℕ) (a b : Body) → NamedIn lens (append a b) → NamedIn lens b
 named-back lens End b n = n
@@ -206,11 +191,7 @@ module _ (lens : List ℕ) (r : Region) (p : IsPlaced (whole r)) (named : NamedI
       (subst (IsFine r.own (opened r.groups) (children_of (unawaited r.waiting r.children))) rest-is (fine-innermost r.own (unawaited r.waiting r.children) (whole r).rest r.groups p.fine))
 
   pub touch-may : (u : Use) → Touched u → allows r.own u ≡ true
-  touch-may u t = by (allows r.own u) (safe u t NotDeclared)
-    where
-      by : (b : Bool) → not b ≡ false → b ≡ true
-      by true h = refl
-      by false h = absurd (true≢false h)
+  touch-may u t = not_false (allows r.own u) (safe u t NotDeclared)
 
   pub right-of : (u : Use) → mode_in run.lease.uses u.cell ≡ Some u.mode → IsRight r.own Touched u
   right-of u h = held-right r.own u.cell (held-alike r.own u.cell (λ o. p.exclusive o u.cell)) (piece_touches run.assigns (test_of r.rest)) u.mode (sym (w.modes u.cell) ∙ h)
@@ -225,51 +206,3 @@ module _ (lens : List ℕ) (r : Region) (p : IsPlaced (whole r)) (named : NamedI
       (λ test none. kid-none r.children (λ x. test x.uses) k s (subst (λ b. unawaited b r.children (λ x. test x.uses) ≡ false) w.calm none) there alive)
       (λ o c folds. ⊎_elim inl (λ e. inr (grouped-opened r.groups s o c e)) (p.grouped k s there alive o c folds))
       u.cell u.mode v (right-of u h) may
-
--- ---- two pieces
-
-module _ (rs : List Region) (s : IsSound (wholes rs)) (lens : List ℕ) (named : (i : ℕ) → NamedIn lens (at (wholes rs) i).rest)
-    (well : (i : ℕ) (run : Run) → (at rs i).running ≡ Some run → RunsWell (at rs i) run)
-    (started : (i : ℕ) (run : Run) → (at rs i).running ≡ Some run → IsBegun (wholes rs) i) where
-  abbrev ws : List Region
-  ws = wholes rs
-
-  abbrev Runs : ℕ → Type 0
-  Runs i = (run : Run) × ((at rs i).running ≡ Some run)
-
-  abbrev Holds : ℕ → Use → Type 0
-  Holds i u = (run : Run) × ((at rs i).running ≡ Some run) × (mode_in run.lease.uses u.cell ≡ Some u.mode)
-
-  placed-at : (i : ℕ) → IsPlaced (whole (at rs i))
-  placed-at i = subst IsPlaced (at-whole rs i) (s.placed i)
-
-  named-at : (i : ℕ) → NamedIn lens (whole (at rs i)).rest
-  named-at i = subst (λ r. NamedIn lens r.rest) (at-whole rs i) (named i)
-
-  meets : (i : ℕ) → Runs i → (c : ℕ) → parent_of ws c ≡ i → 0 < c → ended_at ws c ≡ false → (u v : Use) → Holds i u → may_at ws c v → Agree u v
-  meets i ri c up pos alive u v holds may = by (cases_lt c (length ws))
-    where
-      by : (c < length ws) ⊎ (length ws ≤ c) → Agree u v
-      by (inr past) = absurd (true≢false (sym (ap (λ r. r.ended) (at-past ws c past)) ∙ alive))
-      by (inl below) =
-          let kin = s.kin c pos below in
-          let there : slice_get (at rs i).children (at ws c).child ≡ Some kin.entry = sym (ap (λ r. slice_get r.children (at ws c).child) (ap (at ws) up ∙ at-whole rs i)) ∙ kin.there in
-          piece-meets lens (at rs i) (placed-at i) (named-at i) holds.0 holds.1 (well i holds.0 holds.1) (at ws c).child kin.entry there (kin.finished ∙ alive) u v holds.2
-          (ap (λ (o : Declared). allows o v) (sym kin.uses) ∙ may)
-
-  runs-known : (rs : List Region) (i : ℕ) (run : Run) → (at rs i).running ≡ Some run → i < length (wholes rs)
-  runs-known [] i run h = cc
-  runs-known (r ∷ rs) zero run h = omega arith
-  runs-known (r ∷ rs) (suc i) run h = omega (arith, runs-known rs i run h)
-
-  -- no two of them conflict
-  pub pieces_apart : (i j : ℕ) (one two : Run) → (at rs i).running ≡ Some one → (at rs j).running ≡ Some two → i ≢ j → Conflict one.lease.uses two.lease.uses → ⊥
-  pieces_apart i j one two ri rj other =
-      none-conflict one.lease.uses two.lease.uses (well i one ri).ordered (well j two rj).ordered
-      (λ u v hu hv.
-      rights_apart (parent_of ws) (may_at ws) (todo_at ws) (ended_at ws) (IsBegun ws) (sound ws s) Holds Runs
-      (λ k r. started k r.0 r.1)
-      (λ k r. ap (λ x. x.ended) (at-whole rs k) ∙ (well k r.0 r.1).alive)
-      (λ k r u h. ap (λ x. allows x.own u) (at-whole rs k) ∙ piece-may lens (at rs k) (placed-at k) (named-at k) h.0 h.1 (well k h.0 h.1) u h.2)
-      meets i j (one, ri) (two, rj)
-      (total ws s i j (runs-known rs i one ri) (runs-known rs j two rj) other) u v (one, ri, hu) (two, rj, hv))

@@ -1,6 +1,6 @@
 -- A job that is not ended, and of which no piece is out, has a task that is claimable.
 use Rattle.std.proofs.Common.{◌≡◌, ℕ, zero, suc, ◌+◌, ◌<◌, Bool, true, false, cond, not, ◌&&◌, ◌||◌, List, [], ◌∷◌, length, get_or, refl, sym, ap, subst, ◌∙◌, arith, true≢false}
-use Rattle.std.specs.Prelude.{◌==◌, Option, Some, None, is_some, slice_get, filter, count_by, IsTrue, if◌then◌else◌}
+use Rattle.std.specs.Prelude.{◌==◌, Some, None, is_some, slice_get, filter, count_by, IsTrue, if◌then◌else◌}
 use Rattle.std.specs.List.{All, range_with_len}
 use Rattle.std.proofs.lemmas.Bool.Decides.{nat_tests}
 use Rattle.std.proofs.lemmas.List.{length-map}
@@ -10,7 +10,7 @@ use Rattle.ot_depend.proofs.CountLemmas.{none_unfinished, none_unfinished_in}
 use Rattle.ot_depend.proofs.ReadyLemmas.{is_ready-told}
 use Rattle.ot_check.proofs.Bits.{and_true, or_false_left, or_false_right}
 use Rattle.ot_task.specs.Place.{Open}
-use Rattle.ot_task.specs.Regions.{Region, Run}
+use Rattle.ot_task.specs.Regions.{Region}
 use Rattle.ot_job.specs.Numbered.{at, parent_of}
 use Rattle.ot_job.specs.Whole.{whole, wholes}
 use Rattle.ot_job.specs.Claiming.{is_claimable, claimable_of}
@@ -23,6 +23,7 @@ use Rattle.ot_job.specs.States.{any_out, all_ended, state_in}
 use Rattle.ot_job.specs.declared.state.State.TheVariants.{Working, Failing, Ended, Failed}
 use Rattle.ot_job.proofs.StuckLemmas.{AllFinished, Free, never_stuck}
 use Rattle.ot_job.proofs.FreeLemmas.{at-whole}
+use Rattle.ot_job.proofs.WellLemmas.{none-running}
 
 -- ---- who is not ended
 
@@ -34,13 +35,9 @@ one-left (r ∷ rs) h = by r.ended refl (λ g. one-left rs g)
     by true e more = let m = more (ap (λ b. b && all_ended rs) (sym e) ∙ h) in (suc m.0, omega (arith, m.1), m.2)
     by false e more = (0, omega arith, e)
 
-none-out : (rs : List Region) → any_out rs ≡ false → (i : ℕ) → (at rs i).running ≡ None
+pub none-out : (rs : List Region) → any_out rs ≡ false → (i : ℕ) → (at rs i).running ≡ None
 none-out [] h i = refl
-none-out (r ∷ rs) h zero = by r.running (or_false_left (is_some r.running) (any_out rs) h)
-  where
-    by : (o : Option Run) → is_some o ≡ false → o ≡ None
-    by None e = refl
-    by (Some x) e = absurd (true≢false e)
+none-out (r ∷ rs) h zero = none-running r.running (or_false_left (is_some r.running) (any_out rs) h)
 none-out (r ∷ rs) h (suc i) = none-out rs (or_false_right (is_some r.running) (any_out rs) h) i
 
 -- ---- who is free is claimable

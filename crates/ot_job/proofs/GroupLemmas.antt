@@ -1,5 +1,6 @@
 -- Entering a group and passing its end leave what holds of a region.
-use Rattle.std.proofs.Common.{◌≡◌, ℕ, zero, suc, Bool, true, false, not, ◌&&◌, ◌||◌, List, [], ◌∷◌, refl, sym, ap, subst, ◌∙◌, inl, inr, ⊎_elim, true≢false}
+use Rattle.std.proofs.Common.{◌≡◌, ℕ, zero, suc, Bool, true, false, not, ◌&&◌, ◌||◌, List, [], ◌∷◌, sym, ap, subst, ◌∙◌, inl, inr, ⊎_elim, true≢false}
+use Rattle.std.proofs.lemmas.Bool.{false_from_ne_true}
 use Rattle.std.specs.Prelude.{None}
 use Rattle.std.specs.Prelude.{Some, slice_get}
 use Rattle.std.specs.List.{list_any}
@@ -63,13 +64,18 @@ unused (d ∷ cs) kids k s c free there alive named m =
     elim (or_true (same_cell d c) (has_cell cs c) named) [
       | inl here ↦
           let none = kid-none kids (λ s. clashes (use_as Writes d) s.uses) k s (or_false_left (unawaited None kids (λ s. clashes (use_as Writes d) s.uses)) (list_any (λ c. unawaited None kids (λ s. clashes (use_as Writes c) s.uses)) cs) free) there alive in
-          never (allows (Some s.uses) (use_as m c)) (λ may. writes-agree m (clash_free (use_as Writes d) (use_as m c) s.uses none may (same_is d c here)))
+          false_from_ne_true (allows (Some s.uses) (use_as m c)) (λ may. writes-agree m (clash_free (use_as Writes d) (use_as m c) s.uses none may (same_is d c here)))
       | inr later ↦ unused cs kids k s c (or_false_right (unawaited None kids (λ s. clashes (use_as Writes d) s.uses)) (list_any (λ c. unawaited None kids (λ s. clashes (use_as Writes c) s.uses)) cs) free) there alive later m
     ]
-  where
-    never : (b : Bool) → (b ≡ true → ⊥) → b ≡ false
-    never true h = absurd (h refl)
-    never false h = refl
+
+-- a group that is no offence names cells that the body may write, that no open group names, and that no child clashes with
+pub clean-group : (r : Region) (op : Operation) (cs : List Cell) (b : Body) → r.waiting ≡ None → IsClean r.own (opened r.groups) (children_of (unawaited r.waiting r.children)) (Group op cs b)
+    → (list_any (λ c. not (allows r.own (use_as Writes c)) || opened_by_any (opened r.groups) c) cs ≡ false) × (list_any (λ c. unawaited None r.children (λ s. clashes (use_as Writes c) s.uses)) cs ≡ false)
+clean-group r op cs b calm clean = (
+  sym (is_offence-Group r.own (opened r.groups) (children_of (unawaited r.waiting r.children)) op cs b ReductionMisuse) ∙ clean ReductionMisuse,
+  ap (λ w. list_any (λ c. unawaited w r.children (λ s. clashes (use_as Writes c) s.uses)) cs) (sym calm)
+      ∙ sym (is_offence-Group r.own (opened r.groups) (children_of (unawaited r.waiting r.children)) op cs b ConflictsWithChild) ∙ clean ConflictsWithChild,
+)
 
 module _ (r : Region) (p : IsPlaced r) where
   pub placed-enter : (g : ℕ) (op : Operation) (cs : List Cell) (b rest : Body) → r.rest ≡ Next (Group op cs b) rest → r.waiting ≡ None
@@ -101,11 +107,10 @@ module _ (r : Region) (p : IsPlaced r) where
       never e = cc
 
       fits : list_any (λ c. not (allows r.own (use_as Writes c)) || opened_by_any (opened r.groups) c) cs ≡ false
-      fits = sym (is_offence-Group r.own (opened r.groups) (children_of (unawaited r.waiting r.children)) op cs b ReductionMisuse) ∙ clean ReductionMisuse
+      fits = (clean-group r op cs b calm clean).0
 
       awaited : list_any (λ c. unawaited None r.children (λ s. clashes (use_as Writes c) s.uses)) cs ≡ false
-      awaited = ap (λ w. list_any (λ c. unawaited w r.children (λ s. clashes (use_as Writes c) s.uses)) cs) (sym calm)
-          ∙ sym (is_offence-Group r.own (opened r.groups) (children_of (unawaited r.waiting r.children)) op cs b ConflictsWithChild) ∙ clean ConflictsWithChild
+      awaited = (clean-group r op cs b calm clean).1
 
   pub placed-leave : (o : Open) (os : List Open) → r.rest ≡ End → r.groups ≡ o ∷ os
       → ((k : ℕ) (s : Sibling) → slice_get r.children k ≡ Some s → s.finished ≡ false → is_in o.group s ≡ false)

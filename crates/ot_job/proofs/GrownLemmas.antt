@@ -1,8 +1,9 @@
 -- A task is created: what holds of the regions stays.
-use Rattle.std.proofs.Common.{◌≡◌, ℕ, zero, suc, ◌<◌, ◌≤◌, true, false, ◌||◌, List, [], ◌∷◌, ◌++◌, map, length, refl, sym, ap, subst, ◌∙◌, ◌⊎◌, inl, inr, arith, true≢false}
-use Rattle.std.specs.Prelude.{Some, None, slice_get, ◌==◌}
+use Rattle.std.proofs.Common.{◌≡◌, ℕ, ◌<◌, ◌≤◌, true, false, ◌||◌, List, [], ◌∷◌, ◌++◌, map, length, refl, sym, ap, subst, ◌∙◌, ◌⊎◌, inl, inr, arith, true≢false}
+use Rattle.std.specs.Prelude.{Some, slice_get, ◌==◌}
 use Rattle.std.specs.List.{list_any}
 use Rattle.std.proofs.lemmas.Bool.{cases_eq, cases_lt}
+use Rattle.std.proofs.lemmas.Option.{none-some, slice_get_within}
 use Rattle.ot_model.specs.Tree.{Task, Body, Next}
 use Rattle.ot_model.specs.Cells.{updated}
 use Rattle.ot_model.specs.Uses.{AreInOrder}
@@ -24,11 +25,13 @@ use Rattle.ot_job.proofs.PlaceLemmas.{at-fewer, at-task}
 use Rattle.ot_job.proofs.AwaitsLemmas.{awaits-fewer, awaits-task}
 use Rattle.ot_job.proofs.KeptLemmas.{at-updated, todo-next}
 use Rattle.ot_job.proofs.SoundLemmas.{at-past}
-use Rattle.ot_job.proofs.ChangedLemmas.{sound-changed, begun-changed}
+use Rattle.ot_job.proofs.ChangedLemmas.{sound-changed, begun-changed, placed-as}
 use Rattle.ot_job.proofs.FreeLemmas.{fine-innermost}
 use Rattle.ot_job.proofs.CreatedLemmas.{group_self, kids-more, placed-parent}
-use Rattle.ot_job.proofs.KinLemmas.{child, more, long, at-fresh, at-parent, at-others, same-field, get-within, kin-more, begun-more}
+use Rattle.ot_job.proofs.KinLemmas.{child, more, long, at-fresh, at-parent, at-others, same-field, kin-more, begun-more}
 use Rattle.ot_job.proofs.OwnLemmas.{folds-alone}
+use Rattle.ot_job.proofs.EachLemmas.{at-each, more-each}
+use Rattle.ot_depend.proofs.ListLemmas.{slice_get-push_place}
 
 first_group : (gs : List Open) (o : Open) (more : List Open) (uses : List Use) → gs ≡ o ∷ more → is_in o.group (created uses (map (λ p. p.group) gs)) ≡ true
 first_group gs o os uses is = subst (λ ps. is_in o.group (created uses (map (λ p. p.group) ps)) ≡ true) (sym is) (true_or (o.group == o.group) _ (group_self o.group))
@@ -56,21 +59,12 @@ module _ (r : Region) (p : IsPlaced r) (alive : r.ended ≡ false) (uses : List 
 
   -- the statement is taken off
   pub placed-off : IsPlaced (with_rest rest r)
-  placed-off = record {
-    fine = at-fewer r.own (unawaited r.waiting r.children) (λ test. unawaited r.waiting r.children test || test new) rest r.groups (λ test h. true_or _ _ h) fine-next;
-    inside = (subst (EachTouch (λ u. allows r.own u ≡ true)) (ap (λ x. todo x r.groups) was ∙ todo-next (Task uses body) rest r.groups) p.inside).1;
-    tasks = each.1;
-    awaits = λ own is. awaits-fewer (unawaited r.waiting r.children) (λ test. unawaited r.waiting r.children test || test new) rest r.groups (λ test h. true_or _ _ h) (awaits-next own is);
-    within = p.within;
-    apart = p.apart;
-    over = λ e. absurd (true≢false (sym e ∙ alive));
-    shut = p.shut;
-    once = p.once;
-    writes = p.writes;
-    grouped = p.grouped;
-    reduced = p.reduced;
-    exclusive = p.exclusive;
-  }
+  placed-off =
+      placed-as r p rest r.waiting r.ended
+      (at-fewer r.own (unawaited r.waiting r.children) (λ test. unawaited r.waiting r.children test || test new) rest r.groups (λ test h. true_or _ _ h) fine-next)
+      (subst (EachTouch (λ u. allows r.own u ≡ true)) (ap (λ x. todo x r.groups) was ∙ todo-next (Task uses body) rest r.groups) p.inside).1 each.1
+      (λ own is. awaits-fewer (unawaited r.waiting r.children) (λ test. unawaited r.waiting r.children test || test new) rest r.groups (λ test h. true_or _ _ h) (awaits-next own is))
+      (λ e. absurd (true≢false (sym e ∙ alive))) p.shut
 
   -- the child is noted
   pub placed-noted : IsPlaced (with_child uses (with_rest rest r))
@@ -98,17 +92,6 @@ module _ (r : Region) (p : IsPlaced r) (alive : r.ended ≡ false) (uses : List 
   }
 
 -- ---- all regions
-
--- where an entry stands in a table with one more
-last-or : (kids : List Sibling) (x s : Sibling) (k : ℕ) → slice_get (kids ++ x ∷ []) k ≡ Some s → (slice_get kids k ≡ Some s) ⊎ (k ≡ length kids)
-last-or [] x s zero h = inr refl
-last-or [] x s (suc k) h = cc
-last-or (y ∷ kids) x s zero h = inl h
-last-or (y ∷ kids) x s (suc k) h = next (last-or kids x s k h)
-  where
-    next : (slice_get kids k ≡ Some s) ⊎ (k ≡ length kids) → (slice_get kids k ≡ Some s) ⊎ (suc k ≡ suc (length kids))
-    next (inl e) = inl e
-    next (inr e) = inr (ap suc e)
 
 module _ (rs : List Region) (s : IsSound rs) (i : ℕ) (h : i < length rs) (alive : ended_at rs i ≡ false) (started : IsBegun rs i)
     (uses : List Use) (body : Body) (noted : IsPlaced (with_child uses (at rs i))) (fresh : IsPlaced (new_region i (length (at rs i).children) uses body)) where
@@ -157,17 +140,17 @@ module _ (rs : List Region) (s : IsSound rs) (i : ℕ) (h : i < length rs) (aliv
           }
 
       here : p ≡ i → HasTask now p k
-      here e = pick (last-or (at rs i).children (created uses (map (λ o. o.group) (at rs i).groups)) x k
+      here e = pick (slice_get-push_place (at rs i).children (created uses (map (λ o. o.group) (at rs i).groups)) k x
           (ap (λ (r : Region). slice_get r.children k) (sym (ap (at now) e ∙ at-parent rs i h uses body)) ∙ there))
         where
-          pick : (slice_get (at rs i).children k ≡ Some x) ⊎ (k ≡ length (at rs i).children) → HasTask now p k
+          pick : (slice_get (at rs i).children k ≡ Some x) ⊎ ((k ≡ length (at rs i).children) × (x ≡ created uses (map (λ o. o.group) (at rs i).groups))) → HasTask now p k
           pick (inl is) = old (omega (arith, e, h)) (ap (λ n. slice_get (at rs n).children k) e ∙ is)
           pick (inr is) = record {
             task = length rs;
             below = some;
             known = omega (arith, long rs i h uses body);
             of = ap (λ (r : Region). r.parent) (at-fresh rs i h uses body) ∙ sym e;
-            is = ap (λ (r : Region). r.child) (at-fresh rs i h uses body) ∙ sym is;
+            is = ap (λ (r : Region). r.child) (at-fresh rs i h uses body) ∙ sym is.0;
           }
 
       by : (p < length rs) ⊎ ((p ≡ length rs) ⊎ (length now ≤ p)) → HasTask now p k
@@ -176,14 +159,8 @@ module _ (rs : List Region) (s : IsSound rs) (i : ℕ) (h : i < length rs) (aliv
           pick : (p ≡ i) ⊎ (p ≡ i → ⊥) → HasTask now p k
           pick (inl e) = here e
           pick (inr e) = old below (ap (λ (r : Region). slice_get r.children k) (sym (at-others rs i h uses body p below e)) ∙ there)
-      by (inr (inl e)) = absurd (never (ap (λ (r : Region). slice_get r.children k) (sym (fresh-at p e)) ∙ there))
-        where
-          never : None ≡ Some x → ⊥
-          never e = cc
-      by (inr (inr past)) = absurd (never (ap (λ (r : Region). slice_get r.children k) (sym (gone-at p past)) ∙ there))
-        where
-          never : None ≡ Some x → ⊥
-          never e = cc
+      by (inr (inl e)) = absurd (none-some x (ap (λ (r : Region). slice_get r.children k) (sym (fresh-at p e)) ∙ there))
+      by (inr (inr past)) = absurd (none-some x (ap (λ (r : Region). slice_get r.children k) (sym (gone-at p past)) ∙ there))
 
   older-now : (a b : ℕ) → 0 < b → b < a → a < length now → parent_of now b ≡ parent_of now a → (at now b).child < (at now a).child
   older-now a b pos lt below same = by (place a)
@@ -197,7 +174,7 @@ module _ (rs : List Region) (s : IsSound rs) (i : ℕ) (h : i < length rs) (aliv
           let b-old : b < length rs = omega (arith, lt, e) in
           let up : parent_of rs b ≡ i = sym (parent-old b b-old) ∙ same ∙ ap (λ (r : Region). r.parent) (fresh-at a e) in
           let k = s.kin b pos b-old in
-          let place : (at rs b).child < length (at rs i).children = get-within (at rs i).children (at rs b).child k.entry (ap (λ n. slice_get (at rs n).children (at rs b).child) (sym up) ∙ k.there) in
+          let place : (at rs b).child < length (at rs i).children = slice_get_within (at rs i).children (at rs b).child k.entry (ap (λ n. slice_get (at rs n).children (at rs b).child) (sym up) ∙ k.there) in
           omega (arith, place, child-old b b-old, ap (λ (r : Region). r.child) (fresh-at a e))
       by (inr (inr past)) = absurd (omega (arith, past, below))
 
@@ -214,7 +191,7 @@ module _ (rs : List Region) (s : IsSound rs) (i : ℕ) (h : i < length rs) (aliv
     older = older-now;
     begun = λ j pos below. begun j pos below (place j);
     entered = λ j o os is. entered j o os is (place j);
-    placed = λ j. placed j (place j);
+    placed = more-each IsPlaced (updated rs i (with_child uses)) (new_region i (length (at rs i).children) uses body) (at-each IsPlaced rs i (with_child uses) s.placed noted) fresh;
     done = λ j pos over k x there. done j pos over k x there (place j);
   }
     where
@@ -228,25 +205,13 @@ module _ (rs : List Region) (s : IsSound rs) (i : ℕ) (h : i < length rs) (aliv
       begun j pos below (inr (inl e)) = subst (IsBegun now) (sym (ap (λ (r : Region). r.parent) (fresh-at j e))) (begun-now i h started)
       begun j pos below (inr (inr past)) = absurd (omega (arith, past, below))
 
+      never : {o : Open} {os : List Open} → [] ≡ o ∷ os → ⊥
+      never e = cc
+
       entered : (j : ℕ) (o : Open) (os : List Open) → (at now j).groups ≡ o ∷ os → (j < length rs) ⊎ ((j ≡ length rs) ⊎ (length now ≤ j)) → IsBegun now j
       entered j o os is (inl old) = begun-now j old (s.entered j o os (sym (same-field rs i h uses body (λ r. r.groups) (λ r. refl) j old) ∙ is))
       entered j o os is (inr (inl e)) = absurd (never (ap (λ (r : Region). r.groups) (sym (fresh-at j e)) ∙ is))
-        where
-          never : [] ≡ o ∷ os → ⊥
-          never e = cc
       entered j o os is (inr (inr past)) = absurd (never (ap (λ (r : Region). r.groups) (sym (gone-at j past)) ∙ is))
-        where
-          never : [] ≡ o ∷ os → ⊥
-          never e = cc
-
-      placed : (j : ℕ) → (j < length rs) ⊎ ((j ≡ length rs) ⊎ (length now ≤ j)) → IsPlaced (at now j)
-      placed j (inl old) = pick (cases_eq j i)
-        where
-          pick : (j ≡ i) ⊎ (j ≡ i → ⊥) → IsPlaced (at now j)
-          pick (inl e) = subst IsPlaced (sym (ap (at now) e ∙ at-parent rs i h uses body)) noted
-          pick (inr e) = subst IsPlaced (sym (at-others rs i h uses body j old e)) (s.placed j)
-      placed j (inr (inl e)) = subst IsPlaced (sym (fresh-at j e)) fresh
-      placed j (inr (inr past)) = subst IsPlaced (at-past rs j (omega (arith, past, long rs i h uses body)) ∙ sym (gone-at j past)) (s.placed j)
 
       done : (j : ℕ) → 0 < j → ended_at now j ≡ true → (k : ℕ) (x : Sibling) → slice_get (at now j).children k ≡ Some x → (j < length rs) ⊎ ((j ≡ length rs) ⊎ (length now ≤ j)) → x.finished ≡ true
       done j pos over k x there (inl old) = pick (cases_eq j i)
@@ -257,10 +222,7 @@ module _ (rs : List Region) (s : IsSound rs) (i : ℕ) (h : i < length rs) (aliv
               let same = at-others rs i h uses body j old e in
               s.done j pos (ap (λ (r : Region). r.ended) (sym same) ∙ over) k x (ap (λ (r : Region). slice_get r.children k) (sym same) ∙ there)
       done j pos over k x there (inr (inl e)) = absurd (true≢false (sym over ∙ ap (λ (r : Region). r.ended) (fresh-at j e)))
-      done j pos over k x there (inr (inr past)) = absurd (never (ap (λ (r : Region). slice_get r.children k) (sym (gone-at j past)) ∙ there))
-        where
-          never : None ≡ Some x → ⊥
-          never e = cc
+      done j pos over k x there (inr (inr past)) = absurd (none-some x (ap (λ (r : Region). slice_get r.children k) (sym (gone-at j past)) ∙ there))
 
 -- the task statement that comes next is executed
 module _ (ws : List Region) (s : IsSound ws) (i : ℕ) (h : i < length ws) (alive : ended_at ws i ≡ false) (started : IsBegun ws i)

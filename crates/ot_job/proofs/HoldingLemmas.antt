@@ -1,7 +1,6 @@
 -- Each piece that is out holds what it touches.
-use Rattle.std.proofs.Common.{◌≡◌, ℕ, zero, suc, Bool, true, false, List, [], ◌∷◌, refl, sym, ap, subst, ◌∙◌, inl, inr, arith, true≢false}
+use Rattle.std.proofs.Common.{◌≡◌, zero, suc, Bool, true, false, List, [], ◌∷◌, refl, sym, ap, subst, ◌∙◌, inl, inr, arith, true≢false}
 use Rattle.std.specs.Prelude.{Option, Some, None, Contains, if◌then◌else◌}
-use Rattle.ot_model.specs.Names.{NamedIn}
 use Rattle.ot_model.specs.Cells.{lengths}
 use Rattle.ot_model.specs.Uses.{mode_in}
 use Rattle.ot_model.specs.declared.expr.Cell.{Cell}
@@ -11,19 +10,18 @@ use Rattle.ot_model.specs.declared.stmt.Mode.TheVariants.{Reads, Writes, Folds}
 use Rattle.ot_model.specs.declared.stmt.Use.{Use}
 use Rattle.ot_check.specs.Paths.{use_as}
 use Rattle.ot_check.specs.Offences.{Declared, allows, folds_to}
-use Rattle.ot_task.specs.Regions.{Region}
 use Rattle.ot_task.specs.Modes.{held, held_as, mode_held}
 use Rattle.ot_job.specs.Holding.{Touches, OnlyReads, FoldsNone, Holds, touches_out, AllHold, AreApart}
 use Rattle.ot_job.specs.Live.{Live}
 use Rattle.ot_job.specs.Rights.{IsRight}
 use Rattle.ot_job.specs.Numbered.{at}
-use Rattle.ot_job.specs.Sound.{OnlyFolds, IsPlaced}
+use Rattle.ot_job.specs.Sound.{OnlyFolds}
 use Rattle.ot_job.specs.Well.{IsOnCourse}
-use Rattle.ot_job.specs.Whole.{whole, wholes}
 use Rattle.ot_job.proofs.CoverLemmas.{Covers, covered}
 use Rattle.ot_job.proofs.FoldLemmas.{one-fold, held-alike, only-unread, only-unwritten}
-use Rattle.ot_job.proofs.FreeLemmas.{at-whole, named-front, touch-may, pieces_apart}
+use Rattle.ot_job.proofs.FreeLemmas.{touch-may}
 use Rattle.ot_job.proofs.HoldsLemmas.{Among, held-right}
+use Rattle.ot_job.proofs.OpenLemmas.{placed, named-at, pieces_apart}
 
 -- ---- touches in a list
 
@@ -111,16 +109,13 @@ module _ (own : Declared) (us d : List Use) (modes : (c : Cell) → mode_in d c 
 -- ---- a job on its course
 
 module _ (j : Live) (o : IsOnCourse j) where
-  named-at : (i : ℕ) → NamedIn (lengths j.cells) (at (wholes j.regions) i).rest
-  named-at i = named-front (lengths j.cells) (at (wholes j.regions) i).rest (at (wholes j.regions) i).groups (o.named i)
-
   pub course-holds : AllHold j
   course-holds i run is =
       let r = at j.regions i in
       let w = o.runs i run is in
-      let placed : IsPlaced (whole r) = subst IsPlaced (at-whole j.regions i) (o.sound.placed i) in
-      let named : NamedIn (lengths j.cells) (whole r).rest = subst (λ (x : Region). NamedIn (lengths j.cells) x.rest) (at-whole j.regions i) (named-at i) in
-      fold-holds r.own (touches_out r run) run.lease.uses w.modes (touch-may (lengths j.cells) r placed named run is w) placed.exclusive
+      let whole_placed = placed j.regions o.sound i in
+      fold-holds r.own (touches_out r run) run.lease.uses w.modes
+      (touch-may (lengths j.cells) r whole_placed (named-at j.regions o.sound (lengths j.cells) o.named o.runs o.begun i) run is w) whole_placed.exclusive
 
   pub course-apart : AreApart j
-  course-apart i k one two other is also = pieces_apart j.regions o.sound (lengths j.cells) named-at o.runs o.begun i k one two is also other
+  course-apart i k one two other is also = pieces_apart j.regions o.sound (lengths j.cells) o.named o.runs o.begun i k one two is also other

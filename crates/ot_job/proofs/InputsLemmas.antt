@@ -4,6 +4,8 @@ use Rattle.std.specs.Prelude.{Option, Some, None, IsSome, IsTrue, option_map, un
 use Rattle.std.specs.List.{All, find}
 use Rattle.std.proofs.lemmas.List.Elements.{All-nil, All-cons, All-head, All-tail}
 use Rattle.std.proofs.lemmas.Option.{same_Some}
+use Rattle.std.proofs.lemmas.Iterator.Adapters.{option_map_id}
+use Rattle.std.proofs.lemmas.Bool.{false_from_ne_true}
 use Rattle.ot_model.specs.Cells.{cell_of}
 use Rattle.ot_model.specs.Uses.{conflicts, is_fold, joined, first_of, Conflict}
 use Rattle.ot_model.specs.declared.expr.Cell.{Cell}
@@ -63,21 +65,14 @@ found-among (x ∷ lent) c l h = by (is_at c x) refl (found-among lent c l)
 
 module _ (lent : List LentCell) (before after : List (List ℕ)) (back : AreJoined lent (cell_of before) (cell_of after)) (us : List Use) (free : Conflict (uses_of lent) us → ⊥) where
   agree : (u : Use) → Among u us → (l : LentCell) → find (is_at u.cell) lent ≡ Some l → l.cell ≡ u.cell → conflicts l.mode u.mode ≡ false
-  agree u k l h at = by (conflicts l.mode u.mode) refl
-    where
-      by : (b : Bool) → conflicts l.mode u.mode ≡ b → conflicts l.mode u.mode ≡ false
-      by false e = e
-      by true e = absurd (free (among-any (λ x. Any (λ v. (x.cell ≡ v.cell) × IsTrue (conflicts x.mode v.mode)) us) (uses_of lent) (use_of l) (found-among lent u.cell l h)
-          (among-any (λ v. (l.cell ≡ v.cell) × IsTrue (conflicts l.mode v.mode)) us u k (at, e))))
+  agree u k l h at = false_from_ne_true (conflicts l.mode u.mode) (λ e.
+      free (among-any (λ x. Any (λ v. (x.cell ≡ v.cell) × IsTrue (conflicts x.mode v.mode)) us) (uses_of lent) (use_of l) (found-among lent u.cell l h)
+      (among-any (λ v. (l.cell ≡ v.cell) × IsTrue (conflicts l.mode v.mode)) us u k (at, e))))
 
   -- a cell that it reads or writes stays
   stays : (u : Use) → Among u us → is_fold u.mode ≡ false → cell_of after u.cell ≡ cell_of before u.cell
   stays u k other = pick (find (is_at u.cell) lent) refl
     where
-      as_is : (o : Option ℕ) → option_map (λ (n : ℕ). n) o ≡ o
-      as_is None = refl
-      as_is (Some n) = refl
-
       reads : (m n : Mode) → is_fold n ≡ false → conflicts m n ≡ false → m ≡ Reads
       reads Reads n other h = refl
       reads Writes n other h = absurd (true≢false h)
@@ -94,7 +89,7 @@ module _ (lent : List LentCell) (before after : List (List ℕ)) (back : AreJoin
       pick (Some l) e =
           let f = found (λ x. cell_of after x.cell ≡ option_map (λ stored. joined x.mode stored x.value) (cell_of before x.cell)) lent u.cell l back.lent_cells e in
           let m : l.mode ≡ Reads = reads l.mode u.mode other (agree u k l e f.1) in
-          ap (cell_of after) (sym f.1) ∙ f.0 ∙ ap (λ (n : Mode). option_map (λ stored. joined n stored l.value) (cell_of before l.cell)) m ∙ as_is (cell_of before l.cell) ∙ ap (cell_of before) f.1
+          ap (cell_of after) (sym f.1) ∙ f.0 ∙ ap (λ (n : Mode). option_map (λ stored. joined n stored l.value) (cell_of before l.cell)) m ∙ option_map_id (cell_of before l.cell) ∙ ap (cell_of before) f.1
 
   same-copy : (u : Use) → Among u us → copy_of after u ≡ copy_of before u
   same-copy u k = ap (λ n. record { cell = u.cell; mode = u.mode; first = n; value = n }) (by u.mode refl)

@@ -1,44 +1,50 @@
--- A job's fields as its invariant sees them, and what a settle makes of them.
-use Rattle.std.proofs.Common.{◌≡◌, ℕ, ◌+◌, ◌<◌, ◌≤◌, ◌∙◌, ap, sym, subst, arith, List, ◌∷◌, ◌++◌, Bor, Bool, true, false, true≢false, length}
+-- A job's fields as its invariant sees them, and what a claim and a settle find of them and make of them.
+use Rattle.std.proofs.Common.{◌≡◌, ℕ, ◌+◌, ◌<◌, ◌≤◌, ◌∙◌, refl, ap, ap₂, sym, subst, arith, List, ◌∷◌, Bor, Bool, true, false, true≢false, length}
 use Rattle.std.specs.Prelude.{◌↔◌, IsTrue, if◌then◌else◌, Option, Some, IfSome, option_map, get_or, IsPermutation}
-use Rattle.ot_model.specs.Cells.{lengths}
 use Rattle.ot_model.specs.Counts.{size}
 use Rattle.ot_model.specs.Programs.{expanded_of}
-use Rattle.ot_model.proofs.CountsLemmas.{tasks_in-≤-size}
-use Rattle.ot_owner.specs.Back.{all_back}
-use Rattle.ot_owner.specs.Owning.{Owned, loan_of}
-use Rattle.ot_owner.specs.Worth.{AreJoined, worth}
-use Rattle.ot_task.specs.Regions.{Region, group_next, is_control, tasks_next}
-use Rattle.ot_task.specs.Weighing.{weight_of}
-use Rattle.ot_job.specs.Numbered.{at}
-use Rattle.ot_job.specs.Live.{Live}
-use Rattle.ot_job.specs.JobView.{live_of}
-use Rattle.ot_task.specs.Pieces.{leading_len}
-use Rattle.ot_job.specs.Taken.{Came, IsOut, IsRun, taken_by}
-use Rattle.ot_job.specs.Opened.{IsRoomFor, opened_under}
-use Rattle.ot_job.specs.Opening.{MayOpen, Opens}
 use Rattle.ot_model.specs.declared.expr.Cell.{Cell}
 use Rattle.ot_model.specs.declared.fold.Fold.{Fold as Operation}
 use Rattle.ot_model.specs.declared.stmt.Use.{Use}
-use Rattle.ot_job.specs.Well.{MaySettle}
-use Rattle.ot_job.specs.Settling.{CreatesInOrder, settled, units_of}
-use Rattle.ot_job.specs.Well.{IsWell}
-use Rattle.ot_job.specs.declared.job.Job.TheInside.{Inside}
-use Rattle.ot_job.proofs.LendingLemmas.{opens}
-use Rattle.ot_job.proofs.MayOpenLemmas.{may-open}
-use Rattle.ot_job.proofs.PickLemmas.{at-here}
-use Rattle.ot_job.proofs.SettleLemmas.{run_of, is-known, out-to}
-use Rattle.ot_job.proofs.WellLemmas.{settle-may}
-use Rattle.ot_job.specs.Claiming.{claimable_of, picked}
+use Rattle.ot_model.proofs.CountsLemmas.{tasks_in-≤-size}
+use Rattle.ot_owner.specs.Back.{all_back}
+use Rattle.ot_owner.specs.Keeping.{Keeping, IsOpenable}
+use Rattle.ot_owner.specs.Owning.{Owned, loan_of}
+use Rattle.ot_task.specs.Pieces.{leading_len}
+use Rattle.ot_task.specs.Regions.{Region, group_next, is_control, tasks_next}
+use Rattle.ot_task.specs.Weighing.{weight_of}
+use Rattle.ot_job.specs.Calls.{IsBack, MayEnd, MayTakeBack}
+use Rattle.ot_job.specs.Claiming.{claimable_of, is_claimable, picked}
+use Rattle.ot_job.specs.JobView.{live_of}
+use Rattle.ot_job.specs.Live.{Live}
+use Rattle.ot_job.specs.Numbered.{at}
+use Rattle.ot_job.specs.Opened.{IsRoomFor}
+use Rattle.ot_job.specs.Opening.{Opens}
+use Rattle.ot_job.specs.Settling.{CreatesInOrder, Settles, settled, units_of}
 use Rattle.ot_job.specs.States.{claimable_in}
-use Rattle.ot_job.proofs.DealingsLemmas.{picked-in}
-use Rattle.ot_job.proofs.CourseLemmas.{counts-few, settle-course, settle-lighter, settle-well}
+use Rattle.ot_job.specs.Taken.{Came, IsOut, taken_by, worker_in}
+use Rattle.ot_job.specs.Well.{IsWell, IsOnCourse, MaySettle}
+use Rattle.ot_job.specs.declared.job.Job.TheInside.{Inside}
+use Rattle.ot_job.proofs.CourseLemmas.{counts-few, settle-lighter, settle-well}
+use Rattle.ot_job.proofs.DealingsLemmas.{picked-in, works}
+use Rattle.ot_job.proofs.LendingLemmas.{back-unsummed, opens}
+use Rattle.ot_job.proofs.MayOpenLemmas.{may-open}
+use Rattle.ot_job.proofs.PickLemmas.{picked-claimable}
+use Rattle.ot_job.proofs.SettleLemmas.{run_of, worker-is, has-piece, here-is, loan-out, cells-there}
+use Rattle.ot_job.proofs.WellLemmas.{settle-may}
 
--- the task that is picked, where one is: the job doesn't fail, and it is the one among the claimable tasks
-pub picked-here : (s : Inside) (l : Live) (pick i : ℕ) (told : Option ℕ) → live_of s ≡ l → told ≡ picked (claimable_in l) pick → told ≡ Some i
-    → (s.failing ≡ false) × (picked (claimable_of s.tasks) pick ≡ Some i)
+-- the task that is picked: the job doesn't fail, and it is among the claimable tasks
+pub record IsPicked (s : Inside) (pick i : ℕ) : Type 0 where
+  pub working : s.failing ≡ false
+  pub is : picked (claimable_of s.tasks) pick ≡ Some i
+  pub known : i < length s.tasks
+  pub can : is_claimable s.tasks i ≡ true
+
+pub picked-here : (s : Inside) (l : Live) (pick i : ℕ) (told : Option ℕ) → live_of s ≡ l → told ≡ picked (claimable_in l) pick → told ≡ Some i → IsPicked s pick i
 picked-here s l pick i told view is some =
-    picked-in s.failing s.tasks pick i (ap (λ (x : Live). picked (claimable_in x) pick) view ∙ sym is ∙ some)
+    let found = picked-in s.failing s.tasks pick i (ap (λ (x : Live). picked (claimable_in x) pick) view ∙ sym is ∙ some) in
+    let both = picked-claimable s.tasks pick i found.1 in
+    record { working = found.0; is = found.1; known = both.0; can = both.1 }
 
 -- a piece that is found among the tasks is out, and one that isn't found isn't out
 module _ (s : Inside) (d : Came) (tasks : List Region) (found : Bool) (same : tasks ≡ s.tasks) (is : IsTrue found ↔ IsOut tasks d) where
@@ -48,108 +54,109 @@ module _ (s : Inside) (d : Came) (tasks : List Region) (found : Bool) (same : ta
   pub not-found-out : found ≡ false → IsOut s.tasks d → ⊥
   not-found-out h out = true≢false (sym (is.1 (subst (λ (l : List Region). IsOut l d) (sym same) out)) ∙ h)
 
+-- told of the piece by the number of its task that the code has
+pub found-as : (s : Inside) (d : Came) (task : ℕ) → task ≡ d.task → (tasks : List Region) (found : Bool) → tasks ≡ s.tasks → IsTrue found ↔ IsOut tasks d → found ≡ true → IsOut s.tasks (record d { task = task })
+found-as s d task of tasks found same is h = subst (λ n. IsOut s.tasks (record d { task = n })) (sym of) (found-out s d tasks found same is h)
+
+-- the job once it is settled, by its parts
+abbrev pub after : Inside → List (List ℕ) → Owned → List Region → (tasks units : ℕ) → Live
+after s cells owned regions tasks units = record {
+  program = expanded_of s.spec.checked.program;
+  before = s.spec.before;
+  cells = cells;
+  owned = owned;
+  regions = regions;
+  counts = record { tasks = s.counts.tasks + tasks; units = s.counts.units + units };
+  failing = s.failing;
+}
+
+pub record IsSettled (s : Inside) (d : Came) (cells : List (List ℕ)) (owned : Owned) (regions : List Region) (tasks units : ℕ) : Type 0 where
+  pub tasks-few : s.counts.tasks + tasks ≤ 20000
+  pub units-few : s.counts.units + units ≤ 20000
+  pub well : IsWell (after s cells owned regions tasks units)
+  pub settles : Settles (live_of s) d units (after s cells owned regions tasks units)
+
+-- what the code counts and opens, told of the task's region
+module _ (rs : List Region) (d : Came) (out : IsOut rs d) (t : Region) (here : t ≡ get_or rs d.task t) where
+  pub units-more : (len next : ℕ) → len ≡ leading_len d.assigns → next ≡ (if is_control t.rest then 1 else 0) → units_of d.assigns (at rs d.task).rest ≡ len + next
+  units-more len next is control =
+      let control-is = control ∙ ap (λ (x : Region). if is_control x.rest then 1 else 0) (sym (here-is rs d out t here)) in
+      omega (arith, is, control-is)
+
+  pub tasks-more : (next : ℕ) → next ≡ tasks_next t.rest → next ≡ tasks_next (at rs d.task).rest
+  tasks-more next is = is ∙ ap (λ (x : Region). tasks_next x.rest) (sym (here-is rs d out t here))
+
+  pub fits : (next : Option (Operation × Bor (List Cell))) → option_map (λ g. (g.0, g.1.now)) next ≡ group_next t.rest → (room : Option (Operation × List Use))
+      → IsRoomFor (option_map (λ g. (g.0, g.1.now)) next) room → IsRoomFor (group_next (at rs d.task).rest) room
+  fits next told room names = subst (λ (n : Option (Operation × List Cell)). IsRoomFor n room) (told ∙ ap (λ (x : Region). group_next x.rest) (sym (here-is rs d out t here))) names
+
 module _ (s : Inside) (w : IsWell (live_of s)) (working : s.failing ≡ false) (d : Came) (out : IsOut s.tasks d) where
   abbrev r : Region
   r = at s.tasks d.task
 
-  pub may : MaySettle (live_of s)
-  may = settle-may (live_of s) w (w.course working)
+  course : IsOnCourse (live_of s)
+  course = w.course working
 
-  pub task-within : d.task < length s.tasks
-  task-within = omega (arith, is-known (live_of s) d may out)
+  may : MaySettle (live_of s)
+  may = settle-may (live_of s) w course
 
-  -- the task's region, as the code looks at it
-  pub here-is : (t : Region) → t ≡ get_or s.tasks d.task t → r ≡ t
-  here-is t here = at-here s.tasks d.task t task-within here
+  pub may-end : MayEnd s.tasks d.task
+  may-end = record {
+    piece = has-piece s.tasks d out;
+    alive = (course.runs d.task (run_of out.0.0 d) out.0.1).alive;
+    finish = λ some. let kin = may.kin d.task (run_of out.0.0 d) out.0.1 some in record { parent = kin.0; ready = kin.1; unfinished = kin.2 };
+  }
 
-  -- what the code counts, told of it
-  module _ (t : Region) (here : t ≡ get_or s.tasks d.task t) where
-    pub units-more : (len next : ℕ) → len ≡ leading_len d.assigns → next ≡ (if is_control t.rest then 1 else 0) → units_of d.assigns r.rest ≡ len + next
-    units-more len next is control =
-        let control-is = control ∙ ap (λ (x : Region). if is_control x.rest then 1 else 0) (sym (at-here s.tasks d.task t task-within here)) in
-        omega (arith, is, control-is)
+  pub may-take-back : (owners : Keeping) → owners.owned ≡ s.owners.owned → (room : Option (Operation × List Use)) → IfSome room (λ _. IsOpenable owners) → IsRoomFor (group_next r.rest) room
+      → MayTakeBack owners s.cells d.lent out.0.0 room s.counts.units
+  may-take-back owners is room openable fits = subst (λ (b : Owned). MayTakeBack (record owners { owned = b }) s.cells d.lent out.0.0 room s.counts.units) (sym is) (record {
+    openable = openable;
+    opens = may-open (live_of s) w course d.task (run_of out.0.0 d) out.0.1 room fits;
+    out = loan-out (live_of s) d may out;
+    there = cells-there (live_of s) d may out;
+    unsummed = back-unsummed (live_of s) course d.task (run_of out.0.0 d) out.0.1 d.lent refl;
+  })
 
-    pub tasks-more : (next : ℕ) → next ≡ tasks_next t.rest → next ≡ tasks_next r.rest
-    tasks-more next is = is ∙ ap (λ (x : Region). tasks_next x.rest) (sym (at-here s.tasks d.task t task-within here))
+  -- what a settle has made of the cells, of what is out and open, and of the tasks
+  module _ (cells : List (List ℕ)) (owned : Owned) (room : Option (Operation × List Use)) (names : IsRoomFor (group_next r.rest) room) (b : IsBack s.owners.owned s.cells d out.0.0 room s.counts.units owned cells)
+      (ordered : CreatesInOrder r) (regions : List Region) (tasks units : ℕ) (regions-are : regions ≡ settled (taken_by d.answer) s.counts.units d.task s.tasks) (tasks-are : tasks ≡ tasks_next r.rest)
+      (units-are : units_of d.assigns r.rest ≡ units) where
+    groups-now : Opens (group_next r.rest) s.counts.units (all_back out.0.0 d.lent s.owners.owned.groups) owned.groups
+    groups-now = opens (group_next r.rest) room s.counts.units (all_back out.0.0 d.lent s.owners.owned.groups) owned.groups names b.groups
 
-  -- the piece is out to the worker that the record tells
-  module _ (t : Region) (here : t ≡ get_or s.tasks d.task t) (worker : ℕ) (told : option_map (λ run. run.worker) t.running ≡ Some worker) where
-    pub told-here : option_map (λ run. run.worker) r.running ≡ Some worker
-    told-here = ap (λ (x : Region). option_map (λ run. run.worker) x.running) (at-here s.tasks d.task t task-within here) ∙ told
+    well-now : IsWell (after s cells owned (settled (taken_by d.answer) s.counts.units d.task s.tasks) (tasks_next r.rest) (units_of d.assigns r.rest))
+    well-now = settle-well (live_of s) w working d out b.run.made b.run.told cells owned b.worth b.lengths b.ended groups-now ordered
 
-    abbrev pub out-here : IsOut s.tasks d
-    out-here = ((worker, out-to s.tasks d worker out told-here), out.1)
+    few : (s.counts.tasks + tasks ≤ 20000) × (s.counts.units + units ≤ 20000)
+    few =
+        let counts = counts-few _ (well-now.course working) in
+        let small : size (expanded_of s.spec.checked.program).body ≤ 20000 = omega (arith, s.spec.checked.program.few, s.spec.checked.program.statements_are) in
+        (omega (arith, counts.0, tasks-are, small, tasks_in-≤-size (expanded_of s.spec.checked.program).body), omega (arith, counts.1, units-are, small))
 
--- what a settle has made of the cells, and of what is out and open
-pub record CameBack (s : Inside) (d : Came) (worker : ℕ) (cells : List (List ℕ)) (owned : Owned) : Type 0 where
-  pub back : AreJoined d.lent (worth s.owners.owned s.cells) (worth owned cells)
-  pub long : lengths cells ≡ lengths s.cells
-  pub ended : IsPermutation s.owners.owned.out (loan_of worker d.lent ∷ owned.out)
-  pub groups : Opens (group_next (at s.tasks d.task).rest) s.counts.units (all_back worker d.lent s.owners.owned.groups) owned.groups
+    now-is : after s cells owned regions tasks units ≡ after s cells owned (settled (taken_by d.answer) s.counts.units d.task s.tasks) (tasks_next r.rest) (units_of d.assigns r.rest)
+    now-is =
+        ap (λ (l : List Region). after s cells owned l tasks units) regions-are
+        ∙ ap₂ (after s cells owned (settled (taken_by d.answer) s.counts.units d.task s.tasks)) tasks-are (sym units-are)
 
--- by what its calls tell
-pub came-back : (s : Inside) (d : Came) (worker : ℕ) (before : Owned) → before ≡ s.owners.owned → (t : Region) (next : Option (Operation × Bor (List Cell))) → at s.tasks d.task ≡ t
-    → option_map (λ g. (g.0, g.1.now)) next ≡ group_next t.rest → (room : Option (Operation × List Use)) → IsRoomFor (option_map (λ g. (g.0, g.1.now)) next) room → (cells : List (List ℕ)) (owned : Owned)
-    → AreJoined d.lent (worth before s.cells) (worth owned cells) → lengths cells ≡ lengths s.cells → IsPermutation before.out (loan_of worker d.lent ∷ owned.out)
-    → owned.groups ≡ all_back worker d.lent before.groups ++ opened_under s.counts.units room → CameBack s d worker cells owned
-came-back s d worker before is t next here told room names cells owned back long ended groups = record {
-  back = subst (λ (b : Owned). AreJoined d.lent (worth b s.cells) (worth owned cells)) is back;
-  long = long;
-  ended = subst (λ (b : Owned). IsPermutation b.out (loan_of worker d.lent ∷ owned.out)) is ended;
-  groups =
-      opens (group_next (at s.tasks d.task).rest) room s.counts.units (all_back worker d.lent s.owners.owned.groups) owned.groups
-      (subst (λ (n : Option (Operation × List Cell)). IsRoomFor n room) (told ∙ ap (λ (r : Region). group_next r.rest) (sym here)) names)
-      (groups ∙ ap (λ (b : Owned). all_back worker d.lent b.groups ++ opened_under s.counts.units room) is);
-}
+    worker : worker_in r ≡ out.0.0
+    worker = worker-is r out.0.0 (ap (option_map (λ run. run.worker)) out.0.1)
 
--- what its calls ask of a group that comes next
-pub opens-next : (s : Inside) → IsWell (live_of s) → s.failing ≡ false → (d : Came) (out : IsOut s.tasks d) (before : Owned) → before ≡ s.owners.owned → (t : Region) (next : Option (Operation × Bor (List Cell)))
-    → at s.tasks d.task ≡ t → option_map (λ g. (g.0, g.1.now)) next ≡ group_next t.rest → (room : Option (Operation × List Use)) → IsRoomFor (option_map (λ g. (g.0, g.1.now)) next) room
-    → IfSome room (λ r. MayOpen before (loan_of out.0.0 d.lent) s.counts.units r.1)
-opens-next s w working d out before is t next here told room names =
-    subst (λ (b : Owned). IfSome room (λ r. MayOpen b (loan_of out.0.0 d.lent) s.counts.units r.1)) (sym is)
-    (may-open (live_of s) w (w.course working) d.task (run_of out.0.0 d) out.0.1 room
-    (subst (λ (n : Option (Operation × List Cell)). IsRoomFor n room) (told ∙ ap (λ (r : Region). group_next r.rest) (sym here)) names))
-
-module _ (s : Inside) (w : IsWell (live_of s)) (working : s.failing ≡ false) (d : Came) (out : IsOut s.tasks d) where
-  abbrev region : Region
-  region = at s.tasks d.task
-
-  module _ (cells : List (List ℕ)) (owned : Owned) (b : CameBack s d out.0.0 cells owned) (ordered : CreatesInOrder region) (ran : IsRun d) where
-    small : size (expanded_of s.spec.checked.program).body ≤ 20000
-    small = omega (arith, s.spec.checked.program.few, s.spec.checked.program.statements_are)
-
-    pub units-few : s.counts.units + units_of d.assigns region.rest ≤ 20000
-    units-few = omega (arith, (counts-few _ (settle-course (live_of s) w working d out ran.made ran.told cells owned b.back b.long b.ended b.groups ordered)).1, small)
-
-    pub tasks-few : s.counts.tasks + tasks_next region.rest ≤ 20000
-    tasks-few =
-        omega (arith, (counts-few _ (settle-course (live_of s) w working d out ran.made ran.told cells owned b.back b.long b.ended b.groups ordered)).0, small, tasks_in-≤-size (expanded_of s.spec.checked.program).body)
-
-    abbrev pub regions_now : List Region
-    regions_now = settled (taken_by d.answer) s.counts.units d.task s.tasks
-
-    pub lighter : weight_of regions_now < weight_of s.tasks
-    lighter = settle-lighter (live_of s) w working d out ran.made ran.told cells owned b.back b.long b.ended b.groups ordered
-
-    -- the job once it is settled, by its parts
-    abbrev pub now : List Region → ℕ → ℕ → Live
-    now regions tasks units = record {
-      program = expanded_of s.spec.checked.program;
-      before = s.spec.before;
-      cells = cells;
-      owned = owned;
-      regions = regions;
-      counts = record { tasks = s.counts.tasks + tasks; units = s.counts.units + units };
-      failing = s.failing;
+    pub is-settled : IsSettled s d cells owned regions tasks units
+    is-settled = record {
+      tasks-few = few.0;
+      units-few = few.1;
+      well = subst IsWell (sym now-is) well-now;
+      settles = record {
+        out = out;
+        working = works (live_of s) d w out working;
+        lighter = omega (arith, settle-lighter (live_of s) w working d out b.run.made b.run.told cells owned b.worth b.lengths b.ended groups-now ordered, ap weight_of regions-are);
+        few = few.1;
+        units = sym units-are;
+        stored = b.stored;
+        lengths = b.lengths;
+        groups = subst (λ n. Opens (group_next r.rest) s.counts.units (all_back n d.lent s.owners.owned.groups) owned.groups) (sym worker) groups-now;
+        worth = b.worth;
+        ended = subst (λ n. IsPermutation s.owners.owned.out (loan_of n d.lent ∷ owned.out)) (sym worker) b.ended;
+        now = now-is;
+      };
     }
-
-    module _ (regions : List Region) (tasks units : ℕ) (regions-are : regions ≡ regions_now) (tasks-are : tasks ≡ tasks_next region.rest) (units-are : units_of d.assigns region.rest ≡ units) where
-      pub now-is : now regions tasks units ≡ now regions_now (tasks_next region.rest) (units_of d.assigns region.rest)
-      now-is =
-          ap (λ (l : List Region). now l tasks units) regions-are
-          ∙ ap (λ (n : ℕ). now regions_now n units) tasks-are
-          ∙ ap (λ (n : ℕ). now regions_now (tasks_next region.rest) n) (sym units-are)
-
-      pub well-now : IsWell (now regions tasks units)
-      well-now = subst IsWell (sym now-is) (settle-well (live_of s) w working d out ran.made ran.told cells owned b.back b.long b.ended b.groups ordered)

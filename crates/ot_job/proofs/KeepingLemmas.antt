@@ -11,19 +11,22 @@ use Rattle.ot_depend.specs.Kept.{has}
 use Rattle.ot_depend.specs.Siblings.{with_finished}
 use Rattle.ot_depend.specs.Waiting.{LetsTheSame}
 use Rattle.ot_model.specs.Tree.{Body, End, Next}
-use Rattle.ot_task.specs.Regions.{Region, root_region, with_child, new_region, children_at, stepped, with_created, executed, without, tasks_next}
-use Rattle.ot_job.proofs.StepLemmas.{stepped-parent, stepped-child, stepped-children, stepped-running, created-running, executed-some}
+use Rattle.ot_task.specs.Regions.{Region, root_region, with_child, new_region, children_at, stepped, stopped, with_created, executed, without, tasks_next}
+use Rattle.ot_job.proofs.StepLemmas.{stepped-parent, stepped-child, stepped-children, stepped-running, created-running, executed-some, children-here}
 use Rattle.ot_job.proofs.CountingLemmas.{counted-told, counted-stepped, counted-created}
 use Rattle.std.specs.List.{All}
 use Rattle.std.proofs.lemmas.List.{get_or_default}
 use Rattle.ot_job.specs.Numbered.{at}
+use Rattle.ot_job.specs.Calls.{AreRefreshed, IsListFor, IsRefreshed}
 use Rattle.ot_job.specs.Claiming.{is_claimable, claimable_of}
 use Rattle.ot_job.specs.Counting.{AreCounted}
+use Rattle.ot_job.specs.Listed.{Numbers}
 use Rattle.ot_job.specs.Listing.{IsListBelow, TellsOf, IsNumbered, AreKept}
 use Rattle.ot_job.proofs.ListingLemmas.{those, those-same, listed, list-is, has-those, below-more, below-but, below-fewer}
-use Rattle.ot_job.proofs.ClaimableLemmas.{field-kept, claimable-busy, claimable-other, claimable-told, claimable-created, claimable-root}
+use Rattle.ot_job.proofs.ClaimableLemmas.{claimable-busy, claimable-other, claimable-told, claimable-created, claimable-root}
 use Rattle.ot_job.proofs.KeptLemmas.{at-updated}
 use Rattle.ot_job.proofs.NumberedLemmas.{numbered-same, numbered-created, child-known}
+use Rattle.ot_job.proofs.EachLemmas.{field-kept}
 
 -- ---- the list that is kept
 
@@ -36,42 +39,35 @@ list-tells rs list is k h = ap (has k) is ∙ has-those (is_claimable rs) 0 (len
 pub list-from : (rs : List Region) (list : List ℕ) → IsListBelow (length rs) list → ((k : ℕ) → k < length rs → TellsOf rs list k) → list ≡ claimable_of rs
 list-from rs list ordered tells = list-is (is_claimable rs) (length rs) list ordered tells
 
--- ---- one region changes, and whether its task is claimable is looked at
+-- the numbers are listed for as many tasks
+still-listed : (rs : List Region) (count : ℕ) (list : Numbers) → count ≡ length rs → list.listed ≡ claimable_of rs → length rs ≤ list.room → IsListFor count list
+still-listed rs count list same is room = record {
+  ordered = subst (λ n. IsListBelow n list.listed) (sym same) (list-ordered rs list.listed is);
+  room = omega (arith, room, same);
+}
 
-module _ (f : Region → Region) (up : (r : Region) → (f r).parent ≡ r.parent) (place : (r : Region) → (f r).child ≡ r.child) (many : (r : Region) → (f r).children ≡ r.children)
-    (rs : List Region) (i : ℕ) (numbers : List (List ℕ)) (list : List ℕ) (room out unended : ℕ) (old : AreKept rs numbers list room out unended) where
-  abbrev now : List Region
-  now = updated rs i f
+-- ---- a piece comes back, and whether its task is claimable is looked at
 
-  pub kept-changed : (list2 : List ℕ) (room2 out2 unended2 : ℕ) → AreCounted now out2 unended2 → IsListBelow (length now) list2 → TellsOf now list2 i
-      → ((k : ℕ) → TellsOf now list k → TellsOf now list2 k) → room ≤ room2 → AreKept now numbers list2 room2 out2 unended2
-  kept-changed list2 room2 out2 unended2 counted ordered told others same = record {
-    counted = counted;
-    numbered = numbered-same f up place (λ r. ap length (many r)) rs i numbers old.numbered;
-    claimable = list-from now list2 ordered (λ k h. elim (cases_eq k i) [
-      | inl is ↦ subst (TellsOf now list2) (sym is) told
-      | inr apart ↦ others k (list-tells rs list old.claimable k (omega (arith, h, length-updated rs i f)) ∙ sym (claimable-other f many rs i k apart))
-    ]);
-    room = omega (arith, old.room, length-updated rs i f, same);
-  }
+module _ (rs : List Region) (i : ℕ) (numbers : List (List ℕ)) (list : Numbers) (out unended : ℕ) (old : AreKept rs numbers list.listed list.room out unended) (tasks : List Region) (is : tasks ≡ updated rs i stopped) where
+  pub long-stopped : length tasks ≡ length rs
+  long-stopped = ap length is ∙ length-updated rs i stopped
 
--- the same, where the regions are told
-module _ (f : Region → Region) (up : (r : Region) → (f r).parent ≡ r.parent) (place : (r : Region) → (f r).child ≡ r.child) (many : (r : Region) → (f r).children ≡ r.children)
-    (rs : List Region) (i : ℕ) (numbers : List (List ℕ)) (list : List ℕ) (room out unended : ℕ) (old : AreKept rs numbers list room out unended)
-    (tasks : List Region) (is : tasks ≡ updated rs i f) where
-  pub long-tasks : length tasks ≡ length rs
-  long-tasks = ap length is ∙ length-updated rs i f
+  pub listed-stopped : IsListFor (length tasks) list
+  listed-stopped = still-listed rs (length tasks) list long-stopped old.claimable old.room
 
-  pub ordered-tasks : IsListBelow (length tasks) list
-  ordered-tasks = subst (λ n. IsListBelow n list) (sym long-tasks) (list-ordered rs list old.claimable)
-
-  pub kept-tasks : (list2 : List ℕ) (room2 out2 unended2 : ℕ) → AreCounted (updated rs i f) out2 unended2 → IsListBelow (length tasks) list2 → TellsOf tasks list2 i
-      → ((k : ℕ) → TellsOf tasks list k → TellsOf tasks list2 k) → room ≤ room2 → AreKept tasks numbers list2 room2 out2 unended2
-  kept-tasks list2 room2 out2 unended2 counted ordered told others same =
-      subst (λ (l : List Region). AreKept l numbers list2 room2 out2 unended2) (sym is) (
-      kept-changed f up place many rs i numbers list room out unended old list2 room2 out2 unended2 counted
-      (subst (λ n. IsListBelow n list2) (long-tasks ∙ sym (length-updated rs i f)) ordered) (subst (λ (l : List Region). TellsOf l list2 i) is told)
-      (subst (λ (l : List Region). (k : ℕ) → TellsOf l list k → TellsOf l list2 k) is others) same)
+  pub kept-stopped : (new : Numbers) (runs : ℕ) → AreCounted (updated rs i stopped) runs unended → IsRefreshed tasks list new i → AreKept tasks numbers new.listed new.room runs unended
+  kept-stopped new runs counted now = subst (λ (l : List Region). AreKept l numbers new.listed new.room runs unended) (sym is) (kept (subst (λ (l : List Region). IsRefreshed l list new i) is now))
+    where
+      kept : IsRefreshed (updated rs i stopped) list new i → AreKept (updated rs i stopped) numbers new.listed new.room runs unended
+      kept now = record {
+        counted = counted;
+        numbered = numbered-same stopped (λ r. refl) (λ r. refl) (λ r. refl) rs i numbers old.numbered;
+        claimable = list-from (updated rs i stopped) new.listed now.list.ordered (λ k h. elim (cases_eq k i) [
+          | inl is ↦ subst (TellsOf (updated rs i stopped) new.listed) (sym is) now.told
+          | inr apart ↦ now.others k (list-tells rs list.listed old.claimable k (omega (arith, h, length-updated rs i stopped)) ∙ sym (claimable-other stopped (λ r. refl) rs i k apart))
+        ]);
+        room = now.list.room;
+      }
 
 -- one region changes whose piece is out before and after: nothing is to be looked at
 module _ (f : Region → Region) (up : (r : Region) → (f r).parent ≡ r.parent) (place : (r : Region) → (f r).child ≡ r.child) (many : (r : Region) → (f r).children ≡ r.children)
@@ -108,7 +104,7 @@ module _ (f : Region → Region) (up : (r : Region) → (f r).parent ≡ r.paren
 
 -- ---- a child finishes, and whether its parent's task and those that waited for it are claimable is looked at
 
-module _ (rs : List Region) (p c : ℕ) (numbers : List (List ℕ)) (list : List ℕ) (room out unended : ℕ) (old : AreKept rs numbers list room out unended)
+module _ (rs : List Region) (p c : ℕ) (numbers : List (List ℕ)) (list : Numbers) (out unended : ℕ) (old : AreKept rs numbers list.listed list.room out unended)
     (waiters : List ℕ) (others : LetsTheSame waiters (at rs p).children (with_finished (at rs p).children c)) where
   abbrev told : List Region
   told = updated rs p (without c)
@@ -119,75 +115,52 @@ module _ (rs : List Region) (p c : ℕ) (numbers : List (List ℕ)) (list : List
   with-length : (r : Region) → length (without c r).children ≡ length r.children
   with-length r = length-updated r.children c (λ s. record s { finished = true })
 
-  pub kept-told : (list1 list2 : List ℕ) (room2 : ℕ) → AreCounted told out unended → IsListBelow (length told) list2 → TellsOf told list1 p
-      → ((k : ℕ) → TellsOf told list k → TellsOf told list1 k) → ((k : ℕ) → TellsOf told list1 k → TellsOf told list2 k)
-      → ((w : ℕ) → has w waiters ≡ true → TellsOf told list2 (get_or (get_or numbers p []) w 0)) → room ≤ room2 → AreKept told numbers list2 room2 out unended
-  kept-told list1 list2 room2 counted ordered parent first second waited same = record {
-    counted = counted;
+  kept-told : (one new : Numbers) → IsRefreshed told list one p → AreRefreshed told one new (get_or numbers p []) waiters → AreKept told numbers new.listed new.room out unended
+  kept-told one new parent now = record {
+    counted = counted-told rs p c out unended old.counted;
     numbered = numbered-same (without c) (λ r. refl) (λ r. refl) with-length rs p numbers old.numbered;
-    claimable = list-from told list2 ordered (λ k h. elim (cases_eq k p) [
-      | inl is ↦ second k (subst (TellsOf told list1) (sym is) parent)
+    claimable = list-from told new.listed now.list.ordered (λ k h. elim (cases_eq k p) [
+      | inl is ↦ now.others k (subst (TellsOf told one.listed) (sym is) parent.told)
       | inr apart ↦ other k (omega (arith, h, long)) apart
     ]);
-    room = omega (arith, old.room, long, same);
+    room = now.list.room;
   }
     where
-      before : (k : ℕ) → k < length rs → k ≢ p → ((at rs k).parent ≡ p → has (at rs k).child waiters ≡ false) → TellsOf told list2 k
-      before k h apart none = second k (first k (list-tells rs list old.claimable k h ∙ sym (claimable-told rs p c k apart (λ is. others (at rs k).child (none is)))))
+      same : (k : ℕ) → k < length rs → is_claimable told k ≡ is_claimable rs k → TellsOf told new.listed k
+      same k h is = now.others k (parent.others k (list-tells rs list.listed old.claimable k h ∙ sym is))
 
-      root : (k : ℕ) → k < length rs → k ≢ p → k ≡ 0 → TellsOf told list2 k
-      root k h apart is = second k (first k (list-tells rs list old.claimable k h ∙ sym (claimable-root rs p c k apart is)))
+      before : (k : ℕ) → k < length rs → k ≢ p → ((at rs k).parent ≡ p → has (at rs k).child waiters ≡ false) → TellsOf told new.listed k
+      before k h apart none = same k h (claimable-told rs p c k apart (λ is. others (at rs k).child (none is)))
 
-      other : (k : ℕ) → k < length rs → k ≢ p → TellsOf told list2 k
+      waiter : (k : ℕ) → 0 < k → k < length rs → (at rs k).parent ≡ p → has (at rs k).child waiters ≡ true → TellsOf told new.listed k
+      waiter k pos h is there =
+          let number : slice_get (get_or numbers p []) (at rs k).child ≡ Some k =
+          ap (λ q. slice_get (get_or numbers q []) (at rs k).child) (sym is) ∙ old.numbered.tasks k pos h in
+          subst (TellsOf told new.listed) (get_or_from_slice_get (get_or numbers p []) (at rs k).child k 0 number) (now.told (at rs k).child there)
+
+      other : (k : ℕ) → k < length rs → k ≢ p → TellsOf told new.listed k
       other k h apart = elim (cases_eq (at rs k).parent p) [
-        | inl is ↦ child k h apart is
+        | inl is ↦ elim (cases_eq k 0) [
+          | inl first-one ↦ same k h (claimable-root rs p c k apart first-one)
+          | inr some ↦ elim (cases_Bool (has (at rs k).child waiters)) [
+            | inl waits ↦ waiter k (omega (arith, some)) h is waits
+            | inr no_waiter ↦ before k h apart (λ e. no_waiter)
+          ]
+        ]
         | inr away ↦ before k h apart (λ is. absurd (away is))
       ]
-        where
-          waiter : (k : ℕ) → 0 < k → k < length rs → (at rs k).parent ≡ p → has (at rs k).child waiters ≡ true → TellsOf told list2 k
-          waiter k pos h is there =
-              let number : slice_get (get_or numbers p []) (at rs k).child ≡ Some k =
-              ap (λ q. slice_get (get_or numbers q []) (at rs k).child) (sym is) ∙ old.numbered.tasks k pos h in
-              subst (TellsOf told list2) (get_or_from_slice_get (get_or numbers p []) (at rs k).child k 0 number) (waited (at rs k).child there)
 
-          child : (k : ℕ) → k < length rs → k ≢ p → (at rs k).parent ≡ p → TellsOf told list2 k
-          child k h apart is = elim (cases_eq k 0) [
-            | inl first-one ↦ root k h apart first-one
-            | inr some ↦ elim (cases_Bool (has (at rs k).child waiters)) [
-              | inl waits ↦ waiter k (omega (arith, some)) h is waits
-              | inr no_waiter ↦ before k h apart (λ e. no_waiter)
-            ]
-          ]
+  -- the same, where the regions are told
+  module _ (tasks : List Region) (is : tasks ≡ told) where
+    pub long-told : length tasks ≡ length rs
+    long-told = ap length is ∙ long
 
--- ---- a child is created, and whether its task is claimable is looked at
+    pub listed-told : IsListFor (length tasks) list
+    listed-told = still-listed rs (length tasks) list long-told old.claimable old.room
 
-module _ (rs : List Region) (i : ℕ) (uses : List Use) (new : Region) (within : i < length rs) (up : new.parent ≡ i) (place : new.child ≡ length (at rs i).children) (none : new.children ≡ [])
-    (numbers : List (List ℕ)) (list : List ℕ) (numbered : IsNumbered rs numbers) (ordered-old : IsListBelow (length rs) list)
-    (tells : (k : ℕ) → k < length rs → k ≢ i → TellsOf rs list k) where
-  abbrev rs2 : List Region
-  rs2 = updated rs i (with_child uses) ++ new ∷ []
-
-  pub long-created : length rs2 ≡ length rs + 1
-  long-created = omega (arith, length-append (updated rs i (with_child uses)) (new ∷ []), length-updated rs i (with_child uses))
-
-  pub ordered-created : IsListBelow (length rs2) list
-  ordered-created = subst (λ n. IsListBelow n list) (sym long-created) (below-more (length rs) list ordered-old)
-
-  pub kept-created : (list2 : List ℕ) (room2 out2 unended2 : ℕ) → AreCounted rs2 out2 unended2 → IsListBelow (length rs2) list2 → TellsOf rs2 list i → TellsOf rs2 list2 (length rs)
-      → ((k : ℕ) → TellsOf rs2 list k → TellsOf rs2 list2 k) → length rs2 ≤ room2
-      → AreKept rs2 (updated numbers i (λ l. l ++ length rs ∷ []) ++ [] ∷ []) list2 room2 out2 unended2
-  kept-created list2 room2 out2 unended2 counted ordered parent child others enough = record {
-    counted = counted;
-    numbered = numbered-created rs numbers numbered i uses new within up place none;
-    claimable = list-from rs2 list2 ordered (λ k h. elim (cases_eq k i) [
-      | inl is ↦ others k (subst (TellsOf rs2 list) (sym is) parent)
-      | inr apart ↦ elim (cases_lt k (length rs)) [
-        | inl before ↦ others k (tells k before apart ∙ sym (claimable-created rs i uses new within none k before apart (λ pos. child-known rs numbers numbered k pos before)))
-        | inr last ↦ (let is_new : length rs ≡ k = omega (arith, h, last, long-created) in subst (TellsOf rs2 list2) is_new child)
-      ]
-    ]);
-    room = enough;
-  }
+    pub kept-told-tasks : (one new : Numbers) → IsRefreshed tasks list one p → AreRefreshed tasks one new (get_or numbers p []) waiters → AreKept tasks numbers new.listed new.room out unended
+    kept-told-tasks one new parent now = subst (λ (l : List Region). AreKept l numbers new.listed new.room out unended) (sym is)
+        (kept-told one new (subst (λ (l : List Region). IsRefreshed l list one p) is parent) (subst (λ (l : List Region). AreRefreshed l one new (get_or numbers p []) waiters) is now))
 
 -- more room does no harm
 pub kept-roomy : (rs : List Region) (numbers : List (List ℕ)) (list : List ℕ) (places more runs goes : ℕ) → AreKept rs numbers list places runs goes → places ≤ more → AreKept rs numbers list more runs goes
@@ -200,84 +173,73 @@ all-known rs numbers old p = λ k d h.
     let xs = get_or numbers p [] in
     old.known p k (get_or xs k d) (slice_get_read xs (length xs) k (get_or xs k d) refl h (get_or_default xs k d (get_or xs k d) h))
 
--- the same as a child finishes, where the records that stand for the regions are told
-module _ (rs : List Region) (p c : ℕ) (numbers : List (List ℕ)) (list : List ℕ) (room runs goes : ℕ) (old : AreKept rs numbers list room runs goes)
-    (waiters : List ℕ) (others : LetsTheSame waiters (at rs p).children (with_finished (at rs p).children c)) (tasks : List Region) (is : tasks ≡ updated rs p (without c)) where
-  long-told : length tasks ≡ length rs
-  long-told = ap length is ∙ length-updated rs p (without c)
+-- ---- a child is created, and whether its task is claimable is looked at
 
-  pub kept-told-tasks : (list1 list2 : List ℕ) (room2 : ℕ) → IsListBelow (length tasks) list2 → TellsOf tasks list1 p
-      → ((k : ℕ) → TellsOf tasks list k → TellsOf tasks list1 k) → ((k : ℕ) → TellsOf tasks list1 k → TellsOf tasks list2 k)
-      → ((w : ℕ) → has w waiters ≡ true → TellsOf tasks list2 (get_or (get_or numbers p []) w 0)) → room ≤ room2 → AreKept tasks numbers list2 room2 runs goes
-  kept-told-tasks list1 list2 room2 ordered parent first second waited same =
-      subst (λ (l : List Region). AreKept l numbers list2 room2 runs goes) (sym is) (
-      kept-told rs p c numbers list room runs goes old waiters others list1 list2 room2 (counted-told rs p c runs goes old.counted)
-      (subst (λ n. IsListBelow n list2) (long-told ∙ sym (length-updated rs p (without c))) ordered) (subst (λ (l : List Region). TellsOf l list1 p) is parent)
-      (subst (λ (l : List Region). (k : ℕ) → TellsOf l list k → TellsOf l list1 k) is first) (subst (λ (l : List Region). (k : ℕ) → TellsOf l list1 k → TellsOf l list2 k) is second)
-      (subst (λ (l : List Region). (w : ℕ) → has w waiters ≡ true → TellsOf l list2 (get_or (get_or numbers p []) w 0)) is waited) same)
-
--- the same as a child is created
-module _ (taken : Bool) (g i : ℕ) (rs : List Region) (within : i < length rs) (some : tasks_next (at rs i).rest ≡ 0 → ⊥) (numbers : List (List ℕ)) (list : List ℕ) (room runs goes : ℕ)
-    (old : AreKept rs numbers list room runs goes) (out : is_some (at rs i).running ≡ true) (tasks : List Region) (is : tasks ≡ executed taken g i rs) where
+module _ (taken : Bool) (g i : ℕ) (rs : List Region) (within : i < length rs) (some : tasks_next (at rs i).rest ≡ 0 → ⊥) (numbers : List (List ℕ)) (list : Numbers) (runs goes : ℕ)
+    (old : AreKept rs numbers list.listed list.room runs goes) (out : is_some (at rs i).running ≡ true) (enough : length rs < list.room) where
   abbrev rs1 : List Region
   rs1 = updated rs i (stepped taken g)
+
+  abbrev created : List Use × Body → List Region
+  created d = with_created i (Some d) rs1
 
   long-rs1 : length rs1 ≡ length rs
   long-rs1 = length-updated rs i (stepped taken g)
 
-  child : (child : List Use × Body) × (executed taken g i rs ≡ with_created i (Some child) rs1)
-  child = executed-some taken g i rs some
+  long-created : (d : List Use × Body) → length (created d) ≡ length rs + 1
+  long-created d = omega (arith, length-append (updated rs1 i (with_child d.0)) (new_region i (children_at rs1 i) d.0 d.1 ∷ []), length-updated rs1 i (with_child d.0), long-rs1)
 
   numbered-rs1 : IsNumbered rs1 numbers
   numbered-rs1 = numbered-same (stepped taken g) (stepped-parent taken g) (stepped-child taken g) (λ r. ap length (stepped-children taken g r)) rs i numbers old.numbered
 
-  ordered-rs1 : IsListBelow (length rs1) list
-  ordered-rs1 = subst (λ n. IsListBelow n list) (sym long-rs1) (list-ordered rs list old.claimable)
+  -- its parent isn't claimable, before and after
+  parent : (d : List Use × Body) → TellsOf (created d) list.listed i
+  parent d =
+      let still : (at (created d) i).running ≡ (at rs i).running =
+      created-running i (Some d) rs1 i ∙ field-kept (λ r. r.running) (stepped taken g) (stepped-running taken g) rs i i in
+      list-tells rs list.listed old.claimable i within ∙ claimable-busy rs i out ∙ sym (claimable-busy (created d) i (ap is_some still ∙ out))
 
-  tells-rs1 : (k : ℕ) → k < length rs1 → k ≢ i → TellsOf rs1 list k
-  tells-rs1 k h apart = list-tells rs list old.claimable k (omega (arith, h, long-rs1)) ∙ sym (claimable-other (stepped taken g) (stepped-children taken g) rs i k apart)
+  -- and the others are where they were
+  earlier : (d : List Use × Body) (k : ℕ) → k < length rs → k ≢ i → TellsOf (created d) list.listed k
+  earlier d k h apart =
+      list-tells rs list.listed old.claimable k h ∙ sym (claimable-other (stepped taken g) (stepped-children taken g) rs i k apart)
+      ∙ sym (claimable-created rs1 i d.0 (new_region i (children_at rs1 i) d.0 d.1) (omega (arith, within, long-rs1)) refl k (omega (arith, h, long-rs1)) apart (λ pos. child-known rs1 numbers numbered-rs1 k pos (omega (arith, h, long-rs1))))
 
-  all-created : (d : List Use × Body) → tasks ≡ with_created i (Some d) rs1
-      → (length tasks ≡ length rs + 1) × IsListBelow (length tasks) list
-      × ((list2 : List ℕ) (numbers2 : List (List ℕ)) (room2 : ℕ) → numbers2 ≡ updated numbers i (λ l. l ++ length rs ∷ []) ++ [] ∷ [] → IsListBelow (length tasks) list2
-      → TellsOf tasks list2 (length rs) → ((k : ℕ) → TellsOf tasks list k → TellsOf tasks list2 k) → length rs + 1 ≤ room2 → AreKept tasks numbers2 list2 room2 runs (goes + 1))
-  all-created d made =
-      let new : Region = new_region i (children_at rs1 i) d.0 d.1 in
-      let near : i < length rs1 = omega (arith, within, long-rs1) in
-      let place : new.child ≡ length (at rs1 i).children = children-at rs1 i in
-      let more = long-created rs1 i d.0 new near refl place refl numbers list numbered-rs1 ordered-rs1 tells-rs1 in
-      let long : length tasks ≡ length (updated rs1 i (with_child d.0) ++ new ∷ []) = ap length made in (
-        omega (arith, long, more, long-rs1),
-        subst (λ n. IsListBelow n list) (sym long) (ordered-created rs1 i d.0 new near refl place refl numbers list numbered-rs1 ordered-rs1 tells-rs1),
-        λ list2 numbers2 room2 numbered ordered last others enough.
-            subst (λ (l : List Region). AreKept l numbers2 list2 room2 runs (goes + 1)) (sym made) (
-            subst (λ (ns : List (List ℕ)). AreKept (updated rs1 i (with_child d.0) ++ new ∷ []) ns list2 room2 runs (goes + 1))
-            (ap (λ n. updated numbers i (λ l. l ++ n ∷ []) ++ [] ∷ []) long-rs1 ∙ sym numbered) (
-            kept-created rs1 i d.0 new near refl place refl numbers list numbered-rs1 ordered-rs1 tells-rs1 list2 room2 runs (goes + 1)
-            (counted-created rs1 i runs goes d.0 new refl refl (counted-stepped taken g rs i runs goes old.counted))
-            (subst (λ n. IsListBelow n list2) long ordered)
-            (parent d)
-            (subst (λ n. TellsOf (updated rs1 i (with_child d.0) ++ new ∷ []) list2 n) (sym long-rs1) (subst (λ (l : List Region). TellsOf l list2 (length rs)) made last))
-            (subst (λ (l : List Region). (k : ℕ) → TellsOf l list k → TellsOf l list2 k) made others)
-            (omega (arith, enough, more, long-rs1)))),
-      )
-    where
-      children-at : (rs : List Region) (i : ℕ) → children_at rs i ≡ length (at rs i).children
-      children-at [] i = refl
-      children-at (r ∷ rs) zero = refl
-      children-at (r ∷ rs) (suc i) = children-at rs i
+  kept-created : (d : List Use × Body) (new : Numbers) → IsRefreshed (created d) list new (length rs) → AreKept (created d) (updated numbers i (λ l. l ++ length rs ∷ []) ++ [] ∷ []) new.listed new.room runs (goes + 1)
+  kept-created d new now = record {
+    counted = counted-created rs1 i runs goes d.0 (new_region i (children_at rs1 i) d.0 d.1) refl refl (counted-stepped taken g rs i runs goes old.counted);
+    numbered = subst (λ n. IsNumbered (created d) (updated numbers i (λ l. l ++ n ∷ []) ++ [] ∷ [])) long-rs1
+        (numbered-created rs1 numbers numbered-rs1 i d.0 (new_region i (children_at rs1 i) d.0 d.1) (omega (arith, within, long-rs1)) refl (children-here rs1 i) refl);
+    claimable = list-from (created d) new.listed now.list.ordered (λ k h. elim (cases_eq k i) [
+      | inl is ↦ now.others k (subst (TellsOf (created d) list.listed) (sym is) (parent d))
+      | inr apart ↦ elim (cases_lt k (length rs)) [
+        | inl before ↦ now.others k (earlier d k before apart)
+        | inr last ↦ (let is_new : length rs ≡ k = omega (arith, h, last, long-created d) in subst (TellsOf (created d) new.listed) is_new now.told)
+      ]
+    ]);
+    room = now.list.room;
+  }
 
-      -- its parent isn't claimable, before and after
-      parent : (d : List Use × Body) → TellsOf (with_created i (Some d) rs1) list i
-      parent d =
-          let still : (at (with_created i (Some d) rs1) i).running ≡ (at rs i).running =
-          created-running i (Some d) rs1 (omega (arith, within, long-rs1)) ∙ field-kept (λ r. r.running) (stepped taken g) (stepped-running taken g) rs i i in
-          list-tells rs list old.claimable i within ∙ claimable-busy rs i out ∙ sym (claimable-busy (with_created i (Some d) rs1) i (ap is_some still ∙ out))
+  -- the same, where the regions are told
+  module _ (tasks : List Region) (is : tasks ≡ executed taken g i rs) where
+    child : (child : List Use × Body) × (tasks ≡ created child)
+    child = let (d, made) = executed-some taken g i rs some in (d, is ∙ made)
 
-  pub tasks-created : (length tasks ≡ length rs + 1) × IsListBelow (length tasks) list
-      × ((list2 : List ℕ) (numbers2 : List (List ℕ)) (room2 : ℕ) → numbers2 ≡ updated numbers i (λ l. l ++ length rs ∷ []) ++ [] ∷ [] → IsListBelow (length tasks) list2
-      → TellsOf tasks list2 (length rs) → ((k : ℕ) → TellsOf tasks list k → TellsOf tasks list2 k) → length rs + 1 ≤ room2 → AreKept tasks numbers2 list2 room2 runs (goes + 1))
-  tasks-created = all-created child.0 (is ∙ child.1)
+    pub long-tasks : length tasks ≡ length rs + 1
+    long-tasks = ap length child.1 ∙ long-created child.0
+
+    pub listed-tasks : IsListFor (length tasks) list
+    listed-tasks = record {
+      ordered = subst (λ n. IsListBelow n list.listed) (sym long-tasks) (below-more (length rs) list.listed (list-ordered rs list.listed old.claimable));
+      room = omega (arith, long-tasks, enough);
+    }
+
+    pub kept-tasks : (new : Numbers) (numbers2 : List (List ℕ)) → numbers2 ≡ updated numbers i (λ l. l ++ length rs ∷ []) ++ [] ∷ [] → IsRefreshed tasks list new (length rs)
+        → AreKept tasks numbers2 new.listed new.room runs (goes + 1)
+    kept-tasks new numbers2 numbered now =
+        subst (λ (l : List Region). AreKept l numbers2 new.listed new.room runs (goes + 1)) (sym child.1)
+        (subst (λ (ns : List (List ℕ)). AreKept (created child.0) ns new.listed new.room runs (goes + 1)) (sym numbered)
+        (kept-created child.0 new (subst (λ (l : List Region). IsRefreshed l list new (length rs)) child.1 now)))
 
 -- ---- the root alone
 

@@ -1,6 +1,6 @@
 -- What is left of a job stays the same at each step, whatever the order of the steps.
 use Rattle.std.proofs.Common.{◌≡◌, ◌≢◌, ℕ, suc, ◌+◌, ◌<◌, List, [], ◌∷◌, ◌++◌, length, Bool, true, false, cond, refl, sym, ◌∙◌, ap, subst, inl, inr, ⊎_elim, ◌⊎◌, arith, true≢false, ◌==◌}
-use Rattle.std.proofs.lemmas.Bool.{cases_eq}
+use Rattle.std.proofs.lemmas.Bool.{cases_eq, cases_Bool}
 use Rattle.std.proofs.lemmas.Bool.Decides.{nat_tests}
 use Rattle.ot_model.specs.Tree.{E, S, Set, Fold, If, Task, Wait, Group, Body, End, Next, append}
 use Rattle.ot_model.specs.Value.{val}
@@ -35,10 +35,6 @@ pub record MayRun (par : ℕ → ℕ) (may : ℕ → Uses) (ended : ℕ → Bool
   pub alive : ended i ≡ false
   pub own : EachTouch (may i) piece
   pub free : (c : ℕ) → par c ≡ i → 0 < c → ended c ≡ false → EachTouch (λ u. (v : Use) → may c v → Agree u v) piece
-
-bool_cases : (b : Bool) → (b ≡ true) ⊎ (b ≡ false)
-bool_cases true = inl refl
-bool_cases false = inr refl
 
 mutual
   one-all : (P : Use → Type 0) → ((u : Use) → P u) → (x : S) → EachTouchOne P x
@@ -77,7 +73,7 @@ module _ (par : ℕ → ℕ) (may : ℕ → Uses) (todo : ℕ → Body) (ended :
   alive_up a i below self h = h
   alive_up a i below (up i' pos g) h =
       let le = anc-le par s.down a (par i) g in
-      alive_up a (par i) below g (⊎_elim (λ e. absurd (true≢false (sym (s.alive i (omega arith) e) ∙ h))) (λ e. e) (bool_cases (ended (par i))))
+      alive_up a (par i) below g (⊎_elim (λ e. absurd (true≢false (sym (s.alive i (omega arith) e) ∙ h))) (λ e. e) (cases_Bool (ended (par i))))
 
   -- an ancestor of a task that has begun has
   pub begun_anc : (a i : ℕ) → Anc par a i → begun i → begun a
@@ -87,7 +83,7 @@ module _ (par : ℕ → ℕ) (may : ℕ → Uses) (todo : ℕ → Body) (ended :
   -- a piece that may run is apart from all that is left before it
   pub clear : (i : ℕ) (piece : Body) → MayRun par may ended begun i piece → (j : ℕ) → IsBefore par j i → AreApart piece (todo j)
   clear i piece run j h =
-      ⊎_elim (λ e. subst (AreApart piece) (sym (s.over j e)) (touch-all _ (λ u. tt) piece)) (λ e. alive_apart h e) (bool_cases (ended j))
+      ⊎_elim (λ e. subst (AreApart piece) (sym (s.over j e)) (touch-all _ (λ u. tt) piece)) (λ e. alive_apart h e) (cases_Bool (ended j))
     where
       alive_apart : IsBefore par j i → ended j ≡ false → AreApart piece (todo j)
       alive_apart (inl h) alive =

@@ -1,7 +1,8 @@
 -- A task that is created leaves who is whose child.
-use Rattle.std.proofs.Common.{◌≡◌, ◌≢◌, ℕ, zero, suc, ◌+◌, ◌<◌, ◌≤◌, List, [], ◌∷◌, ◌++◌, map, length, refl, sym, ap, subst, ◌∙◌, ◌⊎◌, inl, inr, arith, length-append}
+use Rattle.std.proofs.Common.{◌≡◌, ◌≢◌, ℕ, ◌+◌, ◌<◌, ◌≤◌, List, [], ◌∷◌, ◌++◌, map, length, refl, sym, ap, subst, ◌∙◌, ◌⊎◌, inl, inr, arith, length-append}
 use Rattle.std.specs.Prelude.{Some, slice_get}
 use Rattle.std.proofs.lemmas.Bool.{cases_eq, cases_lt}
+use Rattle.std.proofs.lemmas.Option.{slice_get_within}
 use Rattle.ot_model.specs.Tree.{Body}
 use Rattle.ot_model.specs.Cells.{updated}
 use Rattle.ot_model.proofs.CellsLemmas.{length-updated}
@@ -11,32 +12,19 @@ use Rattle.ot_task.specs.Regions.{Region, with_child, new_region}
 use Rattle.ot_job.specs.Numbered.{at, parent_of}
 use Rattle.ot_job.specs.Sound.{IsBegun, IsKin, IsSound}
 use Rattle.ot_job.proofs.KeptLemmas.{at-updated, at-updated-other, at-more, at-new}
-
-get-more : {A : Type 0} (xs ys : List A) (k : ℕ) (x : A) → slice_get xs k ≡ Some x → slice_get (xs ++ ys) k ≡ Some x
-get-more [] ys k x h = cc
-get-more (y ∷ xs) ys zero x h = h
-get-more (y ∷ xs) ys (suc k) x h = get-more xs ys k x h
+use Rattle.ot_job.proofs.EachLemmas.{field-kept}
+use Rattle.ot_depend.proofs.SiblingsLemmas.{slice_get-push}
 
 pub get-last : {A : Type 0} (xs : List A) (x : A) → slice_get (xs ++ x ∷ []) (length xs) ≡ Some x
 get-last [] x = refl
 get-last (y ∷ xs) x = get-last xs x
 
-pub get-within : {A : Type 0} (xs : List A) (k : ℕ) (x : A) → slice_get xs k ≡ Some x → k < length xs
-get-within [] k x h = cc
-get-within (y ∷ xs) zero x h = omega arith
-get-within (y ∷ xs) (suc k) x h = omega (arith, get-within xs k x h)
-
-get-front : {A : Type 0} (xs ys : List A) (k : ℕ) (x : A) → k < length xs → slice_get (xs ++ ys) k ≡ Some x → slice_get xs k ≡ Some x
-get-front [] ys k x l h = absurd (omega (arith, l))
-get-front (y ∷ xs) ys zero x l h = h
-get-front (y ∷ xs) ys (suc k) x l h = get-front xs ys k x (omega (arith, l)) h
-
 -- who is ready stays so when a child is added
 pub ready-more : (kids : List Sibling) (new : Sibling) (k : ℕ) → IsReady kids k → IsReady (kids ++ new ∷ []) k
 ready-more kids new k r = record {
   itself = r.itself;
-  known = get-more kids (new ∷ []) k r.itself r.known;
-  awaited = λ place earlier below there depends. r.awaited place earlier below (get-front kids (new ∷ []) place earlier (omega (arith, below, get-within kids k r.itself r.known)) there) depends;
+  known = slice_get-push kids new k (slice_get_within kids k r.itself r.known) ∙ r.known;
+  awaited = λ place earlier below there depends. r.awaited place earlier below (sym (slice_get-push kids new place (omega (arith, below, slice_get_within kids k r.itself r.known))) ∙ there) depends;
 }
 
 module _ (rs : List Region) (i : ℕ) (h : i < length rs) (uses : List Use) (body : Body) where
@@ -66,11 +54,7 @@ module _ (rs : List Region) (i : ℕ) (h : i < length rs) (uses : List Use) (bod
 
   -- each field but the children is as before
   pub same-field : {A : Type 0} (f : Region → A) → ((r : Region) → f (with_child uses r) ≡ f r) → (j : ℕ) → j < length rs → f (at more j) ≡ f (at rs j)
-  same-field f keeps j l = pick (cases_eq j i)
-    where
-      pick : (j ≡ i) ⊎ (j ≡ i → ⊥) → f (at more j) ≡ f (at rs j)
-      pick (inl e) = ap (λ n. f (at more n)) e ∙ ap f at-parent ∙ keeps (at rs i) ∙ ap (λ n. f (at rs n)) (sym e)
-      pick (inr e) = ap f (at-others j l e)
+  same-field f keeps j l = ap f (at-old j l) ∙ field-kept f (with_child uses) keeps rs i j
 
   -- an entry stays in its table
   entry-kept : (p k : ℕ) (s : Sibling) → p < length rs → slice_get (at rs p).children k ≡ Some s → slice_get (at more p).children k ≡ Some s
@@ -79,7 +63,8 @@ module _ (rs : List Region) (i : ℕ) (h : i < length rs) (uses : List Use) (bod
       pick : (p ≡ i) ⊎ (p ≡ i → ⊥) → slice_get (at more p).children k ≡ Some s
       pick (inl e) =
           ap (λ n. slice_get (at more n).children k) e ∙ ap (λ (r : Region). slice_get r.children k) at-parent
-          ∙ get-more (at rs i).children _ k s (subst (λ n. slice_get (at rs n).children k ≡ Some s) e there)
+          ∙ (let here : slice_get (at rs i).children k ≡ Some s = subst (λ n. slice_get (at rs n).children k ≡ Some s) e there in
+          slice_get-push (at rs i).children (created uses (map (λ o. o.group) (at rs i).groups)) k (slice_get_within (at rs i).children k s here) ∙ here)
       pick (inr e) = ap (λ (r : Region). slice_get r.children k) (at-others p l e) ∙ there
 
   module _ (s : IsSound rs) where

@@ -1,6 +1,6 @@
 -- The copies that a piece was lent let each of its touches be made as it is meant: what is read is no fold, what is written
 -- is lent to be written.
-use Rattle.std.proofs.Common.{◌≡◌, ◌<◌, ℕ, ◌+◌, ◌%◌, Bool, true, false, not, cond, List, [], ◌∷◌, map, refl, sym, ap, subst, ◌∙◌, inl, arith, true≢false}
+use Rattle.std.proofs.Common.{◌≡◌, ◌<◌, ℕ, ◌+◌, ◌%◌, Bool, true, false, cond, List, [], ◌∷◌, map, refl, sym, ap, subst, ◌∙◌, inl, arith}
 use Rattle.std.specs.Prelude.{Option, Some, None, option_map, if◌then◌else◌}
 use Rattle.std.specs.List.{find, range_with_len}
 use Rattle.std.proofs.Math.Nat.{mod-lt}
@@ -31,9 +31,10 @@ use Rattle.ot_task.specs.Modes.{held, held_as, mode_held}
 use Rattle.ot_job.proofs.BackLemmas.{mode_at}
 use Rattle.ot_job.proofs.CoverLemmas.{Covers, covered, flip, in-section, among-left, among-right}
 use Rattle.ot_job.proofs.FoldLemmas.{one-fold, held-alike, only-unread, only-unwritten}
-use Rattle.ot_job.proofs.FreeLemmas.{piece-safe}
+use Rattle.ot_job.proofs.FreeLemmas.{piece-safe, named-half, named-back}
 use Rattle.ot_task.proofs.HeldLemmas.{reads-append}
 use Rattle.ot_job.proofs.HoldsLemmas.{Among, held-right}
+use Rattle.ot_check.proofs.Bits.{not_false}
 
 -- ---- from each touch in the list to each touch of the body
 
@@ -98,11 +99,7 @@ module _ (lens : List ℕ) (own : Declared) (opened : Openings) (children : Chil
   all = piece_touches piece (test_of rest)
 
   may : (u : Use) → Among u all → allows own u ≡ true
-  may u k = by (allows own u) (piece-safe lens own opened children piece rest only named fine u k NotDeclared)
-    where
-      by : (b : Bool) → not b ≡ false → b ≡ true
-      by true h = refl
-      by false h = absurd (true≢false h)
+  may u k = not_false (allows own u) (piece-safe lens own opened children piece rest only named fine u k NotDeclared)
 
   lets : (u : Use) → Among u all → Lets (mode_at lent) u
   lets u k =
@@ -138,22 +135,14 @@ module _ (lens : List ℕ) (own : Declared) (opened : Openings) (children : Chil
       by (Folds p) e (Some Writes) h right = tt
       by (Folds p) e (Some (Folds o)) h right = one-fold p o (sym e ∙ exclusive o u.cell (right (Folds o) refl).1 u.mode (may u k))
 
-  front : (a b : Body) → NamedIn lens (append a b) → NamedIn lens a
-  front End b n = tt
-  front (Next x a) b n = (n.0, front a b n.1)
-
-  back : (a b : Body) → NamedIn lens (append a b) → NamedIn lens b
-  back End b n = n
-  back (Next x a) b n = back a b n.1
-
   -- the assigns
   pub lets-piece : EachTouch (Lets (mode_at lent)) piece
-  lets-piece = touch-from (Lets (mode_at lent)) lens piece only (front piece rest named) (λ u k. lets u (among-left u (assign_touches piece) (test_touches (test_of rest)) k))
+  lets-piece = touch-from (Lets (mode_at lent)) lens piece only (named-half lens piece rest named) (λ u k. lets u (among-left u (assign_touches piece) (test_touches (test_of rest)) k))
 
   -- the condition
   pub lets-test : (e : E) → test_of rest ≡ Some e → EachRead (λ c. Lets (mode_at lent) (use_as Reads c)) e
   lets-test e is =
-      read-from (λ c. Lets (mode_at lent) (use_as Reads c)) lens e (value-named rest is (back piece rest named))
+      read-from (λ c. Lets (mode_at lent) (use_as Reads c)) lens e (value-named rest is (named-back lens piece rest named))
       (λ c k. lets (use_as Reads c) (among-right (use_as Reads c) (assign_touches piece) (test_touches (test_of rest)) (subst (λ o. Among (use_as Reads c) (test_touches o)) (sym is) k)))
     where
       value-named : (b : Body) → test_of b ≡ Some e → NamedIn lens b → ValueNamedIn lens e

@@ -23,6 +23,7 @@ pub mod AwakeLemmas
 pub mod FoldLemmas
 pub mod FreeLemmas
 pub mod OpenLemmas
+pub mod EachLemmas
 pub mod EnteredLemmas
 pub mod OpeningLemmas
 pub mod WellLemmas

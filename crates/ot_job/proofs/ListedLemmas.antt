@@ -28,10 +28,6 @@ has-in ws k = elim (cases_lt k (64 * length ws)) [
 pub numbers-ordered : (ws : List ℕ) → IsListBelow (64 * length ws) (numbers_in ws)
 numbers-ordered ws = listed (has_number ws) (64 * length ws) (numbers_in ws) refl
 
--- a word, as the code reads it
-pub word-is : (ws : List ℕ) (q w : ℕ) → q < length ws → w ≡ get_or ws q w → w ≡ get_or ws q 0
-word-is ws q w h is = is ∙ get_or_default ws q w 0 h
-
 pub numbers-few : (ws : List ℕ) → length (numbers_in ws) ≤ 64 * length ws
 numbers-few ws = omega (arith, length-filter (has_number ws) (range_with_len 0 (64 * length ws)), count_by-le-length (has_number ws) (range_with_len 0 (64 * length ws)), length-range_with_len 0 (64 * length ws))
 
@@ -52,41 +48,48 @@ counted-one f g a (suc n) i low high no_f yes_g same = elim (cases_eq a i) [
     by true e later = ap (λ b. length (cond b (a ∷ those g (a + 1) n) (those g (a + 1) n))) e ∙ (let more : length (a ∷ those g (a + 1) n) ≡ length (a ∷ those f (a + 1) n) + 1 = omega (arith, later) in more)
     by false e later = ap (λ b. length (cond b (a ∷ those g (a + 1) n) (those g (a + 1) n))) e ∙ later
 
-module _ (ws : List ℕ) (n w : ℕ) (within : n < 64 * length ws) (others : (i : ℕ) → i < 64 → i ≢ n % 64 → bit_at w i ≡ bit_at (get_or ws (n / 64) 0) i) where
+-- a word is exchanged for one with another bit of the number, and no other bit
+module _ (ws : List ℕ) (room n word w : ℕ) (roomy : 64 * length ws ≡ room) (below : n < room) (is : word ≡ get_or ws (n / 64) word) (same : (i : ℕ) → i < 64 → i ≢ n % 64 → bit_at w i ≡ bit_at word i) where
   abbrev new : List ℕ
   new = set ws (n / 64) w
+
+  within : n < 64 * length ws
+  within = omega (arith, below, roomy)
+
+  was : word ≡ get_or ws (n / 64) 0
+  was = is ∙ get_or_default ws (n / 64) word 0 (omega (arith, within))
 
   here : get_or new (n / 64) 0 ≡ w
   here = get_or-set_same ws (n / 64) w 0 (omega (arith, within))
 
-  pub this-number : has_number new n ≡ has_bit w (n % 64)
-  this-number = ap (λ x. has_bit x (n % 64)) here
-
   other-number : (k : ℕ) → k ≢ n → has_number new k ≡ has_number ws k
   other-number k apart = elim (cases_eq (k / 64) (n / 64)) [
-    | inl same ↦ ap (λ q. has_bit (get_or new q 0) (k % 64)) same ∙ ap (λ x. has_bit x (k % 64)) here
-        ∙ ap (λ b. b == 1) (others (k % 64) (omega arith) (λ e. absurd (omega (arith, same, e, apart)))) ∙ sym (ap (λ q. has_bit (get_or ws q 0) (k % 64)) same)
+    | inl together ↦ ap (λ q. has_bit (get_or new q 0) (k % 64)) together ∙ ap (λ x. has_bit x (k % 64)) here
+        ∙ ap (λ b. b == 1) (same (k % 64) (omega arith) (λ e. absurd (omega (arith, together, e, apart)))) ∙ ap (λ x. has_bit x (k % 64)) was ∙ sym (ap (λ q. has_bit (get_or ws q 0) (k % 64)) together)
     | inr away ↦ ap (λ x. has_bit x (k % 64)) (get_or-set_other ws (n / 64) (k / 64) w 0 away)
   ]
 
   long : 64 * length new ≡ 64 * length ws
   long = ap (λ l. 64 * l) (length-set ws (n / 64) w)
 
-  pub now-has : has n (numbers_in new) ≡ has_bit w (n % 64)
-  now-has = has-in new n ∙ this-number
+  pub has-now : (b : Bool) → has_bit w (n % 64) ≡ b → has n (numbers_in new) ≡ b
+  has-now b bit = has-in new n ∙ ap (λ x. has_bit x (n % 64)) here ∙ bit
+
+  pub had : (b : Bool) → has_bit word (n % 64) ≡ b → has n (numbers_in ws) ≡ b
+  had b bit = has-in ws n ∙ ap (λ x. has_bit x (n % 64)) (sym was) ∙ bit
 
   pub others-have : (k : ℕ) → k ≢ n → has k (numbers_in new) ≡ has k (numbers_in ws)
   others-have k apart = has-in new k ∙ other-number k apart ∙ sym (has-in ws k)
 
-  pub one-more : has_number ws n ≡ false → has_bit w (n % 64) ≡ true → length (numbers_in new) ≡ length (numbers_in ws) + 1
-  one-more was_not is =
+  pub one-more : has_bit word (n % 64) ≡ false → has_bit w (n % 64) ≡ true → length (numbers_in new) ≡ length (numbers_in ws) + 1
+  one-more was_not set =
       ap (λ m. length (those (has_number new) 0 m)) long
-      ∙ counted-one (has_number ws) (has_number new) 0 (64 * length ws) n (omega arith) (omega (arith, within)) was_not (this-number ∙ is) other-number
+      ∙ counted-one (has_number ws) (has_number new) 0 (64 * length ws) n (omega arith) (omega (arith, within)) (sym (has-in ws n) ∙ had false was_not) (sym (has-in new n) ∙ has-now true set) other-number
 
-  pub one-fewer : has_number ws n ≡ true → has_bit w (n % 64) ≡ false → length (numbers_in ws) ≡ length (numbers_in new) + 1
-  one-fewer was is_not =
-      counted-one (has_number new) (has_number ws) 0 (64 * length ws) n (omega arith) (omega (arith, within)) (this-number ∙ is_not) was (λ k apart. sym (other-number k apart))
-      ∙ sym (ap (λ m. length (those (has_number new) 0 m) + 1) long)
+  pub one-fewer : has_bit word (n % 64) ≡ true → has_bit w (n % 64) ≡ false → length (numbers_in ws) ≡ length (numbers_in new) + 1
+  one-fewer was_set cleared =
+      counted-one (has_number new) (has_number ws) 0 (64 * length ws) n (omega arith) (omega (arith, within)) (sym (has-in new n) ∙ has-now false cleared) (sym (has-in ws n) ∙ had true was_set)
+      (λ k apart. sym (other-number k apart)) ∙ sym (ap (λ m. length (those (has_number new) 0 m) + 1) long)
 
 -- ---- a word more
 

@@ -1,8 +1,8 @@
 -- A group that comes next in a task may be opened once the task's piece has come back.
-use Rattle.std.proofs.Common.{◌≡◌, ◌≢◌, ℕ, true, false, ◌↔◌, Bool, ◌&&◌, ◌||◌, List, ◌∷◌, Contains, refl, sym, ap, subst, ◌∙◌, ◌⊎◌, inl, inr, true≢false}
+use Rattle.std.proofs.Common.{◌≡◌, ◌≢◌, ℕ, true, false, ◌↔◌, ◌&&◌, ◌||◌, List, ◌∷◌, Contains, refl, sym, ap, subst, ◌∙◌, ◌⊎◌, inl, inr, true≢false}
 use Rattle.std.specs.Prelude.{Option, Some, None, not, IfSome}
 use Rattle.std.specs.List.{list_any}
-use Rattle.std.proofs.lemmas.Bool.{cases_eq}
+use Rattle.std.proofs.lemmas.Bool.{cases_eq, false_from_ne_true}
 use Rattle.std.proofs.lemmas.List.Sorted.{All-permutation, IsPermutation-sym, IsPermutation-trans}
 use Rattle.ot_model.specs.Tree.{Set, Fold, If, Task, Wait, Group, Body, End, Next, append}
 use Rattle.ot_model.specs.Cells.{lengths, updated}
@@ -14,11 +14,9 @@ use Rattle.ot_model.specs.declared.stmt.Mode.TheVariants.{Writes, Folds}
 use Rattle.ot_model.specs.declared.stmt.Use.{Use}
 use Rattle.ot_check.specs.Paths.{use_as}
 use Rattle.ot_check.specs.Offences.{allows, clashes, has_cell, opened_by_any}
-use Rattle.ot_check.specs.walk.Fine.{IsClean, IsFine}
-use Rattle.ot_check.specs.declared.fault.Offence.TheVariants.{ReductionMisuse, ConflictsWithChild}
+use Rattle.ot_check.specs.walk.Fine.{IsFine}
 use Rattle.ot_check.proofs.Bits.{or_right, and_true}
 use Rattle.ot_check.proofs.InsideLemmas.{group_free, groups_inside}
-use Rattle.ot_check.proofs.OffenceLemmas.{is_offence-Group}
 use Rattle.ot_check.proofs.OpeningLemmas.{opened-none}
 use Rattle.ot_owner.specs.Owning.{Loan}
 use Rattle.ot_owner.specs.Rows.{IsNamed}
@@ -34,12 +32,10 @@ use Rattle.ot_job.specs.Well.{IsWell, IsOnCourse}
 use Rattle.ot_job.specs.Whole.{assigns_out, whole, loan_in, loans_out}
 use Rattle.ot_job.proofs.FoldLemmas.{same-op}
 use Rattle.ot_job.proofs.FreeLemmas.{fine-innermost}
-use Rattle.ot_job.proofs.GroupLemmas.{unused, writes-agree}
-use Rattle.ot_job.proofs.KeptLemmas.{at-updated, at-updated-other}
-use Rattle.ot_job.proofs.MovesLemmas.{one-less}
+use Rattle.ot_job.proofs.GroupLemmas.{unused, writes-agree, clean-group}
+use Rattle.ot_job.proofs.MovesLemmas.{one-less, stopped-others}
 use Rattle.ot_job.proofs.OpenLemmas.{MayHold, holders-agree, placed, group-holds, piece-holds}
 use Rattle.ot_job.proofs.OpeningLemmas.{has-cell, kept-new, meets-none, not_summed}
-use Rattle.ot_job.proofs.StartLemmas.{runs-within}
 use Rattle.ot_job.proofs.StopLemmas.{placed-piece}
 use Rattle.ot_job.proofs.WholeLemmas.{loans-each}
 
@@ -56,16 +52,9 @@ module _ (j : Live) (o : IsOnCourse j) (i : ℕ) (run : Run) (out : (at j.region
       placed-piece (whole r) (placed j.regions o.sound i) run.assigns r.rest (ap (λ x. append (assigns_out x) r.rest) out)
       (o.runs i run out).assigns (o.runs i run out).alive
 
-  clean : IsClean r.own (opened r.groups) (children_of (unawaited r.waiting r.children)) (Group op cs b)
-  clean = (subst (λ x. IsFine r.own (opened r.groups) (children_of (unawaited r.waiting r.children)) x) next
+  clean : (list_any (λ c. not (allows r.own (use_as Writes c)) || opened_by_any (opened r.groups) c) cs ≡ false) × (list_any (λ c. unawaited None r.children (λ s. clashes (use_as Writes c) s.uses)) cs ≡ false)
+  clean = clean-group r op cs b (o.runs i run out).calm (subst (λ x. IsFine r.own (opened r.groups) (children_of (unawaited r.waiting r.children)) x) next
       (fine-innermost r.own (unawaited r.waiting r.children) r.rest r.groups behind.fine)).0
-
-  fits : list_any (λ c. not (allows r.own (use_as Writes c)) || opened_by_any (opened r.groups) c) cs ≡ false
-  fits = sym (is_offence-Group r.own (opened r.groups) (children_of (unawaited r.waiting r.children)) op cs b ReductionMisuse) ∙ clean ReductionMisuse
-
-  awaited : list_any (λ c. unawaited None r.children (λ s. clashes (use_as Writes c) s.uses)) cs ≡ false
-  awaited = ap (λ w. list_any (λ c. unawaited w r.children (λ s. clashes (use_as Writes c) s.uses)) cs) (sym (o.runs i run out).calm)
-      ∙ sym (is_offence-Group r.own (opened r.groups) (children_of (unawaited r.waiting r.children)) op cs b ConflictsWithChild) ∙ clean ConflictsWithChild
 
   module _ (c : Cell) (named : has_cell cs c ≡ true) where
     -- the task may write each of its cells
@@ -73,21 +62,17 @@ module _ (j : Live) (o : IsOnCourse j) (i : ℕ) (run : Run) (out : (at j.region
     entry-holds = record {
       begun = o.begun i run out;
       alive = (o.runs i run out).alive;
-      may = groups_inside r.own (opened r.groups) op cs behind.writes fits op c (or_right (opened r.groups op c) (same_fold op op && has_cell cs c) (and_true (same_fold op op) (has_cell cs c) (same-op op) named));
-      alone = λ k s there unfinished m may. absurd (true≢false (sym may ∙ unused cs r.children k s c awaited there unfinished named m));
+      may = groups_inside r.own (opened r.groups) op cs behind.writes clean.0 op c (or_right (opened r.groups op c) (same_fold op op && has_cell cs c) (and_true (same_fold op op) (has_cell cs c) (same-op op) named));
+      alone = λ k s there unfinished m may. absurd (true≢false (sym may ∙ unused cs r.children k s c clean.1 there unfinished named m));
     }
 
     -- no open group names one
     entry-unopened : (k : ℕ) (by : Operation) → opened (at j.regions k).groups by c ≡ false
     entry-unopened k by = pick (cases_eq i k)
       where
-        never : (x : Bool) → (x ≡ true → ⊥) → x ≡ false
-        never true h = absurd (h refl)
-        never false h = refl
-
         pick : (i ≡ k) ⊎ (i ≡ k → ⊥) → opened (at j.regions k).groups by c ≡ false
-        pick (inl same) = ap (λ n. opened (at j.regions n).groups by c) (sym same) ∙ opened-none (opened r.groups) by c (group_free r.own (opened r.groups) cs c fits named)
-        pick (inr other) = never (opened (at j.regions k).groups by c) (λ is.
+        pick (inl same) = ap (λ n. opened (at j.regions n).groups by c) (sym same) ∙ opened-none (opened r.groups) by c (group_free r.own (opened r.groups) cs c clean.0 named)
+        pick (inr other) = false_from_ne_true (opened (at j.regions k).groups by c) (λ is.
             writes-agree (Folds by) (holders-agree j.regions o.sound i k (use_as Writes c) (use_as (Folds by) c) entry-holds (group-holds j.regions o.sound k by c is) other refl))
 
     -- no piece of another task holds one
@@ -97,16 +82,6 @@ module _ (j : Live) (o : IsOnCourse j) (i : ℕ) (run : Run) (out : (at j.region
         (piece-holds j.regions o.sound (lengths j.cells) o.named o.runs o.begun k x c m also held) other refl)
 
 -- ---- what the owners ask
-
--- the pieces of the other tasks
-others-out : (rs : List Region) (i : ℕ) (run : Run) → (at rs i).running ≡ Some run → (k : ℕ) (x : Run) → (at (updated rs i stopped) k).running ≡ Some x → (i ≢ k) × ((at rs k).running ≡ Some x)
-others-out rs i run out k x is = pick (cases_eq k i)
-  where
-    pick : (k ≡ i) ⊎ (k ≡ i → ⊥) → (i ≢ k) × ((at rs k).running ≡ Some x)
-    pick (inl e) =
-        let none : None ≡ Some x = sym (ap (λ (r : Region). r.running) (ap (at (updated rs i stopped)) e ∙ at-updated rs i stopped (runs-within rs i run out))) ∙ is in
-        cc
-    pick (inr e) = ((λ same. e (sym same)), sym (ap (λ (r : Region). r.running) (at-updated-other rs i k stopped e)) ∙ is)
 
 module _ (j : Live) (w : IsWell j) (o : IsOnCourse j) (i : ℕ) (run : Run) (out : (at j.regions i).running ≡ Some run) where
   may-open-uses : (op : Operation) (cs : List Cell) (b rest : Body) → (at j.regions i).rest ≡ Next (Group op cs b) rest → (uses : List Use) → ((c : Cell) → IsNamed uses c ↔ Contains cs c)
@@ -125,8 +100,9 @@ module _ (j : Live) (w : IsWell j) (o : IsOnCourse j) (i : ℕ) (run : Run) (out
     where
       free : (k : ℕ) (x : Run) → (at (updated j.regions i stopped) k).running ≡ Some x → ¬ Conflict x.lease.uses uses
       free k x is =
-          let (other, also) = others-out j.regions i run out k x is in
-          meets-none x.lease.uses uses (λ c m held named. entry-free j o i run out op cs b rest next c (has-cell cs c ((names c).0 named)) k x also other m held)
+          let (other, same) = stopped-others j.regions i k x is in
+          let also = sym (ap (λ (r : Region). r.running) same) ∙ is in
+          meets-none x.lease.uses uses (λ c m held named. entry-free j o i run out op cs b rest next c (has-cell cs c ((names c).0 named)) k x also (λ e. other (sym e)) m held)
 
   -- where a group comes next it may be opened
   pub may-open : (room : Option (Operation × List Use)) → IsRoomFor (group_next (at j.regions i).rest) room → IfSome room (λ r. MayOpen j.owned (loan_in run) j.counts.units r.1)

@@ -1,8 +1,8 @@
 -- A task moves on behind its piece: what holds of the regions, and what is left of the job, stays.
-use Rattle.std.proofs.Common.{◌≡◌, ℕ, zero, suc, ◌<◌, ◌≤◌, Bool, true, false, List, [], ◌∷◌, ◌++◌, length, refl, sym, ap, subst, ◌∙◌, ◌⊎◌, inl, inr, arith, length-append}
+use Rattle.std.proofs.Common.{◌≡◌, ℕ, zero, suc, ◌<◌, ◌≤◌, Bool, true, false, List, [], ◌∷◌, ◌++◌, length, refl, sym, ap, subst, ◌∙◌, ◌⊎◌, inl, inr, arith}
 use Rattle.std.specs.Prelude.{Option}
 use Rattle.std.specs.Prelude.{Some, None, nat_lt, ◌==◌, if◌then◌else◌}
-use Rattle.std.proofs.lemmas.Bool.{cases_eq, cases_lt}
+use Rattle.std.proofs.lemmas.Bool.{cases_eq}
 use Rattle.std.proofs.lemmas.Bool.Decides.{nat_tests}
 use Rattle.ot_model.specs.Tree.{E, S, Set, Fold, If, Task, Wait, Group, Body, End, Next, append}
 use Rattle.ot_model.specs.Value.{val}
@@ -17,21 +17,22 @@ use Rattle.ot_model.proofs.CellsLemmas.{length-updated}
 use Rattle.ot_model.proofs.NamesLemmas.{NamedIn-append}
 use Rattle.ot_job.specs.Left.{left}
 use Rattle.ot_task.specs.Place.{Open, todo}
-use Rattle.ot_task.specs.Regions.{Region, with_rest, with_child, new_region, inside, stepped, stepped_from, with_created, next_task, executed, children_at}
+use Rattle.ot_task.specs.Regions.{Region, with_rest, with_child, new_region, inside, stepped, stepped_from, with_created, next_task, executed}
 use Rattle.ot_task.specs.Pieces.{leading, test_of}
 use Rattle.ot_job.specs.Settling.{closed, moved_on, counted}
 use Rattle.ot_task.specs.Standing.{is_at_end}
 use Rattle.ot_job.specs.Numbered.{at, todo_at, parents, left_of}
 use Rattle.ot_job.specs.Sound.{IsBegun, IsSound}
-use Rattle.ot_job.proofs.KeptLemmas.{at-updated, at-updated-other, at-more, at-new, todo-append, todo-next, kept-wait, kept-group, kept-if, kept-task}
-use Rattle.ot_job.proofs.SoundLemmas.{at-past}
+use Rattle.ot_job.proofs.KeptLemmas.{todo-append, todo-next, kept-wait, kept-group, kept-if, kept-task}
 use Rattle.ot_job.proofs.ChangedLemmas.{begun-changed}
 use Rattle.ot_job.proofs.StopLemmas.{may-test}
 use Rattle.ot_job.proofs.ArmLemmas.{waits, sound-branch, sound-wait, sound-enter}
 use Rattle.ot_job.proofs.KinLemmas.{more, long}
 use Rattle.ot_job.proofs.GrownLemmas.{sound-task, begun-task}
 use Rattle.ot_job.proofs.ClosedLemmas.{long-closed, todo-closed, begun-closed, parents-closed, sound-closed}
-use Rattle.ot_job.proofs.SettledLemmas.{rest-here}
+use Rattle.ot_job.proofs.StepLemmas.{rest-here, children-here}
+use Rattle.ot_job.proofs.FreeLemmas.{named-front}
+use Rattle.ot_job.proofs.EachLemmas.{at-each, more-each}
 
 -- what a step leaves: the regions are sound, what is left of the job is the same, its cells are there, who has begun has
 pub record Goes (lens : List ℕ) (ws now : List Region) (t after : State) : Type 0 where
@@ -51,11 +52,6 @@ updated-itself [] i = refl
 updated-itself (w ∷ ws) zero = refl
 updated-itself (w ∷ ws) (suc i) = ap (λ xs. w ∷ xs) (updated-itself ws i)
 
-children-here : (ws : List Region) (i : ℕ) → children_at ws i ≡ length (at ws i).children
-children-here [] i = refl
-children-here (w ∷ ws) zero = refl
-children-here (w ∷ ws) (suc i) = children-here ws i
-
 -- a number takes the first body where it isn't 0
 taken-by : (n : ℕ) (a b : Body) → (if nat_lt 0 n then a else b) ≡ either n a b
 taken-by n a b = by (cases_eq n 0)
@@ -70,23 +66,8 @@ module _ (lens : List ℕ) (ws : List Region) (s : IsSound ws) (i : ℕ) (h : i 
   named-next : (x : S) (rest : Body) → (at ws i).rest ≡ Next x rest → NamedIn lens (Next x (todo rest (at ws i).groups))
   named-next x rest was = subst (NamedIn lens) (ap (λ b. todo b (at ws i).groups) was ∙ todo-next x rest (at ws i).groups) (named i)
 
-  named-front : (x : S) (rest : Body) → (at ws i).rest ≡ Next x rest → NamedIn lens (at ws i).rest
-  named-front x rest was = front (at ws i).rest (at ws i).groups (named i)
-    where
-      half : (a b : Body) → NamedIn lens (append a b) → NamedIn lens a
-      half End b n = tt
-      half (Next x a) b n = (n.0, half a b n.1)
-
-      front : (b : Body) (gs : List Open) → NamedIn lens (todo b gs) → NamedIn lens b
-      front b [] n = n
-      front b (o ∷ os) n = half b (todo o.behind os) n
-
   named-changed : (f : Region → Region) → NamedIn lens (todo (f (at ws i)).rest (f (at ws i)).groups) → (k : ℕ) → NamedIn lens (todo_at (updated ws i f) k)
-  named-changed f n k = pick (cases_eq k i)
-    where
-      pick : (k ≡ i) ⊎ (k ≡ i → ⊥) → NamedIn lens (todo_at (updated ws i f) k)
-      pick (inl e) = subst (λ (r : Region). NamedIn lens (todo r.rest r.groups)) (sym (ap (at (updated ws i f)) e ∙ at-updated ws i f h)) n
-      pick (inr e) = subst (λ (r : Region). NamedIn lens (todo r.rest r.groups)) (sym (at-updated-other ws i k f e)) (named k)
+  named-changed f n = at-each (λ r. NamedIn lens (todo r.rest r.groups)) ws i f named n
 
   -- the step of one region, by what comes next
   stepped-is : (taken : Bool) (g : ℕ) (b : Body) (f : Region → Region) → (at ws i).rest ≡ b → stepped_from taken g b (at ws i) ≡ f (at ws i) → next_task b ≡ None → executed taken g i ws ≡ updated ws i f
@@ -123,7 +104,7 @@ module _ (lens : List ℕ) (ws : List Region) (s : IsSound ws) (i : ℕ) (h : i 
       subst (λ now. Goes lens ws now t (bump 0 1 t)) (sym (stepped-is taken g (Next (If e a b) rest) (with_rest (append chosen rest)) was refl refl)) (record {
         sound = sound-branch ws s i h alive taken e a b rest was;
         same = ap (λ c. left_of (updated ws i (with_rest (append c rest))) (bump 0 1 t)) (taken-by (val (cell_of t.cells) e) a b)
-            ∙ kept-if ws s i h e a b rest t was (may-test ws s i e a b rest was alive lens (named-front (If e a b) rest was) calm started);
+            ∙ kept-if ws s i h e a b rest t was (may-test ws s i e a b rest was alive lens (named-front lens (at ws i).rest (at ws i).groups (named i)) calm started);
         named = named-changed (with_rest (append chosen rest)) (subst (NamedIn lens) (sym (todo-append chosen rest (at ws i).groups))
             (NamedIn-append lens chosen (todo rest (at ws i).groups) (either-named taken a b n.0.1 n.0.2) n.1));
         begun = λ k below w. begun-changed ws i (with_rest (append chosen rest)) h (record { parent = λ r. refl; child = λ r. refl; own = λ r. refl; children = λ r. refl; ended = λ r. refl }) k w;
@@ -165,26 +146,10 @@ module _ (lens : List ℕ) (ws : List Region) (s : IsSound ws) (i : ℕ) (h : i 
       n : NamedIn lens (Next (Task d b) (todo rest (at ws i).groups))
       n = named-next (Task d b) rest was
 
-      named-two : (k : ℕ) → NamedIn lens (todo_at two k)
-      named-two k = pick (cases_eq k i)
-        where
-          old : NamedIn lens (todo_at rs k)
-          old = named-changed (with_rest rest) n.1 k
-
-          pick : (k ≡ i) ⊎ (k ≡ i → ⊥) → NamedIn lens (todo_at two k)
-          pick (inl e) = subst (λ (r : Region). NamedIn lens (todo r.rest r.groups)) (sym (ap (at two) e ∙ at-updated rs i (with_child d) hr)) (subst (λ m. NamedIn lens (todo_at rs m)) e old)
-          pick (inr e) = subst (λ (r : Region). NamedIn lens (todo r.rest r.groups)) (sym (at-updated-other rs i k (with_child d) e)) old
-
       named-now : (k : ℕ) → NamedIn lens (todo_at (more rs i hr d b) k)
-      named-now k = pick (cases_lt k (length two))
-        where
-          pick : (k < length two) ⊎ (length two ≤ k) → NamedIn lens (todo_at (more rs i hr d b) k)
-          pick (inl below) = subst (λ (r : Region). NamedIn lens (todo r.rest r.groups)) (sym (at-more two new k below)) (named-two k)
-          pick (inr past) = pick-new (cases_eq k (length two))
-            where
-              pick-new : (k ≡ length two) ⊎ (k ≡ length two → ⊥) → NamedIn lens (todo_at (more rs i hr d b) k)
-              pick-new (inl e) = subst (λ (r : Region). NamedIn lens (todo r.rest r.groups)) (sym (ap (at (two ++ new ∷ [])) e ∙ at-new two new)) n.0.1
-              pick-new (inr e) = subst (λ (r : Region). NamedIn lens (todo r.rest r.groups)) (sym (at-past (two ++ new ∷ []) k (omega (arith, past, e, length-append two (new ∷ []))))) tt
+      named-now =
+          let old = named-changed (with_rest rest) n.1 in
+          more-each (λ r. NamedIn lens (todo r.rest r.groups)) two new (at-each (λ r. NamedIn lens (todo r.rest r.groups)) rs i (with_child d) old (old i)) n.0.1
 
   -- a group's end is reached
   goes-here : (taken : Bool) (g : ℕ) → (at ws i).rest ≡ End → Goes lens ws (executed taken g i ws) t t
@@ -208,6 +173,9 @@ module _ (lens : List ℕ) (ws : List Region) (s : IsSound ws) (i : ℕ) (h : i 
       → Goes lens ws (moved_on taken g i ws) t (counted (at ws i).rest t)
   goes-on taken g stops told ordered = by (at ws i).rest refl
     where
+      never : {x : S} {b : Body} → Next x b ≡ End → ⊥
+      never e = cc
+
       by : (b : Body) → (at ws i).rest ≡ b → Goes lens ws (if is_at_end (at ws i).rest (at ws i).groups then closed i ws else executed taken g i ws) t (counted (at ws i).rest t)
       by End was = rw was (at-groups (at ws i).groups refl)
         where
@@ -215,13 +183,7 @@ module _ (lens : List ℕ) (ws : List Region) (s : IsSound ws) (i : ℕ) (h : i 
           at-groups [] none = rw none (goes-closed was none)
           at-groups (o ∷ os) some = rw some (goes-here taken g was)
       by (Next (Set c e) rest) was = absurd (never (ap leading (sym was) ∙ stops))
-        where
-          never : leading (Next (Set c e) rest) ≡ End → ⊥
-          never e = cc
       by (Next (Fold op c e) rest) was = absurd (never (ap leading (sym was) ∙ stops))
-        where
-          never : leading (Next (Fold op c e) rest) ≡ End → ⊥
-          never e = cc
       by (Next (If e a b) rest) was = rw was (subst (λ k. Goes lens ws (executed k g i ws) t (bump 0 1 t)) (sym (told e (ap test_of was))) (goes-if g e a b rest was))
       by (Next (Task d b) rest) was = rw was (goes-task taken g d b rest was (ordered (d, b) (ap next_task was)))
       by (Next (Wait w) rest) was = rw was (goes-wait taken g w rest was)

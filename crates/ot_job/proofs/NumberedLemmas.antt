@@ -1,8 +1,8 @@
 -- The numbers of each task's children, through each change of the regions.
-use Rattle.std.proofs.Common.{◌≡◌, ◌≢◌, ◌<◌, ◌≤◌, ◌+◌, ℕ, zero, suc, List, [], ◌∷◌, ◌++◌, length, get_or, refl, sym, ap, ◌∙◌, inl, inr, ◌⊎◌, arith}
+use Rattle.std.proofs.Common.{◌≡◌, ◌≢◌, ◌<◌, ◌+◌, ℕ, zero, suc, List, [], ◌∷◌, ◌++◌, length, get_or, refl, sym, ap, ◌∙◌, inl, inr, arith}
 use Rattle.std.specs.Prelude.{Some, slice_get}
 use Rattle.std.proofs.lemmas.Bool.{cases_eq, cases_lt}
-use Rattle.std.proofs.lemmas.Option.{same_Some, none-some, slice_get_within}
+use Rattle.std.proofs.lemmas.Option.{slice_get_within}
 use Rattle.std.proofs.lemmas.List.{length-append}
 use Rattle.ot_model.specs.Cells.{updated}
 use Rattle.ot_model.proofs.CellsLemmas.{length-updated}
@@ -11,7 +11,10 @@ use Rattle.ot_task.specs.Regions.{Region, with_child}
 use Rattle.ot_job.specs.Numbered.{at}
 use Rattle.ot_job.specs.Listing.{IsNumbered}
 use Rattle.ot_job.proofs.KeptLemmas.{at-updated, at-updated-other, at-more, at-new}
-use Rattle.ot_job.proofs.ClaimableLemmas.{field-kept}
+use Rattle.ot_job.proofs.EachLemmas.{field-kept, field-more}
+use Rattle.ot_job.proofs.KinLemmas.{get-last}
+use Rattle.ot_depend.proofs.ListLemmas.{slice_get-push_place}
+use Rattle.ot_depend.proofs.SiblingsLemmas.{slice_get-push}
 
 -- a region changes, and neither whose child it is nor how many it has
 pub numbered-same : (f : Region → Region) → ((r : Region) → (f r).parent ≡ r.parent) → ((r : Region) → (f r).child ≡ r.child) → ((r : Region) → length (f r).children ≡ length r.children)
@@ -50,21 +53,6 @@ numbers-other f (l ∷ ls) zero (suc p) apart = past ls p
 numbers-other f (l ∷ ls) (suc i) zero apart = refl
 numbers-other f (l ∷ ls) (suc i) (suc p) apart = numbers-other f ls i p (λ is. apart (ap suc is))
 
-still-there : (xs : List ℕ) (y c k : ℕ) → slice_get xs c ≡ Some k → slice_get (xs ++ y ∷ []) c ≡ Some k
-still-there [] y c k there = absurd (none-some k there)
-still-there (x ∷ xs) y zero k there = there
-still-there (x ∷ xs) y (suc c) k there = still-there xs y c k there
-
-last-there : (xs : List ℕ) (y : ℕ) → slice_get (xs ++ y ∷ []) (length xs) ≡ Some y
-last-there [] y = refl
-last-there (x ∷ xs) y = last-there xs y
-
-there-before : (xs : List ℕ) (y c k : ℕ) → slice_get (xs ++ y ∷ []) c ≡ Some k → (slice_get xs c ≡ Some k) ⊎ (k ≡ y)
-there-before [] y zero k there = inr (sym (same_Some y k there))
-there-before [] y (suc c) k there = absurd (none-some k there)
-there-before (x ∷ xs) y zero k there = inl there
-there-before (x ∷ xs) y (suc c) k there = there-before xs y c k there
-
 module _ (rs : List Region) (numbers : List (List ℕ)) (old : IsNumbered rs numbers) (i : ℕ) (uses : List Use) (new : Region) (within : i < length rs)
     (up : new.parent ≡ i) (place : new.child ≡ length (at rs i).children) (none : new.children ≡ []) where
   abbrev n : ℕ
@@ -92,13 +80,7 @@ module _ (rs : List Region) (numbers : List (List ℕ)) (old : IsNumbered rs num
   at-p p apart = numbers-other (λ l. l ++ n ∷ []) numbers i p apart
 
   children-new : (p : ℕ) → (at rs2 p).children ≡ (at now p).children
-  children-new p = by now p
-    where
-      by : (xs : List Region) (p : ℕ) → (at (xs ++ new ∷ []) p).children ≡ (at xs p).children
-      by [] zero = none
-      by [] (suc p) = refl
-      by (x ∷ xs) zero = refl
-      by (x ∷ xs) (suc p) = by xs p
+  children-new = field-more (λ r. r.children) now new none
 
   many : (p : ℕ) → length (get_or more p []) ≡ length (at rs2 p).children
   many p = elim (cases_eq p i) [
@@ -115,9 +97,9 @@ module _ (rs : List Region) (numbers : List (List ℕ)) (old : IsNumbered rs num
 
   all-known : (p c k : ℕ) → slice_get (get_or more p []) c ≡ Some k → k < length rs2
   all-known p c k there = elim (cases_eq p i) [
-    | inl is ↦ elim (there-before (get_or numbers i []) n c k (ap (λ l. slice_get l c) (sym (ap (λ q. get_or more q []) is ∙ at-i)) ∙ there)) [
+    | inl is ↦ elim (slice_get-push_place (get_or numbers i []) n c k (ap (λ l. slice_get l c) (sym (ap (λ q. get_or more q []) is ∙ at-i)) ∙ there)) [
       | inl before ↦ (let h = old.known i c k before in omega (arith, h, long-rs2))
-      | inr last ↦ omega (arith, last, long-rs2)
+      | inr last ↦ omega (arith, last.1, long-rs2)
     ]
     | inr apart ↦ (let h = old.known p c k (ap (λ l. slice_get l c) (sym (at-p p apart)) ∙ there) in omega (arith, h, long-rs2))
   ]
@@ -125,14 +107,15 @@ module _ (rs : List Region) (numbers : List (List ℕ)) (old : IsNumbered rs num
   of-old : (k : ℕ) → 0 < k → k < n → slice_get (get_or more (at rs k).parent []) (at rs k).child ≡ Some k
   of-old k pos h = elim (cases_eq (at rs k).parent i) [
     | inl is ↦ ap (λ q. slice_get (get_or more q []) (at rs k).child) is ∙ ap (λ l. slice_get l (at rs k).child) at-i
-        ∙ still-there (get_or numbers i []) n (at rs k).child k (ap (λ q. slice_get (get_or numbers q []) (at rs k).child) (sym is) ∙ old.tasks k pos h)
+        ∙ (let there : slice_get (get_or numbers i []) (at rs k).child ≡ Some k = ap (λ q. slice_get (get_or numbers q []) (at rs k).child) (sym is) ∙ old.tasks k pos h in
+        slice_get-push (get_or numbers i []) n (at rs k).child (slice_get_within (get_or numbers i []) (at rs k).child k there) ∙ there)
     | inr apart ↦ ap (λ l. slice_get l (at rs k).child) (at-p (at rs k).parent apart) ∙ old.tasks k pos h
   ]
 
   of-new : slice_get (get_or more new.parent []) new.child ≡ Some n
   of-new =
       ap (λ q. slice_get (get_or more q []) new.child) up ∙ ap (λ l. slice_get l new.child) at-i
-      ∙ ap (slice_get (get_or numbers i [] ++ n ∷ [])) (place ∙ sym (old.each i)) ∙ last-there (get_or numbers i []) n
+      ∙ ap (slice_get (get_or numbers i [] ++ n ∷ [])) (place ∙ sym (old.each i)) ∙ get-last (get_or numbers i []) n
 
   pub numbered-created : IsNumbered rs2 more
   numbered-created = record {

@@ -1,9 +1,9 @@
 -- What pieces hold of the cells of open groups: nothing of their own task's, and of another task's they only fold.
 use Rattle.std.proofs.Common.{◌≡◌, ◌≢◌, ℕ, ◌<◌, ◌≤◌, Bool, true, false, List, [], ◌∷◌, length, refl, sym, ap, subst, ◌∙◌, ◌⊎◌, inl, inr, true≢false, ◌&&◌}
 use Rattle.std.specs.Prelude.{Some, slice_get}
-use Rattle.std.proofs.lemmas.Bool.{cases_lt}
+use Rattle.std.proofs.lemmas.Bool.{cases_lt, false_from_ne_true}
 use Rattle.ot_model.specs.Names.{NamedIn}
-use Rattle.ot_model.specs.Uses.{conflicts, mode_in, same_fold}
+use Rattle.ot_model.specs.Uses.{conflicts, mode_in, same_fold, Conflict}
 use Rattle.ot_model.specs.declared.expr.Cell.{Cell}
 use Rattle.ot_model.specs.declared.fold.Fold.{Fold as Operation}
 use Rattle.ot_model.specs.declared.stmt.Mode.{Mode}
@@ -32,7 +32,7 @@ use Rattle.ot_job.proofs.SoundLemmas.{sound, at-past}
 use Rattle.ot_job.proofs.RightsLemmas.{rights_apart}
 use Rattle.ot_job.proofs.GroupLemmas.{writes-agree}
 use Rattle.ot_job.proofs.CreatedLemmas.{grouped-opened}
-use Rattle.ot_job.proofs.FreeLemmas.{total, at-whole, named-front, piece-may, piece-meets, safe, right-of}
+use Rattle.ot_job.proofs.FreeLemmas.{total, at-whole, named-front, piece-may, piece-meets, safe, right-of, none-conflict}
 
 -- ---- who may hold a cell
 
@@ -88,11 +88,7 @@ module _ (rs : List Region) (s : IsSound (wholes rs)) where
       by (o ∷ os) some = s.entered i o os (ap (λ (r : Region). r.groups) (at-whole rs i) ∙ some)
 
   pub opened-alive : (i : ℕ) (op : Operation) (c : Cell) → opened (at rs i).groups op c ≡ true → (at rs i).ended ≡ false
-  opened-alive i op c is = by (at rs i).ended refl
-    where
-      by : (b : Bool) → (at rs i).ended ≡ b → b ≡ false
-      by true over = absurd (true≢false (sym is ∙ ap (λ (gs : List Open). opened gs op c) ((placed i).shut over)))
-      by false alive = refl
+  opened-alive i op c is = false_from_ne_true (at rs i).ended (λ over. true≢false (sym is ∙ ap (λ (gs : List Open). opened gs op c) ((placed i).shut over)))
 
   -- the cells of an open group are its task's to fold by the group's operation
   pub group-holds : (i : ℕ) (op : Operation) (c : Cell) → opened (at rs i).groups op c ≡ true → MayHold rs i (use_as (Folds op) c)
@@ -154,6 +150,12 @@ module _ (rs : List Region) (s : IsSound (wholes rs)) (lens : List ℕ) (named :
       may = piece-may lens (at rs i) (placed rs s i) (named-at i) run out (well i run out) (use_as m c) held;
       alone = λ k x there unfinished n may. piece-meets lens (at rs i) (placed rs s i) (named-at i) run out (well i run out) k x there unfinished (use_as m c) (use_as n c) held may refl;
     }
+
+    -- no two pieces that are out conflict
+    pub pieces_apart : (i j : ℕ) (one two : Run) → (at rs i).running ≡ Some one → (at rs j).running ≡ Some two → i ≢ j → Conflict one.lease.uses two.lease.uses → ⊥
+    pieces_apart i j one two ri rj other =
+        none-conflict one.lease.uses two.lease.uses (well i one ri).ordered (well j two rj).ordered
+        (λ u v hu hv. holders-agree rs s i j u v (piece-holds i one u.cell u.mode ri hu) (piece-holds j two v.cell v.mode rj hv) other)
 
     -- where it holds a fold, its body declares it
     pub piece-folds : (i : ℕ) (run : Run) (op : Operation) (c : Cell) → (at rs i).running ≡ Some run → mode_in run.lease.uses c ≡ Some (Folds op) → folds_to (at rs i).own op c ≡ true

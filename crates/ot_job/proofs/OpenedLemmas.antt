@@ -1,5 +1,5 @@
 -- What pieces hold beside open groups, at each call of a job: what a fold goes into, and which cells are free where a group begins and ends.
-use Rattle.std.proofs.Common.{◌≡◌, ℕ, zero, suc, ◌+◌, ◌<◌, Bool, true, false, ◌&&◌, List, [], ◌∷◌, length, refl, sym, ap, ◌∙◌, ◌⊎◌, inl, inr, arith, true≢false}
+use Rattle.std.proofs.Common.{◌≡◌, ℕ, zero, suc, ◌+◌, ◌<◌, Bool, true, false, ◌&&◌, List, [], ◌∷◌, length, refl, sym, ap, ◌∙◌, ◌⊎◌, inl, inr, arith, true≢false, eq-zero-or-pos}
 use Rattle.std.specs.Prelude.{Option, Some, None, All, Contains, IsSome}
 use Rattle.std.proofs.lemmas.Bool.{cases_eq}
 use Rattle.std.proofs.lemmas.List.Elements.{All-weaker}
@@ -58,10 +58,6 @@ module _ (rs : List Region) (s : IsSound (wholes rs)) where
   root-folds-none : (op : Operation) (c : Cell) → folds_to (at rs 0).own op c ≡ true → ⊥
   root-folds-none op c folds = true≢false (sym folds ∙ sym (ap (λ (r : Region). folds_to r.own op c) (at-whole rs 0)) ∙ ap (λ (d : Declared). folds_to d op c) s.root)
 
-  zero_or : (n : ℕ) → (n ≡ 0) ⊎ (0 < n)
-  zero_or zero = inl refl
-  zero_or (suc n) = inr (omega arith)
-
   -- a fold is of an open group of the parent's, or the parent, which has not ended either, declares it
   folds-up : (i : ℕ) → 0 < i → (op : Operation) (c : Cell) → (at rs i).ended ≡ false → folds_to (at rs i).own op c ≡ true
       → ((at rs (parent_of ws i)).ended ≡ false → folds_to (at rs (parent_of ws i)).own op c ≡ true → IsFolded rs op c) → IsFolded rs op c
@@ -85,7 +81,7 @@ module _ (rs : List Region) (s : IsSound (wholes rs)) where
 
       going : folds_to (at rs p).own op c ≡ true → (b : Bool) → (at rs p).ended ≡ b → b ≡ false
       going own false e = refl
-      going own true e = up (zero_or p)
+      going own true e = up (eq-zero-or-pos p)
         where
           up : (p ≡ 0) ⊎ (0 < p) → true ≡ false
           up (inl root) = absurd (root-folds-none op c (ap (λ m. folds_to (at rs m).own op c) (sym root) ∙ own))
@@ -94,7 +90,7 @@ module _ (rs : List Region) (s : IsSound (wholes rs)) where
   folds-below : (n i : ℕ) → i < n → (op : Operation) (c : Cell) → (at rs i).ended ≡ false → folds_to (at rs i).own op c ≡ true → IsFolded rs op c
   folds-below zero i below op c alive folds = absurd (omega (arith, below))
   folds-below (suc n) i below op c alive folds =
-      elim (zero_or i) [
+      elim (eq-zero-or-pos i) [
         | inl root ↦ absurd (root-folds-none op c (ap (λ m. folds_to (at rs m).own op c) (sym root) ∙ folds))
         | inr pos ↦ folds-up i pos op c alive folds (folds-below n (parent_of ws i) (omega (arith, below, s.down i pos)) op c)
       ]

@@ -3,7 +3,7 @@ use Rattle.std.proofs.Common.{◌≡◌, ◌≢◌, ◌<◌, ◌+◌, ◌↔◌,
 use Rattle.std.specs.Prelude.{Option, Some, None, IsSome, is_some, option_map, unwrap_or, replicate, nat_lt, if◌then◌else◌, ◌==◌}
 use Rattle.std.specs.List.{All, Any, position_from}
 use Rattle.std.proofs.lemmas.Bool.{cases_eq, eqb-true, eq-eqb}
-use Rattle.std.proofs.lemmas.Iterator.Adapters.{position_from-zero}
+use Rattle.std.proofs.lemmas.Iterator.Adapters.{position_from-zero, option_map_id}
 use Rattle.std.proofs.lemmas.List.{map-append, get_or_default}
 use Rattle.std.proofs.lemmas.List.Elements.{All-contains, Contains-get_or, Contains-append_left, Contains-append_right, Contains-append_cases, Contains-push_cases}
 use Rattle.std.proofs.lemmas.List.Folds.{Any-from_list_any, list_any-from_Any}
@@ -33,7 +33,6 @@ use Rattle.ot_owner.proofs.WorthLemmas.{cell_of-worths}
 use Rattle.ot_task.specs.Pieces.{passed, awake, ended_group, group_passed}
 use Rattle.ot_task.specs.Place.{Open}
 use Rattle.ot_task.specs.Regions.{Region, group_next, with_child, new_region, with_created, stepped, stepped_from, executed, next_task, rest_at, children_at, over, stopped}
-use Rattle.ot_task.specs.Standing.{is_at_end}
 use Rattle.ot_job.specs.Awaiting.{opened}
 use Rattle.ot_job.specs.Numbered.{at, parent_of}
 use Rattle.ot_job.specs.Opened.{numbers_in, AreOpen}
@@ -41,7 +40,8 @@ use Rattle.ot_job.specs.Opening.{left_open, Opens}
 use Rattle.ot_job.specs.Settling.{told_parent, closed, moved_on, settled}
 use Rattle.ot_job.proofs.FoldLemmas.{same-op}
 use Rattle.ot_job.proofs.KeptLemmas.{at-updated, at-updated-other}
-use Rattle.ot_job.proofs.MovesLemmas.{tell-field}
+use Rattle.ot_job.proofs.StepLemmas.{tell-field, end-cases}
+use Rattle.ot_job.proofs.EachLemmas.{field-at, field-more}
 
 -- ---- what is among the elements
 
@@ -218,19 +218,6 @@ kept-new rs gs number below are = all-of (λ g. g.group ≢ number) gs each
 
 -- ---- where the open groups are the same
 
-groups-at : (rs : List Region) (i : ℕ) (f : Region → Region) → (f (at rs i)).groups ≡ (at rs i).groups → (k : ℕ) → (at (updated rs i f) k).groups ≡ (at rs k).groups
-groups-at [] i f same k = refl
-groups-at (r ∷ rs) zero f same zero = same
-groups-at (r ∷ rs) zero f same (suc k) = refl
-groups-at (r ∷ rs) (suc i) f same zero = refl
-groups-at (r ∷ rs) (suc i) f same (suc k) = groups-at rs i f same k
-
-groups-more : (rs : List Region) (new : Region) → new.groups ≡ [] → (k : ℕ) → (at (rs ++ new ∷ []) k).groups ≡ (at rs k).groups
-groups-more [] new none zero = none
-groups-more [] new none (suc k) = refl
-groups-more (r ∷ rs) new none zero = refl
-groups-more (r ∷ rs) new none (suc k) = groups-more rs new none k
-
 no-numbers : (rs : List Region) → ((k : ℕ) → (at rs k).groups ≡ []) → numbers_in rs ≡ []
 no-numbers [] none = refl
 no-numbers (r ∷ rs) none = ap (λ os. numbers_of os ++ numbers_in rs) (none 0) ∙ no-numbers rs (λ k. none (suc k))
@@ -330,9 +317,9 @@ pub open-passed : (rs : List Region) (gs : List Summed) (i : ℕ) (f : Region �
 open-passed rs gs i f within goes are = by (at rs i).rest (at rs i).groups refl (goes (at rs i))
   where
     by : (b : Body) (os : List Open) → (at rs i).groups ≡ os → (f (at rs i)).groups ≡ (passed b os).groups → AreOpen (updated rs i f) (left_open (ended_group b os) gs)
-    by End [] was now = open-same rs (updated rs i f) gs (groups-at rs i f (now ∙ sym was)) are
+    by End [] was now = open-same rs (updated rs i f) gs (field-at (λ r. r.groups) f rs i (now ∙ sym was)) are
     by End (o ∷ os) was now = open-left rs gs i f o os within was now are
-    by (Next x rest) os was now = open-same rs (updated rs i f) gs (groups-at rs i f (now ∙ sym was)) are
+    by (Next x rest) os was now = open-same rs (updated rs i f) gs (field-at (λ r. r.groups) f rs i (now ∙ sym was)) are
 
 -- ---- rows begin and grow
 
@@ -472,16 +459,16 @@ module _ (rs : List Region) (gs : List Summed) (i : ℕ) (f : Region → Region)
 groups-created : (i : ℕ) (child : Option (List Use × Body)) (rs : List Region) (k : ℕ) → (at (with_created i child rs) k).groups ≡ (at rs k).groups
 groups-created i None rs k = refl
 groups-created i (Some child) rs k =
-    groups-more (updated rs i (with_child child.0)) (new_region i (children_at rs i) child.0 child.1) refl k ∙ groups-at rs i (with_child child.0) refl k
+    field-more (λ r. r.groups) (updated rs i (with_child child.0)) (new_region i (children_at rs i) child.0 child.1) refl k ∙ field-at (λ r. r.groups) (with_child child.0) rs i refl k
 
 groups-closed : (i : ℕ) (rs : List Region) (k : ℕ) → (at (closed i rs) k).groups ≡ (at rs k).groups
-groups-closed i rs k = groups-at (told_parent i rs) i over refl k ∙ tell-field (λ r. r.groups) (λ c r. refl) (nat_lt 0 i) (parent_of rs i) (at rs i).child rs k
+groups-closed i rs k = field-at (λ r. r.groups) over (told_parent i rs) i refl k ∙ tell-field (λ r. r.groups) (λ c r. refl) (nat_lt 0 i) (parent_of rs i) (at rs i).child rs k
 
 module _ (taken : Bool) (number i : ℕ) (rs : List Region) (gs new : List Summed) (within : i < length rs) (below : AreBelow rs number) (are : AreOpen rs gs) where
   same-stepped : (b : Body) → (at rs i).rest ≡ b → (stepped_from taken number b (at rs i)).groups ≡ (at rs i).groups → new ≡ gs → AreOpen (updated rs i (stepped taken number)) new
   same-stepped b was same is =
       subst (AreOpen (updated rs i (stepped taken number))) (sym is)
-      (open-same rs (updated rs i (stepped taken number)) gs (groups-at rs i (stepped taken number) (ap (λ b. (stepped_from taken number b (at rs i)).groups) was ∙ same)) are)
+      (open-same rs (updated rs i (stepped taken number)) gs (field-at (λ r. r.groups) (stepped taken number) rs i (ap (λ b. (stepped_from taken number b (at rs i)).groups) was ∙ same)) are)
 
   open-stepped : (b : Body) → (at rs i).rest ≡ b → Opens (group_next b) number gs new → AreOpen (updated rs i (stepped taken number)) new
   open-stepped End was opens = same-stepped End was refl opens
@@ -500,25 +487,16 @@ module _ (taken : Bool) (number i : ℕ) (rs : List Region) (gs new : List Summe
       (open-stepped (at rs i).rest refl opens)
 
   open-moved : Opens (group_next (at rs i).rest) number gs new → AreOpen (moved_on taken number i rs) new
-  open-moved opens = by (at rs i).rest (at rs i).groups refl refl
-    where
-      goes : is_at_end (at rs i).rest (at rs i).groups ≡ false → AreOpen (moved_on taken number i rs) new
-      goes on = subst (λ b. AreOpen (if b then closed i rs else executed taken number i rs) new) (sym on) (open-executed opens)
-
-      ends : (at rs i).rest ≡ End → is_at_end (at rs i).rest (at rs i).groups ≡ true → AreOpen (moved_on taken number i rs) new
-      ends was over =
-          let is : new ≡ gs = subst (λ b. Opens (group_next b) number gs new) was opens in
-          subst (λ b. AreOpen (if b then closed i rs else executed taken number i rs) new) (sym over) (open-same rs (closed i rs) new (groups-closed i rs) (subst (AreOpen rs) (sym is) are))
-
-      by : (b : Body) (os : List Open) → (at rs i).rest ≡ b → (at rs i).groups ≡ os → AreOpen (moved_on taken number i rs) new
-      by End [] was none = ends was (ap (λ b. is_at_end b (at rs i).groups) was ∙ ap (is_at_end End) none)
-      by End (o ∷ os) was some = goes (ap (λ b. is_at_end b (at rs i).groups) was ∙ ap (is_at_end End) some)
-      by (Next x rest) os was some = goes (ap (λ b. is_at_end b (at rs i).groups) was)
+  open-moved opens = elim (end-cases (at rs i).rest (at rs i).groups) [
+    | inl ends ↦ (let is : new ≡ gs = subst (λ b. Opens (group_next b) number gs new) ends.0 opens in
+        subst (λ b. AreOpen (if b then closed i rs else executed taken number i rs) new) (sym ends.2) (open-same rs (closed i rs) new (groups-closed i rs) (subst (AreOpen rs) (sym is) are)))
+    | inr goes ↦ subst (λ b. AreOpen (if b then closed i rs else executed taken number i rs) new) (sym goes) (open-executed opens)
+  ]
 
   -- what becomes of the open groups as a piece comes back
   pub open-settled : Opens (group_next (at rs i).rest) number gs new → AreOpen (settled taken number i rs) new
   open-settled opens =
-      open-same (moved_on taken number i rs) (settled taken number i rs) new (groups-at (moved_on taken number i rs) i stopped refl) (open-moved opens)
+      open-same (moved_on taken number i rs) (settled taken number i rs) new (field-at (λ r. r.groups) stopped (moved_on taken number i rs) i refl) (open-moved opens)
 
 -- ---- where no group is open
 
@@ -538,13 +516,9 @@ open-none rs none = record {
   cells = λ i o g among (k, within, is). absurd (omega (arith, within));
 }
 
-option-same : (o : Option ℕ) → option_map (λ (n : ℕ). n) o ≡ o
-option-same None = refl
-option-same (Some n) = refl
-
 -- no copy is kept
 pub none-combined : (owned : Owned) → owned.groups ≡ [] → IsCombined owned
-none-combined owned none cells cell = ap (λ gs. option_map (worth_over gs cell) (cell_of cells cell)) none ∙ option-same (cell_of cells cell)
+none-combined owned none cells cell = ap (λ gs. option_map (worth_over gs cell) (cell_of cells cell)) none ∙ option_map_id (cell_of cells cell)
 
 -- ---- a group that a task closes
 
@@ -586,7 +560,7 @@ module _ (rs : List Region) (gs : List Summed) (i : ℕ) (o : Open) (among : Con
 -- a cell that no copies are kept of is worth its stored number
 pub worth-unsummed : (owned : Owned) (cells : List (List ℕ)) (c : Cell) → ¬ IsSummed owned.groups c → worth owned cells c ≡ cell_of cells c
 worth-unsummed owned cells c none =
-    same_worth (worth_over owned.groups c) (λ (n : ℕ). n) (cell_of cells c) (over-unsummed owned.groups c none) ∙ option-same (cell_of cells c)
+    same_worth (worth_over owned.groups c) (λ (n : ℕ). n) (cell_of cells c) (over-unsummed owned.groups c none) ∙ option_map_id (cell_of cells c)
 
 -- what is lent is as it was from the cells as they are worth, where only those who fold meet copies
 pub lent-worths : (owned : Owned) (cells : List (List ℕ)) (uses : List Use) → All (λ u. is_fold u.mode ≡ false → ¬ IsSummed owned.groups u.cell) uses → lent_from cells uses ≡ lent_from (worths owned cells) uses

@@ -1,5 +1,5 @@
 -- Who is claimable, as the code finds it.
-use Rattle.std.proofs.Common.{◌≡◌, ◌<◌, ◌≤◌, ℕ, zero, suc, ◌+◌, Bool, true, false, cond, not, ◌&&◌, ◌||◌, List, [], ◌∷◌, length, get_or, refl, sym, ap, subst, ◌∙◌, arith, true≢false}
+use Rattle.std.proofs.Common.{◌≡◌, ◌<◌, ℕ, zero, suc, ◌+◌, Bool, true, false, cond, not, ◌&&◌, ◌||◌, List, [], ◌∷◌, length, get_or, refl, sym, ap, subst, ◌∙◌, arith, true≢false}
 use Rattle.std.specs.Prelude.{◌==◌, ◌%◌, Option, Some, None, slice_get, filter}
 use Rattle.std.specs.List.{range_with_len}
 use Rattle.std.proofs.lemmas.Option.{same_Some}
@@ -13,21 +13,20 @@ use Rattle.std.specs.List.{list_all}
 use Rattle.std.specs.Prelude.{take}
 use Rattle.std.proofs.lemmas.List.Sums.{AllPass-from_list_all}
 use Rattle.ot_task.specs.Regions.{Region}
-use Rattle.ot_job.specs.Numbered.{at, gone}
+use Rattle.ot_job.specs.Numbered.{at}
 use Rattle.ot_job.specs.Claiming.{is_claimable, claimable_of, picked}
 use Rattle.ot_depend.specs.Siblings.{is_ready}
 
 -- ---- regions by their numbers
 
-pub at-past : (tasks : List Region) (i : ℕ) → length tasks ≤ i → at tasks i ≡ gone
-at-past [] i h = refl
-at-past (x ∷ tasks) zero h = absurd (omega (arith, h))
-at-past (x ∷ tasks) (suc i) h = at-past tasks i (omega (arith, h))
-
 pub at-here : (tasks : List Region) (i : ℕ) (t : Region) → i < length tasks → t ≡ get_or tasks i t → at tasks i ≡ t
 at-here [] i t within is = absurd (omega (arith, within))
 at-here (x ∷ tasks) zero t within is = sym is
 at-here (x ∷ tasks) (suc i) t within is = at-here tasks i t (omega (arith, within)) is
+
+-- the place that a record tells is its task's
+pub place-told : (tasks : List Region) (i : ℕ) (t : Region) → i < length tasks → t ≡ get_or tasks i t → (place : ℕ × ℕ) → place ≡ (t.parent, t.child) → (place.0 ≡ (at tasks i).parent) × (place.1 ≡ (at tasks i).child)
+place-told tasks i t within here place is = subst (λ (r : Region). (place.0 ≡ r.parent) × (place.1 ≡ r.child)) (sym (at-here tasks i t within here)) (ap (λ (q : ℕ × ℕ). q.0) is, ap (λ (q : ℕ × ℕ). q.1) is)
 
 -- ---- ready
 

@@ -1,28 +1,29 @@
 -- A piece that is out.
 use Rattle.std.proofs.Common.{false, true, sym, ap, ◌∙◌, true≢false, ◌≡◌, ◌<◌, ℕ, zero, suc, List, [], ◌∷◌, length, arith}
-use Rattle.std.specs.Prelude.{All, Contains, IsSome, Some, option_map, unwrap_or, Result, Ok, Err, OnOk, OnErr, is_err}
+use Rattle.std.specs.Prelude.{All, Contains, IsSome, Some, is_some, get_or, option_map, unwrap_or, Result, Ok, Err, OnOk, OnErr, is_err}
 use Rattle.std.proofs.lemmas.List.Elements.{All-nil, All-cons, All-head, All-tail}
 use Rattle.ot_model.specs.Tree.{Body, End, Next}
 use Rattle.ot_model.specs.Cells.{cell_of}
 use Rattle.ot_task.specs.Place.{Open}
 use Rattle.ot_model.specs.declared.stmt.Use.{Use}
-use Rattle.ot_depend.specs.Siblings.{IsReady, IsUnfinished}
 use Rattle.ot_owner.specs.Leases.{lease_of}
 use Rattle.ot_owner.specs.Owning.{loan_of}
 use Rattle.ot_owner.specs.Lending.{uses_of}
 use Rattle.ot_owner.specs.declared.lent.LentCell.{LentCell}
 use Rattle.ot_task.specs.Regions.{Region, Run, next_task}
-use Rattle.ot_job.specs.Numbered.{at, parent_of}
+use Rattle.ot_job.specs.Calls.{HasPiece}
+use Rattle.ot_job.specs.Numbered.{at}
 use Rattle.ot_job.specs.Live.{Live}
 use Rattle.ot_job.specs.Taken.{Came, IsOut, worker_in}
 use Rattle.std.proofs.lemmas.Option.{same_Some}
 use Rattle.ot_job.specs.Well.{MaySettle}
 use Rattle.ot_task.specs.Standing.{is_at_end}
+use Rattle.ot_job.proofs.PickLemmas.{at-here}
 
-runs-known : (rs : List Region) (i : ℕ) (run : Run) → (at rs i).running ≡ Some run → i < length rs
-runs-known [] i run h = cc
-runs-known (r ∷ rs) zero run h = omega arith
-runs-known (r ∷ rs) (suc i) run h = omega (arith, runs-known rs i run h)
+pub runs-within : (rs : List Region) (i : ℕ) (run : Run) → (at rs i).running ≡ Some run → i < length rs
+runs-within [] i run h = cc
+runs-within (r ∷ rs) zero run h = omega arith
+runs-within (r ∷ rs) (suc i) run h = omega (arith, runs-within rs i run h)
 
 uses-there : (cells : List (List ℕ)) (lent : List LentCell) → All (λ u. IsSome (cell_of cells u.cell)) (uses_of lent) → All (λ l. IsSome (cell_of cells l.cell)) lent
 uses-there cells [] h = All-nil (λ l. IsSome (cell_of cells l.cell))
@@ -44,24 +45,27 @@ out-to rs d worker out told =
 pub worker-is : (r : Region) (worker : ℕ) → option_map (λ run. run.worker) r.running ≡ Some worker → worker_in r ≡ worker
 worker-is r worker told = ap (λ o. unwrap_or o 0) told
 
-module _ (j : Live) (d : Came) (may : MaySettle j) (out : IsOut j.regions d) where
-  pub is-known : d.task < length j.regions
-  is-known = runs-known j.regions d.task (run_of out.0.0 d) out.0.1
+pub has-piece : (rs : List Region) (d : Came) → IsOut rs d → HasPiece rs d.task
+has-piece rs d out = record { known = runs-within rs d.task (run_of out.0.0 d) out.0.1; out = ap is_some out.0.1 }
 
+module _ (rs : List Region) (d : Came) (out : IsOut rs d) (t : Region) (here : t ≡ get_or rs d.task t) where
+  -- the task's region, as the code looks at it
+  pub here-is : at rs d.task ≡ t
+  here-is = at-here rs d.task t (has-piece rs d out).known here
+
+  pub has-run : is_some t.running ≡ true
+  has-run = ap (λ (r : Region). is_some r.running) (sym here-is) ∙ (has-piece rs d out).out
+
+  -- the piece is out to the worker that the record tells
+  abbrev pub out-here : (worker : ℕ) → option_map (λ run. run.worker) t.running ≡ Some worker → IsOut rs d
+  out-here worker told = ((worker, out-to rs d worker out (ap (λ (r : Region). option_map (λ run. run.worker) r.running) here-is ∙ told)), out.1)
+
+module _ (j : Live) (d : Came) (may : MaySettle j) (out : IsOut j.regions d) where
   pub loan-out : Contains j.owned.out (loan_of out.0.0 d.lent)
   loan-out = (may.out d.task (run_of out.0.0 d) out.0.1).0
 
   pub cells-there : All (λ l. IsSome (cell_of j.cells l.cell)) d.lent
   cells-there = uses-there j.cells d.lent (may.out d.task (run_of out.0.0 d) out.0.1).1
-
-  pub parent-known : 0 < d.task → parent_of j.regions d.task < length j.regions
-  parent-known some = (may.kin d.task (run_of out.0.0 d) out.0.1 some).0
-
-  pub child-ready : 0 < d.task → IsReady (at j.regions (parent_of j.regions d.task)).children (at j.regions d.task).child
-  child-ready some = (may.kin d.task (run_of out.0.0 d) out.0.1 some).1
-
-  pub child-unfinished : 0 < d.task → IsUnfinished (at j.regions (parent_of j.regions d.task)).children (at j.regions d.task).child
-  child-unfinished some = (may.kin d.task (run_of out.0.0 d) out.0.1 some).2
 
 -- at a body's end no task comes next
 pub none-next : {P : Type 0} (rest : Body) (gs : List Open) → is_at_end rest gs ≡ true → (child : List Use × Body) → next_task rest ≡ Some child → P

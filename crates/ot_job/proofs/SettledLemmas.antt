@@ -9,6 +9,8 @@ use Rattle.ot_model.specs.declared.stmt.Use.{Use}
 use Rattle.ot_task.specs.Regions.{Region, with_rest, with_child, new_region, with_created, stepped, stepped_from, executed, next_task, rest_at, children_at, stopped}
 use Rattle.ot_job.specs.Numbered.{at}
 use Rattle.ot_job.specs.Whole.{whole, wholes}
+use Rattle.ot_job.proofs.StepLemmas.{rest-here}
+use Rattle.ot_job.proofs.KeptLemmas.{at-updated}
 
 -- a step sees no piece that is out
 step-stopped : (taken : Bool) (g : ℕ) (b : Body) (r : Region) → r.rest ≡ b → stopped (stepped_from taken g b r) ≡ stepped_from taken g b (stopped r)
@@ -50,16 +52,6 @@ created-stopped rs i (Some child) f F h same =
     ∙ changed rs i (λ r. stopped (with (f r))) (λ r. with (F r)) (ap with same) ∙ sym (updated-updated (wholes rs) i F with))
     ∙ ap (λ m. updated (updated (wholes rs) i F) i with ++ new_region i m child.0 child.1 ∷ []) (children-same rs i f F (ap (λ r. length r.children) same) h)
 
-rest-after : (ws : List Region) (i : ℕ) (rest : Body) → i < length ws → rest_at (updated ws i (with_rest rest)) i ≡ rest
-rest-after [] i rest h = absurd (omega (arith, h))
-rest-after (w ∷ ws) zero rest h = refl
-rest-after (w ∷ ws) (suc i) rest h = rest-after ws i rest (omega (arith, h))
-
-pub rest-here : (rs : List Region) (i : ℕ) → rest_at rs i ≡ (at rs i).rest
-rest-here [] i = refl
-rest-here (r ∷ rs) zero = refl
-rest-here (r ∷ rs) (suc i) = rest-here rs i
-
 -- the piece is behind the place, and then the control statement is executed
 pub wholes-executed : (taken : Bool) (g i : ℕ) (rs : List Region) → i < length rs
     → wholes (updated (executed taken g i rs) i stopped) ≡ executed taken g i (updated (wholes rs) i (with_rest (at rs i).rest))
@@ -68,5 +60,5 @@ wholes-executed taken g i rs h =
     let F : Region → Region = λ w. stepped taken g (with_rest rest w) in
     let long : i < length (wholes rs) = omega (arith, h, length-map rs whole) in
     created-stopped rs i (next_task (rest_at rs i)) (stepped taken g) F h (step-stopped taken g rest (at rs i) refl)
-    ∙ ap (λ o. with_created i o (updated (wholes rs) i F)) (ap next_task (rest-here rs i ∙ sym (rest-after (wholes rs) i rest long)))
+    ∙ ap (λ o. with_created i o (updated (wholes rs) i F)) (ap next_task (rest-here rs i ∙ sym (rest-here (updated (wholes rs) i (with_rest rest)) i ∙ ap (λ (r : Region). r.rest) (at-updated (wholes rs) i (with_rest rest) long))))
     ∙ ap (with_created i (next_task (rest_at (updated (wholes rs) i (with_rest rest)) i))) (sym (updated-updated (wholes rs) i (with_rest rest) (stepped taken g)))

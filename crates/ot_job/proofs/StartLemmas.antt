@@ -1,9 +1,9 @@
 -- A job begins well, and where it has ended its cells and counts are the serial meaning of its program.
-use Rattle.std.proofs.Common.{◌≡◌, ℕ, zero, suc, ◌+◌, ◌*◌, ◌<◌, ◌≤◌, Bool, true, false, List, [], ◌∷◌, length, refl, sym, ap, subst, ◌∙◌, ◌⊎◌, inl, inr, arith, true≢false, ◌==◌}
+use Rattle.std.proofs.Common.{◌≡◌, ℕ, zero, suc, ◌+◌, ◌*◌, ◌<◌, ◌≤◌, Bool, true, false, List, [], ◌∷◌, length, refl, sym, ap, subst, ◌∙◌, arith, true≢false, ◌==◌}
 use Rattle.std.specs.Prelude.{Option, option_map, is_some, ◌||◌, Some, None, slice_get, if◌then◌else◌, IsPermutation, Contains, All}
-use Rattle.std.proofs.lemmas.Bool.{cases_eq}
 use Rattle.std.proofs.lemmas.List.Elements.{All-nil}
 use Rattle.std.proofs.lemmas.List.Sorted.{IsPermutation-refl, IsPermutation-sym, IsPermutation-trans, Contains-permutation}
+use Rattle.std.proofs.lemmas.Bool.{false_from_ne_true}
 use Rattle.ot_model.specs.Tree.{Body, End, Next}
 use Rattle.ot_model.specs.Counts.{size}
 use Rattle.ot_task.specs.Weighing.{weight_of}
@@ -40,12 +40,11 @@ use Rattle.ot_job.specs.States.{all_ended, any_out, state_in}
 use Rattle.ot_job.specs.declared.state.State.TheVariants.{Working, Failing, Ended, Failed}
 use Rattle.ot_job.specs.Taken.{Came, IsOut}
 use Rattle.ot_job.proofs.Kept.{touch-all}
-use Rattle.ot_job.proofs.KeptLemmas.{at-updated, at-updated-other}
 use Rattle.ot_job.proofs.FreeLemmas.{at-whole}
 use Rattle.ot_job.proofs.OpeningLemmas.{none-open, open-none, none-combined}
-use Rattle.ot_job.proofs.SettleLemmas.{run_of}
+use Rattle.ot_job.proofs.SettleLemmas.{run_of, runs-within}
 use Rattle.ot_job.proofs.WellLemmas.{out-contained}
-use Rattle.ot_job.proofs.MovesLemmas.{one-less}
+use Rattle.ot_job.proofs.MovesLemmas.{one-less, stopped-others}
 
 -- ---- the root alone
 
@@ -197,11 +196,6 @@ ended-meaning j w working ended =
 
 -- ---- a piece comes back without results
 
-pub runs-within : (rs : List Region) (i : ℕ) (run : Run) → (at rs i).running ≡ Some run → i < length rs
-runs-within [] i run is = cc
-runs-within (r ∷ rs) zero run is = omega arith
-runs-within (r ∷ rs) (suc i) run is = omega (arith, runs-within rs i run is)
-
 pub fails-out : (j : Live) (d : Came) → IsWell j → (out : IsOut j.regions d) → Contains j.owned.out (loan_of out.0.0 d.lent)
 fails-out j d w out =
     Contains-permutation (loans_out j.regions) j.owned.out (loan_of out.0.0 d.lent) (IsPermutation-sym j.owned.out (loans_out j.regions) w.rights)
@@ -233,13 +227,7 @@ fails-well j d owned w out ended groups = record {
 
     -- who has a piece out still has it, and nothing else of it changed
     still : (k : ℕ) (run : Run) → (at (updated j.regions d.task stopped) k).running ≡ Some run → at (updated j.regions d.task stopped) k ≡ at j.regions k
-    still k run is = pick (cases_eq k d.task)
-      where
-        pick : (k ≡ d.task) ⊎ (k ≡ d.task → ⊥) → at (updated j.regions d.task stopped) k ≡ at j.regions k
-        pick (inl e) =
-            let none : None ≡ Some run = sym (ap (λ (r : Region). r.running) (ap (at (updated j.regions d.task stopped)) e ∙ at-updated j.regions d.task stopped known)) ∙ is in
-            cc
-        pick (inr e) = at-updated-other j.regions d.task k stopped e
+    still k run is = (stopped-others j.regions d.task k run is).1
 
     was : (k : ℕ) (run : Run) → (at (updated j.regions d.task stopped) k).running ≡ Some run → (at j.regions k).running ≡ Some run
     was k run is = sym (ap (λ (r : Region). r.running) (still k run is)) ∙ is
@@ -281,10 +269,6 @@ one-out (r ∷ rs) h = by r.running refl (λ g. one-out rs g)
 
 -- no piece of an ended job is out
 pub ended-none-out : (j : Live) → IsWell j → j.failing ≡ false → all_ended j.regions ≡ true → any_out j.regions ≡ false
-ended-none-out j w working ended = by (any_out j.regions) refl
-  where
-    by : (b : Bool) → any_out j.regions ≡ b → b ≡ false
-    by false e = refl
-    by true e =
-        let o = one-out j.regions e in
-        absurd (true≢false (sym (each-ended j.regions ended o.0) ∙ ((w.course working).runs o.0 o.1 o.2).alive))
+ended-none-out j w working ended = false_from_ne_true (any_out j.regions) (λ e.
+    let o = one-out j.regions e in
+    true≢false (sym (each-ended j.regions ended o.0) ∙ ((w.course working).runs o.0 o.1 o.2).alive))

@@ -25,7 +25,7 @@ use Rattle.ot_job.specs.Sound.{may_at, IsBegun, LetsAll, IsPlaced, IsSound}
 use Rattle.ot_job.proofs.KeptLemmas.{todo-append, todo-next}
 use Rattle.ot_job.proofs.SoundLemmas.{at-past}
 use Rattle.ot_job.proofs.GroupLemmas.{kid-none}
-use Rattle.ot_job.proofs.ChangedLemmas.{sound-changed}
+use Rattle.ot_job.proofs.ChangedLemmas.{sound-changed, placed-as}
 use Rattle.ot_job.proofs.FreeLemmas.{fine-innermost, named-both}
 
 fine-piece : (own : Declared) (kids : Kids) (piece rest : Body) (gs : List Open) → AreAssigns piece → IsFineAt own kids (append piece rest) gs → IsFineAt own kids rest gs
@@ -54,21 +54,13 @@ module _ (r : Region) (p : IsPlaced r) (piece rest : Body) (was : r.rest ≡ app
   touches-all = subst (EachTouch (λ u. allows r.own u ≡ true)) (ap (λ b. todo b r.groups) was ∙ todo-append piece rest r.groups) p.inside
 
   pub placed-piece : IsPlaced (with_rest rest r)
-  placed-piece = record {
-    fine = fine-piece r.own (unawaited r.waiting r.children) piece rest r.groups only (subst (λ b. IsFineAt r.own (unawaited r.waiting r.children) b r.groups) was p.fine);
-    inside = touch-back (λ u. allows r.own u ≡ true) piece (todo rest r.groups) touches-all;
-    tasks = task-back LetsAll piece (todo rest r.groups) (subst (EachTask LetsAll) (ap (λ b. todo b r.groups) was ∙ todo-append piece rest r.groups) p.tasks);
-    awaits = λ uses own. awaits-piece (unawaited r.waiting r.children) piece rest r.groups only (subst (λ b. AwaitsAll (unawaited r.waiting r.children) b r.groups) was (p.awaits uses own));
-    within = p.within;
-    apart = p.apart;
-    over = λ e. absurd (true≢false (sym e ∙ alive));
-    shut = p.shut;
-    once = p.once;
-    writes = p.writes;
-    grouped = p.grouped;
-    reduced = p.reduced;
-    exclusive = p.exclusive;
-  }
+  placed-piece =
+      placed-as r p rest r.waiting r.ended
+      (fine-piece r.own (unawaited r.waiting r.children) piece rest r.groups only (subst (λ b. IsFineAt r.own (unawaited r.waiting r.children) b r.groups) was p.fine))
+      (touch-back (λ u. allows r.own u ≡ true) piece (todo rest r.groups) touches-all)
+      (task-back LetsAll piece (todo rest r.groups) (subst (EachTask LetsAll) (ap (λ b. todo b r.groups) was ∙ todo-append piece rest r.groups) p.tasks))
+      (λ uses own. awaits-piece (unawaited r.waiting r.children) piece rest r.groups only (subst (λ b. AwaitsAll (unawaited r.waiting r.children) b r.groups) was (p.awaits uses own)))
+      (λ e. absurd (true≢false (sym e ∙ alive))) p.shut
 
   -- it touches only what the body may, and nothing that a child uses otherwise
   pub piece-own : EachTouch (λ u. allows r.own u ≡ true) piece

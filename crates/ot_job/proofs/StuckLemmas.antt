@@ -1,5 +1,6 @@
 -- A job that hasn't ended, and of which no piece is out, has a task that may be claimed.
-use Rattle.std.proofs.Common.{◌≡◌, ℕ, zero, suc, ◌+◌, ◌<◌, ◌≤◌, Bool, true, false, List, [], ◌∷◌, length, refl, sym, ap, subst, ◌∙◌, ◌⊎◌, inl, inr, arith, true≢false}
+use Rattle.std.proofs.Common.{◌≡◌, ℕ, zero, suc, ◌+◌, ◌<◌, ◌≤◌, true, false, List, [], ◌∷◌, length, refl, sym, ap, subst, ◌∙◌, ◌⊎◌, inl, inr, arith, true≢false}
+use Rattle.std.proofs.lemmas.Bool.{cases_Bool}
 use Rattle.std.specs.Prelude.{Some, slice_get}
 use Rattle.ot_depend.specs.Siblings.{Sibling, IsReady}
 use Rattle.ot_task.specs.Regions.{Region}
@@ -15,13 +16,9 @@ pub record Least (kids : List Sibling) (k : ℕ) : Type 0 where
   pub unfinished : entry.finished ≡ false
   pub first : (l : ℕ) (t : Sibling) → l < k → slice_get kids l ≡ Some t → t.finished ≡ true
 
-bool_cases : (b : Bool) → (b ≡ true) ⊎ (b ≡ false)
-bool_cases true = inl refl
-bool_cases false = inr refl
-
 least : (kids : List Sibling) → AllFinished kids ⊎ ((k : ℕ) × Least kids k)
 least [] = inl (λ k s h. cc)
-least (x ∷ kids) = pick (bool_cases x.finished) (least kids)
+least (x ∷ kids) = pick (cases_Bool x.finished) (least kids)
   where
     pick : (x.finished ≡ true) ⊎ (x.finished ≡ false) → AllFinished kids ⊎ ((k : ℕ) × Least kids k) → AllFinished (x ∷ kids) ⊎ ((k : ℕ) × Least (x ∷ kids) k)
     pick (inr e) more = inr (0, record { entry = x; there = refl; unfinished = e; first = λ l t below h. absurd (omega (arith, below)) })

@@ -21,14 +21,7 @@ use Rattle.ot_job.specs.Well.{IsOnCourse}
 use Rattle.ot_job.proofs.WholeLemmas.{whole-again}
 use Rattle.ot_job.proofs.CoverLemmas.{piece-can, piece-reads, lent-fresh}
 use Rattle.ot_job.proofs.WellLemmas.{leading-assigns, named-awake}
-
-front : (lens : List ℕ) (a b : Body) → NamedIn lens (append a b) → NamedIn lens a
-front lens End b n = tt
-front lens (Next x a) b n = (n.0, front lens a b n.1)
-
-back : (lens : List ℕ) (a b : Body) → NamedIn lens (append a b) → NamedIn lens b
-back lens End b n = n
-back lens (Next x a) b n = back lens a b n.1
+use Rattle.ot_job.proofs.FreeLemmas.{named-half, named-back}
 
 module _ (j : Live) (o : IsOnCourse j) (i : ℕ) (lent : List LentCell) (are : AreHeld (at j.regions i) (uses_of lent)) (cells : List (List ℕ)) (inputs : lent ≡ lent_from cells (uses_of lent)) where
   abbrev r : Region
@@ -53,8 +46,8 @@ module _ (j : Live) (o : IsOnCourse j) (i : ℕ) (lent : List LentCell) (are : A
   pub claim-can : CanRun (leading ahead) (test_of (behind ahead)) lent
   claim-can = record {
     assignable = subst (CanAssign (leading ahead)) (sym inputs)
-        (piece-can (lengths j.cells) r.own cells (uses_of lent) (leading ahead) (test_touches (test_of (behind ahead))) (leading-assigns ahead) (front (lengths j.cells) (leading ahead) (behind ahead) named) are);
+        (piece-can (lengths j.cells) r.own cells (uses_of lent) (leading ahead) (test_touches (test_of (behind ahead))) (leading-assigns ahead) (named-half (lengths j.cells) (leading ahead) (behind ahead) named) are);
     readable = subst (λ (l : List LentCell). IfSome (test_of (behind ahead)) (λ e. HasAll (value_at l) e)) (sym inputs)
-        (readable (behind ahead) (back (lengths j.cells) (leading ahead) (behind ahead) named) are);
+        (readable (behind ahead) (named-back (lengths j.cells) (leading ahead) (behind ahead) named) are);
     fresh = λ c. subst (λ (l : List LentCell). value_at l c ≡ first_at l c) (sym inputs) (lent-fresh cells (uses_of lent) c);
   }

@@ -14,8 +14,8 @@ use Rattle.ot_task.specs.Pieces.{leading, behind, passed, begun}
 use Rattle.ot_job.specs.Settling.{closed, settled}
 use Rattle.ot_task.specs.Standing.{is_at_end}
 use Rattle.ot_task.specs.Weighing.{weight, weight_behind, weight_left, region_weight, weight_of}
-use Rattle.ot_job.proofs.SettledLemmas.{front, rest-here}
-use Rattle.ot_job.proofs.MovesLemmas.{tell, tell-field, tell-long}
+use Rattle.ot_job.proofs.SettledLemmas.{front}
+use Rattle.ot_job.proofs.StepLemmas.{tell, tell-field, tell-long, rest-here}
 
 weight-append : (a b : Body) → weight (append a b) ≡ weight a + weight b
 weight-append End b = omega arith

@@ -47,10 +47,12 @@ use Rattle.ot_job.proofs.ChangedLemmas.{begun-changed}
 use Rattle.ot_job.proofs.WholeLemmas.{loan, wholes-begun, one-more, loans-each}
 use Rattle.ot_job.proofs.OpeningLemmas.{open-passed, open-grown}
 use Rattle.ot_job.proofs.AwakeLemmas.{sound-awake}
-use Rattle.ot_job.proofs.FreeLemmas.{pieces_apart, at-whole, named-front, named-back}
+use Rattle.ot_job.proofs.FreeLemmas.{at-whole, named-front, named-back}
 use Rattle.ot_job.proofs.EnteredLemmas.{each-begun}
 use Rattle.ot_job.proofs.HoldingLemmas.{course-holds, course-apart}
 use Rattle.ot_job.proofs.PickLemmas.{ready-from}
+use Rattle.ot_job.proofs.OpenLemmas.{pieces_apart}
+use Rattle.ot_job.proofs.EachLemmas.{at-each, field-at}
 use Rattle.ot_job.specs.Well.{MaySettle}
 use Rattle.ot_task.proofs.HeldLemmas.{AllIn, all-append, reads-in, held-there}
 
@@ -81,17 +83,17 @@ todo-passed (Next x b) gs = refl
 idle-whole : (r : Region) → r.running ≡ None → whole r ≡ record r { running = None }
 idle-whole r idle = ap (λ o. record r { rest = append (assigns_out o) r.rest; running = None }) idle
 
+pub none-running : (o : Option Run) → is_some o ≡ false → o ≡ None
+none-running None e = refl
+none-running (Some x) e = absurd (true≢false e)
+
 -- a claimable task has no piece out
 pub claimable-idle : (rs : List Region) (i : ℕ) → is_claimable rs i ≡ true → (at rs i).running ≡ None
 claimable-idle rs i can =
-    by (at rs i).running
+    none-running (at rs i).running
     (not_true (is_some (at rs i).running)
     (and_right (not (at rs i).ended) (not (is_some (at rs i).running))
     (and_left (not (at rs i).ended && not (is_some (at rs i).running)) (((i == 0) || is_ready (at rs (at rs i).parent).children (at rs i).child) && is_let_go (at rs i)) can)))
-  where
-    by : (o : Option Run) → is_some o ≡ false → o ≡ None
-    by None e = refl
-    by (Some x) e = absurd (true≢false e)
 
 -- and neither a wait nor a group's end holds it
 pub claimable-goes : (rs : List Region) (i : ℕ) → is_claimable rs i ≡ true → is_let_go (at rs i) ≡ true
@@ -118,11 +120,7 @@ module _ (lens : List ℕ) (rs : List Region) (s : IsSound (wholes rs)) (named :
   second-half = and_right (not r.ended && not (is_some r.running)) (((i == 0) || is_ready (at rs r.parent).children r.child) && is_let_go r) can
 
   pub idle : r.running ≡ None
-  idle = by r.running (not_true (is_some r.running) (and_right (not r.ended) (not (is_some r.running)) first-half))
-    where
-      by : (o : Option Run) → is_some o ≡ false → o ≡ None
-      by None e = refl
-      by (Some x) e = absurd (true≢false e)
+  idle = claimable-idle rs i can
 
   awake-alive : r.ended ≡ false
   awake-alive = not_true r.ended (and_left (not r.ended) (not (is_some r.running)) first-half)
@@ -140,32 +138,20 @@ module _ (lens : List ℕ) (rs : List Region) (s : IsSound (wholes rs)) (named :
   sound-now = subst IsSound (sym wholes-now) (sound-awake (wholes rs) i hw s let-go)
 
   todo-now : (k : ℕ) → todo_at (wholes rs') k ≡ todo_at (wholes rs) k
-  todo-now k = ap (λ l. todo_at l k) wholes-now ∙ pick (cases_eq k i)
-    where
-      pick : (k ≡ i) ⊎ (k ≡ i → ⊥) → todo_at (updated (wholes rs) i awake) k ≡ todo_at (wholes rs) k
-      pick (inl e) =
-          ap (λ n. todo_at (updated (wholes rs) i awake) n) e ∙ ap (λ (x : Region). todo x.rest x.groups) (at-updated (wholes rs) i awake hw)
-          ∙ todo-passed (at (wholes rs) i).rest (at (wholes rs) i).groups ∙ ap (todo_at (wholes rs)) (sym e)
-      pick (inr e) = ap (λ (x : Region). todo x.rest x.groups) (at-updated-other (wholes rs) i k awake e)
+  todo-now k =
+      ap (λ l. todo_at l k) wholes-now
+      ∙ field-at (λ (x : Region). todo x.rest x.groups) awake (wholes rs) i (todo-passed (at (wholes rs) i).rest (at (wholes rs) i).groups) k
 
   pub named-now : (k : ℕ) → NamedIn lens (todo_at (wholes rs') k)
   named-now k = subst (NamedIn lens) (sym (todo-now k)) (named k)
 
   pub well-now : (k : ℕ) (run : Run) → (at rs' k).running ≡ Some run → RunsWell (at rs' k) run
-  well-now k run is = pick (cases_eq k i)
+  well-now = at-each (λ x. (run : Run) → x.running ≡ Some run → RunsWell x run) rs i (begun worker lease) runs at-i
     where
       at-i : (run : Run) → (begun worker lease r).running ≡ Some run → RunsWell (begun worker lease r) run
       at-i run e =
           subst (RunsWell (begun worker lease r)) (same_Some (record { worker = worker; assigns = leading (awake r).rest; lease = lease }) run e)
           (record { modes = are; ordered = ordered; assigns = leading-assigns (awake r).rest; stops = leading-behind (awake r).rest; calm = refl; alive = awake-alive })
-
-      pick : (k ≡ i) ⊎ (k ≡ i → ⊥) → RunsWell (at rs' k) run
-      pick (inl e) =
-          let here : at rs' k ≡ begun worker lease r = ap (at rs') e ∙ at-updated rs i (begun worker lease) h in
-          subst (λ x. RunsWell x run) (sym here) (at-i run (sym (ap (λ (x : Region). x.running) here) ∙ is))
-      pick (inr e) =
-          let other = at-updated-other rs i k (begun worker lease) e in
-          subst (λ x. RunsWell x run) (sym other) (runs k run (sym (ap (λ (x : Region). x.running) other) ∙ is))
 
   begun-here : IsBegun (wholes rs) i
   begun-here pos =
@@ -197,7 +183,7 @@ module _ (lens : List ℕ) (rs : List Region) (s : IsSound (wholes rs)) (named :
   apart-from : (k : ℕ) (run : Run) → (at rs k).running ≡ Some run → Conflict run.lease.uses lease.uses → ⊥
   apart-from k run is =
       let differs : k ≢ i = λ e. (let none : None ≡ Some run = sym idle ∙ ap (λ n. (at rs n).running) (sym e) ∙ is in cc) in
-      pieces_apart rs' sound-now lens (λ j. named-front lens (at (wholes rs') j).rest (at (wholes rs') j).groups (named-now j)) well-now started-now k i run (record { worker = worker; assigns = leading (awake r).rest; lease = lease })
+      pieces_apart rs' sound-now lens named-now well-now started-now k i run (record { worker = worker; assigns = leading (awake r).rest; lease = lease })
       (ap (λ (x : Region). x.running) (at-updated-other rs i k (begun worker lease) differs) ∙ is)
       (ap (λ (x : Region). x.running) (at-updated rs i (begun worker lease) h)) differs
 
@@ -225,15 +211,10 @@ claim-free j w o i h can d are ordered =
 inputs-begun : (before after : List (List ℕ)) (rs : List Region) (i worker : ℕ) (lease : Lease) → i < length rs → after ≡ before → lease ≡ lease_of (lent_from before lease.uses)
     → ((k : ℕ) (run : Run) → (at rs k).running ≡ Some run → run.lease ≡ lease_of (lent_from before run.lease.uses))
     → (k : ℕ) (run : Run) → (at (updated rs i (begun worker lease)) k).running ≡ Some run → run.lease ≡ lease_of (lent_from after run.lease.uses)
-inputs-begun before after rs i worker lease h same fresh old k run is = subst (λ cells. run.lease ≡ lease_of (lent_from cells run.lease.uses)) (sym same) (pick (cases_eq k i))
-  where
-    pick : (k ≡ i) ⊎ (k ≡ i → ⊥) → run.lease ≡ lease_of (lent_from before run.lease.uses)
-    pick (inl e) =
-        let same : record { worker = worker; assigns = leading (awake (at rs i)).rest; lease = lease } ≡ run =
-        same_Some (record { worker = worker; assigns = leading (awake (at rs i)).rest; lease = lease }) run
-        (sym (ap (λ (x : Region). x.running) (ap (at (updated rs i (begun worker lease))) e ∙ at-updated rs i (begun worker lease) h)) ∙ is) in
-        subst (λ (r : Run). r.lease ≡ lease_of (lent_from before r.lease.uses)) same fresh
-    pick (inr e) = old k run (sym (ap (λ (x : Region). x.running) (at-updated-other rs i k (begun worker lease) e)) ∙ is)
+inputs-begun before after rs i worker lease h same fresh old k run is =
+    subst (λ cells. run.lease ≡ lease_of (lent_from cells run.lease.uses)) (sym same)
+    (at-each (λ x. (run : Run) → x.running ≡ Some run → run.lease ≡ lease_of (lent_from before run.lease.uses)) rs i (begun worker lease) old
+    (λ run is. subst (λ (r : Run). r.lease ≡ lease_of (lent_from before r.lease.uses)) (same_Some (record { worker = worker; assigns = leading (awake (at rs i)).rest; lease = lease }) run is) fresh) k run is)
 
 module _ (j : Live) (w : IsWell j) (working : j.failing ≡ false) (i : ℕ) (h : i < length j.regions) (can : is_claimable j.regions i ≡ true) (worker : ℕ) (lease : Lease)
     (are : AreHeld (at j.regions i) lease.uses) (ordered : AreInOrder lease.uses) (fresh : lease ≡ lease_of (lent_from (worths j.owned j.cells) lease.uses))

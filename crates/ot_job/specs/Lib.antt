@@ -20,6 +20,7 @@ pub mod Awaiting
 pub mod Sound
 pub mod Running
 pub mod Opened
+pub mod Calls
 pub mod Well
 pub mod Rights
 pub mod Listed

@@ -8,7 +8,7 @@ use crate::weigh::weigh_tasks;
 use ot_check::{JobSpec, Outcome};
 use ot_model::{Cell, Cells, Counts, Look};
 use ot_owner::Owners;
-use ot_task::{Prepared, Running};
+use ot_task::{Prepared, Running, prepare};
 use std::alloc::{AllocError, Global};
 use std::marker::Model;
 
@@ -159,15 +159,16 @@ impl Job {
         let Some(task) = self.pick(pick) else {
             return Ok(None);
         };
+        let picked = self.tasks.get(task);
         let Prepared {
             assigns,
             shared,
             condition,
             decl,
             room,
-        } = self.tasks.prepare(alloc, task)?;
+        } = prepare(alloc, picked)?;
         let slip = self.owners.prepare(alloc, decl, worker)?;
-        let passed = self.tasks.get(task).group_passed();
+        let passed = picked.group_passed();
         let lent = lend(&mut self.owners, &mut self.cells, passed, slip);
         self.tasks
             .begin(task, Running::new(worker, shared, room, &lent));
@@ -191,12 +192,12 @@ impl Job {
         }
         let task = done.task() as usize;
         let assigns = done.assigns();
-        let worker = self.tasks.get(task).worker();
-        let control = self.tasks.get(task).units_next();
-        let created = self.tasks.get(task).tasks_next();
+        let running = self.tasks.get(task);
+        let worker = running.worker();
+        let control = running.units_next();
+        let created = running.tasks_next();
         let number = self.counts.units;
-        let next = self.tasks.get(task).group_next();
-        let Ok(room) = room_for(&mut self.owners, alloc, next) else {
+        let Ok(room) = room_for(&mut self.owners, alloc, running.group_next()) else {
             return Err((done, Refused::Memory));
         };
         if self

@@ -1,7 +1,6 @@
 //! The list of the claimable tasks, in order of their numbers.
-ghost use Rattle.std.specs.Prelude.{◌≡◌, ◌<◌, ◌≤◌, ℕ, true, All, length, slice_index_or};
-ghost use Rattle.ot_depend.specs.Kept.{has};
-ghost use Rattle.ot_job.specs.Listing.{IsListBelow, TellsOf};
+ghost use Rattle.std.specs.Prelude.{◌<◌, All, length};
+ghost use Rattle.ot_job.specs.Calls.{AreRefreshed, IsListFor, IsRefreshed};
 
 use crate::listed::Listed;
 use crate::pick::is_claimable;
@@ -10,12 +9,8 @@ use ot_task::Task;
 /// Looks whether a task is claimable now. It takes no memory.
 pub fn refresh(list: &mut Listed, tasks: &[Task], i: usize)
     requires known { i < length tasks.now }
-    requires ordered { IsListBelow (length tasks.now) list.old.listed }
-    requires room { length tasks.now ≤ list.old.room }
-    ensures ordered { IsListBelow (length tasks.now) list.new.listed }
-    ensures told { TellsOf tasks.now list.new.listed i }
-    ensures others { (k : ℕ) → TellsOf tasks.now list.old.listed k → TellsOf tasks.now list.new.listed k }
-    ensures room { list.old.room ≤ list.new.room }
+    requires list { IsListFor (length tasks.now) list.old }
+    ensures { IsRefreshed tasks.now list.old list.new i }
 {
     if is_claimable(tasks, i) {
         list.insert(i);
@@ -29,12 +24,8 @@ pub fn refresh(list: &mut Listed, tasks: &[Task], i: usize)
 pub fn refresh_children(list: &mut Listed, tasks: &[Task], numbers: &[usize], children: &[usize])
     requires children { All (λ c. c < length numbers.now) children.now }
     requires numbers { All (λ i. i < length tasks.now) numbers.now }
-    requires ordered { IsListBelow (length tasks.now) list.old.listed }
-    requires room { length tasks.now ≤ list.old.room }
-    ensures ordered { IsListBelow (length tasks.now) list.new.listed }
-    ensures told { (c : ℕ) → has c children.now ≡ true → TellsOf tasks.now list.new.listed (slice_index_or numbers.now c 0) }
-    ensures others { (k : ℕ) → TellsOf tasks.now list.old.listed k → TellsOf tasks.now list.new.listed k }
-    ensures room { list.old.room ≤ list.new.room }
+    requires list { IsListFor (length tasks.now) list.old }
+    ensures { AreRefreshed tasks.now list.old list.new numbers.now children.now }
 {
     for child in children {
         refresh(list, tasks, numbers[*child]);

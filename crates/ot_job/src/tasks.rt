@@ -2,7 +2,7 @@ use crate::arena::execute;
 use crate::listed::Listed;
 use crate::listing::{refresh, refresh_children};
 use ot_parts::Part;
-use ot_task::{Prepared, Running, Task, prepare};
+use ot_task::{Running, Task};
 use std::alloc::{AllocError, Global};
 use std::marker::Model;
 use std::sync::Arc;
@@ -39,23 +39,19 @@ impl Model for Tasks {
 }
 
 impl Tasks {
-    ghost use Rattle.std.specs.Prelude.{◌≡◌, ◌<◌, ℕ, List, [], ◌∷◌, None, true, false, length, is_some, slice_index_or, option_map, All, IsSome, OnOk, OnErr, IfOk};
+    ghost use Rattle.std.specs.Prelude.{◌≡◌, ◌<◌, [], ◌∷◌, None, false, length, slice_index_or, OnOk, OnErr, IfOk};
     ghost use Rattle.std.specs.Arc.{arc_value};
-    ghost use Rattle.ot_model.specs.Cells.{cell_of, lengths, updated};
-    ghost use Rattle.ot_model.specs.Names.{NamedIn};
-    ghost use Rattle.ot_model.specs.Uses.{AreInOrder};
-    ghost use Rattle.ot_task.specs.Modes.{AreHeld};
-    ghost use Rattle.ot_model.specs.View.{expr_of};
+    ghost use Rattle.ot_model.specs.Cells.{updated};
     ghost use Rattle.ot_parts.specs.Parts.{parts_of};
-    ghost use Rattle.ot_depend.specs.Siblings.{IsReady, IsUnfinished};
     ghost use Rattle.ot_job.specs.Numbered.{at, parent_of};
-    ghost use Rattle.ot_task.specs.Pieces.{leading, behind, test_of, awake, begun};
+    ghost use Rattle.ot_task.specs.Pieces.{leading, awake, begun};
     ghost use Rattle.ot_task.specs.Regions.{executed};
-    ghost use Rattle.ot_job.specs.Settling.{CreatesInOrder, closed, settled};
+    ghost use Rattle.ot_job.specs.Settling.{CreatesInOrder, closed, moved_on, settled};
     ghost use Rattle.ot_task.specs.Regions.{over, stopped, tasks_next, without};
     ghost use Rattle.ot_job.specs.Claiming.{claimable_of, picked};
     ghost use Rattle.ot_task.specs.Regions.{root_region};
     ghost use Rattle.ot_job.specs.States.{any_out, all_ended};
+    ghost use Rattle.ot_job.specs.Calls.{HasPiece, MayEnd, MayFinish};
 
     /// The root task alone, at the beginning of the program's body.
     pub fn root(alloc: Global, body: Arc<Vec<Part>>) -> Result<Tasks, AllocError>
@@ -124,21 +120,6 @@ impl Tasks {
         self.claimable.at(pick % count)
     }
 
-    /// What the next piece of a task is made of.
-    pub fn prepare(&self, alloc: Global, i: usize) -> Result<Prepared, AllocError>
-        requires known { i < length self.now }
-        requires named { (lens : List ℕ) × NamedIn lens (awake (at self.now i)).rest }
-        ensures assigns { IfOk result (λ p. p.assigns ≡ leading (awake (at self.now i)).rest) }
-        ensures test { IfOk result (λ p. option_map expr_of p.condition ≡ test_of (behind (awake (at self.now i)).rest)) }
-        ensures held { IfOk result (λ p. AreHeld (at self.now i) p.decl) }
-        ensures ordered { IfOk result (λ p. AreInOrder p.decl) }
-        ensures shared { IfOk result (λ p. p.shared ≡ p.assigns) }
-        ensures there { (cells : List (List ℕ)) → NamedIn (lengths cells) (awake (at self.now i)).rest → IfOk result (λ p. All (λ u. IsSome (cell_of cells u.cell)) p.decl) }
-        ensures room { IfOk result (λ p. p.room ≡ p.decl) }
-    {
-        prepare(alloc, &self.tasks[i])
-    }
-
     /// A task goes on with a piece that is out from now on, of which it keeps this. It takes no memory.
     pub fn begin(&mut self, i: usize, running: Running)
         requires known { i < length self.old }
@@ -153,8 +134,7 @@ impl Tasks {
 
     /// The piece of a task is not out any more. It takes no memory.
     pub fn stop(&mut self, i: usize)
-        requires known { i < length self.old }
-        requires out { is_some (at self.old i).running ≡ true }
+        requires { HasPiece self.old i }
         ensures { self.new ≡ updated self.old i stopped }
     {
         self.tasks[i].stop();
@@ -171,35 +151,43 @@ impl Tasks {
         taken: bool,
         group: u32,
     ) -> Result<(), AllocError>
-        requires known { i < length self.old }
-        requires out { is_some (at self.old i).running ≡ true }
-        requires alive { (at self.old i).ended ≡ false }
-        requires parent { 0 < i → parent_of self.old i < length self.old }
-        requires ready { 0 < i → IsReady (at self.old (parent_of self.old i)).children (at self.old i).child }
-        requires unfinished { 0 < i → IsUnfinished (at self.old (parent_of self.old i)).children (at self.old i).child }
+        requires { MayEnd self.old i }
         ensures ordered { OnOk result (CreatesInOrder (at self.old i)) }
         ensures settled { OnOk result (self.new ≡ settled taken group i self.old) }
         ensures refused { OnErr result (self.new ≡ self.old) }
     {
-        if self.tasks[i].is_at_end() {
-            self.close(i);
-        } else if self.tasks[i].tasks_next() == 0 {
-            self.advance(alloc, i, taken, group)?;
-        } else {
-            self.create(alloc, i, taken, group)?;
-        }
+        self.move_on(alloc, i, taken, group)?;
         self.stop(i);
         Ok(())
     }
 
+    /// A task ends its body where it has reached its end, and else executes the control statement that
+    /// comes next. Where memory is refused, nothing changes.
+    fn move_on(
+        &mut self,
+        alloc: Global,
+        i: usize,
+        taken: bool,
+        group: u32,
+    ) -> Result<(), AllocError>
+        requires { MayEnd self.old i }
+        ensures ordered { OnOk result (CreatesInOrder (at self.old i)) }
+        ensures moved { OnOk result (self.new ≡ moved_on taken group i self.old) }
+        ensures refused { OnErr result (self.new ≡ self.old) }
+    {
+        if self.tasks[i].is_at_end() {
+            self.close(i);
+            Ok(())
+        } else if self.tasks[i].tasks_next() == 0 {
+            self.advance(alloc, i, taken, group)
+        } else {
+            self.create(alloc, i, taken, group)
+        }
+    }
+
     /// A task ends its body. It takes no memory.
     fn close(&mut self, i: usize)
-        requires known { i < length self.old }
-        requires out { is_some (at self.old i).running ≡ true }
-        requires alive { (at self.old i).ended ≡ false }
-        requires parent { 0 < i → parent_of self.old i < length self.old }
-        requires ready { 0 < i → IsReady (at self.old (parent_of self.old i)).children (at self.old i).child }
-        requires unfinished { 0 < i → IsUnfinished (at self.old (parent_of self.old i)).children (at self.old i).child }
+        requires { MayEnd self.old i }
         ensures { self.new ≡ closed i self.old }
     {
         if i > 0 {
@@ -211,9 +199,7 @@ impl Tasks {
     /// Tells the parent that a child has finished. It takes no memory.
     fn tell_parent(&mut self, i: usize)
         requires known { i < length self.old }
-        requires parent { parent_of self.old i < length self.old }
-        requires ready { IsReady (at self.old (parent_of self.old i)).children (at self.old i).child }
-        requires unfinished { IsUnfinished (at self.old (parent_of self.old i)).children (at self.old i).child }
+        requires finish { MayFinish self.old i }
         ensures { self.new ≡ updated self.old (parent_of self.old i) (without (at self.old i).child) }
     {
         let (parent, child) = self.tasks[i].place_among();
@@ -229,8 +215,7 @@ impl Tasks {
 
     /// A task has ended its body. It takes no memory.
     fn end(&mut self, i: usize)
-        requires known { i < length self.old }
-        requires out { is_some (at self.old i).running ≡ true }
+        requires piece { HasPiece self.old i }
         requires alive { (at self.old i).ended ≡ false }
         ensures { self.new ≡ updated self.old i over }
     {
@@ -247,8 +232,7 @@ impl Tasks {
         taken: bool,
         group: u32,
     ) -> Result<(), AllocError>
-        requires known { i < length self.old }
-        requires out { is_some (at self.old i).running ≡ true }
+        requires piece { HasPiece self.old i }
         requires none { tasks_next (at self.old i).rest ≡ 0 }
         ensures ordered { OnOk result (CreatesInOrder (at self.old i)) }
         ensures executed { OnOk result (self.new ≡ executed taken group i self.old) }
@@ -259,8 +243,7 @@ impl Tasks {
 
     /// A task creates the task that comes next. Where memory is refused, nothing changes.
     fn create(&mut self, alloc: Global, i: usize, taken: bool, group: u32) -> Result<(), AllocError>
-        requires known { i < length self.old }
-        requires out { is_some (at self.old i).running ≡ true }
+        requires piece { HasPiece self.old i }
         requires some { tasks_next (at self.old i).rest ≡ 0 → ⊥ }
         ensures ordered { OnOk result (CreatesInOrder (at self.old i)) }
         ensures executed { OnOk result (self.new ≡ executed taken group i self.old) }

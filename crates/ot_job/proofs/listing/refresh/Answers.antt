@@ -1,33 +1,33 @@
-use Rattle.std.proofs.Common.{◌∙◌, sym, subst, inl, inr, arith, length}
+use Rattle.std.proofs.Common.{◌≢◌, ◌≡◌, ◌<◌, ◌∙◌, ℕ, List, sym, subst, inl, inr, arith, length}
 use Rattle.std.proofs.lemmas.Bool.{cases_eq}
-use Rattle.ot_job.specs.Listing.{TellsOf}
+use Rattle.ot_depend.specs.Kept.{has}
+use Rattle.ot_task.specs.Regions.{Region}
+use Rattle.ot_job.specs.Calls.{IsListFor, IsRefreshed}
+use Rattle.ot_job.specs.Listed.{Numbers}
+use Rattle.ot_job.specs.Listing.{IsListBelow, TellsOf}
 use Rattle.ot_job.proofs.ListingLemmas.{below-but}
 use Rattle.ot_job.proofs.listing.refresh.Goals as goal
 
-pub returns-then-is_claimable-clause-ordered : goal.returns-then-is_claimable-clause-ordered
-returns-then-is_claimable-clause-ordered c =
-    below-but (length c.args.tasks.now) c.insert.new.self.room c.args.list.now.listed c.insert.new.self.listed c.args.i c.requires.known (omega (arith, c.requires.room, c.insert.ensures.room)) c.requires.ordered c.insert.ensures.ordered
-    c.insert.ensures.others
+-- one number is listed or is listed no more
+told : (tasks : List Region) (old new : Numbers) (i : ℕ) → i < length tasks → IsListFor (length tasks) old → IsListBelow new.room new.listed → TellsOf tasks new.listed i
+    → ((k : ℕ) → k ≢ i → has k new.listed ≡ has k old.listed) → new.room ≡ old.room → IsRefreshed tasks old new i
+told tasks old new i known list ordered now others room = record {
+  list = record {
+    ordered = below-but (length tasks) new.room old.listed new.listed i known (omega (arith, list.room, room)) list.ordered ordered others;
+    room = omega (arith, list.room, room);
+  };
+  told = now;
+  others = λ k was. elim (cases_eq k i) [
+    | inl is ↦ subst (TellsOf tasks new.listed) (sym is) now
+    | inr apart ↦ others k apart ∙ was
+  ];
+  room = omega (arith, room);
+}
 
-pub returns-then-is_claimable-clause-told : goal.returns-then-is_claimable-clause-told
-returns-then-is_claimable-clause-told c = c.insert.ensures.noted ∙ sym c.if-is_claimable.true ∙ c.is_claimable.ensures
+pub returns-then-is_claimable : goal.returns-then-is_claimable
+returns-then-is_claimable c = told c.args.tasks.now c.args.list.now c.insert.new.self c.args.i c.requires.known c.requires.list c.insert.ensures.ordered
+    (c.insert.ensures.noted ∙ sym c.if-is_claimable.true ∙ c.is_claimable.ensures) c.insert.ensures.others c.insert.ensures.room
 
-pub returns-then-is_claimable-clause-others : goal.returns-then-is_claimable-clause-others
-returns-then-is_claimable-clause-others c = λ k was. elim (cases_eq k c.args.i) [
-  | inl is ↦ subst (TellsOf c.args.tasks.now c.insert.new.self.listed) (sym is) (c.insert.ensures.noted ∙ sym c.if-is_claimable.true ∙ c.is_claimable.ensures)
-  | inr apart ↦ c.insert.ensures.others k apart ∙ was
-]
-
-pub returns-else-is_claimable-clause-ordered : goal.returns-else-is_claimable-clause-ordered
-returns-else-is_claimable-clause-ordered c =
-    below-but (length c.args.tasks.now) c.remove.new.self.room c.args.list.now.listed c.remove.new.self.listed c.args.i c.requires.known (omega (arith, c.requires.room, c.remove.ensures.room)) c.requires.ordered c.remove.ensures.ordered
-    c.remove.ensures.others
-
-pub returns-else-is_claimable-clause-told : goal.returns-else-is_claimable-clause-told
-returns-else-is_claimable-clause-told c = c.remove.ensures.noted ∙ sym c.if-is_claimable.false ∙ c.is_claimable.ensures
-
-pub returns-else-is_claimable-clause-others : goal.returns-else-is_claimable-clause-others
-returns-else-is_claimable-clause-others c = λ k was. elim (cases_eq k c.args.i) [
-  | inl is ↦ subst (TellsOf c.args.tasks.now c.remove.new.self.listed) (sym is) (c.remove.ensures.noted ∙ sym c.if-is_claimable.false ∙ c.is_claimable.ensures)
-  | inr apart ↦ c.remove.ensures.others k apart ∙ was
-]
+pub returns-else-is_claimable : goal.returns-else-is_claimable
+returns-else-is_claimable c = told c.args.tasks.now c.args.list.now c.remove.new.self c.args.i c.requires.known c.requires.list c.remove.ensures.ordered
+    (c.remove.ensures.noted ∙ sym c.if-is_claimable.false ∙ c.is_claimable.ensures) c.remove.ensures.others c.remove.ensures.room

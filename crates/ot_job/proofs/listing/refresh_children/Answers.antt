@@ -1,4 +1,4 @@
-use Rattle.std.proofs.Common.{◌≡◌, ◌∙◌, ◌||◌, ◌==◌, sym, subst, Bool, true, false, get_or, take, ℕ, inl, inr, arith}
+use Rattle.std.proofs.Common.{◌≡◌, ◌∙◌, ◌||◌, ◌==◌, sym, subst, Bool, true, false, true≢false, get_or, take, ℕ, inl, inr, arith}
 use Rattle.std.proofs.lemmas.Bool.{cases_Bool, eqb-true}
 use Rattle.std.proofs.lemmas.List.Folds.{list_any_more}
 use Rattle.ot_depend.specs.Kept.{has}
@@ -18,14 +18,18 @@ loop-child-preserved c =
     let xs = c.args.children.now in
     let i = c.loop-child.child-index in
     let old = c.loop-child.invariant in
-    let tells = TellsOf c.args.tasks.now c.refresh.new.list.listed in (
-      c.refresh.ensures.ordered,
-      omega (arith, c.refresh.ensures.room, old.1),
-      λ k was. c.refresh.ensures.others k (old.2 k was),
-      λ n there. elim (cases_Bool (has n (take i xs))) [
-        | inl before ↦ c.refresh.ensures.others (get_or c.args.numbers.now n 0) (old.3 n before)
+    let now = c.refresh.ensures in
+    record {
+      list = now.list;
+      told = λ n there. elim (cases_Bool (has n (take i xs))) [
+        | inl before ↦ now.others (get_or c.args.numbers.now n 0) (old.told n before)
         | inr not_yet ↦ (let here : (get_or xs i 0 == n) ≡ true =
             last-or (has n (take i xs)) (get_or xs i 0 == n) (sym (list_any_more (λ x. x == n) xs i 0 c.loop-child-test.true) ∙ there) not_yet in
-            subst (λ (m : ℕ). TellsOf c.args.tasks.now c.refresh.new.list.listed (get_or c.args.numbers.now m 0)) (eqb-true (get_or xs i 0) n here) c.refresh.ensures.told)
-      ],
-    )
+            subst (λ (m : ℕ). TellsOf c.args.tasks.now c.refresh.new.list.listed (get_or c.args.numbers.now m 0)) (eqb-true (get_or xs i 0) n here) now.told)
+      ];
+      others = λ k was. now.others k (old.others k was);
+      room = omega (arith, now.room, old.room);
+    }
+
+pub loop-child-init : goal.loop-child-init
+loop-child-init c = record { list = c.requires.list; told = λ n there. absurd (true≢false (sym there)); others = λ k was. was; room = omega arith }

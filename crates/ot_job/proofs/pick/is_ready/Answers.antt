@@ -1,8 +1,9 @@
 use Rattle.std.proofs.Common.{◌∙◌, ap, sym, arith}
 use Rattle.ot_depend.specs.Siblings.{is_ready}
 use Rattle.ot_task.specs.Regions.{Region}
-use Rattle.ot_job.proofs.PickLemmas.{at-here, at-past}
+use Rattle.ot_job.proofs.PickLemmas.{at-here}
 use Rattle.ot_job.proofs.pick.is_ready.Goals as goal
+use Rattle.ot_job.proofs.SoundLemmas.{at-past}
 
 pub returns-then-parent-tasks : goal.returns-then-parent-tasks
 returns-then-parent-tasks c =

@@ -3,8 +3,9 @@ use Rattle.std.specs.Prelude.{◌↔◌}
 use Rattle.ot_task.specs.Regions.{Region}
 use Rattle.ot_task.specs.Pieces.{Runs}
 use Rattle.ot_job.specs.Numbered.{at}
-use Rattle.ot_job.proofs.PickLemmas.{at-here, at-past}
+use Rattle.ot_job.proofs.PickLemmas.{at-here}
 use Rattle.ot_job.proofs.settle.is_out.Goals as goal
+use Rattle.ot_job.proofs.SoundLemmas.{at-past}
 
 pub returns-then-task-tasks : goal.returns-then-task-tasks
 returns-then-task-tasks c =

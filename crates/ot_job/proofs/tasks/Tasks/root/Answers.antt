@@ -1,21 +1,21 @@
 use Rattle.std.proofs.Common.{◌≡◌, ◌∙◌, ◌++◌, ◌∷◌, [], ℕ, List, ap, sym, subst, arith}
+use Rattle.std.proofs.lemmas.Result.{IfOk-from_err}
 use Rattle.std.specs.Arc.{arc_value}
 use Rattle.ot_parts.specs.Parts.{parts_of}
 use Rattle.ot_depend.specs.Kept.{has}
 use Rattle.ot_task.specs.Regions.{Region, root_region}
 use Rattle.ot_job.specs.Listing.{numbers_of, AreKept}
-use Rattle.ot_job.proofs.ViewLemmas.{if_ok_of_err}
 use Rattle.ot_job.proofs.KeepingLemmas.{kept-root}
 use Rattle.ot_job.proofs.tasks.Tasks.root.Goals as goal
 
 pub returns-in_err-tasks : goal.returns-in_err-tasks
-returns-in_err-tasks c = if_ok_of_err _ c.from_residual.result c.from_residual.ensures.0
+returns-in_err-tasks c = IfOk-from_err c.from_residual.result _ c.from_residual.ensures.0
 
 pub returns-in_err-children : goal.returns-in_err-children
-returns-in_err-children c = if_ok_of_err _ c.from_residual-in_err-children.result c.from_residual-in_err-children.ensures.0
+returns-in_err-children c = IfOk-from_err c.from_residual-in_err-children.result _ c.from_residual-in_err-children.ensures.0
 
 pub returns-in_err-make_room_for : goal.returns-in_err-make_room_for
-returns-in_err-make_room_for c = if_ok_of_err _ c.from_residual-in_err-make_room_for.result c.from_residual-in_err-make_room_for.ensures.0
+returns-in_err-make_room_for c = IfOk-from_err c.from_residual-in_err-make_room_for.result _ c.from_residual-in_err-make_room_for.ensures.0
 
 pub invariant_of-result : goal.invariant_of-result
 invariant_of-result c =
