@@ -1,0 +1,13 @@
+//! Races on any way through a program.
+#![tactic(auto)]
+
+mod extent;
+mod follow;
+mod judging;
+pub mod laws;
+mod reads;
+mod uses;
+mod verdict;
+
+pub use judging::any_way;
+pub use verdict::{Turn, Verdict};
