@@ -9,10 +9,9 @@ ghost use Rattle.ot_ways.specs.Numbered.{events_on, events_on_one, tasks_on, tas
 
 use crate::extent::{extent_all, extent_one};
 use crate::reads::note_reads;
-use crate::uses::{fold_as, note, note_writes};
 use crate::verdict::Turn;
 use ot_model::{Decl, Mode, Stmt, Use};
-use ot_race::{Deed, Event};
+use ot_race::{Deed, Event, fold_as, note, note_writes};
 use std::alloc::{AllocError, Global};
 
 /// What has happened on a way so far.

@@ -6,7 +6,6 @@ mod follow;
 mod judging;
 pub mod laws;
 mod reads;
-mod uses;
 mod verdict;
 
 pub use judging::any_way;

@@ -6,8 +6,8 @@ ghost use Rattle.ot_model.specs.declared.stmt.Mode.TheVariants.{Reads};
 ghost use Rattle.ot_check.specs.Paths.{use_as};
 ghost use Rattle.ot_parts.specs.Modes.{PicksFit};
 
-use crate::uses::note;
 use ot_model::{Cell, Expr, Mode, Section, Use};
+use ot_race::note;
 use std::alloc::AllocError;
 
 /// Notes each cell that a value names, of a pick its whole section.
