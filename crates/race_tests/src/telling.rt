@@ -47,8 +47,8 @@ pub(crate) fn told_of_ways(alloc: Global, cells: u32, body: &str) -> Result<Stri
     match any_way(alloc, &program)? {
         Verdict::RacesOnNoWay => String::from_str(alloc, "none"),
         Verdict::TooManyWays => String::from_str(alloc, "many"),
-        Verdict::RacesOnWay(turns, Race { cell, place, later }) => {
-            let mut told = format!(in alloc; "{later} {place}.{}", cell.index)?;
+        Verdict::RacesOnWay(turns, race) => {
+            let mut told = format!(in alloc; "{} {}.{}", race.later, race.place, race.cell.index)?;
             for turn in &turns {
                 let sign = if turn.first { "+" } else { "-" };
                 let step = format!(in alloc; " {}{sign}", turn.place)?;
