@@ -22,3 +22,4 @@ pub use event::{Deed, Event};
 pub use first_race::{run_events, this_run};
 pub use judging::judge;
 pub use race::Race;
+pub use uses::{fold_as, note, note_writes};

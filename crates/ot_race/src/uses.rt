@@ -37,7 +37,7 @@ pub(crate) fn note_reads(expr: &Expr, cells: &Cells, uses: &mut Vec<Use>) -> Res
 ghost use Rattle.std.specs.Prelude.{[], ◌∷◌};
 
 /// Notes one use.
-pub(crate) fn note(cell: Cell, mode: Mode, uses: &mut Vec<Use>) -> Result<(), AllocError>
+pub fn note(cell: Cell, mode: Mode, uses: &mut Vec<Use>) -> Result<(), AllocError>
     ensures { OnOk result (uses.new.items ≡ uses.old.items ++ use_as mode cell ∷ []) }
 {
     uses.push(Use { cell, mode })?;
@@ -47,7 +47,7 @@ pub(crate) fn note(cell: Cell, mode: Mode, uses: &mut Vec<Use>) -> Result<(), Al
 ghost use Rattle.ot_model.specs.declared.stmt.Mode.TheVariants.{Writes};
 
 /// Notes that these cells are written.
-pub(crate) fn note_writes(cells: &[Cell], uses: &mut Vec<Use>) -> Result<(), AllocError>
+pub fn note_writes(cells: &[Cell], uses: &mut Vec<Use>) -> Result<(), AllocError>
     ensures { OnOk result (uses.new.items ≡ uses.old.items ++ map (use_as Writes) cells.now) }
 {
     for cell in cells {
@@ -57,7 +57,7 @@ pub(crate) fn note_writes(cells: &[Cell], uses: &mut Vec<Use>) -> Result<(), All
 }
 
 /// What a fold does in a task that declares this, or in the program's own body.
-pub(crate) fn fold_as(own: Option<&Decl>, op: Fold, cell: Cell) -> Mode
+pub fn fold_as(own: Option<&Decl>, op: Fold, cell: Cell) -> Mode
     ensures { result ≡ fold_as (option_map (λ d. d.now) own.entry) op cell }
 {
     match own {

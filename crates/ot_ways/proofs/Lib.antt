@@ -1,0 +1,7 @@
+pub mod WayLemmas
+pub mod NumberLemmas
+pub mod AlikeLemmas
+pub mod FollowLemmas
+pub mod TellLemmas
+pub mod LikeLemmas
+pub mod RunLemmas

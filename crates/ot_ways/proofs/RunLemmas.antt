@@ -1,0 +1,129 @@
+-- A run and the way with its values have the same events, but for what picks read.
+use Rattle.std.proofs.Common.{◌≡◌, ◌+◌, ◌%◌, ◌<◌, ℕ, zero, suc, List, [], ◌∷◌, ◌++◌, length, map, refl, ap, subst, ◌∙◌, inl, inr, arith}
+use Rattle.std.specs.Prelude.{◌==◌, Option, Some, Contains}
+use Rattle.std.proofs.lemmas.Nat.{mod_below}
+use Rattle.std.proofs.lemmas.List.Elements.{Contains-append_left, Contains-append_right, Contains-append_cases}
+use Rattle.std.proofs.lemmas.List.FromFn.{length-map-range_with_len, get_or-map-range_with_len}
+use Rattle.ot_model.specs.Tree.{E, Literal, CellAt, Apply, PickFrom, S, Set, Fold, If, Task, Wait, Group, Body, End, Next}
+use Rattle.ot_model.specs.Cells.{cell_of}
+use Rattle.ot_model.specs.Counts.{size, size_one}
+use Rattle.ot_model.specs.Names.{NamedIn, OneNamedIn, ValueNamedIn}
+use Rattle.ot_model.specs.Value.{val, cell_at, cells_of, cells_named}
+use Rattle.ot_model.specs.Serial.{State, bump, either}
+use Rattle.ot_model.specs.declared.expr.Cell.{Cell}
+use Rattle.ot_model.specs.declared.expr.Section.{Section}
+use Rattle.ot_model.specs.declared.stmt.Mode.TheVariants.{Reads}
+use Rattle.ot_model.specs.declared.stmt.Use.{Use}
+use Rattle.ot_check.specs.Paths.{use_as}
+use Rattle.ot_check.specs.Offences.{Declared}
+use Rattle.ot_race.specs.Events.{Way, event, Begins, Leaves, events, events_one, after, after_one, reads_now, this_way}
+use Rattle.ot_ways.specs.Ways.{way_by}
+use Rattle.ot_ways.proofs.LikeLemmas.{AreLike, like_itself, like_append, like_length, like_if}
+
+-- the way whose conditions have the values of the run
+abbrev pub run_as_way : Way
+run_as_way = way_by (λ s e. val (cell_of s.cells) e)
+
+-- ---- what is read
+
+first_of_list : {A : Type 0} (x : A) (xs : List A) → Contains (x ∷ xs) x
+first_of_list x xs = (zero, (let l : 0 < length (x ∷ xs) = omega arith in l), refl)
+
+later_of_list : {A : Type 0} (x y : A) (xs : List A) → Contains xs y → Contains (x ∷ xs) y
+later_of_list x y xs h = (suc h.0, (let l : suc h.0 < length (x ∷ xs) = omega (arith, h.1) in l), h.2)
+
+record Comes {A B : Type 0} (f : A → B) (xs : List A) (u : B) : Type 0 where
+  from : A
+  there : Contains xs from
+  same : f from ≡ u
+
+comes_from : {A B : Type 0} (f : A → B) (xs : List A) (u : B) → Contains (map f xs) u → Comes f xs u
+comes_from f [] u (k, l, e) = absurd (omega (arith, l))
+comes_from f (x ∷ xs) u (zero, l, e) = record { from = x; there = first_of_list x xs; same = e }
+comes_from f (x ∷ xs) u (suc k, l, e) =
+    let r = comes_from f xs u (k, omega (arith, l), e) in
+    record { from = r.from; there = later_of_list x r.from xs r.there; same = r.same }
+
+is_in_map : {A B : Type 0} (f : A → B) (xs : List A) (x : A) → Contains xs x → Contains (map f xs) (f x)
+is_in_map f [] x (k, l, e) = absurd (omega (arith, l))
+is_in_map f (y ∷ xs) x (zero, l, e) = subst (λ z. Contains (f y ∷ map f xs) (f z)) e (first_of_list (f y) (map f xs))
+is_in_map f (y ∷ xs) x (suc k, l, e) = later_of_list (f y) (f x) (map f xs) (is_in_map f xs x (k, omega (arith, l), e))
+
+only : {A : Type 0} (x y : A) → Contains (x ∷ []) y → x ≡ y
+only x y (zero, l, e) = e
+only x y (suc k, l, e) = absurd (omega (arith, l))
+
+cell_in_section : (s : Section) (k : ℕ) → k < s.len → Contains (cells_of s) (cell_at s k)
+cell_in_section s k l =
+    let within : k < length (cells_of s) = omega (arith, l, length-map-range_with_len (cell_at s) 0 s.len) in
+    (k, within, get_or-map-range_with_len (cell_at s) 0 s.len k k (cell_at s k) l (omega arith))
+
+reads_named : (lens : List ℕ) (look : Cell → Option ℕ) (e : E) → ValueNamedIn lens e → (c : Cell) → Contains (reads_now look e) c → Contains (cells_named e) c
+reads_named lens look (Literal n) h c r = r
+reads_named lens look (CellAt d) h c r = r
+reads_named lens look (Apply o a b) h c r = elim (Contains-append_cases (reads_now look a) (reads_now look b) c r) [
+  | inl one ↦ Contains-append_left (cells_named a) (cells_named b) c (reads_named lens look a h.0 c one)
+  | inr two ↦ Contains-append_right (cells_named a) (cells_named b) c (reads_named lens look b h.1 c two)
+]
+reads_named lens look (PickFrom s e) h c r = elim (Contains-append_cases (reads_now look e) (cell_at s (val look e % s.len) ∷ []) c r) [
+  | inl one ↦ Contains-append_right (cells_of s) (cells_named e) c (reads_named lens look e h.1 c one)
+  | inr two ↦ Contains-append_left (cells_of s) (cells_named e) c
+      (subst (Contains (cells_of s)) (only (cell_at s (val look e % s.len)) c two) (cell_in_section s (val look e % s.len) (mod_below (val look e) s.len h.0.some)))
+]
+
+uses_within : (lens : List ℕ) (look : Cell → Option ℕ) (e : E) (more : List Use) → ValueNamedIn lens e → (u : Use)
+    → Contains (map (use_as Reads) (reads_now look e) ++ more) u → Contains (map (use_as Reads) (cells_named e) ++ more) u
+uses_within lens look e more h u r = elim (Contains-append_cases (map (use_as Reads) (reads_now look e)) more u r) [
+  | inl one ↦
+      let c = comes_from (use_as Reads) (reads_now look e) u one in
+      Contains-append_left (map (use_as Reads) (cells_named e)) more u
+      (subst (Contains (map (use_as Reads) (cells_named e))) c.same (is_in_map (use_as Reads) (cells_named e) c.from (reads_named lens look e h c.from c.there)))
+  | inr two ↦ Contains-append_right (map (use_as Reads) (cells_named e)) more u two
+]
+
+test_within : (lens : List ℕ) (look : Cell → Option ℕ) (e : E) → ValueNamedIn lens e → (u : Use)
+    → Contains (map (use_as Reads) (reads_now look e)) u → Contains (map (use_as Reads) (cells_named e)) u
+test_within lens look e h u r =
+    let c = comes_from (use_as Reads) (reads_now look e) u r in
+    subst (Contains (map (use_as Reads) (cells_named e))) c.same (is_in_map (use_as Reads) (cells_named e) c.from (reads_named lens look e h c.from c.there))
+
+-- ---- events
+
+mutual
+  after_one_same : (x : S) (s : State) → after_one this_way x s ≡ after_one run_as_way x s
+  after_one_same (Set c e) s = refl
+  after_one_same (Fold o c e) s = refl
+  after_one_same (If e a b) s =
+      let n = val (cell_of s.cells) e in
+      ap (λ t. either n t (after this_way b (bump 0 1 s))) (after_same a (bump 0 1 s)) ∙ ap (either n (after run_as_way a (bump 0 1 s))) (after_same b (bump 0 1 s))
+  after_one_same (Task d b) s = after_same b (bump 1 1 s)
+  after_one_same (Wait w) s = refl
+  after_one_same (Group o cs b) s = after_same b (bump 0 1 s)
+
+  after_same : (b : Body) (s : State) → after this_way b s ≡ after run_as_way b s
+  after_same End s = refl
+  after_same (Next x rest) s = ap (after this_way rest) (after_one_same x s) ∙ after_same rest (after_one run_as_way x s)
+
+mutual
+  like_one : (lens : List ℕ) (own : Declared) (me k : ℕ) (x : S) (s : State) → OneNamedIn lens x
+      → AreLike (events_one this_way own me k x s) (events_one run_as_way own me k x s)
+  like_one lens own me k (Set c e) s h = (record { task_same = refl; deed_same = refl; within = uses_within lens (cell_of s.cells) e _ h.1 }, tt)
+  like_one lens own me k (Fold o c e) s h = (record { task_same = refl; deed_same = refl; within = uses_within lens (cell_of s.cells) e _ h.1 }, tt)
+  like_one lens own me k (If e a b) s h = (
+    record { task_same = refl; deed_same = refl; within = test_within lens (cell_of s.cells) e h.0 },
+    like_if (val (cell_of s.cells) e == 0) _ _ _ _ (like_all lens own me (k + 1 + size a) b (bump 0 1 s) h.2) (like_all lens own me (k + 1) a (bump 0 1 s) h.1),
+  )
+  like_one lens own me k (Task d b) s h = (like_itself (event (s.tasks + 1) k (Begins me d) []), like_all lens (Some d) (s.tasks + 1) (k + 1) b (bump 1 1 s) h.1)
+  like_one lens own me k (Wait w) s h = (record { task_same = refl; deed_same = refl; within = λ u r. r }, tt)
+  like_one lens own me k (Group o cs b) s h =
+      let inside = like_all lens own me (k + 1) b (bump 0 1 s) h.1 in
+      like_append (events this_way own me (k + 1) b (bump 0 1 s)) (events run_as_way own me (k + 1) b (bump 0 1 s)) _ _ inside
+      (record { task_same = refl; deed_same = ap Leaves (like_length _ _ inside); within = λ u r. r }, tt)
+
+  pub like_all : (lens : List ℕ) (own : Declared) (me k : ℕ) (b : Body) (s : State) → NamedIn lens b
+      → AreLike (events this_way own me k b s) (events run_as_way own me k b s)
+  like_all lens own me k End s h = tt
+  like_all lens own me k (Next x rest) s h =
+      like_append (events_one this_way own me k x s) (events_one run_as_way own me k x s) _ _ (like_one lens own me k x s h.0)
+      (subst (λ (t : State). AreLike (events this_way own me (k + size_one x) rest (after_one this_way x s)) (events run_as_way own me (k + size_one x) rest t))
+      (after_one_same x s) (like_all lens own me (k + size_one x) rest (after_one this_way x s) h.1))

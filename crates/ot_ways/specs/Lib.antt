@@ -1,0 +1,4 @@
+pub mod Ways
+pub mod Verdicts
+pub mod Numbered
+pub mod Laws

@@ -1,0 +1,31 @@
+-- What a judge of all ways tells.
+use Rattle.std.specs.Prelude.{◌≡◌, ◌<◌, ◌≤◌, ℕ, List}
+use Rattle.ot_model.specs.Tree.{E, Body}
+use Rattle.ot_model.specs.Serial.{State}
+use Rattle.ot_race.specs.Events.{events_of, beginning}
+use Rattle.ot_race.specs.Races.{NothingRaces, IsFirstRace}
+use Rattle.ot_race.specs.declared.race.Race.{Race}
+use Rattle.ot_ways.specs.Ways.{way_by, ways, turns}
+use Rattle.ot_ways.specs.declared.verdict.Turn.{Turn}
+use Rattle.ot_ways.specs.declared.verdict.Verdict.{Verdict}
+use Rattle.ot_ways.specs.declared.verdict.Verdict.TheVariants.{RacesOnNoWay, RacesOnWay, TooManyWays}
+
+-- on each way, whatever the cells that it begins with, any two touches that conflict are ordered
+abbrev pub NoWayRaces : Body → Type 0
+NoWayRaces body = (condition : State → E → ℕ) (cells : List (List ℕ)) → NothingRaces (events_of (way_by condition) body cells)
+
+-- a way from these cells takes these turns, and this is the first race on it
+pub record IsRaceOn (body : Body) (taken : List Turn) (race : Race) (cells : List (List ℕ)) : Type 0 where
+  pub condition : State → E → ℕ
+  pub takes : turns (way_by condition) 1 body (beginning cells) ≡ taken
+  pub first : IsFirstRace (events_of (way_by condition) body cells) race.cell race.place race.later
+
+-- so many ways are judged
+abbrev pub most_ways : ℕ
+most_ways = 1024
+
+-- what a judge of all ways tells: that it would be too many ways, that no way races, or the first race on one of them
+abbrev pub Tells : Body → Verdict → Type 0
+Tells body TooManyWays = most_ways < ways body
+Tells body RacesOnNoWay = (ways body ≤ most_ways) × NoWayRaces body
+Tells body (RacesOnWay taken race) = (ways body ≤ most_ways) × ((cells : List (List ℕ)) → IsRaceOn body taken.items race cells)

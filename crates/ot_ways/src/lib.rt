@@ -1,0 +1,12 @@
+//! Races on any way through a program.
+#![tactic(auto)]
+
+mod extent;
+mod follow;
+mod judging;
+pub mod laws;
+mod reads;
+mod verdict;
+
+pub use judging::any_way;
+pub use verdict::{Turn, Verdict};

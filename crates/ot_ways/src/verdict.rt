@@ -1,0 +1,18 @@
+use ot_race::Race;
+
+/// Whether the `if` of this place takes its first body.
+#[derive(Clone, Copy, Debug, PartialEq, Eq)]
+pub struct Turn {
+    pub place: u32,
+    pub first: bool,
+}
+
+/// What is told of all ways through a program.
+#[derive(Debug, Drop)]
+pub enum Verdict {
+    RacesOnNoWay,
+    /// The first race on the way that takes these turns.
+    RacesOnWay(Vec<Turn>, Race),
+    /// It has more than 1,024 ways, and none was judged.
+    TooManyWays,
+}

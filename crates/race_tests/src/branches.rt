@@ -1,0 +1,46 @@
+//! Programs with branches, of which all ways are judged.
+use crate::telling::told_of_ways;
+use std::alloc::Global;
+use std::test::Fail;
+
+/// Of each the first race on the first way that races, with the turns of that way: the place of each `if` with `+` where it
+/// takes its first body, and else `-`. Way after way the first `if` turns soonest.
+///
+/// In this order: a task or a write; a task in the second body, with a write behind; a wait in one body of two, and in both; a
+/// child of a child, or a wait; a group in a body; a task in the first body and a write in the second of a later `if`; three
+/// deep, and two; a pick that reads another cell in the run; 10 `if`s, and 11; a task without touches that 8 waits in branches may
+/// await; the same with a write; 5,000 `if`s, and these two with so many; two tasks that only a third orders, which stands in a body.
+const BRANCHES: &str =
+    r#"none|[["if",["c","a",0],[["task",[["out",["a",0,1]]],[["set",["c","a",0],7]]]],[["set",["c","a",0],5]]]]
+4 3.0 1-|[["if",1,[],[["task",[["out",["a",0,1]]],[["set",["c","a",0],7]]]]],["set",["c","a",0],1]]
+5 2.0 3-|[["task",[["out",["a",0,1]]],[["set",["c","a",0],7]]],["if",["c","a",2],[["wait"]],[]],["set",["c","a",0],1]]
+none|[["task",[["out",["a",0,1]]],[["set",["c","a",0],7]]],["if",["c","a",2],[["wait"]],[["wait"]]],["set",["c","a",0],["+",["c","a",0],1]]]
+none|[["task",[["out",["a",0,1]]],[["if",["c","a",0],[["task",[["out",["a",0,1]]],[["set",["c","a",0],7]]]],[["wait"]]]]]]
+none|[["if",1,[["group","+",[],[["task",[["out",["a",0,1]]],[["set",["c","a",0],7]]]]]],[]],["set",["c","a",0],["+",["c","a",0],1]]]
+5 3.0 1+ 4-|[["if",["c","a",2],[["task",[["out",["a",0,1]]],[["set",["c","a",0],7]]]],[]],["if",["c","a",2],[],[["set",["c","a",0],1]]]]
+8 5.0 1+ 2+ 3+ 6- 7+|[["if",0,[["if",0,[["if",0,[["task",[["out",["a",0,1]]],[["set",["c","a",0],7]]]],[]]],[]]],[]],["if",0,[],[["if",0,[["set",["c","a",1],["c","a",0]]],[]]]]]
+3 2.0|[["task",[],[["set",["c","a",0],1]]],["set",["c","a",2],["pick",["a",0,2],["c","a",2]]]]
+none|[["for","i",0,10,[["if",["c","a",0],[["set",["c","a",1],"i"]],[]]]]]
+many|[["for","i",0,11,[["if",["c","a",0],[["set",["c","a",1],"i"]],[]]]]]
+none|[["if",0,[["task",[["out",["a",2,1]]],[]]],[]],["for","i",0,8,[["if",0,[["wait"]],[]]]],["set",["c","a",2],1]]
+20 3.2 1+ 4- 6- 8- 10- 12- 14- 16- 18-|[["if",0,[["task",[["out",["a",2,1]]],[["set",["c","a",2],7]]]],[]],["for","i",0,8,[["if",0,[["wait"]],[]]]],["set",["c","a",2],1]]
+many|[["for","i",0,5000,[["if",["c","a",0],[["set",["c","a",1],"i"]],[]]]]]
+many|[["if",0,[["task",[["out",["a",2,1]]],[]]],[]],["for","i",0,5000,[["if",0,[["wait"]],[]]]],["set",["c","a",2],1]]
+many|[["if",0,[["task",[["out",["a",2,1]]],[]]],[]],["for","i",0,5000,[["if",0,[["wait"]],[]]]],["if",0,[["wait"]],[["wait"]]],["set",["c","a",2],9]]
+7 2.0 3-|[["task",[["out",["a",1,1]]],[["set",["c","a",0],1]]],["if",["c","a",2],[["task",[["in",["a",1,1]],["out",["a",2,1]]],[]]],[["wait",[["in",["a",2,1]]]]]],["task",[["in",["a",2,1]]],[["set",["c","a",0],2]]]]
+"#;
+
+#[test]
+fn branches(rt: HostRuntime) -> Result<(), Fail> {
+    let alloc = rt.alloc();
+    let mut rows = 0u32;
+    for line in BRANCHES.lines() {
+        if let Some((row, body)) = line.split_once("|") {
+            let told = told_of_ways(alloc, 3, body)?;
+            assert!(rt; told.as_str() == row, "{line} {told}");
+            rows = rows.wrapping_add(1);
+        }
+    }
+    assert!(rt; rows == 17);
+    Ok(())
+}
