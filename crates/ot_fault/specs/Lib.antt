@@ -1,1 +1,4 @@
+pub mod Why
+pub mod Whys
+pub mod Counting
 pub mod First
