@@ -1,15 +1,15 @@
 -- What is told of a clause, by how many items it has.
-use Rattle.std.proofs.Common.{◌≡◌, ◌≢◌, ℕ, ◌+◌, Bool, true, false, cond, List, [], ◌∷◌, ◌++◌, length, get_or, Option, Some, None, true≢false, codes, refl, sym, ap, ◌∙◌, arith, rules, Vec, Global}
+use Rattle.std.proofs.Common.{◌≡◌, ◌≢◌, Bool, true, false, cond, List, [], ◌∷◌, ◌++◌, length, get_or, Some, None, true≢false, codes, refl, sym, arith}
 use Rattle.serde_json.specs.Data.{Data, array, no_items, item}
 use Rattle.serde_json.specs.View.{view, items_view}
-use Rattle.serde_json.specs.declared.value.Value.{Value, the_lemmas, Array as JsonArray}
+use Rattle.serde_json.specs.declared.value.Value.{Value}
 use Rattle.ot_model.specs.Shapes.{Arrays}
 use Rattle.ot_program.specs.Meanings.{Bindings, size, section, clause, wait_clause}
 use Rattle.ot_program.specs.Names.{is_word}
 use Rattle.ot_program.specs.Profiles.{is_two, profile_of}
 use Rattle.ot_place.specs.Texts.{Profile}
-use Rattle.ot_fault.specs.Why.{Why, Form, after}
-use Rattle.ot_fault.specs.Whys.{unless, fold_whys, is_depend, is_mode, red_whys, clause_whys, wait_clause_whys, section_whys, cell_whys}
+use Rattle.ot_fault.specs.Why.{Form}
+use Rattle.ot_fault.specs.Whys.{unless, is_mode, red_whys, clause_whys, section_whys}
 use Rattle.ot_fault.specs.declared.why.Wanted.TheVariants as wanted
 use Rattle.ot_fault.proofs.AfterLemmas.{two_items, three_items}
 

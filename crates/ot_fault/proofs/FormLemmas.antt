@@ -1,5 +1,5 @@
 -- Parts that are of no form, by how many items they have.
-use Rattle.std.proofs.Common.{◌≡◌, ◌≢◌, ℕ, ◌+◌, ◌^◌, max, Bool, true, false, List, [], ◌∷◌, ◌++◌, length, get_or, Option, Some, None, refl, sym, arith, rules, Vec, Global, String}
+use Rattle.std.proofs.Common.{◌≡◌, ◌≢◌, ◌+◌, max, List, [], ◌∷◌, length, get_or, refl, sym, arith, rules, Vec, Global, String}
 use Rattle.serde_json.specs.Data.{array}
 use Rattle.serde_json.specs.View.{view, items_view}
 use Rattle.serde_json.specs.declared.value.Value.{Value, the_lemmas, Number as JsonNumber, String as JsonString, Array as JsonArray}
@@ -7,9 +7,9 @@ use Rattle.serde_json.specs.declared.number.Number.{Number}
 use Rattle.ot_model.specs.Shapes.{Arrays}
 use Rattle.ot_model.specs.Tree.{Literal}
 use Rattle.ot_program.specs.Limits.{size_depth}
-use Rattle.ot_program.specs.Meanings.{Bindings, section, value, clause, wait_clause}
+use Rattle.ot_program.specs.Meanings.{Bindings, section, value}
 use Rattle.ot_fault.specs.Why.{Form}
-use Rattle.ot_fault.specs.Whys.{size_whys, cell_whys, section_whys, value_whys, clause_whys, wait_clause_whys}
+use Rattle.ot_fault.specs.Whys.{size_whys, cell_whys, section_whys, value_whys, wait_clause_whys}
 use Rattle.ot_fault.specs.declared.why.Wanted.TheVariants as wanted
 
 -- ---- sizes

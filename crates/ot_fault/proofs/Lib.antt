@@ -3,3 +3,4 @@ pub mod FormLemmas
 pub mod PartLemmas
 pub mod LoopLemmas
 pub mod ClauseLemmas
+pub mod RefusalLemmas

@@ -1,5 +1,5 @@
 -- What statements and values count, as it is told.
-use Rattle.std.specs.Prelude.{ℕ, ◌+◌}
+use Rattle.std.specs.Prelude.{◌+◌}
 use Rattle.ot_model.specs.Tree.{E}
 use Rattle.ot_program.specs.Limits.{depth_of, nodes_of, picked_of, Tally}
 use Rattle.ot_fault.specs.Why.{long}

@@ -1,10 +1,9 @@
 -- The faults of a statement's own parts, each with what is compared. They are those of `ot_program`'s definition, in its order:
 -- of each, which part is of no form and what is wanted there, or which name, number, index, length or depth has the fault.
-use Rattle.std.specs.Prelude.{ℕ, ◌+◌, ◌==◌, nat_lt, nat_le, Bool, true, false, not, ◌&&◌, ◌||◌, if◌then◌else◌, List, [], ◌∷◌, ◌++◌, flat_map, is_some, unwrap_or, codes}
+use Rattle.std.specs.Prelude.{ℕ, ◌+◌, ◌==◌, nat_lt, nat_le, Bool, false, not, ◌&&◌, ◌||◌, if◌then◌else◌, List, [], ◌∷◌, ◌++◌, flat_map, is_some, unwrap_or, codes}
 use Rattle.std.specs.List.{list_any}
 use Rattle.serde_json.specs.Data.{Data, number, string, array, no_items, item}
 use Rattle.ot_model.specs.Shapes.{Arrays}
-use Rattle.ot_model.specs.declared.expr.Op.{Op}
 use Rattle.ot_model.specs.declared.expr.Op.TheVariants.{Plus}
 use Rattle.ot_program.specs.Copies.{Text, SetText, AddText, FoldText, IfText, ForText, Turn, TaskText, WaitText, WaitForText, GroupText, GroupByText, ProgramText, NoForm}
 use Rattle.ot_program.specs.Faults.{is_list}
@@ -13,7 +12,6 @@ use Rattle.ot_program.specs.Meanings.{items, letters, Bindings, bound, sign_of, 
 use Rattle.ot_program.specs.Names.{whole_number, is_name, is_word}
 use Rattle.ot_program.specs.Profiles.{is_one, is_two}
 use Rattle.ot_place.specs.Texts.{Profile}
-use Rattle.ot_fault.specs.declared.why.Wanted.{Wanted}
 use Rattle.ot_fault.specs.declared.why.Wanted.TheVariants as wanted
 use Rattle.ot_fault.specs.Why.{Why, Form, NoStatement, Unbound, TooGreat, NotExact, Unknown, NoCell, NoCells, Empty, Nested, Deep, long, short}
 

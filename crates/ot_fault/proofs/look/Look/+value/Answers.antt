@@ -1,4 +1,4 @@
-use Rattle.std.proofs.Common.{◌∙◌, ◌++◌, sym, ap, rules}
+use Rattle.std.proofs.Common.{◌∙◌, ◌++◌, ap, rules}
 use Rattle.serde_json.specs.View.{view}
 use Rattle.std.specs.Prelude.{unwrap_or}
 use Rattle.ot_model.specs.declared.expr.Op.TheVariants.{Plus}
