@@ -1,4 +1,9 @@
 //! The first statement of a program that has a fault.
+ghost use Rattle.std.specs.Prelude.{◌≡◌};
+ghost use Rattle.ot_fault.specs.Why.{after};
+ghost use Rattle.ot_fault.specs.First.{told_by};
+ghost use Rattle.ot_fault.specs.Counting.{more_than, past_limits};
+
 use crate::look::Look;
 use crate::mixed::mixed_in;
 use crate::own::Tally;
@@ -264,7 +269,9 @@ impl Finder<'_> {
 
 impl First<'_> {
     /// Counts that are past their limits.
-    fn past_limits(&mut self, counts: Tally, tasks: u64) {
+    fn past_limits(&mut self, counts: Tally, tasks: u64)
+        ensures { told_by self.new ≡ after (told_by self.old) (past_limits tasks counts) }
+    {
         self.more_than(Count::Statements, counts.statements, MAX_STATEMENTS);
         self.more_than(Count::Turns, counts.turns, MAX_TURNS);
         self.more_than(Count::Nodes, counts.nodes, MAX_NODES);
@@ -275,7 +282,9 @@ impl First<'_> {
         );
     }
 
-    fn more_than(&mut self, count: Count, has: u64, may: u64) {
+    fn more_than(&mut self, count: Count, has: u64, may: u64)
+        ensures { told_by self.new ≡ after (told_by self.old) (more_than count has may) }
+    {
         self.unless(has <= may, Why::TooMany(count, has, may));
     }
 }
