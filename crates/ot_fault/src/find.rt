@@ -1,4 +1,9 @@
 //! The first statement of a program that has a fault.
+ghost use Rattle.std.specs.Prelude.{◌≡◌};
+ghost use Rattle.ot_fault.specs.Why.{after};
+ghost use Rattle.ot_fault.specs.First.{told_by};
+ghost use Rattle.ot_fault.specs.Counting.{more_than, past_limits};
+
 use crate::look::Look;
 use crate::mixed::mixed_in;
 use crate::own::Tally;
@@ -40,15 +45,16 @@ pub fn first_fault<'a>(
     if let Value::Array(parts) = program {
         if let [tag, shows, body] = parts.as_slice() {
             if let Some(profile) = read_profile(tag) {
-                let mut finder = Finder {
+                let finder = Finder {
                     alloc,
                     arrays,
                     tasks,
                     profile,
-                    counts: Tally::none(),
-                    index: 0,
                 };
-                return finder.program(shows, body);
+                return match finder.program(shows, body)? {
+                    Step::Passed(_) => Ok(None),
+                    Step::Met(found) => Ok(Some(found)),
+                };
             }
         }
     }
@@ -58,166 +64,227 @@ pub fn first_fault<'a>(
     }))
 }
 
-/// A walk through a program's statements, with what was passed.
+/// How many were passed without a fault, and what they count.
+#[derive(Clone, Copy, Debug)]
+struct Passed {
+    entries: u32,
+    counts: Tally,
+}
+
+/// How far a walk came.
+#[derive(Clone, Copy, Debug)]
+enum Step<'a> {
+    /// There was no fault.
+    Passed(Passed),
+    /// It is at the first fault.
+    Met(Found<'a>),
+}
+
+/// A walk through a program's statements to the first that has a fault.
 #[derive(Clone, Copy)]
 struct Finder<'s> {
     alloc: Global,
     arrays: &'s [ArrayShape],
     tasks: u32,
     profile: Profile,
-    counts: Tally,
-    index: u32,
+}
+
+/// The turns of a loop.
+#[derive(Clone, Copy)]
+struct Turns<'a> {
+    variable: &'a str,
+    from: u64,
+    behind: u64,
 }
 
 impl Finder<'_> {
-    fn program<'a>(
-        &mut self,
-        shows: &'a Value,
-        body: &'a Value,
-    ) -> Result<Option<Found<'a>>, AllocError> {
+    fn program<'a>(&self, shows: &'a Value, body: &'a Value) -> Result<Step<'a>, AllocError> {
         let root = Trail::Root;
-        let text = Text::Program(shows, body);
-        if let Some(found) = self.enter(text, shows, &root, 0)? {
-            return Ok(Some(found));
+        let passed = Passed {
+            entries: 0,
+            counts: Tally::none(),
+        };
+        match self.enter(Text::Program(shows, body), &root, 0, passed)? {
+            Step::Passed(passed) => self.body(body, &root, 1, passed),
+            Step::Met(found) => Ok(Step::Met(found)),
         }
-        self.body(body, &root, 1)
     }
 
     /// A body, which stands in so many with itself.
     #[cycle(find)]
     fn body<'a>(
-        &mut self,
+        &self,
         body: &'a Value,
         trail: &Trail<'_, 'a>,
         level: u32,
-    ) -> Result<Option<Found<'a>>, AllocError> {
+        passed: Passed,
+    ) -> Result<Step<'a>, AllocError> {
         match body {
-            Value::Array(items) => self.items(items, &*trail, level),
-            _ => Ok(None),
+            Value::Array(items) => self.items(items, &*trail, level, passed),
+            _ => self.enter(Text::None, &*trail, level, passed),
         }
     }
 
     #[cycle(find)]
     fn items<'a>(
-        &mut self,
+        &self,
         items: &'a [Value],
         trail: &Trail<'_, 'a>,
         level: u32,
-    ) -> Result<Option<Found<'a>>, AllocError> {
+        passed: Passed,
+    ) -> Result<Step<'a>, AllocError> {
+        let mut passed = passed;
         for item in items {
-            if let Some(found) = self.statement(item, &*trail, level)? {
-                return Ok(Some(found));
+            match self.statement(item, &*trail, level, passed)? {
+                Step::Passed(more) => passed = more,
+                Step::Met(found) => return Ok(Step::Met(found)),
             }
         }
-        Ok(None)
+        Ok(Step::Passed(passed))
     }
 
     /// A statement, and then those in its bodies.
     #[cycle(find)]
     fn statement<'a>(
-        &mut self,
+        &self,
         statement: &'a Value,
         trail: &Trail<'_, 'a>,
         level: u32,
-    ) -> Result<Option<Found<'a>>, AllocError> {
+        passed: Passed,
+    ) -> Result<Step<'a>, AllocError> {
         let text = text_of(self.profile, statement);
-        if let Some(found) = self.enter(text, statement, &*trail, level)? {
-            return Ok(Some(found));
+        match self.enter(text, &*trail, level, passed)? {
+            Step::Passed(passed) => self.bodies(text, &*trail, level, passed),
+            Step::Met(found) => Ok(Step::Met(found)),
         }
+    }
+
+    /// The bodies of a statement.
+    #[cycle(find)]
+    fn bodies<'a>(
+        &self,
+        text: Text<'a>,
+        trail: &Trail<'_, 'a>,
+        level: u32,
+        passed: Passed,
+    ) -> Result<Step<'a>, AllocError> {
         let inner = level.saturating_add(1);
         match text {
-            Text::If(_, one, two) => {
-                if let Some(found) = self.body(one, &*trail, inner)? {
-                    return Ok(Some(found));
-                }
-                self.body(two, &*trail, inner)
+            Text::If(_, one, two) => match self.body(one, &*trail, inner, passed)? {
+                Step::Passed(passed) => self.body(two, &*trail, inner, passed),
+                Step::Met(found) => Ok(Step::Met(found)),
+            },
+            Text::For(variable, from, behind, body) => {
+                let turns = Turns {
+                    variable: letters(variable),
+                    from: size_of(from, trail),
+                    behind: size_of(behind, trail),
+                };
+                self.turns(turns, body, &*trail, level, passed)
             }
-            Text::For(variable, first, behind, body) => {
-                let first = size_of(first, trail);
-                let behind = size_of(behind, trail);
-                self.turns(letters(variable), first, behind, body, &*trail, level)
-            }
-            Text::Task(_, body) => self.body(body, &*trail, inner),
-            Text::Group(_, body) => self.body(body, &*trail, inner),
-            Text::GroupBy(_, _, body) => self.body(body, &*trail, inner),
-            _ => Ok(None),
+            Text::Task(_, body) => self.body(body, &*trail, inner, passed),
+            Text::Group(_, body) => self.body(body, &*trail, inner, passed),
+            Text::GroupBy(_, _, body) => self.body(body, &*trail, inner, passed),
+            _ => Ok(Step::Passed(passed)),
         }
     }
 
     #[cycle(find)]
     fn turns<'a>(
-        &mut self,
-        name: &'a str,
-        first: u64,
-        behind: u64,
+        &self,
+        turns: Turns<'a>,
         body: &'a Value,
         trail: &Trail<'_, 'a>,
         level: u32,
-    ) -> Result<Option<Found<'a>>, AllocError> {
-        for number in first..behind {
-            if let Some(found) = self.enter(Text::Turn, body, &*trail, level)? {
-                return Ok(Some(found));
-            }
-            let inner = Trail::Turn(Turn { name, number }, &*trail);
-            if let Some(found) = self.body(body, &inner, level.saturating_add(1))? {
-                return Ok(Some(found));
+        passed: Passed,
+    ) -> Result<Step<'a>, AllocError> {
+        let mut passed = passed;
+        for number in turns.from..turns.behind {
+            let turn = Turn {
+                name: turns.variable,
+                number,
+            };
+            match self.turn(turn, body, &*trail, level, passed)? {
+                Step::Passed(more) => passed = more,
+                Step::Met(found) => return Ok(Step::Met(found)),
             }
         }
-        Ok(None)
+        Ok(Step::Passed(passed))
+    }
+
+    #[cycle(find)]
+    fn turn<'a>(
+        &self,
+        turn: Turn<'a>,
+        body: &'a Value,
+        trail: &Trail<'_, 'a>,
+        level: u32,
+        passed: Passed,
+    ) -> Result<Step<'a>, AllocError> {
+        match self.enter(Text::Turn, &*trail, level, passed)? {
+            Step::Passed(passed) => {
+                let inner = Trail::Turn(turn, &*trail);
+                self.body(body, &inner, level.saturating_add(1), passed)
+            }
+            Step::Met(found) => Ok(Step::Met(found)),
+        }
     }
 
     /// The own parts of what stands there, and then its counts.
     fn enter<'a>(
-        &mut self,
+        &self,
         text: Text<'a>,
-        whole: &'a Value,
         trail: &Trail<'_, 'a>,
         level: u32,
-    ) -> Result<Option<Found<'a>>, AllocError> {
-        let mut look = Look {
+        passed: Passed,
+    ) -> Result<Step<'a>, AllocError> {
+        let look = Look {
             arrays: self.arrays,
+            tasks: self.tasks,
             trail,
-            first: First::new(),
         };
-        let own = look.own_parts(self.profile, level, text);
-        if let Text::None = text {
-            look.first.note(Why::Form(whole, Wanted::Statement));
-        }
-        self.counts = self.counts.plus(own);
-        past_limits(&mut look.first, self.counts, u64::from(self.tasks));
-        if look.first.why.is_none() {
+        let mut first = First::new();
+        let own = look.own_parts(&mut first, self.profile, level, text);
+        let counts = passed.counts.plus(own);
+        first.past_limits(counts, u64::from(self.tasks));
+        if first.why.is_none() {
             if let Text::Task(clauses, _) = text {
                 if let Some((name, index)) = mixed_in(self.alloc, clauses, trail)? {
-                    look.first.note(Why::Mixed(name, index));
+                    first.note(Why::Mixed(name, index));
                 }
             }
         }
-        match look.first.why {
-            Some(why) => Ok(Some(Found {
-                index: self.index,
+        Ok(match first.why {
+            Some(why) => Step::Met(Found {
+                index: passed.entries,
                 why,
-            })),
-            None => {
-                self.index = self.index.saturating_add(1);
-                Ok(None)
-            }
-        }
+            }),
+            None => Step::Passed(Passed {
+                entries: passed.entries.saturating_add(1),
+                counts,
+            }),
+        })
     }
 }
 
-/// Counts that are past their limits.
-fn past_limits(first: &mut First<'_>, counts: Tally, tasks: u64) {
-    let limits = [
-        (Count::Statements, counts.statements, MAX_STATEMENTS),
-        (Count::Turns, counts.turns, MAX_TURNS),
-        (Count::Nodes, counts.nodes, MAX_NODES),
-        (Count::Cells, counts.cells, MAX_CELLS),
-    ];
-    for (count, has, may) in limits {
-        first.unless(has <= may, Why::TooMany(count, has, may));
+impl First<'_> {
+    /// Counts that are past their limits.
+    fn past_limits(&mut self, counts: Tally, tasks: u64)
+        ensures { told_by self.new ≡ after (told_by self.old) (past_limits tasks counts) }
+    {
+        self.more_than(Count::Statements, counts.statements, MAX_STATEMENTS);
+        self.more_than(Count::Turns, counts.turns, MAX_TURNS);
+        self.more_than(Count::Nodes, counts.nodes, MAX_NODES);
+        self.more_than(Count::Cells, counts.cells, MAX_CELLS);
+        self.unless(
+            counts.tasks <= tasks,
+            Why::TooManyTasks(counts.tasks, tasks),
+        );
     }
-    first.unless(
-        counts.tasks <= tasks,
-        Why::TooManyTasks(counts.tasks, tasks),
-    );
+
+    fn more_than(&mut self, count: Count, has: u64, may: u64)
+        ensures { told_by self.new ≡ after (told_by self.old) (more_than count has may) }
+    {
+        self.unless(has <= may, Why::TooMany(count, has, may));
+    }
 }

@@ -2,6 +2,7 @@
 #![tactic(auto)]
 
 mod find;
+pub mod laws;
 mod look;
 mod mixed;
 mod own;

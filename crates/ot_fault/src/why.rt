@@ -1,6 +1,7 @@
 //! What is at fault in a program.
 ghost use Rattle.std.specs.Prelude.{◌≡◌};
-ghost use Rattle.ot_fault.specs.First.{refusal_by};
+ghost use Rattle.ot_fault.specs.Why.{refusal_of};
+ghost use Rattle.ot_fault.specs.First.{why_by};
 
 use ot_model::Op;
 use ot_program::Refusal;
@@ -10,7 +11,6 @@ use serde_json::Value;
 #[derive(Clone, Copy, Debug, PartialEq, Eq)]
 pub enum Wanted {
     Program,
-    Statement,
     List,
     Name,
     Number,
@@ -39,6 +39,8 @@ pub enum Count {
 pub enum Why<'a> {
     /// The part is of no form.
     Form(&'a Value, Wanted),
+    /// The statement is of no form.
+    NoStatement,
     /// No loop around binds the variable.
     Unbound(&'a str),
     /// The number is no size.
@@ -68,10 +70,10 @@ pub enum Why<'a> {
 impl Why<'_> {
     /// What a client is told of it.
     pub fn refusal(self) -> Refusal
-        ensures { result ≡ refusal_by self.entry }
+        ensures { result ≡ refusal_of (why_by self.entry) }
     {
         match self {
-            Why::Form(_, _) => Refusal::Form,
+            Why::Form(_, _) | Why::NoStatement => Refusal::Form,
             Why::Unbound(_) | Why::TooGreat(_) | Why::NotExact(_, _, _) => Refusal::Size,
             Why::Unknown(_) => Refusal::UnknownArray,
             Why::NoCell(_, _, _) | Why::NoCells(_, _, _, _) => Refusal::OutOfRange,
@@ -91,19 +93,20 @@ pub(crate) struct First<'a> {
 
 impl<'a> First<'a> {
     ghost use Rattle.std.specs.Prelude.{None};
-    ghost use Rattle.ot_program.specs.Faults.{unless};
-    ghost use Rattle.ot_fault.specs.First.{first_by, noted, after};
+    ghost use Rattle.ot_fault.specs.Why.{noted, after};
+    ghost use Rattle.ot_fault.specs.Whys.{unless};
+    ghost use Rattle.ot_fault.specs.First.{told_by};
 
     /// Of none.
     pub(crate) fn new() -> First<'a>
-        ensures { first_by result ≡ None }
+        ensures { told_by result ≡ None }
     {
         First { why: None }
     }
 
     /// One fault more.
     pub(crate) fn note(&mut self, why: Why<'a>)
-        ensures { first_by self.new ≡ noted (first_by self.old) (refusal_by why.entry) }
+        ensures { told_by self.new ≡ noted (told_by self.old) (why_by why.entry) }
     {
         self.why = Some(match self.why {
             Some(earlier) if rank(earlier.refusal()) <= rank(why.refusal()) => earlier,
@@ -113,7 +116,7 @@ impl<'a> First<'a> {
 
     /// One fault more, unless a test holds.
     pub(crate) fn unless(&mut self, test: bool, why: Why<'a>)
-        ensures { first_by self.new ≡ after (first_by self.old) (unless test (refusal_by why.entry)) }
+        ensures { told_by self.new ≡ after (told_by self.old) (unless test (why_by why.entry)) }
     {
         if !test {
             self.note(why);

@@ -27,18 +27,22 @@ pub(crate) fn of_program(
     if found.why.refusal() != refusal {
         return Ok(reasons);
     }
+    let second = is_second(request);
     if let Some(place) = entry_of(alloc, request, found.index)? {
         if let Some(statement) = value_at(request, place.path.as_slice()) {
             reasons.push(at_line(alloc, &place, statement, telling)?)?;
+            if let Why::NoStatement = found.why {
+                unlike_statement(alloc, second, statement, &mut reasons)?;
+            }
         }
     }
-    let second = is_second(request);
     match found.why {
-        Why::Form(part, Wanted::Statement) => unlike_statement(alloc, second, part, &mut reasons)?,
+        Why::NoStatement => {}
+        Why::Unknown(_) => {
+            reasons.push(words_of(alloc, found.why, second)?)?;
+            reasons.push(all_of(alloc, arrays)?)?;
+        }
         why => reasons.push(words_of(alloc, why, second)?)?,
-    }
-    if let Why::Unknown(_) = found.why {
-        reasons.push(all_of(alloc, arrays)?)?;
     }
     Ok(reasons)
 }
@@ -142,7 +146,6 @@ fn wanted_words(wanted: Wanted, second: bool) -> &'static str {
         Wanted::Program => {
             "no program: it is [\"program\",[section,..],body] or [\"program2\",[section,..],body]"
         }
-        Wanted::Statement => "no statement",
         Wanted::List => "no list",
         Wanted::Name => "no name: a letter a to z, then at most 15 letters a to z, digits and _",
         Wanted::Number => "no whole number from 0 to 18446744073709551615",

@@ -1,0 +1,12 @@
+use Rattle.std.proofs.Common.{rules}
+use Rattle.ot_fault.specs.First.{shape_by, variables_by}
+use Rattle.ot_fault.proofs.ClauseLemmas.{no_clause, no_clause_len}
+use Rattle.ot_fault.proofs.look.Look.clause_of_items.Goals as goal
+
+pub returns-clause-len : goal.returns-clause-len
+returns-clause-len c defined s =
+    no_clause_len (shape_by c.args.self.now) defined (variables_by c.args.self.now) c.args.items.now s.1.0 (search rules) (search rules) s.1.1
+
+pub returns-clause-first : goal.returns-clause-first
+returns-clause-first c defined s =
+    rw (no_clause (shape_by c.args.self.now) defined (variables_by c.args.self.now) c.args.items.now (search rules) (search rules), ← c.requires) (search rules)
