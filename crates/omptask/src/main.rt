@@ -14,7 +14,6 @@ mod commands;
 pub mod ended;
 mod explaining;
 pub mod fault;
-mod matched;
 mod prompt;
 pub mod reaching;
 
