@@ -1,8 +1,8 @@
 //! What a client sends and prints, by what it reads and hears.
 ghost use Rattle.std.specs.Prelude.{Some};
 
-use ot_ask::{AskFault, Asked, Lines, Tally, ask};
-use ot_front::{Failed, Sink};
+use ot_ask::{AskFault, Asked, LinesOf, Tally, ask};
+use ot_front::{Failed, Reading, Sink};
 use std::alloc::Global;
 use std::test::Fail;
 
@@ -50,8 +50,12 @@ const ALL: usize = 1_000_000;
 impl Session {
     /// Whether it comes to what it should.
     fn is_held(&self, alloc: Global) -> bool {
-        let mut typed = Lines::new(self.typed.as_bytes());
-        let mut heard = Lines::new(self.heard.as_bytes());
+        let Ok(mut typed) = LinesOf::new(alloc, Reading::new(self.typed.as_bytes())) else {
+            return false;
+        };
+        let Ok(mut heard) = LinesOf::new(alloc, Reading::new(self.heard.as_bytes())) else {
+            return false;
+        };
         let mut wire = Narrow {
             taken: Vec::new(alloc),
             room: self.may_send,

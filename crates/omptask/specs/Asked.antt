@@ -1,8 +1,7 @@
 -- What the words ask for.
-use Rattle.std.specs.Prelude.{◌≡◌, ◌≢◌, ◌&&◌, ℕ, Bool, true, false, nat_le, if◌then◌else◌, List, [], map, Option, Some, None, IfSome, codes, option_map, slice_get, string_bytes, unwrap_or}
-use Rattle.std.specs.Str.Parse.{digits_value, without_leading_plus}
-use Rattle.clap.specs.Values.{IsUnsignedIn}
+use Rattle.std.specs.Prelude.{◌≡◌, ◌≢◌, ℕ, List, [], map, Option, Some, IfSome, codes, option_map, slice_get, string_bytes, unwrap_or}
 use Rattle.clap.specs.Words.{Row, Text, all_of, first_of, one_of}
+use Rattle.ot_commands.specs.Matched.{IsRead, IsSaid, entered_name, entered_rows}
 use Rattle.omptask.specs.declared.asked.Ask.{Ask}
 use Rattle.omptask.specs.declared.asked.Check.{Check}
 use Rattle.omptask.specs.declared.asked.Manner.{Manner}
@@ -10,21 +9,6 @@ use Rattle.omptask.specs.declared.asked.Words.{Words}
 use Rattle.omptask.specs.declared.asked.Words.TheVariants as asked
 use Rattle.omptask.specs.declared.fault.Fault.{Fault}
 use Rattle.omptask.specs.declared.fault.Fault.TheVariants as of
-
--- a number, where it is from 1 to `most`
-abbrev pub within : ℕ → Option ℕ → Option ℕ
-within most None = None
-within most (Some n) = if nat_le 1 n && nat_le n most then Some n else None
-
--- a number that is given and lies from 1 to `most` is read, and without one there is none
-abbrev pub IsRead : ℕ → Option Text → Option ℕ → Type 0
-IsRead most None number = number ≡ None
-IsRead most (Some text) number = IsUnsignedIn 1 most text → number ≡ Some (digits_value 10 (without_leading_plus text))
-
--- a flag that is said is true, and one that isn't is false
-abbrev pub IsSaid : Option Text → Bool → Type 0
-IsSaid None flag = flag ≡ false
-IsSaid (Some text) flag = (text ≡ codes "true" → flag ≡ true) × (text ≡ codes "false" → flag ≡ false)
 
 -- the tenant that the words behind `ask`, `save` or `restore` ask for
 pub record AsksServer (rows : List Row) (ask : Ask) : Type 0 where
@@ -41,13 +25,6 @@ pub record AsksFiles (rows : List Row) (check : Check) : Type 0 where
   pub defined : map string_bytes check.defined.items ≡ unwrap_or (all_of (codes "define") rows) []
   pub lines : IsSaid (one_of (codes "lines") rows) check.lines
   pub files : map string_bytes check.files.items ≡ unwrap_or (all_of (codes "file") rows) []
-
--- the name of the subcommand that `clap` enters, and what it finds behind it
-abbrev pub entered_name : Option (Text × List Row) → Option Text
-entered_name entered = option_map (λ s. s.0) entered
-
-abbrev pub entered_rows : Option (Text × List Row) → Option (List Row)
-entered_rows entered = option_map (λ s. s.1) entered
 
 -- what a subcommand asks for
 abbrev pub AsksFor : Option (Text × List Row) → Words → Type 0

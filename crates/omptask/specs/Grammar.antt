@@ -1,40 +1,24 @@
 -- The words that the program takes, as `clap` sees them.
 use Rattle.std.specs.Prelude.{Some, true, codes, pos}
 use Rattle.clap.specs.Words.{App, Rule, Shape, new_app, with_subcommand}
-use Rattle.clap.specs.Lexer.{usize_max}
 use Rattle.clap.specs.Simple.{new_rule, on_top, with_rule}
-use Rattle.clap.specs.declared.builder.action.ArgAction.TheVariants.{Append, SetTrue}
+use Rattle.clap.specs.declared.builder.action.ArgAction.TheVariants.{Append}
 use Rattle.clap.specs.declared.builder.value_parser.ValueParser.TheVariants.{Signed}
+use Rattle.ot_commands.specs.Rules.{flag_rule, names_rule, socket_rule}
 
 -- a code may be given
 unfoldable pub code_rule : Rule
 code_rule = record (new_rule (codes "code")) { value_names = 1; parser = Some (Signed (pos 1) (pos 999)) }
 
--- what is wrong may be asked for alone
-unfoldable pub quiet_rule : Rule
-quiet_rule = record (new_rule (codes "quiet")) { long = Some (codes "quiet"); action = Some SetTrue }
-
 unfoldable pub explain_words : Shape
-explain_words = (with_rule (with_rule (new_app (codes "explain")) quiet_rule) code_rule).top
-
--- the path of the socket, which has to be given
-unfoldable pub socket_rule : Rule
-socket_rule = record (new_rule (codes "socket")) { long = Some (codes "socket"); value_names = 1; required = true }
-
--- the first refusal may be asked to end the session
-unfoldable pub stop_rule : Rule
-stop_rule = record (new_rule (codes "stop")) { long = Some (codes "stop"); action = Some SetTrue }
-
--- what is wrong may be asked for behind each refusal
-unfoldable pub explain_rule : Rule
-explain_rule = record (new_rule (codes "explain")) { long = Some (codes "explain"); action = Some SetTrue }
+explain_words = (with_rule (with_rule (new_app (codes "explain")) (flag_rule (codes "quiet"))) code_rule).top
 
 -- the tenant's name, which has to be given
 unfoldable pub name_rule : Rule
 name_rule = record (new_rule (codes "name")) { value_names = 1; required = true }
 
 unfoldable pub ask_words : Shape
-ask_words = (with_rule (with_rule (with_rule (with_rule (new_app (codes "ask")) socket_rule) stop_rule) explain_rule) name_rule).top
+ask_words = (with_rule (with_rule (with_rule (with_rule (new_app (codes "ask")) socket_rule) (flag_rule (codes "stop"))) (flag_rule (codes "explain"))) name_rule).top
 
 unfoldable pub save_words : Shape
 save_words = (with_rule (with_rule (new_app (codes "save")) socket_rule) name_rule).top
@@ -52,16 +36,8 @@ c_words = (new_app (codes "c")).top
 unfoldable pub define_rule : Rule
 define_rule = record (new_rule (codes "define")) { long = Some (codes "define"); action = Some Append; value_names = 1 }
 
--- lines may be asked for
-unfoldable pub lines_rule : Rule
-lines_rule = record (new_rule (codes "lines")) { long = Some (codes "lines"); action = Some SetTrue }
-
--- one file or more
-unfoldable pub files_rule : Rule
-files_rule = record (new_rule (codes "file")) { value_names = 1; range = Some (record { start_inclusive = 1; end_inclusive = usize_max }); required = true }
-
 unfoldable pub check_words : Shape
-check_words = (with_rule (with_rule (with_rule (new_app (codes "check")) define_rule) lines_rule) files_rule).top
+check_words = (with_rule (with_rule (with_rule (new_app (codes "check")) define_rule) (flag_rule (codes "lines"))) (names_rule (codes "file"))).top
 
 -- one of the subcommands has to be given, but where the version is asked for
 unfoldable pub program_words : App

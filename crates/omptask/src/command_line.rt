@@ -6,8 +6,8 @@ ghost use Rattle.omptask.specs.Grammar.{program_words};
 
 use crate::asked::{Ask, Check, Manner, Words};
 use crate::commands::{MAX_CODE, program_command};
-use crate::matched::{flag, number, text, texts};
 use clap::{ArgMatches, Error};
+use ot_commands::{flag, number, text, texts};
 use std::alloc::{AllocError, Global};
 
 /// Reads the words of a command line, of which the first is the program's name.

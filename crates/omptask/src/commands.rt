@@ -2,9 +2,10 @@
 ghost use Rattle.std.specs.Prelude.{◌≡◌, IfOk, false};
 ghost use Rattle.clap.specs.Words.{app_of, rule_of, shape_of};
 ghost use Rattle.clap.specs.declared.builder.command.Command.TheViews.{out-Command as fields_of};
-ghost use Rattle.omptask.specs.Grammar.{program_words, explain_words, ask_words, save_words, restore_words, graph_words, c_words, check_words, code_rule, socket_rule, stop_rule, name_rule, define_rule, lines_rule, files_rule, quiet_rule, explain_rule};
+ghost use Rattle.omptask.specs.Grammar.{program_words, explain_words, ask_words, save_words, restore_words, graph_words, c_words, check_words, code_rule, name_rule, define_rule};
 
 use clap::{Arg, ArgAction, Command, value_parser};
+use ot_commands::{flag_arg, names_arg, socket_arg};
 use std::alloc::{AllocError, Global};
 
 /// What `--version` prints behind the program's name.
@@ -61,6 +62,9 @@ a line `FILE:LINE:COLUMN: error: CODE: ..` is written, and behind it lines `FILE
 begins with the arrays of --define; it makes others by its own requests.
 The status is 3 where anything was refused, and 1 where a FILE couldn't be judged.";
 
+/// What `--socket` is.
+const SOCKET_HELP: &str = "Where the server's socket stands";
+
 /// The program's command.
 pub(crate) fn program_command<'a>(alloc: Global) -> Result<Command<'a>, AllocError>
     ensures { IfOk result (λ command. app_of command ≡ program_words) }
@@ -92,7 +96,7 @@ fn explain_command<'a>(alloc: Global) -> Result<Command<'a>, AllocError>
     Command::new(alloc, "explain")
         .about("Say what each refusal of a session means, or what one code means")
         .after_help(EXPLAIN_HELP)
-        .arg(quiet_arg(alloc))?
+        .arg(flag_arg(alloc, "quiet", "Write what is wrong alone, and no replies"))?
         .arg(code_arg(alloc))
 }
 
@@ -103,9 +107,17 @@ fn ask_command<'a>(alloc: Global) -> Result<Command<'a>, AllocError>
     Command::new(alloc, "ask")
         .about("Send lines to a server, and print its replies")
         .after_help(ASK_HELP)
-        .arg(socket_arg(alloc))?
-        .arg(stop_arg(alloc))?
-        .arg(explain_arg(alloc))?
+        .arg(socket_arg(alloc, SOCKET_HELP))?
+        .arg(flag_arg(
+            alloc,
+            "stop",
+            "End the session behind the first line that is refused",
+        ))?
+        .arg(flag_arg(
+            alloc,
+            "explain",
+            "Say behind each refusal what is wrong, as omptask explain does",
+        ))?
         .arg(name_arg(alloc))
 }
 
@@ -116,7 +128,7 @@ fn save_command<'a>(alloc: Global) -> Result<Command<'a>, AllocError>
     Command::new(alloc, "save")
         .about("Write a tenant of a server as a file")
         .after_help(SAVE_HELP)
-        .arg(socket_arg(alloc))?
+        .arg(socket_arg(alloc, SOCKET_HELP))?
         .arg(name_arg(alloc))
 }
 
@@ -127,7 +139,7 @@ fn restore_command<'a>(alloc: Global) -> Result<Command<'a>, AllocError>
     Command::new(alloc, "restore")
         .about("Make a tenant of a server of its file")
         .after_help(RESTORE_HELP)
-        .arg(socket_arg(alloc))?
+        .arg(socket_arg(alloc, SOCKET_HELP))?
         .arg(name_arg(alloc))
 }
 
@@ -157,8 +169,12 @@ fn check_command<'a>(alloc: Global) -> Result<Command<'a>, AllocError>
         .about("Say where the requests of files are refused, with no program run")
         .after_help(CHECK_HELP)
         .arg(define_arg(alloc))?
-        .arg(lines_arg(alloc))?
-        .arg(files_arg(alloc))
+        .arg(flag_arg(
+            alloc,
+            "lines",
+            "Write the requests of the files, one a line, and judge nothing",
+        ))?
+        .arg(names_arg(alloc, "file", "FILE", "The files; - is standard input"))
 }
 
 fn code_arg<'a>(alloc: Global) -> Arg<'a>
@@ -169,47 +185,6 @@ fn code_arg<'a>(alloc: Global) -> Arg<'a>
         .value_name("CODE")
         .value_parser(value_parser!(u32).range(1..=999))
         .help("A code of a refusal, as 427: what it means, and no session")
-}
-
-fn quiet_arg<'a>(alloc: Global) -> Arg<'a>
-    ensures rule { rule_of result ≡ quiet_rule }
-    ensures own { result.global ≡ false }
-{
-    Arg::new(alloc, "quiet")
-        .long("quiet")
-        .action(ArgAction::SetTrue)
-        .help("Write what is wrong alone, and no replies")
-}
-
-fn stop_arg<'a>(alloc: Global) -> Arg<'a>
-    ensures rule { rule_of result ≡ stop_rule }
-    ensures own { result.global ≡ false }
-{
-    Arg::new(alloc, "stop")
-        .long("stop")
-        .action(ArgAction::SetTrue)
-        .help("End the session behind the first line that is refused")
-}
-
-fn explain_arg<'a>(alloc: Global) -> Arg<'a>
-    ensures rule { rule_of result ≡ explain_rule }
-    ensures own { result.global ≡ false }
-{
-    Arg::new(alloc, "explain")
-        .long("explain")
-        .action(ArgAction::SetTrue)
-        .help("Say behind each refusal what is wrong, as omptask explain does")
-}
-
-fn socket_arg<'a>(alloc: Global) -> Arg<'a>
-    ensures rule { rule_of result ≡ socket_rule }
-    ensures own { result.global ≡ false }
-{
-    Arg::new(alloc, "socket")
-        .long("socket")
-        .value_name("PATH")
-        .required(true)
-        .help("Where the server's socket stands")
 }
 
 fn name_arg<'a>(alloc: Global) -> Arg<'a>
@@ -231,25 +206,4 @@ fn define_arg<'a>(alloc: Global) -> Arg<'a>
         .action(ArgAction::Append)
         .value_name("NAME=LEN")
         .help("An array that is there before each file, as a=3; may be given again")
-}
-
-fn lines_arg<'a>(alloc: Global) -> Arg<'a>
-    ensures rule { rule_of result ≡ lines_rule }
-    ensures own { result.global ≡ false }
-{
-    Arg::new(alloc, "lines")
-        .long("lines")
-        .action(ArgAction::SetTrue)
-        .help("Write the requests of the files, one a line, and judge nothing")
-}
-
-fn files_arg<'a>(alloc: Global) -> Arg<'a>
-    ensures rule { rule_of result ≡ files_rule }
-    ensures own { result.global ≡ false }
-{
-    Arg::new(alloc, "file")
-        .value_name("FILE")
-        .num_args(1..)
-        .required(true)
-        .help("The files; - is standard input")
 }

@@ -14,7 +14,6 @@ mod commands;
 pub mod ended;
 mod explaining;
 pub mod fault;
-mod matched;
 mod prompt;
 pub mod reaching;
 
@@ -25,7 +24,7 @@ pub use command_line::words;
 pub use ended::Ended;
 use explaining::ask_explained;
 pub use fault::{Fault, Want, fault_line, want_text};
-use ot_ask::{Asked, LineSource, Lines, Tally, ask};
+use ot_ask::{Asked, LineSource, LinesOf, Tally, ask};
 use ot_c::c_text;
 use ot_explain::{Explained, explain, explain_quietly};
 use ot_front::{Reading, Sink, Writing, write_whole};
@@ -38,15 +37,12 @@ use reaching::reach;
 pub use reaching::{Cause, cause_text};
 use std::alloc::Global;
 use std::env::Env;
-use std::io::{BufReader, IsTerminal, Read};
+use std::io::{IsTerminal, Read};
 use std::net::Net;
 use std::os::unix::net::UnixStream;
 use std::process::ExitCode;
 use std::rt::Files;
 use std::{env, io};
-
-/// How many bytes of a server's replies are read at a time.
-const READ_SIZE: usize = 65_536;
 
 /// Above how many tasks their number is told.
 const MANY_TASKS: u32 = 200;
@@ -229,15 +225,15 @@ fn ask_server<R: Input + Print + Eprint + Files + Net>(
     is_typed: bool,
 ) -> Result<Ended, Fault> {
     let stream = server_of(rt, asked)?;
-    let Ok(typed) = BufReader::new(alloc, rt.reader()) else {
+    let Ok(typed) = LinesOf::new(alloc, Reading::new(rt.reader())) else {
         return Err(Fault::Memory);
     };
-    let Ok(heard) = BufReader::with_capacity(alloc, READ_SIZE, &stream) else {
+    let Ok(mut heard) = LinesOf::new(alloc, Reading::new(&stream)) else {
         return Err(Fault::Memory);
     };
     let mut lines = Prompted {
         rt,
-        lines: Lines::new(typed),
+        lines: typed,
         is_typed,
     };
     let (ended, tally) = hold(
@@ -245,7 +241,7 @@ fn ask_server<R: Input + Print + Eprint + Files + Net>(
         asked.name.as_str(),
         manner,
         &mut lines,
-        &mut Lines::new(heard),
+        &mut heard,
         &mut Writing::new(&stream),
         &mut Writing::new(io::writer(rt)),
     );
@@ -301,13 +297,13 @@ fn tell_tally(rt: &impl Eprint, tally: Tally) {
 /// Writes a tenant of a server as a file on standard output.
 fn save_tenant<R: Print + Files + Net>(rt: &R, alloc: Global, asked: &Ask) -> Result<Ended, Fault> {
     let stream = server_of(rt, asked)?;
-    let Ok(heard) = BufReader::with_capacity(alloc, READ_SIZE, &stream) else {
+    let Ok(mut heard) = LinesOf::new(alloc, Reading::new(&stream)) else {
         return Err(Fault::Memory);
     };
     let saved = save(
         alloc,
         asked.name.as_str(),
-        &mut Lines::new(heard),
+        &mut heard,
         &mut Writing::new(&stream),
         &mut Writing::new(io::writer(rt)),
     );
@@ -331,14 +327,14 @@ fn restore_tenant<R: Input + Files + Net>(
         return Err(Fault::ReadFailed);
     }
     let stream = server_of(rt, asked)?;
-    let Ok(heard) = BufReader::with_capacity(alloc, READ_SIZE, &stream) else {
+    let Ok(mut heard) = LinesOf::new(alloc, Reading::new(&stream)) else {
         return Err(Fault::Memory);
     };
     let restored = restore(
         alloc,
         asked.name.as_str(),
         file.as_slice(),
-        &mut Lines::new(heard),
+        &mut heard,
         &mut Writing::new(&stream),
     );
     match restored {

@@ -1,5 +1,5 @@
 //! Lines that are typed at a terminal, behind a prompt.
-use ot_ask::{LineEnd, LineFault, LineSource};
+use ot_ask::{LineEnd, LineSource, ReadFault};
 use std::io::Eprint;
 
 /// Lines, and before each is read a prompt on standard error where a person types them.
@@ -13,7 +13,7 @@ pub(crate) struct Prompted<'a, R: Eprint, T: LineSource + Drop> {
 impl<'a, R: Eprint, T: LineSource + Drop> LineSource for Prompted<'a, R, T> {
     ghost coming = { λ s. T.coming s.lines };
 
-    fn read_line(&mut self, line: &mut Vec<u8>) -> Result<LineEnd, LineFault> {
+    fn read_line(&mut self, line: &mut Vec<u8>) -> Result<LineEnd, ReadFault> {
         if self.is_typed {
             let _ = eprint!(self.rt; "> ");
         }

@@ -1,26 +1,15 @@
 -- What the words ask for.
-use Rattle.std.specs.Prelude.{◌≡◌, ◌≢◌, ◌&&◌, ℕ, nat_le, if◌then◌else◌, List, [], Option, Some, None, Result, Ok, Err, ⊤, IfSome, codes, map, option_map, string_bytes, unwrap_or}
-use Rattle.std.specs.Str.Parse.{digits_value, without_leading_plus}
-use Rattle.clap.specs.Values.{IsUnsignedIn}
+use Rattle.std.specs.Prelude.{◌≡◌, ◌≢◌, ℕ, List, [], Option, Some, Result, Ok, Err, ⊤, IfSome, codes, map, string_bytes, unwrap_or}
 use Rattle.clap.specs.Words.{Row, Text, all_of, first_of, kind_of, one_of}
 use Rattle.clap.specs.declared.error.Error.{Error}
 use Rattle.clap.specs.declared.error.kind.ErrorKind.TheVariants.{OutOfMemory}
+use Rattle.ot_commands.specs.Matched.{IsRead, entered_name, entered_rows}
 use Rattle.ot_serve.specs.declared.serve.Serve.{Serve}
 use Rattle.ot_serve.specs.Serving as serving
 use Rattle.omptaskd.specs.declared.asked.Words.{Words}
 use Rattle.omptaskd.specs.declared.asked.Words.TheVariants as asked
 
--- a number, where it is from 1 to `most`
-abbrev pub within : ℕ → Option ℕ → Option ℕ
-within most None = None
-within most (Some n) = if nat_le 1 n && nat_le n most then Some n else None
-
--- a number that is given and lies from 1 to `most` is read, and without one there is none
-abbrev pub IsRead : ℕ → Option Text → Option ℕ → Type 0
-IsRead most None number = number ≡ None
-IsRead most (Some text) number = IsUnsignedIn 1 most text → number ≡ Some (digits_value 10 (without_leading_plus text))
-
--- the same, with 4 where none is given
+-- a number up to 16 is read, with 4 where none is given
 abbrev pub IsReadOr4 : Option Text → ℕ → Type 0
 IsReadOr4 text number = (read : Option ℕ) × IsRead 16 text read × (number ≡ unwrap_or read 4)
 
@@ -31,13 +20,6 @@ pub record Serves (rows : List Row) (asked : Serve) : Type 0 where
   pub sessions : IsReadOr4 (one_of (codes "sessions") rows) asked.sessions
   pub count : IsRead 1000000 (one_of (codes "count") rows) asked.count
   pub names : map string_bytes asked.names.items ≡ unwrap_or (all_of (codes "name") rows) []
-
--- the name of the subcommand that `clap` enters, and what it finds behind it
-abbrev pub entered_name : Option (Text × List Row) → Option Text
-entered_name entered = option_map (λ s. s.0) entered
-
-abbrev pub entered_rows : Option (Text × List Row) → Option (List Row)
-entered_rows entered = option_map (λ s. s.1) entered
 
 -- what a subcommand asks for
 abbrev pub AsksFor : Option (Text × List Row) → Words → Type 0

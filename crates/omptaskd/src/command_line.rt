@@ -7,8 +7,8 @@ ghost use Rattle.omptaskd.specs.Grammar.{program_words};
 
 use crate::asked::Words;
 use crate::commands::{MAX_CONNECTIONS, MAX_THREADS, program_command};
-use crate::matched::{number, text, texts};
 use clap::{ArgMatches, Error};
+use ot_commands::{number, text, texts};
 use ot_serve::Serve;
 use std::alloc::{AllocError, Global};
 

@@ -1,10 +1,11 @@
 //! The words that the program takes, as a command of `clap`.
 ghost use Rattle.std.specs.Prelude.{◌≡◌, IfOk, false};
-ghost use Rattle.clap.specs.Words.{app_of, rule_of, shape_of};
+ghost use Rattle.clap.specs.Words.{app_of, shape_of};
 ghost use Rattle.clap.specs.declared.builder.command.Command.TheViews.{out-Command as fields_of};
-ghost use Rattle.omptaskd.specs.Grammar.{program_words, serve_words, sim_words, solo_words, count_rule, names_rule, sessions_rule, socket_rule, workers_rule};
+ghost use Rattle.omptaskd.specs.Grammar.{program_words, serve_words, sim_words, solo_words};
 
-use clap::{Arg, Command, value_parser};
+use clap::Command;
+use ot_commands::{names_arg, number_arg, socket_arg};
 use std::alloc::{AllocError, Global};
 
 /// What `--version` prints behind the program's name.
@@ -74,64 +75,27 @@ fn serve_command<'a>(alloc: Global) -> Result<Command<'a>, AllocError>
     Command::new(alloc, "serve")
         .about("Serve tenants at a Unix socket")
         .after_help(SERVE_HELP)
-        .arg(socket_arg(alloc))?
-        .arg(workers_arg(alloc))?
-        .arg(sessions_arg(alloc))?
-        .arg(count_arg(alloc))?
-        .arg(names_arg(alloc))
-}
-
-fn socket_arg<'a>(alloc: Global) -> Arg<'a>
-    ensures rule { rule_of result ≡ socket_rule }
-    ensures own { result.global ≡ false }
-{
-    Arg::new(alloc, "socket")
-        .long("socket")
-        .value_name("PATH")
-        .required(true)
-        .help("Where the socket's file is to stand")
-}
-
-fn workers_arg<'a>(alloc: Global) -> Arg<'a>
-    ensures rule { rule_of result ≡ workers_rule }
-    ensures own { result.global ≡ false }
-{
-    Arg::new(alloc, "workers")
-        .long("workers")
-        .value_name("N")
-        .value_parser(value_parser!(u32).range(1..=16))
-        .help("How many workers run pieces of jobs, 1 to 16; 4 unless given")
-}
-
-fn sessions_arg<'a>(alloc: Global) -> Arg<'a>
-    ensures rule { rule_of result ≡ sessions_rule }
-    ensures own { result.global ≡ false }
-{
-    Arg::new(alloc, "sessions")
-        .long("sessions")
-        .value_name("S")
-        .value_parser(value_parser!(u32).range(1..=16))
-        .help("How many connections are served at a time, 1 to 16; 4 unless given")
-}
-
-fn count_arg<'a>(alloc: Global) -> Arg<'a>
-    ensures rule { rule_of result ≡ count_rule }
-    ensures own { result.global ≡ false }
-{
-    Arg::new(alloc, "count")
-        .long("count")
-        .value_name("C")
-        .value_parser(value_parser!(u32).range(1..=1_000_000))
-        .help("End after C connections, 1 to 1000000; without it the server goes on")
-}
-
-fn names_arg<'a>(alloc: Global) -> Arg<'a>
-    ensures rule { rule_of result ≡ names_rule }
-    ensures own { result.global ≡ false }
-{
-    Arg::new(alloc, "name")
-        .value_name("NAME")
-        .num_args(1..)
-        .required(true)
-        .help("The tenants")
+        .arg(socket_arg(alloc, "Where the socket's file is to stand"))?
+        .arg(number_arg(
+            alloc,
+            "workers",
+            "N",
+            MAX_THREADS,
+            "How many workers run pieces of jobs, 1 to 16; 4 unless given",
+        ))?
+        .arg(number_arg(
+            alloc,
+            "sessions",
+            "S",
+            MAX_THREADS,
+            "How many connections are served at a time, 1 to 16; 4 unless given",
+        ))?
+        .arg(number_arg(
+            alloc,
+            "count",
+            "C",
+            MAX_CONNECTIONS,
+            "End after C connections, 1 to 1000000; without it the server goes on",
+        ))?
+        .arg(names_arg(alloc, "name", "NAME", "The tenants"))
 }

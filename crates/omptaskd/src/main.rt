@@ -11,7 +11,6 @@ ghost use Rattle.omptaskd.specs.Faults.{fault_of};
 pub mod asked;
 pub mod command_line;
 mod commands;
-mod matched;
 
 pub use asked::Words;
 use clap::error::ErrorKind;

@@ -2,6 +2,7 @@
 use Rattle.std.proofs.Common.{◌≡◌, ◌||◌, ◌&&◌, ◌∙◌, ◌+◌, ◌-◌, ℕ, Bool, true, false, List, [], ◌∷◌, ◌++◌, map, refl, sym, ap, ap₂, subst, inl, inr, append-nil, length-append, Result, Ok, Err, length}
 use Rattle.std.specs.List.{concat}
 use Rattle.std.specs.Io.KnownBytes.{Consumes}
+use Rattle.std.proofs.Math.Bool.{or-false, or-true}
 use Rattle.std.proofs.KnownBytes.{Appends-nil, Appends-trans, Consumes-nil, Consumes-trans}
 use Rattle.std.proofs.lemmas.List.Folds.{concat-append, list_any-append}
 use Rattle.std.proofs.lemmas.List.Elements.{All-nil, All-push, All-take, AllZip-push}
@@ -24,10 +25,6 @@ concat-more xs x = concat-append xs (x ∷ []) ∙ ap (λ l. concat xs ++ l) (ap
 pub map-more : (xs : List (List ℕ)) (x : List ℕ) → map sent_for (xs ++ x ∷ []) ≡ map sent_for xs ++ sent_for x ∷ []
 map-more [] x = refl
 map-more (y ∷ xs) x = ap (λ l. sent_for y ∷ l) (map-more xs x)
-
-pub or-false : (b : Bool) → (b || false) ≡ b
-or-false true = refl
-or-false false = refl
 
 -- what was read of the lines
 pub gives-bytes : (old new : Incoming) (line : List ℕ) → Gives old new line → Consumes old.ahead new.ahead line
@@ -168,10 +165,6 @@ pub talks_broken : (Says : List ℕ → List ℕ → Type 0) → (stop : Bool) (
 talks_broken Says stop a b c r fault step t talk calm counted steps is =
     let breaks : Breaks Says fault b c = subst (Steps Says b c) is steps in
     talks Says stop a b c r (Err fault) t talk calm (goes_broken Says (length talk.lines) b c r fault breaks) counted
-
-or-true : (r : Bool) → (r || true) ≡ true
-or-true true = refl
-or-true false = refl
 
 counts_left : (old new : Link) (result : Result Asked AskFault) (replies : List (List ℕ)) (t : Tally) → Leaves old new result
     → t ≡ tally_of replies → Counts replies result t

@@ -1,5 +1,6 @@
 -- Replies counted, one after another, and the first refusal among them.
 use Rattle.std.proofs.Common.{◌≡◌, ◌||◌, ◌∙◌, ◌+◌, ◌-◌, ◌≤◌, ℕ, suc, Bool, true, false, cond, List, [], ◌∷◌, ◌++◌, length, take, filter, Option, Some, None, refl, sym, ap, ap₂, subst, length-append, arith}
+use Rattle.std.proofs.Math.Bool.{or-false, or-true}
 use Rattle.std.specs.List.{position_from}
 use Rattle.std.specs.Prelude.{All}
 use Rattle.ot_ask.specs.Lines.{is_last, is_refusal}
@@ -69,18 +70,10 @@ untaken_few (x ∷ xs) = at (is_untaken x) (untaken_few xs)
 
 -- what a reply that doesn't end the session is counted as, and one that does
 pub untaken-of : (x : List ℕ) (s : Bool) → s ≡ is_refusal x → is_last x ≡ false → is_untaken x ≡ s
-untaken-of x s told goes_on = ap₂ (λ a b. a || b) (sym told) goes_on ∙ plain s
-  where
-    plain : (s : Bool) → (s || false) ≡ s
-    plain true = refl
-    plain false = refl
+untaken-of x s told goes_on = ap₂ (λ a b. a || b) (sym told) goes_on ∙ or-false s
 
 pub untaken_last : (x : List ℕ) → is_last x ≡ true → is_untaken x ≡ true
-untaken_last x last = ap (λ b. is_refusal x || b) last ∙ plain (is_refusal x)
-  where
-    plain : (s : Bool) → (s || true) ≡ true
-    plain true = refl
-    plain false = refl
+untaken_last x last = ap (λ b. is_refusal x || b) last ∙ or-true (is_refusal x)
 
 -- ---- a session that is to stop at a refusal
 

@@ -5,8 +5,8 @@ use Rattle.ot_front.specs.Device.{AppendsFront, next_count}
 use Rattle.ot_ask.specs.Lines.{IsWhole, is_ended}
 use Rattle.ot_ask.specs.declared.stream.LineEnd.{LineEnd}
 use Rattle.ot_ask.specs.declared.stream.LineEnd.TheVariants.{Whole, Cut}
-use Rattle.ot_ask.specs.declared.stream.LineFault.{LineFault}
-use Rattle.ot_ask.specs.declared.stream.LineFault.TheVariants.{Failed, Memory}
+use Rattle.ot_ask.specs.declared.stream.ReadFault.{ReadFault}
+use Rattle.ot_ask.specs.declared.stream.ReadFault.TheVariants.{Failed, Memory}
 
 abbrev pub Known : Type 0
 Known = Option (List ℕ)
@@ -59,7 +59,7 @@ pub record GivesRest (old new : Incoming) (rest : List ℕ) : Type 0 where
   pub ended : HasEnded old new
 
 -- one reading of a line, by what it came to
-abbrev pub ReadsLine : Incoming → Incoming → List ℕ → Result LineEnd LineFault → Type 0
+abbrev pub ReadsLine : Incoming → Incoming → List ℕ → Result LineEnd ReadFault → Type 0
 ReadsLine old new line (Ok Whole) = GivesLine old new line
 ReadsLine old new line (Ok Cut) = GivesRest old new line
 ReadsLine old new line (Err Failed) = Consumes old.ahead new.ahead line × HasFailed old new

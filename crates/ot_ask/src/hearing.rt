@@ -4,7 +4,7 @@ ghost use Rattle.ot_ask.specs.Hearing.{Hears, ReadsToSend};
 
 use crate::asked::AskFault;
 use crate::line::complete;
-use crate::stream::{LineEnd, LineFault, LineSource};
+use crate::stream::{LineEnd, LineSource, ReadFault};
 
 /// Reads a line, as it is to be sent.
 pub(crate) fn read_line<T: LineSource>(typed: &mut T, line: &mut Vec<u8>) -> Result<(), AskFault>
@@ -16,8 +16,8 @@ pub(crate) fn read_line<T: LineSource>(typed: &mut T, line: &mut Vec<u8>) -> Res
             Ok(()) => Ok(()),
             Err(_) => Err(AskFault::Memory),
         },
-        Err(LineFault::Failed) => Err(AskFault::ReadFailed),
-        Err(LineFault::Memory) => Err(AskFault::Memory),
+        Err(ReadFault::Failed) => Err(AskFault::ReadFailed),
+        Err(ReadFault::Memory) => Err(AskFault::Memory),
     }
 }
 
@@ -28,7 +28,7 @@ pub fn hear<H: LineSource>(heard: &mut H, reply: &mut Vec<u8>) -> Result<(), Ask
 {
     match heard.read_line(reply) {
         Ok(LineEnd::Whole) => Ok(()),
-        Ok(LineEnd::Cut) | Err(LineFault::Failed) => Err(AskFault::Closed),
-        Err(LineFault::Memory) => Err(AskFault::Memory),
+        Ok(LineEnd::Cut) | Err(ReadFault::Failed) => Err(AskFault::Closed),
+        Err(ReadFault::Memory) => Err(AskFault::Memory),
     }
 }

@@ -15,4 +15,4 @@ pub use asking::{ask, converse};
 pub use greeting::greet;
 pub use hearing::hear;
 pub use remarker::{Remarker, Silence};
-pub use stream::{LineEnd, LineFault, LineSource, Lines};
+pub use stream::{LineEnd, LineSource, LinesOf, ReadFault};

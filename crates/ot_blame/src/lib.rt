@@ -4,7 +4,6 @@
 mod around;
 mod child;
 mod left;
-mod numbers;
 mod offence;
 mod pending;
 mod race;

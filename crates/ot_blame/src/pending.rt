@@ -1,8 +1,8 @@
 //! The wanted children that may be unawaited at a statement, all of them by one walk. It tells only for whom to look
 //! first: of each that is told a walk of its own says whether it may be, and so of those that aren't.
-use crate::numbers::Numbers;
 use crate::wanted::Wanted;
 use ot_model::{Decl, Mode, Stmt};
+use ot_sets::Numbers;
 use std::alloc::{AllocError, Global};
 use std::collections::BTreeMap;
 
@@ -112,7 +112,7 @@ impl<'a> Look<'a> {
         if self.body(body, pending)? {
             return Ok(true);
         }
-        pending.take_from(before);
+        pending.truncate(before);
         Ok(false)
     }
 
@@ -137,7 +137,7 @@ impl<'a> Look<'a> {
             return Ok(true);
         }
         if is_wanted {
-            pending.put(number)?;
+            pending.insert(number)?;
         }
         Ok(false)
     }
@@ -147,9 +147,9 @@ impl<'a> Look<'a> {
         for used in decl.uses() {
             let place = self.place_of((used.cell.array, used.cell.index))?;
             if let Some(users) = self.users.get_mut(place) {
-                users.all.put(number)?;
+                users.all.insert(number)?;
                 if used.mode == Mode::Writes {
-                    users.writers.put(number)?;
+                    users.writers.insert(number)?;
                 }
             }
         }

@@ -14,11 +14,11 @@ use Rattle.ot_check.proofs.Bits.{not_false}
 use Rattle.ot_check.proofs.SameLemmas.{cells_equal}
 use Rattle.ot_race.specs.Events.{Event}
 use Rattle.ot_race.specs.Races.{IsUsed, IsRace}
-use Rattle.ot_race.specs.Sets.{has}
+use Rattle.ot_sets.specs.Sets.{has}
 use Rattle.ot_race.specs.Standings.{IsUpTo}
 use Rattle.ot_race.specs.Histories.{Phases, phases_at, AreHistories, AllBehind, RacesWith, Touched, TouchedAgainst, IsHistory, behind_of, touched_by}
 use Rattle.ot_race.specs.declared.histories.Row.{Row}
-use Rattle.ot_race.specs.declared.numbers.Numbers.{Numbers}
+use Rattle.ot_sets.specs.declared.numbers.Numbers.{Numbers}
 use Rattle.ot_race.proofs.OrderLemmas.{some_is, up_trans}
 
 -- modes that don't conflict are one

@@ -4,13 +4,12 @@ use Rattle.std.specs.Prelude.{◌⊎◌, ◌↔◌, Bool, ◌||◌, Option, Some
 use Rattle.std.proofs.lemmas.Bool.{cases_eq, cases_lt}
 use Rattle.ot_model.specs.declared.stmt.Use.{Use}
 use Rattle.ot_check.specs.Offences.{awaits}
-use Rattle.ot_check.specs.walk.Bits.{bit_in}
 use Rattle.ot_check.proofs.Bits.{or_true, true_or, or_right}
 use Rattle.ot_race.specs.Events.{Deed, Touches, Begins, Awaits, Leaves, Event}
 use Rattle.ot_race.specs.Order.{IsBy, Does, Leads, InTurn, ByCreation, ByDependence, ByWait, ByEnd, IsBefore, Once}
-use Rattle.ot_race.specs.Sets.{has}
+use Rattle.ot_sets.specs.Sets.{bit_in, has, words_of}
 use Rattle.ot_race.specs.Standings.{Kept, kept_of, nothing, kept_at, knows, last_of, pending_of, IsUpTo, IsLastFrom, AreKept, IsWhole, AreNested, IsOfListed, IsOfChild, IsInside}
-use Rattle.ot_race.specs.declared.numbers.Numbers.{Numbers}
+use Rattle.ot_sets.specs.declared.numbers.Numbers.{Numbers}
 use Rattle.ot_race.specs.declared.standing.Standing.{Standing}
 use Rattle.ot_race.proofs.PlaceLemmas.{read_at, set_here, set_other, place_read}
 use Rattle.ot_race.proofs.OrderLemmas.{some_is, by_is, is_by, is_deed, up_trans, up_leads, last_step, FromChild, FromDeed, leads_from, leads_less}
@@ -270,7 +269,7 @@ earlier es n t k e at apart by l =
     ]
 
 pub kept_more : (es : List Event) (n : ℕ) (e : Event) (tasks new : List Standing) (known : Numbers) → slice_get es n ≡ Some e → AreKept es n tasks
-    → ((i : ℕ) → (has known i ≡ true) ↔ IsUpTo es i n) → (kept_at new e.task).known ≡ known.words.items
+    → ((i : ℕ) → (has known i ≡ true) ↔ IsUpTo es i n) → (kept_at new e.task).known ≡ words_of known
     → last_of new e.task ≡ n → ((t : ℕ) → t ≢ e.task → (kept_at new t).known ≡ (kept_at tasks t).known)
     → ((t : ℕ) → t ≢ e.task → last_of new t ≡ last_of tasks t) → AreKept es (n + 1) new
 kept_more es n e tasks new known at s up here last others lasts = record {

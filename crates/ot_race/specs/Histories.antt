@@ -8,9 +8,9 @@ use Rattle.ot_model.specs.declared.stmt.Use.{Use}
 use Rattle.ot_check.specs.Paths.{use_as}
 use Rattle.ot_race.specs.Events.{Event}
 use Rattle.ot_race.specs.Races.{IsUsed, IsRace}
-use Rattle.ot_race.specs.Sets.{has}
+use Rattle.ot_sets.specs.Sets.{has}
 use Rattle.ot_race.specs.Standings.{IsUpTo}
-use Rattle.ot_race.specs.declared.numbers.Numbers.{Numbers}
+use Rattle.ot_sets.specs.declared.numbers.Numbers.{Numbers}
 use Rattle.ot_race.specs.declared.history.History.{History}
 use Rattle.ot_race.specs.declared.histories.Row.{Row}
 

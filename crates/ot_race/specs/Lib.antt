@@ -1,6 +1,6 @@
 pub mod Events
 pub mod View
-pub mod Sets
+pub mod Missing
 pub mod Order
 pub mod Ends
 pub mod Standings

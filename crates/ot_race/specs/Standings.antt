@@ -2,12 +2,11 @@
 use Rattle.std.specs.Prelude.{◌≡◌, ◌<◌, ◌≤◌, ◌⊎◌, ◌↔◌, ℕ, Bool, true, List, [], map, get_or, Contains, Option, Some, slice_get}
 use Rattle.ot_model.specs.declared.stmt.Use.{Use}
 use Rattle.ot_check.specs.Offences.{awaits}
-use Rattle.ot_check.specs.walk.Bits.{bit_in}
 use Rattle.ot_race.specs.Ends.{HasEnded}
 use Rattle.ot_race.specs.Events.{Event, Begins}
 use Rattle.ot_race.specs.Order.{IsBy, Does, IsBefore}
-use Rattle.ot_race.specs.Sets.{has}
-use Rattle.ot_race.specs.declared.numbers.Numbers.{Numbers}
+use Rattle.ot_sets.specs.Sets.{bit_in, has, words_of}
+use Rattle.ot_sets.specs.declared.numbers.Numbers.{Numbers}
 use Rattle.ot_race.specs.declared.standing.Standing.{Standing}
 
 -- what is kept of a task: the words of the set of what it knows, the last of its events, and the children that no wait for all
@@ -18,7 +17,7 @@ pub record Kept : Type 0 where
   pub pending : List ℕ
 
 abbrev pub kept_of : Standing → Kept
-kept_of st = record { known = st.known.words.items; last = st.last; pending = st.pending.items }
+kept_of st = record { known = words_of st.known; last = st.last; pending = st.pending.items }
 
 -- what is kept of a task that had no event
 abbrev pub nothing : Kept

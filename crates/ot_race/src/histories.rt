@@ -1,12 +1,12 @@
 //! The histories of all cells that were touched.
 ghost use Rattle.std.specs.Prelude.{◌≡◌, ◌≢◌, ◌<◌, OnOk, length, get_or, [], map};
 ghost use Rattle.ot_model.specs.declared.expr.Cell.{Cell};
-ghost use Rattle.ot_race.specs.Sets.{IsMissing};
+ghost use Rattle.ot_race.specs.Missing.{IsMissing};
 ghost use Rattle.ot_race.specs.Histories.{row_of, phases_at, behind_of, touched_by};
 
 use crate::history::History;
-use crate::numbers::Numbers;
 use ot_model::{Cell, Mode};
+use ot_sets::Numbers;
 use std::alloc::{AllocError, Global};
 
 /// The histories of the first cells of an array.

@@ -4,12 +4,13 @@ ghost use Rattle.ot_model.specs.declared.stmt.Use.{Use};
 ghost use Rattle.ot_check.specs.Paths.{use_as};
 ghost use Rattle.ot_model.specs.declared.expr.Cell.{Cell};
 ghost use Rattle.ot_race.specs.Events.{Event};
-ghost use Rattle.ot_race.specs.Sets.{has, IsMissing};
+ghost use Rattle.ot_sets.specs.Sets.{has};
+ghost use Rattle.ot_race.specs.Missing.{IsMissing};
 ghost use Rattle.ot_race.specs.Standings.{IsUpTo};
 ghost use Rattle.ot_race.specs.Histories.{phases_of, untouched, IsHistory, TouchedAgainst};
 
-use crate::numbers::Numbers;
 use ot_model::Mode;
+use ot_sets::Numbers;
 use std::alloc::{AllocError, Global};
 
 /// A phase is touches in a row of which no two conflict: reads, or folds by one operation, or one
@@ -72,7 +73,7 @@ fn missing(events: &[u32], known: &Numbers) -> Option<u32>
     ensures { IsMissing events.now known.now result }
 {
     for earlier in events {
-        if !known.has(*earlier) {
+        if !known.has(*earlier as usize) {
             return Some(*earlier);
         }
     }

@@ -9,7 +9,6 @@ mod histories;
 mod history;
 mod judging;
 pub mod laws;
-mod numbers;
 mod order;
 mod race;
 mod run;

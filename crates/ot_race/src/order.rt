@@ -1,7 +1,7 @@
 //! Which events are before which.
 ghost use Rattle.std.specs.Prelude.{◌≡◌, ◌<◌, ◌+◌, ◌^◌, ◌↔◌, ℕ, IfOk, OnOk, true, false, length};
 ghost use Rattle.ot_race.specs.Order.{IsBefore};
-ghost use Rattle.ot_race.specs.Sets.{has};
+ghost use Rattle.ot_sets.specs.Sets.{has};
 ghost use Rattle.ot_race.specs.Standings.{kept_at, last_of, IsUpTo, AreKept, ArePending};
 ghost use Rattle.ot_race.specs.Siblings.{AreSiblings};
 ghost use Rattle.ot_race.specs.Stands.{Stands, SiblingsNote, PendingNote};
@@ -9,11 +9,11 @@ ghost use Rattle.ot_race.specs.View.{events_in};
 
 use crate::ends::ends_of;
 use crate::event::{Deed, Event};
-use crate::numbers::Numbers;
 use crate::siblings::{Moment, Siblings};
 use crate::standing::{
     Standing, add_pending, join_inside, join_listed, join_pending, join_task, pass_pending, settle,
 };
+use ot_sets::Numbers;
 use std::alloc::{AllocError, Global};
 
 /// What is kept of all tasks.
@@ -60,7 +60,7 @@ impl Standings {
             events,
             number,
         )?;
-        known.insert(number)?;
+        known.insert(number as usize)?;
         Ok(known)
     }
 

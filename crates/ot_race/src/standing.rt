@@ -1,14 +1,14 @@
 //! What a judge keeps of tasks: which events are before their next one.
 ghost use Rattle.std.specs.Prelude.{◌≡◌, ◌≢◌, ◌<◌, ◌≤◌, ◌||◌, ◌⊎◌, ◌↔◌, ◌++◌, ℕ, OnOk, true, [], ◌∷◌, length};
 ghost use Rattle.ot_race.specs.Ends.{going_on};
-ghost use Rattle.ot_race.specs.Sets.{has};
+ghost use Rattle.ot_sets.specs.Sets.{has, words_of};
 ghost use Rattle.ot_race.specs.Standings.{kept_at, knows, last_of, pending_of, IsWhole, AreNested, IsOfListed, IsInside};
 ghost use Rattle.ot_race.specs.View.{events_in};
 
 use crate::ends::going_on;
 use crate::event::Event;
-use crate::numbers::Numbers;
 use crate::siblings::Moment;
+use ot_sets::Numbers;
 use std::alloc::{AllocError, Global};
 
 /// A task of the run.
@@ -28,7 +28,7 @@ fn is_joined(known: &Numbers, tasks: &[Standing], task: u32) -> bool
     ensures { result ≡ true → (i : ℕ) → knows tasks.now task i ≡ true → has known.now i ≡ true }
 {
     match tasks.get(task as usize) {
-        Some(standing) => known.has(standing.last),
+        Some(standing) => known.has(standing.last as usize),
         None => true,
     }
 }
@@ -179,7 +179,7 @@ pub(crate) fn settle(
     known: Numbers,
     number: u32,
 ) -> Result<(), AllocError>
-    ensures known { OnOk result ((kept_at tasks.new.items task).known ≡ known.words.items) }
+    ensures known { OnOk result ((kept_at tasks.new.items task).known ≡ words_of known) }
     ensures last { OnOk result (last_of tasks.new.items task ≡ number) }
     ensures pending { OnOk result ((t : ℕ) → pending_of tasks.new.items t ≡ pending_of tasks.old.items t) }
     ensures others { OnOk result ((t : ℕ) → t ≢ task → kept_at tasks.new.items t ≡ kept_at tasks.old.items t) }

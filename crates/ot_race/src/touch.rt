@@ -3,15 +3,15 @@ ghost use Rattle.std.specs.Prelude.{◌≡◌, ◌<◌, ◌≤◌, ◌+◌, ◌�
 ghost use Rattle.ot_model.specs.declared.expr.Cell.{Cell};
 ghost use Rattle.ot_race.specs.Order.{IsBefore};
 ghost use Rattle.ot_race.specs.Races.{IsRace};
-ghost use Rattle.ot_race.specs.Sets.{has};
+ghost use Rattle.ot_sets.specs.Sets.{has};
 ghost use Rattle.ot_race.specs.Standings.{IsUpTo};
 ghost use Rattle.ot_race.specs.Histories.{AreHistories, RacesWith};
 ghost use Rattle.ot_race.specs.View.{events_in};
 
 use crate::event::Event;
 use crate::histories::Histories;
-use crate::numbers::Numbers;
 use ot_model::Cell;
+use ot_sets::Numbers;
 use std::alloc::{AllocError, Global};
 
 /// A cell and an earlier event that touched it, and that races there with this event. There is None

@@ -13,9 +13,9 @@ unfolding check_words
 returns-clause-words c =
     let new = ap app_of_fields c.after_help.ensures ∙ ap app_of_fields c.about.ensures ∙ c.new.ensures.app in
     let define = c.in_ok-arg.ensures.shape c.define_arg.ensures.own ∙ ap₂ with_rule new c.define_arg.ensures.rule in
-    let lines = c.in_ok-arg-2.ensures.shape c.lines_arg.ensures.own ∙ ap₂ with_rule define c.lines_arg.ensures.rule in
+    let lines = c.in_ok-arg-2.ensures.shape c.flag_arg.ensures.own ∙ ap₂ with_rule define c.flag_arg.ensures.rule in
     IfOk-weaker c.arg-3.result _ _
-    (λ command added. ap (λ (a : App). a.top) (added.shape c.files_arg.ensures.own ∙ ap₂ with_rule lines c.files_arg.ensures.rule))
+    (λ command added. ap (λ (a : App). a.top) (added.shape c.names_arg.ensures.own ∙ ap₂ with_rule lines c.names_arg.ensures.rule))
     c.arg-3.ensures
 
 -- no argument is global
@@ -24,5 +24,5 @@ returns-clause-own c =
     let new = ap (λ (f : Command-F Command). f.has_globals) c.after_help.ensures
     ∙ ap (λ (f : Command-F Command). f.has_globals) c.about.ensures ∙ c.new.ensures.local in
     let define = c.in_ok-arg.ensures.globals ∙ ap₂ (λ a b. a || b) new c.define_arg.ensures.own in
-    let lines = c.in_ok-arg-2.ensures.globals ∙ ap₂ (λ a b. a || b) define c.lines_arg.ensures.own in
-    IfOk-weaker c.arg-3.result _ _ (λ command added. added.globals ∙ ap₂ (λ a b. a || b) lines c.files_arg.ensures.own) c.arg-3.ensures
+    let lines = c.in_ok-arg-2.ensures.globals ∙ ap₂ (λ a b. a || b) define c.flag_arg.ensures.own in
+    IfOk-weaker c.arg-3.result _ _ (λ command added. added.globals ∙ ap₂ (λ a b. a || b) lines c.names_arg.ensures.own) c.arg-3.ensures

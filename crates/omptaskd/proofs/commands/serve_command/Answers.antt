@@ -13,9 +13,9 @@ unfolding serve_words
 returns-clause-words c =
     let new = ap app_of_fields c.after_help.ensures ∙ ap app_of_fields c.about.ensures ∙ c.new.ensures.app in
     let socket = c.in_ok-arg.ensures.shape c.socket_arg.ensures.own ∙ ap₂ with_rule new c.socket_arg.ensures.rule in
-    let workers = c.in_ok-arg-2.ensures.shape c.workers_arg.ensures.own ∙ ap₂ with_rule socket c.workers_arg.ensures.rule in
-    let sessions = c.in_ok-arg-3.ensures.shape c.sessions_arg.ensures.own ∙ ap₂ with_rule workers c.sessions_arg.ensures.rule in
-    let count = c.in_ok-arg-4.ensures.shape c.count_arg.ensures.own ∙ ap₂ with_rule sessions c.count_arg.ensures.rule in
+    let workers = c.in_ok-arg-2.ensures.shape c.number_arg.ensures.own ∙ ap₂ with_rule socket c.number_arg.ensures.rule in
+    let sessions = c.in_ok-arg-3.ensures.shape c.number_arg-2.ensures.own ∙ ap₂ with_rule workers c.number_arg-2.ensures.rule in
+    let count = c.in_ok-arg-4.ensures.shape c.number_arg-3.ensures.own ∙ ap₂ with_rule sessions c.number_arg-3.ensures.rule in
     IfOk-weaker c.arg-5.result _ _
     (λ command added. ap (λ (a : App). a.top) (added.shape c.names_arg.ensures.own ∙ ap₂ with_rule count c.names_arg.ensures.rule))
     c.arg-5.ensures
@@ -26,7 +26,7 @@ returns-clause-own c =
     let new = ap (λ (f : Command-F Command). f.has_globals) c.after_help.ensures
     ∙ ap (λ (f : Command-F Command). f.has_globals) c.about.ensures ∙ c.new.ensures.local in
     let socket = c.in_ok-arg.ensures.globals ∙ ap₂ (λ a b. a || b) new c.socket_arg.ensures.own in
-    let workers = c.in_ok-arg-2.ensures.globals ∙ ap₂ (λ a b. a || b) socket c.workers_arg.ensures.own in
-    let sessions = c.in_ok-arg-3.ensures.globals ∙ ap₂ (λ a b. a || b) workers c.sessions_arg.ensures.own in
-    let count = c.in_ok-arg-4.ensures.globals ∙ ap₂ (λ a b. a || b) sessions c.count_arg.ensures.own in
+    let workers = c.in_ok-arg-2.ensures.globals ∙ ap₂ (λ a b. a || b) socket c.number_arg.ensures.own in
+    let sessions = c.in_ok-arg-3.ensures.globals ∙ ap₂ (λ a b. a || b) workers c.number_arg-2.ensures.own in
+    let count = c.in_ok-arg-4.ensures.globals ∙ ap₂ (λ a b. a || b) sessions c.number_arg-3.ensures.own in
     IfOk-weaker c.arg-5.result _ _ (λ command added. added.globals ∙ ap₂ (λ a b. a || b) count c.names_arg.ensures.own) c.arg-5.ensures

@@ -2,7 +2,7 @@ use Rattle.std.proofs.Common.{◌≡◌, true, sym, subst}
 use Rattle.std.specs.Prelude.{All}
 use Rattle.std.proofs.lemmas.List.{take_all}
 use Rattle.std.proofs.lemmas.List.Elements.{All-more}
-use Rattle.ot_race.specs.Sets.{has}
+use Rattle.ot_sets.specs.Sets.{has}
 use Rattle.ot_race.proofs.history.missing.Goals as goal
 
 pub loop-earlier-preserved : goal.loop-earlier-preserved

@@ -1,6 +1,6 @@
 use Rattle.std.proofs.Common.{◌≡◌, true, take}
 use Rattle.std.specs.Prelude.{All}
-use Rattle.ot_race.specs.Sets.{has}
+use Rattle.ot_sets.specs.Sets.{has}
 use Rattle.ot_race.proofs.history.missing.Given as goal
 
 abbrev pub invariant-loop-earlier : goal.invariant-loop-earlier

@@ -2,7 +2,7 @@ use Rattle.std.proofs.Common.{◌≡◌, ◌∙◌, ◌-◌, true, ap, subst, in
 use Rattle.std.specs.Prelude.{◌⊎◌, ◌↔◌, option_map, Some, None}
 use Rattle.std.proofs.lemmas.Result.{on_ok_weaker}
 use Rattle.ot_race.specs.Events.{Touches, Begins, Awaits, Leaves}
-use Rattle.ot_race.specs.Sets.{has}
+use Rattle.ot_sets.specs.Sets.{has}
 use Rattle.ot_race.specs.Siblings.{seen_by_all}
 use Rattle.ot_race.specs.Standings.{IsInside, IsOfListed}
 use Rattle.ot_race.proofs.PlaceLemmas.{place_map, place_read}

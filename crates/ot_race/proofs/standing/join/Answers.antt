@@ -1,6 +1,6 @@
 use Rattle.std.proofs.Common.{◌∙◌, ◌||◌, ap}
 use Rattle.std.proofs.lemmas.Result.{on_ok_weaker}
-use Rattle.ot_race.specs.Sets.{has}
+use Rattle.ot_sets.specs.Sets.{has}
 use Rattle.ot_race.proofs.PlaceLemmas.{place_found}
 use Rattle.ot_race.proofs.StandingLemmas.{whole_join, known_at}
 use Rattle.ot_race.proofs.standing.join.Goals as goal
@@ -14,4 +14,4 @@ returns-in-Some-clause-whole c =
     (λ joined.
     whole_join tasks c.args.known.now c.join.new.self t c.requires.nested c.requires.whole
     (λ i. joined i ∙ ap (λ b. has c.args.known.now i || b) (known_at tasks t i st (place_found tasks t st c.in-Some.ensures.lookup.0 c.in-Some.ensures.lookup.1))))
-    c.join.ensures
+    c.join.ensures.put

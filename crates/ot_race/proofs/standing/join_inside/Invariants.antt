@@ -1,6 +1,6 @@
 use Rattle.std.proofs.Common.{◌≡◌, ℕ, ◌≤◌, true}
 use Rattle.std.specs.Prelude.{◌⊎◌, ◌↔◌}
-use Rattle.ot_race.specs.Sets.{has}
+use Rattle.ot_sets.specs.Sets.{has}
 use Rattle.ot_race.specs.Standings.{IsWhole, IsInside}
 use Rattle.ot_race.specs.View.{events_in}
 use Rattle.ot_race.proofs.standing.join_inside.Given as goal

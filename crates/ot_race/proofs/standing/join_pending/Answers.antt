@@ -1,7 +1,7 @@
 use Rattle.std.proofs.Common.{◌≡◌, ◌∙◌, true, sym, subst}
 use Rattle.std.specs.Prelude.{◌⊎◌, ◌↔◌}
 use Rattle.std.proofs.lemmas.Result.{on_ok_weaker}
-use Rattle.ot_race.specs.Sets.{has}
+use Rattle.ot_sets.specs.Sets.{has}
 use Rattle.ot_race.specs.Standings.{IsOfListed}
 use Rattle.ot_race.proofs.PlaceLemmas.{place_found}
 use Rattle.ot_race.proofs.StandingLemmas.{pending_at}

@@ -1,6 +1,6 @@
 use Rattle.std.proofs.Common.{◌≡◌, ◌∙◌, List, [], get_or, sym, ap, subst}
 use Rattle.std.specs.Prelude.{Some, slice_get}
-use Rattle.ot_race.specs.Sets.{IsMissing}
+use Rattle.ot_race.specs.Missing.{IsMissing}
 use Rattle.ot_race.specs.Histories.{Phases, phases_of, row_of, untouched, behind_of}
 use Rattle.ot_race.proofs.PlaceLemmas.{read_at, place_found}
 use Rattle.ot_race.proofs.histories.Histories.racing.Goals as goal

@@ -1,6 +1,6 @@
 use Rattle.std.proofs.Common.{◌∙◌, sym, ap, subst}
 use Rattle.std.specs.Prelude.{if◌then◌else◌}
-use Rattle.ot_race.specs.Sets.{IsMissing}
+use Rattle.ot_race.specs.Missing.{IsMissing}
 use Rattle.ot_race.proofs.history.History.racing.Goals as goal
 
 pub returns-then-conflicts : goal.returns-then-conflicts

@@ -1,5 +1,5 @@
 use Rattle.std.proofs.Common.{◌∙◌, get_or, ap, subst}
-use Rattle.ot_check.specs.walk.Bits.{bit_in}
+use Rattle.ot_sets.specs.Sets.{bit_in}
 use Rattle.ot_race.specs.Standings.{Kept}
 use Rattle.ot_race.specs.Stands.{SiblingsNote, PendingNote}
 use Rattle.ot_race.specs.View.{event_of, events_in}

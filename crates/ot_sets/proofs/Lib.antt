@@ -1,0 +1,3 @@
+pub mod Equal
+pub mod Joining
+pub mod Taking

@@ -1,0 +1,6 @@
+//! Sets of small numbers.
+#![tactic(auto)]
+
+mod numbers;
+
+pub use numbers::Numbers;
