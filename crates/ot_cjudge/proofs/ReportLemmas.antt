@@ -1,0 +1,78 @@
+-- What is written, put together of its parts.
+use Rattle.std.proofs.Common.{◌≡◌, ℕ, List, [], ◌∷◌, ◌++◌, length, refl, sym, ap, ◌∙◌, subst}
+use Rattle.std.specs.Prelude.{Option, None, Result, Ok, Err, IfOk}
+use Rattle.serde_json.specs.Data.{Data}
+use Rattle.ot_model.specs.Cells.{lengths}
+use Rattle.ot_model.specs.Programs.{Expanded}
+use Rattle.ot_model.specs.Shapes.{array_lengths}
+use Rattle.ot_check.specs.Codes.{TellsFirst}
+use Rattle.ot_check.specs.Offences.{IsFirstOf}
+use Rattle.ot_check.specs.declared.fault.CheckFault.{CheckFault}
+use Rattle.ot_check.specs.declared.fault.CheckFault.TheVariants as fault
+use Rattle.ot_check.specs.declared.fault.Offence.{Offence}
+use Rattle.ot_check.specs.declared.fault.Offence.TheVariants.{NotDeclared, ChildBeyond, ReductionMisuse, ConflictsWithChild, EndsWithChildren}
+use Rattle.ot_program.specs.declared.fault.Refusal.{Refusal}
+use Rattle.ot_cjudge.specs.Start.{shape_of, cells_of}
+use Rattle.ot_cjudge.specs.Sites.{Source, Site}
+use Rattle.ot_cjudge.specs.Faults.{Says}
+use Rattle.ot_cjudge.specs.Lacks.{lacks_by}
+use Rattle.ot_cjudge.specs.Reports.{ReportsRead, here_line, other_line, warning_line, outside_line}
+use Rattle.ot_cjudge.specs.declared.lowered.CArray.{CArray}
+use Rattle.ot_cjudge.specs.declared.report.Verdict.{Verdict}
+
+pub if_both : {A E : Type 0} (r : Result A E) (P Q R : A → Type 0) → ((x : A) → P x → Q x → R x) → IfOk r P → IfOk r Q → IfOk r R
+if_both (Ok x) P Q R f h k = f x h k
+if_both (Err e) P Q R f h k = h
+
+pub same_lengths : (arrays : List CArray) → lengths (cells_of arrays) ≡ array_lengths (shape_of arrays)
+same_lengths [] = refl
+same_lengths (a ∷ others) = ap (λ ls. length a.cells.items ∷ ls) (same_lengths others)
+
+-- what a check tells
+pub first_none : {A : Type 0} (P : ℕ → Offence → Type 0) (r : Result A CheckFault) (x : A) → r ≡ Ok x → TellsFirst P r → IsFirstOf P None
+first_none P r x is h = subst (λ y. TellsFirst P y) is h
+
+pub first_told : {A : Type 0} (P : ℕ → Offence → Type 0) (r : Result A CheckFault) (f : CheckFault) (first : Option (ℕ × Offence)) → r ≡ Err f → TellsFirst P r → Says f first → IsFirstOf P first
+first_told P r (fault.Offence offence place) first is h says = subst (λ x. IsFirstOf P x) (sym says) (subst (λ y. TellsFirst P y) is h)
+first_told P r fault.Memory first is h says = absurd says
+
+pub none_lacks : (offence : Offence) → lacks_by offence None ≡ None
+none_lacks NotDeclared = refl
+none_lacks ChildBeyond = refl
+none_lacks ReductionMisuse = refl
+none_lacks ConflictsWithChild = refl
+none_lacks EndsWithChildren = refl
+
+abbrev pub source : List ℕ → List ℕ → Data → List (List ℕ × ℕ) → List ℕ → Source
+source name text request arrays bytes = record { name = name; text = text; request = request; arrays = arrays; bytes = bytes }
+
+pub same_source : (name text : List ℕ) (d e : Data) (a b : List (List ℕ × ℕ)) (m n : List ℕ) → d ≡ e → a ≡ b → m ≡ n → source name text d a m ≡ source name text e b n
+same_source name text d e a b m n p q r = ap (λ x. source name text x a m) p ∙ ap (λ x. source name text e x m) q ∙ ap (λ x. source name text e b x) r
+
+pub same_reports : (s z : Source) (cells start : List (List ℕ)) (r q : Result Expanded Refusal) (told : Verdict) (t : List ℕ) → s ≡ z → cells ≡ start → r ≡ q
+    → ReportsRead s cells r told t → ReportsRead z start q told t
+same_reports s z cells start r q told t same begun is h =
+    subst (λ x. ReportsRead z start x told t) is (subst (λ c. ReportsRead z c r told t) begun (subst (λ y. ReportsRead y cells r told t) same h))
+
+-- ---- texts that begin empty
+
+pub race_is : (name cell k l m t u z : List ℕ) (here other h o : Site) → k ≡ [] → l ≡ k ++ cell → m ≡ l → t ≡ [] → u ≡ t ++ here_line name m here other
+    → z ≡ u ++ other_line name other → here ≡ h → other ≡ o → z ≡ here_line name cell h o ++ other_line name o
+race_is name cell k l m t u z here other h o none put same empty first second hh oo =
+    let is : m ≡ cell = same ∙ put ∙ ap (λ x. x ++ cell) none in
+    second ∙ ap (λ x. x ++ other_line name other) (first ∙ ap (λ x. x ++ here_line name m here other) empty)
+    ∙ ap (λ x. here_line name x here other ++ other_line name other) is
+    ∙ ap (λ x. here_line name cell x other ++ other_line name other) hh
+    ∙ ap (λ x. here_line name cell h x ++ other_line name x) oo
+
+pub warning_is : (name words k l m t u : List ℕ) (site z : Site) (code number : ℕ) → k ≡ [] → l ≡ k ++ words → m ≡ l → t ≡ [] → u ≡ t ++ warning_line name site m code
+    → site ≡ z → code ≡ number → u ≡ warning_line name z words number
+warning_is name words k l m t u site z code number none put same empty wrote at is =
+    let said : m ≡ words = same ∙ put ∙ ap (λ x. x ++ words) none in
+    wrote ∙ ap (λ x. x ++ warning_line name site m code) empty ∙ ap (λ x. warning_line name site x code) said
+    ∙ ap (λ x. warning_line name x words code) at ∙ ap (λ x. warning_line name z words x) is
+
+pub outside_is : (name reason why t u : List ℕ) (site z : Site) → t ≡ [] → u ≡ t ++ outside_line name site.position reason → site ≡ z → reason ≡ why
+    → u ≡ outside_line name z.position why
+outside_is name reason why t u site z empty wrote at is =
+    wrote ∙ ap (λ x. x ++ outside_line name site.position reason) empty ∙ ap (λ (x : Site). outside_line name x.position reason) at ∙ ap (λ x. outside_line name z.position x) is

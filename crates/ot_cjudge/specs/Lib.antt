@@ -1,0 +1,10 @@
+pub mod Start
+pub mod TextOrder
+pub mod Sites
+pub mod SiteView
+pub mod Lines
+pub mod Fits
+pub mod Lacks
+pub mod FoundView
+pub mod Faults
+pub mod Reports

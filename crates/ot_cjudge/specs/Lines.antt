@@ -1,0 +1,33 @@
+-- Lines about a C text in the form of compilers.
+use Rattle.std.specs.Prelude.{ℕ, ◌==◌, List, [], ◌∷◌, ◌++◌, slice_get, codes, if◌then◌else◌, Option, Some, None}
+use Rattle.std.specs.Fmt.{decimal}
+use Rattle.ot_model.specs.declared.expr.Cell.{Cell}
+use Rattle.ot_file.specs.declared.position.Position.{Position}
+use Rattle.ot_program.specs.Meanings.{Bindings}
+
+-- `NAME:LINE:COLUMN`
+abbrev pub place_text : List ℕ → Position → List ℕ
+place_text name p = name ++ (codes ":" ++ (decimal p.line ++ (codes ":" ++ decimal p.column)))
+
+-- `i = 1`
+abbrev pub turn_text : List ℕ × ℕ → List ℕ
+turn_text turn = turn.0 ++ (codes " = " ++ decimal turn.1)
+
+-- the outermost first, with commas between them
+abbrev pub listed : Bindings → List ℕ
+listed [] = []
+listed (inner ∷ []) = turn_text inner
+listed (inner ∷ outer) = listed outer ++ (codes ", " ++ turn_text inner)
+
+-- ` (i = 1, j = 2)`, and nothing outside of loops
+abbrev pub turns_text : Bindings → List ℕ
+turns_text [] = []
+turns_text (inner ∷ outer) = codes " (" ++ (listed (inner ∷ outer) ++ codes ")")
+
+abbrev pub cell_by : Option (List ℕ × ℕ) → ℕ → List ℕ
+cell_by None index = codes "?"
+cell_by (Some array) index = if array.1 == 1 then array.0 else array.0 ++ (codes "[" ++ (decimal index ++ codes "]"))
+
+-- `m[5]`; the cell of an array that has only one is called as the array is
+abbrev pub cell_text : List (List ℕ × ℕ) → Cell → List ℕ
+cell_text arrays c = cell_by (slice_get arrays c.array) c.index

@@ -1,0 +1,123 @@
+-- What is written of a C text, from the first byte to the last.
+use Rattle.std.specs.Prelude.{◌≡◌, ℕ, List, [], ◌++◌, codes, Option, Some, None, Result, Ok, Err}
+use Rattle.std.specs.Fmt.{decimal}
+use Rattle.serde_json.specs.Data.{Data, string, array, no_items, item}
+use Rattle.serde_json.specs.View.{view}
+use Rattle.ot_model.specs.Programs.{Expanded}
+use Rattle.ot_model.specs.Tree.{Body}
+use Rattle.ot_model.specs.declared.stmt.Mode.{Mode}
+use Rattle.ot_model.specs.declared.stmt.Mode.TheVariants.{Reads, Writes, Folds}
+use Rattle.ot_model.specs.declared.stmt.Use.{Use}
+use Rattle.ot_check.specs.Codes.{code_of}
+use Rattle.ot_check.specs.Offences.{Offends, IsFirstOf}
+use Rattle.ot_check.specs.declared.fault.Offence.{Offence}
+use Rattle.ot_check.specs.declared.fault.Offence.TheVariants.{NotDeclared, ChildBeyond, ReductionMisuse, ConflictsWithChild, EndsWithChildren}
+use Rattle.ot_file.specs.declared.position.Position.{Position}
+use Rattle.ot_program.specs.Programs.{program_of}
+use Rattle.ot_program.specs.declared.fault.Refusal.{Refusal}
+use Rattle.ot_program.specs.declared.fault.Refusal.TheVariants.{Form, Size, UnknownArray, OutOfRange, EmptySection, TooLarge, TooManyTasks, MixedReduction}
+use Rattle.ot_race.specs.Events.{this_way, events_of}
+use Rattle.ot_race.specs.Races.{NothingRaces, IsFirstRace}
+use Rattle.ot_race.specs.declared.race.Race.{Race}
+use Rattle.ot_cjudge.specs.Start.{named, shape_of, cells_of}
+use Rattle.ot_cjudge.specs.Sites.{Source, Site, site_of, entry_site}
+use Rattle.ot_cjudge.specs.Lines.{place_text, turns_text, cell_text}
+use Rattle.ot_cjudge.specs.Lacks.{lacks}
+use Rattle.ot_cjudge.specs.declared.lowered.Lowered.{Lowered}
+use Rattle.ot_cjudge.specs.declared.report.Verdict.{Verdict}
+use Rattle.ot_cjudge.specs.declared.report.Verdict.TheVariants as v
+
+-- ---- a race
+
+-- `NAME:LINE:COLUMN: error: m[5] is touched here while it may be touched at NAME:LINE:COLUMN (i = 1, j = 2) [race]`, with the turns
+-- of the touch here
+abbrev pub here_line : List ℕ → List ℕ → Site → Site → List ℕ
+here_line name cell here other =
+    place_text name here.position ++ (codes ": error: " ++ (cell ++ (codes " is touched here while it may be touched at "
+    ++ (place_text name other.position ++ (turns_text here.turns ++ codes " [race]\n")))))
+
+-- `NAME:LINE:COLUMN: note: the other touch (i = 0, j = 2); with these numbers nothing orders the two`
+abbrev pub other_line : List ℕ → Site → List ℕ
+other_line name other =
+    place_text name other.position ++ (codes ": note: the other touch" ++ (turns_text other.turns ++ codes "; with these numbers nothing orders the two\n"))
+
+abbrev pub race_text : Source → Race → List ℕ
+race_text s told =
+    here_line s.name (cell_text s.arrays told.cell) (site_of s told.later) (site_of s told.place) ++ other_line s.name (site_of s told.place)
+
+-- ---- what the server would refuse
+
+-- the kind of a dependence that allows such a use
+abbrev pub kind_text : Mode → List ℕ
+kind_text Reads = codes "in"
+kind_text Writes = codes "out"
+kind_text (Folds o) = codes "inout"
+
+-- `depend(in: m[5])`
+abbrev pub clause_text : List (List ℕ × ℕ) → Option Use → List ℕ
+clause_text arrays None = codes "a clause"
+clause_text arrays (Some u) = codes "depend(" ++ (kind_text u.mode ++ (codes ": " ++ (cell_text arrays u.cell ++ codes ")")))
+
+-- what is to be done about it
+abbrev pub advice : List (List ℕ × ℕ) → Offence → Option Use → List ℕ
+advice arrays NotDeclared lacking = codes "the task lacks " ++ clause_text arrays lacking
+advice arrays ChildBeyond lacking = codes "the task around this one lacks " ++ clause_text arrays lacking
+advice arrays ReductionMisuse lacking = codes "a reduction is misused"
+advice arrays ConflictsWithChild lacking = codes "a taskwait is missing before this, for a child that may use the same"
+advice arrays EndsWithChildren lacking = codes "a taskwait is missing at the end of the task, for a child of it"
+
+-- `NAME:LINE:COLUMN: warning: no race, but omptaskd refuses it: the task lacks depend(in: m[5]) (i = 1, j = 2) [425]`
+abbrev pub warning_line : List ℕ → Site → List ℕ → ℕ → List ℕ
+warning_line name site words code =
+    place_text name site.position ++ (codes ": warning: no race, but omptaskd refuses it: "
+    ++ (words ++ (turns_text site.turns ++ (codes " [" ++ (decimal code ++ codes "]\n")))))
+
+-- of the first offence; nothing where there is none
+abbrev pub warning_text : Source → Body → Option (ℕ × Offence) → List ℕ
+warning_text s body None = []
+warning_text s body (Some first) =
+    warning_line s.name (site_of s first.0) (advice s.arrays first.1 (lacks body first.0 first.1)) (code_of first.1)
+
+-- ---- what isn't judged
+
+abbrev pub reason_of : Refusal → List ℕ
+reason_of Form = codes "this is of no form that is judged"
+reason_of Size = codes "a size or an index isn't exact, or not from 0 to 4294967295"
+reason_of UnknownArray = codes "no array has this name"
+reason_of OutOfRange = codes "an index is outside of its array"
+reason_of EmptySection = codes "a section has length 0"
+reason_of TooLarge = codes "the program is too large or too deep"
+reason_of TooManyTasks = codes "the program has too many tasks"
+reason_of MixedReduction = codes "a cell is in a reduction and in a clause beside it"
+
+-- `NAME:LINE:COLUMN: error: REASON [outside]`
+abbrev pub outside_line : List ℕ → Position → List ℕ → List ℕ
+outside_line name p reason = place_text name p ++ (codes ": error: " ++ (reason ++ codes " [outside]\n"))
+
+-- ---- the whole
+
+-- of the run of a program that begins with these cells
+abbrev pub ReportsRun : Source → List (List ℕ) → Body → Verdict → List ℕ → Type 0
+ReportsRun s cells body v.Races text = (told : Race) × IsFirstRace (events_of this_way body cells) told.cell told.place told.later × (text ≡ race_text s told)
+ReportsRun s cells body v.Clean text =
+    NothingRaces (events_of this_way body cells) × (first : Option (ℕ × Offence)) × IsFirstOf (Offends body) first × (text ≡ warning_text s body first)
+ReportsRun s cells body v.Outside text = ⊥
+
+-- of a program that was read, or wasn't: then it is told at one of its entries
+abbrev pub ReportsRead : Source → List (List ℕ) → Result Expanded Refusal → Verdict → List ℕ → Type 0
+ReportsRead s cells (Ok program) verdict text = ReportsRun s cells program.body verdict text
+ReportsRead s cells (Err refusal) verdict text =
+    (verdict ≡ v.Outside) × (index : ℕ) × (text ≡ outside_line s.name (entry_site s index).position (reason_of refusal))
+
+-- the request that runs a program
+abbrev pub run_of : Data → Data
+run_of program = array (item (string (codes "run")) (item program no_items))
+
+abbrev pub source_of : List ℕ → List ℕ → Lowered → Source
+source_of name text lowered =
+    record { name = name; text = text; request = run_of (view lowered.program); arrays = named lowered.arrays.items; bytes = lowered.places.items }
+
+-- of what stands for a C text
+abbrev pub Reports : List ℕ → List ℕ → Lowered → Verdict → List ℕ → Type 0
+Reports name text lowered verdict out =
+    ReportsRead (source_of name text lowered) (cells_of lowered.arrays.items) (program_of (shape_of lowered.arrays.items) (view lowered.program)) verdict out

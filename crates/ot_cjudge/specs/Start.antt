@@ -1,0 +1,16 @@
+-- What a C program begins with.
+use Rattle.std.specs.Prelude.{ℕ, List, map, length, string_bytes}
+use Rattle.ot_model.specs.Shapes.{Arrays}
+use Rattle.ot_cjudge.specs.declared.lowered.CArray.{CArray}
+
+-- names and lengths
+abbrev pub named : List CArray → List (List ℕ × ℕ)
+named arrays = map (λ a. (string_bytes a.name, length a.cells.items)) arrays
+
+-- what its program may name; of tasks it may have as many as it may have statements
+abbrev pub shape_of : List CArray → Arrays
+shape_of arrays = record { arrays = named arrays; tasks = 20000 }
+
+-- the numbers at the start
+abbrev pub cells_of : List CArray → List (List ℕ)
+cells_of arrays = map (λ a. a.cells.items) arrays

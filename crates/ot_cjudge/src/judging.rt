@@ -1,0 +1,295 @@
+//! A C text, judged over the program that stands for it.
+ghost use Rattle.std.specs.Prelude.{◌≡◌, ℕ, List, IfOk, Option, Some, Result};
+ghost use Rattle.serde_json.specs.View.{view};
+ghost use Rattle.ot_model.specs.View.{stmts_of};
+ghost use Rattle.ot_model.specs.Cells.{lengths};
+ghost use Rattle.ot_model.specs.Programs.{Expanded, IsNamedIn, expanded_of};
+ghost use Rattle.ot_model.specs.Shapes.{array_lengths};
+ghost use Rattle.ot_check.specs.Offences.{Offends, IsFirstOf};
+ghost use Rattle.ot_check.specs.declared.fault.Offence.{Offence};
+ghost use Rattle.ot_file.specs.Positions.{position_of};
+ghost use Rattle.ot_program.specs.Returned.{Fails, Gives};
+ghost use Rattle.ot_program.specs.declared.fault.Refusal.{Refusal};
+ghost use Rattle.ot_cjudge.specs.Sites.{entry_site};
+ghost use Rattle.ot_cjudge.specs.SiteView.{source_by};
+ghost use Rattle.ot_cjudge.specs.Fits.{Fits};
+ghost use Rattle.ot_cjudge.specs.Lacks.{lacks};
+ghost use Rattle.ot_cjudge.specs.Faults.{Says};
+ghost use Rattle.ot_cjudge.specs.Reports.{Reports, ReportsRead, ReportsRun, race_text, warning_text, outside_line, reason_of, run_of};
+
+use crate::found::find_in;
+use crate::lacks::lacks_by;
+use crate::line::put_cell;
+use crate::lowered::Lowered;
+use crate::report::{Report, Verdict};
+use crate::source::{Source, position_at};
+use crate::start::{MAX_TASKS, cells_of, shape_of};
+use crate::telling::{put_advice, put_here, put_other, put_outside, put_warning, reason_of};
+use ot_check::{CheckFault, Offence, check};
+use ot_fault::first_fault;
+use ot_model::{Cells, Program, Shape, Use};
+use ot_program::{ProgramFault, Refusal, read_program};
+use ot_race::{Race, this_run};
+use serde_json::Value;
+use std::alloc::{AllocError, Global};
+
+/// Judges a C text of this name over the program that stands for it, as it runs with the C's numbers, and writes what is found.
+pub fn report_c(
+    alloc: Global,
+    name: &str,
+    text: &[u8],
+    lowered: Lowered,
+) -> Result<Report, AllocError>
+    ensures { IfOk result (λ report. Reports name.now text.now lowered report.verdict report.text.items) }
+{
+    let Lowered {
+        arrays,
+        program,
+        places,
+    } = lowered;
+    let given = arrays.as_slice();
+    let shape = shape_of(alloc, given)?;
+    let cells = cells_of(alloc, given)?;
+    let read = read_program(alloc, &program, &shape);
+    let request = run_of(alloc, program)?;
+    let names = shape.arrays();
+    let bytes = places.as_slice();
+    let source = Source {
+        name,
+        text,
+        request: &request,
+        arrays: names,
+        places: bytes,
+    };
+    report_read(alloc, &source, &shape, cells, read)
+}
+
+/// What is written of a program over these arrays that begins with these cells, where it is read.
+fn report_read(
+    alloc: Global,
+    source: &Source<'_>,
+    shape: &Shape,
+    cells: Cells,
+    read: Result<Program, ProgramFault>,
+) -> Result<Report, AllocError>
+    requires named { IfOk read (λ program. IsNamedIn (array_lengths shape.now) (expanded_of program)) }
+    requires cells { lengths cells ≡ array_lengths shape.now }
+    ensures { (program : Result Expanded Refusal) → Gives expanded_of read program → IfOk result (λ report. ReportsRead (source_by source.now) cells program report.verdict report.text.items) }
+{
+    match read {
+        Ok(program) => report_run(alloc, source, shape, &program, cells),
+        Err(fault) => report_unread(alloc, source, fault),
+    }
+}
+
+/// What is written of a program that isn't read.
+fn report_unread(
+    alloc: Global,
+    source: &Source<'_>,
+    fault: ProgramFault,
+) -> Result<Report, AllocError>
+    ensures { (cells : List (List ℕ)) (program : Result Expanded Refusal) → Fails fault program → IfOk result (λ report. ReportsRead (source_by source.now) cells program report.verdict report.text.items) }
+{
+    match fault {
+        ProgramFault::Refused(refusal) => report_refused(alloc, source, refusal),
+        ProgramFault::Memory => Err(AllocError),
+    }
+}
+
+/// The request that runs a program.
+fn run_of(alloc: Global, program: Value) -> Result<Value, AllocError>
+    ensures { IfOk result (λ request. view request ≡ run_of (view program)) }
+{
+    let word = Value::String(String::from_str(alloc, "run")?);
+    Ok(Value::Array(vec![in alloc; word, program]?))
+}
+
+/// What is written of the run of a program over these arrays that begins with these cells.
+fn report_run(
+    alloc: Global,
+    source: &Source<'_>,
+    shape: &Shape,
+    program: &Program,
+    cells: Cells,
+) -> Result<Report, AllocError>
+    requires named { IsNamedIn (array_lengths shape.now) (expanded_of program.now) }
+    requires cells { lengths cells ≡ array_lengths shape.now }
+    ensures { IfOk result (λ report. ReportsRun (source_by source.now) cells (stmts_of program.now.body.items) report.verdict report.text.items) }
+{
+    match this_run(alloc, program, cells)? {
+        Some(race) => report_race(alloc, source, race),
+        None => report_offence(alloc, source, shape, program),
+    }
+}
+
+/// What is written of a race.
+fn report_race(alloc: Global, source: &Source<'_>, race: Race) -> Result<Report, AllocError>
+    ensures verdict { IfOk result (λ report. report.verdict ≡ Verdict.Races) }
+    ensures text { IfOk result (λ report. report.text.items ≡ race_text (source_by source.now) race) }
+{
+    let here = source.site_of(alloc, race.later)?;
+    let other = source.site_of(alloc, race.place)?;
+    let mut cell = Vec::new(alloc);
+    put_cell(alloc, source.arrays, race.cell, &mut cell)?;
+    let mut text = Vec::new(alloc);
+    put_here(
+        alloc,
+        source.name,
+        cell.as_slice(),
+        &here,
+        &other,
+        &mut text,
+    )?;
+    put_other(alloc, source.name, &other, &mut text)?;
+    Ok(Report {
+        verdict: Verdict::Races,
+        text,
+    })
+}
+
+/// What is written of a program in which nothing races: what a server refuses it for.
+fn report_offence(
+    alloc: Global,
+    source: &Source<'_>,
+    shape: &Shape,
+    program: &Program,
+) -> Result<Report, AllocError>
+    requires { IsNamedIn (array_lengths shape.now) (expanded_of program.now) }
+    ensures verdict { IfOk result (λ report. report.verdict ≡ Verdict.Clean) }
+    ensures text { IfOk result (λ report. (first : Option (ℕ × Offence)) × IsFirstOf (Offends (stmts_of program.now.body.items)) first
+        × (report.text.items ≡ warning_text (source_by source.now) (stmts_of program.now.body.items) first)) }
+{
+    let copied = program.copy(alloc)?;
+    let first = first_offence(alloc, copied, shape)?;
+    match first {
+        Some(offends) => report_warning(alloc, source, program, offends.1, offends.0),
+        None => {
+            let text = Vec::new(alloc);
+            Ok(Report {
+                verdict: Verdict::Clean,
+                text,
+            })
+        }
+    }
+}
+
+/// The first offence of a program, with its place.
+fn first_offence(
+    alloc: Global,
+    program: Program,
+    shape: &Shape,
+) -> Result<Option<(u32, Offence)>, AllocError>
+    requires { IsNamedIn (array_lengths shape.now) (expanded_of program) }
+    ensures { IfOk result (IsFirstOf (Offends (stmts_of program.body.items))) }
+{
+    let checked = check(alloc, program, shape);
+    match checked {
+        Ok(_kept) => Ok(None),
+        Err(fault) => offence_of(fault),
+    }
+}
+
+/// The offence for which a program isn't checked, with its place.
+fn offence_of(fault: CheckFault) -> Result<Option<(u32, Offence)>, AllocError>
+    ensures { IfOk result (Says fault) }
+{
+    match fault {
+        CheckFault::Offence(offence, place) => Ok(Some((place, offence))),
+        CheckFault::Memory => Err(AllocError),
+    }
+}
+
+/// What is written of an offence.
+fn report_warning(
+    alloc: Global,
+    source: &Source<'_>,
+    program: &Program,
+    offence: Offence,
+    place: u32,
+) -> Result<Report, AllocError>
+    requires { Fits (stmts_of program.now.body.items) }
+    ensures verdict { IfOk result (λ report. report.verdict ≡ Verdict.Clean) }
+    ensures text { IfOk result (λ report. report.text.items ≡ warning_text (source_by source.now) (stmts_of program.now.body.items) (Some (place, offence))) }
+{
+    let site = source.site_of(alloc, place)?;
+    let used = lacking(program, place, offence);
+    let mut words = Vec::new(alloc);
+    put_advice(alloc, source.arrays, offence, used, &mut words)?;
+    let number = offence.code();
+    let mut text = Vec::new(alloc);
+    put_warning(
+        alloc,
+        source.name,
+        &site,
+        words.as_slice(),
+        number,
+        &mut text,
+    )?;
+    Ok(Report {
+        verdict: Verdict::Clean,
+        text,
+    })
+}
+
+/// What the task around a statement lacks, where that is its offence.
+fn lacking(program: &Program, place: u32, offence: Offence) -> Option<Use>
+    requires { Fits (stmts_of program.now.body.items) }
+    ensures { result ≡ lacks (stmts_of program.now.body.items) place offence }
+{
+    match find_in(&program.body, place, 1, None) {
+        Ok(_) => None,
+        Err(stood) => lacks_by(offence, stood),
+    }
+}
+
+/// What is written of a program that can't be read.
+fn report_refused(
+    alloc: Global,
+    source: &Source<'_>,
+    refusal: Refusal,
+) -> Result<Report, AllocError>
+    ensures verdict { IfOk result (λ report. report.verdict ≡ Verdict.Outside) }
+    ensures text { IfOk result (λ report. (index : ℕ) × (report.text.items ≡ outside_line source.now.name.now (entry_site (source_by source.now) index).position (reason_of refusal))) }
+{
+    let index = faulty_entry(alloc, source)?;
+    let site = source.entry_site(alloc, index)?;
+    let mut text = Vec::new(alloc);
+    put_outside(
+        alloc,
+        source.name,
+        site.position,
+        reason_of(refusal),
+        &mut text,
+    )?;
+    Ok(Report {
+        verdict: Verdict::Outside,
+        text,
+    })
+}
+
+/// The first entry with a fault.
+fn faulty_entry(alloc: Global, source: &Source<'_>) -> Result<u32, AllocError> {
+    match first_fault(alloc, source.request, source.arrays, MAX_TASKS)? {
+        Some(found) => Ok(found.index),
+        None => Ok(0),
+    }
+}
+
+/// What is written of a C text that isn't judged, for this reason, at this byte.
+pub fn report_outside(
+    alloc: Global,
+    name: &str,
+    text: &[u8],
+    byte: usize,
+    reason: &str,
+) -> Result<Report, AllocError>
+    ensures verdict { IfOk result (λ report. report.verdict ≡ Verdict.Outside) }
+    ensures text { IfOk result (λ report. report.text.items ≡ outside_line name.now (position_of text.now byte) reason.now) }
+{
+    let mut out = Vec::new(alloc);
+    put_outside(alloc, name, position_at(text, byte), reason, &mut out)?;
+    Ok(Report {
+        verdict: Verdict::Outside,
+        text: out,
+    })
+}

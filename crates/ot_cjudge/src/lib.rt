@@ -1,0 +1,17 @@
+//! Programs in C, judged over the programs that stand for them, and what is written of each.
+#![tactic(auto)]
+
+mod found;
+mod judging;
+mod lacks;
+mod line;
+mod lowered;
+mod report;
+mod source;
+mod start;
+mod telling;
+mod text_order;
+
+pub use judging::{report_c, report_outside};
+pub use lowered::{CArray, Lowered};
+pub use report::{Report, Verdict};

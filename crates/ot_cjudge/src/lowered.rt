@@ -1,0 +1,20 @@
+//! C programs as programs of the language.
+use serde_json::Value;
+
+/// An array of a C program, and its numbers at the start.
+#[derive(Drop)]
+pub struct CArray {
+    pub name: String,
+    pub cells: Vec<u64>,
+}
+
+/// A C program as a program of the language.
+#[derive(Drop)]
+pub struct Lowered {
+    /// In the order in which the program counts them.
+    pub arrays: Vec<CArray>,
+    /// The text of the program.
+    pub program: Value,
+    /// For each statement of that text, in its order, the byte at which the C statement begins.
+    pub places: Vec<usize>,
+}

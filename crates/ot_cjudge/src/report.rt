@@ -1,0 +1,19 @@
+//! What is written of a C text.
+
+/// What is told of a C text.
+#[derive(Clone, Copy, Debug, PartialEq, Eq)]
+pub enum Verdict {
+    /// Nothing races in its run; the server may still refuse it.
+    Clean,
+    /// Two touches race.
+    Races,
+    /// It isn't judged.
+    Outside,
+}
+
+/// What is written of a C text, and what is told.
+#[derive(Drop)]
+pub struct Report {
+    pub verdict: Verdict,
+    pub text: Vec<u8>,
+}

@@ -1,0 +1,89 @@
+//! A C text, and what stands for it.
+ghost use Rattle.std.specs.Prelude.{◌≡◌};
+ghost use Rattle.ot_file.specs.Positions.{position_of};
+
+use crate::text_order::told_of;
+use ot_file::{Position, position_of};
+use ot_model::ArrayShape;
+use ot_place::{Place, Turn, entry_of, place_of};
+use serde_json::Value;
+use std::alloc::{AllocError, Global};
+
+/// A C text, its name, and a request that runs a program which stands for it.
+#[derive(Drop)]
+pub(crate) struct Source<'a> {
+    pub(crate) name: &'a str,
+    pub(crate) text: &'a [u8],
+    pub(crate) request: &'a Value,
+    /// The arrays that the program names.
+    pub(crate) arrays: &'a [ArrayShape],
+    /// For each statement of the program, in the order of its text, the byte at which the C statement begins.
+    pub(crate) places: &'a [usize],
+}
+
+/// A place in the text, and the turns of the loops around it, the innermost first.
+#[derive(Drop)]
+pub(crate) struct Site<'a> {
+    pub(crate) position: Position,
+    pub(crate) turns: Vec<Turn<'a>>,
+}
+
+impl<'a> Source<'a> {
+    ghost use Rattle.std.specs.Prelude.{◌≡◌, IfOk, option_map, unwrap_or};
+    ghost use Rattle.ot_file.specs.Positions.{position_of};
+    ghost use Rattle.ot_place.specs.Seeking.{place_by};
+    ghost use Rattle.ot_cjudge.specs.TextOrder.{told_of};
+    ghost use Rattle.ot_cjudge.specs.Sites.{site_at, site_of, entry_site};
+    ghost use Rattle.ot_cjudge.specs.SiteView.{site_by, source_by};
+
+    /// Where the C statement stands that stands for the statement of this number.
+    pub(crate) fn site_of(&self, alloc: Global, number: u32) -> Result<Site<'a>, AllocError>
+        ensures { IfOk result (λ site. site_by site ≡ site_of (source_by self.now) number) }
+    {
+        let place = place_of(alloc, self.request, number)?;
+        Ok(self.site_at(alloc, place))
+    }
+
+    /// The same of an entry among all that the program has in order.
+    pub(crate) fn entry_site(&self, alloc: Global, index: u32) -> Result<Site<'a>, AllocError>
+        ensures { IfOk result (λ site. site_by site ≡ entry_site (source_by self.now) index) }
+    {
+        let place = entry_of(alloc, self.request, index)?;
+        Ok(self.site_at(alloc, place))
+    }
+
+    fn site_at(&self, alloc: Global, place: Option<Place<'a>>) -> Site<'a>
+        ensures { site_by result ≡ site_at (source_by self.now) (option_map place_by place.entry) }
+    {
+        match place {
+            Some(place) => Site {
+                position: self.position_of(self.byte_at(place.path.as_slice())),
+                turns: place.turns,
+            },
+            None => Site {
+                position: self.position_of(0),
+                turns: Vec::new(alloc),
+            },
+        }
+    }
+
+    /// The byte that is told beside the statement at a path.
+    fn byte_at(&self, path: &[usize]) -> usize
+        ensures { result ≡ unwrap_or (told_of (source_by self.now).bytes (source_by self.now).request path.now) 0 }
+    {
+        told_of(self.places, self.request, path).unwrap_or(0)
+    }
+
+    fn position_of(&self, byte: usize) -> Position
+        ensures { result ≡ position_of self.now.text.now byte }
+    {
+        position_at(self.text, byte)
+    }
+}
+
+/// Where the byte of a text stands that has so many before it, or the one behind the text.
+pub(crate) fn position_at(text: &[u8], byte: usize) -> Position
+    ensures { result ≡ position_of text.now byte }
+{
+    position_of(text, byte.min(text.len()))
+}
