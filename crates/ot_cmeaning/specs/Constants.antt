@@ -1,0 +1,71 @@
+-- Numbers that are known where they stand (C17, section 6.6).
+use Rattle.std.specs.Prelude.{ℕ, ◌+◌, ◌-◌, ◌*◌, ◌^◌, nat_lt, nat_le, Option, Some, None, if◌then◌else◌}
+use Rattle.ot_words.specs.declared.word.IntegerType.{IntegerType}
+use Rattle.ot_words.specs.declared.word.IntegerType.TheVariants.{UnsignedLong}
+use Rattle.ot_words.specs.declared.word.Name.{Name}
+use Rattle.ot_cread.specs.declared.sign.Sign.{Sign}
+use Rattle.ot_cread.specs.declared.sign.Sign.TheVariants as o
+use Rattle.ot_cread.specs.Tree.{E, Literal, Variable, CellAt, Unsigned, Called, Apply}
+use Rattle.ot_cmeaning.specs.declared.scope.Sense.{Sense}
+use Rattle.ot_cmeaning.specs.declared.scope.Sense.TheVariants as s
+use Rattle.ot_cmeaning.specs.Kinds.{joined, holds}
+use Rattle.ot_cmeaning.specs.Scopes.{Around, sense}
+
+-- a number and its type
+abbrev pub Typed : Type 0
+Typed = ℕ × IntegerType
+
+abbrev pub held : ℕ → IntegerType → Option Typed
+held n k = if holds k n then Some (n, k) else None
+
+abbrev pub named_by : Sense → Option Typed
+named_by (s.Constant n k) = Some (n, k)
+named_by s.Nothing = None
+named_by (s.Turn k) = None
+named_by s.Begins = None
+named_by (s.Cells length) = None
+named_by (s.Combined o length) = None
+named_by s.Function = None
+
+abbrev pub named : Around → Name → Option Typed
+named a x = named_by (sense a x)
+
+abbrev pub word : ℕ → Option ℕ
+word n = if nat_lt n (2 ^ 64) then Some n else None
+
+-- the exact result, where it is a number from 0 to 2^64 - 1
+abbrev pub exact : Sign → ℕ → ℕ → Option ℕ
+exact o.Plus a b = word (a + b)
+exact o.Minus a b = if nat_le b a then Some (a - b) else None
+exact o.Times a b = word (a * b)
+exact o.Or a b = None
+exact o.Xor a b = None
+exact o.And a b = None
+exact o.Equal a b = None
+exact o.Less a b = None
+exact o.Rest a b = None
+
+abbrev pub held_if : IntegerType → Option ℕ → Option Typed
+held_if k None = None
+held_if k (Some n) = held n k
+
+abbrev pub applied : Sign → Typed → Typed → Option Typed
+applied sign a b = held_if (joined a.1 b.1) (exact sign a.0 b.0)
+
+abbrev pub as_word : Option Typed → Option Typed
+as_word None = None
+as_word (Some x) = Some (x.0, UnsignedLong)
+
+abbrev pub both : Sign → Option Typed → Option Typed → Option Typed
+both sign None two = None
+both sign (Some a) None = None
+both sign (Some a) (Some b) = applied sign a b
+
+-- numbers, names of constants, and + - * of these, each part exact and in its type
+unfoldable pub constant : Around → E → Option Typed
+constant a (Literal n k) = Some (n, k)
+constant a (Variable x) = named a x
+constant a (CellAt x i) = None
+constant a (Unsigned e) = as_word (constant a e)
+constant a (Called c x y) = None
+constant a (Apply sign x y) = both sign (constant a x) (constant a y)

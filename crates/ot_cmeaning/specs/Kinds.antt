@@ -1,0 +1,35 @@
+-- Types of numbers, where `long` has 64 bits (C17, section 6.3.1.8).
+use Rattle.std.specs.Prelude.{ℕ, ◌^◌, nat_lt, Bool, true, false, if◌then◌else◌}
+use Rattle.ot_words.specs.declared.word.IntegerType.{IntegerType}
+use Rattle.ot_words.specs.declared.word.IntegerType.TheVariants.{Int, Unsigned, Long, UnsignedLong}
+
+abbrev pub rank : IntegerType → ℕ
+rank Int = 0
+rank Unsigned = 1
+rank Long = 2
+rank UnsignedLong = 3
+
+-- the type in which two numbers meet
+abbrev pub joined : IntegerType → IntegerType → IntegerType
+joined a b = if nat_lt (rank a) (rank b) then b else a
+
+-- whether a type holds a number from 0 to 2^64 - 1
+abbrev pub holds : IntegerType → ℕ → Bool
+holds Int n = nat_lt n (2 ^ 31)
+holds Unsigned n = nat_lt n (2 ^ 32)
+holds Long n = nat_lt n (2 ^ 63)
+holds UnsignedLong n = true
+
+-- `uint64_t`, whose numbers are those of the language
+abbrev pub is_word : IntegerType → Bool
+is_word UnsignedLong = true
+is_word Int = false
+is_word Unsigned = false
+is_word Long = false
+
+-- `unsigned`, whose numbers wrap otherwise
+abbrev pub is_narrow : IntegerType → Bool
+is_narrow Unsigned = true
+is_narrow Int = false
+is_narrow Long = false
+is_narrow UnsignedLong = false

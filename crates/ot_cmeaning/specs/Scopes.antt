@@ -1,0 +1,76 @@
+-- What names mean at a place of the text.
+use Rattle.std.specs.Prelude.{ℕ, ◌==◌, Bool, false, List, ◌∷◌, map, find, Option, Some, None, option_map, unwrap_or, slice_get, String, string_bytes, if◌then◌else◌, []}
+use Rattle.std.specs.declared.alloc.Global.{Global}
+use Rattle.ot_words.specs.declared.word.Name.{Name}
+use Rattle.ot_words.specs.declared.word.Name.TheVariants as n
+use Rattle.ot_cmeaning.specs.declared.scope.Meaning.{Meaning}
+use Rattle.ot_cmeaning.specs.declared.scope.Meaning.TheVariants as m
+use Rattle.ot_cmeaning.specs.declared.scope.Turn.{Turn}
+use Rattle.ot_cmeaning.specs.declared.scope.Opening.{Opening}
+use Rattle.ot_cmeaning.specs.declared.scope.Sense.{Sense}
+use Rattle.ot_cmeaning.specs.declared.scope.Sense.TheVariants as s
+
+-- what names mean at a place: in the whole file, by their numbers; in the loops around, the innermost first; in the
+-- open groups, the innermost first
+pub record Around : Type 0 where
+  pub names : List (String Global)
+  pub meanings : List Meaning
+  pub turns : List Turn
+  pub opened : List Opening
+  -- whether the place is in a parallel region
+  pub inside : Bool
+
+-- the text of a name that means nothing by itself
+abbrev pub text_of : List (String Global) → ℕ → List ℕ
+text_of names i = unwrap_or (option_map (λ x. string_bytes x) (slice_get names i)) []
+
+abbrev pub name_text : Around → Name → List ℕ
+name_text a (n.Known k) = []
+name_text a (n.Other i) = text_of a.names i
+
+abbrev pub meaning_of : Around → ℕ → Meaning
+meaning_of a i = unwrap_or (slice_get a.meanings i) m.Nothing
+
+-- the innermost loop of this variable
+abbrev pub turn_of : Around → ℕ → Option Turn
+turn_of a i = find (λ t. t.variable == i) a.turns
+
+-- the innermost group that combines over this array
+abbrev pub opening_of : Around → ℕ → Option Opening
+opening_of a i = find (λ o. o.array == i) a.opened
+
+-- a loop's variable hides what else its name means
+abbrev pub turn_or : Option Turn → Sense → Sense
+turn_or None other = other
+turn_or (Some t) other = if t.begun then s.Turn t.kind else s.Begins
+
+abbrev pub opened_or : Option Opening → Option ℕ → Sense
+opened_or None length = s.Cells length
+opened_or (Some o) length = s.Combined o length
+
+-- a constant stands for its number wherever its name stands (C17, section 6.10.3)
+abbrev pub sense_by : Meaning → Option Turn → Option Opening → Sense
+sense_by (m.Constant n k) turn opening = s.Constant n k
+sense_by m.Nothing turn opening = turn_or turn s.Nothing
+sense_by m.Function turn opening = turn_or turn s.Function
+sense_by (m.Cells length) turn opening = turn_or turn (opened_or opening length)
+
+-- what a name means
+abbrev pub sense : Around → Name → Sense
+sense a (n.Known k) = s.Nothing
+sense a (n.Other i) = sense_by (meaning_of a i) (turn_of a i) (opening_of a i)
+
+-- ---- inner places
+
+abbrev pub with_turn : Around → Turn → Around
+with_turn a t = record a { turns = t ∷ a.turns }
+
+abbrev pub with_opening : Around → Opening → Around
+with_opening a o = record a { opened = o ∷ a.opened }
+
+abbrev pub not_own : Opening → Opening
+not_own o = record o { own = false }
+
+-- in a task, before it takes part in a reduction: no copy is its own
+abbrev pub within_task : Around → Around
+within_task a = record a { opened = map not_own a.opened }

@@ -1,0 +1,212 @@
+-- Values: numbers that a program computes. Each is in the language what it is in C, modulo 2^64.
+use Rattle.std.specs.Prelude.{ℕ, ◌-◌, ◌==◌, nat_lt, Bool, true, false, not, ◌&&◌, ◌||◌, List, [], ◌∷◌, Option, Some, None, Result, Ok, Err, codes, bit_and, if◌then◌else◌}
+use Rattle.serde_json.specs.Data.{Data, string}
+use Rattle.serde_json.specs.View.{view}
+use Rattle.ot_words.specs.declared.word.IntegerType.{IntegerType}
+use Rattle.ot_words.specs.declared.word.IntegerType.TheVariants.{Int, UnsignedLong}
+use Rattle.ot_words.specs.declared.word.Name.{Name}
+use Rattle.ot_cread.specs.declared.sign.Sign.{Sign}
+use Rattle.ot_cread.specs.declared.sign.Sign.TheVariants as o
+use Rattle.ot_cread.specs.declared.tree.Call.{Call}
+use Rattle.ot_cread.specs.declared.tree.Call.TheVariants as c
+use Rattle.ot_cread.specs.Tree.{E, Literal, Variable, CellAt, Unsigned, Called, Apply}
+use Rattle.ot_cmeaning.specs.declared.reason.Reason.{Reason}
+use Rattle.ot_cmeaning.specs.declared.reason.Reason.TheVariants as why
+use Rattle.ot_cmeaning.specs.declared.scope.Sense.{Sense}
+use Rattle.ot_cmeaning.specs.declared.scope.Sense.TheVariants as s
+use Rattle.ot_cmeaning.specs.declared.values.Worth.{Worth}
+use Rattle.ot_cmeaning.specs.Constants.{Typed, constant}
+use Rattle.ot_cmeaning.specs.Forms.{nat, form, listed}
+use Rattle.ot_cmeaning.specs.Kinds.{joined, is_word, is_narrow}
+use Rattle.ot_cmeaning.specs.Results.{Refusal, ◌>>=◌}
+use Rattle.ot_cmeaning.specs.Scopes.{Around, sense, name_text}
+use Rattle.ot_cmeaning.specs.Sizes.{size}
+
+-- a value, with the type that it has in C, and whether it is known to be no negative number there
+pub record W : Type 0 where
+  pub text : Data
+  pub kind : IntegerType
+  pub whole : Bool
+
+abbrev pub worth_of : Worth → W
+worth_of w = record { text = view w.value; kind = w.kind; whole = w.whole }
+
+abbrev pub Valued : Type 0
+Valued = Result W Refusal
+
+-- of type `uint64_t`
+abbrev pub word : Data → W
+word d = record { text = d; kind = UnsignedLong; whole = true }
+
+abbrev pub whole : Data → IntegerType → W
+whole d k = record { text = d; kind = k; whole = true }
+
+-- ---- names and cells
+
+-- why a name has no cells that are read or written
+abbrev pub no_array : Sense → Reason
+no_array s.Nothing = why.Unknown
+no_array (s.Combined c length) = why.Combined
+no_array (s.Constant n k) = why.NoArray
+no_array (s.Turn k) = why.NoArray
+no_array s.Begins = why.NoArray
+no_array (s.Cells length) = why.NoArray
+no_array s.Function = why.NoArray
+
+abbrev pub array_by : ℕ → List ℕ → Sense → Result Data Refusal
+array_by at name (s.Cells (Some n)) = Ok (string name)
+array_by at name (s.Cells None) = Err (at, why.NoArray)
+array_by at name s.Nothing = Err (at, why.Unknown)
+array_by at name (s.Combined c length) = Err (at, why.Combined)
+array_by at name (s.Constant n k) = Err (at, why.NoArray)
+array_by at name (s.Turn k) = Err (at, why.NoArray)
+array_by at name s.Begins = Err (at, why.NoArray)
+array_by at name s.Function = Err (at, why.NoArray)
+
+-- the name of an array, over which no open group combines
+abbrev pub array_name : Around → ℕ → Name → Result Data Refusal
+array_name a at x = array_by at (name_text a x) (sense a x)
+
+-- `a[size]`
+abbrev pub cell : Around → ℕ → Name → E → Result Data Refusal
+cell a at x i = array_name a at x >>= λ name. size a at i >>= λ p. Ok (form (codes "c") (name ∷ p.0 ∷ []))
+
+-- the only cell of a variable
+abbrev pub only_cell : List ℕ → Data
+only_cell name = form (codes "c") (string name ∷ nat 0 ∷ [])
+
+abbrev pub named_by : ℕ → List ℕ → Sense → Valued
+named_by at name (s.Constant n k) = Ok (whole (nat n) k)
+named_by at name (s.Turn k) = Ok (whole (string name) k)
+named_by at name (s.Cells None) = Ok (word (only_cell name))
+named_by at name (s.Cells (Some n)) = Err (at, why.WholeArray)
+named_by at name s.Nothing = Err (at, why.Unknown)
+named_by at name s.Begins = Err (at, why.OwnBound)
+named_by at name (s.Combined c length) = Err (at, why.Combined)
+named_by at name s.Function = Err (at, why.Function)
+
+-- a constant, a loop's variable, or a variable
+abbrev pub named : Around → ℕ → Name → Valued
+named a at x = named_by at (name_text a x) (sense a x)
+
+-- ---- operations
+
+abbrev pub sign_word : Sign → List ℕ
+sign_word o.Or = codes "|"
+sign_word o.Xor = codes "^"
+sign_word o.And = codes "&"
+sign_word o.Equal = codes "="
+sign_word o.Less = codes "<"
+sign_word o.Plus = codes "+"
+sign_word o.Minus = codes "-"
+sign_word o.Times = codes "*"
+sign_word o.Rest = codes ""
+
+abbrev pub call_word : Call → List ℕ
+call_word c.Min = codes "min"
+call_word c.Max = codes "max"
+
+-- Whether the language computes in numbers of 64 bits what C does in a type, of numbers that aren't negative or may be.
+-- Where a signed result is too large for its type, C gives the program no meaning.
+abbrev pub agrees : Sign → IntegerType → Bool → Bool
+agrees o.Plus k w = not (is_narrow k)
+agrees o.Minus k w = not (is_narrow k)
+agrees o.Times k w = not (is_narrow k)
+agrees o.Or k w = w || not (is_narrow k)
+agrees o.Xor k w = w || not (is_narrow k)
+agrees o.And k w = w || not (is_narrow k)
+agrees o.Equal k w = w || not (is_narrow k)
+agrees o.Less k w = w || is_word k
+agrees o.Rest k w = false
+
+abbrev pub disagrees : Sign → Reason
+disagrees o.Plus = why.Wraps
+disagrees o.Minus = why.Wraps
+disagrees o.Times = why.Wraps
+disagrees o.Or = why.Wraps
+disagrees o.Xor = why.Wraps
+disagrees o.And = why.Wraps
+disagrees o.Equal = why.Wraps
+disagrees o.Less = why.Signed
+disagrees o.Rest = why.Rest
+
+-- the type of a result
+abbrev pub result_kind : Sign → IntegerType → IntegerType
+result_kind o.Equal k = Int
+result_kind o.Less k = Int
+result_kind o.Plus k = k
+result_kind o.Minus k = k
+result_kind o.Times k = k
+result_kind o.Or k = k
+result_kind o.Xor k = k
+result_kind o.And k = k
+result_kind o.Rest k = k
+
+-- whether a result isn't negative
+abbrev pub result_whole : Sign → IntegerType → Bool → Bool
+result_whole o.Equal k w = true
+result_whole o.Less k w = true
+result_whole o.Minus k w = is_word k
+result_whole o.Plus k w = w || is_word k
+result_whole o.Times k w = w || is_word k
+result_whole o.Or k w = w || is_word k
+result_whole o.Xor k w = w || is_word k
+result_whole o.And k w = w || is_word k
+result_whole o.Rest k w = w || is_word k
+
+abbrev pub applied_in : ℕ → Sign → IntegerType → Bool → Data → Data → Valued
+applied_in at sign k w x y = if agrees sign k w then Ok (record { text = form (sign_word sign) (x ∷ y ∷ []); kind = result_kind sign k; whole = result_whole sign k w }) else Err (at, disagrees sign)
+
+-- two values with a sign between, which isn't `%`
+abbrev pub applied : ℕ → Sign → W → W → Valued
+applied at sign x y = applied_in at sign (joined x.kind y.kind) (x.whole && y.whole) x.text y.text
+
+-- whether `%` of a value by a number of a type is a rest of the number that the value is modulo 2^64
+abbrev pub has_rest : W → IntegerType → Bool
+has_rest x k = x.whole || is_word (joined x.kind k)
+
+abbrev pub is_power : ℕ → Bool
+is_power n = nat_lt 0 n && bit_and n (n - 1) == 0
+
+-- a value `%` a power of two
+abbrev pub rest : ℕ → W → Option Typed → Valued
+rest at x None = Err (at, why.Rest)
+rest at x (Some by) = if is_power by.0 && has_rest x by.1 then Ok (whole (form (codes "&") (x.text ∷ nat (by.0 - 1) ∷ [])) (joined x.kind by.1)) else Err (at, why.Rest)
+
+-- ---- values
+
+-- `a[first + value % count]`
+abbrev pub picked : ℕ → Data → Data → Data × IntegerType → W → Valued
+picked at name first count x = if has_rest x count.1 then Ok (word (form (codes "pick") (listed (name ∷ first ∷ count.0 ∷ []) ∷ x.text ∷ []))) else Err (at, why.Signed)
+
+abbrev pub pick : Around → ℕ → Data → Data → Valued → E → Valued
+pick a at name first chosen count = size a at count >>= λ n. chosen >>= λ x. picked at name first n x
+
+abbrev pub plain : Around → ℕ → Name → E → Valued
+plain a at x i = cell a at x i >>= λ d. Ok (word d)
+
+abbrev pub operation : Around → ℕ → Sign → Valued → Valued → E → Valued
+operation a at o.Rest one two by = one >>= λ x. rest at x (constant a by)
+operation a at o.Plus one two by = one >>= λ x. two >>= λ y. applied at o.Plus x y
+operation a at o.Minus one two by = one >>= λ x. two >>= λ y. applied at o.Minus x y
+operation a at o.Times one two by = one >>= λ x. two >>= λ y. applied at o.Times x y
+operation a at o.Or one two by = one >>= λ x. two >>= λ y. applied at o.Or x y
+operation a at o.Xor one two by = one >>= λ x. two >>= λ y. applied at o.Xor x y
+operation a at o.And one two by = one >>= λ x. two >>= λ y. applied at o.And x y
+operation a at o.Equal one two by = one >>= λ x. two >>= λ y. applied at o.Equal x y
+operation a at o.Less one two by = one >>= λ x. two >>= λ y. applied at o.Less x y
+
+unfoldable mutual
+  pub value : Around → ℕ → E → Valued
+  value a at (Literal n k) = Ok (whole (nat n) k)
+  value a at (Variable x) = named a at x
+  value a at (CellAt x i) = indexed a at x i
+  value a at (Unsigned e) = value a at e >>= λ x. Ok (word x.text)
+  value a at (Called f x y) = value a at x >>= λ v. value a at y >>= λ w. Ok (word (form (call_word f) (v.text ∷ w.text ∷ [])))
+  value a at (Apply sign x y) = operation a at sign (value a at x) (value a at y) y
+
+  -- a place in an array: a value `%` a size, alone or behind a size and `+`; or a size
+  pub indexed : Around → ℕ → Name → E → Valued
+  indexed a at x (Apply o.Rest chosen count) = array_name a at x >>= λ name. pick a at name (nat 0) (value a at chosen) count
+  indexed a at x (Apply o.Plus first (Apply o.Rest chosen count)) = array_name a at x >>= λ name. size a at first >>= λ f. pick a at name f.0 (value a at chosen) count
+  indexed a at x i = plain a at x i

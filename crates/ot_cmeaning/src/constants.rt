@@ -1,0 +1,76 @@
+//! Constants: numbers that are known where they stand.
+ghost use Rattle.std.specs.Prelude.{◌≡◌};
+ghost use Rattle.ot_cread.specs.Tree.{expr_of};
+ghost use Rattle.ot_cmeaning.specs.Constants as constants;
+
+use crate::kind::{holds, joined};
+use crate::scope::{Scope, Sense};
+use ot_cread::{Expr, Sign};
+use ot_words::{IntegerType, Name};
+
+/// A number that its type holds.
+fn held(number: u64, kind: IntegerType) -> Option<(u64, IntegerType)>
+    ensures { result ≡ constants.held number kind }
+{
+    if holds(kind, number) {
+        Some((number, kind))
+    } else {
+        None
+    }
+}
+
+fn named(scope: &Scope<'_>, name: Name) -> Option<(u64, IntegerType)>
+    ensures { result ≡ constants.named scope.now name }
+{
+    match scope.sense(name) {
+        Sense::Constant(number, kind) => Some((number, kind)),
+        Sense::Nothing | Sense::Turn(_) | Sense::Begins => None,
+        Sense::Cells(_) | Sense::Combined(_, _) | Sense::Function => None,
+    }
+}
+
+/// The exact result, where it is a number from 0 to 2^64 - 1.
+fn exact(sign: Sign, one: u64, two: u64) -> Option<u64>
+    ensures { result ≡ constants.exact sign one two }
+{
+    match sign {
+        Sign::Plus => one.checked_add(two),
+        Sign::Minus => one.checked_sub(two),
+        Sign::Times => one.checked_mul(two),
+        Sign::Or | Sign::Xor | Sign::And | Sign::Equal | Sign::Less | Sign::Rest => None,
+    }
+}
+
+/// Two numbers with a sign between.
+fn applied(
+    sign: Sign,
+    one: (u64, IntegerType),
+    two: (u64, IntegerType),
+) -> Option<(u64, IntegerType)>
+    ensures { result ≡ constants.applied sign one two }
+{
+    let number = exact(sign, one.0, two.0)?;
+    held(number, joined(one.1, two.1))
+}
+
+/// The number that a value is wherever it is computed, with its type.
+#[tactic(auto, unfolding(crate::specs::Constants::constant))]
+pub fn constant(scope: &Scope<'_>, expr: &Expr) -> Option<(u64, IntegerType)>
+    ensures { result ≡ constants.constant scope.now (expr_of expr.now) }
+{
+    match expr {
+        Expr::Number(number, kind) => Some((*number, *kind)),
+        Expr::Variable(name) => named(scope, *name),
+        Expr::Cell(_, _) => None,
+        Expr::Cast(value) => {
+            let (number, _) = constant(scope, value)?;
+            Some((number, IntegerType::UnsignedLong))
+        }
+        Expr::Call(_, _, _) => None,
+        Expr::Op(sign, one, two) => {
+            let one = constant(scope, one)?;
+            let two = constant(scope, two)?;
+            applied(*sign, one, two)
+        }
+    }
+}

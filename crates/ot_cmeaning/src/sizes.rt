@@ -1,0 +1,88 @@
+//! Sizes: places in arrays, and bounds of loops.
+ghost use Rattle.std.specs.Prelude.{◌≡◌};
+ghost use Rattle.serde_json.specs.View.{view};
+ghost use Rattle.ot_cread.specs.Tree.{expr_of};
+ghost use Rattle.ot_cmeaning.specs.Results.{Gives};
+ghost use Rattle.ot_cmeaning.specs.Sizes as sizes;
+
+use crate::fault::CFault;
+use crate::json::form2;
+use crate::kind::joined;
+use crate::reason::Reason;
+use crate::scope::{Scope, Sense};
+use ot_cread::{Expr, Sign};
+use ot_words::{IntegerType, Name};
+use serde_json::Value;
+use std::alloc::Global;
+
+/// Why a name is no number here.
+pub(crate) fn no_number(sense: Sense) -> Reason
+    ensures { result ≡ sizes.no_number sense }
+{
+    match sense {
+        Sense::Nothing | Sense::Constant(_, _) | Sense::Turn(_) => Reason::Unknown,
+        Sense::Begins => Reason::OwnBound,
+        Sense::Cells(Some(_)) => Reason::WholeArray,
+        Sense::Cells(None) => Reason::NoSize,
+        Sense::Combined(_, _) => Reason::Combined,
+        Sense::Function => Reason::Function,
+    }
+}
+
+fn named(
+    alloc: Global,
+    scope: &Scope<'_>,
+    start: usize,
+    name: Name,
+) -> Result<(Value, IntegerType), CFault>
+    ensures { Gives (λ x. (view x.0, x.1)) result (sizes.named scope.now start name) }
+{
+    match scope.sense(name) {
+        Sense::Constant(number, kind) => Ok((Value::from(number), kind)),
+        Sense::Turn(kind) => Ok((scope.named(alloc, name)?, kind)),
+        other => Err(CFault::Outside(start, no_number(other))),
+    }
+}
+
+/// The word of an operation of sizes.
+fn size_word(sign: Sign) -> Option<&'static str>
+    ensures { sizes.seen result ≡ sizes.size_word sign }
+{
+    match sign {
+        Sign::Plus => Some("+"),
+        Sign::Minus => Some("-"),
+        Sign::Times => Some("*"),
+        Sign::Or | Sign::Xor | Sign::And | Sign::Equal | Sign::Less | Sign::Rest => None,
+    }
+}
+
+/// A size, with the type that it has in C. In the language each part of it is exact, so where it is none in C that its
+/// type holds it is refused there.
+#[tactic(auto, unfolding(crate::specs::Sizes::size))]
+pub fn size(
+    alloc: Global,
+    scope: &Scope<'_>,
+    start: usize,
+    expr: &Expr,
+) -> Result<(Value, IntegerType), CFault>
+    ensures { Gives (λ x. (view x.0, x.1)) result (sizes.size scope.now start (expr_of expr.now)) }
+{
+    match expr {
+        Expr::Number(number, kind) => Ok((Value::from(*number), *kind)),
+        Expr::Variable(name) => named(alloc, scope, start, *name),
+        Expr::Cell(_, _) => Err(CFault::Outside(start, Reason::NoSize)),
+        Expr::Cast(value) => {
+            let (value, _) = size(alloc, scope, start, value)?;
+            Ok((value, IntegerType::UnsignedLong))
+        }
+        Expr::Call(_, _, _) => Err(CFault::Outside(start, Reason::NoSize)),
+        Expr::Op(sign, one, two) => {
+            let Some(word) = size_word(*sign) else {
+                return Err(CFault::Outside(start, Reason::NoSize));
+            };
+            let (one, one_kind) = size(alloc, scope, start, one)?;
+            let (two, two_kind) = size(alloc, scope, start, two)?;
+            Ok((form2(alloc, word, one, two)?, joined(one_kind, two_kind)))
+        }
+    }
+}
