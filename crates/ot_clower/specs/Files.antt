@@ -4,6 +4,7 @@ use Rattle.std.specs.declared.alloc.Global.{Global}
 use Rattle.serde_json.specs.Data.{Data, string, Items, array}
 use Rattle.serde_json.specs.View.{view, items_of}
 use Rattle.serde_json.specs.declared.value.Value.{Value}
+use Rattle.ot_cread.specs.declared.tree.Operation.TheVariants as o
 use Rattle.ot_cread.specs.Tree.{E, Claim}
 use Rattle.ot_cstatement.specs.Tree.{S, Body}
 use Rattle.ot_cfile.specs.Program.{Entry, Constant, Global as Global', Function, Act, Local, Region, Does, Whole}
@@ -19,8 +20,8 @@ use Rattle.ot_clower.specs.declared.lowered.Progress.{Progress}
 use Rattle.ot_clower.specs.Clauses.{heading}
 use Rattle.ot_clower.specs.Declared.{D, declared_of, Arr, array_of, named, number_of, outside, declaration}
 use Rattle.ot_clower.specs.Each.{each}
-use Rattle.ot_clower.specs.Lines.{L, none, one, joined}
-use Rattle.ot_clower.specs.Statements.{byte_of, statement, body}
+use Rattle.ot_clower.specs.Lines.{L, lines_of, none, joined}
+use Rattle.ot_clower.specs.Statements.{byte_of, statement, body, group}
 
 abbrev pub Names : Type 0
 Names = List (String Global)
@@ -58,7 +59,7 @@ abbrev pub region : Names → List ℕ → List Meaning → ℕ → List Claim �
 region names starts meanings at cs b =
     heading at (outside names meanings true) cs >>= λ h.
     body starts h.around b >>= λ x.
-    Ok (one at (form (codes "group") (string (codes "+") ∷ listed [] ∷ listed x.texts ∷ [])) x.places)
+    Ok (group at o.Plus [] x)
 
 -- a statement outside of regions
 abbrev pub alone : Names → List ℕ → List Meaning → S → Result L Refusal
@@ -70,7 +71,7 @@ pub record P : Type 0 where
   pub lines : L
 
 abbrev pub progress_of : Progress → P
-progress_of p = record { declared = declared_of p.declared; lines = p.lines }
+progress_of p = record { declared = declared_of p.declared; lines = lines_of p.lines }
 
 abbrev pub Went : Result Progress CFault → P → Type 0
 Went result p = Gives progress_of result (Ok p)

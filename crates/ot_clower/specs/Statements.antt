@@ -6,8 +6,10 @@ use Rattle.serde_json.specs.declared.value.Value.{Value}
 use Rattle.ot_words.specs.declared.word.IntegerType.{IntegerType}
 use Rattle.ot_words.specs.declared.word.IntegerType.TheVariants.{Int, Unsigned, Long, UnsignedLong}
 use Rattle.ot_program.specs.Names.{is_name}
+use Rattle.ot_cread.specs.declared.sign.Sign.{Sign}
+use Rattle.ot_cread.specs.declared.tree.Operation.{Operation}
 use Rattle.ot_cread.specs.Tree.{E, Claim}
-use Rattle.ot_cstatement.specs.Tree.{Course, S, Block, Assign, If, For, Task, Wait, Group, Yield, Call, Print, Show, Point, Body, End, Next}
+use Rattle.ot_cstatement.specs.Tree.{Aim, Course, S, Block, Assign, If, For, Task, Wait, Group, Yield, Call, Print, Show, Point, Body, End, Next}
 use Rattle.ot_cmeaning.specs.declared.fault.CFault.{CFault}
 use Rattle.ot_cmeaning.specs.declared.reason.Reason.TheVariants as why
 use Rattle.ot_cmeaning.specs.declared.scope.Turn.{Turn}
@@ -16,11 +18,12 @@ use Rattle.ot_cmeaning.specs.Results.{Refusal, ◌>>=◌, Gives}
 use Rattle.ot_cmeaning.specs.Scopes.{Around, text_of, with_turn, within_task}
 use Rattle.ot_cmeaning.specs.Sizes.{size}
 use Rattle.ot_cmeaning.specs.Values.{value}
+use Rattle.ot_clower.specs.declared.lines.Lines.{Lines}
 use Rattle.ot_clower.specs.declared.statements.Bounds.{Bounds}
 use Rattle.ot_clower.specs.Assignments.{assignment}
-use Rattle.ot_clower.specs.Clauses.{heading, group_operation}
+use Rattle.ot_clower.specs.Clauses.{Head, heading, group_operation}
 use Rattle.ot_clower.specs.Each.{each}
-use Rattle.ot_clower.specs.Lines.{L, none, one, joined}
+use Rattle.ot_clower.specs.Lines.{L, lines_of, none, one, joined}
 use Rattle.ot_clower.specs.Operations.{operation_word}
 
 abbrev pub Lowered : Type 0
@@ -103,33 +106,46 @@ sizes a inner at c = size inner at c.start >>= λ f. size inner at c.end >>= λ 
 abbrev pub bounds : Around → ℕ → Course → Result Range Refusal
 bounds a at c = if is_name (text_of a.names c.variable) then sizes a (with_turn a (turn c false)) at c else Err (at, why.NoName)
 
--- ---- statements with bodies, of which is said what they become where names mean something
+-- ---- statements with bodies
 
-abbrev pub branch : Around → ℕ → E → Lowered → Lowered → Lowered
-branch a at test yes no = value a at test >>= λ v. yes >>= λ x. no >>= λ y. Ok (one at (form (codes "if") (v.text ∷ listed x.texts ∷ listed y.texts ∷ [])) (x.places ++ y.places))
+abbrev pub branch : ℕ → Data → L → L → L
+branch at test x y = one at (form (codes "if") (test ∷ listed x.texts ∷ listed y.texts ∷ [])) (x.places ++ y.places)
 
-abbrev pub repeated : (Around → Lowered) → Around → ℕ → Course → Lowered
-repeated inner a at c = bounds a at c >>= λ r. inner (with_turn a (turn c true)) >>= λ x. Ok (one at (form (codes "for") (r.name ∷ r.first ∷ r.end ∷ listed x.texts ∷ [])) x.places)
+abbrev pub repeated : ℕ → Range → L → L
+repeated at r x = one at (form (codes "for") (r.name ∷ r.first ∷ r.end ∷ listed x.texts ∷ [])) x.places
 
--- OpenMP API 5.2, section 12.5
-abbrev pub task : (Around → Lowered) → Around → ℕ → List Claim → Lowered
-task inner a at cs = region_at a at >>= λ u. heading at (within_task a) cs >>= λ h. inner h.around >>= λ x. Ok (one at (form (codes "task") (listed h.clauses ∷ listed x.texts ∷ [])) x.places)
+-- what the clauses of a task say (OpenMP API 5.2, section 12.5)
+abbrev pub task_head : Around → ℕ → List Claim → Result Head Refusal
+task_head a at cs = region_at a at >>= λ u. heading at (within_task a) cs
 
--- OpenMP API 5.2, section 15.4
-abbrev pub group : (Around → Lowered) → Around → ℕ → List Claim → Lowered
-group inner a at cs = region_at a at >>= λ u. group_operation at cs >>= λ op. heading at a cs >>= λ h. inner h.around >>= λ x. Ok (one at (form (codes "group") (string (operation_word op) ∷ listed h.clauses ∷ listed x.texts ∷ [])) x.places)
+abbrev pub task : ℕ → List Data → L → L
+task at clauses x = one at (form (codes "task") (listed clauses ∷ listed x.texts ∷ [])) x.places
+
+-- by which operation a group combines, and what its clauses say (OpenMP API 5.2, section 15.4)
+abbrev pub group_head : Around → ℕ → List Claim → Result (Operation × Head) Refusal
+group_head a at cs = region_at a at >>= λ u. group_operation at cs >>= λ op. heading at a cs >>= λ h. Ok (op, h)
+
+abbrev pub group : ℕ → Operation → List Data → L → L
+group at op sections x = one at (form (codes "group") (string (operation_word op) ∷ listed sections ∷ listed x.texts ∷ [])) x.places
+
+abbrev pub assigned : Around → ℕ → Aim → Option Sign → E → Lowered
+assigned a at t sign e = assignment a at t sign e >>= λ d. Ok (one at d [])
+
+-- what is made wherever there is memory
+abbrev pub Lined : Result Lines CFault → L → Type 0
+Lined result l = Gives lines_of result (Ok l)
 
 -- ---- statements
 
 unfoldable mutual
   pub statement : List ℕ → Around → S → Lowered
   statement starts a (Block left b) = body_from starts a none b
-  statement starts a (Assign left t sign e) = assignment a (byte_of starts left) t sign e >>= λ d. Ok (one (byte_of starts left) d [])
-  statement starts a (If left test b c) = branch a (byte_of starts left) test (body_from starts a none b) (body_from starts a none c)
-  statement starts a (For left c b) = repeated (λ inner. body_from starts inner none b) a (byte_of starts left) c
-  statement starts a (Task left cs b) = task (λ inner. body_from starts inner none b) a (byte_of starts left) cs
+  statement starts a (Assign left t sign e) = assigned a (byte_of starts left) t sign e
+  statement starts a (If left test b c) = value a (byte_of starts left) test >>= λ v. body_from starts a none b >>= λ x. body_from starts a none c >>= λ y. Ok (branch (byte_of starts left) v.text x y)
+  statement starts a (For left c b) = bounds a (byte_of starts left) c >>= λ r. body_from starts (with_turn a (turn c true)) none b >>= λ x. Ok (repeated (byte_of starts left) r x)
+  statement starts a (Task left cs b) = task_head a (byte_of starts left) cs >>= λ h. body_from starts h.around none b >>= λ x. Ok (task (byte_of starts left) h.clauses x)
   statement starts a (Wait left cs) = wait a (byte_of starts left) cs
-  statement starts a (Group left cs b) = group (λ inner. body_from starts inner none b) a (byte_of starts left) cs
+  statement starts a (Group left cs b) = group_head a (byte_of starts left) cs >>= λ g. body_from starts g.1.around none b >>= λ x. Ok (group (byte_of starts left) g.0 g.1.clauses x)
   statement starts a (Yield left) = Ok none
   statement starts a (Call left f es) = Err (byte_of starts left, why.Function)
   statement starts a (Print left es) = print a (byte_of starts left) es

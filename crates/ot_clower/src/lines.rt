@@ -1,12 +1,11 @@
 //! Statements of the language, and where they stand in the text.
-ghost use Rattle.std.specs.Prelude.{◌≡◌, IfOk, OnOk, [], ◌∷◌, ◌++◌};
+ghost use Rattle.std.specs.Prelude.{◌≡◌, IfOk};
 ghost use Rattle.serde_json.specs.View.{view};
+ghost use Rattle.ot_clower.specs.Lines.{lines_of};
 ghost use Rattle.ot_clower.specs.Lines as meant;
-ghost use Rattle.ot_clower.specs.Lines.{L};
 
 use serde_json::Value;
 use std::alloc::{AllocError, Global};
-use std::marker::Model;
 
 /// Statements, each whole, and the byte at which each of them and of those in their bodies begins, a statement before
 /// those in its bodies.
@@ -16,48 +15,43 @@ pub(crate) struct Lines {
     pub(crate) places: Vec<usize>,
 }
 
-impl Model for Lines {
-    ghost use Rattle.std.specs.Prelude.{map};
-    ghost use Rattle.serde_json.specs.View.{view};
-    ghost use Rattle.ot_clower.specs.Lines.{L};
-
-    ghost Value = { L };
-
-    ghost view = { λ l. record { texts = map view l.statements.items; places = l.places.items } };
+/// No statement.
+pub(crate) fn no_lines(alloc: Global) -> Lines
+    ensures { lines_of result ≡ meant.none }
+{
+    Lines {
+        statements: Vec::new(alloc),
+        places: Vec::new(alloc),
+    }
 }
 
-impl Lines {
-    pub(crate) fn new(alloc: Global) -> Lines
-        ensures { result ≡ meant.none }
-    {
-        Lines {
-            statements: Vec::new(alloc),
-            places: Vec::new(alloc),
-        }
-    }
+/// A statement that begins at this byte, and has those that begin at these in its bodies.
+pub(crate) fn one_line(
+    alloc: Global,
+    start: usize,
+    statement: Value,
+    within: Vec<usize>,
+) -> Result<Lines, AllocError>
+    ensures { IfOk result (λ l. lines_of l ≡ meant.one start (view statement) within.items) }
+{
+    let mut statements = Vec::new(alloc);
+    statements.push(statement)?;
+    let mut places = Vec::new(alloc);
+    places.push(start)?;
+    let mut within = within;
+    places.append(&mut within)?;
+    Ok(Lines { statements, places })
+}
 
-    /// A statement that begins at this byte, and has these bodies' statements in it.
-    pub(crate) fn one(
-        alloc: Global,
-        start: usize,
-        statement: Value,
-        within: &[usize],
-    ) -> Result<Lines, AllocError>
-        ensures { IfOk result (λ l. l ≡ meant.one start (view statement) within.now) }
-    {
-        let mut lines = Lines::new(alloc);
-        lines.statements.push(statement)?;
-        lines.places.push(start)?;
-        lines.places.extend_from_slice(within)?;
-        Ok(lines)
-    }
-
-    /// Puts others behind these.
-    pub(crate) fn join(&mut self, others: Lines) -> Result<(), AllocError>
-        ensures { OnOk result (self.new ≡ meant.joined self.old others) }
-    {
-        let mut others = others;
-        self.statements.append(&mut others.statements)?;
-        self.places.append(&mut others.places)
-    }
+/// The second behind the first.
+pub(crate) fn joined(one: Lines, two: Lines) -> Result<Lines, AllocError>
+    ensures { IfOk result (λ l. lines_of l ≡ meant.joined (lines_of one) (lines_of two)) }
+{
+    let mut statements = one.statements;
+    let mut more = two.statements;
+    statements.append(&mut more)?;
+    let mut places = one.places;
+    let mut further = two.places;
+    places.append(&mut further)?;
+    Ok(Lines { statements, places })
 }

@@ -6,16 +6,17 @@ ghost use Rattle.ot_cstatement.specs.Tree.{list_of, body_of, stmt_of};
 ghost use Rattle.ot_cfile.specs.Program.{top_of, tops_of, step_of, main_of, file_of};
 ghost use Rattle.ot_cmeaning.specs.Results.{Gives};
 ghost use Rattle.ot_clower.specs.Declared.{declared_of, array_of};
+ghost use Rattle.ot_clower.specs.Lines.{lines_of};
 ghost use Rattle.ot_clower.specs.Files.{progress_of, lowered_of};
 ghost use Rattle.ot_clower.specs.Files as meant;
 
 use crate::clause::headed;
 use crate::declared::{CArray, Declared, declaration, named, number_of};
-use crate::lines::Lines;
-use crate::statements::{body, byte_of, statement};
+use crate::lines::{Lines, joined, no_lines};
+use crate::statements::{body, byte_of, group, statement};
 use ot_cfile::{File, Step, Top};
 use ot_cmeaning::{CFault, Meaning, Reason, Scope, constant, json};
-use ot_cread::{Clause, Expr};
+use ot_cread::{Clause, Expr, Operation};
 use ot_cstatement::Stmt;
 use ot_words::Words;
 use serde_json::Value;
@@ -107,21 +108,17 @@ fn region(
     clauses: &[Clause],
     stmts: &[Stmt],
 ) -> Result<Lines, CFault>
-    ensures { Gives (λ l. l) result (meant.region words.now.names.keys words.now.starts.items meanings.now start (clauses_of clauses.now) (body_of (list_of stmts.now))) }
+    ensures { Gives lines_of result (meant.region words.now.names.keys words.now.starts.items meanings.now start (clauses_of clauses.now) (body_of (list_of stmts.now))) }
 {
     let scope = Scope::new(alloc, &words.names, meanings, true);
     let heading = headed(alloc, start, scope, clauses)?;
     let inner = body(alloc, &words.starts, &heading.scope, stmts)?;
-    let word = json::text(alloc, "+")?;
-    let none = json::list(Vec::new(alloc));
-    let list = json::list(inner.statements);
-    let statement = json::form3(alloc, "group", word, none, list)?;
-    Ok(Lines::one(alloc, start, statement, &inner.places)?)
+    group(alloc, start, Operation::Plus, Vec::new(alloc), inner)
 }
 
 /// A statement of `main` outside of regions.
 fn alone(alloc: Global, words: &Words, meanings: &[Meaning], stmt: &Stmt) -> Result<Lines, CFault>
-    ensures { Gives (λ l. l) result (meant.alone words.now.names.keys words.now.starts.items meanings.now (stmt_of stmt.now)) }
+    ensures { Gives lines_of result (meant.alone words.now.names.keys words.now.starts.items meanings.now (stmt_of stmt.now)) }
 {
     let scope = Scope::new(alloc, &words.names, meanings, false);
     statement(alloc, &words.starts, &scope, stmt)
@@ -129,11 +126,12 @@ fn alone(alloc: Global, words: &Words, meanings: &[Meaning], stmt: &Stmt) -> Res
 
 /// Statements behind others.
 fn behind(progress: Progress, lines: Lines) -> Result<Progress, CFault>
-    ensures { meant.Went result (meant.put (progress_of progress) lines) }
+    ensures { meant.Went result (meant.put (progress_of progress) (lines_of lines)) }
 {
-    let mut progress = progress;
-    progress.lines.join(lines)?;
-    Ok(progress)
+    Ok(Progress {
+        declared: progress.declared,
+        lines: joined(progress.lines, lines)?,
+    })
 }
 
 /// What `main` does next.
@@ -177,7 +175,7 @@ fn main_body(
 {
     let mut progress = Progress {
         declared,
-        lines: Lines::new(alloc),
+        lines: no_lines(alloc),
     };
     for step in steps {
         progress = main_step(alloc, words, progress, step)?;

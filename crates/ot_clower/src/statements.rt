@@ -2,18 +2,20 @@
 ghost use Rattle.std.specs.Prelude.{◌≡◌, map};
 ghost use Rattle.serde_json.specs.View.{view};
 ghost use Rattle.ot_cread.specs.Tree.{expr_of, clauses_of};
-ghost use Rattle.ot_cstatement.specs.Tree.{course_of, exprs_of, stmt_of, list_of, body_of};
+ghost use Rattle.ot_cstatement.specs.Tree.{aim_of, course_of, exprs_of, stmt_of, list_of, body_of};
 ghost use Rattle.ot_cmeaning.specs.Results.{Gives};
+ghost use Rattle.ot_clower.specs.Clauses.{head_of};
+ghost use Rattle.ot_clower.specs.Lines.{lines_of};
 ghost use Rattle.ot_clower.specs.Statements.{bounds_of};
 ghost use Rattle.ot_clower.specs.Statements as meant;
 
 use crate::assignment::assignment;
-use crate::clause::{group_operation, headed};
-use crate::lines::Lines;
+use crate::clause::{Heading, group_operation, headed};
+use crate::lines::{Lines, joined, no_lines, one_line};
 use crate::words::operation_word;
 use ot_cmeaning::{CFault, Reason, Scope, Turn, json, size, value};
-use ot_cread::{Clause, Expr};
-use ot_cstatement::{Stmt, Turns};
+use ot_cread::{Clause, Expr, Operation, Sign};
+use ot_cstatement::{Stmt, Target, Turns};
 use ot_program::is_name;
 use ot_words::{IntegerType, Name};
 use serde_json::Value;
@@ -31,13 +33,13 @@ pub(crate) fn byte_of(starts: &[usize], left: usize) -> usize
 
 /// A value is read: `["if", value, [], []]`.
 fn read(alloc: Global, scope: &Scope<'_>, start: usize, expr: &Expr) -> Result<Lines, CFault>
-    ensures { Gives (λ l. l) result (meant.read scope.now start (expr_of expr.now)) }
+    ensures { Gives lines_of result (meant.read scope.now start (expr_of expr.now)) }
 {
     let worth = value(alloc, scope, start, expr)?;
     let none = json::list(Vec::new(alloc));
     let nothing = json::list(Vec::new(alloc));
     let statement = json::form3(alloc, "if", worth.value, none, nothing)?;
-    Ok(Lines::one(alloc, start, statement, &[])?)
+    Ok(one_line(alloc, start, statement, Vec::new(alloc))?)
 }
 
 /// A value is read behind others.
@@ -48,19 +50,17 @@ fn read_step(
     lines: Lines,
     expr: &Expr,
 ) -> Result<Lines, CFault>
-    ensures { Gives (λ l. l) result (meant.read_step scope.now start lines (expr_of expr.now)) }
+    ensures { Gives lines_of result (meant.read_step scope.now start (lines_of lines) (expr_of expr.now)) }
 {
-    let mut lines = lines;
     let more = read(alloc, scope, start, expr)?;
-    lines.join(more)?;
-    Ok(lines)
+    Ok(joined(lines, more)?)
 }
 
 /// Values that are printed are read.
 fn print(alloc: Global, scope: &Scope<'_>, start: usize, exprs: &[Expr]) -> Result<Lines, CFault>
-    ensures { Gives (λ l. l) result (meant.print scope.now start (exprs_of exprs.now)) }
+    ensures { Gives lines_of result (meant.print scope.now start (exprs_of exprs.now)) }
 {
-    let mut lines = Lines::new(alloc);
+    let mut lines = no_lines(alloc);
     for expr in exprs {
         lines = read_step(alloc, scope, start, lines, expr)?;
     }
@@ -69,16 +69,19 @@ fn print(alloc: Global, scope: &Scope<'_>, start: usize, exprs: &[Expr]) -> Resu
 
 /// A wait, with clauses or without.
 fn wait(alloc: Global, scope: &Scope<'_>, start: usize, clauses: &[Clause]) -> Result<Lines, CFault>
-    ensures { Gives (λ l. l) result (meant.wait scope.now start (clauses_of clauses.now)) }
+    ensures { Gives lines_of result (meant.wait scope.now start (clauses_of clauses.now)) }
 {
     region_at(scope, start)?;
     match clauses {
-        [] => Ok(Lines::one(alloc, start, json::form0(alloc, "wait")?, &[])?),
+        [] => {
+            let statement = json::form0(alloc, "wait")?;
+            Ok(one_line(alloc, start, statement, Vec::new(alloc))?)
+        }
         _ => {
             let heading = headed(alloc, start, scope.again(alloc)?, clauses)?;
             let clauses = json::list(heading.clauses);
             let statement = json::form1(alloc, "wait", clauses)?;
-            Ok(Lines::one(alloc, start, statement, &[])?)
+            Ok(one_line(alloc, start, statement, Vec::new(alloc))?)
         }
     }
 }
@@ -123,18 +126,24 @@ fn end_of(alloc: Global, through: bool, end: Value) -> Result<Value, CFault>
     }
 }
 
+/// The place in a loop's body, or in its bounds.
+fn turn_of(turns: &Turns, begun: bool) -> Turn
+    ensures { result ≡ meant.turn (course_of turns.now) begun }
+{
+    Turn {
+        variable: turns.variable,
+        kind: turns.kind,
+        begun,
+    }
+}
+
 fn bounded(alloc: Global, scope: &Scope<'_>, start: usize, turns: &Turns) -> Result<Bounds, CFault>
     ensures { Gives bounds_of result (meant.bounds scope.now start (course_of turns.now)) }
 {
     if !is_name(scope.text(turns.variable)) {
         return Err(CFault::Outside(start, Reason::NoName));
     }
-    let begins = Turn {
-        variable: turns.variable,
-        kind: turns.kind,
-        begun: false,
-    };
-    let around = scope.with_turn(alloc, begins)?;
+    let around = scope.with_turn(alloc, turn_of(turns, false))?;
     let (first, first_kind) = size(alloc, &around, start, &turns.start)?;
     let (end, _) = size(alloc, &around, start, &turns.end)?;
     if !may_begin(turns.kind, first_kind) {
@@ -146,107 +155,106 @@ fn bounded(alloc: Global, scope: &Scope<'_>, start: usize, turns: &Turns) -> Res
 }
 
 /// `if`
-#[cycle(statement)]
-fn branch(
-    alloc: Global,
-    starts: &[usize],
-    scope: &Scope<'_>,
-    start: usize,
-    test: &Expr,
-    one: &[Stmt],
-    two: &[Stmt],
-) -> Result<Lines, CFault>
-    ensures { Gives (λ l. l) result (meant.branch scope.now start (expr_of test.now) (meant.body starts.now scope.now (body_of (list_of one.now))) (meant.body starts.now scope.now (body_of (list_of two.now)))) }
+fn branch(alloc: Global, start: usize, test: Value, one: Lines, two: Lines) -> Result<Lines, CFault>
+    ensures { meant.Lined result (meant.branch start (view test) (lines_of one) (lines_of two)) }
 {
-    let test = value(alloc, scope, start, test)?;
-    let one = body(alloc, starts, scope, one)?;
-    let two = body(alloc, starts, scope, two)?;
-    let mut places = one.places;
-    places.extend_from_slice(&two.places)?;
     let first = json::list(one.statements);
     let second = json::list(two.statements);
-    let statement = json::form3(alloc, "if", test.value, first, second)?;
-    Ok(Lines::one(alloc, start, statement, &places)?)
+    let statement = json::form3(alloc, "if", test, first, second)?;
+    let mut places = one.places;
+    let mut more = two.places;
+    places.append(&mut more)?;
+    Ok(one_line(alloc, start, statement, places)?)
 }
 
 /// `for`
-#[cycle(statement)]
-fn repeated(
-    alloc: Global,
-    starts: &[usize],
-    scope: &Scope<'_>,
-    start: usize,
-    turns: &Turns,
-    inner: &[Stmt],
-) -> Result<Lines, CFault>
-    ensures { Gives (λ l. l) result (meant.repeated (λ a. meant.body starts.now a (body_of (list_of inner.now))) scope.now start (course_of turns.now)) }
+fn repeated(alloc: Global, start: usize, bounds: Bounds, inner: Lines) -> Result<Lines, CFault>
+    ensures { meant.Lined result (meant.repeated start (bounds_of bounds) (lines_of inner)) }
 {
-    let bounds = bounded(alloc, scope, start, turns)?;
-    let turn = Turn {
-        variable: turns.variable,
-        kind: turns.kind,
-        begun: true,
-    };
-    let around = scope.with_turn(alloc, turn)?;
-    let inner = body(alloc, starts, &around, inner)?;
     let list = json::list(inner.statements);
     let statement = json::form4(alloc, "for", bounds.name, bounds.first, bounds.end, list)?;
-    Ok(Lines::one(alloc, start, statement, &inner.places)?)
+    Ok(one_line(alloc, start, statement, inner.places)?)
+}
+
+/// What the clauses of a task say, in whose body the scope is that of the task.
+fn task_heading<'a>(
+    alloc: Global,
+    scope: &Scope<'a>,
+    start: usize,
+    clauses: &[Clause],
+) -> Result<Heading<'a>, CFault>
+    ensures { Gives head_of result (meant.task_head scope.now start (clauses_of clauses.now)) }
+{
+    region_at(scope, start)?;
+    headed(alloc, start, scope.within_task(alloc)?, clauses)
 }
 
 /// A task.
-#[cycle(statement)]
-fn task(
-    alloc: Global,
-    starts: &[usize],
-    scope: &Scope<'_>,
-    start: usize,
-    clauses: &[Clause],
-    inner: &[Stmt],
-) -> Result<Lines, CFault>
-    ensures { Gives (λ l. l) result (meant.task (λ a. meant.body starts.now a (body_of (list_of inner.now))) scope.now start (clauses_of clauses.now)) }
+fn task(alloc: Global, start: usize, clauses: Vec<Value>, inner: Lines) -> Result<Lines, CFault>
+    ensures { meant.Lined result (meant.task start (map view clauses.items) (lines_of inner)) }
 {
-    region_at(scope, start)?;
-    let heading = headed(alloc, start, scope.within_task(alloc)?, clauses)?;
-    let inner = body(alloc, starts, &heading.scope, inner)?;
-    let clauses = json::list(heading.clauses);
+    let clauses = json::list(clauses);
     let list = json::list(inner.statements);
     let statement = json::form2(alloc, "task", clauses, list)?;
-    Ok(Lines::one(alloc, start, statement, &inner.places)?)
+    Ok(one_line(alloc, start, statement, inner.places)?)
 }
 
-/// A group.
-#[cycle(statement)]
-fn group(
+/// By which operation a group combines, and what its clauses say.
+fn group_heading<'a>(
     alloc: Global,
-    starts: &[usize],
-    scope: &Scope<'_>,
+    scope: &Scope<'a>,
     start: usize,
     clauses: &[Clause],
-    inner: &[Stmt],
-) -> Result<Lines, CFault>
-    ensures { Gives (λ l. l) result (meant.group (λ a. meant.body starts.now a (body_of (list_of inner.now))) scope.now start (clauses_of clauses.now)) }
+) -> Result<(Operation, Heading<'a>), CFault>
+    ensures { Gives (λ x. (x.0, head_of x.1)) result (meant.group_head scope.now start (clauses_of clauses.now)) }
 {
     region_at(scope, start)?;
     let operation = group_operation(start, clauses)?;
     let heading = headed(alloc, start, scope.again(alloc)?, clauses)?;
-    let inner = body(alloc, starts, &heading.scope, inner)?;
+    Ok((operation, heading))
+}
+
+/// A group.
+pub(crate) fn group(
+    alloc: Global,
+    start: usize,
+    operation: Operation,
+    sections: Vec<Value>,
+    inner: Lines,
+) -> Result<Lines, CFault>
+    ensures { meant.Lined result (meant.group start operation (map view sections.items) (lines_of inner)) }
+{
     let word = json::text(alloc, operation_word(operation))?;
-    let sections = json::list(heading.clauses);
+    let sections = json::list(sections);
     let list = json::list(inner.statements);
     let statement = json::form3(alloc, "group", word, sections, list)?;
-    Ok(Lines::one(alloc, start, statement, &inner.places)?)
+    Ok(one_line(alloc, start, statement, inner.places)?)
 }
 
 /// Cells that are shown outside of regions: all are, whatever is called for.
 fn show(alloc: Global, scope: &Scope<'_>, start: usize) -> Result<Lines, CFault>
-    ensures { Gives (λ l. l) result (meant.show scope.now start) }
+    ensures { Gives lines_of result (meant.show scope.now start) }
 {
     if scope.inside() {
         Err(CFault::Outside(start, Reason::Function))
     } else {
-        Ok(Lines::new(alloc))
+        Ok(no_lines(alloc))
     }
+}
+
+/// An assignment.
+fn assigned(
+    alloc: Global,
+    scope: &Scope<'_>,
+    start: usize,
+    target: &Target,
+    sign: Option<Sign>,
+    expr: &Expr,
+) -> Result<Lines, CFault>
+    ensures { Gives lines_of result (meant.assigned scope.now start (aim_of target.now) sign (expr_of expr.now)) }
+{
+    let statement = assignment(alloc, scope, start, target, sign, expr)?;
+    Ok(one_line(alloc, start, statement, Vec::new(alloc))?)
 }
 
 /// A statement.
@@ -258,35 +266,45 @@ pub(crate) fn statement(
     scope: &Scope<'_>,
     stmt: &Stmt,
 ) -> Result<Lines, CFault>
-    ensures { Gives (λ l. l) result (meant.statement starts.now scope.now (stmt_of stmt.now)) }
+    ensures { Gives lines_of result (meant.statement starts.now scope.now (stmt_of stmt.now)) }
 {
     match stmt {
         Stmt::Block(_, inner) => body(alloc, starts, scope, inner),
         Stmt::Assign(left, target, sign, expr) => {
-            let start = byte_of(starts, *left);
-            let statement = assignment(alloc, scope, start, target, *sign, expr)?;
-            Ok(Lines::one(alloc, start, statement, &[])?)
+            assigned(alloc, scope, byte_of(starts, *left), target, *sign, expr)
         }
         Stmt::If(left, test, one, two) => {
-            branch(alloc, starts, scope, byte_of(starts, *left), test, one, two)
+            let start = byte_of(starts, *left);
+            let test = value(alloc, scope, start, test)?;
+            let one = body(alloc, starts, scope, one)?;
+            let two = body(alloc, starts, scope, two)?;
+            branch(alloc, start, test.value, one, two)
         }
         Stmt::For(left, turns, inner) => {
-            repeated(alloc, starts, scope, byte_of(starts, *left), turns, inner)
+            let start = byte_of(starts, *left);
+            let bounds = bounded(alloc, scope, start, turns)?;
+            let around = scope.with_turn(alloc, turn_of(turns, true))?;
+            let inner = body(alloc, starts, &around, inner)?;
+            repeated(alloc, start, bounds, inner)
         }
         Stmt::Task(left, clauses, inner) => {
-            task(alloc, starts, scope, byte_of(starts, *left), clauses, inner)
+            let start = byte_of(starts, *left);
+            let heading = task_heading(alloc, scope, start, clauses)?;
+            let inner = body(alloc, starts, &heading.scope, inner)?;
+            task(alloc, start, heading.clauses, inner)
         }
         Stmt::Wait(left, clauses) => wait(alloc, scope, byte_of(starts, *left), clauses),
         Stmt::Group(left, clauses, inner) => {
-            group(alloc, starts, scope, byte_of(starts, *left), clauses, inner)
+            let start = byte_of(starts, *left);
+            let (operation, heading) = group_heading(alloc, scope, start, clauses)?;
+            let inner = body(alloc, starts, &heading.scope, inner)?;
+            group(alloc, start, operation, heading.clauses, inner)
         }
-        Stmt::Yield(_) => Ok(Lines::new(alloc)),
-        Stmt::Call(left, _, _) => { Err(CFault::Outside(byte_of(starts, *left), Reason::Function)) }
+        Stmt::Yield(_) => Ok(no_lines(alloc)),
+        Stmt::Call(left, _, _) => Err(CFault::Outside(byte_of(starts, *left), Reason::Function)),
         Stmt::Print(left, exprs) => print(alloc, scope, byte_of(starts, *left), exprs),
         Stmt::Show(left, _, _, _) => show(alloc, scope, byte_of(starts, *left)),
-        Stmt::Point(left, _, _, _) => {
-            Err(CFault::Outside(byte_of(starts, *left), Reason::Pointer))
-        }
+        Stmt::Point(left, _, _, _) => Err(CFault::Outside(byte_of(starts, *left), Reason::Pointer)),
     }
 }
 
@@ -299,12 +317,10 @@ fn body_step(
     lines: Lines,
     stmt: &Stmt,
 ) -> Result<Lines, CFault>
-    ensures { Gives (λ l. l) result (meant.behind lines (meant.statement starts.now scope.now (stmt_of stmt.now))) }
+    ensures { Gives lines_of result (meant.behind (lines_of lines) (meant.statement starts.now scope.now (stmt_of stmt.now))) }
 {
-    let mut lines = lines;
     let more = statement(alloc, starts, scope, stmt)?;
-    lines.join(more)?;
-    Ok(lines)
+    Ok(joined(lines, more)?)
 }
 
 /// Statements.
@@ -315,9 +331,9 @@ pub(crate) fn body(
     scope: &Scope<'_>,
     stmts: &[Stmt],
 ) -> Result<Lines, CFault>
-    ensures { Gives (λ l. l) result (meant.body starts.now scope.now (body_of (list_of stmts.now))) }
+    ensures { Gives lines_of result (meant.body starts.now scope.now (body_of (list_of stmts.now))) }
 {
-    let mut lines = Lines::new(alloc);
+    let mut lines = no_lines(alloc);
     for stmt in stmts {
         lines = body_step(alloc, starts, scope, lines, stmt)?;
     }

@@ -185,16 +185,20 @@ pick a at name first chosen count = size a at count >>= λ n. chosen >>= λ x. p
 abbrev pub plain : Around → ℕ → Name → E → Valued
 plain a at x i = cell a at x i >>= λ d. Ok (word d)
 
-abbrev pub operation : Around → ℕ → Sign → Valued → Valued → E → Valued
-operation a at o.Rest one two by = one >>= λ x. rest at x (constant a by)
-operation a at o.Plus one two by = one >>= λ x. two >>= λ y. applied at o.Plus x y
-operation a at o.Minus one two by = one >>= λ x. two >>= λ y. applied at o.Minus x y
-operation a at o.Times one two by = one >>= λ x. two >>= λ y. applied at o.Times x y
-operation a at o.Or one two by = one >>= λ x. two >>= λ y. applied at o.Or x y
-operation a at o.Xor one two by = one >>= λ x. two >>= λ y. applied at o.Xor x y
-operation a at o.And one two by = one >>= λ x. two >>= λ y. applied at o.And x y
-operation a at o.Equal one two by = one >>= λ x. two >>= λ y. applied at o.Equal x y
-operation a at o.Less one two by = one >>= λ x. two >>= λ y. applied at o.Less x y
+abbrev pub is_rest : Sign → Bool
+is_rest o.Rest = true
+is_rest o.Plus = false
+is_rest o.Minus = false
+is_rest o.Times = false
+is_rest o.Or = false
+is_rest o.Xor = false
+is_rest o.And = false
+is_rest o.Equal = false
+is_rest o.Less = false
+
+-- two values with a sign between, of which the second may be a constant
+abbrev pub operation : ℕ → Sign → Valued → Valued → Option Typed → Valued
+operation at sign one two by = one >>= λ x. if is_rest sign then rest at x by else (two >>= λ y. applied at sign x y)
 
 unfoldable mutual
   pub value : Around → ℕ → E → Valued
@@ -203,10 +207,14 @@ unfoldable mutual
   value a at (CellAt x i) = indexed a at x i
   value a at (Unsigned e) = value a at e >>= λ x. Ok (word x.text)
   value a at (Called f x y) = value a at x >>= λ v. value a at y >>= λ w. Ok (word (form (call_word f) (v.text ∷ w.text ∷ [])))
-  value a at (Apply sign x y) = operation a at sign (value a at x) (value a at y) y
+  value a at (Apply sign x y) = operation at sign (value a at x) (value a at y) (constant a y)
 
   -- a place in an array: a value `%` a size, alone or behind a size and `+`; or a size
   pub indexed : Around → ℕ → Name → E → Valued
   indexed a at x (Apply o.Rest chosen count) = array_name a at x >>= λ name. pick a at name (nat 0) (value a at chosen) count
-  indexed a at x (Apply o.Plus first (Apply o.Rest chosen count)) = array_name a at x >>= λ name. size a at first >>= λ f. pick a at name f.0 (value a at chosen) count
+  indexed a at x (Apply o.Plus first more) = array_name a at x >>= λ name. size a at first >>= λ f. summed a at name f.0 more
   indexed a at x i = plain a at x i
+
+  pub summed : Around → ℕ → Data → Data → E → Valued
+  summed a at name first (Apply o.Rest chosen count) = pick a at name first (value a at chosen) count
+  summed a at name first more = size a at more >>= λ m. Ok (word (form (codes "c") (name ∷ form (codes "+") (first ∷ m.0 ∷ []) ∷ [])))

@@ -1,5 +1,5 @@
 //! Sizes: places in arrays, and bounds of loops.
-ghost use Rattle.std.specs.Prelude.{◌≡◌};
+ghost use Rattle.std.specs.Prelude.{◌≡◌, option_map};
 ghost use Rattle.serde_json.specs.View.{view};
 ghost use Rattle.ot_cread.specs.Tree.{expr_of};
 ghost use Rattle.ot_cmeaning.specs.Results.{Gives};
@@ -46,7 +46,7 @@ fn named(
 
 /// The word of an operation of sizes.
 fn size_word(sign: Sign) -> Option<&'static str>
-    ensures { sizes.seen result ≡ sizes.size_word sign }
+    ensures { option_map (λ w. w.now) result ≡ sizes.size_word sign }
 {
     match sign {
         Sign::Plus => Some("+"),

@@ -173,6 +173,12 @@ fn result_whole(sign: Sign, kind: IntegerType, whole: bool) -> bool
     }
 }
 
+fn is_rest(sign: Sign) -> bool
+    ensures { result ≡ values.is_rest sign }
+{
+    matches!(sign, Sign::Rest)
+}
+
 /// Two values with a sign between, which isn't `%`.
 fn applied(alloc: Global, start: usize, sign: Sign, one: Worth, two: Worth) -> Result<Worth, CFault>
     ensures { Gives worth_of result (values.applied start sign (worth_of one) (worth_of two)) }
@@ -257,6 +263,31 @@ fn pick(
     picked(alloc, start, first.0, first.1, count, chosen)
 }
 
+/// `a[first + more]`
+#[cycle(value)]
+#[tactic(auto, unfolding(crate::specs::Values::summed))]
+fn summed(
+    alloc: Global,
+    scope: &Scope<'_>,
+    start: usize,
+    name: Value,
+    first: Value,
+    more: &Expr,
+) -> Result<Worth, CFault>
+    ensures { Gives worth_of result (values.summed scope.now start (view name) (view first) (expr_of more.now)) }
+{
+    match more {
+        Expr::Op(Sign::Rest, chosen, count) => {
+            pick(alloc, scope, start, (name, first), chosen, count)
+        }
+        _ => {
+            let (more, _) = size(alloc, scope, start, more)?;
+            let index = form2(alloc, "+", first, more)?;
+            Ok(word(form2(alloc, "c", name, index)?))
+        }
+    }
+}
+
 /// `a[index]`
 #[cycle(value)]
 #[tactic(auto, unfolding(crate::specs::Values::indexed))]
@@ -272,49 +303,15 @@ fn indexed(
     match index {
         Expr::Op(Sign::Rest, chosen, count) => {
             let name = array_name(alloc, scope, start, array)?;
-            pick(
-                alloc,
-                scope,
-                start,
-                (name, Value::from(0u64)),
-                chosen,
-                count,
-            )
+            let first = Value::from(0u64);
+            pick(alloc, scope, start, (name, first), chosen, count)
         }
-        Expr::Op(Sign::Plus, first, more) => match &**more {
-            Expr::Op(Sign::Rest, chosen, count) => {
-                let name = array_name(alloc, scope, start, array)?;
-                let (first, _) = size(alloc, scope, start, first)?;
-                pick(alloc, scope, start, (name, first), chosen, count)
-            }
-            _ => Ok(word(cell(alloc, scope, start, array, index)?)),
-        },
+        Expr::Op(Sign::Plus, first, more) => {
+            let name = array_name(alloc, scope, start, array)?;
+            let (first, _) = size(alloc, scope, start, first)?;
+            summed(alloc, scope, start, name, first, more)
+        }
         _ => Ok(word(cell(alloc, scope, start, array, index)?)),
-    }
-}
-
-/// Two values with a sign between.
-#[cycle(value)]
-fn operation(
-    alloc: Global,
-    scope: &Scope<'_>,
-    start: usize,
-    sign: Sign,
-    one: &Expr,
-    two: &Expr,
-) -> Result<Worth, CFault>
-    ensures { Gives worth_of result (values.operation scope.now start sign (values.value scope.now start (expr_of one.now)) (values.value scope.now start (expr_of two.now)) (expr_of two.now)) }
-{
-    match sign {
-        Sign::Rest => {
-            let one = value(alloc, scope, start, one)?;
-            rest(alloc, start, one, constant(scope, two))
-        }
-        _ => {
-            let one = value(alloc, scope, start, one)?;
-            let two = value(alloc, scope, start, two)?;
-            applied(alloc, start, sign, one, two)
-        }
     }
 }
 
@@ -334,6 +331,13 @@ pub fn value(alloc: Global, scope: &Scope<'_>, start: usize, expr: &Expr) -> Res
             let two = value(alloc, scope, start, two)?;
             Ok(word(form2(alloc, call_word(*call), one.value, two.value)?))
         }
-        Expr::Op(sign, one, two) => operation(alloc, scope, start, *sign, one, two),
+        Expr::Op(sign, one, two) => {
+            let one = value(alloc, scope, start, one)?;
+            if is_rest(*sign) {
+                return rest(alloc, start, one, constant(scope, two));
+            }
+            let two = value(alloc, scope, start, two)?;
+            applied(alloc, start, *sign, one, two)
+        }
     }
 }
