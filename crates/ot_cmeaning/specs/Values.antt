@@ -182,6 +182,9 @@ picked at name first count x = if has_rest x count.1 then Ok (word (form (codes 
 abbrev pub pick : Around → ℕ → Data → Data → Valued → E → Valued
 pick a at name first chosen count = size a at count >>= λ n. chosen >>= λ x. picked at name first n x
 
+abbrev pub summed : Around → ℕ → Data → Data → E → Valued
+summed a at name first more = size a at more >>= λ m. Ok (word (form (codes "c") (name ∷ form (codes "+") (first ∷ m.0 ∷ []) ∷ [])))
+
 abbrev pub plain : Around → ℕ → Name → E → Valued
 plain a at x i = cell a at x i >>= λ d. Ok (word d)
 
@@ -212,9 +215,9 @@ unfoldable mutual
   -- a place in an array: a value `%` a size, alone or behind a size and `+`; or a size
   pub indexed : Around → ℕ → Name → E → Valued
   indexed a at x (Apply o.Rest chosen count) = array_name a at x >>= λ name. pick a at name (nat 0) (value a at chosen) count
-  indexed a at x (Apply o.Plus first more) = array_name a at x >>= λ name. size a at first >>= λ f. summed a at name f.0 more
+  indexed a at x (Apply o.Plus first more) = array_name a at x >>= λ name. size a at first >>= λ f. behind a at name f.0 more
   indexed a at x i = plain a at x i
 
-  pub summed : Around → ℕ → Data → Data → E → Valued
-  summed a at name first (Apply o.Rest chosen count) = pick a at name first (value a at chosen) count
-  summed a at name first more = size a at more >>= λ m. Ok (word (form (codes "c") (name ∷ form (codes "+") (first ∷ m.0 ∷ []) ∷ [])))
+  pub behind : Around → ℕ → Data → Data → E → Valued
+  behind a at name first (Apply o.Rest chosen count) = pick a at name first (value a at chosen) count
+  behind a at name first more = summed a at name first more

@@ -246,26 +246,7 @@ fn picked(
     Ok(word(form2(alloc, "pick", section, chosen.value)?))
 }
 
-/// The cell of an array that a value chooses among some.
-#[cycle(value)]
-fn pick(
-    alloc: Global,
-    scope: &Scope<'_>,
-    start: usize,
-    first: (Value, Value),
-    chosen: &Expr,
-    count: &Expr,
-) -> Result<Worth, CFault>
-    ensures { Gives worth_of result (values.pick scope.now start (view first.0) (view first.1) (values.value scope.now start (expr_of chosen.now)) (expr_of count.now)) }
-{
-    let count = size(alloc, scope, start, count)?;
-    let chosen = value(alloc, scope, start, chosen)?;
-    picked(alloc, start, first.0, first.1, count, chosen)
-}
-
-/// `a[first + more]`
-#[cycle(value)]
-#[tactic(auto, unfolding(crate::specs::Values::summed))]
+/// A cell of an array, at a size that is a sum.
 fn summed(
     alloc: Global,
     scope: &Scope<'_>,
@@ -276,21 +257,14 @@ fn summed(
 ) -> Result<Worth, CFault>
     ensures { Gives worth_of result (values.summed scope.now start (view name) (view first) (expr_of more.now)) }
 {
-    match more {
-        Expr::Op(Sign::Rest, chosen, count) => {
-            pick(alloc, scope, start, (name, first), chosen, count)
-        }
-        _ => {
-            let (more, _) = size(alloc, scope, start, more)?;
-            let index = form2(alloc, "+", first, more)?;
-            Ok(word(form2(alloc, "c", name, index)?))
-        }
-    }
+    let (more, _) = size(alloc, scope, start, more)?;
+    let index = form2(alloc, "+", first, more)?;
+    Ok(word(form2(alloc, "c", name, index)?))
 }
 
 /// `a[index]`
 #[cycle(value)]
-#[tactic(auto, unfolding(crate::specs::Values::indexed))]
+#[tactic(auto, unfolding(crate::specs::Values::indexed, crate::specs::Values::behind))]
 fn indexed(
     alloc: Global,
     scope: &Scope<'_>,
@@ -303,13 +277,21 @@ fn indexed(
     match index {
         Expr::Op(Sign::Rest, chosen, count) => {
             let name = array_name(alloc, scope, start, array)?;
-            let first = Value::from(0u64);
-            pick(alloc, scope, start, (name, first), chosen, count)
+            let count = size(alloc, scope, start, count)?;
+            let chosen = value(alloc, scope, start, chosen)?;
+            picked(alloc, start, name, Value::from(0u64), count, chosen)
         }
         Expr::Op(Sign::Plus, first, more) => {
             let name = array_name(alloc, scope, start, array)?;
             let (first, _) = size(alloc, scope, start, first)?;
-            summed(alloc, scope, start, name, first, more)
+            match &**more {
+                Expr::Op(Sign::Rest, chosen, count) => {
+                    let count = size(alloc, scope, start, count)?;
+                    let chosen = value(alloc, scope, start, chosen)?;
+                    picked(alloc, start, name, first, count, chosen)
+                }
+                _ => summed(alloc, scope, start, name, first, more),
+            }
         }
         _ => Ok(word(cell(alloc, scope, start, array, index)?)),
     }
