@@ -1,21 +1,18 @@
 -- Assignments. Where a task takes part in a reduction it only folds into its own copy, by the operation (OpenMP API 5.2,
 -- section 5.5.3).
-use Rattle.std.specs.Prelude.{◌≡◌, ℕ, ◌==◌, Bool, true, false, List, [], ◌∷◌, Option, Some, None, Result, Ok, Err, codes, if◌then◌else◌}
+use Rattle.std.specs.Prelude.{ℕ, ◌==◌, Bool, true, false, List, [], ◌∷◌, Option, Some, None, Result, Ok, Err, codes, if◌then◌else◌}
 use Rattle.serde_json.specs.Data.{Data, string}
-use Rattle.serde_json.specs.View.{view}
-use Rattle.serde_json.specs.declared.value.Value.{Value}
 use Rattle.ot_words.specs.declared.word.Name.{Name}
 use Rattle.ot_words.specs.declared.word.Name.TheVariants as n
 use Rattle.ot_cread.specs.declared.sign.Sign.{Sign}
 use Rattle.ot_cread.specs.declared.tree.Operation.{Operation}
 use Rattle.ot_cread.specs.Tree.{E, Literal, Variable, CellAt, Unsigned, Called, Apply}
 use Rattle.ot_cstatement.specs.Tree.{Aim}
-use Rattle.ot_cmeaning.specs.declared.fault.CFault.{CFault}
 use Rattle.ot_cmeaning.specs.declared.reason.Reason.TheVariants as why
 use Rattle.ot_cmeaning.specs.declared.scope.Sense.{Sense}
 use Rattle.ot_cmeaning.specs.declared.scope.Sense.TheVariants as s
 use Rattle.ot_cmeaning.specs.Forms.{nat, form}
-use Rattle.ot_cmeaning.specs.Results.{Refusal, ◌>>=◌, Gives}
+use Rattle.ot_cmeaning.specs.Results.{Refusal, ◌>>=◌}
 use Rattle.ot_cmeaning.specs.Scopes.{Around, sense, name_text}
 use Rattle.ot_cmeaning.specs.Sizes.{size}
 use Rattle.ot_cmeaning.specs.Values.{value}
@@ -23,10 +20,6 @@ use Rattle.ot_clower.specs.Operations.{operation_word, fold_of, is_minus, call_f
 
 abbrev pub Stated : Type 0
 Stated = Result Data Refusal
-
--- what is made wherever there is memory
-abbrev pub Made : Result Value CFault → Data → Type 0
-Made result d = Gives view result (Ok d)
 
 -- ---- what is assigned to
 

@@ -76,7 +76,7 @@ abbrev pub combines : ℕ → Head → Operation → Entry → Headed
 combines at h op item = section h.around at None item >>= λ d. Ok (behind h d (opening item.array op false))
 
 -- under `shared`: what is so anyway
-abbrev pub shared : ℕ → Sense → Result Unit Refusal
+abbrev pub shared : ℕ → Sense → Result (Unit {0}) Refusal
 shared at (s.Cells length) = Ok tt
 shared at s.Nothing = Err (at, why.Unknown)
 shared at (s.Constant n k) = Err (at, why.Constant)
@@ -86,7 +86,7 @@ shared at (s.Combined c length) = Err (at, why.Combined)
 shared at s.Function = Err (at, why.Function)
 
 -- under `firstprivate`: what is so anyway
-abbrev pub private : ℕ → Sense → Result Unit Refusal
+abbrev pub private : ℕ → Sense → Result (Unit {0}) Refusal
 private at (s.Turn k) = Ok tt
 private at s.Nothing = Err (at, why.Private)
 private at (s.Constant n k) = Err (at, why.Private)

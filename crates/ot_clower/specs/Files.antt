@@ -1,34 +1,28 @@
 -- A file whole.
 use Rattle.std.specs.Prelude.{ℕ, true, false, List, [], ◌∷◌, ◌++◌, length, map, replicate, Option, Some, None, Result, Ok, Err, String, codes}
 use Rattle.std.specs.declared.alloc.Global.{Global}
-use Rattle.serde_json.specs.Data.{Data, string, Items, array}
+use Rattle.serde_json.specs.Data.{Data, string, Items}
 use Rattle.serde_json.specs.View.{view, items_of}
-use Rattle.serde_json.specs.declared.value.Value.{Value}
 use Rattle.ot_cread.specs.declared.tree.Operation.TheVariants as o
 use Rattle.ot_cread.specs.Tree.{E, Claim}
 use Rattle.ot_cstatement.specs.Tree.{S, Body}
 use Rattle.ot_cfile.specs.Program.{Entry, Constant, Global as Global', Function, Act, Local, Region, Does, Whole}
-use Rattle.ot_cmeaning.specs.declared.fault.CFault.{CFault}
 use Rattle.ot_cmeaning.specs.declared.reason.Reason.TheVariants as why
 use Rattle.ot_cmeaning.specs.declared.scope.Meaning.{Meaning}
 use Rattle.ot_cmeaning.specs.declared.scope.Meaning.TheVariants as m
 use Rattle.ot_cmeaning.specs.Constants.{Typed, constant}
 use Rattle.ot_cmeaning.specs.Forms.{nat, form, listed}
-use Rattle.ot_cmeaning.specs.Results.{Refusal, ◌>>=◌, Gives}
+use Rattle.ot_cmeaning.specs.Results.{Refusal, ◌>>=◌}
 use Rattle.ot_clower.specs.declared.lowered.Lowered.{Lowered}
 use Rattle.ot_clower.specs.declared.lowered.Progress.{Progress}
 use Rattle.ot_clower.specs.Clauses.{heading}
-use Rattle.ot_clower.specs.Declared.{D, declared_of, Arr, array_of, named, number_of, outside, declaration}
+use Rattle.ot_clower.specs.Arrays.{D, declared_of, Arr, array_of, named, number_of, outside, declaration}
 use Rattle.ot_clower.specs.Each.{each}
 use Rattle.ot_clower.specs.Lines.{L, lines_of, none, joined}
 use Rattle.ot_clower.specs.Statements.{byte_of, statement, body, group}
 
 abbrev pub Names : Type 0
 Names = List (String Global)
-
--- what is made wherever there is memory
-abbrev pub Made : Result Value CFault → Data → Type 0
-Made result d = Gives view result (Ok d)
 
 -- ---- what stands before `main`
 
@@ -73,9 +67,6 @@ pub record P : Type 0 where
 abbrev pub progress_of : Progress → P
 progress_of p = record { declared = declared_of p.declared; lines = lines_of p.lines }
 
-abbrev pub Went : Result Progress CFault → P → Type 0
-Went result p = Gives progress_of result (Ok p)
-
 abbrev pub put : P → L → P
 put p l = record p { lines = joined p.lines l }
 
@@ -106,9 +97,9 @@ abbrev pub lowered_of : Lowered → Program
 lowered_of l = record { arrays = map array_of l.arrays.items; program = view l.program; places = l.places.items }
 
 -- `["program2", shows, body]`, which shows all arrays
-abbrev pub program : P → Program
-program p = record { arrays = p.declared.arrays; program = form (codes "program2") (listed (map shown p.declared.arrays) ∷ listed p.lines.texts ∷ []); places = p.lines.places }
+abbrev pub whole : P → Program
+whole p = record { arrays = p.declared.arrays; program = form (codes "program2") (listed (map shown p.declared.arrays) ∷ listed p.lines.texts ∷ []); places = p.lines.places }
 
 -- the program of a file
 abbrev pub lowered : Names → List ℕ → Whole → Result Program Refusal
-lowered names starts file = tops names starts file.tops >>= λ d. main_body names starts d file.main >>= λ p. Ok (program p)
+lowered names starts file = tops names starts file.tops >>= λ d. main_body names starts d file.main >>= λ p. Ok (whole p)

@@ -5,5 +5,5 @@ pub mod Sections
 pub mod Clauses
 pub mod Assignments
 pub mod Statements
-pub mod Declared
+pub mod Arrays
 pub mod Files

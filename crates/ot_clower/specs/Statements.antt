@@ -1,8 +1,7 @@
 -- Statements.
-use Rattle.std.specs.Prelude.{◌≡◌, ℕ, ◌-◌, Bool, true, false, List, [], ◌∷◌, ◌++◌, length, Option, Some, None, Result, Ok, Err, slice_get, unwrap_or, codes, if◌then◌else◌}
+use Rattle.std.specs.Prelude.{ℕ, ◌-◌, Bool, true, false, List, [], ◌∷◌, ◌++◌, length, Option, Some, None, Result, Ok, Err, slice_get, unwrap_or, codes, if◌then◌else◌}
 use Rattle.serde_json.specs.Data.{Data, string}
 use Rattle.serde_json.specs.View.{view}
-use Rattle.serde_json.specs.declared.value.Value.{Value}
 use Rattle.ot_words.specs.declared.word.IntegerType.{IntegerType}
 use Rattle.ot_words.specs.declared.word.IntegerType.TheVariants.{Int, Unsigned, Long, UnsignedLong}
 use Rattle.ot_program.specs.Names.{is_name}
@@ -10,28 +9,22 @@ use Rattle.ot_cread.specs.declared.sign.Sign.{Sign}
 use Rattle.ot_cread.specs.declared.tree.Operation.{Operation}
 use Rattle.ot_cread.specs.Tree.{E, Claim}
 use Rattle.ot_cstatement.specs.Tree.{Aim, Course, S, Block, Assign, If, For, Task, Wait, Group, Yield, Call, Print, Show, Point, Body, End, Next}
-use Rattle.ot_cmeaning.specs.declared.fault.CFault.{CFault}
 use Rattle.ot_cmeaning.specs.declared.reason.Reason.TheVariants as why
 use Rattle.ot_cmeaning.specs.declared.scope.Turn.{Turn}
 use Rattle.ot_cmeaning.specs.Forms.{nat, form, listed}
-use Rattle.ot_cmeaning.specs.Results.{Refusal, ◌>>=◌, Gives}
+use Rattle.ot_cmeaning.specs.Results.{Refusal, ◌>>=◌}
 use Rattle.ot_cmeaning.specs.Scopes.{Around, text_of, with_turn, within_task}
 use Rattle.ot_cmeaning.specs.Sizes.{size}
 use Rattle.ot_cmeaning.specs.Values.{value}
-use Rattle.ot_clower.specs.declared.lines.Lines.{Lines}
 use Rattle.ot_clower.specs.declared.statements.Bounds.{Bounds}
 use Rattle.ot_clower.specs.Assignments.{assignment}
 use Rattle.ot_clower.specs.Clauses.{Head, heading, group_operation}
 use Rattle.ot_clower.specs.Each.{each}
-use Rattle.ot_clower.specs.Lines.{L, lines_of, none, one, joined}
+use Rattle.ot_clower.specs.Lines.{L, none, one, joined}
 use Rattle.ot_clower.specs.Operations.{operation_word}
 
 abbrev pub Lowered : Type 0
 Lowered = Result L Refusal
-
--- what is made wherever there is memory
-abbrev pub Made : Result Value CFault → Data → Type 0
-Made result d = Gives view result (Ok d)
 
 -- the byte at which begins what so many words are left from
 abbrev pub byte_of : List ℕ → ℕ → ℕ
@@ -54,7 +47,7 @@ abbrev pub print : Around → ℕ → List E → Lowered
 print a at es = each (read_step a at) none es
 
 -- tasks, waits and groups stand in a parallel region
-abbrev pub region_at : Around → ℕ → Result Unit Refusal
+abbrev pub region_at : Around → ℕ → Result (Unit {0}) Refusal
 region_at a at = if a.inside then Ok tt else Err (at, why.NoRegion)
 
 abbrev pub waits : Around → ℕ → List Claim → Lowered
@@ -96,12 +89,12 @@ bounds_of b = record { name = view b.name; first = view b.first; end = view b.en
 abbrev pub turn : Course → Bool → Turn
 turn c begun = record { variable = c.variable; kind = c.kind; begun = begun }
 
-abbrev pub range : Around → ℕ → Course → Data × IntegerType → Data → Result Range Refusal
-range a at c first end = if may_begin c.kind first.1 then Ok (record { name = string (text_of a.names c.variable); first = first.0; end = end_of c.through end }) else Err (at, why.Narrow)
+abbrev pub range_by : Around → ℕ → Course → Data × IntegerType → Data → Result Range Refusal
+range_by a at c first end = if may_begin c.kind first.1 then Ok (record { name = string (text_of a.names c.variable); first = first.0; end = end_of c.through end }) else Err (at, why.Narrow)
 
 -- both bounds are computed outside of the loop, and don't name its variable
 abbrev pub sizes : Around → Around → ℕ → Course → Result Range Refusal
-sizes a inner at c = size inner at c.start >>= λ f. size inner at c.end >>= λ e. range a at c f e.0
+sizes a inner at c = size inner at c.start >>= λ f. size inner at c.end >>= λ e. range_by a at c f e.0
 
 abbrev pub bounds : Around → ℕ → Course → Result Range Refusal
 bounds a at c = if is_name (text_of a.names c.variable) then sizes a (with_turn a (turn c false)) at c else Err (at, why.NoName)
@@ -130,10 +123,6 @@ group at op sections x = one at (form (codes "group") (string (operation_word op
 
 abbrev pub assigned : Around → ℕ → Aim → Option Sign → E → Lowered
 assigned a at t sign e = assignment a at t sign e >>= λ d. Ok (one at d [])
-
--- what is made wherever there is memory
-abbrev pub Lined : Result Lines CFault → L → Type 0
-Lined result l = Gives lines_of result (Ok l)
 
 -- ---- statements
 

@@ -1,5 +1,5 @@
 //! Assignments.
-ghost use Rattle.std.specs.Prelude.{◌≡◌, Some, None};
+ghost use Rattle.std.specs.Prelude.{◌≡◌};
 ghost use Rattle.serde_json.specs.View.{view};
 ghost use Rattle.ot_cread.specs.Tree.{expr_of};
 ghost use Rattle.ot_cstatement.specs.Tree.{aim_of, index_of};
@@ -57,7 +57,7 @@ fn aimed(start: usize, sense: Sense) -> Result<(Option<usize>, Option<Operation>
 
 /// The cell folded into by a value.
 fn fold(alloc: Global, operation: Operation, cell: Value, value: Value) -> Result<Value, CFault>
-    ensures { meant.Made result (meant.fold operation (view cell) (view value)) }
+    ensures { Gives (λ v. view v) result (Ok (meant.fold operation (view cell) (view value))) }
 {
     let word = json::text(alloc, operation_word(operation))?;
     Ok(json::form3(alloc, "fold", word, cell, value)?)
@@ -65,7 +65,7 @@ fn fold(alloc: Global, operation: Operation, cell: Value, value: Value) -> Resul
 
 /// A value, or where it is taken away the same below zero.
 fn taken(alloc: Global, minus: bool, value: Value) -> Result<Value, CFault>
-    ensures { meant.Made result (meant.taken minus (view value)) }
+    ensures { Gives (λ v. view v) result (Ok (meant.taken minus (view value))) }
 {
     if minus {
         Ok(json::form2(alloc, "-", Value::from(0u64), value)?)

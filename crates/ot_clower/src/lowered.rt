@@ -5,13 +5,13 @@ ghost use Rattle.ot_cread.specs.Tree.{expr_of, clauses_of};
 ghost use Rattle.ot_cstatement.specs.Tree.{list_of, body_of, stmt_of};
 ghost use Rattle.ot_cfile.specs.Program.{top_of, tops_of, step_of, main_of, file_of};
 ghost use Rattle.ot_cmeaning.specs.Results.{Gives};
-ghost use Rattle.ot_clower.specs.Declared.{declared_of, array_of};
+ghost use Rattle.ot_clower.specs.Arrays.{declared_of, array_of};
 ghost use Rattle.ot_clower.specs.Lines.{lines_of};
 ghost use Rattle.ot_clower.specs.Files.{progress_of, lowered_of};
 ghost use Rattle.ot_clower.specs.Files as meant;
 
+use crate::arrays::{CArray, Declared, declaration, named, number_of};
 use crate::clause::headed;
-use crate::declared::{CArray, Declared, declaration, named, number_of};
 use crate::lines::{Lines, joined, no_lines};
 use crate::statements::{body, byte_of, group, statement};
 use ot_cfile::{File, Step, Top};
@@ -126,7 +126,7 @@ fn alone(alloc: Global, words: &Words, meanings: &[Meaning], stmt: &Stmt) -> Res
 
 /// Statements behind others.
 fn behind(progress: Progress, lines: Lines) -> Result<Progress, CFault>
-    ensures { meant.Went result (meant.put (progress_of progress) (lines_of lines)) }
+    ensures { Gives progress_of result (Ok (meant.put (progress_of progress) (lines_of lines))) }
 {
     Ok(Progress {
         declared: progress.declared,
@@ -185,7 +185,7 @@ fn main_body(
 
 /// An array is shown whole.
 fn shown(alloc: Global, array: &CArray) -> Result<Value, CFault>
-    ensures { meant.Made result (meant.shown (array_of array.now)) }
+    ensures { Gives (λ v. view v) result (Ok (meant.shown (array_of array.now))) }
 {
     let name = json::text(alloc, array.name.as_str())?;
     let count = Value::from(array.cells.len());

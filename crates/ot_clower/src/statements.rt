@@ -117,7 +117,7 @@ fn may_begin(kind: IntegerType, first: IntegerType) -> bool
 
 /// The end of a loop, or where it has a turn too the number behind it.
 fn end_of(alloc: Global, through: bool, end: Value) -> Result<Value, CFault>
-    ensures { meant.Made result (meant.end_of through (view end)) }
+    ensures { Gives (λ v. view v) result (Ok (meant.end_of through (view end))) }
 {
     if through {
         Ok(json::form2(alloc, "+", end, Value::from(1u64))?)
@@ -156,7 +156,7 @@ fn bounded(alloc: Global, scope: &Scope<'_>, start: usize, turns: &Turns) -> Res
 
 /// `if`
 fn branch(alloc: Global, start: usize, test: Value, one: Lines, two: Lines) -> Result<Lines, CFault>
-    ensures { meant.Lined result (meant.branch start (view test) (lines_of one) (lines_of two)) }
+    ensures { Gives lines_of result (Ok (meant.branch start (view test) (lines_of one) (lines_of two))) }
 {
     let first = json::list(one.statements);
     let second = json::list(two.statements);
@@ -169,7 +169,7 @@ fn branch(alloc: Global, start: usize, test: Value, one: Lines, two: Lines) -> R
 
 /// `for`
 fn repeated(alloc: Global, start: usize, bounds: Bounds, inner: Lines) -> Result<Lines, CFault>
-    ensures { meant.Lined result (meant.repeated start (bounds_of bounds) (lines_of inner)) }
+    ensures { Gives lines_of result (Ok (meant.repeated start (bounds_of bounds) (lines_of inner))) }
 {
     let list = json::list(inner.statements);
     let statement = json::form4(alloc, "for", bounds.name, bounds.first, bounds.end, list)?;
@@ -191,7 +191,7 @@ fn task_heading<'a>(
 
 /// A task.
 fn task(alloc: Global, start: usize, clauses: Vec<Value>, inner: Lines) -> Result<Lines, CFault>
-    ensures { meant.Lined result (meant.task start (map view clauses.items) (lines_of inner)) }
+    ensures { Gives lines_of result (Ok (meant.task start (map view clauses.items) (lines_of inner))) }
 {
     let clauses = json::list(clauses);
     let list = json::list(inner.statements);
@@ -222,7 +222,7 @@ pub(crate) fn group(
     sections: Vec<Value>,
     inner: Lines,
 ) -> Result<Lines, CFault>
-    ensures { meant.Lined result (meant.group start operation (map view sections.items) (lines_of inner)) }
+    ensures { Gives lines_of result (Ok (meant.group start operation (map view sections.items) (lines_of inner))) }
 {
     let word = json::text(alloc, operation_word(operation))?;
     let sections = json::list(sections);

@@ -1,7 +1,7 @@
 use Rattle.std.proofs.Common.{◌≡◌, drop}
 use Rattle.ot_cfile.specs.Program.{main_of}
 use Rattle.ot_clower.specs.Each.{each}
-use Rattle.ot_clower.specs.Declared.{declared_of}
+use Rattle.ot_clower.specs.Arrays.{declared_of}
 use Rattle.ot_clower.specs.Files.{progress_of, main_step, main_body}
 use Rattle.ot_clower.proofs.lowered.main_body.Given as goal
 

@@ -1,7 +1,7 @@
 use Rattle.std.proofs.Common.{◌≡◌, drop}
 use Rattle.ot_cfile.specs.Program.{tops_of}
 use Rattle.ot_clower.specs.Each.{each}
-use Rattle.ot_clower.specs.Declared.{declared_of}
+use Rattle.ot_clower.specs.Arrays.{declared_of}
 use Rattle.ot_clower.specs.Files.{top_step, tops}
 use Rattle.ot_clower.proofs.lowered.tops.Given as goal
 

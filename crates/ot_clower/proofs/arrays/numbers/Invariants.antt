@@ -1,8 +1,8 @@
 use Rattle.std.proofs.Common.{◌≡◌, drop}
 use Rattle.ot_cstatement.specs.Tree.{exprs_of}
 use Rattle.ot_clower.specs.Each.{each}
-use Rattle.ot_clower.specs.Declared.{number_step, numbers}
-use Rattle.ot_clower.proofs.declared.numbers.Given as goal
+use Rattle.ot_clower.specs.Arrays.{number_step, numbers}
+use Rattle.ot_clower.proofs.arrays.numbers.Given as goal
 
 -- those that are left complete what there is
 abbrev pub invariant-loop-expr : goal.invariant-loop-expr

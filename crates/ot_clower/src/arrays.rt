@@ -5,8 +5,8 @@ ghost use Rattle.ot_cread.specs.Tree.{expr_of};
 ghost use Rattle.ot_cstatement.specs.Tree.{exprs_of, index_of};
 ghost use Rattle.ot_cfile.specs.Program.{initial_of, variable_of, declaration_of};
 ghost use Rattle.ot_cmeaning.specs.Results.{Gives};
-ghost use Rattle.ot_clower.specs.Declared.{declared_of};
-ghost use Rattle.ot_clower.specs.Declared as meant;
+ghost use Rattle.ot_clower.specs.Arrays.{declared_of};
+ghost use Rattle.ot_clower.specs.Arrays as meant;
 
 use indexmap::IndexSet;
 use ot_cfile::{Declaration, Initial, Variable};

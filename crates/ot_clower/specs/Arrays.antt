@@ -13,8 +13,8 @@ use Rattle.ot_cmeaning.specs.Constants.{Typed, constant}
 use Rattle.ot_cmeaning.specs.Kinds.{is_word}
 use Rattle.ot_cmeaning.specs.Results.{Refusal, ◌>>=◌}
 use Rattle.ot_cmeaning.specs.Scopes.{Around}
-use Rattle.ot_clower.specs.declared.declared.CArray.{CArray}
-use Rattle.ot_clower.specs.declared.declared.Declared.{Declared}
+use Rattle.ot_clower.specs.declared.arrays.CArray.{CArray}
+use Rattle.ot_clower.specs.declared.arrays.Declared.{Declared}
 use Rattle.ot_clower.specs.Each.{each}
 
 -- an array of the program, with its cells as it begins

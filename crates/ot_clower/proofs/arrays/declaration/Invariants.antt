@@ -1,8 +1,8 @@
 use Rattle.std.proofs.Common.{◌≡◌, drop}
 use Rattle.ot_cfile.specs.Program.{variables_of}
 use Rattle.ot_clower.specs.Each.{each}
-use Rattle.ot_clower.specs.Declared.{declared_of, variable_step}
-use Rattle.ot_clower.proofs.declared.declaration.Given as goal
+use Rattle.ot_clower.specs.Arrays.{declared_of, variable_step}
+use Rattle.ot_clower.proofs.arrays.declaration.Given as goal
 
 -- those that are left complete what there is
 abbrev pub invariant-loop-variable : goal.invariant-loop-variable
