@@ -3,10 +3,11 @@ ghost use Rattle.std.specs.Prelude.{◌≡◌, string_bytes};
 ghost use Rattle.ot_cmeaning.specs.Kinds.{is_word};
 ghost use Rattle.ot_cread.specs.Tree.{expr_of};
 ghost use Rattle.ot_cstatement.specs.Tree.{exprs_of, index_of};
-ghost use Rattle.ot_cfile.specs.Program.{initial_of, variable_of, declaration_of};
+ghost use Rattle.ot_cfile.specs.Program.{initial_of, variable_of, variables_of, declaration_of};
 ghost use Rattle.ot_cmeaning.specs.Results.{Gives};
 ghost use Rattle.ot_clower.specs.Arrays.{declared_of};
 ghost use Rattle.ot_clower.specs.Arrays as meant;
+ghost use Rattle.ot_clower.specs.Each.{each};
 
 use indexmap::IndexSet;
 use ot_cfile::{Declaration, Initial, Variable};
@@ -211,6 +212,23 @@ fn is_word(kind: IntegerType) -> bool
 }
 
 /// Variables and arrays behind others.
+fn variables(
+    alloc: Global,
+    names: &IndexSet<String>,
+    start: usize,
+    declared: Declared,
+    variables: &[Variable],
+) -> Result<Declared, CFault>
+    ensures { Gives declared_of result (each (meant.variable_step names.now.keys start) (declared_of declared) (variables_of variables.now)) }
+{
+    let mut declared = declared;
+    for variable in variables {
+        declared = variable_step(alloc, names, start, declared, variable)?;
+    }
+    Ok(declared)
+}
+
+/// What a declaration declares, behind others.
 pub(crate) fn declaration(
     alloc: Global,
     names: &IndexSet<String>,
@@ -223,9 +241,5 @@ pub(crate) fn declaration(
     if !is_word(declaration.kind) {
         return Err(CFault::Outside(start, Reason::OtherType));
     }
-    let mut declared = declared;
-    for variable in &declaration.variables {
-        declared = variable_step(alloc, names, start, declared, variable)?;
-    }
-    Ok(declared)
+    variables(alloc, names, start, declared, &declaration.variables)
 }

@@ -4,6 +4,7 @@ ghost use Rattle.serde_json.specs.View.{view};
 ghost use Rattle.ot_cread.specs.Tree.{item_of, items_of, over_of, clause_of, clauses_of};
 ghost use Rattle.ot_cmeaning.specs.Results.{Gives};
 ghost use Rattle.ot_clower.specs.Clauses.{Head, head_of};
+ghost use Rattle.ot_clower.specs.Each.{each};
 ghost use Rattle.ot_clower.specs.Clauses as meant;
 
 use crate::section::{no_cells, part, section};
@@ -30,7 +31,7 @@ fn depends<'a>(
     over: &Option<Range>,
     item: &Item,
 ) -> Result<Heading<'a>, CFault>
-    ensures { Gives head_of result (meant.depends start (head_of heading) word.now (over_of over.now) (item_of item.now)) }
+    ensures { Gives head_of result (meant.depends start (head_of heading.entry) word.now (over_of over.now) (item_of item.now)) }
 {
     let section = section(alloc, &heading.scope, start, over, item)?;
     heading.clauses.push(json::form1(alloc, word, section)?)?;
@@ -72,7 +73,7 @@ fn takes_part<'a>(
     operation: Operation,
     item: &Item,
 ) -> Result<Heading<'a>, CFault>
-    ensures { Gives head_of result (meant.takes_part start (head_of heading) operation (item_of item.now)) }
+    ensures { Gives head_of result (meant.takes_part start (head_of heading.entry) operation (item_of item.now)) }
 {
     let Some(length) = may_join(heading.scope.sense(item.array), operation) else {
         return Err(CFault::Outside(start, Reason::NoGroup));
@@ -109,7 +110,7 @@ fn combines<'a>(
     operation: Operation,
     item: &Item,
 ) -> Result<Heading<'a>, CFault>
-    ensures { Gives head_of result (meant.combines start (head_of heading) operation (item_of item.now)) }
+    ensures { Gives head_of result (meant.combines start (head_of heading.entry) operation (item_of item.now)) }
 {
     let section = section(alloc, &heading.scope, start, &None, item)?;
     heading.clauses.push(section)?;
@@ -154,7 +155,7 @@ fn item_step<'a>(
     over: &Option<Range>,
     item: &Item,
 ) -> Result<Heading<'a>, CFault>
-    ensures { Gives head_of result (meant.item_step start role (over_of over.now) (head_of heading) (item_of item.now)) }
+    ensures { Gives head_of result (meant.item_step start role (over_of over.now) (head_of heading.entry) (item_of item.now)) }
 {
     match role {
         Role::In => depends(alloc, start, heading, "in", over, item),
@@ -175,6 +176,24 @@ fn item_step<'a>(
     }
 }
 
+/// Items of a clause, behind others.
+fn items<'a>(
+    alloc: Global,
+    start: usize,
+    heading: Heading<'a>,
+    role: Role,
+    over: &Option<Range>,
+    items: &[Item],
+) -> Result<Heading<'a>, CFault>
+    ensures { Gives head_of result (each (meant.item_step start role (over_of over.now)) (head_of heading.entry) (items_of items.now)) }
+{
+    let mut heading = heading;
+    for item in items {
+        heading = item_step(alloc, start, heading, role, over, item)?;
+    }
+    Ok(heading)
+}
+
 /// A clause, behind others.
 fn clause_step<'a>(
     alloc: Global,
@@ -182,13 +201,9 @@ fn clause_step<'a>(
     heading: Heading<'a>,
     clause: &Clause,
 ) -> Result<Heading<'a>, CFault>
-    ensures { Gives head_of result (meant.clause_step start (head_of heading) (clause_of clause.now)) }
+    ensures { Gives head_of result (meant.clause_step start (head_of heading.entry) (clause_of clause.now)) }
 {
-    let mut heading = heading;
-    for item in &clause.items {
-        heading = item_step(alloc, start, heading, clause.role, &clause.over, item)?;
-    }
-    Ok(heading)
+    items(alloc, start, heading, clause.role, &clause.over, &clause.items)
 }
 
 /// Clauses of a directive that begins at this byte, in this scope.
@@ -198,7 +213,7 @@ pub(crate) fn headed<'a>(
     scope: Scope<'a>,
     clauses: &[Clause],
 ) -> Result<Heading<'a>, CFault>
-    ensures { Gives head_of result (meant.heading start scope (clauses_of clauses.now)) }
+    ensures { Gives head_of result (meant.heading start scope.entry (clauses_of clauses.now)) }
 {
     let mut heading = Heading {
         clauses: Vec::new(alloc),

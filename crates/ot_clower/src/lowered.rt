@@ -1,11 +1,12 @@
 //! A file whole.
-ghost use Rattle.std.specs.Prelude.{◌≡◌, map};
+ghost use Rattle.std.specs.Prelude.{◌≡◌, false, map};
 ghost use Rattle.serde_json.specs.View.{view, items_view};
 ghost use Rattle.ot_cread.specs.Tree.{expr_of, clauses_of};
 ghost use Rattle.ot_cstatement.specs.Tree.{list_of, body_of, stmt_of};
 ghost use Rattle.ot_cfile.specs.Program.{top_of, tops_of, step_of, main_of, file_of};
 ghost use Rattle.ot_cmeaning.specs.Results.{Gives};
-ghost use Rattle.ot_clower.specs.Arrays.{declared_of, array_of};
+ghost use Rattle.ot_cmeaning.specs.Constants as constants;
+ghost use Rattle.ot_clower.specs.Arrays.{declared_of, array_of, outside};
 ghost use Rattle.ot_clower.specs.Lines.{lines_of};
 ghost use Rattle.ot_clower.specs.Files.{progress_of, lowered_of};
 ghost use Rattle.ot_clower.specs.Files as meant;
@@ -18,7 +19,7 @@ use ot_cfile::{File, Step, Top};
 use ot_cmeaning::{CFault, Meaning, Reason, Scope, constant, json};
 use ot_cread::{Clause, Expr, Operation};
 use ot_cstatement::Stmt;
-use ot_words::Words;
+use ot_words::{IntegerType, Words};
 use serde_json::Value;
 use std::alloc::Global;
 
@@ -40,6 +41,19 @@ struct Progress {
     lines: Lines,
 }
 
+/// The number that a value is outside of regions.
+fn fixed(
+    alloc: Global,
+    words: &Words,
+    meanings: &[Meaning],
+    expr: &Expr,
+) -> Option<(u64, IntegerType)>
+    ensures { result ≡ constants.constant (outside words.now.names.keys meanings.now false) (expr_of expr.now) }
+{
+    let scope = Scope::new(alloc, &words.names, meanings, false);
+    constant(&scope, expr)
+}
+
 /// `#define`
 fn define(
     alloc: Global,
@@ -51,9 +65,7 @@ fn define(
 ) -> Result<Declared, CFault>
     ensures { Gives declared_of result (meant.define words.now.names.keys start (declared_of declared) name (expr_of expr.now)) }
 {
-    let scope = Scope::new(alloc, &words.names, &declared.meanings, false);
-    let found = constant(&scope, expr);
-    let Some((number, kind)) = found else {
+    let Some((number, kind)) = fixed(alloc, words, &declared.meanings, expr) else {
         return Err(CFault::Outside(start, Reason::NoConstant));
     };
     named(start, declared, name, Meaning::Constant(number, kind))
@@ -207,13 +219,13 @@ pub fn lower(alloc: Global, words: &Words, file: &File) -> Result<Lowered, CFaul
     ensures { Gives lowered_of result (meant.lowered words.now.names.keys words.now.starts.items (file_of file.now)) }
 {
     let declared = tops(alloc, words, &file.tops)?;
-    let progress = main_body(alloc, words, declared, &file.main)?;
-    let arrays = progress.declared.arrays;
-    let shows = json::list(shows(alloc, &arrays)?);
-    let list = json::list(progress.lines.statements);
+    let Progress { declared, lines } = main_body(alloc, words, declared, &file.main)?;
+    let shows = json::list(shows(alloc, &declared.arrays)?);
+    let list = json::list(lines.statements);
+    let program = json::form2(alloc, "program2", shows, list)?;
     Ok(Lowered {
-        arrays,
-        program: json::form2(alloc, "program2", shows, list)?,
-        places: progress.lines.places,
+        arrays: declared.arrays,
+        program,
+        places: lines.places,
     })
 }
