@@ -203,7 +203,14 @@ fn clause_step<'a>(
 ) -> Result<Heading<'a>, CFault>
     ensures { Gives head_of result (meant.clause_step start (head_of heading.entry) (clause_of clause.now)) }
 {
-    items(alloc, start, heading, clause.role, &clause.over, &clause.items)
+    items(
+        alloc,
+        start,
+        heading,
+        clause.role,
+        &clause.over,
+        &clause.items,
+    )
 }
 
 /// Clauses of a directive that begins at this byte, in this scope.

@@ -9,7 +9,7 @@ pub returns-in_err-declared : goal.returns-in_err-declared
 returns-in_err-declared c =
     let l = c.loop-top in
     let w = c.args.words.now in
-    let p = err_from_is_err_and c.from_residual.result c.from_residual.ensures.1 in
+    let p = err_from_is_err_and c.from_residual-in_err-declared.result c.from_residual-in_err-declared.ensures.1 in
     rw (p.1, p.2) (each_fails (top_step w.names.keys w.starts.items) top_of c.args.tops.now l.top-index c.top-item.result (declared_of l.declared) (tops w.names.keys w.starts.items (tops_of c.args.tops.now)) c.in_err-declared.field-0.0 c.loop-top-test.true c.top-item.is l.invariant c.in_err-declared.ensures)
 
 pub loop-top-preserved : goal.loop-top-preserved

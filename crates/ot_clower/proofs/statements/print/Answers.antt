@@ -1,4 +1,3 @@
-use Rattle.std.proofs.Common.{◌∙◌, sym}
 use Rattle.std.proofs.lemmas.Result.{err_from_is_err_and}
 use Rattle.ot_cread.specs.Tree.{expr_of}
 use Rattle.ot_cstatement.specs.Tree.{exprs_of}
