@@ -2,6 +2,7 @@
 use ot_cfile::read_file;
 use ot_clower::{CFault, Reason, lower};
 use ot_words::{Words, position_of, words_of};
+use serde_json::Value;
 use std::alloc::Global;
 
 /// What becomes of a file.
@@ -26,6 +27,10 @@ fn lines_of(alloc: Global, text: &str, places: &[usize]) -> Option<Vec<usize>> {
     Some(lines)
 }
 
+fn text_of(alloc: Global, program: &Value) -> Option<String> {
+    program.to_string(alloc).ok()
+}
+
 fn lowered(alloc: Global, text: &str, words: &Words) -> Option<Outcome> {
     let Ok(file) = read_file(alloc, &words.words) else {
         return Some(Outcome::NotRead);
@@ -37,7 +42,7 @@ fn lowered(alloc: Global, text: &str, words: &Words) -> Option<Outcome> {
             for array in made.arrays {
                 cells.push(array.cells).ok()?;
             }
-            Some(Outcome::Program(made.program.to_string(alloc).ok()?, cells, lines))
+            Some(Outcome::Program(text_of(alloc, &made.program)?, cells, lines))
         }
         Err(CFault::Outside(start, reason)) => {
             if start > text.len() {
