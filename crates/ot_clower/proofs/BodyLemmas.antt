@@ -1,5 +1,5 @@
 -- Statements one after another: a loop by its index.
-use Rattle.std.proofs.Common.{◌≡◌, ℕ, ◌+◌, ◌<◌, ◌≤◌, List, length, drop, get_or, Result, Ok, Err, refl, sym, ap, ◌∙◌}
+use Rattle.std.proofs.Common.{◌≡◌, ℕ, ◌+◌, ◌<◌, ◌≤◌, List, length, drop, get_or, Ok, Err, refl, sym, ap, ◌∙◌}
 use Rattle.std.proofs.lemmas.List.{drop_all}
 use Rattle.ot_cstatement.specs.declared.tree.Stmt.{Stmt}
 use Rattle.ot_cstatement.specs.Tree.{S, Body, End, Next, stmt_of, list_of, body_of}

@@ -19,7 +19,7 @@ use Rattle.ot_cmeaning.specs.Scopes.{Around, sense, with_opening}
 use Rattle.ot_clower.specs.declared.clause.Heading.{Heading}
 use Rattle.ot_clower.specs.Each.{each}
 use Rattle.ot_clower.specs.Operations.{operation_word, is_same}
-use Rattle.ot_clower.specs.Sections.{Sectioned, part, section}
+use Rattle.ot_clower.specs.Sections.{part, section}
 
 -- clauses of the language, or a group's sections, and what names mean behind them
 pub record Head : Type 0 where

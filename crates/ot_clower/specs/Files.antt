@@ -1,5 +1,5 @@
 -- A file whole.
-use Rattle.std.specs.Prelude.{ℕ, true, false, List, [], ◌∷◌, ◌++◌, length, map, replicate, Option, Some, None, Result, Ok, Err, String, codes}
+use Rattle.std.specs.Prelude.{ℕ, true, false, List, [], ◌∷◌, length, map, replicate, Option, Some, None, Result, Ok, Err, String, codes}
 use Rattle.std.specs.declared.alloc.Global.{Global}
 use Rattle.serde_json.specs.Data.{Data, string, Items}
 use Rattle.serde_json.specs.View.{view, items_of}

@@ -1,9 +1,9 @@
 -- Items of clauses as sections of arrays (OpenMP API 5.2, sections 3.2.4 and 3.2.6).
-use Rattle.std.specs.Prelude.{ℕ, ◌==◌, Bool, false, ◌&&◌, List, [], ◌∷◌, Option, Some, None, Result, Ok, Err, codes, if◌then◌else◌}
+use Rattle.std.specs.Prelude.{ℕ, ◌==◌, Bool, false, ◌&&◌, [], ◌∷◌, Option, Some, None, Result, Ok, Err, codes, if◌then◌else◌}
 use Rattle.serde_json.specs.Data.{Data, string}
 use Rattle.ot_words.specs.declared.word.Name.{Name}
 use Rattle.ot_words.specs.declared.word.Name.TheVariants as n
-use Rattle.ot_cread.specs.Tree.{E, Literal, Variable, Part, Whole, Cells, Entry, Span}
+use Rattle.ot_cread.specs.Tree.{Literal, Variable, Part, Whole, Cells, Entry, Span}
 use Rattle.ot_cmeaning.specs.declared.reason.Reason.{Reason}
 use Rattle.ot_cmeaning.specs.declared.reason.Reason.TheVariants as why
 use Rattle.ot_cmeaning.specs.declared.scope.Sense.{Sense}
