@@ -3,7 +3,7 @@ use crate::telling::{Told, told_file};
 use std::alloc::Global;
 use std::test::Fail;
 
-const DEPEND_MISSING: &str = "#include <stdio.h>
+pub const DEPEND_MISSING: &str = "#include <stdio.h>
 int main(void)
 {
     int i = 0;
@@ -20,7 +20,7 @@ int main(void)
 }
 ";
 
-const DEPEND_IN_WRITES: &str = "#include <stdio.h>
+pub const DEPEND_IN_WRITES: &str = "#include <stdio.h>
 int main(void)
 {
     int i = 0;
@@ -37,7 +37,7 @@ int main(void)
 }
 ";
 
-const OUT_AFTER_OUT: &str = "#include <stdio.h>
+pub const OUT_AFTER_OUT: &str = "#include <stdio.h>
 #include <unistd.h>
 int main(void)
 {
@@ -58,7 +58,7 @@ int main(void)
 }
 ";
 
-const TWO_READERS: &str = "#include <stdio.h>
+pub const TWO_READERS: &str = "#include <stdio.h>
 int main(void)
 {
     int i = 0, j = 0, k = 0;
@@ -77,7 +77,7 @@ int main(void)
 }
 ";
 
-const WAIT_ONLY_CHILD: &str = "#include <stdio.h>
+pub const WAIT_ONLY_CHILD: &str = "#include <stdio.h>
 int main(void)
 {
     int a[4] = {1, 2, 3, 4};
@@ -100,7 +100,7 @@ int main(void)
 }
 ";
 
-const WAIT_FOR_ONE_MISSING: &str = "#include <stdint.h>
+pub const WAIT_FOR_ONE_MISSING: &str = "#include <stdint.h>
 #include <stdio.h>
 int main(void)
 {
@@ -121,7 +121,7 @@ int main(void)
 }
 ";
 
-const CHAIN_OF_TWO: &str = "#include <stdint.h>
+pub const CHAIN_OF_TWO: &str = "#include <stdint.h>
 #include <stdio.h>
 int main(void)
 {
@@ -160,7 +160,7 @@ int main(void)
 }
 ";
 
-const IN_REDUCTION: &str = "#include <stdint.h>
+pub const IN_REDUCTION: &str = "#include <stdint.h>
 #include <stdio.h>
 #define N 8
 int main(void)
@@ -181,7 +181,7 @@ int main(void)
 }
 ";
 
-const BLOCKED_WAVEFRONT: &str = "#include <stdint.h>
+pub const BLOCKED_WAVEFRONT: &str = "#include <stdint.h>
 #include <stdio.h>
 #define N 4
 static uint64_t m[N * N] = {1};
@@ -199,7 +199,7 @@ int main(void)
 }
 ";
 
-const PHASES: &str = "#include <stdint.h>
+pub const PHASES: &str = "#include <stdint.h>
 #include <stdio.h>
 #define N 4
 static uint64_t a[N * N];
@@ -230,7 +230,7 @@ int main(void)
 }
 ";
 
-const SHARED_LOOP_VARIABLE: &str = "#include <stdint.h>
+pub const SHARED_LOOP_VARIABLE: &str = "#include <stdint.h>
 #include <stdio.h>
 int main(void)
 {

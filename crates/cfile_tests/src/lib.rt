@@ -4,7 +4,13 @@
 #[cfg(test)]
 mod files;
 #[cfg(test)]
+mod forms;
+#[cfg(test)]
 mod kernels;
+#[cfg(test)]
+mod lowered;
+#[cfg(test)]
+mod programs;
 #[cfg(test)]
 mod statements;
 #[cfg(test)]

@@ -1,0 +1,67 @@
+//! Files as programs of the language, or where they stand outside of it.
+use ot_cfile::read_file;
+use ot_clower::{CFault, Reason, lower};
+use ot_words::{Words, position_of, words_of};
+use serde_json::Value;
+use std::alloc::Global;
+
+/// What becomes of a file.
+#[derive(Drop)]
+pub enum Outcome {
+    /// A program, the cells of its arrays, and the line of each statement.
+    Program(String, Vec<Vec<u64>>, Vec<usize>),
+    /// Why, and the line and the column where what the language doesn't have stands.
+    Outside(Reason, usize, usize),
+    NotRead,
+    Memory,
+}
+
+fn lines_of(alloc: Global, text: &str, places: &[usize]) -> Option<Vec<usize>> {
+    let mut lines = Vec::new(alloc);
+    for place in places {
+        if *place > text.len() {
+            return None;
+        }
+        lines.push(position_of(text.as_bytes(), *place).line).ok()?;
+    }
+    Some(lines)
+}
+
+fn text_of(alloc: Global, program: &Value) -> Option<String> {
+    program.to_string(alloc).ok()
+}
+
+fn lowered(alloc: Global, text: &str, words: &Words) -> Option<Outcome> {
+    let Ok(file) = read_file(alloc, &words.words) else {
+        return Some(Outcome::NotRead);
+    };
+    match lower(alloc, words, &file) {
+        Ok(made) => {
+            let lines = lines_of(alloc, text, &made.places)?;
+            let mut cells = Vec::new(alloc);
+            for array in made.arrays {
+                cells.push(array.cells).ok()?;
+            }
+            Some(Outcome::Program(text_of(alloc, &made.program)?, cells, lines))
+        }
+        Err(CFault::Outside(start, reason)) => {
+            if start > text.len() {
+                return None;
+            }
+            let place = position_of(text.as_bytes(), start);
+            Some(Outcome::Outside(reason, place.line, place.column))
+        }
+        Err(CFault::Memory) => Some(Outcome::Memory),
+    }
+}
+
+/// What becomes of a text.
+pub fn became(alloc: Global, text: &str) -> Outcome {
+    let Ok(words) = words_of(alloc, text.as_bytes()) else {
+        return Outcome::NotRead;
+    };
+    match lowered(alloc, text, &words) {
+        Some(became) => became,
+        None => Outcome::Memory,
+    }
+}

@@ -1,0 +1,93 @@
+-- Assignments. Where a task takes part in a reduction it only folds into its own copy, by the operation (OpenMP API 5.2,
+-- section 5.5.3).
+use Rattle.std.specs.Prelude.{ℕ, ◌==◌, Bool, true, false, [], ◌∷◌, Option, Some, None, Result, Ok, Err, codes, if◌then◌else◌}
+use Rattle.serde_json.specs.Data.{Data, string}
+use Rattle.ot_words.specs.declared.word.Name.{Name}
+use Rattle.ot_words.specs.declared.word.Name.TheVariants as n
+use Rattle.ot_cread.specs.declared.sign.Sign.{Sign}
+use Rattle.ot_cread.specs.declared.tree.Operation.{Operation}
+use Rattle.ot_cread.specs.Tree.{E, Literal, Variable, CellAt, Unsigned, Called, Apply}
+use Rattle.ot_cstatement.specs.Tree.{Aim}
+use Rattle.ot_cmeaning.specs.declared.reason.Reason.TheVariants as why
+use Rattle.ot_cmeaning.specs.declared.scope.Sense.{Sense}
+use Rattle.ot_cmeaning.specs.declared.scope.Sense.TheVariants as s
+use Rattle.ot_cmeaning.specs.Forms.{nat, form}
+use Rattle.ot_cmeaning.specs.Results.{Refusal, ◌>>=◌}
+use Rattle.ot_cmeaning.specs.Scopes.{Around, sense, name_text}
+use Rattle.ot_cmeaning.specs.Sizes.{size}
+use Rattle.ot_cmeaning.specs.Values.{value}
+use Rattle.ot_clower.specs.Operations.{operation_word, fold_of, is_minus, call_fold, is_same}
+
+abbrev pub Stated : Type 0
+Stated = Result Data Refusal
+
+-- ---- what is assigned to
+
+-- a cell of what has so many: a place in an array, or a variable's own cell
+abbrev pub cell_of : Around → ℕ → Name → Option ℕ → Option E → Stated
+cell_of a at x None None = Ok (form (codes "c") (string (name_text a x) ∷ nat 0 ∷ []))
+cell_of a at x (Some n) (Some i) = size a at i >>= λ p. Ok (form (codes "c") (string (name_text a x) ∷ p.0 ∷ []))
+cell_of a at x None (Some i) = Err (at, why.NoArray)
+cell_of a at x (Some n) None = Err (at, why.WholeArray)
+
+-- how many cells it has, and by which operation the task folds into its own copy of it, if it has one
+abbrev pub aimed : ℕ → Sense → Result (Option ℕ × Option Operation) Refusal
+aimed at (s.Cells length) = Ok (length, None)
+aimed at (s.Combined c length) = if c.own then Ok (length, Some c.operation) else Err (at, why.Combined)
+aimed at s.Nothing = Err (at, why.Unknown)
+aimed at (s.Constant n k) = Err (at, why.Constant)
+aimed at (s.Turn k) = Err (at, why.LoopVariable)
+aimed at s.Begins = Err (at, why.LoopVariable)
+aimed at s.Function = Err (at, why.Function)
+
+-- ---- folds
+
+-- `["fold", op, cell, value]`
+abbrev pub fold : Operation → Data → Data → Data
+fold op cell d = form (codes "fold") (string (operation_word op) ∷ cell ∷ d ∷ [])
+
+-- a value, or where it is taken away the same below zero
+abbrev pub taken : Bool → Data → Data
+taken minus d = if minus then form (codes "-") (nat 0 ∷ d ∷ []) else d
+
+abbrev pub may_fold : Option Operation → Operation → Bool
+may_fold None op = true
+may_fold (Some own) op = is_same own op
+
+-- by which operation, if by any, and whether a value is taken away
+abbrev pub Folds : Type 0
+Folds = Option Operation × Bool
+
+abbrev pub change_by : Around → ℕ → Option Operation → Data → Option Operation → Bool → E → Stated
+change_by a at own cell None minus e = Err (at, why.OwnCopy)
+change_by a at own cell (Some op) minus e = if may_fold own op then (value a at e >>= λ v. Ok (fold op cell (taken minus v.text))) else Err (at, why.OwnCopy)
+
+-- `cell op= value`
+abbrev pub change : Around → ℕ → Option Operation → Data → Folds → E → Stated
+change a at own cell folds e = change_by a at own cell folds.0 folds.1 e
+
+-- whether a value is a variable
+unfoldable pub is_variable : Name → E → Bool
+is_variable (n.Other i) (Variable (n.Other j)) = i == j
+is_variable x e = false
+
+-- `x = x op e`, `x = min(x, e)` or `x = max(x, e)`, where a task has a copy of x of its own
+abbrev pub own_set : Around → ℕ → Operation → Data → Name → E → Stated
+own_set a at own cell x (Apply sign e f) = if is_variable x e then change a at (Some own) cell (fold_of sign, is_minus sign) f else Err (at, why.OwnCopy)
+own_set a at own cell x (Called call e f) = if is_variable x e then change a at (Some own) cell (Some (call_fold call), false) f else Err (at, why.OwnCopy)
+own_set a at own cell x (Literal n k) = Err (at, why.OwnCopy)
+own_set a at own cell x (Variable y) = Err (at, why.OwnCopy)
+own_set a at own cell x (CellAt y i) = Err (at, why.OwnCopy)
+own_set a at own cell x (Unsigned e) = Err (at, why.OwnCopy)
+
+abbrev pub set : Around → ℕ → Data → E → Stated
+set a at cell e = value a at e >>= λ v. Ok (form (codes "set") (cell ∷ v.text ∷ []))
+
+abbrev pub assigned : Around → ℕ → Option Operation → Data → Name → Option Sign → E → Stated
+assigned a at own cell x (Some sign) e = change a at own cell (fold_of sign, is_minus sign) e
+assigned a at None cell x None e = set a at cell e
+assigned a at (Some own) cell x None e = own_set a at own cell x e
+
+-- an assignment
+abbrev pub assignment : Around → ℕ → Aim → Option Sign → E → Stated
+assignment a at t sign e = aimed at (sense a t.array) >>= λ x. cell_of a at t.array x.0 t.index >>= λ cell. assigned a at x.1 cell t.array sign e

@@ -1,0 +1,150 @@
+-- Statements.
+use Rattle.std.specs.Prelude.{ℕ, ◌-◌, Bool, true, false, List, [], ◌∷◌, ◌++◌, length, Option, Result, Ok, Err, slice_get, unwrap_or, codes, if◌then◌else◌}
+use Rattle.serde_json.specs.Data.{Data, string}
+use Rattle.serde_json.specs.View.{view}
+use Rattle.ot_words.specs.declared.word.IntegerType.{IntegerType}
+use Rattle.ot_words.specs.declared.word.IntegerType.TheVariants.{Int, Unsigned, Long, UnsignedLong}
+use Rattle.ot_program.specs.Names.{is_name}
+use Rattle.ot_cread.specs.declared.sign.Sign.{Sign}
+use Rattle.ot_cread.specs.declared.tree.Operation.{Operation}
+use Rattle.ot_cread.specs.Tree.{E, Claim}
+use Rattle.ot_cstatement.specs.Tree.{Aim, Course, S, Block, Assign, If, For, Task, Wait, Group, Yield, Call, Print, Show, Point, Body, End, Next}
+use Rattle.ot_cmeaning.specs.declared.reason.Reason.TheVariants as why
+use Rattle.ot_cmeaning.specs.declared.scope.Turn.{Turn}
+use Rattle.ot_cmeaning.specs.Forms.{nat, form, listed}
+use Rattle.ot_cmeaning.specs.Results.{Refusal, ◌>>=◌}
+use Rattle.ot_cmeaning.specs.Scopes.{Around, text_of, with_turn, within_task}
+use Rattle.ot_cmeaning.specs.Sizes.{size}
+use Rattle.ot_cmeaning.specs.Values.{value}
+use Rattle.ot_clower.specs.declared.statements.Bounds.{Bounds}
+use Rattle.ot_clower.specs.Assignments.{assignment}
+use Rattle.ot_clower.specs.Clauses.{Head, heading, group_operation}
+use Rattle.ot_clower.specs.Each.{each}
+use Rattle.ot_clower.specs.Lines.{L, none, one, joined}
+use Rattle.ot_clower.specs.Operations.{operation_word}
+
+abbrev pub Lowered : Type 0
+Lowered = Result L Refusal
+
+-- the byte at which begins what so many words are left from
+abbrev pub byte_of : List ℕ → ℕ → ℕ
+byte_of starts left = unwrap_or (slice_get starts (length starts - left)) 0
+
+abbrev pub behind : L → Lowered → Lowered
+behind lines more = more >>= λ l. Ok (joined lines l)
+
+-- ---- statements without a body
+
+-- a value is read, and nothing else is done
+abbrev pub read : Around → ℕ → E → Lowered
+read a at e = value a at e >>= λ v. Ok (one at (form (codes "if") (v.text ∷ listed [] ∷ listed [] ∷ [])) [])
+
+abbrev pub read_step : Around → ℕ → L → E → Lowered
+read_step a at lines e = behind lines (read a at e)
+
+-- values that are printed are read, one after another
+abbrev pub print : Around → ℕ → List E → Lowered
+print a at es = each (read_step a at) none es
+
+-- tasks, waits and groups stand in a parallel region
+abbrev pub region_at : Around → ℕ → Result (Unit {0}) Refusal
+region_at a at = if a.inside then Ok tt else Err (at, why.NoRegion)
+
+abbrev pub waits : Around → ℕ → List Claim → Lowered
+waits a at [] = Ok (one at (form (codes "wait") []) [])
+waits a at (c ∷ cs) = heading at a (c ∷ cs) >>= λ h. Ok (one at (form (codes "wait") (listed h.clauses ∷ [])) [])
+
+-- a wait, with clauses or without (OpenMP API 5.2, section 15.5)
+abbrev pub wait : Around → ℕ → List Claim → Lowered
+wait a at cs = region_at a at >>= λ x. waits a at cs
+
+-- cells that are shown outside of regions: all are, whatever is called for
+abbrev pub show : Around → ℕ → Lowered
+show a at = if a.inside then Err (at, why.Function) else Ok none
+
+-- ---- loops
+
+-- an `int` that begins with a number of another type may be another number
+abbrev pub may_begin : IntegerType → IntegerType → Bool
+may_begin Int Int = true
+may_begin Int Unsigned = false
+may_begin Int Long = false
+may_begin Int UnsignedLong = false
+may_begin Unsigned k = true
+may_begin Long k = true
+may_begin UnsignedLong k = true
+
+abbrev pub end_of : Bool → Data → Data
+end_of through d = if through then form (codes "+") (d ∷ nat 1 ∷ []) else d
+
+-- the name of a loop's variable, its first number, and the end
+pub record Range : Type 0 where
+  pub name : Data
+  pub first : Data
+  pub end : Data
+
+abbrev pub bounds_of : Bounds → Range
+bounds_of b = record { name = view b.name; first = view b.first; end = view b.end }
+
+abbrev pub turn : Course → Bool → Turn
+turn c begun = record { variable = c.variable; kind = c.kind; begun = begun }
+
+abbrev pub range_by : Around → ℕ → Course → Data × IntegerType → Data → Result Range Refusal
+range_by a at c first end = if may_begin c.kind first.1 then Ok (record { name = string (text_of a.names c.variable); first = first.0; end = end_of c.through end }) else Err (at, why.Narrow)
+
+-- both bounds are computed outside of the loop, and don't name its variable
+abbrev pub sizes : Around → Around → ℕ → Course → Result Range Refusal
+sizes a inner at c = size inner at c.start >>= λ f. size inner at c.end >>= λ e. range_by a at c f e.0
+
+abbrev pub bounds : Around → ℕ → Course → Result Range Refusal
+bounds a at c = if is_name (text_of a.names c.variable) then sizes a (with_turn a (turn c false)) at c else Err (at, why.NoName)
+
+-- ---- statements with bodies
+
+abbrev pub branch : ℕ → Data → L → L → L
+branch at test x y = one at (form (codes "if") (test ∷ listed x.texts ∷ listed y.texts ∷ [])) (x.places ++ y.places)
+
+abbrev pub repeated : ℕ → Range → L → L
+repeated at r x = one at (form (codes "for") (r.name ∷ r.first ∷ r.end ∷ listed x.texts ∷ [])) x.places
+
+-- what the clauses of a task say (OpenMP API 5.2, section 12.5)
+abbrev pub task_head : Around → ℕ → List Claim → Result Head Refusal
+task_head a at cs = region_at a at >>= λ u. heading at (within_task a) cs
+
+abbrev pub task : ℕ → List Data → L → L
+task at clauses x = one at (form (codes "task") (listed clauses ∷ listed x.texts ∷ [])) x.places
+
+-- by which operation a group combines, and what its clauses say (OpenMP API 5.2, section 15.4)
+abbrev pub group_head : Around → ℕ → List Claim → Result (Operation × Head) Refusal
+group_head a at cs = region_at a at >>= λ u. group_operation at cs >>= λ op. heading at a cs >>= λ h. Ok (op, h)
+
+abbrev pub group : ℕ → Operation → List Data → L → L
+group at op sections x = one at (form (codes "group") (string (operation_word op) ∷ listed sections ∷ listed x.texts ∷ [])) x.places
+
+abbrev pub assigned : Around → ℕ → Aim → Option Sign → E → Lowered
+assigned a at t sign e = assignment a at t sign e >>= λ d. Ok (one at d [])
+
+-- ---- statements
+
+unfoldable mutual
+  pub statement : List ℕ → Around → S → Lowered
+  statement starts a (Block left b) = body_from starts a none b
+  statement starts a (Assign left t sign e) = assigned a (byte_of starts left) t sign e
+  statement starts a (If left test b c) = value a (byte_of starts left) test >>= λ v. body_from starts a none b >>= λ x. body_from starts a none c >>= λ y. Ok (branch (byte_of starts left) v.text x y)
+  statement starts a (For left c b) = bounds a (byte_of starts left) c >>= λ r. body_from starts (with_turn a (turn c true)) none b >>= λ x. Ok (repeated (byte_of starts left) r x)
+  statement starts a (Task left cs b) = task_head a (byte_of starts left) cs >>= λ h. body_from starts h.around none b >>= λ x. Ok (task (byte_of starts left) h.clauses x)
+  statement starts a (Wait left cs) = wait a (byte_of starts left) cs
+  statement starts a (Group left cs b) = group_head a (byte_of starts left) cs >>= λ g. body_from starts g.1.around none b >>= λ x. Ok (group (byte_of starts left) g.0 g.1.clauses x)
+  statement starts a (Yield left) = Ok none
+  statement starts a (Call left f es) = Err (byte_of starts left, why.Function)
+  statement starts a (Print left es) = print a (byte_of starts left) es
+  statement starts a (Show left x i n) = show a (byte_of starts left)
+  statement starts a (Point left p x i) = Err (byte_of starts left, why.Pointer)
+
+  -- statements behind others
+  pub body_from : List ℕ → Around → L → Body → Lowered
+  body_from starts a lines End = Ok lines
+  body_from starts a lines (Next s rest) = behind lines (statement starts a s) >>= λ l. body_from starts a l rest
+
+abbrev pub body : List ℕ → Around → Body → Lowered
+body starts a b = body_from starts a none b

@@ -1,0 +1,341 @@
+//! Statements.
+ghost use Rattle.std.specs.Prelude.{◌≡◌, map};
+ghost use Rattle.serde_json.specs.View.{view};
+ghost use Rattle.ot_cread.specs.Tree.{expr_of, clauses_of};
+ghost use Rattle.ot_cstatement.specs.Tree.{aim_of, course_of, exprs_of, stmt_of, list_of, body_of};
+ghost use Rattle.ot_cmeaning.specs.Results.{Gives};
+ghost use Rattle.ot_clower.specs.Clauses.{head_of};
+ghost use Rattle.ot_clower.specs.Lines.{lines_of};
+ghost use Rattle.ot_clower.specs.Statements.{bounds_of};
+ghost use Rattle.ot_clower.specs.Statements as meant;
+
+use crate::assignment::assignment;
+use crate::clause::{Heading, group_operation, headed};
+use crate::lines::{Lines, joined, no_lines, one_line};
+use crate::words::operation_word;
+use ot_cmeaning::{CFault, Reason, Scope, Turn, json, size, value};
+use ot_cread::{Clause, Expr, Operation, Sign};
+use ot_cstatement::{Stmt, Target, Turns};
+use ot_program::is_name;
+use ot_words::{IntegerType, Name};
+use serde_json::Value;
+use std::alloc::Global;
+
+/// The byte at which begins what so many words are left from.
+pub(crate) fn byte_of(starts: &[usize], left: usize) -> usize
+    ensures { result ≡ meant.byte_of starts.now left }
+{
+    match starts.get(starts.len().saturating_sub(left)) {
+        Some(byte) => *byte,
+        None => 0,
+    }
+}
+
+/// A value is read: `["if", value, [], []]`.
+fn read(alloc: Global, scope: &Scope<'_>, start: usize, expr: &Expr) -> Result<Lines, CFault>
+    ensures { Gives lines_of result (meant.read scope.now start (expr_of expr.now)) }
+{
+    let worth = value(alloc, scope, start, expr)?;
+    let none = json::list(Vec::new(alloc));
+    let nothing = json::list(Vec::new(alloc));
+    let statement = json::form3(alloc, "if", worth.value, none, nothing)?;
+    Ok(one_line(alloc, start, statement, Vec::new(alloc))?)
+}
+
+/// A value is read behind others.
+fn read_step(
+    alloc: Global,
+    scope: &Scope<'_>,
+    start: usize,
+    lines: Lines,
+    expr: &Expr,
+) -> Result<Lines, CFault>
+    ensures { Gives lines_of result (meant.read_step scope.now start (lines_of lines) (expr_of expr.now)) }
+{
+    let more = read(alloc, scope, start, expr)?;
+    Ok(joined(lines, more)?)
+}
+
+/// Values that are printed are read.
+fn print(alloc: Global, scope: &Scope<'_>, start: usize, exprs: &[Expr]) -> Result<Lines, CFault>
+    ensures { Gives lines_of result (meant.print scope.now start (exprs_of exprs.now)) }
+{
+    let mut lines = no_lines(alloc);
+    for expr in exprs {
+        lines = read_step(alloc, scope, start, lines, expr)?;
+    }
+    Ok(lines)
+}
+
+/// A wait, with clauses or without.
+fn wait(alloc: Global, scope: &Scope<'_>, start: usize, clauses: &[Clause]) -> Result<Lines, CFault>
+    ensures { Gives lines_of result (meant.wait scope.now start (clauses_of clauses.now)) }
+{
+    region_at(scope, start)?;
+    match clauses {
+        [] => {
+            let statement = json::form0(alloc, "wait")?;
+            Ok(one_line(alloc, start, statement, Vec::new(alloc))?)
+        }
+        _ => {
+            let heading = headed(alloc, start, scope.again(alloc)?, clauses)?;
+            let clauses = json::list(heading.clauses);
+            let statement = json::form1(alloc, "wait", clauses)?;
+            Ok(one_line(alloc, start, statement, Vec::new(alloc))?)
+        }
+    }
+}
+
+/// Tasks, waits and groups stand in a parallel region.
+fn region_at(scope: &Scope<'_>, start: usize) -> Result<(), CFault>
+    ensures { Gives (λ x. x) result (meant.region_at scope.now start) }
+{
+    if scope.inside() {
+        Ok(())
+    } else {
+        Err(CFault::Outside(start, Reason::NoRegion))
+    }
+}
+
+/// The bounds of a loop, and its variable's name.
+#[derive(Drop)]
+struct Bounds {
+    name: Value,
+    first: Value,
+    end: Value,
+}
+
+/// An `int` that begins with a number of another type may be another number.
+fn may_begin(kind: IntegerType, first: IntegerType) -> bool
+    ensures { result ≡ meant.may_begin kind first }
+{
+    match kind {
+        IntegerType::Int => matches!(first, IntegerType::Int),
+        IntegerType::Unsigned | IntegerType::Long | IntegerType::UnsignedLong => true,
+    }
+}
+
+/// The end of a loop, or where it has a turn too the number behind it.
+fn end_of(alloc: Global, through: bool, end: Value) -> Result<Value, CFault>
+    ensures { Gives (λ v. view v) result (Ok (meant.end_of through (view end))) }
+{
+    if through {
+        Ok(json::form2(alloc, "+", end, Value::from(1u64))?)
+    } else {
+        Ok(end)
+    }
+}
+
+/// The place in a loop's body, or in its bounds.
+fn turn_of(turns: &Turns, begun: bool) -> Turn
+    ensures { result ≡ meant.turn (course_of turns.now) begun }
+{
+    Turn {
+        variable: turns.variable,
+        kind: turns.kind,
+        begun,
+    }
+}
+
+fn bounded(alloc: Global, scope: &Scope<'_>, start: usize, turns: &Turns) -> Result<Bounds, CFault>
+    ensures { Gives bounds_of result (meant.bounds scope.now start (course_of turns.now)) }
+{
+    if !is_name(scope.text(turns.variable)) {
+        return Err(CFault::Outside(start, Reason::NoName));
+    }
+    let around = scope.with_turn(alloc, turn_of(turns, false))?;
+    let (first, first_kind) = size(alloc, &around, start, &turns.start)?;
+    let (end, _) = size(alloc, &around, start, &turns.end)?;
+    if !may_begin(turns.kind, first_kind) {
+        return Err(CFault::Outside(start, Reason::Narrow));
+    }
+    let end = end_of(alloc, turns.through, end)?;
+    let name = scope.named(alloc, Name::Other(turns.variable))?;
+    Ok(Bounds { name, first, end })
+}
+
+/// `if`
+fn branch(alloc: Global, start: usize, test: Value, one: Lines, two: Lines) -> Result<Lines, CFault>
+    ensures { Gives lines_of result (Ok (meant.branch start (view test) (lines_of one) (lines_of two))) }
+{
+    let first = json::list(one.statements);
+    let second = json::list(two.statements);
+    let statement = json::form3(alloc, "if", test, first, second)?;
+    let mut places = one.places;
+    let mut more = two.places;
+    places.append(&mut more)?;
+    Ok(one_line(alloc, start, statement, places)?)
+}
+
+/// `for`
+fn repeated(alloc: Global, start: usize, bounds: Bounds, inner: Lines) -> Result<Lines, CFault>
+    ensures { Gives lines_of result (Ok (meant.repeated start (bounds_of bounds) (lines_of inner))) }
+{
+    let list = json::list(inner.statements);
+    let statement = json::form4(alloc, "for", bounds.name, bounds.first, bounds.end, list)?;
+    Ok(one_line(alloc, start, statement, inner.places)?)
+}
+
+/// What the clauses of a task say, in whose body the scope is that of the task.
+fn task_heading<'a>(
+    alloc: Global,
+    scope: &Scope<'a>,
+    start: usize,
+    clauses: &[Clause],
+) -> Result<Heading<'a>, CFault>
+    ensures { Gives head_of result (meant.task_head scope.now start (clauses_of clauses.now)) }
+{
+    region_at(scope, start)?;
+    headed(alloc, start, scope.within_task(alloc)?, clauses)
+}
+
+/// A task.
+fn task(alloc: Global, start: usize, clauses: Vec<Value>, inner: Lines) -> Result<Lines, CFault>
+    ensures { Gives lines_of result (Ok (meant.task start (map view clauses.items) (lines_of inner))) }
+{
+    let clauses = json::list(clauses);
+    let list = json::list(inner.statements);
+    let statement = json::form2(alloc, "task", clauses, list)?;
+    Ok(one_line(alloc, start, statement, inner.places)?)
+}
+
+/// By which operation a group combines, and what its clauses say.
+fn group_heading<'a>(
+    alloc: Global,
+    scope: &Scope<'a>,
+    start: usize,
+    clauses: &[Clause],
+) -> Result<(Operation, Heading<'a>), CFault>
+    ensures { Gives (λ x. (x.0, head_of x.1)) result (meant.group_head scope.now start (clauses_of clauses.now)) }
+{
+    region_at(scope, start)?;
+    let operation = group_operation(start, clauses)?;
+    let heading = headed(alloc, start, scope.again(alloc)?, clauses)?;
+    Ok((operation, heading))
+}
+
+/// A group.
+pub(crate) fn group(
+    alloc: Global,
+    start: usize,
+    operation: Operation,
+    sections: Vec<Value>,
+    inner: Lines,
+) -> Result<Lines, CFault>
+    ensures { Gives lines_of result (Ok (meant.group start operation (map view sections.items) (lines_of inner))) }
+{
+    let word = json::text(alloc, operation_word(operation))?;
+    let sections = json::list(sections);
+    let list = json::list(inner.statements);
+    let statement = json::form3(alloc, "group", word, sections, list)?;
+    Ok(one_line(alloc, start, statement, inner.places)?)
+}
+
+/// Cells that are shown outside of regions: all are, whatever is called for.
+fn show(alloc: Global, scope: &Scope<'_>, start: usize) -> Result<Lines, CFault>
+    ensures { Gives lines_of result (meant.show scope.now start) }
+{
+    if scope.inside() {
+        Err(CFault::Outside(start, Reason::Function))
+    } else {
+        Ok(no_lines(alloc))
+    }
+}
+
+/// An assignment.
+fn assigned(
+    alloc: Global,
+    scope: &Scope<'_>,
+    start: usize,
+    target: &Target,
+    sign: Option<Sign>,
+    expr: &Expr,
+) -> Result<Lines, CFault>
+    ensures { Gives lines_of result (meant.assigned scope.now start (aim_of target.now) sign (expr_of expr.now)) }
+{
+    let statement = assignment(alloc, scope, start, target, sign, expr)?;
+    Ok(one_line(alloc, start, statement, Vec::new(alloc))?)
+}
+
+/// A statement.
+#[cycle(statement)]
+#[tactic(auto, unfolding(crate::specs::Statements::statement))]
+pub(crate) fn statement(
+    alloc: Global,
+    starts: &[usize],
+    scope: &Scope<'_>,
+    stmt: &Stmt,
+) -> Result<Lines, CFault>
+    ensures { Gives lines_of result (meant.statement starts.now scope.now (stmt_of stmt.now)) }
+{
+    match stmt {
+        Stmt::Block(_, inner) => body(alloc, starts, scope, inner),
+        Stmt::Assign(left, target, sign, expr) => {
+            assigned(alloc, scope, byte_of(starts, *left), target, *sign, expr)
+        }
+        Stmt::If(left, test, one, two) => {
+            let start = byte_of(starts, *left);
+            let test = value(alloc, scope, start, test)?;
+            let one = body(alloc, starts, scope, one)?;
+            let two = body(alloc, starts, scope, two)?;
+            branch(alloc, start, test.value, one, two)
+        }
+        Stmt::For(left, turns, inner) => {
+            let start = byte_of(starts, *left);
+            let bounds = bounded(alloc, scope, start, turns)?;
+            let around = scope.with_turn(alloc, turn_of(turns, true))?;
+            let inner = body(alloc, starts, &around, inner)?;
+            repeated(alloc, start, bounds, inner)
+        }
+        Stmt::Task(left, clauses, inner) => {
+            let start = byte_of(starts, *left);
+            let heading = task_heading(alloc, scope, start, clauses)?;
+            let inner = body(alloc, starts, &heading.scope, inner)?;
+            task(alloc, start, heading.clauses, inner)
+        }
+        Stmt::Wait(left, clauses) => wait(alloc, scope, byte_of(starts, *left), clauses),
+        Stmt::Group(left, clauses, inner) => {
+            let start = byte_of(starts, *left);
+            let (operation, heading) = group_heading(alloc, scope, start, clauses)?;
+            let inner = body(alloc, starts, &heading.scope, inner)?;
+            group(alloc, start, operation, heading.clauses, inner)
+        }
+        Stmt::Yield(_) => Ok(no_lines(alloc)),
+        Stmt::Call(left, _, _) => Err(CFault::Outside(byte_of(starts, *left), Reason::Function)),
+        Stmt::Print(left, exprs) => print(alloc, scope, byte_of(starts, *left), exprs),
+        Stmt::Show(left, _, _, _) => show(alloc, scope, byte_of(starts, *left)),
+        Stmt::Point(left, _, _, _) => Err(CFault::Outside(byte_of(starts, *left), Reason::Pointer)),
+    }
+}
+
+/// A statement behind others.
+#[cycle(statement)]
+fn body_step(
+    alloc: Global,
+    starts: &[usize],
+    scope: &Scope<'_>,
+    lines: Lines,
+    stmt: &Stmt,
+) -> Result<Lines, CFault>
+    ensures { Gives lines_of result (meant.behind (lines_of lines) (meant.statement starts.now scope.now (stmt_of stmt.now))) }
+{
+    let more = statement(alloc, starts, scope, stmt)?;
+    Ok(joined(lines, more)?)
+}
+
+/// Statements.
+#[cycle(statement)]
+pub(crate) fn body(
+    alloc: Global,
+    starts: &[usize],
+    scope: &Scope<'_>,
+    stmts: &[Stmt],
+) -> Result<Lines, CFault>
+    ensures { Gives lines_of result (meant.body starts.now scope.now (body_of (list_of stmts.now))) }
+{
+    let mut lines = no_lines(alloc);
+    for stmt in stmts {
+        lines = body_step(alloc, starts, scope, lines, stmt)?;
+    }
+    Ok(lines)
+}
