@@ -6,39 +6,40 @@ use crate::kernels::{
 };
 use crate::lowered::{Outcome, became};
 use ot_clower::Reason;
-use std::alloc::Global;
+use std::alloc::{AllocError, Global};
 use std::test::Fail;
 
-const PROGRAMS: [(&str, &str, &[&[u64]], &[usize]); 5] = [
+/// Of each its text, its program, the cells of its arrays, and the lines of its statements.
+const PROGRAMS: [(&str, &str, &str, &str); 5] = [
     (
         WAIT_FOR_ONE_MISSING,
         r#"["program2",[["x",0,1],["y",0,1]],[["group","+",[],[["task",[["inout",["x",0,1]]],[["fold","+",["c","x",0],1]]],["task",[],[["fold","+",["c","y",0],["-",0,1]]]],["wait",[["in",["x",0,1]]]],["if",["c","x",0],[],[]],["if",["c","y",0],[],[]],["wait"]]]]]"#,
-        &[&[0], &[2]],
-        &[6, 9, 10, 11, 12, 13, 14, 15, 16],
+        "[[0], [2]]",
+        "[6, 9, 10, 11, 12, 13, 14, 15, 16]",
     ),
     (
         CHAIN_OF_TWO,
         r#"["program2",[["x",0,1],["y",0,1]],[["group","+",[],[["task",[["inout",["x",0,1]]],[["fold","+",["c","x",0],1]]],["task",[["in",["x",0,1]],["inout",["y",0,1]]],[["fold","+",["c","y",0],["-",0,["c","x",0]]]]],["wait",[["in",["x",0,1]]]],["if",["c","x",0],[],[]],["wait"],["if",["c","y",0],[],[]]]]]]"#,
-        &[&[0], &[2]],
-        &[6, 9, 10, 11, 12, 13, 14, 15, 16],
+        "[[0], [2]]",
+        "[6, 9, 10, 11, 12, 13, 14, 15, 16]",
     ),
     (
         IN_REDUCTION,
         r#"["program2",[["a",0,8],["sum",0,1]],[["group","+",[],[["group","+",[["sum",0,1]],[["for","i",0,8,[["task",[["red","+",["sum",0,1]],["in",["a","i",1]]],[["fold","+",["c","sum",0],["c","a","i"]]]]]]]]]],["if",["c","sum",0],[],[]]]]"#,
-        &[&[1, 2, 3, 4, 5, 6, 7, 8], &[0]],
-        &[8, 10, 12, 13, 14, 17],
+        "[[1, 2, 3, 4, 5, 6, 7, 8], [0]]",
+        "[8, 10, 12, 13, 14, 17]",
     ),
     (
         BLOCKED_WAVEFRONT,
         r#"["program2",[["m",0,16]],[["group","+",[],[["for","i",1,4,[["for","j",1,4,[["task",[["in",["m",["+",["*",["-","i",1],4],"j"],1]],["in",["m",["-",["+",["*","i",4],"j"],1],1]],["out",["m",["+",["*","i",4],"j"],1]]],[["set",["c","m",["+",["*","i",4],"j"]],["+",["c","m",["+",["*",["-","i",1],4],"j"]],["c","m",["-",["+",["*","i",4],"j"],1]]]]]]]]]]]],["if",["c","m",["-",["*",4,4],1]],[],[]]]]"#,
-        &[&[1, 0, 0, 0, 0, 0, 0, 0, 0, 0, 0, 0, 0, 0, 0, 0]],
-        &[7, 9, 10, 11, 12, 14],
+        "[[1, 0, 0, 0, 0, 0, 0, 0, 0, 0, 0, 0, 0, 0, 0, 0]]",
+        "[7, 9, 10, 11, 12, 14]",
     ),
     (
         PHASES,
         r#"["program2",[["a",0,16]],[["group","+",[],[["for","k",0,4,[["set",["c","a",["+",["*","k",4],"k"]],["+",["*",["c","a",["+",["*","k",4],"k"]],3],1]],["for","j",["+","k",1],4,[["task",[],[["fold","+",["c","a",["+",["*","k",4],"j"]],["c","a",["+",["*","k",4],"k"]]]]]]],["for","i",["+","k",1],4,[["task",[],[["fold","+",["c","a",["+",["*","i",4],"k"]],["c","a",["+",["*","k",4],"k"]]]]]]],["wait"],["for","i",["+","k",1],4,[["for","j",["+","k",1],4,[["task",[],[["fold","+",["c","a",["+",["*","i",4],"j"]],["*",["c","a",["+",["*","i",4],"k"]],["c","a",["+",["*","k",4],"j"]]]]]]]]]],["wait"]]]]],["if",["c","a",["-",["*",4,4],1]],[],[]]]]"#,
-        &[&[0, 0, 0, 0, 0, 0, 0, 0, 0, 0, 0, 0, 0, 0, 0, 0]],
-        &[7, 9, 10, 11, 12, 13, 15, 16, 17, 19, 20, 21, 22, 23, 25, 27],
+        "[[0, 0, 0, 0, 0, 0, 0, 0, 0, 0, 0, 0, 0, 0, 0, 0]]",
+        "[7, 9, 10, 11, 12, 13, 15, 16, 17, 19, 20, 21, 22, 23, 25, 27]",
     ),
 ];
 
@@ -51,29 +52,26 @@ const OUTSIDE: [(&str, Reason, usize, usize); 6] = [
     (SHARED_LOOP_VARIABLE, Reason::LoopVariable, 9, 9),
 ];
 
-fn are_cells(cells: &[Vec<u64>], wanted: &[&[u64]]) -> bool {
-    if cells.len() != wanted.len() {
-        return false;
-    }
-    for (cells, wanted) in cells.iter().zip(wanted) {
-        if cells.as_slice() != *wanted {
-            return false;
-        }
-    }
-    true
+/// Whether a text becomes this program, with these cells, at these lines.
+fn becomes(
+    alloc: Global,
+    text: &str,
+    program: &str,
+    cells: &str,
+    lines: &str,
+) -> Result<bool, AllocError> {
+    let Outcome::Program(made, found, places) = became(alloc, text) else {
+        return Ok(false);
+    };
+    let found = format!(in alloc; "{found:?}")?;
+    let places = format!(in alloc; "{places:?}")?;
+    Ok(made.as_str() == program && found.as_str() == cells && places.as_str() == lines)
 }
 
 fn other_program(alloc: Global) -> Option<&'static str> {
     for (text, program, cells, lines) in &PROGRAMS {
-        match became(alloc, text) {
-            Outcome::Program(made, found, places) => {
-                if made.as_str() != *program
-                    || !are_cells(&found, cells)
-                    || places.as_slice() != *lines
-                {
-                    return Some(*text);
-                }
-            }
+        match becomes(alloc, text, program, cells, lines) {
+            Ok(true) => {}
             _ => return Some(*text),
         }
     }
