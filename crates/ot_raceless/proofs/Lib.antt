@@ -1,0 +1,5 @@
+mod PlaceLemmas
+mod FitLemmas
+mod KnownLemmas
+mod StepLemmas
+mod WalkLemmas
