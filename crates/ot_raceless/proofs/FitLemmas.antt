@@ -1,16 +1,15 @@
 -- What children declare that were created without an offence, beside what their parent and its other children do with a cell.
 use Rattle.std.proofs.Common.{◌≡◌, Bool, true, false, not, ◌&&◌, ◌||◌, List, [], ◌∷◌, refl, sym, ap, subst, ◌∙◌, ◌⊎◌, inl, inr, true≢false}
-use Rattle.std.specs.Prelude.{if◌then◌else◌, Option, Some, None}
+use Rattle.std.specs.Prelude.{if◌then◌else◌, Some, None}
 use Rattle.std.specs.List.{list_any}
 use Rattle.ot_model.specs.Cells.{same_cell}
-use Rattle.ot_model.specs.Uses.{AreInOrder, mode_in, conflicts, depends_on, one_writes, same_fold}
+use Rattle.ot_model.specs.Uses.{conflicts, depends_on, one_writes, same_fold}
 use Rattle.ot_model.specs.declared.expr.Cell.{Cell}
 use Rattle.ot_model.specs.declared.fold.Fold.{Fold as Operation}
 use Rattle.ot_model.specs.declared.fold.Fold.TheVariants.{Plus, Times, And, Or, Xor, Min, Max}
 use Rattle.ot_model.specs.declared.stmt.Mode.{Mode}
 use Rattle.ot_model.specs.declared.stmt.Mode.TheVariants.{Reads, Writes, Folds}
 use Rattle.ot_model.specs.declared.stmt.Use.{Use}
-use Rattle.ot_model.proofs.DeclaredLemmas.{by_mode, any-by_mode}
 use Rattle.ot_model.proofs.EqualLemmas.{fold-decides}
 use Rattle.ot_check.specs.Paths.{use_as}
 use Rattle.ot_check.specs.Offences.{Declared, Openings, allows, covers, clashes, exceeds, misfits, misfits_as, folds_by, folds_to, has_cell, opened_by_any}
@@ -21,7 +20,7 @@ use Rattle.ot_race.specs.Events.{fold_as}
 use Rattle.ot_check.proofs.Bits.{or_true, and_left, and_right, and_true, and_false, or_none, or_false_left, or_false_right, not_true, not_false, any-more, any-same}
 use Rattle.ot_check.proofs.SameLemmas.{same_is, same_itself}
 use Rattle.ot_check.proofs.OpeningLemmas.{opened-by}
-use Rattle.ot_check.proofs.FoldLemmas.{both_false}
+use Rattle.ot_check.proofs.FoldLemmas.{both_false, fits-folds}
 use Rattle.ot_check.proofs.InsideLemmas.{Groups, groups_inside, group_free}
 
 -- ---- truth values and lists
@@ -108,45 +107,15 @@ clashes_of uses c one other allowed conflict =
     (λ d h. and_true (same_cell d.cell c) (conflicts d.mode other) (and_left (same_cell d.cell c) (covers d.mode one) h)
     (covers_left d.mode one other (and_right (same_cell d.cell c) (covers d.mode one) h) conflict)) allowed
 
--- each cell is declared once
-abbrev pub IsOnce : Declared → Type 0
-IsOnce None = Unit {0}
-IsOnce (Some uses) = AreInOrder uses
-
-once_in : (o p : Operation) (m : Option Mode) → by_mode (folds_by o) m ≡ true → by_mode (folds_by p) m ≡ true → o ≡ p
-once_in o p None h g = absurd (true≢false (sym h))
-once_in o p (Some Reads) h g = absurd (true≢false (sym h))
-once_in o p (Some Writes) h g = absurd (true≢false (sym h))
-once_in o p (Some (Folds q)) h g = sym ((fold-decides q o).0 h) ∙ (fold-decides q p).0 g
-
-fold_once : (own : Declared) (o p : Operation) (c : Cell) → IsOnce own → folds_to own o c ≡ true → folds_to own p c ≡ true → o ≡ p
-fold_once None o p c once h g = absurd (true≢false (sym h))
-fold_once (Some uses) o p c once h g =
-    once_in o p (mode_in uses c) (sym (any-by_mode (folds_by o) uses c once) ∙ h) (sym (any-by_mode (folds_by p) uses c once) ∙ g)
-
-alone_in : (o : Operation) (m : Option Mode) (wanted : Mode) → by_mode (folds_by o) m ≡ true → by_mode (λ d. covers d wanted) m ≡ true → covers (Folds o) wanted ≡ true
-alone_in o None wanted h g = absurd (true≢false (sym h))
-alone_in o (Some Reads) wanted h g = absurd (true≢false (sym h))
-alone_in o (Some Writes) wanted h g = absurd (true≢false (sym h))
-alone_in o (Some (Folds q)) wanted h g = subst (λ q. covers (Folds q) wanted ≡ true) ((fold-decides q o).0 h) g
-
-fold_alone : (own : Declared) (o : Operation) (c : Cell) (wanted : Mode) → IsOnce own → folds_to own o c ≡ true → allows own (use_as wanted c) ≡ true
-    → covers (Folds o) wanted ≡ true
-fold_alone None o c wanted once h g = absurd (true≢false (sym h))
-fold_alone (Some uses) o c wanted once h g =
-    alone_in o (mode_in uses c) wanted (sym (any-by_mode (folds_by o) uses c once) ∙ h) (sym (any-by_mode (λ d. covers d wanted) uses c once) ∙ g)
-
 -- ---- children
 
--- what a body declares, and the groups that are open in it: each cell is declared once, and named by groups of one operation,
--- and is declared as Writes then
+-- What a body declares, and the groups that are open in it: of the modes in which it has a cell only one is to fold, and then it
+-- is the only one; and a cell of an open group it declares as Writes, and no open group has it by another operation.
 pub record Setting (own : Declared) (opened : Openings) : Type 0 where
-  pub once : IsOnce own
+  pub agree : (o p : Operation) (c : Cell) → folds_to own o c ≡ true → folds_to own p c ≡ true → o ≡ p
+  pub alone : (o : Operation) (c : Cell) (wanted : Mode) → folds_to own o c ≡ true → allows own (use_as wanted c) ≡ true → covers (Folds o) wanted ≡ true
   pub groups : Groups own opened
   pub single : (o p : Operation) (c : Cell) → opened o c ≡ true → opened p c ≡ true → o ≡ p
-
-pub setting_of : (own : Declared) → IsOnce own → Setting own nothing_open
-setting_of own once = record { once = once; groups = λ o c h. absurd (true≢false (sym h)); single = λ o p c h g. absurd (true≢false (sym h)) }
 
 -- the creation of a child that declares this is no offence
 pub record Fits (own : Declared) (opened : Openings) (uses : List Use) : Type 0 where
@@ -227,30 +196,24 @@ fold_allowed own o c h = as_fold own o c (λ m. allows own (use_as m c) ≡ true
 
 -- ---- two children
 
-read_beside_fold : (own : Declared) (opened : Openings) (p : Operation) (c : Cell) → Setting own opened → exceeds own (use_as Reads c) ≡ false
-    → opened_by_any opened c ≡ false → (not (folds_to own p c) && not (opened p c)) ≡ false → ⊥
-read_beside_fold own opened p c s within shut fitting =
-    elim (both_false (folds_to own p c) (opened p c) fitting) [
-      | inl declared ↦ true≢false (sym (fold_alone own p c Reads s.once declared (not_false (allows own (use_as Reads c)) within)))
-      | inr grouped ↦ true≢false (sym (opened-by opened p c grouped) ∙ shut)
-    ]
+-- a child may fold to the cell by the operation: so may the body, or a group that is open in it has the cell
+abbrev MayFold : Declared → Openings → Operation → Cell → Type 0
+MayFold own opened o c = (folds_to own o c ≡ true) ⊎ (opened o c ≡ true)
 
-apart_in_group : (own : Declared) (opened : Openings) (o p : Operation) (c : Cell) → Setting own opened → folds_to own o c ≡ true → opened p c ≡ true → ⊥
-apart_in_group own opened o p c s declared grouped = true≢false (sym (fold_alone own o c Writes s.once declared (s.groups p c grouped)))
+-- the body, and each child, uses such a cell in no other mode
+fold_alone : (own : Declared) (opened : Openings) (o : Operation) (c : Cell) (m : Mode) → Setting own opened → covers (Folds o) m ≡ false
+    → MayFold own opened o c → allows own (use_as m c) ≡ true → opened_by_any opened c ≡ false → ⊥
+fold_alone own opened o c m s other (inl declared) allowed shut = true≢false (sym (s.alone o c m declared allowed) ∙ other)
+fold_alone own opened o c m s other (inr grouped) allowed shut = true≢false (sym (opened-by opened o c grouped) ∙ shut)
 
-folds_agree : (own : Declared) (opened : Openings) (o p : Operation) (c : Cell) → Setting own opened
-    → (not (folds_to own o c) && not (opened o c)) ≡ false → (not (folds_to own p c) && not (opened p c)) ≡ false → o ≡ p
-folds_agree own opened o p c s h g =
-    elim (both_false (folds_to own o c) (opened o c) h) [
-      | inl one ↦ elim (both_false (folds_to own p c) (opened p c) g) [
-        | inl other ↦ fold_once own o p c s.once one other
-        | inr grouped ↦ absurd (apart_in_group own opened o p c s one grouped)
-      ]
-      | inr grouped ↦ elim (both_false (folds_to own p c) (opened p c) g) [
-        | inl other ↦ absurd (apart_in_group own opened p o c s other grouped)
-        | inr both ↦ s.single o p c grouped both
-      ]
-    ]
+folds_agree : (own : Declared) (opened : Openings) (o p : Operation) (c : Cell) → Setting own opened → MayFold own opened o c → MayFold own opened p c → o ≡ p
+folds_agree own opened o p c s (inl one) (inl other) = s.agree o p c one other
+folds_agree own opened o p c s (inl one) (inr grouped) = absurd (true≢false (sym (s.alone o c Writes one (s.groups p c grouped))))
+folds_agree own opened o p c s (inr grouped) (inl other) = absurd (true≢false (sym (s.alone p c Writes other (s.groups o c grouped))))
+folds_agree own opened o p c s (inr grouped) (inr both) = s.single o p c grouped both
+
+may_fold : (own : Declared) (opened : Openings) (o : Operation) (c : Cell) → misfits_as (Folds o) own opened c ≡ false → MayFold own opened o c
+may_fold own opened o c fitting = both_false (folds_to own o c) (opened o c) fitting
 
 two_modes : (own : Declared) (opened : Openings) (c : Cell) (m n : Mode) → Setting own opened → one_writes m n ≡ false → conflicts m n ≡ true
     → exceeds own (use_as m c) ≡ false → misfits_as m own opened c ≡ false → exceeds own (use_as n c) ≡ false → misfits_as n own opened c ≡ false → ⊥
@@ -258,10 +221,12 @@ two_modes own opened c Writes n s independent conflict in_one one in_other other
 two_modes own opened c Reads Writes s independent conflict in_one one in_other other = true≢false independent
 two_modes own opened c (Folds o) Writes s independent conflict in_one one in_other other = true≢false independent
 two_modes own opened c Reads Reads s independent conflict in_one one in_other other = true≢false (sym conflict)
-two_modes own opened c Reads (Folds p) s independent conflict in_one one in_other other = read_beside_fold own opened p c s in_one one other
-two_modes own opened c (Folds o) Reads s independent conflict in_one one in_other other = read_beside_fold own opened o c s in_other other one
+two_modes own opened c Reads (Folds p) s independent conflict in_one one in_other other =
+    fold_alone own opened p c Reads s refl (may_fold own opened p c other) (not_false (allows own (use_as Reads c)) in_one) one
+two_modes own opened c (Folds o) Reads s independent conflict in_one one in_other other =
+    fold_alone own opened o c Reads s refl (may_fold own opened o c one) (not_false (allows own (use_as Reads c)) in_other) other
 two_modes own opened c (Folds o) (Folds p) s independent conflict in_one one in_other other =
-    true≢false (sym ((fold-decides o p).1 (folds_agree own opened o p c s one other)) ∙ not_true (same_fold o p) conflict)
+    true≢false (sym ((fold-decides o p).1 (folds_agree own opened o p c s (may_fold own opened o c one) (may_fold own opened p c other))) ∙ not_true (same_fold o p) conflict)
 
 -- children of which neither depends on the other aren't let use a cell in conflict
 pub siblings_agree : (own : Declared) (opened : Openings) → Setting own opened → (us vs : List Use) → Fits own opened us → Fits own opened vs
@@ -275,6 +240,40 @@ siblings_agree own opened s us vs fits fits_too independent c one other h g conf
     two_modes own opened c a.mode b.mode s (and_met (same_cell c c) (one_writes a.mode b.mode) (same_itself c) both)
     (covers_right b.mode other a.mode b.covered (covers_left a.mode one other a.covered conflict))
     (a.each (exceeds own) fits.within) (a.each (misfits own opened) fits.fitting) (b.each (exceeds own) fits_too.within) (b.each (misfits own opened) fits_too.fitting)
+
+-- ---- bodies
+
+-- a program's own body declares nothing
+pub root_setting : Setting None nothing_open
+root_setting = record {
+  agree = λ o p c h g. absurd (true≢false (sym h));
+  alone = λ o c wanted h g. absurd (true≢false (sym h));
+  groups = λ o c h. absurd (true≢false (sym h));
+  single = λ o p c h g. absurd (true≢false (sym h));
+}
+
+-- what a child may fold to it has in no other mode
+alone_in_child : (own : Declared) (opened : Openings) (o : Operation) (c : Cell) (m wanted : Mode) → Setting own opened → MayFold own opened o c
+    → covers m wanted ≡ true → exceeds own (use_as m c) ≡ false → misfits_as m own opened c ≡ false → covers (Folds o) wanted ≡ true
+alone_in_child own opened o c Reads wanted s may covered within fitting =
+    absurd (fold_alone own opened o c Reads s refl may (not_false (allows own (use_as Reads c)) within) fitting)
+alone_in_child own opened o c Writes wanted s may covered within fitting =
+    absurd (fold_alone own opened o c Writes s refl may (not_false (allows own (use_as Writes c)) within) fitting)
+alone_in_child own opened o c (Folds p) wanted s may covered within fitting =
+    subst (λ q. covers (Folds q) wanted ≡ true) (sym (folds_agree own opened o p c s may (may_fold own opened p c fitting))) covered
+
+-- so it is in the body of a child, where no group is open at first
+pub child_setting : (own : Declared) (opened : Openings) (uses : List Use) → Setting own opened → Fits own opened uses → Setting (Some uses) nothing_open
+child_setting own opened uses s fits = record {
+  agree = λ o p c h g.
+      folds_agree own opened o p c s (fits-folds own opened uses o c fits.fitting h) (fits-folds own opened uses p c fits.fitting g);
+  alone = λ o c wanted h g.
+      let a = allowed_by uses c wanted g in
+      alone_in_child own opened o c a.mode wanted s (fits-folds own opened uses o c fits.fitting h) a.covered (a.each (exceeds own) fits.within)
+      (a.each (misfits own opened) fits.fitting);
+  groups = λ o c h. absurd (true≢false (sym h));
+  single = λ o p c h g. absurd (true≢false (sym h));
+}
 
 -- ---- groups that begin
 
@@ -324,7 +323,8 @@ named_once own opened o p q cells c clean named grouped =
 pub setting_inside : (own : Declared) (opened : Openings) (o : Operation) (cells : List Cell) → Setting own opened
     → list_any (λ c. not (allows own (use_as Writes c)) || opened_by_any opened c) cells ≡ false → Setting own (with_group opened o cells)
 setting_inside own opened o cells s clean = record {
-  once = s.once;
+  agree = s.agree;
+  alone = s.alone;
   groups = groups_inside own opened o cells s.groups clean;
   single = λ p q c h g. elim (or_true (opened p c) (same_fold o p && has_cell cells c) h) [
     | inl one ↦ elim (or_true (opened q c) (same_fold o q && has_cell cells c) g) [

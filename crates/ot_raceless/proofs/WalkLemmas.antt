@@ -9,7 +9,6 @@ use Rattle.ot_model.specs.Tree.{E, S, Set, Fold, If, Task, Wait, Group, Body, En
 use Rattle.ot_model.specs.Value.{cells_named}
 use Rattle.ot_model.specs.Counts.{size, size_one}
 use Rattle.ot_model.specs.Serial.{State, bump, either}
-use Rattle.ot_model.specs.Uses.{AreInOrder}
 use Rattle.ot_model.specs.declared.expr.Cell.{Cell}
 use Rattle.ot_model.specs.declared.fold.Fold.{Fold as Operation}
 use Rattle.ot_model.specs.declared.stmt.Mode.{Mode}
@@ -17,7 +16,6 @@ use Rattle.ot_model.specs.declared.stmt.Mode.TheVariants.{Reads, Writes, Folds}
 use Rattle.ot_model.specs.declared.stmt.Use.{Use}
 use Rattle.ot_check.specs.Paths.{Touch, use_as, touches}
 use Rattle.ot_check.specs.Offences.{Declared, Openings, allows, awaits, clashes, opened_by_any}
-use Rattle.ot_check.specs.Touches.{EachTask, EachTaskOne}
 use Rattle.ot_check.specs.walk.Walk.{Children, anyone, nobody, nothing_open, behind, behind_one, through, through_one, with_group, may_break, is_marked, ends_with_children}
 use Rattle.ot_check.specs.walk.Fine.{IsClean, IsFineInside, IsFine, IsHarmless}
 use Rattle.ot_check.specs.declared.fault.Offence.{Offence}
@@ -31,9 +29,8 @@ use Rattle.ot_ways.specs.Verdicts.{NoWayRaces}
 use Rattle.ot_race.proofs.OrderLemmas.{some_is, before_trans}
 use Rattle.ot_check.proofs.Bits.{or_false_left, or_false_right, not_false, any-map, true_or, or_right}
 use Rattle.ot_check.proofs.OffenceLemmas.{is_offence-ChildBeyond, is_offence-ReductionMisuse, is_offence-Group}
-use Rattle.ot_raceless.specs.Laws.{DeclareInOrder}
 use Rattle.ot_raceless.proofs.PlaceLemmas.{StandsAt, stands_first, stands_rest, stands_left, stands_right, end_of_both, end_of_more, either_of}
-use Rattle.ot_raceless.proofs.FitLemmas.{and_met, Setting, setting_of, Fits, IsFree, free_from, free_fold, fold_allowed, fits_inside, setting_inside}
+use Rattle.ot_raceless.proofs.FitLemmas.{and_met, Setting, root_setting, child_setting, Fits, IsFree, free_from, free_fold, fold_allowed, fits_inside, setting_inside}
 use Rattle.ot_raceless.proofs.KnownLemmas.{AreGathered, Goes, goes_nowhere, goes_on, goes_with_more}
 use Rattle.ot_raceless.proofs.StepLemmas.{knows_itself, UsesNothing, IsWait, goes_touch, goes_wait, goes_task, goes_group}
 
@@ -280,18 +277,18 @@ entered es me own opened children o cells from n free gathered = λ i low below.
 
 mutual
   goes_one : (es : List Event) (condition : State → E → ℕ) (own : Declared) (me k : ℕ) (x : S) (s : State) (opened : Openings) (children : Children)
-      (from n : ℕ) → Setting own opened → EachTaskOne (λ uses b. AreInOrder uses) x → IsClean own opened children x → IsFineInside own opened children x
+      (from n : ℕ) → Setting own opened → IsClean own opened children x → IsFineInside own opened children x
       → StandsAt es n (events_one (way_by condition) own me k x s) → AreGathered es me own opened children from n
       → Goes es me own opened (behind_one children x) from n (n + length (events_one (way_by condition) own me k x s))
-  goes_one es condition own me k (Set c e) s opened children from n setting order clean fine stands gathered =
+  goes_one es condition own me k (Set c e) s opened children from n setting clean fine stands gathered =
       let it = event me k Touches (uses_by (way_by condition) own s (Set c e)) in
       goes_using es me own opened children from n it gathered (stands_first es n it [] stands) refl
       (λ u there. may_use own opened children u
       (harmless own opened children (touches (Set c e)) u (λ offence. or_false_left (is_marked own opened children (Set c e) offence) (ends_with_children (Set c e) offence) (clean offence)) there))
-  goes_one es condition own me k (Fold o c e) s opened children from n setting order clean fine stands gathered =
+  goes_one es condition own me k (Fold o c e) s opened children from n setting clean fine stands gathered =
       let it = event me k Touches (uses_by (way_by condition) own s (Fold o c e)) in
       goes_using es me own opened children from n it gathered (stands_first es n it [] stands) refl (may_fold own opened children o c e clean)
-  goes_one es condition own me k (If e a b) s opened children from n setting order clean fine stands gathered =
+  goes_one es condition own me k (If e a b) s opened children from n setting clean fine stands gathered =
       let way = way_by condition in
       let it = event me k Touches (uses_by way own s (If e a b)) in
       let one = events way own me (k + 1) a (bump 0 1 s) in
@@ -304,14 +301,14 @@ mutual
       (condition s e) one two
       (λ at. goes_with_more es me own opened (behind children a) (behind_one children (If e a b)) from (n + 1) (n + 1 + length one)
       (λ uses among test passes. true_or (behind children a test) (behind children b test) (among test passes))
-      (goes es condition own me (k + 1) a (bump 0 1 s) opened children from (n + 1) setting order.0 fine.0 at test.gathered))
+      (goes es condition own me (k + 1) a (bump 0 1 s) opened children from (n + 1) setting fine.0 at test.gathered))
       (λ at. goes_with_more es me own opened (behind children b) (behind_one children (If e a b)) from (n + 1) (n + 1 + length two)
       (λ uses among test passes. or_right (behind children a test) (behind children b test) (among test passes))
-      (goes es condition own me (k + 1 + size a) b (bump 0 1 s) opened children from (n + 1) setting order.1 fine.1 at test.gathered))
+      (goes es condition own me (k + 1 + size a) b (bump 0 1 s) opened children from (n + 1) setting fine.1 at test.gathered))
       (stands_rest es n it part stands) in
       subst (Goes es me own opened (behind_one children (If e a b)) from n) (end_of_more n it part)
       (goes_on es me own opened children (behind_one children (If e a b)) from n (n + 1) (n + 1 + length part) test branch)
-  goes_one es condition own me k (Task d b) s opened children from n setting order clean fine stands gathered =
+  goes_one es condition own me k (Task d b) s opened children from n setting clean fine stands gathered =
       let way = way_by condition in
       let child = s.tasks + 1 in
       let begins = event child k (Begins me d) [] in
@@ -323,7 +320,7 @@ mutual
         within = sym (is_offence-ChildBeyond own opened children d b) ∙ clean ChildBeyond;
         fitting = sym (is_offence-ReductionMisuse own opened children d b) ∙ clean ReductionMisuse;
       } in
-      let inner = goes es condition (Some d) child (k + 1) b (bump 1 1 s) nothing_open nobody n (n + 1) (setting_of (Some d) order.0) order.1 fine rest
+      let inner = goes es condition (Some d) child (k + 1) b (bump 1 1 s) nothing_open nobody n (n + 1) (child_setting own opened d setting fits) fine rest
       (begun_known es child n (Some d) nothing_open nobody (is_by es n begins at)) in
       subst (Goes es me own opened (behind_one children (Task d b)) from n) (end_of_more n begins part)
       (goes_task es me child own opened children d b from n (n + 1 + length part) setting fits
@@ -331,11 +328,11 @@ mutual
       (nothing_used es n begins at refl)
       (λ j later below. begun es way (Some d) child (k + 1) b (bump 1 1 s) (n + 1) n rest (is_by es n begins at) (omega arith) j (omega (arith, later)) below)
       (omega arith) inner)
-  goes_one es condition own me k (Wait w) s opened children from n setting order clean fine stands gathered =
+  goes_one es condition own me k (Wait w) s opened children from n setting clean fine stands gathered =
       let it = event me k (Awaits w) [] in
       let at = stands_first es n it [] stands in
       goes_wait es me own opened children w from n gathered (record { it = it; there = at; done_by = refl; does = refl }) (nothing_used es n it at refl)
-  goes_one es condition own me k (Group o cs b) s opened children from n setting order clean fine stands gathered =
+  goes_one es condition own me k (Group o cs b) s opened children from n setting clean fine stands gathered =
       let way = way_by condition in
       let inside = events way own me (k + 1) b (bump 0 1 s) in
       let leaves = event me k (Leaves (length inside)) (map (use_as Writes) cs) in
@@ -343,7 +340,7 @@ mutual
       let at = stands_first es (n + length inside) leaves [] (stands_right es n inside (leaves ∷ []) stands) in
       let free = sym (is_offence-Group own opened children o cs b ConflictsWithChild) ∙ clean ConflictsWithChild in
       let may = sym (is_offence-Group own opened children o cs b ReductionMisuse) ∙ clean ReductionMisuse in
-      let inner = goes es condition own me (k + 1) b (bump 0 1 s) (with_group opened o cs) children from n (setting_inside own opened o cs setting may) order fine
+      let inner = goes es condition own me (k + 1) b (bump 0 1 s) (with_group opened o cs) children from n (setting_inside own opened o cs setting may) fine
       at_inside (entered es me own opened children o cs from n free gathered) in
       let both = end_of_both n inside (leaves ∷ []) in
       let end : n + length inside + 1 ≡ n + length (inside ++ leaves ∷ []) = omega (arith, both) in
@@ -354,28 +351,28 @@ mutual
       (λ uses h. waits es way own me (k + 1) b (bump 0 1 s) n uses at_inside h))
 
   goes : (es : List Event) (condition : State → E → ℕ) (own : Declared) (me k : ℕ) (b : Body) (s : State) (opened : Openings) (children : Children)
-      (from n : ℕ) → Setting own opened → EachTask (λ uses b. AreInOrder uses) b → IsFine own opened children b
+      (from n : ℕ) → Setting own opened → IsFine own opened children b
       → StandsAt es n (events (way_by condition) own me k b s) → AreGathered es me own opened children from n
       → Goes es me own opened (behind children b) from n (n + length (events (way_by condition) own me k b s))
-  goes es condition own me k End s opened children from n setting order fine stands gathered =
+  goes es condition own me k End s opened children from n setting fine stands gathered =
       let same : n ≡ n + 0 = omega arith in
       subst (Goes es me own opened children from n) same (goes_nowhere es me own opened children from n gathered)
-  goes es condition own me k (Next x rest) s opened children from n setting order fine stands gathered =
+  goes es condition own me k (Next x rest) s opened children from n setting fine stands gathered =
       let way = way_by condition in
       let one = events_one way own me k x s in
       let later = events way own me (k + size_one x) rest (after_one way x s) in
-      let first = goes_one es condition own me k x s opened children from n setting order.0 fine.0 fine.1 (stands_left es n one later stands) gathered in
-      let next = goes es condition own me (k + size_one x) rest (after_one way x s) opened (behind_one children x) from (n + length one) setting order.1 fine.2
+      let first = goes_one es condition own me k x s opened children from n setting fine.0 fine.1 (stands_left es n one later stands) gathered in
+      let next = goes es condition own me (k + size_one x) rest (after_one way x s) opened (behind_one children x) from (n + length one) setting fine.2
       (stands_right es n one later stands) first.gathered in
       subst (Goes es me own opened (behind children (Next x rest)) from n) (end_of_both n one later)
       (goes_on es me own opened (behind_one children x) (behind children (Next x rest)) from n (n + length one) (n + length one + length later) first next)
 
 -- a body that is fine races on no way
-pub fine_races_on_no_way : (body : Body) → DeclareInOrder body → IsFine None nothing_open nobody body → NoWayRaces body
-fine_races_on_no_way body order fine = λ condition cells cell i j race.
+pub fine_races_on_no_way : (body : Body) → IsFine None nothing_open nobody body → NoWayRaces body
+fine_races_on_no_way body fine = λ condition cells cell i j race.
     let es = events_of (way_by condition) body cells in
     let whole : StandsAt es 0 es = λ k e is. let at : k ≡ 0 + k = omega arith in subst (λ n. slice_get es n ≡ Some e) at is in
-    let all = goes es condition None 0 1 body (beginning cells) nothing_open nobody 0 0 (setting_of None tt) order fine whole
+    let all = goes es condition None 0 1 body (beginning cells) nothing_open nobody 0 0 root_setting fine whole
     (λ k low below. absurd (omega (arith, below))) in
     let within : j < length es = slice_get_within es j race.second.it race.second.there in
     race.unordered (all.ordered i j (omega arith) race.order (omega arith) (omega (arith, within)) cell race.one race.other race.first race.second race.conflict)
