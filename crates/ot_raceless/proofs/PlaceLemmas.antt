@@ -1,18 +1,14 @@
 -- Parts of a list of events, by their places in the whole.
-use Rattle.std.proofs.Common.{◌≡◌, ℕ, zero, suc, ◌+◌, Bool, true, false, List, [], ◌∷◌, ◌++◌, length, refl, subst, arith}
+use Rattle.std.proofs.Common.{◌≡◌, ℕ, suc, ◌+◌, Bool, true, false, List, [], ◌∷◌, ◌++◌, length, refl, subst, arith}
 use Rattle.std.specs.Prelude.{◌==◌, if◌then◌else◌, Some, slice_get}
 use Rattle.std.proofs.lemmas.List.{length-append}
 use Rattle.ot_model.specs.Serial.{either}
+use Rattle.ot_check.proofs.SetLemmas.{slice_get-more}
 use Rattle.ot_race.specs.Events.{Event}
 
 -- the part stands in the whole, from place n on
 abbrev pub StandsAt : List Event → ℕ → List Event → Type 0
 StandsAt es n part = (i : ℕ) (e : Event) → slice_get part i ≡ Some e → slice_get es (n + i) ≡ Some e
-
-at_left : (xs ys : List Event) (i : ℕ) (e : Event) → slice_get xs i ≡ Some e → slice_get (xs ++ ys) i ≡ Some e
-at_left [] ys i e is = cc
-at_left (x ∷ xs) ys zero e is = is
-at_left (x ∷ xs) ys (suc i) e is = at_left xs ys i e is
 
 at_right : (xs ys : List Event) (i : ℕ) (e : Event) → slice_get ys i ≡ Some e → slice_get (xs ++ ys) (length xs + i) ≡ Some e
 at_right [] ys i e is = let at : i ≡ 0 + i = omega arith in subst (λ k. slice_get ys k ≡ Some e) at is
@@ -27,7 +23,7 @@ pub stands_rest : (es : List Event) (n : ℕ) (e : Event) (part : List Event) �
 stands_rest es n e part h = λ i x is. let at : n + suc i ≡ n + 1 + i = omega arith in subst (λ k. slice_get es k ≡ Some x) at (h (suc i) x is)
 
 pub stands_left : (es : List Event) (n : ℕ) (xs ys : List Event) → StandsAt es n (xs ++ ys) → StandsAt es n xs
-stands_left es n xs ys h = λ i e is. h i e (at_left xs ys i e is)
+stands_left es n xs ys h = λ i e is. h i e (slice_get-more xs ys i e is)
 
 pub stands_right : (es : List Event) (n : ℕ) (xs ys : List Event) → StandsAt es n (xs ++ ys) → StandsAt es (n + length xs) ys
 stands_right es n xs ys h = λ i e is.

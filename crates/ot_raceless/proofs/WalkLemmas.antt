@@ -1,8 +1,8 @@
 -- How a task goes over its body, on any way, where nothing in the body is an offence.
-use Rattle.std.proofs.Common.{◌≡◌, ℕ, zero, suc, ◌+◌, ◌<◌, ◌≤◌, Bool, true, false, not, ◌||◌, List, [], ◌∷◌, ◌++◌, length, map, ◌⊎◌, inl, inr, refl, sym, subst, ◌∙◌, true≢false, arith}
+use Rattle.std.proofs.Common.{◌≡◌, ℕ, zero, suc, ◌+◌, ◌<◌, ◌≤◌, Bool, true, false, not, ◌||◌, List, [], ◌∷◌, ◌++◌, length, map, inl, inr, refl, sym, subst, ◌∙◌, true≢false, arith}
 use Rattle.std.specs.Prelude.{Some, None, Contains, slice_get}
 use Rattle.std.specs.List.{list_any}
-use Rattle.std.proofs.lemmas.Bool.{cases_lt}
+use Rattle.std.proofs.lemmas.Bool.{cases_Bool, cases_lt}
 use Rattle.std.proofs.lemmas.List.Elements.{Contains-append_left, Contains-append_right, Contains-append_cases}
 use Rattle.std.proofs.lemmas.Option.{slice_get_within}
 use Rattle.ot_model.specs.Tree.{E, S, Set, Fold, If, Task, Wait, Group, Body, End, Next}
@@ -26,7 +26,7 @@ use Rattle.ot_race.specs.Races.{IsUsed}
 use Rattle.ot_race.specs.Standings.{IsKnownTo}
 use Rattle.ot_ways.specs.Ways.{way_by}
 use Rattle.ot_ways.specs.Verdicts.{NoWayRaces}
-use Rattle.ot_race.proofs.OrderLemmas.{some_is, before_trans}
+use Rattle.ot_race.proofs.OrderLemmas.{some_is, is_by, before_trans}
 use Rattle.ot_check.proofs.Bits.{or_false_left, or_false_right, not_false, any-map, true_or, or_right}
 use Rattle.ot_check.proofs.OffenceLemmas.{is_offence-ChildBeyond, is_offence-ReductionMisuse, is_offence-Group}
 use Rattle.ot_raceless.proofs.PlaceLemmas.{StandsAt, stands_first, stands_rest, stands_left, stands_right, end_of_both, end_of_more, either_of}
@@ -35,9 +35,6 @@ use Rattle.ot_raceless.proofs.KnownLemmas.{AreGathered, Goes, goes_nowhere, goes
 use Rattle.ot_raceless.proofs.StepLemmas.{knows_itself, UsesNothing, IsWait, goes_touch, goes_wait, goes_task, goes_group}
 
 -- ---- events at their places
-
-is_by : (es : List Event) (n : ℕ) (e : Event) → slice_get es n ≡ Some e → IsBy es e.task n
-is_by es n e at = record { it = e; there = at; done_by = refl }
 
 what_is_used : (es : List Event) (n : ℕ) (e : Event) (c : Cell) (mode : Mode) → slice_get es n ≡ Some e → IsUsed es c mode n → Contains e.uses (use_as mode c)
 what_is_used es n e c mode at used = subst (λ (x : Event). Contains x.uses (use_as mode c)) (some_is used.it e (sym used.there ∙ at)) used.uses
@@ -117,10 +114,6 @@ mutual
 
 -- ---- waits
 
-true_or_false : (b : Bool) → (b ≡ true) ⊎ (b ≡ false)
-true_or_false true = inl refl
-true_or_false false = inr refl
-
 wait_within : (es : List Event) (me : ℕ) (uses : List Use) (n m from until : ℕ) → from ≤ n → m ≤ until → IsWait es me uses n m → IsWait es me uses from until
 wait_within es me uses n m from until low high w = record {
   at = w.at;
@@ -169,7 +162,7 @@ mutual
       let one = events_one way own me k x s in
       let later = events way own me (k + size_one x) rest (after_one way x s) in
       let both = end_of_both n one later in
-      elim (true_or_false (through_one uses x)) [
+      elim (cases_Bool (through_one uses x)) [
         | inl past ↦
             wait_within es me uses (n + length one) (n + length one + length later) n (n + length (one ++ later)) (omega arith) (omega (arith, both))
             (waits es way own me (k + size_one x) rest (after_one way x s) (n + length one) uses (stands_right es n one later stands)
