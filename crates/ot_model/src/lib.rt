@@ -19,4 +19,4 @@ pub use fold::{Fold, Monoid};
 pub use plain::{Counts, plain_run};
 pub use program::Program;
 pub use shape::{ArrayShape, Shape};
-pub use stmt::{Decl, Mode, Stmt, Use, copy_stmts, same_stmts};
+pub use stmt::{Decl, Mode, Stmt, Use, same_stmts};

@@ -6,6 +6,25 @@ impl Op {
     ghost use Rattle.std.specs.Prelude.{◌≡◌};
     ghost use Rattle.ot_model.specs.Signs as written;
 
+    /// The operation that has this word in a program: `=`, or `min`.
+    pub fn of_word(text: &str) -> Option<Op>
+        ensures { result ≡ written.op_with text.now }
+    {
+        match text {
+            "+" => Some(Op::Plus),
+            "-" => Some(Op::Minus),
+            "*" => Some(Op::Times),
+            "&" => Some(Op::And),
+            "|" => Some(Op::Or),
+            "^" => Some(Op::Xor),
+            "<" => Some(Op::Less),
+            "=" => Some(Op::Equal),
+            "min" => Some(Op::Min),
+            "max" => Some(Op::Max),
+            _ => None,
+        }
+    }
+
     /// Whether it is written as a function: `min` and `max` are.
     pub fn is_call(self) -> bool
         ensures { result ≡ written.is_call self }
@@ -35,6 +54,22 @@ impl Op {
 impl Fold {
     ghost use Rattle.std.specs.Prelude.{◌≡◌};
     ghost use Rattle.ot_model.specs.Signs as written;
+
+    /// The operation of folds that is called so in a clause: `+`, or `min`.
+    pub fn of_identifier(text: &str) -> Option<Fold>
+        ensures { result ≡ written.fold_with text.now }
+    {
+        match text {
+            "+" => Some(Fold::Plus),
+            "*" => Some(Fold::Times),
+            "&" => Some(Fold::And),
+            "|" => Some(Fold::Or),
+            "^" => Some(Fold::Xor),
+            "min" => Some(Fold::Min),
+            "max" => Some(Fold::Max),
+            _ => None,
+        }
+    }
 
     /// Whether a fold by it is written as a function: those by `min` and `max` are.
     pub fn is_call(self) -> bool

@@ -223,7 +223,7 @@ impl Stmt {
 
 /// The same statements once more.
 #[cycle(copy)]
-pub fn copy_stmts(alloc: Global, stmts: &[Stmt]) -> Result<Vec<Stmt>, AllocError>
+pub(crate) fn copy_stmts(alloc: Global, stmts: &[Stmt]) -> Result<Vec<Stmt>, AllocError>
     ensures { IfOk result (λ copies. map stmt_of copies.items ≡ map stmt_of stmts.now) }
 {
     let mut copies = Vec::with_capacity(alloc, stmts.len())?;

@@ -7,7 +7,6 @@ use Rattle.ot_parts.proofs.part.Part.TheLaws.TheKnot.{both_send-Part, both_sync-
 use Rattle.ot_parts.specs.contracts.assigns.Assigns as assigns
 use Rattle.ot_parts.specs.contracts.frames.Frame as frame
 use Rattle.ot_parts.specs.contracts.frames.Frames as frames
-use Rattle.ot_parts.specs.contracts.leading.Leading as leading
 use Rattle.ot_parts.specs.contracts.part.Part as part
 use Rattle.ot_parts.specs.contracts.rest.Rest as rest
 use Rattle.ot_parts.specs.contracts.rest.Rest.TheInside as inside
@@ -51,6 +50,3 @@ inside-send =
 
 pub rest-send : IsSend rest.the_row
 rest-send = record { owned = λ d vs x. (inside-send.owned x.0 vs, tt); leaving = λ k d w. tt }
-
-pub leading-send : IsSend leading.the_row
-leading-send = search (sendable, crosses, send-Expr, sync-Expr) depth 80 fits 20000
