@@ -345,18 +345,9 @@ fn is_operation(tag: &Value) -> bool
     ensures { result ≡ is_some (op_of (view tag.now)) }
 {
     match tag {
-        Value::String(text) => is_operation_named(text.as_str()),
+        Value::String(text) => Op::of_word(text.as_str()).is_some(),
         _ => false,
     }
-}
-
-fn is_operation_named(text: &str) -> bool
-    ensures { result ≡ is_some (op_of (string text.now)) }
-{
-    matches!(
-        text,
-        "+" | "-" | "*" | "&" | "|" | "^" | "<" | "=" | "min" | "max"
-    )
 }
 
 /// The depth of a size.

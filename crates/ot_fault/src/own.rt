@@ -1,6 +1,6 @@
 //! The own parts of a statement: the first fault of them, and what they count.
 ghost use Rattle.std.specs.Prelude.{◌≡◌, ℕ, ◌++◌, length, is_some, map, flat_map};
-ghost use Rattle.serde_json.specs.Data.{string, array};
+ghost use Rattle.serde_json.specs.Data.{array};
 ghost use Rattle.serde_json.specs.View.{view, items_view};
 ghost use Rattle.ot_program.specs.Copies.{IfText, ForText, TaskText};
 ghost use Rattle.ot_program.specs.Limits.{cells_in, own_tally, with_value};
@@ -13,6 +13,7 @@ ghost use Rattle.ot_fault.specs.Counting.{counts_of, counts_with};
 
 use crate::look::{Look, Measure};
 use crate::why::{First, Wanted, Why};
+use ot_model::Fold;
 use ot_place::{Profile, Text, size_of};
 use ot_program::is_word;
 use serde_json::Value;
@@ -531,13 +532,7 @@ fn is_fold(op: &Value) -> bool
     ensures { result ≡ is_some (fold_of (view op.now)) }
 {
     match op {
-        Value::String(text) => is_fold_named(text.as_str()),
+        Value::String(text) => Fold::of_identifier(text.as_str()).is_some(),
         _ => false,
     }
-}
-
-fn is_fold_named(text: &str) -> bool
-    ensures { result ≡ is_some (fold_of (string text.now)) }
-{
-    matches!(text, "+" | "*" | "&" | "|" | "^" | "min" | "max")
 }

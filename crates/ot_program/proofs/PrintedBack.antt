@@ -4,6 +4,7 @@ use Rattle.std.specs.Prelude.{flat_map}
 use Rattle.std.proofs.lemmas.Bool.{lt-ltb}
 use Rattle.serde_json.specs.Data.{string, array}
 use Rattle.ot_model.specs.Shapes.{Arrays}
+use Rattle.ot_model.specs.Signs.{identifier}
 use Rattle.ot_model.specs.Tree.{E, Literal, CellAt, Apply, PickFrom, S, Set, Fold, If, Task, Wait, Group, Body, End, Next, body_of}
 use Rattle.ot_model.specs.declared.expr.Cell.{Cell}
 use Rattle.ot_model.specs.declared.expr.Section.{Section}
@@ -18,7 +19,7 @@ use Rattle.ot_program.specs.declared.profile.Profile.{Profile}
 use Rattle.ot_program.specs.declared.profile.Profile.TheVariants.{One, Two}
 use Rattle.ot_program.specs.Copies.{copies, copy, statement_of, statements_of}
 use Rattle.ot_program.specs.Meanings.{each, fold_of, Bindings, size, Clause, cell, section, value, clause, wait_clause}
-use Rattle.ot_program.specs.Printed.{IsFound, fold_word, num, cell_text, section_text, value_text, alone, cells_text, clause_text, uses_text, statement_text, body_text, IsCell, IsValue, AreCells, as_clause, IsModeOf, AreUsesOf, IsWaitMode, AreWaitUses, IsStatement, IsBody}
+use Rattle.ot_program.specs.Printed.{IsFound, num, cell_text, section_text, value_text, alone, cells_text, clause_text, uses_text, statement_text, body_text, IsCell, IsValue, AreCells, as_clause, IsModeOf, AreUsesOf, IsWaitMode, AreWaitUses, IsStatement, IsBody}
 
 pub size_back : (variables : Bindings) (n : ℕ) → n < 2 ^ 64 → size variables (num n) ≡ n
 unfolding size
@@ -61,7 +62,7 @@ pub cells_back : (shape : Arrays) (variables : Bindings) (cs : List Cell) → Ar
     → flat_map cells_of (map (section shape variables) (each (cells_text shape cs))) ≡ cs
 cells_back shape variables cs h = ap (flat_map cells_of) (sections_back shape variables cs h) ∙ alone_cells cs
 
-pub fold_back : (op : Operation) → fold_of (string (fold_word op)) ≡ Some op
+pub fold_back : (op : Operation) → fold_of (string (identifier op)) ≡ Some op
 fold_back by.Plus = refl
 fold_back by.Times = refl
 fold_back by.And = refl

@@ -10,6 +10,7 @@ use Rattle.serde_json.specs.Data.{string}
 use Rattle.ot_model.specs.Cells.{same_cell}
 use Rattle.ot_model.specs.Names.{IsInShape, FitsShape, ValueNamedIn}
 use Rattle.ot_model.specs.Shapes.{Arrays, array_lengths}
+use Rattle.ot_model.specs.Signs.{identifier}
 use Rattle.ot_model.specs.Tree.{E, Literal, CellAt, Apply, PickFrom}
 use Rattle.ot_model.specs.Uses.{is_fold, same_mode}
 use Rattle.ot_model.specs.declared.expr.Cell.{Cell}
@@ -27,7 +28,7 @@ use Rattle.ot_program.specs.Faults.{array_faults, size_faults, section_faults, c
 use Rattle.ot_program.specs.Limits.{max_depth, size_depth, depth_of}
 use Rattle.ot_program.specs.Meanings.{each, Bindings, is_called, length_of, Clause}
 use Rattle.ot_program.specs.Names.{is_name}
-use Rattle.ot_program.specs.Printed.{IsFound, AreNamed, num, name_at, cell_text, section_text, value_text, alone, cells_text, sections_text, fold_word, clause_text, uses_text, as_clause, IsCell, IsValue, AreCells, IsModeOf, AreUsesOf, IsWaitMode, AreWaitUses}
+use Rattle.ot_program.specs.Printed.{IsFound, AreNamed, num, name_at, cell_text, section_text, value_text, alone, cells_text, sections_text, clause_text, uses_text, as_clause, IsCell, IsValue, AreCells, IsModeOf, AreUsesOf, IsWaitMode, AreWaitUses}
 use Rattle.ot_program.proofs.PrintedBack.{size_back, value_back, fold_back}
 
 -- ---- names of arrays
@@ -154,7 +155,7 @@ expression_clean shape named variables e h k low =
 
 -- ---- clauses
 
-pub fold_clean : (op : Operation) → fold_faults (string (fold_word op)) ≡ []
+pub fold_clean : (op : Operation) → fold_faults (string (identifier op)) ≡ []
 fold_clean op = rw (fold_back op) refl
 
 clause_clean : (shape : Arrays) → AreNamed shape.arrays → (profile : Profile) (variables : Bindings) (c : Cell) (m : Mode) → IsCell shape c

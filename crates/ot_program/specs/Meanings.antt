@@ -4,10 +4,11 @@ use Rattle.std.specs.Prelude.{ℕ, Bool, bytes_eq, nat_lt, nat_le, ◌+◌, ◌-
 use Rattle.std.specs.List.{position_or_len}
 use Rattle.serde_json.specs.Data.{Data, number, string, array, Items, no_items, item}
 use Rattle.ot_model.specs.Shapes.{Arrays}
+use Rattle.ot_model.specs.Signs.{word, operations, identifier, folds}
 use Rattle.ot_model.specs.Tree.{E, Literal, CellAt, Apply, PickFrom}
 use Rattle.ot_model.specs.declared.expr.Cell.{Cell}
 use Rattle.ot_model.specs.declared.expr.Op.{Op}
-use Rattle.ot_model.specs.declared.expr.Op.TheVariants.{Plus, Minus, Times, And, Or, Xor, Less, Equal, Min, Max}
+use Rattle.ot_model.specs.declared.expr.Op.TheVariants.{Plus, Minus, Times}
 use Rattle.ot_model.specs.declared.expr.Section.{Section}
 use Rattle.ot_model.specs.declared.fold.Fold.{Fold}
 use Rattle.ot_model.specs.declared.fold.Fold.TheVariants as by
@@ -30,35 +31,15 @@ items _ = []
 
 -- an operation of sizes
 abbrev pub sign_of : Data → Option Op
-sign_of t =
-    if is_word t (codes "+") then Some Plus else
-    (if is_word t (codes "-") then Some Minus else
-    (if is_word t (codes "*") then Some Times else None))
+sign_of t = find (λ op. is_word t (word op)) (Plus ∷ Minus ∷ Times ∷ [])
 
 -- an operation of values
 abbrev pub op_of : Data → Option Op
-op_of t =
-    if is_word t (codes "+") then Some Plus else
-    (if is_word t (codes "-") then Some Minus else
-    (if is_word t (codes "*") then Some Times else
-    (if is_word t (codes "&") then Some And else
-    (if is_word t (codes "|") then Some Or else
-    (if is_word t (codes "^") then Some Xor else
-    (if is_word t (codes "<") then Some Less else
-    (if is_word t (codes "=") then Some Equal else
-    (if is_word t (codes "min") then Some Min else
-    (if is_word t (codes "max") then Some Max else None)))))))))
+op_of t = find (λ op. is_word t (word op)) operations
 
 -- an operation of folds and reductions (OpenMP API 5.2, section 5.5.3)
 abbrev pub fold_of : Data → Option Fold
-fold_of t =
-    if is_word t (codes "+") then Some by.Plus else
-    (if is_word t (codes "*") then Some by.Times else
-    (if is_word t (codes "&") then Some by.And else
-    (if is_word t (codes "|") then Some by.Or else
-    (if is_word t (codes "^") then Some by.Xor else
-    (if is_word t (codes "min") then Some by.Min else
-    (if is_word t (codes "max") then Some by.Max else None))))))
+fold_of t = find (λ op. is_word t (identifier op)) folds
 
 abbrev pub operation : Data → Fold
 operation t = unwrap_or (fold_of t) by.Plus

@@ -4,11 +4,10 @@ use Rattle.serde_json.specs.Data.{Data, number, string, array, Items, no_items, 
 use Rattle.ot_model.specs.Counts.{size, tasks_in}
 use Rattle.ot_model.specs.Names.{FitsShape, NamedIn}
 use Rattle.ot_model.specs.Shapes.{Arrays, AreShort, array_lengths}
+use Rattle.ot_model.specs.Signs.{word, identifier}
 use Rattle.ot_model.specs.Tree.{E, Literal, CellAt, Apply, PickFrom, S, Set, Fold, If, Task, Wait, Group, Body, End, Next, body_of}
 use Rattle.ot_model.specs.declared.expr.Cell.{Cell}
 use Rattle.ot_model.specs.declared.expr.Section.{Section}
-use Rattle.ot_model.specs.declared.expr.Op.{Op}
-use Rattle.ot_model.specs.declared.expr.Op.TheVariants.{Plus, Minus, Times, And, Or, Xor, Less, Equal, Min, Max}
 use Rattle.ot_model.specs.declared.fold.Fold.{Fold as Operation}
 use Rattle.ot_model.specs.declared.fold.Fold.TheVariants as by
 use Rattle.ot_model.specs.declared.stmt.Mode.{Mode}
@@ -38,27 +37,6 @@ four a b c d = item a (three b c d)
 abbrev pub num : ℕ → Data
 num n = number (unsigned n)
 
-abbrev pub word : Op → List ℕ
-word Plus = codes "+"
-word Minus = codes "-"
-word Times = codes "*"
-word And = codes "&"
-word Or = codes "|"
-word Xor = codes "^"
-word Less = codes "<"
-word Equal = codes "="
-word Min = codes "min"
-word Max = codes "max"
-
-abbrev pub fold_word : Operation → List ℕ
-fold_word by.Plus = codes "+"
-fold_word by.Times = codes "*"
-fold_word by.And = codes "&"
-fold_word by.Or = codes "|"
-fold_word by.Xor = codes "^"
-fold_word by.Min = codes "min"
-fold_word by.Max = codes "max"
-
 abbrev pub name_at : Arrays → ℕ → Data
 name_at shape i = string (unwrap_or (option_map (λ a. a.0) (slice_get shape.arrays i)) [])
 
@@ -86,7 +64,7 @@ abbrev pub clause_text : Profile → Mode → Data → Data
 clause_text profile Reads s = array (two (string (codes "in")) s)
 clause_text profile Writes s = array (two (string (codes "out")) s)
 clause_text One (Folds op) s = array (two (string (codes "red")) s)
-clause_text Two (Folds op) s = array (three (string (codes "red")) (string (fold_word op)) s)
+clause_text Two (Folds op) s = array (three (string (codes "red")) (string (identifier op)) s)
 
 abbrev pub uses_text : Arrays → Profile → List Use → Items
 uses_text shape profile [] = no_items
@@ -96,7 +74,7 @@ abbrev mutual
   pub statement_text : Arrays → Profile → S → Data
   statement_text shape profile (Set c e) = array (three (string (codes "set")) (cell_text shape c) (value_text shape e))
   statement_text shape One (Fold op c e) = array (three (string (codes "add")) (cell_text shape c) (value_text shape e))
-  statement_text shape Two (Fold op c e) = array (four (string (codes "fold")) (string (fold_word op)) (cell_text shape c) (value_text shape e))
+  statement_text shape Two (Fold op c e) = array (four (string (codes "fold")) (string (identifier op)) (cell_text shape c) (value_text shape e))
   statement_text shape profile (If e a b) =
       array (four (string (codes "if")) (value_text shape e) (array (body_text shape profile a)) (array (body_text shape profile b)))
   statement_text shape profile (Task us b) =
@@ -106,7 +84,7 @@ abbrev mutual
   statement_text shape One (Group op cs b) =
       array (three (string (codes "group")) (array (cells_text shape cs)) (array (body_text shape One b)))
   statement_text shape Two (Group op cs b) =
-      array (four (string (codes "group")) (string (fold_word op)) (array (cells_text shape cs)) (array (body_text shape Two b)))
+      array (four (string (codes "group")) (string (identifier op)) (array (cells_text shape cs)) (array (body_text shape Two b)))
 
   pub body_text : Arrays → Profile → Body → Items
   body_text shape profile End = no_items

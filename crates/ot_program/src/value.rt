@@ -1,5 +1,5 @@
 ghost use Rattle.std.specs.Prelude.{◌≡◌, min, ◌-◌, ◌^◌, Result};
-ghost use Rattle.serde_json.specs.Data.{string, array};
+ghost use Rattle.serde_json.specs.Data.{array};
 ghost use Rattle.serde_json.specs.View.{view, items_view};
 ghost use Rattle.ot_model.specs.Tree.{E};
 ghost use Rattle.ot_model.specs.View.{expr_of};
@@ -124,25 +124,7 @@ fn read_op(tag: &Value) -> Option<Op>
     ensures { result ≡ op_of (view tag.now) }
 {
     match tag {
-        Value::String(text) => op_named(text.as_str()),
-        _ => None,
-    }
-}
-
-fn op_named(text: &str) -> Option<Op>
-    ensures { result ≡ op_of (string text.now) }
-{
-    match text {
-        "+" => Some(Op::Plus),
-        "-" => Some(Op::Minus),
-        "*" => Some(Op::Times),
-        "&" => Some(Op::And),
-        "|" => Some(Op::Or),
-        "^" => Some(Op::Xor),
-        "<" => Some(Op::Less),
-        "=" => Some(Op::Equal),
-        "min" => Some(Op::Min),
-        "max" => Some(Op::Max),
+        Value::String(text) => Op::of_word(text.as_str()),
         _ => None,
     }
 }
