@@ -5,12 +5,10 @@ use Rattle.ot_model.specs.declared.expr.Cell.{Cell}
 use Rattle.ot_model.specs.declared.fold.Fold.{Fold as Operation}
 use Rattle.ot_model.specs.declared.stmt.Use.{Use}
 use Rattle.ot_depend.specs.Siblings.{Sibling, is_in}
-use Rattle.ot_check.specs.walk.Walk.{Children, anyone, behind, behind_one}
-use Rattle.ot_check.proofs.Bits.{true_or, or_right}
-use Rattle.ot_check.specs.walk.Fine.{AreAssigns}
+use Rattle.ot_check.specs.Discipline.{Children, anyone, behind, behind_one, AreAssigns}
+use Rattle.ot_check.proofs.Cited.{true_or, or_right, behind-more}
 use Rattle.ot_task.specs.Place.{Open}
 use Rattle.ot_job.specs.Awaiting.{Kids, children_of, kids_behind, AwaitsAll}
-use Rattle.ot_check.proofs.FineLemmas.{behind-more}
 use Rattle.ot_job.proofs.PlaceLemmas.{FewerKids, Monotone, UnawaitedBy, behind-fewer, behind-one, behind-two, behind-wait, behind-task, enter-fewer, behind-enter}
 
 behind-append : (children : Children) (a b : Body) (T : List Use → Bool) → behind children (append a b) T ≡ behind (behind children a) b T

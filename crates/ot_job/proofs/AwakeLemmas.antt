@@ -1,14 +1,13 @@
 -- A task goes on where neither a wait nor a group's end holds it.
 use Rattle.std.proofs.Common.{◌≡◌, ℕ, ◌+◌, ◌<◌, Bool, true, false, cond, not, ◌&&◌, ◌||◌, List, [], ◌∷◌, length, refl, sym, ap, subst, ◌∙◌, arith, true≢false}
-use Rattle.std.specs.Prelude.{None}
-use Rattle.std.specs.Prelude.{Some, slice_get, count_by, ◌==◌}
+use Rattle.std.specs.Prelude.{None, Some, slice_get, count_by, ◌==◌}
 use Rattle.std.specs.List.{list_any}
 use Rattle.std.proofs.lemmas.Bool.Decides.{nat_tests}
 use Rattle.std.proofs.lemmas.List.Sums.{sum_by-cons}
 use Rattle.ot_model.specs.Tree.{Body, End, Next}
 use Rattle.ot_model.specs.Cells.{updated}
 use Rattle.ot_depend.specs.Siblings.{Sibling, is_unfinished, is_unfinished_in, is_in}
-use Rattle.ot_check.proofs.Bits.{and_left, and_right}
+use Rattle.ot_check.proofs.Cited.{and_left, and_right}
 use Rattle.ot_task.specs.Place.{Open}
 use Rattle.ot_job.specs.Awaiting.{IsFineAt, AwaitsAll, unawaited}
 use Rattle.ot_job.proofs.PlaceLemmas.{at-fewer, at-leave}

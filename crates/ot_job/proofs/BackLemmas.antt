@@ -23,7 +23,7 @@ use Rattle.ot_owner.specs.declared.lent.LentCell.{LentCell}
 use Rattle.ot_owner.proofs.LentLemmas.{same-from_is_at, found-lent}
 use Rattle.ot_task.specs.Copies.{assigned}
 use Rattle.ot_job.proofs.Given.{IsGiven, Lets}
-use Rattle.ot_check.specs.walk.Fine.{AreAssigns}
+use Rattle.ot_check.specs.Discipline.{AreAssigns}
 use Rattle.ot_job.proofs.CopiesLemmas.{given-serial, value-copies}
 
 -- the cells have what the copies began with

@@ -1,8 +1,7 @@
 -- A task ends its body, and its parent's table tells so: what holds of the regions stays.
 use Rattle.std.proofs.Common.{◌≡◌, ◌≢◌, ℕ, zero, suc, ◌<◌, ◌≤◌, Bool, true, false, not, ◌&&◌, ◌||◌, List, [], ◌∷◌, length, refl, sym, ap, subst, ◌∙◌, ◌⊎◌, inl, inr, arith, true≢false, eq-zero-or-pos}
 use Rattle.ot_task.specs.Waits.{is_awaited_at}
-use Rattle.std.specs.Prelude.{None, option_map}
-use Rattle.std.specs.Prelude.{Some, slice_get, nat_lt, ◌==◌}
+use Rattle.std.specs.Prelude.{None, option_map, Some, slice_get, nat_lt, ◌==◌}
 use Rattle.std.specs.List.{list_any}
 use Rattle.std.proofs.lemmas.Bool.{cases_eq, cases_lt, true_from_ne_false}
 use Rattle.std.proofs.lemmas.Bool.Decides.{nat_tests}
@@ -12,7 +11,7 @@ use Rattle.ot_model.specs.declared.stmt.Use.{Use}
 use Rattle.ot_model.proofs.CellsLemmas.{length-updated, slice_get-updated, slice_get-updated-other}
 use Rattle.ot_depend.specs.Siblings.{Sibling, is_unfinished, with_finished, IsReady, is_in}
 use Rattle.ot_depend.proofs.SiblingsLemmas.{IsReady-finished}
-use Rattle.ot_check.proofs.Bits.{or_true, true_or, or_right}
+use Rattle.ot_check.proofs.Cited.{or_true, true_or, or_right}
 use Rattle.ot_model.specs.declared.expr.Cell.{Cell}
 use Rattle.ot_model.specs.declared.fold.Fold.{Fold as Operation}
 use Rattle.ot_model.specs.Uses.{same_fold}

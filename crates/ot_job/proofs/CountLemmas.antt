@@ -11,7 +11,7 @@ use Rattle.ot_model.specs.Serial.{State, bump, change, either, serial, serial_ru
 use Rattle.ot_model.specs.Runs.{state_of}
 use Rattle.ot_model.specs.declared.plain.Counts.{Counts}
 use Rattle.ot_model.proofs.SerialLemmas.{serial-from, either-both}
-use Rattle.ot_check.specs.walk.Fine.{AreAssigns}
+use Rattle.ot_check.specs.Discipline.{AreAssigns}
 use Rattle.ot_job.specs.Left.{left, children_left}
 use Rattle.ot_task.specs.Pieces.{leading_len}
 use Rattle.ot_job.specs.Settling.{counted, counts_after}

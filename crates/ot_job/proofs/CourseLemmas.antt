@@ -19,7 +19,7 @@ use Rattle.ot_model.specs.declared.stmt.Use.{Use}
 use Rattle.ot_model.proofs.CellsLemmas.{length-updated}
 use Rattle.ot_check.specs.Offences.{folds_to}
 use Rattle.ot_check.specs.Touches.{EachTouch}
-use Rattle.ot_check.specs.walk.Fine.{IsFine}
+use Rattle.ot_check.specs.Discipline.{IsFine}
 use Rattle.ot_owner.specs.Back.{all_back}
 use Rattle.ot_owner.specs.Owning.{Owned, loan_of}
 use Rattle.ot_owner.specs.declared.lent.LentCell.{LentCell}

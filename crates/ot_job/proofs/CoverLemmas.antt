@@ -5,7 +5,7 @@ use Rattle.std.specs.Prelude.{Option, Some, None, IsSome, cond, option_map, ifâ—
 use Rattle.std.specs.List.{fold, find, range_with_len}
 use Rattle.ot_model.specs.Tree.{E, Literal, CellAt, Apply, PickFrom, Set, Fold, If, Task, Wait, Group, Body, End, Next}
 use Rattle.ot_model.specs.Names.{NamedIn, ValueNamedIn}
-use Rattle.ot_model.specs.Value.{cell_at, HasAll}
+use Rattle.ot_model.specs.Value.{cell_at, HasAll, cells_named}
 use Rattle.ot_model.specs.declared.expr.Cell.{Cell}
 use Rattle.ot_model.specs.declared.fold.Fold.{Fold as Operation}
 use Rattle.ot_model.specs.declared.expr.Section.{Section}
@@ -13,14 +13,13 @@ use Rattle.ot_model.specs.declared.stmt.Mode.{Mode}
 use Rattle.ot_model.specs.declared.stmt.Mode.TheVariants.{Reads, Writes, Folds}
 use Rattle.ot_model.specs.declared.stmt.Use.{Use}
 use Rattle.ot_check.specs.Paths.{use_as, touches}
-use Rattle.ot_model.specs.Value.{cells_named}
 use Rattle.ot_check.specs.Offences.{Declared, folds_to}
 use Rattle.ot_model.specs.Cells.{same_cell}
 use Rattle.ot_owner.specs.Leases.{lent_from, copy_of}
 use Rattle.ot_owner.specs.Lending.{first_at, value_at, is_at, MayChange}
-use Rattle.ot_check.proofs.SameLemmas.{same_is}
+use Rattle.ot_check.proofs.Cited.{same_is}
 use Rattle.ot_task.proofs.CellLemmas.{same_self}
-use Rattle.ot_check.specs.walk.Fine.{AreAssigns}
+use Rattle.ot_check.specs.Discipline.{AreAssigns}
 use Rattle.ot_task.specs.Assigns.{CanAssign}
 use Rattle.ot_model.specs.Uses.{mode_in, same_fold}
 use Rattle.ot_task.specs.Touched.{assign_touches}

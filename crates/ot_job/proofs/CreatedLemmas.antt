@@ -1,6 +1,6 @@
 -- A task that is created leaves what holds of its parent's region.
 use Rattle.std.proofs.Common.{◌≡◌, ℕ, zero, suc, Bool, true, false, not, ◌&&◌, ◌||◌, List, [], ◌∷◌, ◌++◌, map, length, refl, sym, ap, subst, ◌∙◌, ◌⊎◌, inl, inr, ⊎_elim, arith, true≢false}
-use Rattle.ot_task.specs.Regions.{Waiting}
+use Rattle.ot_task.specs.Regions.{Waiting, Region, with_rest, with_child}
 use Rattle.ot_task.specs.Waits.{is_awaited_at}
 use Rattle.std.specs.Prelude.{◌==◌, Some, slice_get}
 use Rattle.std.specs.List.{list_any}
@@ -19,14 +19,10 @@ use Rattle.ot_check.specs.Paths.{use_as}
 use Rattle.ot_check.specs.Touches.{EachTouch, EachTask}
 use Rattle.ot_check.specs.Offences.{Declared, allows, folds_to, exceeds, misfits, has_cell}
 use Rattle.ot_check.specs.declared.fault.Offence.TheVariants.{ChildBeyond, ReductionMisuse}
-use Rattle.ot_check.proofs.Bits.{or_true, true_or, or_right, and_left, and_right, and_true}
-use Rattle.ot_check.proofs.OffenceLemmas.{is_offence-ChildBeyond, is_offence-ReductionMisuse}
-use Rattle.ot_check.proofs.InsideLemmas.{child_fits}
-use Rattle.ot_check.proofs.FoldLemmas.{fits-folds, fits-reads}
-use Rattle.ot_check.specs.walk.Fine.{IsClean}
+use Rattle.ot_check.proofs.Cited.{or_true, true_or, or_right, and_left, and_right, and_true, is_offence-ChildBeyond, is_offence-ReductionMisuse, child_fits, fits-folds, fits-reads}
+use Rattle.ot_check.specs.Discipline.{IsClean}
 use Rattle.ot_task.specs.Place.{Open, todo}
 use Rattle.ot_job.specs.Awaiting.{opened, children_of, IsFineAt, AwaitsAll, unawaited}
-use Rattle.ot_task.specs.Regions.{Region, with_rest, with_child}
 use Rattle.ot_job.specs.Sound.{DontMix, LetsAll, NamedOnce, OnlyFolds, IsPlaced, grouped_in}
 use Rattle.ot_job.proofs.FoldLemmas.{one-op, writes-all, declares-fold, only-unwritten}
 use Rattle.ot_job.proofs.KeptLemmas.{todo-next}

@@ -12,13 +12,13 @@ use Rattle.ot_model.specs.Tree.{E, Body}
 use Rattle.ot_model.specs.Programs.{expanded_of}
 use Rattle.ot_model.specs.Cells.{updated}
 use Rattle.ot_check.specs.Jobs.{Spec}
-use Rattle.ot_check.proofs.Bits.{and_left, not_true}
+use Rattle.ot_check.proofs.Cited.{and_left, not_true}
 use Rattle.ot_owner.specs.Leases.{Lease, lease_of}
 use Rattle.ot_owner.specs.Owning.{loan_of}
 use Rattle.ot_task.specs.Regions.{Region, Run, stopped, root_region}
 use Rattle.ot_job.specs.Numbered.{at}
 use Rattle.ot_job.specs.Live.{Live}
-use Rattle.ot_job.specs.Taken.{Taken}
+use Rattle.ot_job.specs.Taken.{Taken, Came, IsOut, taken_by}
 use Rattle.ot_task.specs.Pieces.{behind, test_of, begun}
 use Rattle.ot_job.specs.Whole.{with_loan, loans_out}
 use Rattle.ot_job.proofs.SettleLemmas.{run_of, runs-within}
@@ -26,7 +26,6 @@ use Rattle.ot_job.specs.Claiming.{is_claimable, claimable_of, picked}
 use Rattle.ot_task.specs.Waits.{is_let_go}
 use Rattle.ot_depend.specs.Siblings.{is_ready}
 use Rattle.ot_job.specs.Claims.{Claims, Claimed, ahead}
-use Rattle.ot_job.specs.Taken.{Came, IsOut, taken_by}
 use Rattle.ot_job.specs.Settling.{Settles, moved_on, settled}
 use Rattle.ot_task.specs.Standing.{is_at_end}
 use Rattle.ot_job.specs.States.{Starts, FailsBy, any_out, all_ended, claimable_in, aborted}

@@ -12,8 +12,7 @@ use Rattle.ot_model.specs.declared.stmt.Use.{Use}
 use Rattle.ot_model.proofs.EqualLemmas.{fold-decides}
 use Rattle.ot_check.specs.Paths.{use_as}
 use Rattle.ot_check.specs.Offences.{Declared, allows, covers, folds_by, folds_to}
-use Rattle.ot_check.proofs.Bits.{or_true, true_or, or_right, or_false_left, or_false_right, not_false}
-use Rattle.ot_check.proofs.InsideLemmas.{folded}
+use Rattle.ot_check.proofs.Cited.{or_true, true_or, or_right, or_false_left, or_false_right, not_false, folded}
 use Rattle.ot_job.specs.Sound.{OnlyFolds}
 
 -- ---- operations

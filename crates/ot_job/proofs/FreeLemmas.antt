@@ -13,19 +13,15 @@ use Rattle.ot_model.specs.declared.stmt.Use.{Use}
 use Rattle.ot_depend.specs.Siblings.{Sibling}
 use Rattle.ot_check.specs.Paths.{use_as}
 use Rattle.ot_check.specs.Offences.{Declared, Openings, allows, covers, folds_by, folds_to}
-use Rattle.ot_check.specs.walk.Walk.{Children}
+use Rattle.ot_check.specs.Discipline.{Children, IsFine, IsHarmless, AreAssigns}
 use Rattle.ot_model.specs.Cells.{same_cell}
 use Rattle.ot_check.specs.Touches.{Agree}
-use Rattle.ot_check.proofs.Bits.{or_true, true_or, or_right, or_false_left, or_false_right, not_false}
-use Rattle.ot_check.specs.walk.Fine.{IsFine}
+use Rattle.ot_check.proofs.Cited.{or_true, true_or, or_right, or_false_left, or_false_right, not_false, harmless, harmless_if, same_is}
 use Rattle.ot_job.specs.Rights.{IsRight}
 use Rattle.ot_task.specs.Place.{Open, todo}
 use Rattle.ot_job.specs.Awaiting.{opened, children_of, IsFineAt, unawaited, Kids}
 use Rattle.ot_job.proofs.Order.{IsBefore, Each, Ordered, order, order-ordered}
 use Rattle.ot_job.proofs.Kept.{In}
-use Rattle.ot_check.specs.walk.Fine.{IsHarmless, AreAssigns}
-use Rattle.ot_check.proofs.TouchLemmas.{harmless, harmless_if}
-use Rattle.ot_check.proofs.SameLemmas.{same_is}
 use Rattle.ot_task.proofs.CellLemmas.{same_self}
 use Rattle.ot_job.proofs.RightsLemmas.{right_apart, right_may}
 use Rattle.ot_task.specs.Regions.{Region, Run}

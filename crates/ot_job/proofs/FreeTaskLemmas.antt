@@ -8,7 +8,7 @@ use Rattle.ot_model.specs.Tree.{Body, End, Next}
 use Rattle.ot_depend.specs.Siblings.{Sibling, is_ready, is_unfinished, is_unfinished_in}
 use Rattle.ot_depend.proofs.CountLemmas.{none_unfinished, none_unfinished_in}
 use Rattle.ot_depend.proofs.ReadyLemmas.{is_ready-told}
-use Rattle.ot_check.proofs.Bits.{and_true, or_false_left, or_false_right}
+use Rattle.ot_check.proofs.Cited.{and_true, or_false_left, or_false_right}
 use Rattle.ot_task.specs.Place.{Open}
 use Rattle.ot_task.specs.Regions.{Region}
 use Rattle.ot_job.specs.Numbered.{at, parent_of}

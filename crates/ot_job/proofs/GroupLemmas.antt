@@ -1,8 +1,7 @@
 -- Entering a group and passing its end leave what holds of a region.
 use Rattle.std.proofs.Common.{◌≡◌, ℕ, zero, suc, Bool, true, false, not, ◌&&◌, ◌||◌, List, [], ◌∷◌, sym, ap, subst, ◌∙◌, inl, inr, ⊎_elim, true≢false}
 use Rattle.std.proofs.lemmas.Bool.{false_from_ne_true}
-use Rattle.std.specs.Prelude.{None}
-use Rattle.std.specs.Prelude.{Some, slice_get}
+use Rattle.std.specs.Prelude.{None, Some, slice_get}
 use Rattle.std.specs.List.{list_any}
 use Rattle.ot_model.specs.Tree.{S, Body, End, Next, Group, append}
 use Rattle.ot_model.specs.declared.expr.Cell.{Cell}
@@ -17,15 +16,10 @@ use Rattle.ot_check.specs.Touches.{EachTouch, EachTask}
 use Rattle.ot_check.specs.Offences.{allows, clashes, has_cell, opened_by_any}
 use Rattle.ot_model.specs.Cells.{same_cell}
 use Rattle.ot_check.specs.declared.fault.Offence.TheVariants.{ReductionMisuse, ConflictsWithChild}
-use Rattle.ot_check.proofs.Bits.{or_true, true_or, or_right, and_right, or_false_left, or_false_right}
-use Rattle.ot_check.proofs.OffenceLemmas.{is_offence-Group}
-use Rattle.ot_check.proofs.InsideLemmas.{group_free, groups_inside}
-use Rattle.ot_check.proofs.OpeningLemmas.{opened-none}
-use Rattle.ot_check.specs.walk.Fine.{IsClean}
+use Rattle.ot_check.proofs.Cited.{or_true, true_or, or_right, and_right, or_false_left, or_false_right, is_offence-Group, group_free, groups_inside, opened-none, same_is, clash_free}
+use Rattle.ot_check.specs.Discipline.{IsClean}
 use Rattle.ot_task.specs.Place.{Open, todo}
 use Rattle.ot_job.specs.Awaiting.{opened, children_of, IsFineAt, AwaitsAll, unawaited}
-use Rattle.ot_check.proofs.SameLemmas.{same_is}
-use Rattle.ot_check.proofs.TouchLemmas.{clash_free}
 use Rattle.ot_task.specs.Regions.{Region, with_rest, inside}
 use Rattle.ot_job.specs.Sound.{LetsAll, NamedOnce, IsPlaced, grouped_in}
 use Rattle.ot_job.proofs.KeptLemmas.{todo-next}

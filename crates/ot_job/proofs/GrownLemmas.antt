@@ -11,11 +11,10 @@ use Rattle.ot_model.specs.declared.stmt.Use.{Use}
 use Rattle.ot_model.proofs.CellsLemmas.{length-updated}
 use Rattle.ot_depend.specs.Siblings.{Sibling, created, is_in}
 use Rattle.ot_check.specs.Touches.{EachTouch, EachTask}
-use Rattle.ot_check.specs.walk.Fine.{IsFine, IsClean}
-use Rattle.ot_check.specs.walk.Walk.{marks, may_break}
+use Rattle.ot_check.specs.Discipline.{IsFine, IsClean, marks, may_break}
 use Rattle.ot_check.specs.Offences.{allows}
 use Rattle.ot_check.specs.declared.fault.Offence.TheVariants.{EndsWithChildren}
-use Rattle.ot_check.proofs.Bits.{or_false_right, true_or}
+use Rattle.ot_check.proofs.Cited.{or_false_right, true_or}
 use Rattle.ot_task.specs.Place.{Open, todo}
 use Rattle.ot_job.specs.Awaiting.{opened, children_of, IsFineAt, AwaitsAll, unawaited}
 use Rattle.ot_task.specs.Regions.{Region, with_rest, with_child, new_region}

@@ -11,7 +11,7 @@ use Rattle.ot_model.specs.declared.stmt.Use.{Use}
 use Rattle.ot_model.proofs.SerialLemmas.{serial-bump, serial-append, either-ap}
 use Rattle.ot_check.specs.Paths.{use_as}
 use Rattle.ot_check.specs.Touches.{EachTouch, EachTouchOne, Agree, AreApart}
-use Rattle.ot_check.proofs.ApartLemmas.{touch-weaker, read-behind, apart}
+use Rattle.ot_check.proofs.Cited.{touch-weaker, read-behind, apart}
 use Rattle.ot_job.specs.Left.{left}
 use Rattle.ot_task.proofs.AssignLemmas.{read-all}
 use Rattle.ot_job.proofs.Order.{order, order_from, insert_before, run_all, left-order, Anc, self, up, IsBefore, Each, Each-weaker, Ordered, Descends, AreParents, order-ordered, branch, anc-le}

@@ -17,8 +17,7 @@ use Rattle.ot_model.specs.declared.stmt.Use.{Use}
 use Rattle.ot_check.specs.Paths.{use_as, touches}
 use Rattle.ot_check.specs.Offences.{Declared, Openings, allows, folds_to}
 use Rattle.ot_check.specs.Touches.{EachRead, EachTouch}
-use Rattle.ot_check.specs.walk.Walk.{Children}
-use Rattle.ot_check.specs.walk.Fine.{IsFine, AreAssigns}
+use Rattle.ot_check.specs.Discipline.{Children, IsFine, AreAssigns}
 use Rattle.ot_check.specs.declared.fault.Offence.TheVariants.{NotDeclared}
 use Rattle.ot_owner.specs.Lending.{is_at, uses_of}
 use Rattle.ot_owner.specs.declared.lent.LentCell.{LentCell}
@@ -34,7 +33,7 @@ use Rattle.ot_job.proofs.FoldLemmas.{one-fold, held-alike, only-unread, only-unw
 use Rattle.ot_job.proofs.FreeLemmas.{piece-safe, named-half, named-back}
 use Rattle.ot_task.proofs.HeldLemmas.{reads-append}
 use Rattle.ot_job.proofs.HoldsLemmas.{Among, held-right}
-use Rattle.ot_check.proofs.Bits.{not_false}
+use Rattle.ot_check.proofs.Cited.{not_false}
 
 -- ---- from each touch in the list to each touch of the body
 

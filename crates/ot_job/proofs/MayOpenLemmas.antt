@@ -14,10 +14,8 @@ use Rattle.ot_model.specs.declared.stmt.Mode.TheVariants.{Writes, Folds}
 use Rattle.ot_model.specs.declared.stmt.Use.{Use}
 use Rattle.ot_check.specs.Paths.{use_as}
 use Rattle.ot_check.specs.Offences.{allows, clashes, has_cell, opened_by_any}
-use Rattle.ot_check.specs.walk.Fine.{IsFine}
-use Rattle.ot_check.proofs.Bits.{or_right, and_true}
-use Rattle.ot_check.proofs.InsideLemmas.{group_free, groups_inside}
-use Rattle.ot_check.proofs.OpeningLemmas.{opened-none}
+use Rattle.ot_check.specs.Discipline.{IsFine}
+use Rattle.ot_check.proofs.Cited.{or_right, and_true, group_free, groups_inside, opened-none}
 use Rattle.ot_owner.specs.Owning.{Loan}
 use Rattle.ot_owner.specs.Rows.{IsNamed}
 use Rattle.ot_owner.proofs.OutLemmas.{permutation_rest}

@@ -14,8 +14,7 @@ use Rattle.ot_check.specs.Paths.{use_as}
 use Rattle.ot_check.specs.Offences.{Declared, allows, folds_to, has_cell}
 use Rattle.ot_check.specs.Touches.{Agree}
 use Rattle.ot_check.specs.declared.fault.Offence.TheVariants.{ReductionMisuse}
-use Rattle.ot_check.proofs.Bits.{or_true, or_right, and_true}
-use Rattle.ot_check.proofs.OpeningLemmas.{opened-none}
+use Rattle.ot_check.proofs.Cited.{or_true, or_right, and_true, opened-none}
 use Rattle.ot_task.specs.Place.{Open}
 use Rattle.ot_task.specs.Regions.{Region, Run}
 use Rattle.ot_task.specs.Pieces.{test_of}

@@ -13,7 +13,7 @@ use Rattle.ot_model.specs.declared.stmt.Mode.{Mode}
 use Rattle.ot_model.specs.declared.stmt.Mode.TheVariants.{Folds}
 use Rattle.ot_model.proofs.NamesLemmas.{found_from_in}
 use Rattle.ot_check.specs.Offences.{Declared, folds_to, has_cell}
-use Rattle.ot_check.proofs.Bits.{or_true, and_left, and_right}
+use Rattle.ot_check.proofs.Cited.{or_true, and_left, and_right}
 use Rattle.ot_owner.specs.Leases.{Lease}
 use Rattle.ot_task.specs.Place.{Open}
 use Rattle.ot_task.specs.Regions.{Region, Run}

@@ -20,7 +20,7 @@ use Rattle.ot_model.specs.declared.stmt.Mode.TheVariants.{Reads, Writes, Folds}
 use Rattle.ot_model.specs.declared.stmt.Use.{Use}
 use Rattle.ot_model.proofs.EqualLemmas.{cell-decides}
 use Rattle.ot_check.specs.Offences.{has_cell}
-use Rattle.ot_check.proofs.Bits.{true_or, or_right, and_true}
+use Rattle.ot_check.proofs.Cited.{true_or, or_right, and_true}
 use Rattle.ot_owner.specs.Back.{taken_back, all_back}
 use Rattle.ot_owner.specs.Leases.{copy_of, lent_from}
 use Rattle.ot_owner.specs.Owning.{Loan, Owned, IsFreeFor}

@@ -12,8 +12,7 @@ use Rattle.ot_model.specs.declared.stmt.Use.{Use}
 use Rattle.ot_model.proofs.OrderLemmas.{precedes_trans, precedes_apart, rest_in_order}
 use Rattle.ot_check.specs.Paths.{use_as}
 use Rattle.ot_check.specs.Offences.{allows, folds_by, folds_to, covers}
-use Rattle.ot_check.proofs.Bits.{or_true, and_left, and_right}
-use Rattle.ot_check.proofs.SameLemmas.{same_is}
+use Rattle.ot_check.proofs.Cited.{or_true, and_left, and_right, same_is}
 use Rattle.ot_job.specs.Sound.{OnlyFolds}
 use Rattle.ot_job.proofs.FoldLemmas.{one-op, covered-fold}
 

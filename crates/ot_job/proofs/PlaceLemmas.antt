@@ -6,12 +6,10 @@ use Rattle.ot_model.specs.declared.fold.Fold.{Fold as Operation}
 use Rattle.ot_model.specs.declared.stmt.Use.{Use}
 use Rattle.ot_depend.specs.Siblings.{Sibling, is_in}
 use Rattle.ot_check.specs.Offences.{Declared, awaits}
-use Rattle.ot_check.specs.walk.Walk.{nothing_open, behind_one, behind, through}
-use Rattle.ot_check.proofs.Bits.{true_or, or_right, and_left, and_right, and_true}
-use Rattle.ot_check.specs.walk.Fine.{IsFine, AreFewer}
+use Rattle.ot_check.specs.Discipline.{nothing_open, behind_one, behind, through, IsFine, AreFewer}
+use Rattle.ot_check.proofs.Cited.{true_or, or_right, and_left, and_right, and_true, fine-fewer, fine-append, through-append}
 use Rattle.ot_task.specs.Place.{Open}
 use Rattle.ot_job.specs.Awaiting.{opened, Kids, children_of, kids_behind, IsFineAt}
-use Rattle.ot_check.proofs.FineLemmas.{fine-fewer, fine-append, through-append}
 
 -- each child of the one is among the other
 abbrev pub FewerKids : Kids → Kids → Type 0

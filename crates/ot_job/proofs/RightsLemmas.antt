@@ -10,18 +10,15 @@ use Rattle.ot_model.specs.declared.stmt.Mode.TheVariants.{Reads, Writes, Folds}
 use Rattle.ot_model.specs.declared.stmt.Use.{Use}
 use Rattle.ot_check.specs.Paths.{use_as}
 use Rattle.ot_check.specs.Offences.{Declared, Openings, allows, covers, folds_by, folds_to, clashes}
-use Rattle.ot_check.specs.walk.Walk.{Children}
+use Rattle.ot_check.specs.Discipline.{Children, IsHarmless}
 use Rattle.ot_model.specs.Cells.{same_cell}
 use Rattle.ot_check.specs.Touches.{Agree}
 use Rattle.ot_check.specs.declared.fault.Offence.TheVariants.{ReductionMisuse, ConflictsWithChild}
-use Rattle.ot_check.proofs.Bits.{or_true, true_or, or_right, or_false_left, or_false_right}
-use Rattle.ot_check.proofs.OpeningLemmas.{opened-none}
+use Rattle.ot_check.proofs.Cited.{or_true, true_or, or_right, or_false_left, or_false_right, opened-none, clash_free}
 use Rattle.ot_job.specs.Rights.{IsRight}
 use Rattle.ot_job.proofs.FoldLemmas.{agrees-with, turned}
 use Rattle.ot_job.proofs.Order.{IsBefore, branch}
 use Rattle.ot_job.proofs.Kept.{Sound, Uses, up_to, alive_up, begun_anc}
-use Rattle.ot_check.specs.walk.Fine.{IsHarmless}
-use Rattle.ot_check.proofs.TouchLemmas.{clash_free}
 
 abbrev pub Allowed : Declared → Use → Type 0
 Allowed own u = allows own u ≡ true

@@ -4,8 +4,7 @@ use Rattle.std.specs.Prelude.{Some, slice_get}
 use Rattle.std.proofs.lemmas.Bool.{cases_lt}
 use Rattle.std.proofs.lemmas.Option.{same_Some}
 use Rattle.std.proofs.lemmas.List.Folds.{Any-from_list_any, list_any-from_Any}
-use Rattle.ot_check.proofs.Bits.{and_left, and_right, and_true}
-use Rattle.ot_check.proofs.SameLemmas.{same_is}
+use Rattle.ot_check.proofs.Cited.{and_left, and_right, and_true, same_is}
 use Rattle.ot_task.proofs.CellLemmas.{same_self}
 use Rattle.ot_model.specs.Uses.{DependsOn, one_writes, conflicts}
 use Rattle.ot_model.specs.declared.expr.Cell.{Cell}

@@ -15,11 +15,9 @@ use Rattle.ot_model.specs.Serial.{State, serial, serial_run}
 use Rattle.ot_model.specs.Runs.{state_of}
 use Rattle.ot_model.proofs.CellsLemmas.{length-updated}
 use Rattle.ot_depend.specs.Siblings.{Sibling}
-use Rattle.ot_check.specs.Disciplined.{IsDisciplined}
+use Rattle.ot_check.specs.Discipline.{IsDisciplined}
 use Rattle.ot_check.specs.Offences.{allows}
-use Rattle.ot_check.proofs.Bits.{and_left, and_right}
-use Rattle.ot_check.proofs.FineLemmas.{disciplined-fine}
-use Rattle.ot_check.proofs.InsideLemmas.{inside}
+use Rattle.ot_check.proofs.Cited.{and_left, and_right, disciplined-fine, inside}
 use Rattle.ot_owner.specs.Owning.{Owned, loan_of}
 use Rattle.ot_owner.specs.Leases.{lease_of, lent_from}
 use Rattle.ot_owner.specs.Worth.{worths, worth_over}
@@ -33,7 +31,6 @@ use Rattle.ot_job.specs.Numbered.{at, gone, parent_of, todo_at, parents, left_of
 use Rattle.ot_job.specs.Sound.{IsPlaced, IsSound}
 use Rattle.ot_job.specs.Whole.{wholes, loans_out}
 use Rattle.ot_job.specs.Opened.{AreOpen}
-use Rattle.ot_task.specs.Place.{Open}
 use Rattle.ot_job.specs.Live.{Live}
 use Rattle.ot_job.specs.Well.{IsWell}
 use Rattle.ot_job.specs.States.{all_ended, any_out, state_in}

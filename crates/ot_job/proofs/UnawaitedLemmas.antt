@@ -4,7 +4,7 @@ use Rattle.std.specs.List.{list_any}
 use Rattle.ot_model.specs.declared.stmt.Use.{Use}
 use Rattle.ot_depend.specs.Siblings.{Sibling, is_unfinished}
 use Rattle.ot_check.specs.Offences.{awaits}
-use Rattle.ot_check.proofs.Bits.{or_true, true_or, or_right, and_left, and_right, and_true}
+use Rattle.ot_check.proofs.Cited.{or_true, true_or, or_right, and_left, and_right, and_true}
 use Rattle.ot_task.specs.Regions.{Waiting}
 use Rattle.ot_task.specs.Waits.{is_awaited_at, is_held}
 use Rattle.ot_job.specs.Awaiting.{unawaited}

@@ -12,14 +12,14 @@ use Rattle.ot_model.specs.Cells.{updated, lengths, cell_of}
 use Rattle.ot_model.specs.Uses.{AreInOrder, Conflict}
 use Rattle.ot_model.specs.declared.stmt.Use.{Use}
 use Rattle.ot_model.specs.Serial.{State}
-use Rattle.ot_depend.specs.Siblings.{IsReady, IsUnfinished}
-use Rattle.ot_check.proofs.Bits.{and_left, and_right, or_true, not_true}
+use Rattle.ot_depend.specs.Siblings.{IsReady, IsUnfinished, is_ready}
+use Rattle.ot_check.proofs.Cited.{and_left, and_right, or_true, not_true}
 use Rattle.ot_owner.specs.Leases.{Lease, lease_of, lent_from}
 use Rattle.ot_owner.specs.Owning.{Owned, IsFreeFor}
 use Rattle.ot_owner.specs.Rows.{begun_for}
 use Rattle.ot_job.specs.Left.{left}
 use Rattle.ot_task.specs.Place.{Open, todo}
-use Rattle.ot_check.specs.walk.Fine.{AreAssigns}
+use Rattle.ot_check.specs.Discipline.{AreAssigns}
 use Rattle.ot_task.specs.Regions.{Region, Run}
 use Rattle.ot_job.specs.Numbered.{at, parent_of, todo_at, parents, left_of}
 use Rattle.ot_model.specs.declared.fold.Fold.TheVariants.{Plus}
@@ -31,7 +31,7 @@ use Rattle.ot_job.specs.Opened.{AreOpen}
 use Rattle.ot_job.specs.Opening.{left_open}
 use Rattle.ot_job.specs.Running.{RunsWell}
 use Rattle.ot_job.proofs.WeighingLemmas.{weight-begun}
-use Rattle.ot_job.specs.Well.{IsWell, IsOnCourse}
+use Rattle.ot_job.specs.Well.{IsWell, IsOnCourse, MaySettle}
 use Rattle.ot_owner.specs.Worth.{worths, AreWorthSame}
 use Rattle.ot_owner.proofs.WorthLemmas.{worths-same}
 use Rattle.ot_model.specs.Runs.{state_of}
@@ -41,7 +41,6 @@ use Rattle.ot_task.specs.Touched.{piece_touches, assign_touches, test_touches}
 use Rattle.ot_job.specs.Claiming.{is_claimable}
 use Rattle.ot_job.specs.Holding.{Holds, touches_out}
 use Rattle.ot_task.specs.Waits.{is_let_go}
-use Rattle.ot_depend.specs.Siblings.{is_ready}
 use Rattle.ot_job.proofs.KeptLemmas.{parents-updated, at-updated, at-updated-other, todo-append}
 use Rattle.ot_job.proofs.ChangedLemmas.{begun-changed}
 use Rattle.ot_job.proofs.WholeLemmas.{loan, wholes-begun, one-more, loans-each}
@@ -53,7 +52,6 @@ use Rattle.ot_job.proofs.HoldingLemmas.{course-holds, course-apart}
 use Rattle.ot_job.proofs.PickLemmas.{ready-from}
 use Rattle.ot_job.proofs.OpenLemmas.{pieces_apart}
 use Rattle.ot_job.proofs.EachLemmas.{at-each, field-at}
-use Rattle.ot_job.specs.Well.{MaySettle}
 use Rattle.ot_task.proofs.HeldLemmas.{AllIn, all-append, reads-in, held-there}
 
 pub leading-assigns : (b : Body) → AreAssigns (leading b)
