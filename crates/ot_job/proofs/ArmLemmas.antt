@@ -1,24 +1,7 @@
 -- An `if` and a wait are executed: what holds of the region stays.
-use Rattle.std.proofs.Common.{◌≡◌, ℕ, ◌<◌, Bool, true, false, ◌&&◌, List, length, refl, sym, ap, subst, ◌∙◌, true≢false}
-use Rattle.std.proofs.Common.{not}
-use Rattle.std.specs.Prelude.{Option}
-use Rattle.std.specs.Prelude.{None}
-use Rattle.std.specs.Prelude.{if◌then◌else◌, Some}
-use Rattle.ot_depend.specs.Siblings.{Sibling}
-use Rattle.ot_model.specs.declared.expr.Cell.{Cell}
-use Rattle.ot_model.specs.declared.fold.Fold.{Fold as Operation}
-use Rattle.ot_model.specs.Tree.{E, If, Group, Wait, Body, Next, append, End}
-use Rattle.ot_model.specs.Cells.{updated}
-use Rattle.ot_model.specs.declared.stmt.Use.{Use}
-use Rattle.ot_check.specs.Offences.{allows}
-use Rattle.ot_check.specs.Touches.{EachTouch, EachTask}
-use Rattle.ot_task.specs.Place.{todo}
-use Rattle.ot_job.specs.Awaiting.{IsFineAt, AwaitsAll, unawaited}
+use Rattle.std.proofs.Common.{◌≡◌, ℕ, ◌<◌, Bool, true, false, ◌&&◌, List, length, refl, sym, ap, subst, ◌∙◌, true≢false, not, Option, None, if◌then◌else◌, Some}
+use Rattle.ot_job.proofs.Common.{Sibling, Cell, Operation, E, If, Group, Wait, Body, Next, append, End, updated, Use, allows, EachTouch, EachTask, todo, IsFineAt, AwaitsAll, unawaited, Region, with_rest, inside, at, LetsAll, IsBegun, IsPlaced, IsSound, awaits}
 use Rattle.ot_job.proofs.PlaceLemmas.{at-one, at-two, at-wait, at-enter}
-use Rattle.ot_task.specs.Regions.{Region, with_rest, inside}
-use Rattle.ot_job.specs.Numbered.{at}
-use Rattle.ot_job.specs.Sound.{LetsAll, IsBegun, IsPlaced, IsSound}
-use Rattle.ot_check.specs.Offences.{awaits}
 use Rattle.ot_job.proofs.UnawaitedLemmas.{monotone, executed-wait}
 use Rattle.ot_job.proofs.KeptLemmas.{todo-append, todo-next}
 use Rattle.ot_job.proofs.GroupLemmas.{touch-append, task-append, placed-enter}

@@ -1,14 +1,8 @@
 -- A task's body ends with no child unawaited: step by step.
 use Rattle.std.proofs.Common.{◌≡◌, ℕ, Bool, true, false, not, ◌&&◌, ◌||◌, List, [], ◌∷◌, Option, refl, sym, subst, ◌∙◌}
-use Rattle.ot_model.specs.Tree.{E, Set, Fold, If, Task, Wait, Group, Body, End, Next, append}
-use Rattle.ot_model.specs.declared.expr.Cell.{Cell}
-use Rattle.ot_model.specs.declared.fold.Fold.{Fold as Operation}
-use Rattle.ot_model.specs.declared.stmt.Use.{Use}
-use Rattle.ot_depend.specs.Siblings.{Sibling, is_in}
-use Rattle.ot_check.specs.Discipline.{Children, anyone, behind, behind_one, AreAssigns}
-use Rattle.ot_check.proofs.Cited.{true_or, or_right, behind-more}
-use Rattle.ot_task.specs.Place.{Open}
-use Rattle.ot_job.specs.Awaiting.{Kids, children_of, kids_behind, AwaitsAll}
+use Rattle.ot_job.proofs.Common.{E, Set, Fold, If, Task, Wait, Group, Body, End, Next, append, Cell, Operation, Use, Sibling, is_in, Children, behind_one, AreAssigns, true_or, or_right, Open, Kids, children_of, kids_behind, AwaitsAll}
+use Rattle.ot_check.specs.Discipline.{anyone, behind}
+use Rattle.ot_check.proofs.Cited.{behind-more}
 use Rattle.ot_job.proofs.PlaceLemmas.{FewerKids, Monotone, UnawaitedBy, behind-fewer, behind-one, behind-two, behind-wait, behind-task, enter-fewer, behind-enter}
 
 behind-append : (children : Children) (a b : Body) (T : List Use → Bool) → behind children (append a b) T ≡ behind (behind children a) b T

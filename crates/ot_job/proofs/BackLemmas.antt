@@ -1,29 +1,9 @@
 -- The cells once a piece has come back are the cells after its assignments.
-use Rattle.std.proofs.Common.{◌≡◌, ℕ, suc, Bool, true, false, cond, List, [], ◌∷◌, refl, sym, ap, subst, ◌∙◌, inl, inr, arith, true≢false}
-use Rattle.std.specs.Prelude.{Option, Some, None, IsSome, option_map}
-use Rattle.std.specs.List.{find, All}
-use Rattle.std.proofs.lemmas.Option.{same_Some}
-use Rattle.std.proofs.lemmas.Iterator.Adapters.{option_map_id}
-use Rattle.ot_model.specs.Tree.{E, Body}
-use Rattle.ot_model.specs.Value.{val}
-use Rattle.ot_check.specs.Paths.{use_as}
-use Rattle.ot_model.specs.Cells.{cell_of, lengths}
-use Rattle.ot_model.specs.Joining.{join_by, unit_of}
-use Rattle.ot_model.specs.Uses.{is_fold, joined}
-use Rattle.ot_model.specs.Serial.{State, serial}
-use Rattle.ot_model.specs.declared.expr.Cell.{Cell}
-use Rattle.ot_model.specs.declared.fold.Fold.{Fold as Operation}
-use Rattle.ot_model.specs.declared.stmt.Mode.{Mode}
-use Rattle.ot_model.specs.declared.stmt.Mode.TheVariants.{Reads, Writes, Folds}
+use Rattle.std.proofs.Common.{◌≡◌, ℕ, suc, Bool, true, false, cond, List, [], ◌∷◌, refl, sym, ap, subst, ◌∙◌, inl, inr, arith, true≢false, Option, Some, None, IsSome, option_map, find, All}
+use Rattle.ot_job.proofs.Common.{same_Some, option_map_id, E, Body, val, use_as, cell_of, lengths, join_by, unit_of, is_fold, joined, State, serial, Cell, Operation, Mode, Reads, Writes, Folds, EachRead, EachTouch, is_at, first_at, value_at, AreJoined, LentCell, found-lent, assigned, AreAssigns}
 use Rattle.ot_model.proofs.CellsLemmas.{same_cells}
-use Rattle.ot_check.specs.Touches.{EachRead, EachTouch}
-use Rattle.ot_owner.specs.Lending.{is_at, first_at, value_at}
-use Rattle.ot_owner.specs.Worth.{AreJoined}
-use Rattle.ot_owner.specs.declared.lent.LentCell.{LentCell}
-use Rattle.ot_owner.proofs.LentLemmas.{same-from_is_at, found-lent}
-use Rattle.ot_task.specs.Copies.{assigned}
+use Rattle.ot_owner.proofs.LentLemmas.{same-from_is_at}
 use Rattle.ot_job.proofs.Given.{IsGiven, Lets}
-use Rattle.ot_check.specs.Discipline.{AreAssigns}
 use Rattle.ot_job.proofs.CopiesLemmas.{given-serial, value-copies}
 
 -- the cells have what the copies began with

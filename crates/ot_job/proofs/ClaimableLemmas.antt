@@ -1,21 +1,9 @@
 -- Whose claimability a change of the regions leaves as it was.
-use Rattle.std.proofs.Common.{◌≡◌, ◌≢◌, ◌<◌, ℕ, zero, suc, Bool, true, false, not, ◌||◌, ◌&&◌, ◌==◌, List, [], ◌∷◌, ◌++◌, length, take, refl, sym, ap, ◌∙◌, inl, inr, arith}
-use Rattle.std.specs.Prelude.{Option, is_some, slice_get, option_map, unwrap_or}
-use Rattle.std.specs.List.{list_all}
-use Rattle.std.proofs.lemmas.Bool.{cases_eq}
+use Rattle.std.proofs.Common.{◌≡◌, ◌≢◌, ◌<◌, ℕ, zero, suc, Bool, true, false, not, ◌||◌, ◌&&◌, ◌==◌, List, [], ◌∷◌, ◌++◌, length, take, refl, sym, ap, ◌∙◌, inl, inr, arith, Option, is_some, slice_get, option_map, unwrap_or}
+use Rattle.ot_job.proofs.Common.{list_all, cases_eq, updated, length-updated, Use, Sibling, is_ready, with_finished, depends_on, Region, with_child, without, at, is_claimable, is_let_go, slice_get-push}
 use Rattle.std.proofs.lemmas.List.{take-append-le}
-use Rattle.ot_model.specs.Cells.{updated}
-use Rattle.ot_model.proofs.CellsLemmas.{length-updated}
-use Rattle.ot_model.specs.declared.stmt.Use.{Use}
-use Rattle.ot_depend.specs.Siblings.{Sibling, is_ready, with_finished}
-use Rattle.ot_model.specs.Uses.{depends_on}
-use Rattle.ot_task.specs.Regions.{Region, with_child, without}
-use Rattle.ot_job.specs.Numbered.{at}
-use Rattle.ot_job.specs.Claiming.{is_claimable}
-use Rattle.ot_task.specs.Waits.{is_let_go}
 use Rattle.ot_job.proofs.KeptLemmas.{at-updated, at-updated-other, at-more}
 use Rattle.ot_job.proofs.EachLemmas.{field-kept, field-more}
-use Rattle.ot_depend.proofs.SiblingsLemmas.{slice_get-push}
 
 -- ---- what a claim looks at
 

@@ -1,24 +1,12 @@
 -- Assignments on copies, given back, are the assignments on the cells.
-use Rattle.std.proofs.Common.{◌≡◌, ℕ, Bool, true, false, refl, sym, ap, subst, ◌∙◌, inl, inr}
-use Rattle.std.specs.Prelude.{if◌then◌else◌, Option, Some, None, option_map}
-use Rattle.ot_model.specs.Joining.{join_by}
+use Rattle.std.proofs.Common.{◌≡◌, ℕ, Bool, true, false, refl, sym, ap, subst, ◌∙◌, inl, inr, if◌then◌else◌, Option, Some, None, option_map}
+use Rattle.ot_job.proofs.Common.{join_by, E, Set, Fold, If, Task, Wait, Group, Body, End, Next, val, cell_of, same_cell, State, bump, change, serial, Cell, Operation, Mode, Reads, Writes, Folds, use_as, EachRead, EachTouch, same_is, Look, assigned, AreAssigns, same_self}
 use Rattle.ot_model.specs.Monoids.{join-associative, join-absorbed}
-use Rattle.ot_model.specs.Tree.{E, Set, Fold, If, Task, Wait, Group, Body, End, Next}
-use Rattle.ot_model.specs.Value.{val}
-use Rattle.ot_model.specs.Cells.{cell_of, with_cell, same_cell}
-use Rattle.ot_model.specs.Serial.{State, bump, change, serial}
-use Rattle.ot_model.specs.declared.expr.Cell.{Cell}
-use Rattle.ot_model.specs.declared.fold.Fold.{Fold as Operation}
-use Rattle.ot_model.specs.declared.stmt.Mode.{Mode}
-use Rattle.ot_model.specs.declared.stmt.Mode.TheVariants.{Reads, Writes, Folds}
+use Rattle.ot_model.specs.Cells.{with_cell}
 use Rattle.ot_model.proofs.CellsLemmas as model
-use Rattle.ot_check.specs.Paths.{use_as}
-use Rattle.ot_check.specs.Touches.{EachRead, EachTouch}
-use Rattle.ot_check.proofs.Cited.{read-weaker, value-same, same_is}
-use Rattle.ot_task.specs.Copies.{Look, with_copy, assigned}
+use Rattle.ot_check.proofs.Cited.{read-weaker, value-same}
+use Rattle.ot_task.specs.Copies.{with_copy}
 use Rattle.ot_job.proofs.Given.{IsGiven, Lets, LetsMode}
-use Rattle.ot_check.specs.Discipline.{AreAssigns}
-use Rattle.ot_task.proofs.CellLemmas.{same_self}
 
 module _ (modes : Cell → Option Mode) (before : Look) where
   abbrev pub Given : Look → State → Type 0

@@ -1,20 +1,9 @@
 -- What a job counts, now and at its end.
-use Rattle.std.proofs.Common.{◌≡◌, ℕ, ◌+◌, ◌≤◌, Bool, true, false, List, [], ◌∷◌, None, refl, ap, ◌∙◌, arith}
-use Rattle.std.specs.Prelude.{◌==◌, if◌then◌else◌}
-use Rattle.ot_model.specs.Tree.{Set, Fold, If, Task, Wait, Group, Body, End, Next}
-use Rattle.ot_model.specs.Value.{val}
-use Rattle.ot_model.specs.Cells.{cell_of, lengths}
+use Rattle.std.proofs.Common.{◌≡◌, ℕ, ◌+◌, ◌≤◌, Bool, true, false, List, [], ◌∷◌, None, refl, ap, ◌∙◌, arith, ◌==◌, if◌then◌else◌}
+use Rattle.ot_job.proofs.Common.{Set, Fold, If, Task, Wait, Group, Body, End, Next, val, cell_of, lengths, size, tasks_in, join_by, State, bump, change, either, serial, serial_run, state_of, AreAssigns, left, children_left, leading_len, counted, counts_after}
 use Rattle.ot_model.proofs.CellsLemmas.{lengths-with_cell}
-use Rattle.ot_model.specs.Counts.{size, tasks_in}
-use Rattle.ot_model.specs.Joining.{join_by}
-use Rattle.ot_model.specs.Serial.{State, bump, change, either, serial, serial_run}
-use Rattle.ot_model.specs.Runs.{state_of}
 use Rattle.ot_model.specs.declared.plain.Counts.{Counts}
 use Rattle.ot_model.proofs.SerialLemmas.{serial-from, either-both}
-use Rattle.ot_check.specs.Discipline.{AreAssigns}
-use Rattle.ot_job.specs.Left.{left, children_left}
-use Rattle.ot_task.specs.Pieces.{leading_len}
-use Rattle.ot_job.specs.Settling.{counted, counts_after}
 
 -- no less is counted
 abbrev Grows : State → State → Type 0

@@ -1,17 +1,8 @@
 -- The counters beside the tasks, through each change of the regions.
-use Rattle.std.proofs.Common.{◌≡◌, ◌<◌, ◌≤◌, ◌+◌, ◌-◌, ℕ, zero, suc, Bool, true, false, cond, not, ◌||◌, List, [], ◌∷◌, ◌++◌, length, refl, sym, ap, ◌∙◌, arith}
-use Rattle.std.specs.Prelude.{◌==◌, None, is_some}
-use Rattle.std.specs.List.{list_any, count_by}
-use Rattle.std.proofs.lemmas.Bool.Decides.{nat_tests}
-use Rattle.std.proofs.lemmas.List.Sums.{sum_by-cons, sum_by_push}
-use Rattle.ot_model.specs.declared.stmt.Use.{Use}
-use Rattle.ot_model.specs.Cells.{updated}
-use Rattle.ot_owner.specs.Leases.{Lease}
-use Rattle.ot_task.specs.Regions.{Region, with_child, stepped, stopped, over, without}
-use Rattle.ot_task.specs.Pieces.{begun}
-use Rattle.ot_job.specs.Numbered.{at}
-use Rattle.ot_job.specs.States.{any_out}
-use Rattle.ot_job.specs.Counting.{out_in, unended_in, AreCounted}
+use Rattle.std.proofs.Common.{◌≡◌, ◌<◌, ◌≤◌, ◌+◌, ◌-◌, ℕ, zero, suc, Bool, true, false, cond, not, ◌||◌, List, [], ◌∷◌, ◌++◌, length, refl, sym, ap, ◌∙◌, arith, ◌==◌, None, is_some, count_by}
+use Rattle.ot_job.proofs.Common.{list_any, nat_tests, sum_by-cons, Use, updated, Lease, Region, with_child, stepped, stopped, over, without, begun, at, any_out, out_in, AreCounted}
+use Rattle.std.proofs.lemmas.List.Sums.{sum_by_push}
+use Rattle.ot_job.specs.Counting.{unended_in}
 use Rattle.ot_job.proofs.StepLemmas.{stepped-field}
 
 -- ---- counts

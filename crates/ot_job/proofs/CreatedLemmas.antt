@@ -1,29 +1,10 @@
 -- A task that is created leaves what holds of its parent's region.
-use Rattle.std.proofs.Common.{◌≡◌, ℕ, zero, suc, Bool, true, false, not, ◌&&◌, ◌||◌, List, [], ◌∷◌, ◌++◌, map, length, refl, sym, ap, subst, ◌∙◌, ◌⊎◌, inl, inr, ⊎_elim, arith, true≢false}
-use Rattle.ot_task.specs.Regions.{Waiting, Region, with_rest, with_child}
-use Rattle.ot_task.specs.Waits.{is_awaited_at}
-use Rattle.std.specs.Prelude.{◌==◌, Some, slice_get}
-use Rattle.std.specs.List.{list_any}
-use Rattle.std.proofs.lemmas.Bool.Decides.{nat_tests}
-use Rattle.std.proofs.lemmas.Option.{same_Some}
+use Rattle.std.proofs.Common.{◌≡◌, ℕ, zero, suc, Bool, true, false, not, ◌&&◌, ◌||◌, List, [], ◌∷◌, ◌++◌, map, length, refl, sym, ap, subst, ◌∙◌, ◌⊎◌, inl, inr, ⊎_elim, arith, true≢false, ◌==◌, Some, slice_get}
+use Rattle.ot_job.proofs.Common.{Waiting, Region, with_rest, with_child, is_awaited_at, list_any, nat_tests, same_Some, Body, End, Next, Task, Cell, Operation, Mode, Reads, Writes, Folds, same_fold, Use, Sibling, created, is_unfinished, is_in, use_as, EachTouch, EachTask, Declared, allows, folds_to, has_cell, ReductionMisuse, or_true, true_or, or_right, and_left, and_right, and_true, IsClean, Open, todo, opened, children_of, IsFineAt, AwaitsAll, unawaited, DontMix, LetsAll, NamedOnce, OnlyFolds, IsPlaced, grouped_in}
 use Rattle.std.proofs.lemmas.List.Folds.{list_any-append}
-use Rattle.ot_model.specs.Tree.{Body, End, Next, Task}
-use Rattle.ot_model.specs.declared.expr.Cell.{Cell}
-use Rattle.ot_model.specs.declared.fold.Fold.{Fold as Operation}
-use Rattle.ot_model.specs.declared.stmt.Mode.{Mode}
-use Rattle.ot_model.specs.declared.stmt.Mode.TheVariants.{Reads, Writes, Folds}
-use Rattle.ot_model.specs.Uses.{same_fold}
-use Rattle.ot_model.specs.declared.stmt.Use.{Use}
-use Rattle.ot_depend.specs.Siblings.{Sibling, created, is_unfinished, is_in}
-use Rattle.ot_check.specs.Paths.{use_as}
-use Rattle.ot_check.specs.Touches.{EachTouch, EachTask}
-use Rattle.ot_check.specs.Offences.{Declared, allows, folds_to, exceeds, misfits, has_cell}
-use Rattle.ot_check.specs.declared.fault.Offence.TheVariants.{ChildBeyond, ReductionMisuse}
-use Rattle.ot_check.proofs.Cited.{or_true, true_or, or_right, and_left, and_right, and_true, is_offence-ChildBeyond, is_offence-ReductionMisuse, child_fits, fits-folds, fits-reads}
-use Rattle.ot_check.specs.Discipline.{IsClean}
-use Rattle.ot_task.specs.Place.{Open, todo}
-use Rattle.ot_job.specs.Awaiting.{opened, children_of, IsFineAt, AwaitsAll, unawaited}
-use Rattle.ot_job.specs.Sound.{DontMix, LetsAll, NamedOnce, OnlyFolds, IsPlaced, grouped_in}
+use Rattle.ot_check.specs.Offences.{exceeds, misfits}
+use Rattle.ot_check.specs.declared.fault.Offence.TheVariants.{ChildBeyond}
+use Rattle.ot_check.proofs.Cited.{is_offence-ChildBeyond, is_offence-ReductionMisuse, child_fits, fits-folds, fits-reads}
 use Rattle.ot_job.proofs.FoldLemmas.{one-op, writes-all, declares-fold, only-unwritten}
 use Rattle.ot_job.proofs.KeptLemmas.{todo-next}
 

@@ -1,8 +1,6 @@
 -- What is true of each region, where one changes, and where one more is there.
 use Rattle.std.proofs.Common.{◌≡◌, ℕ, zero, suc, List, [], ◌∷◌, ◌++◌, refl}
-use Rattle.ot_model.specs.Cells.{updated}
-use Rattle.ot_task.specs.Regions.{Region}
-use Rattle.ot_job.specs.Numbered.{at}
+use Rattle.ot_job.proofs.Common.{updated, Region, at}
 
 pub at-each : (P : Region → Type 0) (rs : List Region) (i : ℕ) (f : Region → Region) → ((k : ℕ) → P (at rs k)) → P (f (at rs i)) → (k : ℕ) → P (at (updated rs i f) k)
 at-each P [] i f old new k = old k

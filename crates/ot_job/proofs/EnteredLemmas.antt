@@ -1,19 +1,6 @@
 -- What is true of each open group, through each change of the regions.
-use Rattle.std.proofs.Common.{◌≡◌, ℕ, Bool, true, false, List, [], ◌∷◌, refl}
-use Rattle.std.specs.Prelude.{Option, Some, None, if◌then◌else◌, nat_lt, All}
-use Rattle.std.proofs.lemmas.List.Elements.{All-nil, All-cons, All-tail}
-use Rattle.ot_model.specs.Tree.{Set, Fold, If, Task, Wait, Group, Body, End, Next}
-use Rattle.ot_model.specs.Cells.{updated}
-use Rattle.ot_model.specs.declared.stmt.Use.{Use}
-use Rattle.ot_model.specs.declared.expr.Cell.{Cell}
-use Rattle.ot_model.specs.declared.fold.Fold.{Fold as Operation}
-use Rattle.ot_owner.specs.Leases.{Lease}
-use Rattle.ot_task.specs.Place.{Open}
-use Rattle.ot_task.specs.Regions.{Region, with_child, new_region, with_created, stepped, stepped_from, executed, next_task, rest_at, children_at, over, stopped, without}
-use Rattle.ot_task.specs.Pieces.{passed, begun}
-use Rattle.ot_task.specs.Standing.{is_at_end}
-use Rattle.ot_job.specs.Numbered.{at, parent_of}
-use Rattle.ot_job.specs.Settling.{told_parent, closed, moved_on, settled}
+use Rattle.std.proofs.Common.{◌≡◌, ℕ, Bool, true, false, List, [], ◌∷◌, refl, Option, Some, None, if◌then◌else◌, nat_lt, All}
+use Rattle.ot_job.proofs.Common.{All-nil, All-cons, All-tail, Set, Fold, If, Task, Wait, Group, Body, End, Next, updated, Use, Cell, Operation, Lease, Open, Region, with_child, new_region, with_created, stepped, stepped_from, executed, next_task, rest_at, children_at, over, stopped, without, passed, begun, is_at_end, at, parent_of, told_parent, closed, moved_on, settled}
 use Rattle.ot_job.proofs.EachLemmas.{at-each, more-each}
 
 module _ (P : Open → Type 0) where

@@ -1,19 +1,8 @@
 -- Modes that fold, and what a declaration lets a body fold.
-use Rattle.std.proofs.Common.{◌≡◌, Bool, true, false, not, ◌&&◌, List, [], ◌∷◌, refl, sym, ap, subst, ◌∙◌, inl, inr, true≢false}
-use Rattle.std.proofs.lemmas.Bool.{false_from_ne_true}
-use Rattle.std.specs.Prelude.{Some, None}
-use Rattle.ot_model.specs.Cells.{same_cell}
-use Rattle.ot_model.specs.Uses.{conflicts, same_fold}
-use Rattle.ot_model.specs.declared.expr.Cell.{Cell}
-use Rattle.ot_model.specs.declared.fold.Fold.{Fold as Operation}
-use Rattle.ot_model.specs.declared.stmt.Mode.{Mode}
-use Rattle.ot_model.specs.declared.stmt.Mode.TheVariants.{Reads, Writes, Folds}
-use Rattle.ot_model.specs.declared.stmt.Use.{Use}
+use Rattle.std.proofs.Common.{◌≡◌, Bool, true, false, not, ◌&&◌, List, [], ◌∷◌, refl, sym, ap, subst, ◌∙◌, inl, inr, true≢false, Some, None}
+use Rattle.ot_job.proofs.Common.{false_from_ne_true, same_cell, conflicts, same_fold, Cell, Operation, Mode, Reads, Writes, Folds, Use, use_as, Declared, allows, covers, folds_by, folds_to, or_true, true_or, or_right, or_false_left, or_false_right, not_false, OnlyFolds}
 use Rattle.ot_model.proofs.EqualLemmas.{fold-decides}
-use Rattle.ot_check.specs.Paths.{use_as}
-use Rattle.ot_check.specs.Offences.{Declared, allows, covers, folds_by, folds_to}
-use Rattle.ot_check.proofs.Cited.{or_true, true_or, or_right, or_false_left, or_false_right, not_false, folded}
-use Rattle.ot_job.specs.Sound.{OnlyFolds}
+use Rattle.ot_check.proofs.Cited.{folded}
 
 -- ---- operations
 

@@ -1,36 +1,9 @@
 -- Two pieces that are out hold nothing that conflicts.
-use Rattle.std.proofs.Common.{◌≡◌, ◌≢◌, ℕ, zero, suc, ◌<◌, Bool, true, false, ◌&&◌, List, [], ◌∷◌, length, get_or, refl, sym, ap, subst, ◌∙◌, ◌⊎◌, inl, inr, ⊎_elim, arith, true≢false}
-use Rattle.std.specs.Prelude.{Some, None, slice_get, if◌then◌else◌, IsTrue, Any}
-use Rattle.ot_check.specs.declared.fault.Offence.TheVariants.{NotDeclared}
-use Rattle.ot_model.specs.Tree.{Set, Fold, If, Task, Wait, Group, Body, End, Next, append}
-use Rattle.ot_model.specs.Names.{NamedIn}
-use Rattle.ot_model.specs.Uses.{Precedes, AreInOrder, Conflict, conflicts, mode_in}
-use Rattle.ot_model.specs.declared.expr.Cell.{Cell}
-use Rattle.ot_model.specs.declared.fold.Fold.{Fold as Operation}
-use Rattle.ot_model.specs.declared.stmt.Mode.{Mode}
-use Rattle.ot_model.specs.declared.stmt.Mode.TheVariants.{Reads, Writes, Folds}
-use Rattle.ot_model.specs.declared.stmt.Use.{Use}
-use Rattle.ot_depend.specs.Siblings.{Sibling}
-use Rattle.ot_check.specs.Paths.{use_as}
-use Rattle.ot_check.specs.Offences.{Declared, Openings, allows, covers, folds_by, folds_to}
-use Rattle.ot_check.specs.Discipline.{Children, IsFine, IsHarmless, AreAssigns}
-use Rattle.ot_model.specs.Cells.{same_cell}
-use Rattle.ot_check.specs.Touches.{Agree}
-use Rattle.ot_check.proofs.Cited.{or_true, true_or, or_right, or_false_left, or_false_right, not_false, harmless, harmless_if, same_is}
-use Rattle.ot_job.specs.Rights.{IsRight}
-use Rattle.ot_task.specs.Place.{Open, todo}
-use Rattle.ot_job.specs.Awaiting.{opened, children_of, IsFineAt, unawaited, Kids}
+use Rattle.std.proofs.Common.{◌≡◌, ◌≢◌, ℕ, zero, suc, ◌<◌, Bool, true, false, ◌&&◌, List, [], ◌∷◌, length, get_or, refl, sym, ap, subst, ◌∙◌, ◌⊎◌, inl, inr, ⊎_elim, arith, true≢false, Some, None, slice_get, if◌then◌else◌, IsTrue, Any}
+use Rattle.ot_job.proofs.Common.{NotDeclared, Set, Fold, If, Task, Wait, Group, Body, End, Next, append, NamedIn, Precedes, AreInOrder, Conflict, conflicts, mode_in, Cell, Operation, Mode, Reads, Writes, Folds, Use, Sibling, use_as, Declared, Openings, allows, covers, folds_by, folds_to, Children, IsFine, IsHarmless, AreAssigns, same_cell, Agree, or_true, true_or, or_right, or_false_left, or_false_right, not_false, harmless, harmless_if, same_is, IsRight, Open, todo, opened, children_of, IsFineAt, unawaited, Kids, same_self, Region, Run, at, parent_of, parents, IsPlaced, IsSound, test_of, piece_touches, assign_touches, test_touches, RunsWell, assigns_out, whole, wholes}
 use Rattle.ot_job.proofs.Order.{IsBefore, Each, Ordered, order, order-ordered}
 use Rattle.ot_job.proofs.Kept.{In}
-use Rattle.ot_task.proofs.CellLemmas.{same_self}
 use Rattle.ot_job.proofs.RightsLemmas.{right_apart, right_may}
-use Rattle.ot_task.specs.Regions.{Region, Run}
-use Rattle.ot_job.specs.Numbered.{at, parent_of, parents}
-use Rattle.ot_job.specs.Sound.{IsPlaced, IsSound}
-use Rattle.ot_task.specs.Pieces.{test_of}
-use Rattle.ot_task.specs.Touched.{piece_touches, assign_touches, test_touches}
-use Rattle.ot_job.specs.Running.{RunsWell}
-use Rattle.ot_job.specs.Whole.{assigns_out, whole, wholes}
 use Rattle.ot_job.proofs.KeptLemmas.{here, family_of}
 use Rattle.ot_job.proofs.CreatedLemmas.{grouped-opened}
 use Rattle.ot_job.proofs.FoldLemmas.{held-alike}

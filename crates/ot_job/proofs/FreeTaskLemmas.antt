@@ -1,26 +1,10 @@
 -- A job that is not ended, and of which no piece is out, has a task that is claimable.
-use Rattle.std.proofs.Common.{◌≡◌, ℕ, zero, suc, ◌+◌, ◌<◌, Bool, true, false, cond, not, ◌&&◌, ◌||◌, List, [], ◌∷◌, length, get_or, refl, sym, ap, subst, ◌∙◌, arith, true≢false}
-use Rattle.std.specs.Prelude.{◌==◌, Some, None, is_some, slice_get, filter, count_by, IsTrue, if◌then◌else◌}
-use Rattle.std.specs.List.{All, range_with_len}
-use Rattle.std.proofs.lemmas.Bool.Decides.{nat_tests}
-use Rattle.std.proofs.lemmas.List.{length-map}
-use Rattle.ot_model.specs.Tree.{Body, End, Next}
-use Rattle.ot_depend.specs.Siblings.{Sibling, is_ready, is_unfinished, is_unfinished_in}
+use Rattle.std.proofs.Common.{◌≡◌, ℕ, zero, suc, ◌+◌, ◌<◌, Bool, true, false, cond, not, ◌&&◌, ◌||◌, List, [], ◌∷◌, length, get_or, refl, sym, ap, subst, ◌∙◌, arith, true≢false, ◌==◌, Some, None, is_some, slice_get, filter, count_by, IsTrue, if◌then◌else◌, All}
+use Rattle.ot_job.proofs.Common.{range_with_len, nat_tests, length-map, Body, End, Next, Sibling, is_ready, is_unfinished, is_unfinished_in, and_true, or_false_left, or_false_right, Open, Region, at, parent_of, whole, wholes, is_claimable, claimable_of, is_held, is_let_go, end_lets_go, Live, IsWell, any_out, all_ended, state_in, Working, Failing, Ended, Failed}
 use Rattle.ot_depend.proofs.CountLemmas.{none_unfinished, none_unfinished_in}
 use Rattle.ot_depend.proofs.ReadyLemmas.{is_ready-told}
-use Rattle.ot_check.proofs.Cited.{and_true, or_false_left, or_false_right}
-use Rattle.ot_task.specs.Place.{Open}
-use Rattle.ot_task.specs.Regions.{Region}
-use Rattle.ot_job.specs.Numbered.{at, parent_of}
-use Rattle.ot_job.specs.Whole.{whole, wholes}
-use Rattle.ot_job.specs.Claiming.{is_claimable, claimable_of}
-use Rattle.ot_task.specs.Waits.{is_held, is_let_go, end_lets_go}
 use Rattle.ot_job.proofs.UnawaitedLemmas.{held-unfinished}
 use Rattle.ot_job.proofs.AwakeLemmas.{none-counted}
-use Rattle.ot_job.specs.Live.{Live}
-use Rattle.ot_job.specs.Well.{IsWell}
-use Rattle.ot_job.specs.States.{any_out, all_ended, state_in}
-use Rattle.ot_job.specs.declared.state.State.TheVariants.{Working, Failing, Ended, Failed}
 use Rattle.ot_job.proofs.StuckLemmas.{AllFinished, Free, never_stuck}
 use Rattle.ot_job.proofs.FreeLemmas.{at-whole}
 use Rattle.ot_job.proofs.WellLemmas.{none-running}

@@ -1,10 +1,6 @@
 -- Copies that are given back, and what their modes let a touch do.
-use Rattle.std.specs.Prelude.{◌≡◌, ◌⊎◌, ℕ, Option, Some, None}
-use Rattle.ot_model.specs.Joining.{join_by, unit_of}
-use Rattle.ot_model.specs.declared.expr.Cell.{Cell}
-use Rattle.ot_model.specs.declared.stmt.Mode.{Mode}
-use Rattle.ot_model.specs.declared.stmt.Mode.TheVariants.{Reads, Writes, Folds}
-use Rattle.ot_model.specs.declared.stmt.Use.{Use}
+use Rattle.std.proofs.Common.{◌≡◌, ◌⊎◌, ℕ, Option, Some, None}
+use Rattle.ot_job.proofs.Common.{join_by, unit_of, Cell, Mode, Reads, Writes, Folds, Use}
 
 -- a cell, its copy, and what becomes of the cell when the copy is given back
 abbrev pub IsGiven : Option Mode → (before copy after : Option ℕ) → Type 0

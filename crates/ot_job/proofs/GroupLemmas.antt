@@ -1,27 +1,7 @@
 -- Entering a group and passing its end leave what holds of a region.
-use Rattle.std.proofs.Common.{◌≡◌, ℕ, zero, suc, Bool, true, false, not, ◌&&◌, ◌||◌, List, [], ◌∷◌, sym, ap, subst, ◌∙◌, inl, inr, ⊎_elim, true≢false}
-use Rattle.std.proofs.lemmas.Bool.{false_from_ne_true}
-use Rattle.std.specs.Prelude.{None, Some, slice_get}
-use Rattle.std.specs.List.{list_any}
-use Rattle.ot_model.specs.Tree.{S, Body, End, Next, Group, append}
-use Rattle.ot_model.specs.declared.expr.Cell.{Cell}
-use Rattle.ot_model.specs.declared.fold.Fold.{Fold as Operation}
-use Rattle.ot_model.specs.Uses.{conflicts, same_fold}
-use Rattle.ot_model.specs.declared.stmt.Mode.{Mode}
-use Rattle.ot_model.specs.declared.stmt.Mode.TheVariants.{Reads, Writes, Folds}
-use Rattle.ot_model.specs.declared.stmt.Use.{Use}
-use Rattle.ot_depend.specs.Siblings.{Sibling, is_unfinished, is_in}
-use Rattle.ot_check.specs.Paths.{use_as}
-use Rattle.ot_check.specs.Touches.{EachTouch, EachTask}
-use Rattle.ot_check.specs.Offences.{allows, clashes, has_cell, opened_by_any}
-use Rattle.ot_model.specs.Cells.{same_cell}
-use Rattle.ot_check.specs.declared.fault.Offence.TheVariants.{ReductionMisuse, ConflictsWithChild}
-use Rattle.ot_check.proofs.Cited.{or_true, true_or, or_right, and_right, or_false_left, or_false_right, is_offence-Group, group_free, groups_inside, opened-none, same_is, clash_free}
-use Rattle.ot_check.specs.Discipline.{IsClean}
-use Rattle.ot_task.specs.Place.{Open, todo}
-use Rattle.ot_job.specs.Awaiting.{opened, children_of, IsFineAt, AwaitsAll, unawaited}
-use Rattle.ot_task.specs.Regions.{Region, with_rest, inside}
-use Rattle.ot_job.specs.Sound.{LetsAll, NamedOnce, IsPlaced, grouped_in}
+use Rattle.std.proofs.Common.{◌≡◌, ℕ, zero, suc, Bool, true, false, not, ◌&&◌, ◌||◌, List, [], ◌∷◌, sym, ap, subst, ◌∙◌, inl, inr, ⊎_elim, true≢false, None, Some, slice_get}
+use Rattle.ot_job.proofs.Common.{false_from_ne_true, list_any, S, Body, End, Next, Group, append, Cell, Operation, conflicts, same_fold, Mode, Reads, Writes, Folds, Use, Sibling, is_unfinished, is_in, use_as, EachTouch, EachTask, allows, clashes, has_cell, opened_by_any, same_cell, ReductionMisuse, ConflictsWithChild, or_true, true_or, or_right, and_right, or_false_left, or_false_right, group_free, groups_inside, opened-none, same_is, clash_free, IsClean, Open, todo, opened, children_of, IsFineAt, AwaitsAll, unawaited, Region, with_rest, inside, LetsAll, NamedOnce, IsPlaced, grouped_in}
+use Rattle.ot_check.proofs.Cited.{is_offence-Group}
 use Rattle.ot_job.proofs.KeptLemmas.{todo-next}
 
 pub touch-append : (P : Use → Type 0) (a b : Body) → EachTouch P a → EachTouch P b → EachTouch P (append a b)

@@ -1,22 +1,6 @@
 -- The inputs of a piece that is out stay what they were: what comes back changes no cell that another piece reads or writes.
-use Rattle.std.proofs.Common.{◌≡◌, ℕ, suc, Bool, true, false, cond, List, [], ◌∷◌, map, refl, sym, ap, subst, ◌∙◌, inl, inr, arith, true≢false}
-use Rattle.std.specs.Prelude.{Option, Some, None, IsSome, IsTrue, option_map, unwrap_or, Any}
-use Rattle.std.specs.List.{All, find}
-use Rattle.std.proofs.lemmas.List.Elements.{All-nil, All-cons, All-head, All-tail}
-use Rattle.std.proofs.lemmas.Option.{same_Some}
-use Rattle.std.proofs.lemmas.Iterator.Adapters.{option_map_id}
-use Rattle.std.proofs.lemmas.Bool.{false_from_ne_true}
-use Rattle.ot_model.specs.Cells.{cell_of}
-use Rattle.ot_model.specs.Uses.{conflicts, is_fold, joined, first_of, Conflict}
-use Rattle.ot_model.specs.declared.expr.Cell.{Cell}
-use Rattle.ot_model.specs.declared.stmt.Mode.{Mode}
-use Rattle.ot_model.specs.declared.stmt.Mode.TheVariants.{Reads, Writes, Folds}
-use Rattle.ot_model.specs.declared.stmt.Use.{Use}
-use Rattle.ot_owner.specs.Leases.{lent_from, copy_of}
-use Rattle.ot_owner.specs.Lending.{is_at, use_of, uses_of}
-use Rattle.ot_owner.specs.Worth.{AreJoined}
-use Rattle.ot_owner.specs.declared.lent.LentCell.{LentCell}
-use Rattle.ot_owner.proofs.LentLemmas.{found-lent}
+use Rattle.std.proofs.Common.{◌≡◌, ℕ, suc, Bool, true, false, cond, List, [], ◌∷◌, map, refl, sym, ap, subst, ◌∙◌, inl, inr, arith, true≢false, Option, Some, None, IsSome, IsTrue, option_map, unwrap_or, Any, All, find}
+use Rattle.ot_job.proofs.Common.{All-nil, All-cons, All-head, All-tail, same_Some, option_map_id, false_from_ne_true, cell_of, conflicts, is_fold, joined, first_of, Conflict, Cell, Mode, Reads, Writes, Folds, Use, lent_from, copy_of, is_at, use_of, uses_of, AreJoined, LentCell, found-lent}
 use Rattle.ot_job.proofs.BackLemmas.{HasInputs, found}
 use Rattle.ot_job.proofs.HoldsLemmas.{Among}
 

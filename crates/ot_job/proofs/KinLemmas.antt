@@ -1,19 +1,8 @@
 -- A task that is created leaves who is whose child.
-use Rattle.std.proofs.Common.{◌≡◌, ◌≢◌, ℕ, ◌+◌, ◌<◌, ◌≤◌, List, [], ◌∷◌, ◌++◌, map, length, refl, sym, ap, subst, ◌∙◌, ◌⊎◌, inl, inr, arith, length-append}
-use Rattle.std.specs.Prelude.{Some, slice_get}
-use Rattle.std.proofs.lemmas.Bool.{cases_eq, cases_lt}
-use Rattle.std.proofs.lemmas.Option.{slice_get_within}
-use Rattle.ot_model.specs.Tree.{Body}
-use Rattle.ot_model.specs.Cells.{updated}
-use Rattle.ot_model.proofs.CellsLemmas.{length-updated}
-use Rattle.ot_model.specs.declared.stmt.Use.{Use}
-use Rattle.ot_depend.specs.Siblings.{Sibling, created, IsReady}
-use Rattle.ot_task.specs.Regions.{Region, with_child, new_region}
-use Rattle.ot_job.specs.Numbered.{at, parent_of}
-use Rattle.ot_job.specs.Sound.{IsBegun, IsKin, IsSound}
+use Rattle.std.proofs.Common.{◌≡◌, ◌≢◌, ℕ, ◌+◌, ◌<◌, ◌≤◌, List, [], ◌∷◌, ◌++◌, map, length, refl, sym, ap, subst, ◌∙◌, ◌⊎◌, inl, inr, arith, length-append, Some, slice_get}
+use Rattle.ot_job.proofs.Common.{cases_eq, cases_lt, slice_get_within, Body, updated, length-updated, Use, Sibling, created, IsReady, Region, with_child, new_region, at, parent_of, IsBegun, IsKin, IsSound, slice_get-push}
 use Rattle.ot_job.proofs.KeptLemmas.{at-updated, at-updated-other, at-more, at-new}
 use Rattle.ot_job.proofs.EachLemmas.{field-kept}
-use Rattle.ot_depend.proofs.SiblingsLemmas.{slice_get-push}
 
 pub get-last : {A : Type 0} (xs : List A) (x : A) → slice_get (xs ++ x ∷ []) (length xs) ≡ Some x
 get-last [] x = refl

@@ -1,36 +1,8 @@
 -- What a job asks of its owners, where a piece is lent and where it comes back.
-use Rattle.std.proofs.Common.{◌≡◌, ℕ, zero, suc, ◌<◌, true, false, inl, inr, List, [], ◌∷◌, ◌++◌, get_or, length, refl, sym, ap, subst, ◌∙◌, arith}
-use Rattle.std.specs.Prelude.{Option, Some, None, All, Any, Contains, IsSome, IfSome, replicate}
+use Rattle.std.proofs.Common.{◌≡◌, ℕ, zero, suc, ◌<◌, true, false, inl, inr, List, [], ◌∷◌, ◌++◌, get_or, length, refl, sym, ap, subst, ◌∙◌, arith, Option, Some, None, All, Any, Contains, IsSome, IfSome, replicate}
+use Rattle.ot_job.proofs.Common.{All-contains, All-permutation, IsPermutation-sym, cell_of, lengths, updated, End, AreInOrder, is_fold, mode_in, Cell, Operation, Mode, Writes, Folds, Use, has_cell, Lease, lease_of, lent_from, use_of, uses_of, Loan, Owned, IsFreeFor, Summed, IsSummed, IsSummedBy, begun_for, AreWorthSame, worths, LentCell, worths-same, AreHeld, begun, group_passed, Open, Region, Run, is_claimable, Live, at, AreOpen, IsRoomFor, Opens, left_open, IsWell, IsOnCourse, loans_out}
 use Rattle.std.proofs.lemmas.List.{append-nil}
-use Rattle.std.proofs.lemmas.List.Elements.{All-contains}
-use Rattle.std.proofs.lemmas.List.Sorted.{All-permutation, IsPermutation-sym}
-use Rattle.ot_model.specs.Cells.{cell_of, lengths, updated}
-use Rattle.ot_model.specs.Tree.{End}
-use Rattle.ot_model.specs.Uses.{AreInOrder, is_fold, mode_in}
-use Rattle.ot_model.specs.declared.expr.Cell.{Cell}
-use Rattle.ot_model.specs.declared.fold.Fold.{Fold as Operation}
-use Rattle.ot_model.specs.declared.stmt.Mode.{Mode}
-use Rattle.ot_model.specs.declared.stmt.Mode.TheVariants.{Writes, Folds}
-use Rattle.ot_model.specs.declared.stmt.Use.{Use}
-use Rattle.ot_check.specs.Offences.{has_cell}
-use Rattle.ot_owner.specs.Leases.{Lease, lease_of, lent_from}
-use Rattle.ot_owner.specs.Lending.{use_of, uses_of}
-use Rattle.ot_owner.specs.Owning.{Loan, Owned, IsFreeFor}
-use Rattle.ot_owner.specs.Rows.{Summed, IsSummed, IsSummedBy, begun_for}
-use Rattle.ot_owner.specs.Worth.{AreWorthSame, worths}
-use Rattle.ot_owner.specs.declared.lent.LentCell.{LentCell}
-use Rattle.ot_owner.proofs.WorthLemmas.{worths-same}
-use Rattle.ot_task.specs.Modes.{AreHeld}
-use Rattle.ot_task.specs.Pieces.{begun, group_passed}
-use Rattle.ot_task.specs.Place.{Open}
-use Rattle.ot_task.specs.Regions.{Region, Run}
-use Rattle.ot_job.specs.Claiming.{is_claimable}
-use Rattle.ot_job.specs.Live.{Live}
-use Rattle.ot_job.specs.Numbered.{at}
-use Rattle.ot_job.specs.Opened.{AreOpen, IsRoomFor, opened_under}
-use Rattle.ot_job.specs.Opening.{Opens, left_open}
-use Rattle.ot_job.specs.Well.{IsWell, IsOnCourse}
-use Rattle.ot_job.specs.Whole.{loans_out}
+use Rattle.ot_job.specs.Opened.{opened_under}
 use Rattle.ot_job.proofs.FreeLemmas.{mode-once}
 use Rattle.ot_job.proofs.HoldsLemmas.{Among}
 use Rattle.ot_job.proofs.OpenedLemmas.{claim-unopened, claim-folded, group_free, groups-there, held-unopened}

@@ -1,39 +1,14 @@
 -- The copies that a piece was lent let each of its touches be made as it is meant: what is read is no fold, what is written
 -- is lent to be written.
-use Rattle.std.proofs.Common.{◌≡◌, ◌<◌, ℕ, ◌+◌, ◌%◌, Bool, true, false, cond, List, [], ◌∷◌, map, refl, sym, ap, subst, ◌∙◌, inl, arith}
-use Rattle.std.specs.Prelude.{Option, Some, None, option_map, if◌then◌else◌}
-use Rattle.std.specs.List.{find, range_with_len}
+use Rattle.std.proofs.Common.{◌≡◌, ◌<◌, ℕ, ◌+◌, ◌%◌, Bool, true, false, cond, List, [], ◌∷◌, map, refl, sym, ap, subst, ◌∙◌, inl, arith, Option, Some, None, option_map, if◌then◌else◌, find}
+use Rattle.ot_job.proofs.Common.{range_with_len, E, Literal, CellAt, Apply, PickFrom, Set, Fold, If, Task, Wait, Group, Body, End, Next, append, NamedIn, ValueNamedIn, cell_at, cells_named, same_cell, mode_in, Cell, Operation, Mode, Reads, Writes, Folds, Use, use_as, touches, Declared, Openings, allows, folds_to, EachRead, EachTouch, Children, IsFine, AreAssigns, NotDeclared, is_at, uses_of, LentCell, IsRight, OnlyFolds, test_of, assign_touches, test_touches, piece_touches, held, held_as, mode_held, reads-append, not_false}
 use Rattle.std.proofs.Math.Nat.{mod-lt}
-use Rattle.ot_model.specs.Tree.{E, Literal, CellAt, Apply, PickFrom, Set, Fold, If, Task, Wait, Group, Body, End, Next, append}
-use Rattle.ot_model.specs.Names.{NamedIn, ValueNamedIn}
-use Rattle.ot_model.specs.Value.{cell_at, cells_named}
-use Rattle.ot_model.specs.Cells.{same_cell}
-use Rattle.ot_model.specs.Uses.{mode_in}
-use Rattle.ot_model.specs.declared.expr.Cell.{Cell}
-use Rattle.ot_model.specs.declared.fold.Fold.{Fold as Operation}
-use Rattle.ot_model.specs.declared.stmt.Mode.{Mode}
-use Rattle.ot_model.specs.declared.stmt.Mode.TheVariants.{Reads, Writes, Folds}
-use Rattle.ot_model.specs.declared.stmt.Use.{Use}
-use Rattle.ot_check.specs.Paths.{use_as, touches}
-use Rattle.ot_check.specs.Offences.{Declared, Openings, allows, folds_to}
-use Rattle.ot_check.specs.Touches.{EachRead, EachTouch}
-use Rattle.ot_check.specs.Discipline.{Children, IsFine, AreAssigns}
-use Rattle.ot_check.specs.declared.fault.Offence.TheVariants.{NotDeclared}
-use Rattle.ot_owner.specs.Lending.{is_at, uses_of}
-use Rattle.ot_owner.specs.declared.lent.LentCell.{LentCell}
 use Rattle.ot_job.proofs.Given.{Lets, LetsMode}
-use Rattle.ot_job.specs.Rights.{IsRight}
-use Rattle.ot_job.specs.Sound.{OnlyFolds}
-use Rattle.ot_task.specs.Pieces.{test_of}
-use Rattle.ot_task.specs.Touched.{assign_touches, test_touches, piece_touches}
-use Rattle.ot_task.specs.Modes.{held, held_as, mode_held}
 use Rattle.ot_job.proofs.BackLemmas.{mode_at}
 use Rattle.ot_job.proofs.CoverLemmas.{Covers, covered, flip, in-section, among-left, among-right}
 use Rattle.ot_job.proofs.FoldLemmas.{one-fold, held-alike, only-unread, only-unwritten}
 use Rattle.ot_job.proofs.FreeLemmas.{piece-safe, named-half, named-back}
-use Rattle.ot_task.proofs.HeldLemmas.{reads-append}
 use Rattle.ot_job.proofs.HoldsLemmas.{Among, held-right}
-use Rattle.ot_check.proofs.Cited.{not_false}
 
 -- ---- from each touch in the list to each touch of the body
 

@@ -1,19 +1,13 @@
 -- Numbers that are listed by bits, 64 to a word.
-use Rattle.std.proofs.Common.{◌≡◌, ◌≢◌, ◌==◌, ◌<◌, ◌≤◌, ◌+◌, ◌-◌, ◌*◌, ◌/◌, ◌%◌, ◌^◌, ℕ, zero, suc, Bool, true, false, cond, List, [], ◌∷◌, ◌++◌, map, set, drop, length, get_or, refl, sym, ap, subst, ◌∙◌, inl, inr, arith, w64, bit_and}
-use Rattle.std.specs.Prelude.{Some, None, slice_get, option_map, ◌⊎◌}
+use Rattle.std.proofs.Common.{◌≡◌, ◌≢◌, ◌==◌, ◌<◌, ◌≤◌, ◌+◌, ◌-◌, ◌*◌, ◌/◌, ◌%◌, ◌^◌, ℕ, zero, suc, Bool, true, false, cond, List, [], ◌∷◌, ◌++◌, map, set, drop, length, get_or, refl, sym, ap, subst, ◌∙◌, inl, inr, arith, w64, bit_and, Some, None, slice_get, option_map, ◌⊎◌}
+use Rattle.ot_job.proofs.Common.{range_with_len, length-filter, count_by-le-length, length-range_with_len, cases_eq, cases_lt, length-map, length-set, length-append, get_or-set_same, get_or_default, bit_at_clear_same, bit_at_clear_other, slice_get-get_or, has, has_number, numbers_in, IsListBelow}
 use Rattle.std.specs.Int.{bit_at, bit_not, trailing_zeros}
-use Rattle.std.specs.List.{range_with_len}
-use Rattle.std.proofs.lemmas.List.Sums.{length-filter, count_by-le-length}
-use Rattle.std.proofs.lemmas.List.FromFn.{length-range_with_len}
 use Rattle.std.specs.Int.Count.{ones, ones_step, ones-le}
-use Rattle.std.proofs.lemmas.Bool.{cases_eq, cases_lt}
-use Rattle.std.proofs.lemmas.List.{length-map, length-set, length-append, get_or-set_same, get_or-set_other, get_or_past, get_or_default, length-drop}
-use Rattle.std.proofs.lemmas.Nat.Bits.{bit_at-zero, bit_at-suc, bit_at_lowest, bit_at-trailing_zeros, bit_at_clear_same, bit_at_clear_other}
+use Rattle.std.proofs.lemmas.List.{get_or-set_other, get_or_past, length-drop}
+use Rattle.std.proofs.lemmas.Nat.Bits.{bit_at-zero, bit_at-suc, bit_at_lowest, bit_at-trailing_zeros}
 use Rattle.std.proofs.lemmas.Nat.{shr_below}
-use Rattle.std.proofs.lemmas.Option.{slice_get-map, slice_get-get_or, slice_get_past}
-use Rattle.ot_depend.specs.Kept.{has}
-use Rattle.ot_job.specs.Listed.{has_bit, bits_in, has_number, numbers_in}
-use Rattle.ot_job.specs.Listing.{IsListBelow}
+use Rattle.std.proofs.lemmas.Option.{slice_get-map, slice_get_past}
+use Rattle.ot_job.specs.Listed.{has_bit, bits_in}
 use Rattle.ot_job.proofs.ListingLemmas.{those, those-same, has-those, has-behind, listed, those-longer}
 
 pub has-in : (ws : List ℕ) (k : ℕ) → has k (numbers_in ws) ≡ has_number ws k

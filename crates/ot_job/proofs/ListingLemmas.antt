@@ -1,10 +1,7 @@
 -- Lists of numbers in their order.
-use Rattle.std.proofs.Common.{◌≡◌, ◌≢◌, ◌<◌, ◌≤◌, ◌+◌, ◌-◌, ◌||◌, ℕ, zero, suc, Bool, true, false, cond, List, [], ◌∷◌, refl, sym, ap, subst, ◌∙◌, inl, inr, arith}
-use Rattle.std.specs.Prelude.{filter}
-use Rattle.std.specs.List.{range_with_len}
-use Rattle.std.proofs.lemmas.Bool.{cases_eq, ne_eqb, eq-eqb}
-use Rattle.ot_depend.specs.Kept.{has}
-use Rattle.ot_job.specs.Listing.{IsListBelow}
+use Rattle.std.proofs.Common.{◌≡◌, ◌≢◌, ◌<◌, ◌≤◌, ◌+◌, ◌-◌, ◌||◌, ℕ, zero, suc, Bool, true, false, cond, List, [], ◌∷◌, refl, sym, ap, subst, ◌∙◌, inl, inr, arith, filter}
+use Rattle.ot_job.proofs.Common.{range_with_len, cases_eq, eq-eqb, has, IsListBelow}
+use Rattle.std.proofs.lemmas.Bool.{ne_eqb}
 
 -- the numbers from one on, so many, that pass a test
 abbrev pub those : (ℕ → Bool) → ℕ → ℕ → List ℕ

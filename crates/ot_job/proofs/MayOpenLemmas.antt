@@ -1,33 +1,6 @@
 -- A group that comes next in a task may be opened once the task's piece has come back.
-use Rattle.std.proofs.Common.{◌≡◌, ◌≢◌, ℕ, true, false, ◌↔◌, ◌&&◌, ◌||◌, List, ◌∷◌, Contains, refl, sym, ap, subst, ◌∙◌, ◌⊎◌, inl, inr, true≢false}
-use Rattle.std.specs.Prelude.{Option, Some, None, not, IfSome}
-use Rattle.std.specs.List.{list_any}
-use Rattle.std.proofs.lemmas.Bool.{cases_eq, false_from_ne_true}
-use Rattle.std.proofs.lemmas.List.Sorted.{All-permutation, IsPermutation-sym, IsPermutation-trans}
-use Rattle.ot_model.specs.Tree.{Set, Fold, If, Task, Wait, Group, Body, End, Next, append}
-use Rattle.ot_model.specs.Cells.{lengths, updated}
-use Rattle.ot_model.specs.Uses.{Conflict, mode_in, same_fold}
-use Rattle.ot_model.specs.declared.expr.Cell.{Cell}
-use Rattle.ot_model.specs.declared.fold.Fold.{Fold as Operation}
-use Rattle.ot_model.specs.declared.stmt.Mode.{Mode}
-use Rattle.ot_model.specs.declared.stmt.Mode.TheVariants.{Writes, Folds}
-use Rattle.ot_model.specs.declared.stmt.Use.{Use}
-use Rattle.ot_check.specs.Paths.{use_as}
-use Rattle.ot_check.specs.Offences.{allows, clashes, has_cell, opened_by_any}
-use Rattle.ot_check.specs.Discipline.{IsFine}
-use Rattle.ot_check.proofs.Cited.{or_right, and_true, group_free, groups_inside, opened-none}
-use Rattle.ot_owner.specs.Owning.{Loan}
-use Rattle.ot_owner.specs.Rows.{IsNamed}
-use Rattle.ot_owner.proofs.OutLemmas.{permutation_rest}
-use Rattle.ot_task.specs.Regions.{Region, Run, group_next, stopped, with_rest}
-use Rattle.ot_job.specs.Awaiting.{opened, children_of, unawaited}
-use Rattle.ot_job.specs.Live.{Live}
-use Rattle.ot_job.specs.Numbered.{at}
-use Rattle.ot_job.specs.Opened.{IsRoomFor}
-use Rattle.ot_job.specs.Opening.{MayOpen}
-use Rattle.ot_job.specs.Sound.{IsPlaced}
-use Rattle.ot_job.specs.Well.{IsWell, IsOnCourse}
-use Rattle.ot_job.specs.Whole.{assigns_out, whole, loan_in, loans_out}
+use Rattle.std.proofs.Common.{◌≡◌, ◌≢◌, ℕ, true, false, ◌↔◌, ◌&&◌, ◌||◌, List, ◌∷◌, Contains, refl, sym, ap, subst, ◌∙◌, ◌⊎◌, inl, inr, true≢false, Option, Some, None, not, IfSome}
+use Rattle.ot_job.proofs.Common.{list_any, cases_eq, false_from_ne_true, All-permutation, IsPermutation-sym, IsPermutation-trans, Set, Fold, If, Task, Wait, Group, Body, End, Next, append, lengths, updated, Conflict, mode_in, same_fold, Cell, Operation, Mode, Writes, Folds, Use, use_as, allows, clashes, has_cell, opened_by_any, IsFine, or_right, and_true, group_free, groups_inside, opened-none, Loan, IsNamed, permutation_rest, Region, Run, group_next, stopped, with_rest, opened, children_of, unawaited, Live, at, IsRoomFor, MayOpen, IsPlaced, IsWell, IsOnCourse, assigns_out, whole, loan_in, loans_out}
 use Rattle.ot_job.proofs.FoldLemmas.{same-op}
 use Rattle.ot_job.proofs.FreeLemmas.{fine-innermost}
 use Rattle.ot_job.proofs.GroupLemmas.{unused, writes-agree, clean-group}

@@ -1,28 +1,7 @@
 -- A task moves on behind its piece: what holds of the regions, and what is left of the job, stays.
-use Rattle.std.proofs.Common.{◌≡◌, ℕ, zero, suc, ◌<◌, ◌≤◌, Bool, true, false, List, [], ◌∷◌, ◌++◌, length, refl, sym, ap, subst, ◌∙◌, ◌⊎◌, inl, inr, arith}
-use Rattle.std.specs.Prelude.{Option}
-use Rattle.std.specs.Prelude.{Some, None, nat_lt, ◌==◌, if◌then◌else◌}
-use Rattle.std.proofs.lemmas.Bool.{cases_eq}
-use Rattle.std.proofs.lemmas.Bool.Decides.{nat_tests}
-use Rattle.ot_model.specs.Tree.{E, S, Set, Fold, If, Task, Wait, Group, Body, End, Next, append}
-use Rattle.ot_model.specs.Value.{val}
-use Rattle.ot_model.specs.Names.{NamedIn}
-use Rattle.ot_model.specs.Cells.{cell_of, updated}
-use Rattle.ot_model.specs.Uses.{AreInOrder}
-use Rattle.ot_model.specs.Serial.{State, bump, either}
-use Rattle.ot_model.specs.declared.stmt.Use.{Use}
-use Rattle.ot_model.specs.declared.expr.Cell.{Cell}
-use Rattle.ot_model.specs.declared.fold.Fold.{Fold as Operation}
-use Rattle.ot_model.proofs.CellsLemmas.{length-updated}
+use Rattle.std.proofs.Common.{◌≡◌, ℕ, zero, suc, ◌<◌, ◌≤◌, Bool, true, false, List, [], ◌∷◌, ◌++◌, length, refl, sym, ap, subst, ◌∙◌, ◌⊎◌, inl, inr, arith, Option, Some, None, nat_lt, ◌==◌, if◌then◌else◌}
+use Rattle.ot_job.proofs.Common.{cases_eq, nat_tests, E, S, Set, Fold, If, Task, Wait, Group, Body, End, Next, append, val, NamedIn, cell_of, updated, AreInOrder, State, bump, either, Use, Cell, Operation, length-updated, left, Open, todo, Region, with_rest, with_child, new_region, inside, stepped, stepped_from, with_created, next_task, executed, leading, test_of, closed, moved_on, counted, is_at_end, at, todo_at, parents, left_of, IsBegun, IsSound}
 use Rattle.ot_model.proofs.NamesLemmas.{NamedIn-append}
-use Rattle.ot_job.specs.Left.{left}
-use Rattle.ot_task.specs.Place.{Open, todo}
-use Rattle.ot_task.specs.Regions.{Region, with_rest, with_child, new_region, inside, stepped, stepped_from, with_created, next_task, executed}
-use Rattle.ot_task.specs.Pieces.{leading, test_of}
-use Rattle.ot_job.specs.Settling.{closed, moved_on, counted}
-use Rattle.ot_task.specs.Standing.{is_at_end}
-use Rattle.ot_job.specs.Numbered.{at, todo_at, parents, left_of}
-use Rattle.ot_job.specs.Sound.{IsBegun, IsSound}
 use Rattle.ot_job.proofs.KeptLemmas.{todo-append, todo-next, kept-wait, kept-group, kept-if, kept-task}
 use Rattle.ot_job.proofs.ChangedLemmas.{begun-changed}
 use Rattle.ot_job.proofs.StopLemmas.{may-test}

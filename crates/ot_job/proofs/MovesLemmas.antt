@@ -1,26 +1,12 @@
 -- A settle, seen where pieces that are out count as not begun, and what it leaves of the pieces of others.
-use Rattle.std.proofs.Common.{◌+◌, ◌≡◌, ◌≢◌, ℕ, zero, suc, ◌<◌, ◌≤◌, Bool, true, false, List, [], ◌∷◌, ◌++◌, length, refl, sym, ap, subst, ◌∙◌, ◌⊎◌, inl, inr, arith}
-use Rattle.std.specs.Prelude.{Option, Some, None, nat_lt, if◌then◌else◌, IsPermutation}
-use Rattle.std.proofs.lemmas.Bool.{cases_lt}
-use Rattle.std.proofs.lemmas.List.{length-map}
-use Rattle.std.proofs.lemmas.List.Sorted.{IsPermutation-refl, IsPermutation-trans, IsPermutation-cons, IsPermutation-swap}
-use Rattle.std.proofs.lemmas.Option.{none-some}
-use Rattle.ot_model.specs.Tree.{Body, End}
-use Rattle.ot_model.specs.Cells.{updated}
-use Rattle.ot_model.specs.declared.stmt.Use.{Use}
-use Rattle.ot_model.proofs.CellsLemmas.{length-updated, updated-updated}
-use Rattle.ot_task.specs.Regions.{Region, Run, with_rest, with_child, new_region, with_created, stepped, executed, next_task, rest_at, children_at, over, stopped, without, tasks_next}
-use Rattle.ot_job.specs.Settling.{told_parent, closed, moved_on, settled}
-use Rattle.ot_task.specs.Standing.{is_at_end}
-use Rattle.ot_job.specs.Numbered.{at, parent_of}
-use Rattle.ot_job.specs.Whole.{whole, wholes, loan_in, with_loan, loans_out}
+use Rattle.std.proofs.Common.{◌+◌, ◌≡◌, ◌≢◌, ℕ, zero, suc, ◌<◌, ◌≤◌, Bool, true, false, List, [], ◌∷◌, ◌++◌, length, refl, sym, ap, subst, ◌∙◌, ◌⊎◌, inl, inr, arith, Option, Some, None, nat_lt, if◌then◌else◌, IsPermutation}
+use Rattle.ot_job.proofs.Common.{cases_lt, length-map, IsPermutation-refl, IsPermutation-trans, IsPermutation-cons, IsPermutation-swap, none-some, Body, End, updated, Use, length-updated, updated-updated, Region, Run, with_rest, with_child, new_region, with_created, stepped, executed, next_task, rest_at, children_at, over, stopped, without, tasks_next, told_parent, closed, moved_on, settled, is_at_end, at, parent_of, whole, wholes, loan_in, with_loan, loans_out, Sibling, with_finished}
 use Rattle.ot_job.proofs.KeptLemmas.{at-updated, at-updated-other, at-more}
 use Rattle.ot_job.proofs.SoundLemmas.{at-past}
 use Rattle.ot_job.proofs.FreeLemmas.{at-whole}
 use Rattle.ot_job.proofs.SettledLemmas.{changed, wholes-executed}
 use Rattle.ot_job.proofs.StepLemmas.{tell, tell-field, end-cases, stepped-running, moved-running, moved-long}
 use Rattle.ot_job.proofs.EachLemmas.{field-more}
-use Rattle.ot_depend.specs.Siblings.{Sibling, with_finished}
 
 -- ---- a body's end
 

@@ -1,30 +1,6 @@
 -- What pieces hold of the cells of open groups: nothing of their own task's, and of another task's they only fold.
-use Rattle.std.proofs.Common.{◌≡◌, ◌≢◌, ℕ, ◌<◌, ◌≤◌, Bool, true, false, List, [], ◌∷◌, length, refl, sym, ap, subst, ◌∙◌, ◌⊎◌, inl, inr, true≢false, ◌&&◌}
-use Rattle.std.specs.Prelude.{Some, slice_get}
-use Rattle.std.proofs.lemmas.Bool.{cases_lt, false_from_ne_true}
-use Rattle.ot_model.specs.Names.{NamedIn}
-use Rattle.ot_model.specs.Uses.{conflicts, mode_in, same_fold, Conflict}
-use Rattle.ot_model.specs.declared.expr.Cell.{Cell}
-use Rattle.ot_model.specs.declared.fold.Fold.{Fold as Operation}
-use Rattle.ot_model.specs.declared.stmt.Mode.{Mode}
-use Rattle.ot_model.specs.declared.stmt.Mode.TheVariants.{Reads, Writes, Folds}
-use Rattle.ot_model.specs.declared.stmt.Use.{Use}
-use Rattle.ot_depend.specs.Siblings.{Sibling, is_in}
-use Rattle.ot_check.specs.Paths.{use_as}
-use Rattle.ot_check.specs.Offences.{Declared, allows, folds_to, has_cell}
-use Rattle.ot_check.specs.Touches.{Agree}
-use Rattle.ot_check.specs.declared.fault.Offence.TheVariants.{ReductionMisuse}
-use Rattle.ot_check.proofs.Cited.{or_true, or_right, and_true, opened-none}
-use Rattle.ot_task.specs.Place.{Open}
-use Rattle.ot_task.specs.Regions.{Region, Run}
-use Rattle.ot_task.specs.Pieces.{test_of}
-use Rattle.ot_task.specs.Touched.{piece_touches}
-use Rattle.ot_job.specs.Rights.{IsRight}
-use Rattle.ot_job.specs.Awaiting.{opened}
-use Rattle.ot_job.specs.Numbered.{at, parent_of, todo_at, ended_at}
-use Rattle.ot_job.specs.Sound.{may_at, grouped_in, NamedOnce, IsBegun, IsPlaced, IsSound}
-use Rattle.ot_job.specs.Running.{RunsWell}
-use Rattle.ot_job.specs.Whole.{whole, wholes}
+use Rattle.std.proofs.Common.{◌≡◌, ◌≢◌, ℕ, ◌<◌, ◌≤◌, Bool, true, false, List, [], ◌∷◌, length, refl, sym, ap, subst, ◌∙◌, ◌⊎◌, inl, inr, true≢false, ◌&&◌, Some, slice_get}
+use Rattle.ot_job.proofs.Common.{cases_lt, false_from_ne_true, NamedIn, conflicts, mode_in, same_fold, Conflict, Cell, Operation, Mode, Reads, Writes, Folds, Use, Sibling, is_in, use_as, Declared, allows, folds_to, has_cell, Agree, ReductionMisuse, or_true, or_right, and_true, opened-none, Open, Region, Run, test_of, piece_touches, IsRight, opened, at, parent_of, todo_at, ended_at, may_at, grouped_in, NamedOnce, IsBegun, IsPlaced, IsSound, RunsWell, whole, wholes}
 use Rattle.ot_job.proofs.FoldLemmas.{same-op, agrees-before, both-fold, writes-all, only-declares, only-unwritten}
 use Rattle.ot_job.proofs.HoldsLemmas.{Among}
 use Rattle.ot_job.proofs.SoundLemmas.{sound, at-past}

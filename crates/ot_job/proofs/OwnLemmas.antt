@@ -1,19 +1,7 @@
 -- What a declaration in order lets a body do with a cell that it folds.
-use Rattle.std.proofs.Common.{◌≡◌, Bool, true, false, ◌&&◌, ◌||◌, List, [], ◌∷◌, refl, sym, ap, subst, ◌∙◌, inl, inr, true≢false}
-use Rattle.std.specs.Prelude.{Some}
-use Rattle.std.specs.List.{list_any}
-use Rattle.ot_model.specs.Cells.{same_cell}
-use Rattle.ot_model.specs.Uses.{Precedes, AreInOrder}
-use Rattle.ot_model.specs.declared.expr.Cell.{Cell}
-use Rattle.ot_model.specs.declared.fold.Fold.{Fold as Operation}
-use Rattle.ot_model.specs.declared.stmt.Mode.{Mode}
-use Rattle.ot_model.specs.declared.stmt.Mode.TheVariants.{Reads, Writes, Folds}
-use Rattle.ot_model.specs.declared.stmt.Use.{Use}
+use Rattle.std.proofs.Common.{◌≡◌, Bool, true, false, ◌&&◌, ◌||◌, List, [], ◌∷◌, refl, sym, ap, subst, ◌∙◌, inl, inr, true≢false, Some}
+use Rattle.ot_job.proofs.Common.{list_any, same_cell, Precedes, AreInOrder, Cell, Operation, Mode, Reads, Writes, Folds, Use, use_as, allows, folds_by, folds_to, covers, or_true, and_left, and_right, same_is, OnlyFolds}
 use Rattle.ot_model.proofs.OrderLemmas.{precedes_trans, precedes_apart, rest_in_order}
-use Rattle.ot_check.specs.Paths.{use_as}
-use Rattle.ot_check.specs.Offences.{allows, folds_by, folds_to, covers}
-use Rattle.ot_check.proofs.Cited.{or_true, and_left, and_right, same_is}
-use Rattle.ot_job.specs.Sound.{OnlyFolds}
 use Rattle.ot_job.proofs.FoldLemmas.{one-op, covered-fold}
 
 skip : (u v : Use) (us : List Use) → AreInOrder (u ∷ v ∷ us) → AreInOrder (u ∷ us)

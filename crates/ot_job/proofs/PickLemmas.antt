@@ -1,21 +1,9 @@
 -- Who is claimable, as the code finds it.
-use Rattle.std.proofs.Common.{◌≡◌, ◌<◌, ℕ, zero, suc, ◌+◌, Bool, true, false, cond, not, ◌&&◌, ◌||◌, List, [], ◌∷◌, length, get_or, refl, sym, ap, subst, ◌∙◌, arith, true≢false}
-use Rattle.std.specs.Prelude.{◌==◌, ◌%◌, Option, Some, None, slice_get, filter}
-use Rattle.std.specs.List.{range_with_len}
-use Rattle.std.proofs.lemmas.Option.{same_Some}
-use Rattle.std.proofs.lemmas.Bool.Decides.{nat_tests}
-use Rattle.ot_model.specs.declared.stmt.Use.{Use}
-use Rattle.ot_depend.specs.Siblings.{Sibling, IsReady, is_ready}
-use Rattle.ot_model.specs.Uses.{depends_on}
+use Rattle.std.proofs.Common.{◌≡◌, ◌<◌, ℕ, zero, suc, ◌+◌, Bool, true, false, cond, not, ◌&&◌, ◌||◌, List, [], ◌∷◌, length, get_or, refl, sym, ap, subst, ◌∙◌, arith, true≢false, ◌==◌, ◌%◌, Option, Some, None, slice_get, filter, take}
+use Rattle.ot_job.proofs.Common.{range_with_len, same_Some, nat_tests, Use, Sibling, IsReady, is_ready, depends_on, list_all, Region, at, is_claimable, claimable_of, picked}
 use Rattle.ot_depend.proofs.ReadyLemmas.{depends_on-from_DependsOn}
 use Rattle.ot_depend.proofs.SiblingsLemmas.{IsReady-from_All}
-use Rattle.std.specs.List.{list_all}
-use Rattle.std.specs.Prelude.{take}
 use Rattle.std.proofs.lemmas.List.Sums.{AllPass-from_list_all}
-use Rattle.ot_task.specs.Regions.{Region}
-use Rattle.ot_job.specs.Numbered.{at}
-use Rattle.ot_job.specs.Claiming.{is_claimable, claimable_of, picked}
-use Rattle.ot_depend.specs.Siblings.{is_ready}
 
 -- ---- regions by their numbers
 

@@ -1,15 +1,8 @@
 -- How what is left stays fine, step by step.
 use Rattle.std.proofs.Common.{◌≡◌, ℕ, Bool, true, false, not, ◌&&◌, ◌||◌, List, [], ◌∷◌, Option, refl, sym, subst, ◌∙◌, true≢false}
-use Rattle.ot_model.specs.Tree.{E, Set, Fold, If, Task, Wait, Group, Body, End, Next, append}
-use Rattle.ot_model.specs.declared.expr.Cell.{Cell}
-use Rattle.ot_model.specs.declared.fold.Fold.{Fold as Operation}
-use Rattle.ot_model.specs.declared.stmt.Use.{Use}
-use Rattle.ot_depend.specs.Siblings.{Sibling, is_in}
-use Rattle.ot_check.specs.Offences.{Declared, awaits}
-use Rattle.ot_check.specs.Discipline.{nothing_open, behind_one, behind, through, IsFine, AreFewer}
-use Rattle.ot_check.proofs.Cited.{true_or, or_right, and_left, and_right, and_true, fine-fewer, fine-append, through-append}
-use Rattle.ot_task.specs.Place.{Open}
-use Rattle.ot_job.specs.Awaiting.{opened, Kids, children_of, kids_behind, IsFineAt}
+use Rattle.ot_job.proofs.Common.{E, Set, Fold, If, Task, Wait, Group, Body, End, Next, append, Cell, Operation, Use, Sibling, is_in, Declared, awaits, behind_one, IsFine, true_or, or_right, and_left, and_right, and_true, Open, opened, Kids, children_of, kids_behind, IsFineAt}
+use Rattle.ot_check.specs.Discipline.{nothing_open, behind, through, AreFewer}
+use Rattle.ot_check.proofs.Cited.{fine-fewer, fine-append, through-append}
 
 -- each child of the one is among the other
 abbrev pub FewerKids : Kids → Kids → Type 0

@@ -1,21 +1,6 @@
 -- Two pieces that may be out at once hold no rights that conflict.
-use Rattle.std.proofs.Common.{◌≡◌, ℕ, ◌<◌, Bool, true, false, refl, sym, ap, subst, ◌∙◌, ◌⊎◌, inl, inr, ⊎_elim, List, [], ◌∷◌, ◌&&◌, true≢false, arith}
-use Rattle.std.specs.Prelude.{Some}
-use Rattle.ot_model.specs.Tree.{Body}
-use Rattle.ot_model.specs.Uses.{conflicts}
-use Rattle.ot_model.specs.declared.expr.Cell.{Cell}
-use Rattle.ot_model.specs.declared.fold.Fold.{Fold as Operation}
-use Rattle.ot_model.specs.declared.stmt.Mode.{Mode}
-use Rattle.ot_model.specs.declared.stmt.Mode.TheVariants.{Reads, Writes, Folds}
-use Rattle.ot_model.specs.declared.stmt.Use.{Use}
-use Rattle.ot_check.specs.Paths.{use_as}
-use Rattle.ot_check.specs.Offences.{Declared, Openings, allows, covers, folds_by, folds_to, clashes}
-use Rattle.ot_check.specs.Discipline.{Children, IsHarmless}
-use Rattle.ot_model.specs.Cells.{same_cell}
-use Rattle.ot_check.specs.Touches.{Agree}
-use Rattle.ot_check.specs.declared.fault.Offence.TheVariants.{ReductionMisuse, ConflictsWithChild}
-use Rattle.ot_check.proofs.Cited.{or_true, true_or, or_right, or_false_left, or_false_right, opened-none, clash_free}
-use Rattle.ot_job.specs.Rights.{IsRight}
+use Rattle.std.proofs.Common.{◌≡◌, ℕ, ◌<◌, Bool, true, false, refl, sym, ap, subst, ◌∙◌, ◌⊎◌, inl, inr, ⊎_elim, List, [], ◌∷◌, ◌&&◌, true≢false, arith, Some}
+use Rattle.ot_job.proofs.Common.{Body, conflicts, Cell, Operation, Mode, Reads, Writes, Folds, Use, use_as, Declared, Openings, allows, covers, folds_by, folds_to, clashes, Children, IsHarmless, same_cell, Agree, ReductionMisuse, ConflictsWithChild, or_true, true_or, or_right, or_false_left, or_false_right, opened-none, clash_free, IsRight}
 use Rattle.ot_job.proofs.FoldLemmas.{agrees-with, turned}
 use Rattle.ot_job.proofs.Order.{IsBefore, branch}
 use Rattle.ot_job.proofs.Kept.{Sound, Uses, up_to, alive_up, begun_anc}

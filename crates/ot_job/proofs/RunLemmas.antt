@@ -1,16 +1,6 @@
 -- A piece is run.
-use Rattle.std.proofs.Common.{◌≡◌, ◌∙◌, Bool, true, false, cond, List, [], ◌∷◌, map, refl, sym, ap, subst}
-use Rattle.std.specs.Prelude.{Option, Some, None, IsSome, IfSome, option_map}
-use Rattle.std.specs.List.{find}
-use Rattle.ot_model.specs.Tree.{E, Body}
-use Rattle.ot_model.specs.Cells.{same_cell}
-use Rattle.ot_model.specs.declared.stmt.Use.{Use}
-use Rattle.ot_owner.specs.Leases.{Lease, lease_of}
-use Rattle.ot_owner.specs.Lending.{use_of, uses_of, is_at, first_at, value_at}
-use Rattle.ot_owner.specs.declared.lent.LentCell.{LentCell}
-use Rattle.ot_model.specs.Value.{HasAll}
-use Rattle.ot_model.specs.declared.expr.Cell.{Cell}
-use Rattle.ot_task.specs.Copies.{Look, assigned}
+use Rattle.std.proofs.Common.{◌≡◌, ◌∙◌, Bool, true, false, cond, List, [], ◌∷◌, map, refl, sym, ap, subst, Option, Some, None, IsSome, IfSome, option_map, find}
+use Rattle.ot_job.proofs.Common.{E, Body, same_cell, Use, Lease, lease_of, use_of, uses_of, is_at, first_at, value_at, LentCell, HasAll, Cell, Look, assigned}
 use Rattle.ot_task.proofs.AssignLemmas.{all-kept, assigned-same}
 
 pub readable-still : {A B : Type 0} (now : A → B) (r : Option A) (o : Option B) (view : B → E) (look after : Look) → option_map now r ≡ o

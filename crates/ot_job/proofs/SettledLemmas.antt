@@ -1,14 +1,6 @@
 -- A settle is, where pieces that are out count as not begun, first the piece and then the control statement.
-use Rattle.std.proofs.Common.{◌≡◌, ℕ, zero, suc, ◌<◌, Bool, List, [], ◌∷◌, ◌++◌, length, refl, sym, ap, ◌∙◌, arith}
-use Rattle.std.specs.Prelude.{Option, Some, None}
-use Rattle.std.proofs.lemmas.List.{map-append, length-map}
-use Rattle.ot_model.specs.Tree.{Set, Fold, If, Task, Wait, Group, Body, End, Next}
-use Rattle.ot_model.specs.Cells.{updated}
-use Rattle.ot_model.proofs.CellsLemmas.{length-updated, updated-updated}
-use Rattle.ot_model.specs.declared.stmt.Use.{Use}
-use Rattle.ot_task.specs.Regions.{Region, with_rest, with_child, new_region, with_created, stepped, stepped_from, executed, next_task, rest_at, children_at, stopped}
-use Rattle.ot_job.specs.Numbered.{at}
-use Rattle.ot_job.specs.Whole.{whole, wholes}
+use Rattle.std.proofs.Common.{◌≡◌, ℕ, zero, suc, ◌<◌, Bool, List, [], ◌∷◌, ◌++◌, length, refl, sym, ap, ◌∙◌, arith, Option, Some, None}
+use Rattle.ot_job.proofs.Common.{map-append, length-map, Set, Fold, If, Task, Wait, Group, Body, End, Next, updated, length-updated, updated-updated, Use, Region, with_rest, with_child, new_region, with_created, stepped, stepped_from, executed, next_task, rest_at, children_at, stopped, at, whole, wholes}
 use Rattle.ot_job.proofs.StepLemmas.{rest-here}
 use Rattle.ot_job.proofs.KeptLemmas.{at-updated}
 

@@ -1,19 +1,11 @@
 -- What the execution of a control statement leaves of a region, and when it creates a task.
-use Rattle.std.proofs.Common.{◌++◌, get_or, set, sym, length, length-append, true, false, ◌≡◌, ◌<◌, ℕ, zero, suc, Bool, List, [], ◌∷◌, refl, ap, ◌∙◌, arith, ◌+◌, ◌⊎◌, inl, inr}
-use Rattle.std.specs.Prelude.{Option, Some, None, option_map, nat_lt, if◌then◌else◌}
-use Rattle.ot_model.proofs.CellsLemmas.{length-updated, updated-updated}
-use Rattle.ot_model.specs.Tree.{Set, Fold, If, Task as Fork, Wait, Group, Body, End, Next, append}
-use Rattle.ot_model.specs.Cells.{updated}
-use Rattle.ot_model.specs.declared.stmt.Use.{Use}
-use Rattle.ot_task.specs.Regions.{Region, with_child, new_region, children_at, stepped, stepped_from, next_task, rest_at, with_created, executed, tasks_next, over, without, child_of, with_noted, Waiting}
-use Rattle.ot_task.specs.Place.{Open}
-use Rattle.ot_task.specs.Standing.{is_at_end}
-use Rattle.std.proofs.lemmas.Option.{none-some, same_Some}
+use Rattle.std.proofs.Common.{◌++◌, get_or, set, sym, length, length-append, true, false, ◌≡◌, ◌<◌, ℕ, zero, suc, Bool, List, [], ◌∷◌, refl, ap, ◌∙◌, arith, ◌+◌, ◌⊎◌, inl, inr, Option, Some, None, option_map, nat_lt, if◌then◌else◌}
+use Rattle.ot_job.proofs.Common.{length-updated, updated-updated, Set, Fold, If, Wait, Group, Body, End, Next, append, updated, Use, Region, with_child, new_region, children_at, stepped, stepped_from, next_task, rest_at, with_created, executed, tasks_next, over, without, Waiting, Open, is_at_end, none-some, same_Some, told_parent, closed, moved_on, at, parent_of}
+use Rattle.ot_model.specs.Tree.{Task as Fork}
+use Rattle.ot_task.specs.Regions.{child_of, with_noted}
 use Rattle.ot_job.proofs.ViewLemmas.{set-changed}
 use Rattle.ot_job.proofs.PickLemmas.{at-here}
 use Rattle.ot_job.proofs.EachLemmas.{field-kept, field-more}
-use Rattle.ot_job.specs.Settling.{told_parent, closed, moved_on}
-use Rattle.ot_job.specs.Numbered.{at, parent_of}
 
 -- nothing of it changes but its place and what it waits for
 pub stepped-field : {A : Type 0} (g : Region → A) → ((r : Region) (rest : Body) (groups : List Open) (waiting : Waiting) → g (record r { rest = rest; groups = groups; waiting = waiting }) ≡ g r)

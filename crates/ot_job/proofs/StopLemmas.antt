@@ -1,25 +1,9 @@
 -- A piece comes back: its assigns are behind the place.
-use Rattle.std.proofs.Common.{◌≡◌, ℕ, ◌<◌, ◌≤◌, true, false, List, length, refl, sym, ap, subst, ◌∙◌, ◌⊎◌, inl, inr, true≢false}
-use Rattle.std.specs.Prelude.{None, Some, slice_get}
-use Rattle.std.proofs.lemmas.Bool.{cases_lt}
-use Rattle.ot_model.specs.Tree.{E, Set, Fold, If, Task, Wait, Group, Body, End, Next, append}
-use Rattle.ot_model.specs.Names.{NamedIn}
-use Rattle.ot_model.specs.Cells.{updated}
-use Rattle.ot_model.specs.declared.stmt.Use.{Use}
-use Rattle.ot_depend.specs.Siblings.{Sibling}
-use Rattle.ot_check.specs.Offences.{Declared, allows, clashes}
-use Rattle.ot_check.specs.Touches.{EachTouch, EachTask, Agree}
-use Rattle.ot_check.specs.declared.fault.Offence.TheVariants.{ConflictsWithChild}
-use Rattle.ot_check.proofs.Cited.{touch-weaker, harmless, harmless_if, clash_free}
-use Rattle.ot_task.specs.Place.{Open, todo}
-use Rattle.ot_job.specs.Awaiting.{opened, children_of, IsFineAt, AwaitsAll, unawaited, Kids}
+use Rattle.std.proofs.Common.{◌≡◌, ℕ, ◌<◌, ◌≤◌, true, false, List, length, refl, sym, ap, subst, ◌∙◌, ◌⊎◌, inl, inr, true≢false, None, Some, slice_get}
+use Rattle.ot_job.proofs.Common.{cases_lt, E, Set, Fold, If, Task, Wait, Group, Body, End, Next, append, NamedIn, updated, Use, Sibling, Declared, allows, clashes, EachTouch, EachTask, Agree, ConflictsWithChild, touch-weaker, harmless, harmless_if, clash_free, Open, todo, opened, children_of, IsFineAt, AwaitsAll, unawaited, Kids, IsHarmless, AreAssigns, Region, with_rest, at, parent_of, ended_at, may_at, IsBegun, LetsAll, IsPlaced, IsSound}
 use Rattle.ot_job.proofs.PlaceLemmas.{at-set, at-fold}
 use Rattle.ot_job.proofs.AwaitsLemmas.{awaits-piece}
 use Rattle.ot_job.proofs.Kept.{MayRun}
-use Rattle.ot_check.specs.Discipline.{IsHarmless, AreAssigns}
-use Rattle.ot_task.specs.Regions.{Region, with_rest}
-use Rattle.ot_job.specs.Numbered.{at, parent_of, ended_at}
-use Rattle.ot_job.specs.Sound.{may_at, IsBegun, LetsAll, IsPlaced, IsSound}
 use Rattle.ot_job.proofs.KeptLemmas.{todo-append, todo-next}
 use Rattle.ot_job.proofs.SoundLemmas.{at-past}
 use Rattle.ot_job.proofs.GroupLemmas.{kid-none}

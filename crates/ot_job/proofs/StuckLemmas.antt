@@ -1,11 +1,6 @@
 -- A job that hasn't ended, and of which no piece is out, has a task that may be claimed.
-use Rattle.std.proofs.Common.{◌≡◌, ℕ, zero, suc, ◌+◌, ◌<◌, ◌≤◌, true, false, List, [], ◌∷◌, length, refl, sym, ap, subst, ◌∙◌, ◌⊎◌, inl, inr, arith, true≢false}
-use Rattle.std.proofs.lemmas.Bool.{cases_Bool}
-use Rattle.std.specs.Prelude.{Some, slice_get}
-use Rattle.ot_depend.specs.Siblings.{Sibling, IsReady}
-use Rattle.ot_task.specs.Regions.{Region}
-use Rattle.ot_job.specs.Numbered.{at, parent_of, ended_at}
-use Rattle.ot_job.specs.Sound.{IsBegun, IsKin, IsSound}
+use Rattle.std.proofs.Common.{◌≡◌, ℕ, zero, suc, ◌+◌, ◌<◌, ◌≤◌, true, false, List, [], ◌∷◌, length, refl, sym, ap, subst, ◌∙◌, ◌⊎◌, inl, inr, arith, true≢false, Some, slice_get}
+use Rattle.ot_job.proofs.Common.{cases_Bool, Sibling, IsReady, Region, at, parent_of, ended_at, IsBegun, IsKin, IsSound}
 
 abbrev pub AllFinished : List Sibling → Type 0
 AllFinished kids = (k : ℕ) (s : Sibling) → slice_get kids k ≡ Some s → s.finished ≡ true

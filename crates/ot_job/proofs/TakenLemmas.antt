@@ -1,23 +1,6 @@
 -- A piece that is claimed may be run on its copies.
-use Rattle.std.proofs.Common.{◌≡◌, ℕ, List, sym, subst}
-use Rattle.std.specs.Prelude.{IfSome}
-use Rattle.ot_model.specs.Tree.{Set, Fold, If, Task, Wait, Group, Body, End, Next, append}
-use Rattle.ot_model.specs.Names.{NamedIn}
-use Rattle.ot_model.specs.Value.{HasAll}
-use Rattle.ot_model.specs.Cells.{lengths}
-use Rattle.ot_model.specs.declared.expr.Cell.{Cell}
-use Rattle.ot_owner.specs.Leases.{lent_from}
-use Rattle.ot_owner.specs.Lending.{first_at, value_at, uses_of}
-use Rattle.ot_owner.specs.declared.lent.LentCell.{LentCell}
-use Rattle.ot_task.specs.Assigns.{CanAssign, CanRun}
-use Rattle.ot_task.specs.Regions.{Region}
-use Rattle.ot_job.specs.Numbered.{at}
-use Rattle.ot_task.specs.Pieces.{leading, behind, test_of, awake}
-use Rattle.ot_model.specs.Uses.{mode_in}
-use Rattle.ot_task.specs.Modes.{held, AreHeld}
-use Rattle.ot_task.specs.Touched.{piece_touches, test_touches}
-use Rattle.ot_job.specs.Live.{Live}
-use Rattle.ot_job.specs.Well.{IsOnCourse}
+use Rattle.std.proofs.Common.{◌≡◌, ℕ, List, sym, subst, IfSome}
+use Rattle.ot_job.proofs.Common.{Set, Fold, If, Task, Wait, Group, Body, End, Next, append, NamedIn, HasAll, lengths, Cell, lent_from, first_at, value_at, uses_of, LentCell, CanAssign, CanRun, Region, at, leading, behind, test_of, awake, mode_in, held, AreHeld, piece_touches, test_touches, Live, IsOnCourse}
 use Rattle.ot_job.proofs.WholeLemmas.{whole-again}
 use Rattle.ot_job.proofs.CoverLemmas.{piece-can, piece-reads, lent-fresh}
 use Rattle.ot_job.proofs.WellLemmas.{leading-assigns, named-awake}

@@ -1,13 +1,6 @@
 -- The children that may be unawaited where a task stands, at a wait and behind it.
 use Rattle.std.proofs.Common.{◌≡◌, ◌||◌, ◌&&◌, Bool, true, false, not, List, [], ◌∷◌, Option, Some, None, refl, inl, inr, true≢false}
-use Rattle.std.specs.List.{list_any}
-use Rattle.ot_model.specs.declared.stmt.Use.{Use}
-use Rattle.ot_depend.specs.Siblings.{Sibling, is_unfinished}
-use Rattle.ot_check.specs.Offences.{awaits}
-use Rattle.ot_check.proofs.Cited.{or_true, true_or, or_right, and_left, and_right, and_true}
-use Rattle.ot_task.specs.Regions.{Waiting}
-use Rattle.ot_task.specs.Waits.{is_awaited_at, is_held}
-use Rattle.ot_job.specs.Awaiting.{unawaited}
+use Rattle.ot_job.proofs.Common.{list_any, Use, Sibling, is_unfinished, awaits, or_true, true_or, or_right, and_left, and_right, and_true, Waiting, is_awaited_at, is_held, unawaited}
 
 weaker-any : (kids : List Sibling) (f g : Sibling → Bool) → ((s : Sibling) → f s ≡ true → g s ≡ true)
     → list_any (λ s. is_unfinished s && f s) kids ≡ true → list_any (λ s. is_unfinished s && g s) kids ≡ true

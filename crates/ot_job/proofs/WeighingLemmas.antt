@@ -1,19 +1,7 @@
 -- Each settle makes a job lighter, and nothing makes it heavier.
-use Rattle.std.proofs.Common.{◌≡◌, ℕ, zero, suc, ◌+◌, ◌*◌, ◌<◌, ◌≤◌, max, Bool, true, false, List, [], ◌∷◌, ◌++◌, length, refl, sym, ap, ◌∙◌, arith, true≢false}
-use Rattle.std.specs.Prelude.{Option, Some, None, is_some, nat_lt, if◌then◌else◌}
-use Rattle.ot_model.specs.Tree.{Set, Fold, If, Task, Wait, Group, Body, End, Next, append}
-use Rattle.ot_model.specs.Counts.{size}
-use Rattle.ot_model.specs.Cells.{updated}
-use Rattle.ot_model.specs.declared.stmt.Use.{Use}
-use Rattle.ot_model.proofs.CellsLemmas.{length-updated, updated-updated}
-use Rattle.ot_owner.specs.Leases.{Lease}
-use Rattle.ot_task.specs.Place.{Open}
-use Rattle.ot_task.specs.Regions.{Region, Run, with_child, new_region, with_created, stepped, stepped_from, executed, next_task, rest_at, children_at, over, stopped, without}
-use Rattle.ot_job.specs.Numbered.{at, parent_of}
-use Rattle.ot_task.specs.Pieces.{leading, behind, passed, begun}
-use Rattle.ot_job.specs.Settling.{closed, settled}
-use Rattle.ot_task.specs.Standing.{is_at_end}
-use Rattle.ot_task.specs.Weighing.{weight, weight_behind, weight_left, region_weight, weight_of}
+use Rattle.std.proofs.Common.{◌≡◌, ℕ, zero, suc, ◌+◌, ◌*◌, ◌<◌, ◌≤◌, max, Bool, true, false, List, [], ◌∷◌, ◌++◌, length, refl, sym, ap, ◌∙◌, arith, true≢false, Option, Some, None, is_some, nat_lt, if◌then◌else◌}
+use Rattle.ot_job.proofs.Common.{Set, Fold, If, Task, Wait, Group, Body, End, Next, append, size, updated, Use, length-updated, updated-updated, Lease, Open, Region, Run, with_child, new_region, with_created, stepped, stepped_from, executed, next_task, rest_at, children_at, over, stopped, without, at, parent_of, leading, behind, passed, begun, closed, settled, is_at_end, weight_left, region_weight, weight_of}
+use Rattle.ot_task.specs.Weighing.{weight, weight_behind}
 use Rattle.ot_job.proofs.SettledLemmas.{front}
 use Rattle.ot_job.proofs.StepLemmas.{tell, tell-field, tell-long, rest-here}
 

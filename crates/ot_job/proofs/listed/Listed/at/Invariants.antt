@@ -1,5 +1,5 @@
 use Rattle.std.proofs.Common.{◌≡◌, ◌+◌, ◌*◌, length}
-use Rattle.ot_job.specs.Listed.{has_number}
+use Rattle.ot_job.proofs.Common.{has_number}
 use Rattle.ot_job.proofs.ListingLemmas.{those}
 use Rattle.ot_job.proofs.listed.Listed.at.Given as goal
 
