@@ -2,20 +2,16 @@
 use Rattle.std.proofs.Common.{◌≡◌, ℕ, Bool, true, false, not, ◌&&◌, ◌||◌, List, [], ◌∷◌, Option, refl, sym, subst, ◌∙◌}
 use Rattle.ot_job.proofs.Common.{E, Set, Fold, If, Task, Wait, Group, Body, End, Next, append, Cell, Operation, Use, Sibling, is_in, Children, behind_one, AreAssigns, true_or, or_right, Open, Kids, children_of, kids_behind, AwaitsAll}
 use Rattle.ot_check.specs.Discipline.{anyone, behind}
-use Rattle.ot_check.proofs.Cited.{behind-more}
+use Rattle.ot_check.proofs.Cited.{behind-more, false_below}
 use Rattle.ot_job.proofs.PlaceLemmas.{FewerKids, Monotone, UnawaitedBy, behind-fewer, behind-one, behind-two, behind-wait, behind-task, enter-fewer, behind-enter}
 
 behind-append : (children : Children) (a b : Body) (T : List Use → Bool) → behind children (append a b) T ≡ behind (behind children a) b T
 behind-append children End b T = refl
 behind-append children (Next x a) b T = behind-append (behind_one children x) a b T
 
-below : (p q : Bool) → (p ≡ true → q ≡ true) → q ≡ false → p ≡ false
-below true q le h = sym (sym h ∙ le refl)
-below false q le h = refl
-
 pub awaits-fewer : (fewer kids : Kids) (rest : Body) (os : List Open) → FewerKids fewer kids → AwaitsAll kids rest os → AwaitsAll fewer rest os
 awaits-fewer fewer kids rest [] le h =
-    below (behind (children_of fewer) rest anyone) (behind (children_of kids) rest anyone) (behind-more (children_of fewer) (children_of kids) (λ T. le (λ s. T s.uses)) rest anyone) h
+    false_below (behind (children_of fewer) rest anyone) (behind (children_of kids) rest anyone) (behind-more (children_of fewer) (children_of kids) (λ T. le (λ s. T s.uses)) rest anyone) h
 awaits-fewer fewer kids rest (o ∷ os) le h =
     awaits-fewer (kids_behind fewer rest o.group) (kids_behind kids rest o.group) o.behind os (behind-fewer fewer kids rest o.group le) h
 
@@ -23,7 +19,7 @@ pub awaits-step : (before now : Kids) (rest next : Body) (os : List Open)
     → (behind (children_of now) next anyone ≡ true → behind (children_of before) rest anyone ≡ true)
     → ((o : Open) (more : List Open) → os ≡ o ∷ more → FewerKids (kids_behind now next o.group) (kids_behind before rest o.group))
     → AwaitsAll before rest os → AwaitsAll now next os
-awaits-step before now rest next [] moves le h = below (behind (children_of now) next anyone) (behind (children_of before) rest anyone) moves h
+awaits-step before now rest next [] moves le h = false_below (behind (children_of now) next anyone) (behind (children_of before) rest anyone) moves h
 awaits-step before now rest next (o ∷ os) moves le h = awaits-fewer (kids_behind now next o.group) (kids_behind before rest o.group) o.behind os (le o os refl) h
 
 pub awaits-one : (kids : Kids) → Monotone kids → (e : E) (a b rest : Body) (os : List Open) → AwaitsAll kids (Next (If e a b) rest) os → AwaitsAll kids (append a rest) os

@@ -1,17 +1,14 @@
 -- A task that is created leaves what holds of its parent's region.
-use Rattle.std.proofs.Common.{◌≡◌, ℕ, zero, suc, Bool, true, false, not, ◌&&◌, ◌||◌, List, [], ◌∷◌, ◌++◌, map, length, refl, sym, ap, subst, ◌∙◌, ◌⊎◌, inl, inr, ⊎_elim, arith, true≢false, ◌==◌, Some, slice_get}
-use Rattle.ot_job.proofs.Common.{Waiting, Region, with_rest, with_child, is_awaited_at, list_any, nat_tests, same_Some, Body, End, Next, Task, Cell, Operation, Mode, Reads, Writes, Folds, same_fold, Use, Sibling, created, is_unfinished, is_in, use_as, EachTouch, EachTask, Declared, allows, folds_to, has_cell, ReductionMisuse, or_true, true_or, or_right, and_left, and_right, and_true, IsClean, Open, todo, opened, children_of, IsFineAt, AwaitsAll, unawaited, DontMix, LetsAll, NamedOnce, OnlyFolds, IsPlaced, grouped_in}
+use Rattle.std.proofs.Common.{◌≡◌, ℕ, zero, suc, Bool, true, false, not, ◌&&◌, ◌||◌, List, [], ◌∷◌, ◌++◌, map, length, refl, sym, ap, subst, ◌∙◌, ◌⊎◌, inl, inr, ⊎_elim, true≢false, ◌==◌, Some, slice_get}
+use Rattle.ot_job.proofs.Common.{Waiting, Region, with_rest, with_child, is_awaited_at, list_any, same_Some, Body, End, Next, Task, Cell, Operation, Mode, Reads, Writes, Folds, same_fold, Use, Sibling, created, is_unfinished, is_in, use_as, EachTouch, EachTask, Declared, allows, folds_to, has_cell, ReductionMisuse, or_true, true_or, or_right, and_left, and_right, and_true, IsClean, Open, todo, opened, children_of, IsFineAt, AwaitsAll, unawaited, DontMix, LetsAll, NamedOnce, OnlyFolds, IsPlaced, grouped_in}
 use Rattle.std.proofs.lemmas.List.Folds.{list_any-append}
 use Rattle.ot_check.specs.Offences.{exceeds, misfits}
 use Rattle.ot_check.specs.declared.fault.Offence.TheVariants.{ChildBeyond}
-use Rattle.ot_check.proofs.Cited.{is_offence-ChildBeyond, is_offence-ReductionMisuse, child_fits, fits-folds, fits-reads}
+use Rattle.ot_check.proofs.Cited.{is_offence-ChildBeyond, is_offence-ReductionMisuse, child_fits, fits-folds, fits-reads, eq_itself}
 use Rattle.ot_job.proofs.FoldLemmas.{one-op, writes-all, declares-fold, only-unwritten}
 use Rattle.ot_job.proofs.KeptLemmas.{todo-next}
 
 -- ---- the groups that are open at the creation
-
-pub group_self : (n : ℕ) → (n == n) ≡ true
-group_self n = grind (arith, nat_tests)
 
 -- a child is created in each open group that names a cell
 opened-grouped : (gs : List Open) (d : List Use) (groups : List ℕ) (o : Operation) (c : Cell) → ((g : ℕ) → list_any (λ h. h == g) (map (λ o. o.group) gs) ≡ true → list_any (λ h. h == g) groups ≡ true)
@@ -22,7 +19,7 @@ opened-grouped (g ∷ gs) d groups o c in_all h =
       | inl outer ↦ or_right ((same_fold g.op o && has_cell g.cells c) && is_in g.group (created d groups)) (grouped_in gs (created d groups) o c)
           (opened-grouped gs d groups o c (λ n there. in_all n (or_right (g.group == n) (list_any (λ h. h == n) (map (λ o. o.group) gs)) there)) outer)
       | inr here ↦ true_or ((same_fold g.op o && has_cell g.cells c) && is_in g.group (created d groups)) (grouped_in gs (created d groups) o c)
-          (and_true (same_fold g.op o && has_cell g.cells c) (is_in g.group (created d groups)) here (in_all g.group (true_or (g.group == g.group) _ (group_self g.group))))
+          (and_true (same_fold g.op o && has_cell g.cells c) (is_in g.group (created d groups)) here (in_all g.group (true_or (g.group == g.group) _ (eq_itself g.group))))
     ]
 
 pub grouped-opened : (gs : List Open) (s : Sibling) (o : Operation) (c : Cell) → grouped_in gs s o c ≡ true → opened gs o c ≡ true

@@ -2,7 +2,7 @@
 use Rattle.std.proofs.Common.{◌≡◌, Bool, true, false, not, ◌&&◌, List, [], ◌∷◌, refl, sym, ap, subst, ◌∙◌, inl, inr, true≢false, Some, None}
 use Rattle.ot_job.proofs.Common.{false_from_ne_true, same_cell, conflicts, same_fold, Cell, Operation, Mode, Reads, Writes, Folds, Use, use_as, Declared, allows, covers, folds_by, folds_to, or_true, true_or, or_right, or_false_left, or_false_right, not_false, OnlyFolds}
 use Rattle.ot_model.proofs.EqualLemmas.{fold-decides}
-use Rattle.ot_check.proofs.Cited.{folded}
+use Rattle.ot_check.proofs.Cited.{folded, conflicts_folds, one_op}
 
 -- ---- operations
 
@@ -12,21 +12,7 @@ one-op o p h = (fold-decides o p).0 h
 pub same-op : (o : Operation) → same_fold o o ≡ true
 same-op o = (fold-decides o o).1 refl
 
-abbrev operation_or : Operation → Mode → Operation
-operation_or o Reads = o
-operation_or o Writes = o
-operation_or o (Folds p) = p
-
-pub one-fold : (o p : Operation) → Folds o ≡ Folds p → o ≡ p
-one-fold o p e = ap (operation_or o) e
-
 -- ---- two modes
-
--- what doesn't conflict with a fold is a fold by the same operation
-pub agrees-with : (o : Operation) (m : Mode) → conflicts (Folds o) m ≡ false → m ≡ Folds o
-agrees-with o Reads h = absurd (true≢false h)
-agrees-with o Writes h = absurd (true≢false h)
-agrees-with o (Folds p) h = ap Folds (sym (one-op o p (not_false (same_fold o p) h)))
 
 pub agrees-before : (o : Operation) (m : Mode) → conflicts m (Folds o) ≡ false → m ≡ Folds o
 agrees-before o Reads h = absurd (true≢false h)
@@ -47,7 +33,7 @@ turned Reads (Folds p) h = h
 turned Writes Reads h = h
 turned Writes Writes h = h
 turned Writes (Folds p) h = h
-turned (Folds o) n h = both-fold o n (Folds o) (agrees-with o n h) refl
+turned (Folds o) n h = both-fold o n (Folds o) (conflicts_folds o n h) refl
 
 -- what a declared fold covers is a fold by the same operation
 pub covered-fold : (o : Operation) (m : Mode) → covers (Folds o) m ≡ true → m ≡ Folds o
@@ -98,7 +84,7 @@ declares-fold (d ∷ uses) o c may none =
 -- such a cell is folded by one operation
 pub held-alike : (own : Declared) (c : Cell) → ((o : Operation) → folds_to own o c ≡ true → OnlyFolds o own c)
     → (o p : Operation) → folds_to own o c ≡ true → folds_to own p c ≡ true → o ≡ p
-held-alike own c only o p h g = sym (one-fold p o (only o h (Folds p) (folded own p c g)))
+held-alike own c only o p h g = sym (one_op p o (only o h (Folds p) (folded own p c g)))
 
 -- it isn't read
 pub only-unread : (o : Operation) (own : Declared) (c : Cell) → OnlyFolds o own c → allows own (use_as Reads c) ≡ true → ⊥

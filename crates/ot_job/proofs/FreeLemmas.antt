@@ -1,6 +1,7 @@
 -- Two pieces that are out hold nothing that conflicts.
 use Rattle.std.proofs.Common.{◌≡◌, ◌≢◌, ℕ, zero, suc, ◌<◌, Bool, true, false, ◌&&◌, List, [], ◌∷◌, length, get_or, refl, sym, ap, subst, ◌∙◌, ◌⊎◌, inl, inr, ⊎_elim, arith, true≢false, Some, None, slice_get, if◌then◌else◌, IsTrue, Any}
 use Rattle.ot_job.proofs.Common.{NotDeclared, Set, Fold, If, Task, Wait, Group, Body, End, Next, append, NamedIn, Precedes, AreInOrder, Conflict, conflicts, mode_in, Cell, Operation, Mode, Reads, Writes, Folds, Use, Sibling, use_as, Declared, Openings, allows, covers, folds_by, folds_to, Children, IsFine, IsHarmless, AreAssigns, same_cell, Agree, or_true, true_or, or_right, or_false_left, or_false_right, not_false, harmless, harmless_if, same_is, IsRight, Open, todo, opened, children_of, IsFineAt, unawaited, Kids, same_self, Region, Run, at, parent_of, parents, IsPlaced, IsSound, test_of, piece_touches, assign_touches, test_touches, RunsWell, assigns_out, whole, wholes}
+use Rattle.ot_model.proofs.OrderLemmas.{precedes_trans}
 use Rattle.ot_job.proofs.Order.{IsBefore, Each, Ordered, order, order-ordered}
 use Rattle.ot_job.proofs.Kept.{In}
 use Rattle.ot_job.proofs.RightsLemmas.{right_apart, right_may}
@@ -35,16 +36,10 @@ precedes-other : (a b : Cell) → Precedes a b → same_cell b a ≡ true → �
 precedes-other a b (inl lt) same = let e : b ≡ a = same_is b a same in absurd (omega (arith, lt, ap (λ (c : Cell). c.array) e))
 precedes-other a b (inr lt) same = let e : b ≡ a = same_is b a same in absurd (omega (arith, lt.1, ap (λ (c : Cell). c.index) e))
 
-precedes-on : (a b c : Cell) → Precedes a b → Precedes b c → Precedes a c
-precedes-on a b c (inl p) (inl q) = inl (omega (arith, p, q))
-precedes-on a b c (inl p) (inr q) = inl (omega (arith, p, q.0))
-precedes-on a b c (inr p) (inl q) = inl (omega (arith, p.0, q))
-precedes-on a b c (inr p) (inr q) = inr (p.0 ∙ q.0, omega (arith, p.1, q.1))
-
 in-order-later : (u : Use) (us : List Use) → AreInOrder (u ∷ us) → (v : Use) → Among v us → Precedes u.cell v.cell
 in-order-later u [] o v h = absurd h
 in-order-later u (w ∷ us) o v (inl e) = subst (λ (x : Use). Precedes u.cell x.cell) e o.0
-in-order-later u (w ∷ us) o v (inr h) = precedes-on u.cell w.cell v.cell o.0 (in-order-later w us o.1 v h)
+in-order-later u (w ∷ us) o v (inr h) = precedes_trans u.cell w.cell v.cell o.0 (in-order-later w us o.1 v h)
 
 pub mode-once : (us : List Use) → AreInOrder us → (u : Use) → Among u us → mode_in us u.cell ≡ Some u.mode
 mode-once [] o u h = absurd h

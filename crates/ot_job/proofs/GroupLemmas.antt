@@ -1,7 +1,7 @@
 -- Entering a group and passing its end leave what holds of a region.
 use Rattle.std.proofs.Common.{◌≡◌, ℕ, zero, suc, Bool, true, false, not, ◌&&◌, ◌||◌, List, [], ◌∷◌, sym, ap, subst, ◌∙◌, inl, inr, ⊎_elim, true≢false, None, Some, slice_get}
-use Rattle.ot_job.proofs.Common.{false_from_ne_true, list_any, S, Body, End, Next, Group, append, Cell, Operation, conflicts, same_fold, Mode, Reads, Writes, Folds, Use, Sibling, is_unfinished, is_in, use_as, EachTouch, EachTask, allows, clashes, has_cell, opened_by_any, same_cell, ReductionMisuse, ConflictsWithChild, or_true, true_or, or_right, and_right, or_false_left, or_false_right, group_free, groups_inside, opened-none, same_is, clash_free, IsClean, Open, todo, opened, children_of, IsFineAt, AwaitsAll, unawaited, Region, with_rest, inside, LetsAll, NamedOnce, IsPlaced, grouped_in}
-use Rattle.ot_check.proofs.Cited.{is_offence-Group}
+use Rattle.ot_job.proofs.Common.{false_from_ne_true, list_any, S, Body, End, Next, Group, append, Cell, Operation, same_fold, Mode, Writes, Use, Sibling, is_unfinished, is_in, use_as, EachTouch, EachTask, allows, clashes, has_cell, opened_by_any, same_cell, ReductionMisuse, ConflictsWithChild, or_true, true_or, or_right, and_right, or_false_left, or_false_right, group_free, groups_inside, opened-none, same_is, clash_free, IsClean, Open, todo, opened, children_of, IsFineAt, AwaitsAll, unawaited, Region, with_rest, inside, LetsAll, NamedOnce, IsPlaced, grouped_in}
+use Rattle.ot_check.proofs.Cited.{is_offence-Group, conflicts_writes}
 use Rattle.ot_job.proofs.KeptLemmas.{todo-next}
 
 pub touch-append : (P : Use → Type 0) (a b : Body) → EachTouch P a → EachTouch P b → EachTouch P (append a b)
@@ -24,11 +24,6 @@ kid-none (x ∷ kids) test zero s free there alive =
     bits false t h g = absurd (true≢false (sym h))
 kid-none (x ∷ kids) test (suc k) s free there alive = kid-none kids test k s (or_false_right (is_unfinished x && test x) (list_any (λ s. is_unfinished s && test s) kids) free) there alive
 
-pub writes-agree : (m : Mode) → conflicts Writes m ≡ false → ⊥
-writes-agree Reads h = true≢false h
-writes-agree Writes h = true≢false h
-writes-agree (Folds o) h = true≢false h
-
 -- a group names no cell that an unfinished child may use
 pub unused : (cs : List Cell) (kids : List Sibling) (k : ℕ) (s : Sibling) (c : Cell) → list_any (λ c. unawaited None kids (λ s. clashes (use_as Writes c) s.uses)) cs ≡ false
     → slice_get kids k ≡ Some s → s.finished ≡ false → has_cell cs c ≡ true
@@ -38,7 +33,7 @@ unused (d ∷ cs) kids k s c free there alive named m =
     elim (or_true (same_cell d c) (has_cell cs c) named) [
       | inl here ↦
           let none = kid-none kids (λ s. clashes (use_as Writes d) s.uses) k s (or_false_left (unawaited None kids (λ s. clashes (use_as Writes d) s.uses)) (list_any (λ c. unawaited None kids (λ s. clashes (use_as Writes c) s.uses)) cs) free) there alive in
-          false_from_ne_true (allows (Some s.uses) (use_as m c)) (λ may. writes-agree m (clash_free (use_as Writes d) (use_as m c) s.uses none may (same_is d c here)))
+          false_from_ne_true (allows (Some s.uses) (use_as m c)) (λ may. conflicts_writes m (clash_free (use_as Writes d) (use_as m c) s.uses none may (same_is d c here)))
       | inr later ↦ unused cs kids k s c (or_false_right (unawaited None kids (λ s. clashes (use_as Writes d) s.uses)) (list_any (λ c. unawaited None kids (λ s. clashes (use_as Writes c) s.uses)) cs) free) there alive later m
     ]
 

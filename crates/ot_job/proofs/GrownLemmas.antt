@@ -1,6 +1,7 @@
 -- A task is created: what holds of the regions stays.
 use Rattle.std.proofs.Common.{◌≡◌, ℕ, ◌<◌, ◌≤◌, true, false, ◌||◌, List, [], ◌∷◌, ◌++◌, map, length, refl, sym, ap, subst, ◌∙◌, ◌⊎◌, inl, inr, arith, true≢false, Some, slice_get, ◌==◌}
 use Rattle.ot_job.proofs.Common.{list_any, cases_eq, cases_lt, none-some, slice_get_within, Task, Body, Next, updated, AreInOrder, Use, length-updated, Sibling, created, is_in, EachTouch, EachTask, IsFine, IsClean, allows, or_false_right, true_or, Open, todo, opened, children_of, IsFineAt, AwaitsAll, unawaited, Region, with_rest, with_child, new_region, at, gone, parent_of, ended_at, LetsAll, IsBegun, IsPlaced, IsSound, slice_get-push_place}
+use Rattle.ot_check.proofs.Cited.{eq_itself}
 use Rattle.ot_check.specs.Discipline.{marks, may_break}
 use Rattle.ot_check.specs.declared.fault.Offence.TheVariants.{EndsWithChildren}
 use Rattle.ot_job.specs.Sound.{HasTask}
@@ -10,13 +11,13 @@ use Rattle.ot_job.proofs.KeptLemmas.{at-updated, todo-next}
 use Rattle.ot_job.proofs.SoundLemmas.{at-past}
 use Rattle.ot_job.proofs.ChangedLemmas.{sound-changed, begun-changed, placed-as}
 use Rattle.ot_job.proofs.FreeLemmas.{fine-innermost}
-use Rattle.ot_job.proofs.CreatedLemmas.{group_self, kids-more, placed-parent}
+use Rattle.ot_job.proofs.CreatedLemmas.{kids-more, placed-parent}
 use Rattle.ot_job.proofs.KinLemmas.{child, more, long, at-fresh, at-parent, at-others, same-field, kin-more, begun-more}
 use Rattle.ot_job.proofs.OwnLemmas.{folds-alone}
 use Rattle.ot_job.proofs.EachLemmas.{at-each, more-each}
 
 first_group : (gs : List Open) (o : Open) (more : List Open) (uses : List Use) → gs ≡ o ∷ more → is_in o.group (created uses (map (λ p. p.group) gs)) ≡ true
-first_group gs o os uses is = subst (λ ps. is_in o.group (created uses (map (λ p. p.group) ps)) ≡ true) (sym is) (true_or (o.group == o.group) _ (group_self o.group))
+first_group gs o os uses is = subst (λ ps. is_in o.group (created uses (map (λ p. p.group) ps)) ≡ true) (sym is) (true_or (o.group == o.group) _ (eq_itself o.group))
 
 module _ (r : Region) (p : IsPlaced r) (alive : r.ended ≡ false) (uses : List Use) (body rest : Body) (was : r.rest ≡ Next (Task uses body) rest) (ordered : AreInOrder uses) where
   abbrev new : Sibling

@@ -1,9 +1,10 @@
 -- Each piece that is out holds what it touches.
 use Rattle.std.proofs.Common.{◌≡◌, zero, suc, Bool, true, false, List, [], ◌∷◌, refl, sym, ap, subst, ◌∙◌, inl, inr, arith, true≢false, Option, Some, None, Contains, if◌then◌else◌}
 use Rattle.ot_job.proofs.Common.{lengths, mode_in, Cell, Operation, Mode, Reads, Writes, Folds, Use, use_as, Declared, allows, folds_to, held, held_as, mode_held, Holds, touches_out, Live, IsRight, at, OnlyFolds, IsOnCourse}
+use Rattle.ot_check.proofs.Cited.{one_op}
 use Rattle.ot_job.specs.Holding.{Touches, OnlyReads, FoldsNone, AllHold, AreApart}
 use Rattle.ot_job.proofs.CoverLemmas.{Covers, covered}
-use Rattle.ot_job.proofs.FoldLemmas.{one-fold, held-alike, only-unread, only-unwritten}
+use Rattle.ot_job.proofs.FoldLemmas.{held-alike, only-unread, only-unwritten}
 use Rattle.ot_job.proofs.FreeLemmas.{touch-may}
 use Rattle.ot_job.proofs.HoldsLemmas.{Among, held-right}
 use Rattle.ot_job.proofs.OpenLemmas.{placed, named-at, pieces_apart}
@@ -55,7 +56,7 @@ module _ (own : Declared) (us d : List Use) (modes : (c : Cell) → mode_in d c 
   held-folds o c Reads folds t = absurd (only-unread o own c (exclusive o c folds) (may (use_as Reads c) t))
   held-folds o c Writes folds (inl t) = absurd (only-unwritten o own c (exclusive o c folds) (may (use_as Writes c) t))
   held-folds o c Writes folds (inr t) =
-      absurd (true≢false (sym folds ∙ subst (λ (p : Operation). folds_to own p c ≡ false) (one-fold t.0 o (exclusive o c folds (Folds t.0) (may (use_as (Folds t.0) c) t.1))) t.2))
+      absurd (true≢false (sym folds ∙ subst (λ (p : Operation). folds_to own p c ≡ false) (one_op t.0 o (exclusive o c folds (Folds t.0) (may (use_as (Folds t.0) c) t.1))) t.2))
   held-folds o c (Folds p) folds t = exclusive o c folds (Folds p) (may (use_as (Folds p) c) t.0)
 
   held-reads : (c : Cell) (m : Mode) → FoldsNone own c → OnlyReads us c → Right m c → m ≡ Reads

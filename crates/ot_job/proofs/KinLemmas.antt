@@ -1,20 +1,10 @@
 -- A task that is created leaves who is whose child.
 use Rattle.std.proofs.Common.{◌≡◌, ◌≢◌, ℕ, ◌+◌, ◌<◌, ◌≤◌, List, [], ◌∷◌, ◌++◌, map, length, refl, sym, ap, subst, ◌∙◌, ◌⊎◌, inl, inr, arith, length-append, Some, slice_get}
 use Rattle.ot_job.proofs.Common.{cases_eq, cases_lt, slice_get_within, Body, updated, length-updated, Use, Sibling, created, IsReady, Region, with_child, new_region, at, parent_of, IsBegun, IsKin, IsSound, slice_get-push}
+use Rattle.ot_depend.proofs.SiblingsLemmas.{IsReady-push}
+use Rattle.ot_check.proofs.Cited.{slice_get-last}
 use Rattle.ot_job.proofs.KeptLemmas.{at-updated, at-updated-other, at-more, at-new}
 use Rattle.ot_job.proofs.EachLemmas.{field-kept}
-
-pub get-last : {A : Type 0} (xs : List A) (x : A) → slice_get (xs ++ x ∷ []) (length xs) ≡ Some x
-get-last [] x = refl
-get-last (y ∷ xs) x = get-last xs x
-
--- who is ready stays so when a child is added
-pub ready-more : (kids : List Sibling) (new : Sibling) (k : ℕ) → IsReady kids k → IsReady (kids ++ new ∷ []) k
-ready-more kids new k r = record {
-  itself = r.itself;
-  known = slice_get-push kids new k (slice_get_within kids k r.itself r.known) ∙ r.known;
-  awaited = λ place earlier below there depends. r.awaited place earlier below (sym (slice_get-push kids new place (omega (arith, below, slice_get_within kids k r.itself r.known))) ∙ there) depends;
-}
 
 module _ (rs : List Region) (i : ℕ) (h : i < length rs) (uses : List Use) (body : Body) where
   abbrev pub child : ℕ
@@ -73,7 +63,7 @@ module _ (rs : List Region) (i : ℕ) (h : i < length rs) (uses : List Use) (bod
     kin-new : IsKin more (length rs)
     kin-new = record {
       entry = created uses (map (λ o. o.group) (at rs i).groups);
-      there = ap (λ (r : Region). slice_get (at more r.parent).children r.child) at-fresh ∙ ap (λ (r : Region). slice_get r.children child) at-parent ∙ get-last (at rs i).children _;
+      there = ap (λ (r : Region). slice_get (at more r.parent).children r.child) at-fresh ∙ ap (λ (r : Region). slice_get r.children child) at-parent ∙ slice_get-last (at rs i).children _;
       uses = ap (λ (r : Region). r.own) at-fresh;
       finished = sym (ap (λ (r : Region). r.ended) at-fresh);
     }
@@ -104,5 +94,5 @@ module _ (rs : List Region) (i : ℕ) (h : i < length rs) (uses : List Use) (bod
             pick : (q ≡ i) ⊎ (q ≡ i → ⊥) → IsReady (at more q).children k
             pick (inl e) =
                 subst (λ n. IsReady (at more n).children k) (sym e)
-                (subst (λ (x : Region). IsReady x.children k) (sym at-parent) (ready-more (at rs i).children _ k (subst (λ n. IsReady (at rs n).children k) e r)))
+                (subst (λ (x : Region). IsReady x.children k) (sym at-parent) (IsReady-push (at rs i).children _ k (subst (λ n. IsReady (at rs n).children k) e r)))
             pick (inr e) = subst (λ (x : Region). IsReady x.children k) (sym (at-others q below e)) r

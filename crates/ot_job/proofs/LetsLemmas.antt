@@ -2,11 +2,12 @@
 -- is lent to be written.
 use Rattle.std.proofs.Common.{◌≡◌, ◌<◌, ℕ, ◌+◌, ◌%◌, Bool, true, false, cond, List, [], ◌∷◌, map, refl, sym, ap, subst, ◌∙◌, inl, arith, Option, Some, None, option_map, if◌then◌else◌, find}
 use Rattle.ot_job.proofs.Common.{range_with_len, E, Literal, CellAt, Apply, PickFrom, Set, Fold, If, Task, Wait, Group, Body, End, Next, append, NamedIn, ValueNamedIn, cell_at, cells_named, same_cell, mode_in, Cell, Operation, Mode, Reads, Writes, Folds, Use, use_as, touches, Declared, Openings, allows, folds_to, EachRead, EachTouch, Children, IsFine, AreAssigns, NotDeclared, is_at, uses_of, LentCell, IsRight, OnlyFolds, test_of, assign_touches, test_touches, piece_touches, held, held_as, mode_held, reads-append, not_false}
+use Rattle.ot_check.proofs.Cited.{one_op}
 use Rattle.std.proofs.Math.Nat.{mod-lt}
 use Rattle.ot_job.proofs.Given.{Lets, LetsMode}
 use Rattle.ot_job.proofs.BackLemmas.{mode_at}
 use Rattle.ot_job.proofs.CoverLemmas.{Covers, covered, flip, in-section, among-left, among-right}
-use Rattle.ot_job.proofs.FoldLemmas.{one-fold, held-alike, only-unread, only-unwritten}
+use Rattle.ot_job.proofs.FoldLemmas.{held-alike, only-unread, only-unwritten}
 use Rattle.ot_job.proofs.FreeLemmas.{piece-safe, named-half, named-back}
 use Rattle.ot_job.proofs.HoldsLemmas.{Among, held-right}
 
@@ -107,7 +108,7 @@ module _ (lens : List ℕ) (own : Declared) (opened : Openings) (children : Chil
       by Writes e (Some (Folds o)) h right = absurd (only-unwritten o own u.cell (exclusive o u.cell (right (Folds o) refl).1) (writes e))
       by (Folds p) e (Some Reads) h right = absurd (held-fold p e h)
       by (Folds p) e (Some Writes) h right = tt
-      by (Folds p) e (Some (Folds o)) h right = one-fold p o (sym e ∙ exclusive o u.cell (right (Folds o) refl).1 u.mode (may u k))
+      by (Folds p) e (Some (Folds o)) h right = one_op p o (sym e ∙ exclusive o u.cell (right (Folds o) refl).1 u.mode (may u k))
 
   -- the assigns
   pub lets-piece : EachTouch (Lets (mode_at lent)) piece

@@ -1,9 +1,10 @@
 -- A group that comes next in a task may be opened once the task's piece has come back.
 use Rattle.std.proofs.Common.{◌≡◌, ◌≢◌, ℕ, true, false, ◌↔◌, ◌&&◌, ◌||◌, List, ◌∷◌, Contains, refl, sym, ap, subst, ◌∙◌, ◌⊎◌, inl, inr, true≢false, Option, Some, None, not, IfSome}
 use Rattle.ot_job.proofs.Common.{list_any, cases_eq, false_from_ne_true, All-permutation, IsPermutation-sym, IsPermutation-trans, Set, Fold, If, Task, Wait, Group, Body, End, Next, append, lengths, updated, Conflict, mode_in, same_fold, Cell, Operation, Mode, Writes, Folds, Use, use_as, allows, clashes, has_cell, opened_by_any, IsFine, or_right, and_true, group_free, groups_inside, opened-none, Loan, IsNamed, permutation_rest, Region, Run, group_next, stopped, with_rest, opened, children_of, unawaited, Live, at, IsRoomFor, MayOpen, IsPlaced, IsWell, IsOnCourse, assigns_out, whole, loan_in, loans_out}
+use Rattle.ot_check.proofs.Cited.{conflicts_writes}
 use Rattle.ot_job.proofs.FoldLemmas.{same-op}
 use Rattle.ot_job.proofs.FreeLemmas.{fine-innermost}
-use Rattle.ot_job.proofs.GroupLemmas.{unused, writes-agree, clean-group}
+use Rattle.ot_job.proofs.GroupLemmas.{unused, clean-group}
 use Rattle.ot_job.proofs.MovesLemmas.{one-less, stopped-others}
 use Rattle.ot_job.proofs.OpenLemmas.{MayHold, holders-agree, placed, group-holds, piece-holds}
 use Rattle.ot_job.proofs.OpeningLemmas.{has-cell, kept-new, meets-none, not_summed}
@@ -44,12 +45,12 @@ module _ (j : Live) (o : IsOnCourse j) (i : ℕ) (run : Run) (out : (at j.region
         pick : (i ≡ k) ⊎ (i ≡ k → ⊥) → opened (at j.regions k).groups by c ≡ false
         pick (inl same) = ap (λ n. opened (at j.regions n).groups by c) (sym same) ∙ opened-none (opened r.groups) by c (group_free r.own (opened r.groups) cs c clean.0 named)
         pick (inr other) = false_from_ne_true (opened (at j.regions k).groups by c) (λ is.
-            writes-agree (Folds by) (holders-agree j.regions o.sound i k (use_as Writes c) (use_as (Folds by) c) entry-holds (group-holds j.regions o.sound k by c is) other refl))
+            conflicts_writes (Folds by) (holders-agree j.regions o.sound i k (use_as Writes c) (use_as (Folds by) c) entry-holds (group-holds j.regions o.sound k by c is) other refl))
 
     -- no piece of another task holds one
     entry-free : (k : ℕ) (x : Run) → (at j.regions k).running ≡ Some x → i ≢ k → (m : Mode) → mode_in x.lease.uses c ≡ Some m → ⊥
     entry-free k x also other m held =
-        writes-agree m (holders-agree j.regions o.sound i k (use_as Writes c) (use_as m c) entry-holds
+        conflicts_writes m (holders-agree j.regions o.sound i k (use_as Writes c) (use_as m c) entry-holds
         (piece-holds j.regions o.sound (lengths j.cells) o.named o.runs o.begun k x c m also held) other refl)
 
 -- ---- what the owners ask

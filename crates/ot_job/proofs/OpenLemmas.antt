@@ -1,11 +1,11 @@
 -- What pieces hold of the cells of open groups: nothing of their own task's, and of another task's they only fold.
 use Rattle.std.proofs.Common.{◌≡◌, ◌≢◌, ℕ, ◌<◌, ◌≤◌, Bool, true, false, List, [], ◌∷◌, length, refl, sym, ap, subst, ◌∙◌, ◌⊎◌, inl, inr, true≢false, ◌&&◌, Some, slice_get}
 use Rattle.ot_job.proofs.Common.{cases_lt, false_from_ne_true, NamedIn, conflicts, mode_in, same_fold, Conflict, Cell, Operation, Mode, Reads, Writes, Folds, Use, Sibling, is_in, use_as, Declared, allows, folds_to, has_cell, Agree, ReductionMisuse, or_true, or_right, and_true, opened-none, Open, Region, Run, test_of, piece_touches, IsRight, opened, at, parent_of, todo_at, ended_at, may_at, grouped_in, NamedOnce, IsBegun, IsPlaced, IsSound, RunsWell, whole, wholes}
+use Rattle.ot_check.proofs.Cited.{conflicts_writes}
 use Rattle.ot_job.proofs.FoldLemmas.{same-op, agrees-before, both-fold, writes-all, only-declares, only-unwritten}
 use Rattle.ot_job.proofs.HoldsLemmas.{Among}
 use Rattle.ot_job.proofs.SoundLemmas.{sound, at-past}
 use Rattle.ot_job.proofs.RightsLemmas.{rights_apart}
-use Rattle.ot_job.proofs.GroupLemmas.{writes-agree}
 use Rattle.ot_job.proofs.CreatedLemmas.{grouped-opened}
 use Rattle.ot_job.proofs.FreeLemmas.{total, at-whole, named-front, piece-may, piece-meets, safe, right-of, none-conflict}
 
@@ -162,4 +162,4 @@ module _ (rs : List Region) (s : IsSound (wholes rs)) (lens : List ℕ) (named :
         → ((k : ℕ) (x : Sibling) → slice_get (at rs i).children k ≡ Some x → x.finished ≡ false → is_in o.group x ≡ false)
         → (c : Cell) (m : Mode) (run : Run) → (at rs j).running ≡ Some run → mode_in run.lease.uses c ≡ Some m → i ≢ j → has_cell o.cells c ≡ true → ⊥
     none_out i j o os innermost none_in c m run out held other is =
-        writes-agree m (holders-agree rs s i j (use_as Writes c) (use_as m c) (end-holds rs s i o os innermost none_in c is) (piece-holds j run c m out held) other refl)
+        conflicts_writes m (holders-agree rs s i j (use_as Writes c) (use_as m c) (end-holds rs s i o os innermost none_in c is) (piece-holds j run c m out held) other refl)

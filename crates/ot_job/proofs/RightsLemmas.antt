@@ -1,7 +1,8 @@
 -- Two pieces that may be out at once hold no rights that conflict.
 use Rattle.std.proofs.Common.{◌≡◌, ℕ, ◌<◌, Bool, true, false, refl, sym, ap, subst, ◌∙◌, ◌⊎◌, inl, inr, ⊎_elim, List, [], ◌∷◌, ◌&&◌, true≢false, arith, Some}
 use Rattle.ot_job.proofs.Common.{Body, conflicts, Cell, Operation, Mode, Reads, Writes, Folds, Use, use_as, Declared, Openings, allows, covers, folds_by, folds_to, clashes, Children, IsHarmless, same_cell, Agree, ReductionMisuse, ConflictsWithChild, or_true, true_or, or_right, or_false_left, or_false_right, opened-none, clash_free, IsRight}
-use Rattle.ot_job.proofs.FoldLemmas.{agrees-with, turned}
+use Rattle.ot_check.proofs.Cited.{conflicts_folds}
+use Rattle.ot_job.proofs.FoldLemmas.{turned}
 use Rattle.ot_job.proofs.Order.{IsBefore, branch}
 use Rattle.ot_job.proofs.Kept.{Sound, Uses, up_to, alive_up, begun_anc}
 
@@ -39,7 +40,7 @@ module _ (own : Declared) (opened : Openings) (children : Children) (Touched : U
     right_apart c Writes v (inr held) may = λ same.
         let o = held.0 in
         let free = there (clashes (use_as (Folds o) c)) (safe (use_as (Folds o) c) held.1 ConflictsWithChild) in
-        let folds : v.mode ≡ Folds o = agrees-with o v.mode (clash_free (use_as (Folds o) c) v child free may same) in
+        let folds : v.mode ≡ Folds o = conflicts_folds o v.mode (clash_free (use_as (Folds o) c) v child free may same) in
         let declared : folds_to (Some child) o c ≡ true = folds_or_clashes o c child (subst (λ (u : Use). Allowed (Some child) u) (use_is o v c (sym same) folds) may) free in
         absurd (⊎_elim (λ e. true≢false (sym e ∙ held.2)) (λ e. true≢false (sym e ∙ opened-none opened o c (safe (use_as (Folds o) c) held.1 ReductionMisuse))) (grouped o c declared))
       where

@@ -1,6 +1,7 @@
 -- A claim is free to be made, and leaves a job well.
 use Rattle.std.proofs.Common.{◌≡◌, ◌≢◌, ℕ, zero, suc, ◌<◌, true, false, not, ◌&&◌, ◌||◌, List, [], ◌∷◌, length, refl, sym, ap, subst, ◌∙◌, ◌⊎◌, inl, inr, ⊎_elim, arith, true≢false, Option, Some, None, is_some, slice_get, ◌==◌, All, Contains, IsSome, IsPermutation}
 use Rattle.ot_job.proofs.Common.{cases_eq, nat_tests, same_Some, length-map, Contains-permutation, All-permutation, IsPermutation-sym, IsPermutation-trans, IsPermutation-cons, Set, Fold, If, Task, Wait, Group, Body, End, Next, append, NamedIn, AreInShape, updated, lengths, cell_of, AreInOrder, Conflict, Use, State, IsReady, IsUnfinished, is_ready, and_left, and_right, or_true, not_true, Lease, lease_of, lent_from, Owned, IsFreeFor, begun_for, left, Open, todo, AreAssigns, Region, Run, at, parent_of, todo_at, parents, left_of, IsBegun, IsSound, length-updated, leading, behind, test_of, passed, awake, begun, group_passed, assigns_out, whole, wholes, loan_in, with_loan, loans_out, AreOpen, left_open, RunsWell, IsWell, IsOnCourse, MaySettle, worths, AreWorthSame, worths-same, state_of, Live, AreHeld, piece_touches, assign_touches, test_touches, is_claimable, Holds, touches_out, is_let_go}
+use Rattle.ot_parts.proofs.LeadingLemmas.{leading-behind}
 use Rattle.ot_model.specs.declared.fold.Fold.TheVariants.{Plus}
 use Rattle.ot_job.proofs.WeighingLemmas.{weight-begun}
 use Rattle.ot_job.proofs.KeptLemmas.{parents-updated, at-updated, at-updated-other, todo-append}
@@ -24,15 +25,6 @@ leading-assigns (Next (If e a b) rest) = tt
 leading-assigns (Next (Task d b) rest) = tt
 leading-assigns (Next (Wait w) rest) = tt
 leading-assigns (Next (Group op cs b) rest) = tt
-
-leading-behind : (b : Body) → leading (behind b) ≡ End
-leading-behind End = refl
-leading-behind (Next (Set c e) rest) = leading-behind rest
-leading-behind (Next (Fold op c e) rest) = leading-behind rest
-leading-behind (Next (If e a b) rest) = refl
-leading-behind (Next (Task d b) rest) = refl
-leading-behind (Next (Wait w) rest) = refl
-leading-behind (Next (Group op cs b) rest) = refl
 
 -- passing a group's end leaves what is left
 todo-passed : (rest : Body) (gs : List Open) → todo (passed rest gs).rest (passed rest gs).groups ≡ todo rest gs
