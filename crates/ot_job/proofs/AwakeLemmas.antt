@@ -1,10 +1,8 @@
 -- A task goes on where neither a wait nor a group's end holds it.
 use Rattle.std.proofs.Common.{◌≡◌, ℕ, ◌+◌, ◌<◌, Bool, true, false, cond, not, ◌&&◌, ◌||◌, List, [], ◌∷◌, length, refl, sym, ap, subst, ◌∙◌, arith, true≢false, None, Some, slice_get, count_by, ◌==◌}
 use Rattle.ot_job.proofs.Common.{list_any, nat_tests, sum_by-cons, Body, End, Next, updated, Sibling, is_unfinished, is_unfinished_in, is_in, and_left, and_right, Open, IsFineAt, AwaitsAll, unawaited, Region, at, IsBegun, IsPlaced, IsSound, passed, awake, is_held, is_let_go, end_lets_go}
-use Rattle.ot_job.proofs.PlaceLemmas.{at-fewer, at-leave}
-use Rattle.ot_job.proofs.AwaitsLemmas.{awaits-fewer, awaits-leave}
-use Rattle.ot_job.proofs.UnawaitedLemmas.{let-go}
-use Rattle.ot_job.proofs.GroupLemmas.{placed-leave, kid-none}
+use Rattle.ot_job.proofs.PlaceLemmas.{at-fewer, at-leave, placed-leave, kid-none}
+use Rattle.ot_job.proofs.AwaitsLemmas.{awaits-fewer, awaits-leave, let-go}
 use Rattle.ot_job.proofs.ChangedLemmas.{sound-changed, placed-as}
 
 -- none passes where none is counted

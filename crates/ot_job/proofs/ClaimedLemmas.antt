@@ -6,8 +6,8 @@ use Rattle.ot_owner.proofs.RightsLemmas.{lent_uses}
 use Rattle.ot_job.specs.Calls.{IsLent, MayLend}
 use Rattle.ot_job.proofs.InsideLemmas.{IsPicked}
 use Rattle.ot_job.proofs.LendingLemmas.{claim-open, claim-unused, claim-known, claim-folds, claim-fresh}
-use Rattle.ot_job.proofs.PickLemmas.{at-here}
-use Rattle.ot_job.proofs.TakenLemmas.{claim-can}
+use Rattle.ot_job.proofs.ClaimableLemmas.{at-here}
+use Rattle.ot_job.proofs.RunLemmas.{claim-can}
 use Rattle.ot_job.proofs.WellLemmas.{claim-free, claim-holds, claim-well, named-awake}
 
 -- the region of the task that is picked, as the code looks at it

@@ -4,10 +4,9 @@ use Rattle.ot_job.proofs.Common.{is_awaited_at, list_any, cases_eq, cases_lt, na
 use Rattle.std.proofs.lemmas.Bool.{true_from_ne_false}
 use Rattle.ot_model.proofs.CellsLemmas.{slice_get-updated, slice_get-updated-other}
 use Rattle.ot_depend.proofs.SiblingsLemmas.{IsReady-finished}
-use Rattle.ot_job.proofs.PlaceLemmas.{at-fewer}
+use Rattle.ot_job.proofs.PlaceLemmas.{at-fewer, kid-none}
 use Rattle.ot_job.proofs.AwaitsLemmas.{awaits-fewer, awaits-end}
 use Rattle.ot_job.proofs.KeptLemmas.{at-updated, at-updated-other, parents-updated}
-use Rattle.ot_job.proofs.GroupLemmas.{kid-none}
 use Rattle.ot_job.proofs.ChangedLemmas.{placed-as}
 
 -- ---- a table that tells of one more

@@ -3,24 +3,21 @@ use Rattle.std.proofs.Common.{◌≡◌, ℕ, ◌<◌, ◌≤◌, true, false, L
 use Rattle.ot_job.proofs.Common.{length-map, All-weaker, IsPermutation-sym, IsPermutation-trans, E, Body, append, val, NamedIn, AreInShape, size, tasks_in, cell_of, updated, lengths, AreInOrder, State, serial, serial_run, state_of, Cell, Operation, Use, length-updated, folds_to, EachTouch, IsFine, all_back, Owned, loan_of, LentCell, Lease, lease_of, lent_from, first_at, value_at, AreJoined, worth, worth_over, worths, cell_of-worths, permutation_rest, assigned, todo, opened, children_of, unawaited, IsFineAt, Region, Run, with_rest, next_task, group_next, at, todo_at, parents, left_of, IsBegun, IsSound, OnlyFolds, leading, leading_len, test_of, held, piece_touches, assigns_out, whole, wholes, loans_out, Opens, RunsWell, Live, weight_of, IsOnCourse, IsWell, Came, IsOut, taken_by, moved_on, settled, counted, counts_after, units_of}
 use Rattle.ot_owner.proofs.OpenLemmas.{joined-same}
 use Rattle.ot_owner.proofs.WorthLemmas.{lengths-worths}
-use Rattle.ot_job.proofs.Given.{Lets}
+use Rattle.ot_job.proofs.CopiesLemmas.{Lets, mode_at, back-serial, test-serial, HasInputs}
 use Rattle.ot_job.proofs.WeighingLemmas.{weight-settled}
-use Rattle.ot_job.proofs.BackLemmas.{mode_at, back-serial, test-serial, HasInputs}
 use Rattle.ot_job.proofs.KeptLemmas.{at-updated, todo-append, kept-piece}
 use Rattle.ot_job.proofs.ChangedLemmas.{begun-changed}
-use Rattle.ot_job.proofs.FreeLemmas.{at-whole, fine-innermost, named-front, named-back}
-use Rattle.ot_job.proofs.EnteredLemmas.{each-settled}
+use Rattle.ot_job.proofs.RightsLemmas.{at-whole, fine-innermost, named-front, named-back}
+use Rattle.ot_job.proofs.EachLemmas.{each-settled, at-each}
 use Rattle.ot_job.proofs.HoldingLemmas.{course-holds, course-apart}
 use Rattle.ot_job.proofs.StopLemmas.{sound-piece, may-run}
 use Rattle.ot_job.proofs.OpeningLemmas.{open-settled, open-back}
 use Rattle.ot_job.proofs.SettleLemmas.{run_of, has-piece, cells-there, runs-within}
 use Rattle.ot_job.proofs.WellLemmas.{settle-may}
-use Rattle.ot_job.proofs.LetsLemmas.{lets-piece, lets-test}
-use Rattle.ot_job.proofs.InputsLemmas.{has-inputs, inputs-kept}
-use Rattle.ot_job.proofs.CountLemmas.{left-grows, serial-few, piece-cells, piece-lengths, settled-state}
-use Rattle.ot_job.proofs.MovedLemmas.{Goes, goes-on}
-use Rattle.ot_job.proofs.MovesLemmas.{wholes-settled, still-out, loans-settled, length-settled}
-use Rattle.ot_job.proofs.EachLemmas.{at-each}
+use Rattle.ot_job.proofs.RunLemmas.{lets-piece, lets-test}
+use Rattle.ot_job.proofs.LendingLemmas.{has-inputs, inputs-kept}
+use Rattle.ot_job.proofs.CountingLemmas.{left-grows, serial-few, piece-cells, piece-lengths, settled-state}
+use Rattle.ot_job.proofs.MovesLemmas.{Goes, goes-on, wholes-settled, still-out, loans-settled, length-settled}
 
 -- a job on its course has counted at most what its program has
 pub counts-few : (j : Live) → IsOnCourse j → (j.counts.tasks ≤ tasks_in j.program.body) × (j.counts.units ≤ size j.program.body)

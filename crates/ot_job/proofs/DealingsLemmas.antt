@@ -12,12 +12,12 @@ use Rattle.ot_job.specs.Dealings.{Work, work_of, brought, run_with, work_in, wor
 use Rattle.ot_job.proofs.CountingLemmas.{one, count-cons, count-updated, out-any}
 use Rattle.ot_job.proofs.KeptLemmas.{at-updated, at-updated-other}
 use Rattle.ot_job.proofs.WellLemmas.{claimable-idle}
-use Rattle.ot_job.proofs.PickLemmas.{picked-claimable}
+use Rattle.ot_job.proofs.ClaimableLemmas.{picked-claimable}
 use Rattle.ot_job.proofs.StartLemmas.{each-ended, one-out, root-light}
 use Rattle.ot_job.proofs.MovesLemmas.{Alike, others-moved, still-out, loans-settled}
 use Rattle.ot_job.proofs.WeighingLemmas.{weight-begun}
 use Rattle.ot_job.proofs.StepLemmas.{moved-running}
-use Rattle.ot_job.proofs.FreeTaskLemmas.{none-out as none-at}
+use Rattle.ot_job.proofs.StuckLemmas.{none-out as none-at}
 
 -- ---- the piece that is out
 

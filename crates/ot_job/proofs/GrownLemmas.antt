@@ -10,10 +10,9 @@ use Rattle.ot_job.proofs.AwaitsLemmas.{awaits-fewer, awaits-task}
 use Rattle.ot_job.proofs.KeptLemmas.{at-updated, todo-next}
 use Rattle.ot_job.proofs.SoundLemmas.{at-past}
 use Rattle.ot_job.proofs.ChangedLemmas.{sound-changed, begun-changed, placed-as}
-use Rattle.ot_job.proofs.FreeLemmas.{fine-innermost}
-use Rattle.ot_job.proofs.CreatedLemmas.{kids-more, placed-parent}
-use Rattle.ot_job.proofs.KinLemmas.{child, more, long, at-fresh, at-parent, at-others, same-field, kin-more, begun-more}
-use Rattle.ot_job.proofs.OwnLemmas.{folds-alone}
+use Rattle.ot_job.proofs.RightsLemmas.{fine-innermost}
+use Rattle.ot_job.proofs.CreatedLemmas.{kids-more, placed-parent, child, more, long, at-fresh, at-parent, at-others, same-field, kin-more, begun-more}
+use Rattle.ot_job.proofs.FoldLemmas.{folds-alone}
 use Rattle.ot_job.proofs.EachLemmas.{at-each, more-each}
 
 first_group : (gs : List Open) (o : Open) (more : List Open) (uses : List Use) → gs ≡ o ∷ more → is_in o.group (created uses (map (λ p. p.group) gs)) ≡ true

@@ -5,7 +5,7 @@ use Rattle.ot_check.proofs.Cited.{one_op}
 use Rattle.ot_job.specs.Holding.{Touches, OnlyReads, FoldsNone, AllHold, AreApart}
 use Rattle.ot_job.proofs.CoverLemmas.{Covers, covered}
 use Rattle.ot_job.proofs.FoldLemmas.{held-alike, only-unread, only-unwritten}
-use Rattle.ot_job.proofs.FreeLemmas.{touch-may}
+use Rattle.ot_job.proofs.RightsLemmas.{touch-may}
 use Rattle.ot_job.proofs.HoldsLemmas.{Among, held-right}
 use Rattle.ot_job.proofs.OpenLemmas.{placed, named-at, pieces_apart}
 

@@ -7,8 +7,8 @@ use Rattle.ot_job.specs.Calls.{MayEnd, MayTakeBack}
 use Rattle.ot_job.proofs.CourseLemmas.{counts-few, settle-lighter, settle-well}
 use Rattle.ot_job.proofs.DealingsLemmas.{picked-in, works}
 use Rattle.ot_job.proofs.LendingLemmas.{back-unsummed, opens}
-use Rattle.ot_job.proofs.MayOpenLemmas.{may-open}
-use Rattle.ot_job.proofs.PickLemmas.{picked-claimable}
+use Rattle.ot_job.proofs.OpenLemmas.{may-open}
+use Rattle.ot_job.proofs.ClaimableLemmas.{picked-claimable}
 use Rattle.ot_job.proofs.SettleLemmas.{run_of, worker-is, has-piece, here-is, loan-out, cells-there}
 use Rattle.ot_job.proofs.WellLemmas.{settle-may}
 

@@ -4,7 +4,7 @@ use Rattle.ot_job.proofs.Common.{cases_eq, cases_lt, cases_Bool, length-append, 
 use Rattle.std.proofs.lemmas.Option.{get_or_from_slice_get, slice_get_read}
 use Rattle.ot_job.proofs.StepLemmas.{stepped-parent, stepped-child, stepped-children, stepped-running, created-running, executed-some, children-here}
 use Rattle.ot_job.proofs.CountingLemmas.{counted-told, counted-stepped, counted-created}
-use Rattle.ot_job.proofs.ListingLemmas.{those, those-same, listed, list-is, has-those, below-more, below-but, below-fewer}
+use Rattle.ot_job.proofs.ListedLemmas.{those, those-same, listed, list-is, has-those, below-more, below-but, below-fewer}
 use Rattle.ot_job.proofs.ClaimableLemmas.{claimable-busy, claimable-other, claimable-told, claimable-created, claimable-root}
 use Rattle.ot_job.proofs.KeptLemmas.{at-updated}
 use Rattle.ot_job.proofs.NumberedLemmas.{numbered-same, numbered-created, child-known}

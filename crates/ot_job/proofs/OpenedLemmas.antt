@@ -7,7 +7,7 @@ use Rattle.ot_job.proofs.KeptLemmas.{at-updated}
 use Rattle.ot_job.proofs.CreatedLemmas.{grouped-opened}
 use Rattle.ot_job.proofs.AwakeLemmas.{none-in-group}
 use Rattle.ot_job.proofs.FoldLemmas.{one-op}
-use Rattle.ot_job.proofs.FreeLemmas.{at-whole}
+use Rattle.ot_job.proofs.RightsLemmas.{at-whole}
 use Rattle.ot_job.proofs.OpenLemmas.{known, piece-folds, folds_alone, own_untouched, none_out}
 use Rattle.ot_job.proofs.WellLemmas.{claimable-idle, claimable-goes, sound-now, named-now, well-now, started-now}
 

@@ -1,7 +1,7 @@
 -- A piece that is out.
 use Rattle.std.proofs.Common.{false, true, sym, ap, ◌∙◌, true≢false, ◌≡◌, ◌<◌, ℕ, zero, suc, List, [], ◌∷◌, length, arith, All, Contains, IsSome, Some, is_some, get_or, option_map, unwrap_or, Result, Ok, Err, OnOk, OnErr, is_err}
 use Rattle.ot_job.proofs.Common.{All-nil, All-cons, All-head, All-tail, Body, End, Next, cell_of, Open, Use, lease_of, loan_of, uses_of, LentCell, Region, Run, next_task, HasPiece, at, Live, Came, IsOut, worker_in, same_Some, MaySettle, is_at_end}
-use Rattle.ot_job.proofs.PickLemmas.{at-here}
+use Rattle.ot_job.proofs.ClaimableLemmas.{at-here}
 
 pub runs-within : (rs : List Region) (i : ℕ) (run : Run) → (at rs i).running ≡ Some run → i < length rs
 runs-within [] i run h = cc

@@ -6,7 +6,7 @@ use Rattle.ot_check.specs.Discipline.{IsDisciplined}
 use Rattle.ot_check.proofs.Cited.{disciplined-fine, inside}
 use Rattle.ot_owner.proofs.WorthLemmas.{worths-combined}
 use Rattle.ot_job.proofs.Kept.{touch-all}
-use Rattle.ot_job.proofs.FreeLemmas.{at-whole}
+use Rattle.ot_job.proofs.RightsLemmas.{at-whole}
 use Rattle.ot_job.proofs.OpeningLemmas.{none-open, open-none, none-combined}
 use Rattle.ot_job.proofs.SettleLemmas.{run_of, runs-within}
 use Rattle.ot_job.proofs.WellLemmas.{out-contained}

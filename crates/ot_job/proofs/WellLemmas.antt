@@ -9,12 +9,11 @@ use Rattle.ot_job.proofs.ChangedLemmas.{begun-changed}
 use Rattle.ot_job.proofs.WholeLemmas.{loan, wholes-begun, one-more, loans-each}
 use Rattle.ot_job.proofs.OpeningLemmas.{open-passed, open-grown}
 use Rattle.ot_job.proofs.AwakeLemmas.{sound-awake}
-use Rattle.ot_job.proofs.FreeLemmas.{at-whole, named-front, named-back}
-use Rattle.ot_job.proofs.EnteredLemmas.{each-begun}
+use Rattle.ot_job.proofs.RightsLemmas.{at-whole, named-front, named-back}
+use Rattle.ot_job.proofs.EachLemmas.{each-begun, at-each, field-at}
 use Rattle.ot_job.proofs.HoldingLemmas.{course-holds, course-apart}
-use Rattle.ot_job.proofs.PickLemmas.{ready-from}
+use Rattle.ot_job.proofs.ClaimableLemmas.{ready-from}
 use Rattle.ot_job.proofs.OpenLemmas.{pieces_apart}
-use Rattle.ot_job.proofs.EachLemmas.{at-each, field-at}
 use Rattle.ot_task.proofs.HeldLemmas.{AllIn, all-append, reads-in, held-there}
 
 pub leading-assigns : (b : Body) → AreAssigns (leading b)

@@ -1,6 +1,6 @@
 use Rattle.std.proofs.Common.{◌≢◌, ◌≡◌, ◌<◌, ◌∙◌, ℕ, List, sym, subst, inl, inr, arith, length}
 use Rattle.ot_job.proofs.Common.{cases_eq, has, Region, IsListFor, IsRefreshed, Numbers, IsListBelow, TellsOf}
-use Rattle.ot_job.proofs.ListingLemmas.{below-but}
+use Rattle.ot_job.proofs.ListedLemmas.{below-but}
 use Rattle.ot_job.proofs.listing.refresh.Goals as goal
 
 -- one number is listed or is listed no more

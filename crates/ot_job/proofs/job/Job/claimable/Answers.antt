@@ -1,6 +1,6 @@
 use Rattle.std.proofs.Common.{◌∙◌, ap, sym, subst, arith, length, Bool, [], if◌then◌else◌}
 use Rattle.ot_job.proofs.Common.{Live, claimable_of, claimable_in, IsWell, tasks_in-≤-size, live_of}
-use Rattle.ot_job.proofs.FreeTaskLemmas.{state-working, has-claimable}
+use Rattle.ot_job.proofs.StuckLemmas.{state-working, has-claimable}
 use Rattle.ot_job.proofs.CourseLemmas.{counts-few}
 use Rattle.ot_job.proofs.DealingsLemmas.{out-none, claimable-few}
 use Rattle.ot_job.proofs.job.Job.claimable.Goals as goal

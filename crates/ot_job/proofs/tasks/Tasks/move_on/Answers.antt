@@ -1,6 +1,6 @@
 use Rattle.std.proofs.Common.{◌≡◌, ◌∙◌, ap, sym, arith, List, Bool, length, if◌then◌else◌}
 use Rattle.ot_job.proofs.Common.{IfOk-weaker, Region, executed, tasks_next, is_at_end, at, closed}
-use Rattle.ot_job.proofs.PickLemmas.{at-here}
+use Rattle.ot_job.proofs.ClaimableLemmas.{at-here}
 use Rattle.ot_job.proofs.SettleLemmas.{none-next}
 use Rattle.ot_job.proofs.tasks.Tasks.move_on.Goals.{After-is_at_end, After-tasks_next}
 use Rattle.ot_job.proofs.tasks.Tasks.move_on.Goals as goal

@@ -2,7 +2,7 @@ use Rattle.std.proofs.Common.{◌≡◌, ◌<◌, ◌∙◌, ap, sym, subst, ari
 use Rattle.ot_job.proofs.Common.{length-map, get_or_default, get_or-map, updated, length-updated, IsReady, IsUnfinished, with_finished, LetsTheSame, Region, without, AreRefreshed, IsListFor, numbers_of, AreKept, at, parent_of}
 use Rattle.ot_job.specs.Calls.{MayFinish}
 use Rattle.ot_job.proofs.KeepingLemmas.{all-known, kept-told-tasks, listed-told, long-told}
-use Rattle.ot_job.proofs.PickLemmas.{at-here, place-told}
+use Rattle.ot_job.proofs.ClaimableLemmas.{at-here, place-told}
 use Rattle.ot_job.proofs.ViewLemmas.{set-changed}
 use Rattle.ot_job.proofs.tasks.Tasks.tell_parent.Goals.{After-place_among-parent, After-deref, After-index-2}
 use Rattle.ot_job.proofs.tasks.Tasks.tell_parent.Goals as goal
