@@ -6,7 +6,7 @@ use Rattle.std.proofs.lemmas.Bool.Decides.{nat_tests}
 use Rattle.ot_model.specs.Tree.{E, S, If, Body, Next}
 use Rattle.ot_model.specs.Counts.{size, size_one}
 use Rattle.ot_model.specs.declared.stmt.Use.{Use}
-use Rattle.ot_check.proofs.Bits.{not_true}
+use Rattle.ot_check.proofs.Cited.{not_true}
 use Rattle.ot_blame.specs.declared.walk.Search.{Search}
 use Rattle.ot_blame.specs.declared.walk.Arrived.{Arrived}
 use Rattle.ot_blame.specs.declared.walk.Behind.{Behind}

@@ -16,9 +16,7 @@ use Rattle.ot_model.specs.declared.stmt.Use.{Use}
 use Rattle.ot_model.proofs.CellsLemmas as model
 use Rattle.ot_check.specs.Paths.{use_as}
 use Rattle.ot_check.specs.Offences.{clashes}
-use Rattle.ot_check.proofs.Bits.{and_true, and_left, and_right, and_false, and_one, none_any, any-same, any-more, any-map}
-use Rattle.ot_check.proofs.SameLemmas.{same_is, same_itself}
-use Rattle.ot_check.proofs.StandingLemmas.{section-at}
+use Rattle.ot_check.proofs.Cited.{and_true, and_left, and_right, and_false, and_one, none_any, any-same, any-more, any-map, same_is, same_itself, section-at}
 use Rattle.ot_blame.specs.Races.{uses_of, conflicts_at}
 use Rattle.ot_blame.specs.Walk.{is_against}
 

@@ -8,10 +8,8 @@ use Rattle.ot_model.specs.declared.fold.Fold.{Fold as Operation}
 use Rattle.ot_model.specs.declared.stmt.Use.{Use}
 use Rattle.ot_check.specs.Paths.{Create, Await, Enter, Leave, Step, At, touched, touches, PassesOne, Passes}
 use Rattle.ot_check.specs.Offences.{stays_within, awaits, is_awaited}
-use Rattle.ot_check.specs.walk.Walk.{through}
-use Rattle.ot_check.proofs.Bits.{and_true, and_left, and_right, true_not, not_true, false_or, or_none}
-use Rattle.ot_check.proofs.Steps.{IsClosed, closed_of, within-closed, awaited-append, touched-balanced, touched-awaited, passes_one-closed}
-use Rattle.ot_check.proofs.After.{some_path, some_path_one, through-to}
+use Rattle.ot_check.specs.Discipline.{through}
+use Rattle.ot_check.proofs.Cited.{and_true, and_left, and_right, true_not, not_true, false_or, or_none, IsClosed, closed_of, within-closed, awaited-append, touched-balanced, touched-awaited, passes_one-closed, some_path, some_path_one, through-to}
 use Rattle.ot_blame.specs.declared.child.Child.{Child}
 use Rattle.ot_blame.specs.Races.{IsPending, Stands, Somewhere, InTask, InTaskOne, IsAt}
 use Rattle.ot_blame.specs.Walk.{Pending, pending_of, Declares, Carried, Carries, Reaches, Comes, Arrives, ArrivesOne}

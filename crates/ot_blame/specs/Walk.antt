@@ -12,7 +12,7 @@ use Rattle.ot_model.specs.declared.stmt.Mode.{Mode}
 use Rattle.ot_model.specs.declared.stmt.Use.{Use}
 use Rattle.ot_check.specs.Paths.{Step, PassesOne, Passes}
 use Rattle.ot_check.specs.Offences.{awaits, clashes}
-use Rattle.ot_check.specs.walk.Walk.{through}
+use Rattle.ot_check.specs.Discipline.{through}
 use Rattle.ot_blame.specs.Races.{IsPending, Stands, InTask, InTaskOne, uses_of}
 use Rattle.ot_blame.specs.declared.child.Child.{Child}
 use Rattle.ot_blame.specs.declared.walk.Search.{Search}

@@ -1,7 +1,7 @@
 ghost use Rattle.std.specs.Prelude.{◌≡◌};
 ghost use Rattle.ot_model.specs.View.{stmt_of, stmts_of};
 ghost use Rattle.ot_check.specs.Offences.{awaits};
-ghost use Rattle.ot_check.specs.walk.Walk.{through, through_one};
+ghost use Rattle.ot_check.specs.Discipline.{through, through_one};
 
 use ot_model::{Decl, Stmt};
 

@@ -5,7 +5,7 @@ ghost use Rattle.ot_model.specs.Tree.{Task, Group};
 ghost use Rattle.ot_model.specs.declared.expr.Cell.{Cell};
 ghost use Rattle.ot_model.specs.declared.fold.Fold.{Fold};
 ghost use Rattle.ot_check.specs.Offences.{awaits};
-ghost use Rattle.ot_check.specs.walk.Walk.{through};
+ghost use Rattle.ot_check.specs.Discipline.{through};
 ghost use Rattle.ot_model.specs.View.{stmt_of, stmts_of};
 ghost use Rattle.ot_model.specs.Counts.{size, size_one};
 ghost use Rattle.ot_check.specs.Paths.{PassesOne, Passes};

@@ -134,7 +134,7 @@ op_of Reads other = other
 op_of Writes other = other
 op_of (Folds o) other = o
 
-one_op : (o p : Operation) → Folds o ≡ Folds p → o ≡ p
+pub one_op : (o p : Operation) → Folds o ≡ Folds p → o ≡ p
 unfolding op_of
 one_op o p same = ap (λ m. op_of m o) same
 
@@ -171,7 +171,7 @@ mutual
 
 -- ---- two bodies
 
-conflicts_writes : (m : Mode) → conflicts Writes m ≡ false → ⊥
+pub conflicts_writes : (m : Mode) → conflicts Writes m ≡ false → ⊥
 conflicts_writes Reads h = cc
 conflicts_writes Writes h = cc
 conflicts_writes (Folds o) h = cc
@@ -181,7 +181,7 @@ conflicts_reads Reads h = refl
 conflicts_reads Writes h = cc
 conflicts_reads (Folds o) h = cc
 
-conflicts_folds : (o : Operation) (m : Mode) → conflicts (Folds o) m ≡ false → m ≡ Folds o
+pub conflicts_folds : (o : Operation) (m : Mode) → conflicts (Folds o) m ≡ false → m ≡ Folds o
 conflicts_folds o Reads h = cc
 conflicts_folds o Writes h = cc
 conflicts_folds o (Folds p) h = ap Folds (sym ((fold-decides o p).0 (not_back (same_fold o p) h)))

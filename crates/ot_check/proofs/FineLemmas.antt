@@ -7,9 +7,8 @@ use Rattle.ot_model.specs.Tree.{S, Set, Fold, If, Task, Wait, Group, Body, End, 
 use Rattle.ot_model.specs.Counts.{size, size_one}
 use Rattle.ot_model.specs.declared.stmt.Use.{Use}
 use Rattle.ot_check.specs.Offences.{Declared, Openings, awaits, Offends, IsFirstOf}
-use Rattle.ot_check.specs.Disciplined.{OffendsNowhere}
-use Rattle.ot_check.specs.walk.Walk.{Children, nobody, nothing_open, behind_one, behind, through, through_one, with_group, may_break, is_offence, ends_with_children, marks, leading, placed, first, first_inside, first_one}
-use Rattle.ot_check.specs.walk.Fine.{IsClean, IsFineInside, IsFine, AreFewer}
+use Rattle.ot_check.specs.Discipline.{OffendsNowhere, Children, nobody, nothing_open, behind_one, behind, through, through_one, with_group, may_break, is_offence, ends_with_children, marks, IsClean, IsFineInside, IsFine, AreFewer}
+use Rattle.ot_check.specs.walk.Walk.{leading, placed, first, first_inside, first_one}
 use Rattle.ot_check.specs.declared.fault.Offence.{Offence}
 use Rattle.ot_check.specs.declared.fault.Offence.TheVariants.{NotDeclared, ChildBeyond, ReductionMisuse, ConflictsWithChild, EndsWithChildren}
 use Rattle.ot_check.proofs.PathsTold.{may_break-more}
@@ -86,7 +85,7 @@ disciplined-fine b nowhere =
 
 -- ---- fewer children do no harm
 
-false_below : (p q : Bool) → (p ≡ true → q ≡ true) → q ≡ false → p ≡ false
+pub false_below : (p q : Bool) → (p ≡ true → q ≡ true) → q ≡ false → p ≡ false
 false_below true q le h = absurd (true≢false (sym (le refl) ∙ h))
 false_below false q le h = refl
 

@@ -13,9 +13,7 @@ use Rattle.ot_model.specs.declared.stmt.Mode.TheVariants.{Reads, Writes, Folds}
 use Rattle.ot_model.specs.declared.stmt.Use.{Use}
 use Rattle.ot_check.specs.Paths.{use_as}
 use Rattle.ot_check.specs.Offences.{Declared, Openings, allows, opened_by_any, folds_by, folds_to, exceeds, misfits, covers, has_cell}
-use Rattle.ot_check.specs.walk.Walk.{Children, nobody, nothing_open, behind_one, with_group}
-use Rattle.ot_check.specs.walk.Fine.{IsClean, IsFineInside, IsFine}
-use Rattle.ot_check.specs.Disciplined.{OffendsNowhere}
+use Rattle.ot_check.specs.Discipline.{Children, nobody, nothing_open, behind_one, with_group, IsClean, IsFineInside, IsFine, OffendsNowhere}
 use Rattle.ot_model.specs.Cells.{same_cell}
 use Rattle.ot_check.specs.Touches.{EachRead, EachTouch, EachTouchOne, EachTask, EachTaskOne}
 use Rattle.ot_check.specs.declared.fault.Offence.TheVariants.{NotDeclared, ChildBeyond, ReductionMisuse}

@@ -28,3 +28,4 @@ pub mod ApartLemmas
 pub mod FoldLemmas
 pub mod TouchLemmas
 pub mod InsideLemmas
+pub mod Cited

@@ -5,7 +5,8 @@ use Rattle.std.specs.Option.{option_or}
 use Rattle.ot_model.specs.Tree.{S, Set, Fold, If, Task, Wait, Group, Body, End, Next}
 use Rattle.ot_model.specs.Counts.{size, size_one}
 use Rattle.ot_check.specs.Offences.{Declared, Openings, IsFirstOf, rank}
-use Rattle.ot_check.specs.walk.Walk.{Children, nobody, nothing_open, behind_one, with_group, is_offence, leading, placed, first, first_inside}
+use Rattle.ot_check.specs.Discipline.{Children, nobody, nothing_open, behind_one, with_group, is_offence}
+use Rattle.ot_check.specs.walk.Walk.{leading, placed, first, first_inside}
 use Rattle.ot_check.specs.declared.fault.Offence.{Offence}
 use Rattle.ot_check.specs.declared.fault.Offence.TheVariants.{NotDeclared, ChildBeyond, ReductionMisuse, ConflictsWithChild, EndsWithChildren}
 

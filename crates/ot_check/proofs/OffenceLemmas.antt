@@ -10,7 +10,8 @@ use Rattle.ot_model.specs.declared.stmt.Use.{Use}
 use Rattle.ot_check.specs.Paths.{Mark, Touch, Create, Await, Enter, Leave, use_as}
 use Rattle.ot_model.specs.Value.{cells_named}
 use Rattle.ot_check.specs.Offences.{Declared, Openings, exceeds, misfits}
-use Rattle.ot_check.specs.walk.Walk.{Children, may_break, marks, is_marked, is_offence, ends_with_children, ended, ending}
+use Rattle.ot_check.specs.Discipline.{Children, may_break, marks, is_marked, is_offence, ends_with_children}
+use Rattle.ot_check.specs.walk.Walk.{ended, ending}
 use Rattle.ot_check.specs.declared.fault.Offence.{Offence}
 use Rattle.ot_check.specs.declared.fault.Offence.TheVariants.{NotDeclared, ChildBeyond, ReductionMisuse, ConflictsWithChild, EndsWithChildren}
 use Rattle.ot_check.proofs.Bits.{or_none, any-map, any-same, none_any}

@@ -12,7 +12,7 @@ use Rattle.ot_model.specs.declared.stmt.Mode.TheVariants.{Reads, Writes, Folds}
 use Rattle.ot_model.specs.declared.stmt.Use.{Use}
 use Rattle.ot_check.specs.Paths.{Mark, Touch, Create, Await, Enter, Leave, Step, At, touched, touches, use_as, PassesOne, Passes}
 use Rattle.ot_check.specs.Offences.{Declared, Openings, folds_to, allows, breaks, misfits, misfits_as, has_cell, unawaited, is_open, OnPath, InTasks, InTasksOfOne}
-use Rattle.ot_check.specs.walk.Walk.{Children, may_break, anyone, nobody, nothing_open, behind_one, with_group, is_offence, marks, behind}
+use Rattle.ot_check.specs.Discipline.{Children, may_break, anyone, nobody, nothing_open, behind_one, with_group, is_offence, marks, behind}
 use Rattle.ot_check.proofs.Steps.{some_unawaited, closed_of, touched-balanced, touched-open, touched-unawaited, touched-awaited, passes_one-closed, passes_one-open, unawaited-append, open-append}
 use Rattle.ot_check.specs.declared.fault.Offence.{Offence}
 use Rattle.ot_check.specs.declared.fault.Offence.TheVariants.{ReductionMisuse, ConflictsWithChild, EndsWithChildren}

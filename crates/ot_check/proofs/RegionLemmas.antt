@@ -9,7 +9,7 @@ use Rattle.ot_model.specs.Uses.{same_fold}
 use Rattle.ot_model.specs.declared.fold.Fold.{Fold as Operation}
 use Rattle.ot_model.specs.declared.stmt.Use.{Use}
 use Rattle.ot_check.specs.Offences.{Declared, Openings, awaits, clashes, has_cell}
-use Rattle.ot_check.specs.walk.Walk.{Children, anyone, behind_one, nobody, nothing_open, with_group}
+use Rattle.ot_check.specs.Discipline.{Children, anyone, behind_one, nobody, nothing_open, with_group}
 use Rattle.ot_check.specs.walk.Bits.{has}
 use Rattle.ot_check.specs.walk.States.{is_open, met, AreOf, Stands, IsBehind, Leads, Represents, among, one_more, of_both, with_children, with_others}
 use Rattle.ot_check.specs.declared.numbers.Numbers.{Numbers}

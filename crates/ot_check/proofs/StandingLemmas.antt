@@ -14,7 +14,7 @@ use Rattle.ot_model.specs.declared.stmt.Mode.TheVariants.{Writes}
 use Rattle.ot_model.specs.declared.stmt.Use.{Use}
 use Rattle.ot_check.specs.Paths.{Enter, use_as}
 use Rattle.ot_check.specs.Offences.{Declared, Openings, allows, clashes, opened_by_any}
-use Rattle.ot_check.specs.walk.Walk.{Children, may_break}
+use Rattle.ot_check.specs.Discipline.{Children, may_break}
 use Rattle.ot_check.specs.declared.fault.Offence.{Offence}
 use Rattle.ot_check.specs.declared.fault.Offence.TheVariants.{NotDeclared, ChildBeyond, ReductionMisuse, ConflictsWithChild, EndsWithChildren}
 use Rattle.ot_check.specs.walk.Grids.{found_at, widths}

@@ -4,7 +4,8 @@ use Rattle.std.specs.Prelude.{Option, Some, None}
 use Rattle.std.specs.Option.{option_or}
 use Rattle.ot_model.specs.Tree.{S, Body}
 use Rattle.ot_check.specs.Offences.{Declared, Openings, Offends, IsFirstOf}
-use Rattle.ot_check.specs.walk.Walk.{Children, nobody, nothing_open, first, first_one, first_within, first_inside, leading, is_marked, is_offence, ends_with_children, ended, ending, placed}
+use Rattle.ot_check.specs.Discipline.{Children, nobody, nothing_open, is_marked, is_offence, ends_with_children}
+use Rattle.ot_check.specs.walk.Walk.{first, first_one, first_within, first_inside, leading, ended, ending, placed}
 use Rattle.ot_check.specs.declared.fault.Offence.{Offence}
 use Rattle.ot_check.specs.declared.fault.Offence.TheVariants.{NotDeclared, ChildBeyond, ReductionMisuse, ConflictsWithChild, EndsWithChildren}
 use Rattle.ot_check.proofs.Bits.{or_none}

@@ -18,8 +18,7 @@ use Rattle.ot_model.specs.declared.stmt.Use.{Use}
 use Rattle.ot_check.specs.Paths.{Touch, use_as}
 use Rattle.ot_check.specs.Offences.{Declared, Openings, allows, covers, clashes}
 use Rattle.ot_check.specs.Touches.{EachRead, EachTouch, Agree}
-use Rattle.ot_check.specs.walk.Walk.{Children, may_break}
-use Rattle.ot_check.specs.walk.Fine.{IsFine, IsHarmless, AreAssigns}
+use Rattle.ot_check.specs.Discipline.{Children, may_break, IsFine, IsHarmless, AreAssigns}
 use Rattle.ot_check.specs.declared.fault.Offence.{Offence}
 use Rattle.ot_model.proofs.EqualLemmas.{fold-decides}
 use Rattle.ot_check.proofs.Bits.{or_true, and_left, and_right, or_false_left, or_false_right, not_false}

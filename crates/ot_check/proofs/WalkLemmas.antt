@@ -10,7 +10,8 @@ use Rattle.ot_model.specs.declared.fold.Fold.{Fold as Operation}
 use Rattle.ot_model.specs.declared.stmt.Stmt as stmt
 use Rattle.ot_model.specs.declared.stmt.Stmt.{Stmt, the_lemmas}
 use Rattle.ot_model.specs.declared.stmt.Use.{Use}
-use Rattle.ot_check.specs.walk.Walk.{behind_one, first_within, through_one}
+use Rattle.ot_check.specs.Discipline.{behind_one, through_one}
+use Rattle.ot_check.specs.walk.Walk.{first_within}
 use Rattle.ot_check.specs.walk.States.{Leads, Whatever}
 use Rattle.ot_check.specs.declared.walk.Walked.{Walked}
 use Rattle.ot_check.specs.declared.standing.Standing.{Standing}

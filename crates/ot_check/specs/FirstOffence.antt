@@ -2,7 +2,8 @@
 use Rattle.std.specs.Prelude.{◌≡◌, ℕ, Option, None}
 use Rattle.ot_model.specs.Tree.{Body}
 use Rattle.ot_check.specs.Offences.{Offends, IsFirstOf}
-use Rattle.ot_check.specs.walk.Walk.{first, nobody, nothing_open}
+use Rattle.ot_check.specs.walk.Walk.{first}
+use Rattle.ot_check.specs.Discipline.{nobody, nothing_open}
 use Rattle.ot_check.specs.declared.fault.Offence.{Offence}
 
 -- its place and what it is; told by one walk, of which nobody needs to know more than the law below

@@ -4,7 +4,7 @@ use Rattle.ot_model.specs.Tree.{Body}
 use Rattle.ot_model.specs.Names.{NamedIn}
 use Rattle.ot_model.specs.Serial.{State, serial}
 use Rattle.ot_check.specs.Offences.{allows}
-use Rattle.ot_check.specs.Disciplined.{OffendsNowhere}
+use Rattle.ot_check.specs.Discipline.{OffendsNowhere}
 use Rattle.ot_check.specs.Touches.{AreApart, EachTask, EachTouch}
 
 -- two bodies that are apart give the same cells and counts in either order

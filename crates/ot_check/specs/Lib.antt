@@ -1,6 +1,6 @@
 pub mod Paths
 pub mod Offences
-pub mod Disciplined
+pub mod Discipline
 pub mod Codes
 pub mod Touches
 pub mod Jobs

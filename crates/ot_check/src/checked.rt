@@ -5,7 +5,7 @@ ghost use Rattle.ot_model.specs.Code.{body_code};
 ghost use Rattle.ot_model.specs.Programs.{expanded_of};
 ghost use Rattle.ot_model.specs.View.{stmts_of};
 ghost use Rattle.ot_parts.specs.Parts.{parts_of};
-ghost use Rattle.ot_check.specs.Disciplined.{IsDisciplined};
+ghost use Rattle.ot_check.specs.Discipline.{IsDisciplined};
 
 use ot_model::Program;
 use ot_parts::Part;

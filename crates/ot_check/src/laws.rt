@@ -2,7 +2,7 @@
 //! caller that needs the law calls it.
 ghost use Rattle.ot_check.specs.FirstOffence.{FirstOffenceIsFirst};
 ghost use Rattle.ot_check.specs.Laws.{Apart, Inside};
-ghost use Rattle.ot_check.specs.walk.Fine.{DisciplinedIsFine};
+ghost use Rattle.ot_check.specs.Discipline.{DisciplinedIsFine};
 
 /// The first offence of a body is the first of its offences on paths, and no other value is.
 pub fn first_offence_is_first()

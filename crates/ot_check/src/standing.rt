@@ -75,7 +75,7 @@ impl Standing {
     ghost use Rattle.ot_model.specs.declared.fold.Fold.{Fold as Operation};
     ghost use Rattle.ot_model.specs.declared.stmt.Use.{Use};
     ghost use Rattle.ot_check.specs.Offences.{Declared, Openings, awaits, exceeds, misfits};
-    ghost use Rattle.ot_check.specs.walk.Walk.{Children, anyone, behind_one, nobody, nothing_open, with_group, may_break};
+    ghost use Rattle.ot_check.specs.Discipline.{Children, anyone, behind_one, nobody, nothing_open, with_group, may_break};
     ghost use Rattle.ot_check.specs.walk.Bits.{has};
     ghost use Rattle.ot_check.specs.walk.States.{Represents, Stands, IsBehind, Leads, Whatever, is_open, lens_of, one_more, with_others};
 

@@ -1,7 +1,8 @@
 ghost use Rattle.std.specs.Prelude.{◌≡◌};
 ghost use Rattle.ot_model.specs.View.{stmt_of};
 ghost use Rattle.ot_model.specs.Names.{OneNamedIn};
-ghost use Rattle.ot_check.specs.walk.Walk.{is_marked, leading};
+ghost use Rattle.ot_check.specs.Discipline.{is_marked};
+ghost use Rattle.ot_check.specs.walk.Walk.{leading};
 ghost use Rattle.ot_check.specs.walk.States.{Whatever, lens_of};
 
 use crate::fault::Offence;

@@ -5,7 +5,7 @@ ghost use Rattle.ot_model.specs.Value.{cells_of, cells_named};
 ghost use Rattle.ot_model.specs.Names.{FitsShape, IsInShape, ValueNamedIn};
 ghost use Rattle.ot_model.specs.declared.stmt.Mode.TheVariants.{Reads};
 ghost use Rattle.ot_check.specs.Paths.{Touch, use_as};
-ghost use Rattle.ot_check.specs.walk.Walk.{may_break};
+ghost use Rattle.ot_check.specs.Discipline.{may_break};
 ghost use Rattle.ot_check.specs.walk.States.{Whatever, lens_of};
 
 use crate::fault::Offence;

@@ -4,7 +4,8 @@ ghost use Rattle.ot_model.specs.Tree.{Group};
 ghost use Rattle.ot_model.specs.View.{stmt_of, stmts_of};
 ghost use Rattle.ot_model.specs.Counts.{size, size_one};
 ghost use Rattle.ot_model.specs.Names.{NamedIn, OneNamedIn, AreInShape, AreDeclaredIn};
-ghost use Rattle.ot_check.specs.walk.Walk.{anyone, behind, behind_one, ended, first, first_one, first_within, nobody, nothing_open, placed, through, through_one, with_group};
+ghost use Rattle.ot_check.specs.Discipline.{anyone, behind, behind_one, nobody, nothing_open, through, through_one, with_group};
+ghost use Rattle.ot_check.specs.walk.Walk.{ended, first, first_one, first_within, placed};
 ghost use Rattle.ot_check.specs.walk.States.{Leads, Whatever, lens_of, of_both, one_more};
 
 use crate::fault::Offence;

@@ -1,29 +1,19 @@
--- A task's body ends with no child unawaited: step by step.
-use Rattle.std.proofs.Common.{◌≡◌, ℕ, Bool, true, false, not, ◌&&◌, ◌||◌, List, [], ◌∷◌, Option, refl, sym, subst, ◌∙◌}
-use Rattle.ot_model.specs.Tree.{E, Set, Fold, If, Task, Wait, Group, Body, End, Next, append}
-use Rattle.ot_model.specs.declared.expr.Cell.{Cell}
-use Rattle.ot_model.specs.declared.fold.Fold.{Fold as Operation}
-use Rattle.ot_model.specs.declared.stmt.Use.{Use}
-use Rattle.ot_depend.specs.Siblings.{Sibling, is_in}
-use Rattle.ot_check.specs.walk.Walk.{Children, anyone, behind, behind_one}
-use Rattle.ot_check.proofs.Bits.{true_or, or_right}
-use Rattle.ot_check.specs.walk.Fine.{AreAssigns}
-use Rattle.ot_task.specs.Place.{Open}
-use Rattle.ot_job.specs.Awaiting.{Kids, children_of, kids_behind, AwaitsAll}
-use Rattle.ot_check.proofs.FineLemmas.{behind-more}
+-- The children that may be unawaited, where a task stands and at its end.
+use Rattle.std.proofs.Common.{◌≡◌, ℕ, Bool, true, false, not, ◌&&◌, ◌||◌, List, [], ◌∷◌, Option, refl, sym, subst, ◌∙◌, Some, None, inl, inr, true≢false}
+use Rattle.ot_job.proofs.Common.{E, Set, Fold, If, Task, Wait, Group, Body, End, Next, append, Cell, Operation, Use, Sibling, is_in, Children, behind_one, AreAssigns, true_or, or_right, Open, Kids, children_of, kids_behind, AwaitsAll, list_any, is_unfinished, awaits, or_true, and_left, and_right, and_true, Waiting, is_awaited_at, is_held, unawaited}
+use Rattle.ot_check.specs.Discipline.{anyone, behind}
+use Rattle.ot_check.proofs.Cited.{behind-more, false_below}
 use Rattle.ot_job.proofs.PlaceLemmas.{FewerKids, Monotone, UnawaitedBy, behind-fewer, behind-one, behind-two, behind-wait, behind-task, enter-fewer, behind-enter}
+
+-- ---- a task's body ends with no child unawaited: step by step
 
 behind-append : (children : Children) (a b : Body) (T : List Use → Bool) → behind children (append a b) T ≡ behind (behind children a) b T
 behind-append children End b T = refl
 behind-append children (Next x a) b T = behind-append (behind_one children x) a b T
 
-below : (p q : Bool) → (p ≡ true → q ≡ true) → q ≡ false → p ≡ false
-below true q le h = sym (sym h ∙ le refl)
-below false q le h = refl
-
 pub awaits-fewer : (fewer kids : Kids) (rest : Body) (os : List Open) → FewerKids fewer kids → AwaitsAll kids rest os → AwaitsAll fewer rest os
 awaits-fewer fewer kids rest [] le h =
-    below (behind (children_of fewer) rest anyone) (behind (children_of kids) rest anyone) (behind-more (children_of fewer) (children_of kids) (λ T. le (λ s. T s.uses)) rest anyone) h
+    false_below (behind (children_of fewer) rest anyone) (behind (children_of kids) rest anyone) (behind-more (children_of fewer) (children_of kids) (λ T. le (λ s. T s.uses)) rest anyone) h
 awaits-fewer fewer kids rest (o ∷ os) le h =
     awaits-fewer (kids_behind fewer rest o.group) (kids_behind kids rest o.group) o.behind os (behind-fewer fewer kids rest o.group le) h
 
@@ -31,7 +21,7 @@ pub awaits-step : (before now : Kids) (rest next : Body) (os : List Open)
     → (behind (children_of now) next anyone ≡ true → behind (children_of before) rest anyone ≡ true)
     → ((o : Open) (more : List Open) → os ≡ o ∷ more → FewerKids (kids_behind now next o.group) (kids_behind before rest o.group))
     → AwaitsAll before rest os → AwaitsAll now next os
-awaits-step before now rest next [] moves le h = below (behind (children_of now) next anyone) (behind (children_of before) rest anyone) moves h
+awaits-step before now rest next [] moves le h = false_below (behind (children_of now) next anyone) (behind (children_of before) rest anyone) moves h
 awaits-step before now rest next (o ∷ os) moves le h = awaits-fewer (kids_behind now next o.group) (kids_behind before rest o.group) o.behind os (le o os refl) h
 
 pub awaits-one : (kids : Kids) → Monotone kids → (e : E) (a b rest : Body) (os : List Open) → AwaitsAll kids (Next (If e a b) rest) os → AwaitsAll kids (append a rest) os
@@ -90,3 +80,54 @@ awaits-leave kids o os none h = awaits-fewer kids (kids_behind kids End o.group)
 -- at the body's end nobody is left
 pub awaits-end : (kids : Kids) → AwaitsAll kids End [] → kids (λ s. true) ≡ false
 awaits-end kids h = h
+
+-- ---- the children that may be unawaited where a task stands, at a wait and behind it
+
+weaker-any : (kids : List Sibling) (f g : Sibling → Bool) → ((s : Sibling) → f s ≡ true → g s ≡ true)
+    → list_any (λ s. is_unfinished s && f s) kids ≡ true → list_any (λ s. is_unfinished s && g s) kids ≡ true
+weaker-any [] f g w h = h
+weaker-any (x ∷ kids) f g w h =
+    elim (or_true (is_unfinished x && f x) (list_any (λ s. is_unfinished s && f s) kids) h) [
+      | inl e ↦ true_or (is_unfinished x && g x) (list_any (λ s. is_unfinished s && g s) kids) (and_true (is_unfinished x) (g x) (and_left (is_unfinished x) (f x) e) (w x (and_right (is_unfinished x) (f x) e)))
+      | inr e ↦ or_right (is_unfinished x && g x) (list_any (λ s. is_unfinished s && g s) kids) (weaker-any kids f g w e)
+    ]
+
+-- what is true of more is true of some child more often
+pub monotone : (waiting : Waiting) (kids : List Sibling) (f g : Sibling → Bool) → ((s : Sibling) → f s ≡ true → g s ≡ true)
+    → unawaited waiting kids f ≡ true → unawaited waiting kids g ≡ true
+monotone waiting kids f g w h =
+    weaker-any kids (λ s. not (is_awaited_at waiting s) && f s) (λ s. not (is_awaited_at waiting s) && g s)
+    (λ s k. and_true (not (is_awaited_at waiting s)) (g s) (and_left (not (is_awaited_at waiting s)) (f s) k) (w s (and_right (not (is_awaited_at waiting s)) (f s) k))) h
+
+-- at a wait: those that aren't awaited by it
+pub executed-wait : (w : Option (List Use)) (kids : List Sibling) (test : Sibling → Bool)
+    → unawaited (Some w) kids test ≡ true → unawaited None kids (λ s. test s && not (awaits w s.uses)) ≡ true
+executed-wait w kids test h =
+    weaker-any kids (λ s. not (awaits w s.uses) && test s) (λ s. test s && not (awaits w s.uses)) (λ s k. turned (not (awaits w s.uses)) (test s) k) h
+  where
+    turned : (a t : Bool) → (a && t) ≡ true → (t && a) ≡ true
+    turned a t k = and_true t a (and_right a t k) (and_left a t k)
+
+-- a task that goes on has awaited whom its wait awaits: those that are unawaited are as at any other place
+pub let-go : (waiting : Waiting) (kids : List Sibling) (test : Sibling → Bool) → is_held waiting kids ≡ false
+    → unawaited None kids test ≡ true → unawaited waiting kids test ≡ true
+let-go waiting [] test free h = h
+let-go waiting (s ∷ kids) test free h =
+    bits (is_unfinished s) (is_awaited_at waiting s) (test s) (is_held waiting kids) (unawaited None kids test) (unawaited waiting kids test) free h
+    (λ rest later. let-go waiting kids test rest later)
+  where
+    bits : (u a t n l m : Bool) → ((u && a) || n) ≡ false → ((u && t) || l) ≡ true → (n ≡ false → l ≡ true → m ≡ true) → ((u && (not a && t)) || m) ≡ true
+    bits true true t n l m x y f = absurd (true≢false x)
+    bits true false true n l m x y f = refl
+    bits true false false n l m x y f = f x y
+    bits false a t n l m x y f = f x y
+
+-- where no child is unfinished no wait holds the task
+pub held-unfinished : (waiting : Waiting) (kids : List Sibling) → list_any is_unfinished kids ≡ false → is_held waiting kids ≡ false
+held-unfinished waiting [] none = refl
+held-unfinished waiting (s ∷ kids) none =
+    bits (is_unfinished s) (is_awaited_at waiting s) (list_any is_unfinished kids) (is_held waiting kids) none (held-unfinished waiting kids)
+  where
+    bits : (u a n m : Bool) → (u || n) ≡ false → (n ≡ false → m ≡ false) → ((u && a) || m) ≡ false
+    bits true a n m h f = absurd (true≢false h)
+    bits false a n m h f = f h

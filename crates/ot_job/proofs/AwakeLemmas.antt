@@ -1,25 +1,8 @@
 -- A task goes on where neither a wait nor a group's end holds it.
-use Rattle.std.proofs.Common.{◌≡◌, ℕ, ◌+◌, ◌<◌, Bool, true, false, cond, not, ◌&&◌, ◌||◌, List, [], ◌∷◌, length, refl, sym, ap, subst, ◌∙◌, arith, true≢false}
-use Rattle.std.specs.Prelude.{None}
-use Rattle.std.specs.Prelude.{Some, slice_get, count_by, ◌==◌}
-use Rattle.std.specs.List.{list_any}
-use Rattle.std.proofs.lemmas.Bool.Decides.{nat_tests}
-use Rattle.std.proofs.lemmas.List.Sums.{sum_by-cons}
-use Rattle.ot_model.specs.Tree.{Body, End, Next}
-use Rattle.ot_model.specs.Cells.{updated}
-use Rattle.ot_depend.specs.Siblings.{Sibling, is_unfinished, is_unfinished_in, is_in}
-use Rattle.ot_check.proofs.Bits.{and_left, and_right}
-use Rattle.ot_task.specs.Place.{Open}
-use Rattle.ot_job.specs.Awaiting.{IsFineAt, AwaitsAll, unawaited}
-use Rattle.ot_job.proofs.PlaceLemmas.{at-fewer, at-leave}
-use Rattle.ot_job.proofs.AwaitsLemmas.{awaits-fewer, awaits-leave}
-use Rattle.ot_task.specs.Regions.{Region}
-use Rattle.ot_job.specs.Numbered.{at}
-use Rattle.ot_job.specs.Sound.{IsBegun, IsPlaced, IsSound}
-use Rattle.ot_task.specs.Pieces.{passed, awake}
-use Rattle.ot_task.specs.Waits.{is_held, is_let_go, end_lets_go}
-use Rattle.ot_job.proofs.UnawaitedLemmas.{let-go}
-use Rattle.ot_job.proofs.GroupLemmas.{placed-leave, kid-none}
+use Rattle.std.proofs.Common.{◌≡◌, ℕ, ◌+◌, ◌<◌, Bool, true, false, cond, not, ◌&&◌, ◌||◌, List, [], ◌∷◌, length, refl, sym, ap, subst, ◌∙◌, arith, true≢false, None, Some, slice_get, count_by, ◌==◌}
+use Rattle.ot_job.proofs.Common.{list_any, nat_tests, sum_by-cons, Body, End, Next, updated, Sibling, is_unfinished, is_unfinished_in, is_in, and_left, and_right, Open, IsFineAt, AwaitsAll, unawaited, Region, at, IsBegun, IsPlaced, IsSound, passed, awake, is_held, is_let_go, end_lets_go}
+use Rattle.ot_job.proofs.PlaceLemmas.{at-fewer, at-leave, placed-leave, kid-none}
+use Rattle.ot_job.proofs.AwaitsLemmas.{awaits-fewer, awaits-leave, let-go}
 use Rattle.ot_job.proofs.ChangedLemmas.{sound-changed, placed-as}
 
 -- none passes where none is counted

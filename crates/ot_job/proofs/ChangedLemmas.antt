@@ -1,21 +1,8 @@
 -- One region moves on, and who is whose child stays.
-use Rattle.std.proofs.Common.{◌≡◌, ℕ, ◌<◌, List, ◌∷◌, length, sym, ap, subst, ◌∙◌, ◌⊎◌, inl, inr, arith, Bool, true, []}
-use Rattle.std.specs.Prelude.{slice_get, Some}
-use Rattle.std.proofs.lemmas.Bool.{cases_eq}
-use Rattle.ot_model.specs.Cells.{updated}
-use Rattle.ot_model.specs.Tree.{Body, End}
-use Rattle.ot_model.specs.declared.stmt.Use.{Use}
-use Rattle.ot_model.proofs.CellsLemmas.{length-updated}
-use Rattle.ot_depend.specs.Siblings.{IsReady}
-use Rattle.ot_task.specs.Place.{Open, todo}
-use Rattle.ot_task.specs.Regions.{Region, Waiting}
-use Rattle.ot_job.specs.Numbered.{at, parent_of}
-use Rattle.ot_job.specs.Sound.{IsBegun, IsPlaced, IsSound, LetsAll}
-use Rattle.ot_job.specs.Awaiting.{IsFineAt, AwaitsAll, unawaited}
+use Rattle.std.proofs.Common.{◌≡◌, ℕ, ◌<◌, List, ◌∷◌, length, sym, ap, subst, ◌∙◌, ◌⊎◌, inl, inr, arith, Bool, true, [], slice_get, Some}
+use Rattle.ot_job.proofs.Common.{cases_eq, updated, Body, End, Use, length-updated, IsReady, Open, todo, Region, Waiting, at, parent_of, IsBegun, IsPlaced, IsSound, LetsAll, IsFineAt, AwaitsAll, unawaited, EachTouch, EachTask, allows}
 use Rattle.ot_job.proofs.KeptLemmas.{at-updated, at-updated-other}
 use Rattle.ot_job.proofs.EachLemmas.{at-each, field-kept}
-use Rattle.ot_check.specs.Touches.{EachTouch, EachTask}
-use Rattle.ot_check.specs.Offences.{allows}
 
 -- what says who is whose child stays
 pub record IsKept (f : Region → Region) : Type 0 where

@@ -1,38 +1,13 @@
 -- What a job is once its owners have lent for a claim.
-use Rattle.std.proofs.Common.{◌≡◌, ℕ, List, [], refl, sym, ap, subst, ◌∙◌}
-use Rattle.std.specs.Prelude.{Option, Bool, get_or, All, IsSome, if◌then◌else◌}
-use Rattle.ot_model.specs.Tree.{E, Body}
-use Rattle.ot_model.specs.Cells.{cell_of, lengths, updated}
-use Rattle.ot_model.specs.Names.{NamedIn}
-use Rattle.ot_model.specs.Uses.{AreInOrder}
-use Rattle.ot_model.specs.declared.stmt.Use.{Use}
-use Rattle.ot_owner.specs.Keeping.{Keeping, Prepared, IsLast}
-use Rattle.ot_owner.specs.Leases.{lease_of, lent_from}
-use Rattle.ot_owner.specs.Lending.{uses_of}
-use Rattle.ot_owner.specs.Owning.{Owned}
-use Rattle.ot_owner.specs.Rows.{begun_for}
-use Rattle.ot_owner.specs.Worth.{worths}
-use Rattle.ot_owner.specs.declared.lent.LentCell.{LentCell}
+use Rattle.std.proofs.Common.{◌≡◌, ℕ, List, [], refl, sym, ap, subst, ◌∙◌, Option, Bool, get_or, All, IsSome, if◌then◌else◌}
+use Rattle.ot_job.proofs.Common.{E, Body, cell_of, lengths, updated, NamedIn, AreInOrder, Use, Keeping, lease_of, lent_from, uses_of, Owned, begun_for, worths, LentCell, CanRun, AreHeld, leading, behind, test_of, awake, begun, group_passed, Region, piece_touches, claimable_of, picked, Claims, ahead, Holds, live_of, Live, at, left_open, IsWell, IsOnCourse, Inside}
+use Rattle.ot_owner.specs.Keeping.{Prepared, IsLast}
 use Rattle.ot_owner.proofs.RightsLemmas.{lent_uses}
-use Rattle.ot_task.specs.Assigns.{CanRun}
-use Rattle.ot_task.specs.Modes.{AreHeld}
-use Rattle.ot_task.specs.Pieces.{leading, behind, test_of, awake, begun, group_passed}
-use Rattle.ot_task.specs.Regions.{Region}
-use Rattle.ot_task.specs.Touched.{piece_touches}
 use Rattle.ot_job.specs.Calls.{IsLent, MayLend}
-use Rattle.ot_job.specs.Claiming.{claimable_of, picked}
-use Rattle.ot_job.specs.Claims.{Claims, ahead}
-use Rattle.ot_job.specs.Holding.{Holds}
-use Rattle.ot_job.specs.JobView.{live_of}
-use Rattle.ot_job.specs.Live.{Live}
-use Rattle.ot_job.specs.Numbered.{at}
-use Rattle.ot_job.specs.Opening.{left_open}
-use Rattle.ot_job.specs.Well.{IsWell, IsOnCourse}
-use Rattle.ot_job.specs.declared.job.Job.TheInside.{Inside}
 use Rattle.ot_job.proofs.InsideLemmas.{IsPicked}
 use Rattle.ot_job.proofs.LendingLemmas.{claim-open, claim-unused, claim-known, claim-folds, claim-fresh}
-use Rattle.ot_job.proofs.PickLemmas.{at-here}
-use Rattle.ot_job.proofs.TakenLemmas.{claim-can}
+use Rattle.ot_job.proofs.ClaimableLemmas.{at-here}
+use Rattle.ot_job.proofs.RunLemmas.{claim-can}
 use Rattle.ot_job.proofs.WellLemmas.{claim-free, claim-holds, claim-well, named-awake}
 
 -- the region of the task that is picked, as the code looks at it

@@ -1,32 +1,12 @@
 -- A task ends its body, and its parent's table tells so: what holds of the regions stays.
-use Rattle.std.proofs.Common.{◌≡◌, ◌≢◌, ℕ, zero, suc, ◌<◌, ◌≤◌, Bool, true, false, not, ◌&&◌, ◌||◌, List, [], ◌∷◌, length, refl, sym, ap, subst, ◌∙◌, ◌⊎◌, inl, inr, arith, true≢false, eq-zero-or-pos}
-use Rattle.ot_task.specs.Waits.{is_awaited_at}
-use Rattle.std.specs.Prelude.{None, option_map}
-use Rattle.std.specs.Prelude.{Some, slice_get, nat_lt, ◌==◌}
-use Rattle.std.specs.List.{list_any}
-use Rattle.std.proofs.lemmas.Bool.{cases_eq, cases_lt, true_from_ne_false}
-use Rattle.std.proofs.lemmas.Bool.Decides.{nat_tests}
-use Rattle.ot_model.specs.Tree.{End}
-use Rattle.ot_model.specs.Cells.{updated}
-use Rattle.ot_model.specs.declared.stmt.Use.{Use}
-use Rattle.ot_model.proofs.CellsLemmas.{length-updated, slice_get-updated, slice_get-updated-other}
-use Rattle.ot_depend.specs.Siblings.{Sibling, is_unfinished, with_finished, IsReady, is_in}
+use Rattle.std.proofs.Common.{◌≡◌, ◌≢◌, ℕ, zero, suc, ◌<◌, ◌≤◌, Bool, true, false, not, ◌&&◌, ◌||◌, List, [], ◌∷◌, length, refl, sym, ap, subst, ◌∙◌, ◌⊎◌, inl, inr, arith, true≢false, eq-zero-or-pos, None, option_map, Some, slice_get, nat_lt, ◌==◌}
+use Rattle.ot_job.proofs.Common.{is_awaited_at, list_any, cases_eq, cases_lt, nat_tests, End, updated, Use, length-updated, Sibling, is_unfinished, with_finished, IsReady, is_in, or_true, true_or, or_right, Cell, Operation, same_fold, allows, folds_to, has_cell, Open, todo, AwaitsAll, unawaited, Region, over, without, told_parent, closed, at, parent_of, todo_at, ended_at, parents, DontMix, OnlyFolds, grouped_in, IsBegun, IsKin, IsPlaced, IsSound}
+use Rattle.std.proofs.lemmas.Bool.{true_from_ne_false}
+use Rattle.ot_model.proofs.CellsLemmas.{slice_get-updated, slice_get-updated-other}
 use Rattle.ot_depend.proofs.SiblingsLemmas.{IsReady-finished}
-use Rattle.ot_check.proofs.Bits.{or_true, true_or, or_right}
-use Rattle.ot_model.specs.declared.expr.Cell.{Cell}
-use Rattle.ot_model.specs.declared.fold.Fold.{Fold as Operation}
-use Rattle.ot_model.specs.Uses.{same_fold}
-use Rattle.ot_check.specs.Offences.{allows, folds_to, has_cell}
-use Rattle.ot_task.specs.Place.{Open, todo}
-use Rattle.ot_job.specs.Awaiting.{AwaitsAll, unawaited}
-use Rattle.ot_task.specs.Regions.{Region, over, without}
-use Rattle.ot_job.specs.Settling.{told_parent, closed}
-use Rattle.ot_job.specs.Numbered.{at, parent_of, todo_at, ended_at, parents}
-use Rattle.ot_job.specs.Sound.{DontMix, OnlyFolds, grouped_in, IsBegun, IsKin, IsPlaced, IsSound}
-use Rattle.ot_job.proofs.PlaceLemmas.{at-fewer}
+use Rattle.ot_job.proofs.PlaceLemmas.{at-fewer, kid-none}
 use Rattle.ot_job.proofs.AwaitsLemmas.{awaits-fewer, awaits-end}
 use Rattle.ot_job.proofs.KeptLemmas.{at-updated, at-updated-other, parents-updated}
-use Rattle.ot_job.proofs.GroupLemmas.{kid-none}
 use Rattle.ot_job.proofs.ChangedLemmas.{placed-as}
 
 -- ---- a table that tells of one more

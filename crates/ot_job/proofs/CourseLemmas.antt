@@ -1,69 +1,23 @@
 -- A settle leaves a job on its course.
-use Rattle.std.proofs.Common.{◌≡◌, ℕ, ◌<◌, ◌≤◌, true, false, List, ◌∷◌, length, refl, sym, ap, subst, ◌∙◌, arith, ◌+◌}
-use Rattle.std.specs.Prelude.{Option, Some, None, option_map, nat_lt, IsSome, IsPermutation}
-use Rattle.std.specs.List.{All}
-use Rattle.std.proofs.lemmas.List.{length-map}
-use Rattle.std.proofs.lemmas.List.Elements.{All-weaker}
-use Rattle.std.proofs.lemmas.List.Sorted.{IsPermutation-sym, IsPermutation-trans}
-use Rattle.ot_model.specs.Tree.{E, Body, append}
-use Rattle.ot_model.specs.Value.{val}
-use Rattle.ot_model.specs.Names.{NamedIn, AreInShape}
-use Rattle.ot_model.specs.Counts.{size, tasks_in}
-use Rattle.ot_model.specs.Cells.{cell_of, updated, lengths}
-use Rattle.ot_model.specs.Uses.{AreInOrder}
-use Rattle.ot_model.specs.Serial.{State, serial, serial_run}
-use Rattle.ot_model.specs.Runs.{state_of}
-use Rattle.ot_model.specs.declared.expr.Cell.{Cell}
-use Rattle.ot_model.specs.declared.fold.Fold.{Fold as Operation}
-use Rattle.ot_model.specs.declared.stmt.Use.{Use}
-use Rattle.ot_model.proofs.CellsLemmas.{length-updated}
-use Rattle.ot_check.specs.Offences.{folds_to}
-use Rattle.ot_check.specs.Touches.{EachTouch}
-use Rattle.ot_check.specs.walk.Fine.{IsFine}
-use Rattle.ot_owner.specs.Back.{all_back}
-use Rattle.ot_owner.specs.Owning.{Owned, loan_of}
-use Rattle.ot_owner.specs.declared.lent.LentCell.{LentCell}
-use Rattle.ot_owner.specs.Leases.{Lease, lease_of, lent_from}
-use Rattle.ot_owner.specs.Lending.{first_at, value_at}
-use Rattle.ot_owner.specs.Worth.{AreJoined, worth, worth_over, worths}
+use Rattle.std.proofs.Common.{◌≡◌, ℕ, ◌<◌, ◌≤◌, true, false, List, ◌∷◌, length, refl, sym, ap, subst, ◌∙◌, arith, ◌+◌, Option, Some, None, option_map, nat_lt, IsSome, IsPermutation, All}
+use Rattle.ot_job.proofs.Common.{length-map, All-weaker, IsPermutation-sym, IsPermutation-trans, E, Body, append, val, NamedIn, AreInShape, size, tasks_in, cell_of, updated, lengths, AreInOrder, State, serial, serial_run, state_of, Cell, Operation, Use, length-updated, folds_to, EachTouch, IsFine, all_back, Owned, loan_of, LentCell, Lease, lease_of, lent_from, first_at, value_at, AreJoined, worth, worth_over, worths, cell_of-worths, permutation_rest, assigned, todo, opened, children_of, unawaited, IsFineAt, Region, Run, with_rest, next_task, group_next, at, todo_at, parents, left_of, IsBegun, IsSound, OnlyFolds, leading, leading_len, test_of, held, piece_touches, assigns_out, whole, wholes, loans_out, Opens, RunsWell, Live, weight_of, IsOnCourse, IsWell, Came, IsOut, taken_by, moved_on, settled, counted, counts_after, units_of}
 use Rattle.ot_owner.proofs.OpenLemmas.{joined-same}
-use Rattle.ot_owner.proofs.WorthLemmas.{cell_of-worths, lengths-worths}
-use Rattle.ot_owner.proofs.OutLemmas.{permutation_rest}
-use Rattle.ot_task.specs.Copies.{assigned}
-use Rattle.ot_job.proofs.Given.{Lets}
-use Rattle.ot_task.specs.Place.{todo}
-use Rattle.ot_job.specs.Awaiting.{opened, children_of, unawaited, IsFineAt}
-use Rattle.ot_task.specs.Regions.{Region, Run, with_rest, next_task, group_next}
-use Rattle.ot_job.specs.Numbered.{at, todo_at, parents, left_of}
-use Rattle.ot_job.specs.Sound.{IsBegun, IsSound, OnlyFolds}
-use Rattle.ot_task.specs.Pieces.{leading, leading_len, test_of}
-use Rattle.ot_task.specs.Modes.{held}
-use Rattle.ot_task.specs.Touched.{piece_touches}
-use Rattle.ot_job.specs.Whole.{assigns_out, whole, wholes, loans_out}
-use Rattle.ot_job.specs.Opening.{Opens}
-use Rattle.ot_job.specs.Running.{RunsWell}
-use Rattle.ot_job.specs.Live.{Live}
-use Rattle.ot_task.specs.Weighing.{weight_of}
+use Rattle.ot_owner.proofs.WorthLemmas.{lengths-worths}
+use Rattle.ot_job.proofs.CopiesLemmas.{Lets, mode_at, back-serial, test-serial, HasInputs}
 use Rattle.ot_job.proofs.WeighingLemmas.{weight-settled}
-use Rattle.ot_job.specs.Well.{IsOnCourse, IsWell}
-use Rattle.ot_job.specs.Taken.{Came, IsOut, taken_by}
-use Rattle.ot_job.specs.Settling.{moved_on, settled, counted, counts_after, units_of}
-use Rattle.ot_job.proofs.BackLemmas.{mode_at, back-serial, test-serial, HasInputs}
 use Rattle.ot_job.proofs.KeptLemmas.{at-updated, todo-append, kept-piece}
 use Rattle.ot_job.proofs.ChangedLemmas.{begun-changed}
-use Rattle.ot_job.proofs.FreeLemmas.{at-whole, fine-innermost, named-front, named-back}
-use Rattle.ot_job.proofs.EnteredLemmas.{each-settled}
+use Rattle.ot_job.proofs.RightsLemmas.{at-whole, fine-innermost, named-front, named-back}
+use Rattle.ot_job.proofs.EachLemmas.{each-settled, at-each}
 use Rattle.ot_job.proofs.HoldingLemmas.{course-holds, course-apart}
 use Rattle.ot_job.proofs.StopLemmas.{sound-piece, may-run}
 use Rattle.ot_job.proofs.OpeningLemmas.{open-settled, open-back}
 use Rattle.ot_job.proofs.SettleLemmas.{run_of, has-piece, cells-there, runs-within}
 use Rattle.ot_job.proofs.WellLemmas.{settle-may}
-use Rattle.ot_job.proofs.LetsLemmas.{lets-piece, lets-test}
-use Rattle.ot_job.proofs.InputsLemmas.{has-inputs, inputs-kept}
-use Rattle.ot_job.proofs.CountLemmas.{left-grows, serial-few, piece-cells, piece-lengths, settled-state}
-use Rattle.ot_job.proofs.MovedLemmas.{Goes, goes-on}
-use Rattle.ot_job.proofs.MovesLemmas.{wholes-settled, still-out, loans-settled, length-settled}
-use Rattle.ot_job.proofs.EachLemmas.{at-each}
+use Rattle.ot_job.proofs.RunLemmas.{lets-piece, lets-test}
+use Rattle.ot_job.proofs.LendingLemmas.{has-inputs, inputs-kept}
+use Rattle.ot_job.proofs.CountingLemmas.{left-grows, serial-few, piece-cells, piece-lengths, settled-state}
+use Rattle.ot_job.proofs.MovesLemmas.{Goes, goes-on, wholes-settled, still-out, loans-settled, length-settled}
 
 -- a job on its course has counted at most what its program has
 pub counts-few : (j : Live) → IsOnCourse j → (j.counts.tasks ≤ tasks_in j.program.body) × (j.counts.units ≤ size j.program.body)

@@ -1,31 +1,7 @@
 -- Each touch of a piece may be made on what it holds.
-use Rattle.std.proofs.Common.{◌≡◌, ◌≢◌, ◌<◌, ℕ, zero, suc, ◌+◌, Bool, true, false, List, [], ◌∷◌, ◌++◌, map, refl, sym, ap, subst, ◌∙◌, inl, inr, arith, true≢false}
-use Rattle.std.proofs.lemmas.Bool.{false_from_ne_true}
-use Rattle.std.specs.Prelude.{Option, Some, None, IsSome, cond, option_map, if◌then◌else◌}
-use Rattle.std.specs.List.{fold, find, range_with_len}
-use Rattle.ot_model.specs.Tree.{E, Literal, CellAt, Apply, PickFrom, Set, Fold, If, Task, Wait, Group, Body, End, Next}
-use Rattle.ot_model.specs.Names.{NamedIn, ValueNamedIn}
-use Rattle.ot_model.specs.Value.{cell_at, HasAll}
-use Rattle.ot_model.specs.declared.expr.Cell.{Cell}
-use Rattle.ot_model.specs.declared.fold.Fold.{Fold as Operation}
-use Rattle.ot_model.specs.declared.expr.Section.{Section}
-use Rattle.ot_model.specs.declared.stmt.Mode.{Mode}
-use Rattle.ot_model.specs.declared.stmt.Mode.TheVariants.{Reads, Writes, Folds}
-use Rattle.ot_model.specs.declared.stmt.Use.{Use}
-use Rattle.ot_check.specs.Paths.{use_as, touches}
-use Rattle.ot_model.specs.Value.{cells_named}
-use Rattle.ot_check.specs.Offences.{Declared, folds_to}
-use Rattle.ot_model.specs.Cells.{same_cell}
-use Rattle.ot_owner.specs.Leases.{lent_from, copy_of}
-use Rattle.ot_owner.specs.Lending.{first_at, value_at, is_at, MayChange}
-use Rattle.ot_check.proofs.SameLemmas.{same_is}
-use Rattle.ot_task.proofs.CellLemmas.{same_self}
-use Rattle.ot_check.specs.walk.Fine.{AreAssigns}
-use Rattle.ot_task.specs.Assigns.{CanAssign}
-use Rattle.ot_model.specs.Uses.{mode_in, same_fold}
-use Rattle.ot_task.specs.Touched.{assign_touches}
-use Rattle.ot_task.specs.Modes.{held, noted, stronger, with_mode, mode_held}
-use Rattle.ot_task.proofs.HeldLemmas.{reads-append}
+use Rattle.std.proofs.Common.{◌≡◌, ◌≢◌, ◌<◌, ℕ, zero, suc, ◌+◌, Bool, true, false, List, [], ◌∷◌, ◌++◌, map, refl, sym, ap, subst, ◌∙◌, inl, inr, arith, true≢false, Option, Some, None, IsSome, cond, option_map, if◌then◌else◌, fold, find}
+use Rattle.ot_job.proofs.Common.{false_from_ne_true, range_with_len, E, Literal, CellAt, Apply, PickFrom, Set, Fold, If, Task, Wait, Group, Body, End, Next, NamedIn, ValueNamedIn, cell_at, HasAll, cells_named, Cell, Operation, Section, Mode, Reads, Writes, Folds, Use, use_as, touches, Declared, folds_to, same_cell, lent_from, copy_of, first_at, value_at, is_at, same_is, same_self, AreAssigns, CanAssign, mode_in, same_fold, assign_touches, held, noted, stronger, with_mode, mode_held, reads-append}
+use Rattle.ot_owner.specs.Lending.{MayChange}
 use Rattle.ot_job.proofs.HoldsLemmas.{Among}
 
 -- what is held lets a touch in this mode be made

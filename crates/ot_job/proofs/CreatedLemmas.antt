@@ -1,40 +1,18 @@
--- A task that is created leaves what holds of its parent's region.
-use Rattle.std.proofs.Common.{◌≡◌, ℕ, zero, suc, Bool, true, false, not, ◌&&◌, ◌||◌, List, [], ◌∷◌, ◌++◌, map, length, refl, sym, ap, subst, ◌∙◌, ◌⊎◌, inl, inr, ⊎_elim, arith, true≢false}
-use Rattle.ot_task.specs.Regions.{Waiting}
-use Rattle.ot_task.specs.Waits.{is_awaited_at}
-use Rattle.std.specs.Prelude.{◌==◌, Some, slice_get}
-use Rattle.std.specs.List.{list_any}
-use Rattle.std.proofs.lemmas.Bool.Decides.{nat_tests}
-use Rattle.std.proofs.lemmas.Option.{same_Some}
+-- A task that is created leaves what holds of its parent's region, and who is whose child.
+use Rattle.std.proofs.Common.{◌≡◌, ℕ, zero, suc, Bool, true, false, not, ◌&&◌, ◌||◌, List, [], ◌∷◌, ◌++◌, map, length, refl, sym, ap, subst, ◌∙◌, ◌⊎◌, inl, inr, ⊎_elim, true≢false, ◌==◌, Some, slice_get, ◌≢◌, ◌+◌, ◌<◌, ◌≤◌, arith, length-append}
+use Rattle.ot_job.proofs.Common.{Waiting, Region, with_rest, with_child, is_awaited_at, list_any, same_Some, Body, End, Next, Task, Cell, Operation, Mode, Reads, Writes, Folds, same_fold, Use, Sibling, created, is_unfinished, is_in, use_as, EachTouch, EachTask, Declared, allows, folds_to, has_cell, ReductionMisuse, or_true, true_or, or_right, and_left, and_right, and_true, IsClean, Open, todo, opened, children_of, IsFineAt, AwaitsAll, unawaited, DontMix, LetsAll, NamedOnce, OnlyFolds, IsPlaced, grouped_in, cases_eq, cases_lt, slice_get_within, updated, length-updated, IsReady, new_region, at, parent_of, IsBegun, IsKin, IsSound, slice_get-push}
 use Rattle.std.proofs.lemmas.List.Folds.{list_any-append}
-use Rattle.ot_model.specs.Tree.{Body, End, Next, Task}
-use Rattle.ot_model.specs.declared.expr.Cell.{Cell}
-use Rattle.ot_model.specs.declared.fold.Fold.{Fold as Operation}
-use Rattle.ot_model.specs.declared.stmt.Mode.{Mode}
-use Rattle.ot_model.specs.declared.stmt.Mode.TheVariants.{Reads, Writes, Folds}
-use Rattle.ot_model.specs.Uses.{same_fold}
-use Rattle.ot_model.specs.declared.stmt.Use.{Use}
-use Rattle.ot_depend.specs.Siblings.{Sibling, created, is_unfinished, is_in}
-use Rattle.ot_check.specs.Paths.{use_as}
-use Rattle.ot_check.specs.Touches.{EachTouch, EachTask}
-use Rattle.ot_check.specs.Offences.{Declared, allows, folds_to, exceeds, misfits, has_cell}
-use Rattle.ot_check.specs.declared.fault.Offence.TheVariants.{ChildBeyond, ReductionMisuse}
-use Rattle.ot_check.proofs.Bits.{or_true, true_or, or_right, and_left, and_right, and_true}
-use Rattle.ot_check.proofs.OffenceLemmas.{is_offence-ChildBeyond, is_offence-ReductionMisuse}
-use Rattle.ot_check.proofs.InsideLemmas.{child_fits}
-use Rattle.ot_check.proofs.FoldLemmas.{fits-folds, fits-reads}
-use Rattle.ot_check.specs.walk.Fine.{IsClean}
-use Rattle.ot_task.specs.Place.{Open, todo}
-use Rattle.ot_job.specs.Awaiting.{opened, children_of, IsFineAt, AwaitsAll, unawaited}
-use Rattle.ot_task.specs.Regions.{Region, with_rest, with_child}
-use Rattle.ot_job.specs.Sound.{DontMix, LetsAll, NamedOnce, OnlyFolds, IsPlaced, grouped_in}
+use Rattle.ot_check.specs.Offences.{exceeds, misfits}
+use Rattle.ot_check.specs.declared.fault.Offence.TheVariants.{ChildBeyond}
+use Rattle.ot_check.proofs.Cited.{is_offence-ChildBeyond, is_offence-ReductionMisuse, child_fits, fits-folds, fits-reads, eq_itself, slice_get-last}
+use Rattle.ot_depend.proofs.SiblingsLemmas.{IsReady-push}
 use Rattle.ot_job.proofs.FoldLemmas.{one-op, writes-all, declares-fold, only-unwritten}
-use Rattle.ot_job.proofs.KeptLemmas.{todo-next}
+use Rattle.ot_job.proofs.KeptLemmas.{todo-next, at-updated, at-updated-other, at-more, at-new}
+use Rattle.ot_job.proofs.EachLemmas.{field-kept}
+
+-- ---- a task that is created leaves what holds of its parent's region
 
 -- ---- the groups that are open at the creation
-
-pub group_self : (n : ℕ) → (n == n) ≡ true
-group_self n = grind (arith, nat_tests)
 
 -- a child is created in each open group that names a cell
 opened-grouped : (gs : List Open) (d : List Use) (groups : List ℕ) (o : Operation) (c : Cell) → ((g : ℕ) → list_any (λ h. h == g) (map (λ o. o.group) gs) ≡ true → list_any (λ h. h == g) groups ≡ true)
@@ -45,7 +23,7 @@ opened-grouped (g ∷ gs) d groups o c in_all h =
       | inl outer ↦ or_right ((same_fold g.op o && has_cell g.cells c) && is_in g.group (created d groups)) (grouped_in gs (created d groups) o c)
           (opened-grouped gs d groups o c (λ n there. in_all n (or_right (g.group == n) (list_any (λ h. h == n) (map (λ o. o.group) gs)) there)) outer)
       | inr here ↦ true_or ((same_fold g.op o && has_cell g.cells c) && is_in g.group (created d groups)) (grouped_in gs (created d groups) o c)
-          (and_true (same_fold g.op o && has_cell g.cells c) (is_in g.group (created d groups)) here (in_all g.group (true_or (g.group == g.group) _ (group_self g.group))))
+          (and_true (same_fold g.op o && has_cell g.cells c) (is_in g.group (created d groups)) here (in_all g.group (true_or (g.group == g.group) _ (eq_itself g.group))))
     ]
 
 pub grouped-opened : (gs : List Open) (s : Sibling) (o : Operation) (c : Cell) → grouped_in gs s o c ≡ true → opened gs o c ≡ true
@@ -179,3 +157,96 @@ module _ (r : Region) (p : IsPlaced r) (d : List Use) (b rest : Body) (was : r.r
             (λ k s gs. more-place (λ l t. s.finished ≡ false → t.finished ≡ false → DontMix s.uses t.uses) r.children new (λ l t gt. p.apart k l s t gs gt) (λ a z. old_new k s gs a) l t ht)
             (more-place (λ l t. false ≡ false → t.finished ≡ false → DontMix d t.uses) r.children new (λ l t gt z a. new_old l t gt a) (λ z a. own_new) l t ht)
             k s hs
+
+-- ---- a task that is created leaves who is whose child
+
+module _ (rs : List Region) (i : ℕ) (h : i < length rs) (uses : List Use) (body : Body) where
+  abbrev pub child : ℕ
+  child = length (at rs i).children
+
+  abbrev pub more : List Region
+  more = updated rs i (with_child uses) ++ new_region i child uses body ∷ []
+
+  pub n-long : length (updated rs i (with_child uses)) ≡ length rs
+  n-long = length-updated rs i (with_child uses)
+
+  pub long : length more ≡ length rs + 1
+  long = length-append (updated rs i (with_child uses)) (new_region i child uses body ∷ []) ∙ ap (λ n. n + 1) n-long
+
+  pub at-old : (j : ℕ) → j < length rs → at more j ≡ at (updated rs i (with_child uses)) j
+  at-old j l = at-more (updated rs i (with_child uses)) (new_region i child uses body) j (omega (arith, n-long, l))
+
+  pub at-fresh : at more (length rs) ≡ new_region i child uses body
+  at-fresh = ap (at more) (sym n-long) ∙ at-new (updated rs i (with_child uses)) (new_region i child uses body)
+
+  pub at-parent : at more i ≡ with_child uses (at rs i)
+  at-parent = at-old i h ∙ at-updated rs i (with_child uses) h
+
+  pub at-others : (j : ℕ) → j < length rs → j ≢ i → at more j ≡ at rs j
+  at-others j l other = at-old j l ∙ at-updated-other rs i j (with_child uses) other
+
+  -- each field but the children is as before
+  pub same-field : {A : Type 0} (f : Region → A) → ((r : Region) → f (with_child uses r) ≡ f r) → (j : ℕ) → j < length rs → f (at more j) ≡ f (at rs j)
+  same-field f keeps j l = ap f (at-old j l) ∙ field-kept f (with_child uses) keeps rs i j
+
+  -- an entry stays in its table
+  entry-kept : (p k : ℕ) (s : Sibling) → p < length rs → slice_get (at rs p).children k ≡ Some s → slice_get (at more p).children k ≡ Some s
+  entry-kept p k s l there = pick (cases_eq p i)
+    where
+      pick : (p ≡ i) ⊎ (p ≡ i → ⊥) → slice_get (at more p).children k ≡ Some s
+      pick (inl e) =
+          ap (λ n. slice_get (at more n).children k) e ∙ ap (λ (r : Region). slice_get r.children k) at-parent
+          ∙ (let here : slice_get (at rs i).children k ≡ Some s = subst (λ n. slice_get (at rs n).children k ≡ Some s) e there in
+          slice_get-push (at rs i).children (created uses (map (λ o. o.group) (at rs i).groups)) k (slice_get_within (at rs i).children k s here) ∙ here)
+      pick (inr e) = ap (λ (r : Region). slice_get r.children k) (at-others p l e) ∙ there
+
+  module _ (s : IsSound rs) where
+    kin-old : (j : ℕ) → 0 < j → j < length rs → IsKin more j
+    kin-old j pos l =
+        let k = s.kin j pos l in
+        let p = same-field (λ r. r.parent) (λ r. refl) j l in
+        let c = same-field (λ r. r.child) (λ r. refl) j l in
+        record {
+          entry = k.entry;
+          there = ap (λ n. slice_get (at more n).children (at more j).child) p ∙ ap (λ n. slice_get (at more (parent_of rs j)).children n) c
+              ∙ entry-kept (parent_of rs j) (at rs j).child k.entry (omega (arith, s.down j pos, l)) k.there;
+          uses = same-field (λ r. r.own) (λ r. refl) j l ∙ k.uses;
+          finished = k.finished ∙ sym (same-field (λ r. r.ended) (λ r. refl) j l);
+        }
+
+    kin-new : IsKin more (length rs)
+    kin-new = record {
+      entry = created uses (map (λ o. o.group) (at rs i).groups);
+      there = ap (λ (r : Region). slice_get (at more r.parent).children r.child) at-fresh ∙ ap (λ (r : Region). slice_get r.children child) at-parent ∙ slice_get-last (at rs i).children _;
+      uses = ap (λ (r : Region). r.own) at-fresh;
+      finished = sym (ap (λ (r : Region). r.ended) at-fresh);
+    }
+
+    pub kin-more : (j : ℕ) → 0 < j → j < length more → IsKin more j
+    kin-more j pos l = pick (cases_lt j (length rs))
+      where
+        pick : (j < length rs) ⊎ (length rs ≤ j) → IsKin more j
+        pick (inl below) = kin-old j pos below
+        pick (inr past) = subst (IsKin more) (omega (arith, past, l, long)) kin-new
+
+    pub begun-more : (j : ℕ) → j < length rs → IsBegun rs j → IsBegun more j
+    begun-more j l begun pos =
+        let b = begun pos in
+        let p = same-field (λ r. r.parent) (λ r. refl) j l in
+        let c = same-field (λ r. r.child) (λ r. refl) j l in (
+          omega (arith, b.0, longer),
+          subst (λ n. IsReady (at more n).children (at more j).child) (sym p)
+              (subst (IsReady (at more (parent_of rs j)).children) (sym c) (ready (parent_of rs j) (at rs j).child (omega (arith, s.down j pos, l)) b.1)),
+        )
+      where
+        longer : length rs ≤ length more
+        longer = omega (arith, long)
+
+        ready : (q k : ℕ) → q < length rs → IsReady (at rs q).children k → IsReady (at more q).children k
+        ready q k below r = pick (cases_eq q i)
+          where
+            pick : (q ≡ i) ⊎ (q ≡ i → ⊥) → IsReady (at more q).children k
+            pick (inl e) =
+                subst (λ n. IsReady (at more n).children k) (sym e)
+                (subst (λ (x : Region). IsReady x.children k) (sym at-parent) (IsReady-push (at rs i).children _ k (subst (λ n. IsReady (at rs n).children k) e r)))
+            pick (inr e) = subst (λ (x : Region). IsReady x.children k) (sym (at-others q below e)) r

@@ -1,49 +1,23 @@
 -- A job's calls, as whoever deals with it sees them.
-use Rattle.std.proofs.Common.{◌≡◌, ◌≢◌, ℕ, zero, suc, ◌+◌, ◌<◌, ◌≤◌, Bool, true, false, not, ◌&&◌, ◌||◌, List, [], ◌∷◌, length, get_or, refl, sym, ap, subst, ◌∙◌, ◌⊎◌, inl, inr, arith, true≢false}
-use Rattle.std.specs.Prelude.{◌==◌, ◌%◌, Option, Some, None, is_some, option_map, if◌then◌else◌}
-use Rattle.std.specs.List.{range_with_len}
+use Rattle.std.proofs.Common.{◌≡◌, ◌≢◌, ℕ, zero, suc, ◌+◌, ◌<◌, ◌≤◌, Bool, true, false, not, ◌&&◌, ◌||◌, List, [], ◌∷◌, length, get_or, refl, sym, ap, subst, ◌∙◌, ◌⊎◌, inl, inr, arith, true≢false, ◌==◌, ◌%◌, Option, Some, None, is_some, option_map, if◌then◌else◌}
+use Rattle.ot_job.proofs.Common.{range_with_len, same_Some, none-some, slice_get-get_or, length-range_with_len, length-filter, count_by-le-length, false_from_ne_true, E, Body, expanded_of, updated, and_left, not_true, Lease, lease_of, loan_of, Region, Run, stopped, root_region, at, Live, Taken, Came, IsOut, taken_by, behind, test_of, begun, with_loan, loans_out, is_claimable, claimable_of, picked, is_let_go, is_ready, Claims, ahead, Settles, moved_on, settled, is_at_end, any_out, all_ended, claimable_in, aborted, region_weight, weight_left, IsWell, Working, Failing, Ended, Failed, out_in}
 use Rattle.std.proofs.lemmas.Nat.{mod_below}
-use Rattle.std.proofs.lemmas.Option.{same_Some, none-some, slice_get-get_or}
-use Rattle.std.proofs.lemmas.List.FromFn.{length-range_with_len}
-use Rattle.std.proofs.lemmas.List.Sums.{length-filter, count_by-le-length}
 use Rattle.std.proofs.lemmas.List.Sorted.{length_permutation}
-use Rattle.std.proofs.lemmas.Bool.{false_from_ne_true}
-use Rattle.ot_model.specs.Tree.{E, Body}
-use Rattle.ot_model.specs.Programs.{expanded_of}
-use Rattle.ot_model.specs.Cells.{updated}
 use Rattle.ot_check.specs.Jobs.{Spec}
-use Rattle.ot_check.proofs.Bits.{and_left, not_true}
-use Rattle.ot_owner.specs.Leases.{Lease, lease_of}
-use Rattle.ot_owner.specs.Owning.{loan_of}
-use Rattle.ot_task.specs.Regions.{Region, Run, stopped, root_region}
-use Rattle.ot_job.specs.Numbered.{at}
-use Rattle.ot_job.specs.Live.{Live}
-use Rattle.ot_job.specs.Taken.{Taken}
-use Rattle.ot_task.specs.Pieces.{behind, test_of, begun}
-use Rattle.ot_job.specs.Whole.{with_loan, loans_out}
 use Rattle.ot_job.proofs.SettleLemmas.{run_of, runs-within}
-use Rattle.ot_job.specs.Claiming.{is_claimable, claimable_of, picked}
-use Rattle.ot_task.specs.Waits.{is_let_go}
-use Rattle.ot_depend.specs.Siblings.{is_ready}
-use Rattle.ot_job.specs.Claims.{Claims, Claimed, ahead}
-use Rattle.ot_job.specs.Taken.{Came, IsOut, taken_by}
-use Rattle.ot_job.specs.Settling.{Settles, moved_on, settled}
-use Rattle.ot_task.specs.Standing.{is_at_end}
-use Rattle.ot_job.specs.States.{Starts, FailsBy, any_out, all_ended, claimable_in, aborted}
-use Rattle.ot_task.specs.Weighing.{region_weight, weight_left, weight_of as weight_in}
-use Rattle.ot_job.specs.Well.{IsWell}
-use Rattle.ot_job.specs.declared.state.State.TheVariants.{Working, Failing, Ended, Failed}
+use Rattle.ot_job.specs.Claims.{Claimed}
+use Rattle.ot_job.specs.States.{Starts, FailsBy}
+use Rattle.ot_task.specs.Weighing.{weight_of as weight_in}
 use Rattle.ot_job.specs.Dealings.{Work, work_of, brought, run_with, work_in, work_at, NoneOut, out_of, state_of, weight_of, after_failure, IsFresh, Takes, Returns, Gives, Pays, Breaks, Aborts}
-use Rattle.ot_job.specs.Counting.{out_in}
 use Rattle.ot_job.proofs.CountingLemmas.{one, count-cons, count-updated, out-any}
 use Rattle.ot_job.proofs.KeptLemmas.{at-updated, at-updated-other}
 use Rattle.ot_job.proofs.WellLemmas.{claimable-idle}
-use Rattle.ot_job.proofs.PickLemmas.{picked-claimable}
+use Rattle.ot_job.proofs.ClaimableLemmas.{picked-claimable}
 use Rattle.ot_job.proofs.StartLemmas.{each-ended, one-out, root-light}
 use Rattle.ot_job.proofs.MovesLemmas.{Alike, others-moved, still-out, loans-settled}
 use Rattle.ot_job.proofs.WeighingLemmas.{weight-begun}
 use Rattle.ot_job.proofs.StepLemmas.{moved-running}
-use Rattle.ot_job.proofs.FreeTaskLemmas.{none-out as none-at}
+use Rattle.ot_job.proofs.StuckLemmas.{none-out as none-at}
 
 -- ---- the piece that is out
 

@@ -1,8 +1,8 @@
--- What is true of each region, where one changes, and where one more is there.
-use Rattle.std.proofs.Common.{◌≡◌, ℕ, zero, suc, List, [], ◌∷◌, ◌++◌, refl}
-use Rattle.ot_model.specs.Cells.{updated}
-use Rattle.ot_task.specs.Regions.{Region}
-use Rattle.ot_job.specs.Numbered.{at}
+-- What is true of each region and of each open group, through each change.
+use Rattle.std.proofs.Common.{◌≡◌, ℕ, zero, suc, List, [], ◌∷◌, ◌++◌, refl, Bool, true, false, Option, Some, None, if◌then◌else◌, nat_lt, All}
+use Rattle.ot_job.proofs.Common.{updated, Region, at, All-nil, All-cons, All-tail, Set, Fold, If, Task, Wait, Group, Body, End, Next, Use, Cell, Operation, Lease, Open, with_child, new_region, with_created, stepped, stepped_from, executed, next_task, rest_at, children_at, over, stopped, without, passed, begun, is_at_end, parent_of, told_parent, closed, moved_on, settled}
+
+-- ---- what is true of each region, where one changes, and where one more is there
 
 pub at-each : (P : Region → Type 0) (rs : List Region) (i : ℕ) (f : Region → Region) → ((k : ℕ) → P (at rs k)) → P (f (at rs i)) → (k : ℕ) → P (at (updated rs i f) k)
 at-each P [] i f old new k = old k
@@ -35,3 +35,56 @@ field-more g [] new same zero = same
 field-more g [] new same (suc p) = refl
 field-more g (r ∷ rs) new same zero = refl
 field-more g (r ∷ rs) new same (suc p) = field-more g rs new same p
+
+-- ---- what is true of each open group, through each change of the regions
+
+module _ (P : Open → Type 0) where
+  abbrev Each : Region → Type 0
+  Each r = All P r.groups
+
+  each-passed : (rest : Body) (gs : List Open) → All P gs → All P (passed rest gs).groups
+  each-passed End [] h = h
+  each-passed End (o ∷ os) h = All-tail P o os h
+  each-passed (Next x b) gs h = h
+
+  -- a claim opens none
+  pub each-begun : (worker : ℕ) (lease : Lease) (rs : List Region) (i : ℕ) → ((k : ℕ) → All P (at rs k).groups) → (k : ℕ) → All P (at (updated rs i (begun worker lease)) k).groups
+  each-begun worker lease rs i old = at-each Each rs i (begun worker lease) old (each-passed (at rs i).rest (at rs i).groups (old i))
+
+  module _ (taken : Bool) (g i : ℕ) (rs : List Region) (old : (k : ℕ) → All P (at rs k).groups)
+      (new : (op : Operation) (cs : List Cell) (b rest : Body) → (at rs i).rest ≡ Next (Group op cs b) rest → P (record { group = g; op = op; cells = cs; behind = rest })) where
+    each-told : (k : ℕ) → All P (at (told_parent i rs) k).groups
+    each-told = by (nat_lt 0 i)
+      where
+        by : (b : Bool) → (k : ℕ) → All P (at (if b then updated rs (parent_of rs i) (without (at rs i).child) else rs) k).groups
+        by true = at-each Each rs (parent_of rs i) (without (at rs i).child) old (old (parent_of rs i))
+        by false = old
+
+    each-stepped : (k : ℕ) → All P (at (updated rs i (stepped taken g)) k).groups
+    each-stepped = at-each Each rs i (stepped taken g) old (by (at rs i).rest refl)
+      where
+        by : (b : Body) → (at rs i).rest ≡ b → All P (stepped_from taken g b (at rs i)).groups
+        by End was = old i
+        by (Next (Set c e) rest) was = old i
+        by (Next (Fold op c e) rest) was = old i
+        by (Next (If e a b) rest) was = old i
+        by (Next (Task d b) rest) was = old i
+        by (Next (Wait w) rest) was = old i
+        by (Next (Group op cs b) rest) was = All-cons P (record { group = g; op = op; cells = cs; behind = rest }) (at rs i).groups (new op cs b rest was) (old i)
+
+    each-created : (child : Option (List Use × Body)) (k : ℕ) → All P (at (with_created i child (updated rs i (stepped taken g))) k).groups
+    each-created None = each-stepped
+    each-created (Some child) =
+        let now = updated rs i (stepped taken g) in
+        more-each Each (updated now i (with_child child.0)) (new_region i (children_at now i) child.0 child.1) (at-each Each now i (with_child child.0) each-stepped (each-stepped i)) (All-nil P)
+
+    each-moved : (k : ℕ) → All P (at (moved_on taken g i rs) k).groups
+    each-moved = by (is_at_end (at rs i).rest (at rs i).groups)
+      where
+        by : (b : Bool) → (k : ℕ) → All P (at (if b then closed i rs else executed taken g i rs) k).groups
+        by true = at-each Each (told_parent i rs) i over each-told (each-told i)
+        by false = each-created (next_task (rest_at rs i))
+
+    -- a settle opens the group that comes next
+    pub each-settled : (k : ℕ) → All P (at (settled taken g i rs) k).groups
+    each-settled = at-each Each (moved_on taken g i rs) i stopped each-moved (each-moved i)

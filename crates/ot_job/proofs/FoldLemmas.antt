@@ -1,20 +1,11 @@
 -- Modes that fold, and what a declaration lets a body fold.
-use Rattle.std.proofs.Common.{◌≡◌, Bool, true, false, not, ◌&&◌, List, [], ◌∷◌, refl, sym, ap, subst, ◌∙◌, inl, inr, true≢false}
-use Rattle.std.proofs.lemmas.Bool.{false_from_ne_true}
-use Rattle.std.specs.Prelude.{Some, None}
-use Rattle.ot_model.specs.Cells.{same_cell}
-use Rattle.ot_model.specs.Uses.{conflicts, same_fold}
-use Rattle.ot_model.specs.declared.expr.Cell.{Cell}
-use Rattle.ot_model.specs.declared.fold.Fold.{Fold as Operation}
-use Rattle.ot_model.specs.declared.stmt.Mode.{Mode}
-use Rattle.ot_model.specs.declared.stmt.Mode.TheVariants.{Reads, Writes, Folds}
-use Rattle.ot_model.specs.declared.stmt.Use.{Use}
+use Rattle.std.proofs.Common.{◌≡◌, Bool, true, false, not, ◌&&◌, List, [], ◌∷◌, refl, sym, ap, subst, ◌∙◌, inl, inr, true≢false, Some, None, ◌||◌}
+use Rattle.ot_job.proofs.Common.{false_from_ne_true, same_cell, conflicts, same_fold, Cell, Operation, Mode, Reads, Writes, Folds, Use, use_as, Declared, allows, covers, folds_by, folds_to, or_true, true_or, or_right, or_false_left, or_false_right, not_false, OnlyFolds, list_any, Precedes, AreInOrder, and_left, and_right, same_is}
 use Rattle.ot_model.proofs.EqualLemmas.{fold-decides}
-use Rattle.ot_check.specs.Paths.{use_as}
-use Rattle.ot_check.specs.Offences.{Declared, allows, covers, folds_by, folds_to}
-use Rattle.ot_check.proofs.Bits.{or_true, true_or, or_right, or_false_left, or_false_right, not_false}
-use Rattle.ot_check.proofs.InsideLemmas.{folded}
-use Rattle.ot_job.specs.Sound.{OnlyFolds}
+use Rattle.ot_check.proofs.Cited.{folded, conflicts_folds, one_op}
+use Rattle.ot_model.proofs.OrderLemmas.{precedes_trans, precedes_apart, rest_in_order}
+
+-- ---- modes that fold, and what a declaration lets a body fold
 
 -- ---- operations
 
@@ -24,21 +15,7 @@ one-op o p h = (fold-decides o p).0 h
 pub same-op : (o : Operation) → same_fold o o ≡ true
 same-op o = (fold-decides o o).1 refl
 
-abbrev operation_or : Operation → Mode → Operation
-operation_or o Reads = o
-operation_or o Writes = o
-operation_or o (Folds p) = p
-
-pub one-fold : (o p : Operation) → Folds o ≡ Folds p → o ≡ p
-one-fold o p e = ap (operation_or o) e
-
 -- ---- two modes
-
--- what doesn't conflict with a fold is a fold by the same operation
-pub agrees-with : (o : Operation) (m : Mode) → conflicts (Folds o) m ≡ false → m ≡ Folds o
-agrees-with o Reads h = absurd (true≢false h)
-agrees-with o Writes h = absurd (true≢false h)
-agrees-with o (Folds p) h = ap Folds (sym (one-op o p (not_false (same_fold o p) h)))
 
 pub agrees-before : (o : Operation) (m : Mode) → conflicts m (Folds o) ≡ false → m ≡ Folds o
 agrees-before o Reads h = absurd (true≢false h)
@@ -59,7 +36,7 @@ turned Reads (Folds p) h = h
 turned Writes Reads h = h
 turned Writes Writes h = h
 turned Writes (Folds p) h = h
-turned (Folds o) n h = both-fold o n (Folds o) (agrees-with o n h) refl
+turned (Folds o) n h = both-fold o n (Folds o) (conflicts_folds o n h) refl
 
 -- what a declared fold covers is a fold by the same operation
 pub covered-fold : (o : Operation) (m : Mode) → covers (Folds o) m ≡ true → m ≡ Folds o
@@ -110,7 +87,7 @@ declares-fold (d ∷ uses) o c may none =
 -- such a cell is folded by one operation
 pub held-alike : (own : Declared) (c : Cell) → ((o : Operation) → folds_to own o c ≡ true → OnlyFolds o own c)
     → (o p : Operation) → folds_to own o c ≡ true → folds_to own p c ≡ true → o ≡ p
-held-alike own c only o p h g = sym (one-fold p o (only o h (Folds p) (folded own p c g)))
+held-alike own c only o p h g = sym (one_op p o (only o h (Folds p) (folded own p c g)))
 
 -- it isn't read
 pub only-unread : (o : Operation) (own : Declared) (c : Cell) → OnlyFolds o own c → allows own (use_as Reads c) ≡ true → ⊥
@@ -131,3 +108,56 @@ pub only-declares : (uses : List Use) (o : Operation) (c : Cell) → OnlyFolds o
 only-declares uses o c only m may =
     declares-fold uses o c (subst (λ (n : Mode). allows (Some uses) (use_as n c) ≡ true) (only m may) may)
     (false_from_ne_true (allows (Some uses) (use_as Reads c)) (only-unread o (Some uses) c only))
+
+-- ---- what a declaration in order lets a body do with a cell that it folds
+
+skip : (u v : Use) (us : List Use) → AreInOrder (u ∷ v ∷ us) → AreInOrder (u ∷ us)
+skip u v [] order = tt
+skip u v (w ∷ us) (first, (second, later)) = (precedes_trans u.cell v.cell w.cell first second, later)
+
+other_cell : (c d : Cell) → Precedes c d → (test : Bool) → (same_cell d c && test) ≡ false
+other_cell c d before test = by (same_cell d c) refl
+  where
+    by : (b : Bool) → same_cell d c ≡ b → (b && test) ≡ false
+    by true e = absurd (precedes_apart c d before (sym (same_is d c e)))
+    by false e = refl
+
+-- no later use is of the same cell
+behind_none : (u : Use) (us : List Use) (test : Use → Bool) → AreInOrder (u ∷ us) → list_any (λ d. same_cell d.cell u.cell && test d) us ≡ false
+behind_none u [] test order = refl
+behind_none u (v ∷ us) test (before, later) =
+    ap (λ b. b || list_any (λ d. same_cell d.cell u.cell && test d) us) (other_cell u.cell v.cell before (test v))
+    ∙ behind_none u us test (skip u v us (before, later))
+
+-- a cell that it folds it uses in no other way
+pub folds-alone : (uses : List Use) → AreInOrder uses → (o : Operation) (c : Cell) → folds_to (Some uses) o c ≡ true → OnlyFolds o (Some uses) c
+folds-alone [] order o c folds m may = absurd (true≢false (sym folds))
+folds-alone (u ∷ us) order o c folds m may =
+    elim (or_true (same_cell u.cell c && folds_by o u.mode) (folds_to (Some us) o c) folds) [
+      | inl here ↦
+          let same = same_is u.cell c (and_left (same_cell u.cell c) (folds_by o u.mode) here) in
+          let none = subst (λ d. list_any (λ v. same_cell v.cell d && covers v.mode m) us ≡ false) same (behind_none u us (λ v. covers v.mode m) order) in
+          only u.mode (and_right (same_cell u.cell c) (folds_by o u.mode) here) (either (same_cell u.cell c) (covers u.mode m) (allows (Some us) (use_as m c)) none may)
+      | inr later ↦
+          folds-alone us (rest_in_order u us order) o c later m
+          (rest (same_cell u.cell c) (covers u.mode m) (allows (Some us) (use_as m c)) (elsewhere (same_cell u.cell c) refl later) may)
+    ]
+  where
+    only : (n : Mode) → folds_by o n ≡ true → covers n m ≡ true → m ≡ Folds o
+    only Reads h g = absurd (true≢false (sym h))
+    only Writes h g = absurd (true≢false (sym h))
+    only (Folds p) h g = covered-fold p m g ∙ ap Folds (one-op p o h)
+
+    either : (a b more : Bool) → more ≡ false → ((a && b) || more) ≡ true → b ≡ true
+    either true true more none h = refl
+    either true false more none h = absurd (true≢false (sym h ∙ none))
+    either false b more none h = absurd (true≢false (sym h ∙ none))
+
+    rest : (a b more : Bool) → a ≡ false → ((a && b) || more) ≡ true → more ≡ true
+    rest true b more none h = absurd (true≢false none)
+    rest false b more none h = h
+
+    elsewhere : (same : Bool) → same_cell u.cell c ≡ same → folds_to (Some us) o c ≡ true → same_cell u.cell c ≡ false
+    elsewhere false e later = e
+    elsewhere true e later =
+        absurd (true≢false (sym later ∙ subst (λ d. list_any (λ v. same_cell v.cell d && folds_by o v.mode) us ≡ false) (same_is u.cell c e) (behind_none u us (λ v. folds_by o v.mode) order)))

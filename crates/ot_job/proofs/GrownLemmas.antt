@@ -1,40 +1,22 @@
 -- A task is created: what holds of the regions stays.
-use Rattle.std.proofs.Common.{◌≡◌, ℕ, ◌<◌, ◌≤◌, true, false, ◌||◌, List, [], ◌∷◌, ◌++◌, map, length, refl, sym, ap, subst, ◌∙◌, ◌⊎◌, inl, inr, arith, true≢false}
-use Rattle.std.specs.Prelude.{Some, slice_get, ◌==◌}
-use Rattle.std.specs.List.{list_any}
-use Rattle.std.proofs.lemmas.Bool.{cases_eq, cases_lt}
-use Rattle.std.proofs.lemmas.Option.{none-some, slice_get_within}
-use Rattle.ot_model.specs.Tree.{Task, Body, Next}
-use Rattle.ot_model.specs.Cells.{updated}
-use Rattle.ot_model.specs.Uses.{AreInOrder}
-use Rattle.ot_model.specs.declared.stmt.Use.{Use}
-use Rattle.ot_model.proofs.CellsLemmas.{length-updated}
-use Rattle.ot_depend.specs.Siblings.{Sibling, created, is_in}
-use Rattle.ot_check.specs.Touches.{EachTouch, EachTask}
-use Rattle.ot_check.specs.walk.Fine.{IsFine, IsClean}
-use Rattle.ot_check.specs.walk.Walk.{marks, may_break}
-use Rattle.ot_check.specs.Offences.{allows}
+use Rattle.std.proofs.Common.{◌≡◌, ℕ, ◌<◌, ◌≤◌, true, false, ◌||◌, List, [], ◌∷◌, ◌++◌, map, length, refl, sym, ap, subst, ◌∙◌, ◌⊎◌, inl, inr, arith, true≢false, Some, slice_get, ◌==◌}
+use Rattle.ot_job.proofs.Common.{list_any, cases_eq, cases_lt, none-some, slice_get_within, Task, Body, Next, updated, AreInOrder, Use, length-updated, Sibling, created, is_in, EachTouch, EachTask, IsFine, IsClean, allows, or_false_right, true_or, Open, todo, opened, children_of, IsFineAt, AwaitsAll, unawaited, Region, with_rest, with_child, new_region, at, gone, parent_of, ended_at, LetsAll, IsBegun, IsPlaced, IsSound, slice_get-push_place}
+use Rattle.ot_check.proofs.Cited.{eq_itself}
+use Rattle.ot_check.specs.Discipline.{marks, may_break}
 use Rattle.ot_check.specs.declared.fault.Offence.TheVariants.{EndsWithChildren}
-use Rattle.ot_check.proofs.Bits.{or_false_right, true_or}
-use Rattle.ot_task.specs.Place.{Open, todo}
-use Rattle.ot_job.specs.Awaiting.{opened, children_of, IsFineAt, AwaitsAll, unawaited}
-use Rattle.ot_task.specs.Regions.{Region, with_rest, with_child, new_region}
-use Rattle.ot_job.specs.Numbered.{at, gone, parent_of, ended_at}
-use Rattle.ot_job.specs.Sound.{LetsAll, IsBegun, IsPlaced, HasTask, IsSound}
+use Rattle.ot_job.specs.Sound.{HasTask}
 use Rattle.ot_job.proofs.PlaceLemmas.{at-fewer, at-task}
 use Rattle.ot_job.proofs.AwaitsLemmas.{awaits-fewer, awaits-task}
 use Rattle.ot_job.proofs.KeptLemmas.{at-updated, todo-next}
 use Rattle.ot_job.proofs.SoundLemmas.{at-past}
 use Rattle.ot_job.proofs.ChangedLemmas.{sound-changed, begun-changed, placed-as}
-use Rattle.ot_job.proofs.FreeLemmas.{fine-innermost}
-use Rattle.ot_job.proofs.CreatedLemmas.{group_self, kids-more, placed-parent}
-use Rattle.ot_job.proofs.KinLemmas.{child, more, long, at-fresh, at-parent, at-others, same-field, kin-more, begun-more}
-use Rattle.ot_job.proofs.OwnLemmas.{folds-alone}
+use Rattle.ot_job.proofs.RightsLemmas.{fine-innermost}
+use Rattle.ot_job.proofs.CreatedLemmas.{kids-more, placed-parent, child, more, long, at-fresh, at-parent, at-others, same-field, kin-more, begun-more}
+use Rattle.ot_job.proofs.FoldLemmas.{folds-alone}
 use Rattle.ot_job.proofs.EachLemmas.{at-each, more-each}
-use Rattle.ot_depend.proofs.ListLemmas.{slice_get-push_place}
 
 first_group : (gs : List Open) (o : Open) (more : List Open) (uses : List Use) → gs ≡ o ∷ more → is_in o.group (created uses (map (λ p. p.group) gs)) ≡ true
-first_group gs o os uses is = subst (λ ps. is_in o.group (created uses (map (λ p. p.group) ps)) ≡ true) (sym is) (true_or (o.group == o.group) _ (group_self o.group))
+first_group gs o os uses is = subst (λ ps. is_in o.group (created uses (map (λ p. p.group) ps)) ≡ true) (sym is) (true_or (o.group == o.group) _ (eq_itself o.group))
 
 module _ (r : Region) (p : IsPlaced r) (alive : r.ended ≡ false) (uses : List Use) (body rest : Body) (was : r.rest ≡ Next (Task uses body) rest) (ordered : AreInOrder uses) where
   abbrev new : Sibling

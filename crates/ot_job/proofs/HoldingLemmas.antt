@@ -1,25 +1,11 @@
 -- Each piece that is out holds what it touches.
-use Rattle.std.proofs.Common.{◌≡◌, zero, suc, Bool, true, false, List, [], ◌∷◌, refl, sym, ap, subst, ◌∙◌, inl, inr, arith, true≢false}
-use Rattle.std.specs.Prelude.{Option, Some, None, Contains, if◌then◌else◌}
-use Rattle.ot_model.specs.Cells.{lengths}
-use Rattle.ot_model.specs.Uses.{mode_in}
-use Rattle.ot_model.specs.declared.expr.Cell.{Cell}
-use Rattle.ot_model.specs.declared.fold.Fold.{Fold as Operation}
-use Rattle.ot_model.specs.declared.stmt.Mode.{Mode}
-use Rattle.ot_model.specs.declared.stmt.Mode.TheVariants.{Reads, Writes, Folds}
-use Rattle.ot_model.specs.declared.stmt.Use.{Use}
-use Rattle.ot_check.specs.Paths.{use_as}
-use Rattle.ot_check.specs.Offences.{Declared, allows, folds_to}
-use Rattle.ot_task.specs.Modes.{held, held_as, mode_held}
-use Rattle.ot_job.specs.Holding.{Touches, OnlyReads, FoldsNone, Holds, touches_out, AllHold, AreApart}
-use Rattle.ot_job.specs.Live.{Live}
-use Rattle.ot_job.specs.Rights.{IsRight}
-use Rattle.ot_job.specs.Numbered.{at}
-use Rattle.ot_job.specs.Sound.{OnlyFolds}
-use Rattle.ot_job.specs.Well.{IsOnCourse}
+use Rattle.std.proofs.Common.{◌≡◌, zero, suc, Bool, true, false, List, [], ◌∷◌, refl, sym, ap, subst, ◌∙◌, inl, inr, arith, true≢false, Option, Some, None, Contains, if◌then◌else◌}
+use Rattle.ot_job.proofs.Common.{lengths, mode_in, Cell, Operation, Mode, Reads, Writes, Folds, Use, use_as, Declared, allows, folds_to, held, held_as, mode_held, Holds, touches_out, Live, IsRight, at, OnlyFolds, IsOnCourse}
+use Rattle.ot_check.proofs.Cited.{one_op}
+use Rattle.ot_job.specs.Holding.{Touches, OnlyReads, FoldsNone, AllHold, AreApart}
 use Rattle.ot_job.proofs.CoverLemmas.{Covers, covered}
-use Rattle.ot_job.proofs.FoldLemmas.{one-fold, held-alike, only-unread, only-unwritten}
-use Rattle.ot_job.proofs.FreeLemmas.{touch-may}
+use Rattle.ot_job.proofs.FoldLemmas.{held-alike, only-unread, only-unwritten}
+use Rattle.ot_job.proofs.RightsLemmas.{touch-may}
 use Rattle.ot_job.proofs.HoldsLemmas.{Among, held-right}
 use Rattle.ot_job.proofs.OpenLemmas.{placed, named-at, pieces_apart}
 
@@ -70,7 +56,7 @@ module _ (own : Declared) (us d : List Use) (modes : (c : Cell) → mode_in d c 
   held-folds o c Reads folds t = absurd (only-unread o own c (exclusive o c folds) (may (use_as Reads c) t))
   held-folds o c Writes folds (inl t) = absurd (only-unwritten o own c (exclusive o c folds) (may (use_as Writes c) t))
   held-folds o c Writes folds (inr t) =
-      absurd (true≢false (sym folds ∙ subst (λ (p : Operation). folds_to own p c ≡ false) (one-fold t.0 o (exclusive o c folds (Folds t.0) (may (use_as (Folds t.0) c) t.1))) t.2))
+      absurd (true≢false (sym folds ∙ subst (λ (p : Operation). folds_to own p c ≡ false) (one_op t.0 o (exclusive o c folds (Folds t.0) (may (use_as (Folds t.0) c) t.1))) t.2))
   held-folds o c (Folds p) folds t = exclusive o c folds (Folds p) (may (use_as (Folds p) c) t.0)
 
   held-reads : (c : Cell) (m : Mode) → FoldsNone own c → OnlyReads us c → Right m c → m ≡ Reads

@@ -1,28 +1,7 @@
 -- What a piece holds is a right of its touches, and what is true of each touch is true of each use of the list.
-use Rattle.std.proofs.Common.{◌≡◌, ◌<◌, ℕ, zero, suc, ◌+◌, ◌%◌, Bool, true, false, List, [], ◌∷◌, ◌++◌, map, refl, sym, ap, subst, ◌∙◌, ◌⊎◌, inl, inr, ⊎_elim, arith}
-use Rattle.std.specs.Prelude.{Option, Some, None, if◌then◌else◌}
-use Rattle.std.specs.List.{fold, range_with_len}
-use Rattle.std.proofs.lemmas.Option.{same_Some, none-some}
+use Rattle.std.proofs.Common.{◌≡◌, ◌<◌, ℕ, zero, suc, ◌+◌, ◌%◌, Bool, true, false, List, [], ◌∷◌, ◌++◌, map, refl, sym, ap, subst, ◌∙◌, ◌⊎◌, inl, inr, ⊎_elim, arith, Option, Some, None, if◌then◌else◌, fold}
+use Rattle.ot_job.proofs.Common.{range_with_len, same_Some, none-some, E, Literal, CellAt, Apply, PickFrom, Set, Fold, If, Task, Wait, Group, Body, End, Next, cell_at, cells_named, Cell, Operation, Section, Mode, Reads, Writes, Folds, Use, use_as, touches, Declared, folds_to, same_cell, same_fold, EachRead, EachTouch, IsRight, same_is, assign_touches, test_touches, held, held_as, noted, with_mode, stronger, mode_held, reads-append}
 use Rattle.std.proofs.Math.Nat.{mod-eq_of_lt}
-use Rattle.ot_model.specs.Tree.{E, Literal, CellAt, Apply, PickFrom, Set, Fold, If, Task, Wait, Group, Body, End, Next}
-use Rattle.ot_model.specs.Value.{cell_at}
-use Rattle.ot_model.specs.declared.expr.Cell.{Cell}
-use Rattle.ot_model.specs.declared.fold.Fold.{Fold as Operation}
-use Rattle.ot_model.specs.declared.expr.Section.{Section}
-use Rattle.ot_model.specs.declared.stmt.Mode.{Mode}
-use Rattle.ot_model.specs.declared.stmt.Mode.TheVariants.{Reads, Writes, Folds}
-use Rattle.ot_model.specs.declared.stmt.Use.{Use}
-use Rattle.ot_check.specs.Paths.{use_as, touches}
-use Rattle.ot_model.specs.Value.{cells_named}
-use Rattle.ot_check.specs.Offences.{Declared, folds_to}
-use Rattle.ot_model.specs.Cells.{same_cell}
-use Rattle.ot_model.specs.Uses.{same_fold}
-use Rattle.ot_check.specs.Touches.{EachRead, EachTouch}
-use Rattle.ot_job.specs.Rights.{IsRight}
-use Rattle.ot_check.proofs.SameLemmas.{same_is}
-use Rattle.ot_task.specs.Touched.{assign_touches, test_touches}
-use Rattle.ot_task.specs.Modes.{held, held_as, noted, with_mode, stronger, mode_held}
-use Rattle.ot_task.proofs.HeldLemmas.{reads-append}
 use Rattle.ot_job.proofs.FoldLemmas.{same-op}
 
 abbrev pub Among : Use → List Use → Type 0

@@ -1,35 +1,14 @@
 -- A job's fields as its invariant sees them, and what a claim and a settle find of them and make of them.
-use Rattle.std.proofs.Common.{◌≡◌, ℕ, ◌+◌, ◌<◌, ◌≤◌, ◌∙◌, refl, ap, ap₂, sym, subst, arith, List, ◌∷◌, Bor, Bool, true, false, true≢false, length}
-use Rattle.std.specs.Prelude.{◌↔◌, IsTrue, if◌then◌else◌, Option, Some, IfSome, option_map, get_or, IsPermutation}
-use Rattle.ot_model.specs.Counts.{size}
-use Rattle.ot_model.specs.Programs.{expanded_of}
-use Rattle.ot_model.specs.declared.expr.Cell.{Cell}
-use Rattle.ot_model.specs.declared.fold.Fold.{Fold as Operation}
-use Rattle.ot_model.specs.declared.stmt.Use.{Use}
-use Rattle.ot_model.proofs.CountsLemmas.{tasks_in-≤-size}
-use Rattle.ot_owner.specs.Back.{all_back}
-use Rattle.ot_owner.specs.Keeping.{Keeping, IsOpenable}
-use Rattle.ot_owner.specs.Owning.{Owned, loan_of}
-use Rattle.ot_task.specs.Pieces.{leading_len}
-use Rattle.ot_task.specs.Regions.{Region, group_next, is_control, tasks_next}
-use Rattle.ot_task.specs.Weighing.{weight_of}
-use Rattle.ot_job.specs.Calls.{IsBack, MayEnd, MayTakeBack}
-use Rattle.ot_job.specs.Claiming.{claimable_of, is_claimable, picked}
-use Rattle.ot_job.specs.JobView.{live_of}
-use Rattle.ot_job.specs.Live.{Live}
-use Rattle.ot_job.specs.Numbered.{at}
-use Rattle.ot_job.specs.Opened.{IsRoomFor}
-use Rattle.ot_job.specs.Opening.{Opens}
-use Rattle.ot_job.specs.Settling.{CreatesInOrder, Settles, settled, units_of}
-use Rattle.ot_job.specs.States.{claimable_in}
-use Rattle.ot_job.specs.Taken.{Came, IsOut, taken_by, worker_in}
-use Rattle.ot_job.specs.Well.{IsWell, IsOnCourse, MaySettle}
-use Rattle.ot_job.specs.declared.job.Job.TheInside.{Inside}
+use Rattle.std.proofs.Common.{◌≡◌, ℕ, ◌+◌, ◌<◌, ◌≤◌, ◌∙◌, refl, ap, ap₂, sym, subst, arith, List, ◌∷◌, Bor, Bool, true, false, true≢false, length, ◌↔◌, IsTrue, if◌then◌else◌, Option, Some, IfSome, option_map, get_or, IsPermutation}
+use Rattle.ot_job.proofs.Common.{size, expanded_of, Cell, Operation, Use, tasks_in-≤-size, all_back, Keeping, Owned, loan_of, leading_len, Region, group_next, tasks_next, weight_of, IsBack, claimable_of, is_claimable, picked, live_of, Live, at, IsRoomFor, Opens, CreatesInOrder, Settles, settled, units_of, claimable_in, Came, IsOut, taken_by, worker_in, IsWell, IsOnCourse, MaySettle, Inside}
+use Rattle.ot_owner.specs.Keeping.{IsOpenable}
+use Rattle.ot_task.specs.Regions.{is_control}
+use Rattle.ot_job.specs.Calls.{MayEnd, MayTakeBack}
 use Rattle.ot_job.proofs.CourseLemmas.{counts-few, settle-lighter, settle-well}
 use Rattle.ot_job.proofs.DealingsLemmas.{picked-in, works}
 use Rattle.ot_job.proofs.LendingLemmas.{back-unsummed, opens}
-use Rattle.ot_job.proofs.MayOpenLemmas.{may-open}
-use Rattle.ot_job.proofs.PickLemmas.{picked-claimable}
+use Rattle.ot_job.proofs.OpenLemmas.{may-open}
+use Rattle.ot_job.proofs.ClaimableLemmas.{picked-claimable}
 use Rattle.ot_job.proofs.SettleLemmas.{run_of, worker-is, has-piece, here-is, loan-out, cells-there}
 use Rattle.ot_job.proofs.WellLemmas.{settle-may}
 

@@ -1,28 +1,10 @@
 -- What is kept beside the tasks, through each change of the regions.
-use Rattle.std.proofs.Common.{◌≡◌, ◌≢◌, ◌<◌, ◌≤◌, ◌+◌, ℕ, zero, suc, Bool, true, false, List, [], ◌∷◌, ◌++◌, length, get_or, refl, sym, ap, subst, ◌∙◌, inl, inr, arith}
-use Rattle.std.specs.Prelude.{Some, is_some, slice_get}
-use Rattle.std.proofs.lemmas.Bool.{cases_eq, cases_lt, cases_Bool}
-use Rattle.std.proofs.lemmas.List.{length-append}
-use Rattle.std.proofs.lemmas.Option.{none-some, get_or_from_slice_get, slice_get_read}
-use Rattle.ot_model.specs.Cells.{updated}
-use Rattle.ot_model.proofs.CellsLemmas.{length-updated}
-use Rattle.ot_model.specs.declared.stmt.Use.{Use}
-use Rattle.ot_depend.specs.Kept.{has}
-use Rattle.ot_depend.specs.Siblings.{with_finished}
-use Rattle.ot_depend.specs.Waiting.{LetsTheSame}
-use Rattle.ot_model.specs.Tree.{Body, End, Next}
-use Rattle.ot_task.specs.Regions.{Region, root_region, with_child, new_region, children_at, stepped, stopped, with_created, executed, without, tasks_next}
+use Rattle.std.proofs.Common.{◌≡◌, ◌≢◌, ◌<◌, ◌≤◌, ◌+◌, ℕ, zero, suc, Bool, true, false, List, [], ◌∷◌, ◌++◌, length, get_or, refl, sym, ap, subst, ◌∙◌, inl, inr, arith, Some, is_some, slice_get, All}
+use Rattle.ot_job.proofs.Common.{cases_eq, cases_lt, cases_Bool, length-append, none-some, updated, length-updated, Use, has, with_finished, LetsTheSame, Body, End, Next, Region, root_region, with_child, new_region, children_at, stepped, stopped, with_created, executed, without, tasks_next, get_or_default, at, AreRefreshed, IsListFor, IsRefreshed, is_claimable, claimable_of, AreCounted, Numbers, IsListBelow, TellsOf, IsNumbered, AreKept}
+use Rattle.std.proofs.lemmas.Option.{get_or_from_slice_get, slice_get_read}
 use Rattle.ot_job.proofs.StepLemmas.{stepped-parent, stepped-child, stepped-children, stepped-running, created-running, executed-some, children-here}
 use Rattle.ot_job.proofs.CountingLemmas.{counted-told, counted-stepped, counted-created}
-use Rattle.std.specs.List.{All}
-use Rattle.std.proofs.lemmas.List.{get_or_default}
-use Rattle.ot_job.specs.Numbered.{at}
-use Rattle.ot_job.specs.Calls.{AreRefreshed, IsListFor, IsRefreshed}
-use Rattle.ot_job.specs.Claiming.{is_claimable, claimable_of}
-use Rattle.ot_job.specs.Counting.{AreCounted}
-use Rattle.ot_job.specs.Listed.{Numbers}
-use Rattle.ot_job.specs.Listing.{IsListBelow, TellsOf, IsNumbered, AreKept}
-use Rattle.ot_job.proofs.ListingLemmas.{those, those-same, listed, list-is, has-those, below-more, below-but, below-fewer}
+use Rattle.ot_job.proofs.ListedLemmas.{those, those-same, listed, list-is, has-those, below-more, below-but, below-fewer}
 use Rattle.ot_job.proofs.ClaimableLemmas.{claimable-busy, claimable-other, claimable-told, claimable-created, claimable-root}
 use Rattle.ot_job.proofs.KeptLemmas.{at-updated}
 use Rattle.ot_job.proofs.NumberedLemmas.{numbered-same, numbered-created, child-known}

@@ -1,18 +1,9 @@
 -- What is left of a job stays the same at each step, whatever the order of the steps.
 use Rattle.std.proofs.Common.{◌≡◌, ◌≢◌, ℕ, suc, ◌+◌, ◌<◌, List, [], ◌∷◌, ◌++◌, length, Bool, true, false, cond, refl, sym, ◌∙◌, ap, subst, inl, inr, ⊎_elim, ◌⊎◌, arith, true≢false, ◌==◌}
-use Rattle.std.proofs.lemmas.Bool.{cases_eq, cases_Bool}
-use Rattle.std.proofs.lemmas.Bool.Decides.{nat_tests}
-use Rattle.ot_model.specs.Tree.{E, S, Set, Fold, If, Task, Wait, Group, Body, End, Next, append}
-use Rattle.ot_model.specs.Value.{val}
-use Rattle.ot_model.specs.Cells.{cell_of}
-use Rattle.ot_model.specs.Serial.{State, bump, either, serial}
-use Rattle.ot_model.specs.declared.stmt.Mode.TheVariants.{Reads}
-use Rattle.ot_model.specs.declared.stmt.Use.{Use}
-use Rattle.ot_model.proofs.SerialLemmas.{serial-bump, serial-append, either-ap}
-use Rattle.ot_check.specs.Paths.{use_as}
-use Rattle.ot_check.specs.Touches.{EachTouch, EachTouchOne, Agree, AreApart}
-use Rattle.ot_check.proofs.ApartLemmas.{touch-weaker, read-behind, apart}
-use Rattle.ot_job.specs.Left.{left}
+use Rattle.ot_job.proofs.Common.{cases_eq, cases_Bool, nat_tests, E, S, Set, Fold, If, Task, Wait, Group, Body, End, Next, append, val, cell_of, State, bump, either, serial, Reads, Use, serial-append, use_as, EachTouch, Agree, touch-weaker, left}
+use Rattle.ot_model.proofs.SerialLemmas.{serial-bump, either-ap}
+use Rattle.ot_check.specs.Touches.{EachTouchOne, AreApart}
+use Rattle.ot_check.proofs.Cited.{read-behind, apart}
 use Rattle.ot_task.proofs.AssignLemmas.{read-all}
 use Rattle.ot_job.proofs.Order.{order, order_from, insert_before, run_all, left-order, Anc, self, up, IsBefore, Each, Each-weaker, Ordered, Descends, AreParents, order-ordered, branch, anc-le}
 

@@ -1,28 +1,9 @@
 -- What is left of a job stays the same when a task makes a step, out of order.
-use Rattle.std.proofs.Common.{◌≡◌, ◌≢◌, ℕ, zero, suc, ◌+◌, ◌<◌, true, false, List, [], ◌∷◌, ◌++◌, map, length, refl, sym, ap, subst, ◌∙◌, ◌⊎◌, inl, inr, arith}
-use Rattle.std.specs.Prelude.{Option}
-use Rattle.std.specs.Prelude.{Some}
-use Rattle.std.specs.Prelude.{if◌then◌else◌, ◌==◌}
-use Rattle.std.proofs.lemmas.Bool.{cases_eq}
-use Rattle.std.proofs.lemmas.Bool.Decides.{nat_tests}
-use Rattle.std.proofs.lemmas.List.{map-append}
-use Rattle.ot_model.specs.Tree.{E, S, If, Task, Wait, Group, Body, End, Next, append}
-use Rattle.ot_model.specs.Value.{val}
-use Rattle.ot_model.specs.Cells.{cell_of, updated}
-use Rattle.ot_model.proofs.CellsLemmas.{length-updated, updated-updated}
-use Rattle.ot_model.specs.Serial.{State, bump, either, serial}
-use Rattle.ot_model.specs.declared.stmt.Use.{Use}
-use Rattle.ot_model.specs.declared.expr.Cell.{Cell}
-use Rattle.ot_model.specs.declared.fold.Fold.{Fold as Operation}
+use Rattle.std.proofs.Common.{◌≡◌, ◌≢◌, ℕ, zero, suc, ◌+◌, ◌<◌, true, false, List, [], ◌∷◌, ◌++◌, map, length, refl, sym, ap, subst, ◌∙◌, ◌⊎◌, inl, inr, arith, Option, Some, if◌then◌else◌, ◌==◌}
+use Rattle.ot_job.proofs.Common.{cases_eq, nat_tests, map-append, E, S, If, Task, Wait, Group, Body, End, Next, append, val, cell_of, updated, length-updated, updated-updated, State, bump, either, serial, Use, Cell, Operation, serial-append, left, Open, todo, Region, with_rest, inside, with_child, new_region, at, parent_of, todo_at, ended_at, parents, left_of, may_at, IsBegun, IsSound}
 use Rattle.ot_model.proofs.TreeLemmas as tree
-use Rattle.ot_model.proofs.SerialLemmas.{serial-append}
-use Rattle.ot_job.specs.Left.{left}
-use Rattle.ot_task.specs.Place.{Open, todo}
 use Rattle.ot_job.proofs.Order.{order, order_from, insert_before, Each, AreParents, Descends, Each-weaker, small-insert}
 use Rattle.ot_job.proofs.Kept.{In, MayRun, left-piece, left-counts, left-if, left-task}
-use Rattle.ot_task.specs.Regions.{Region, with_rest, inside, with_child, new_region}
-use Rattle.ot_job.specs.Numbered.{at, parent_of, todo_at, ended_at, parents, left_of}
-use Rattle.ot_job.specs.Sound.{may_at, IsBegun, IsSound}
 use Rattle.ot_job.proofs.SoundLemmas.{sound}
 
 pub at-updated : (rs : List Region) (i : ℕ) (f : Region → Region) → i < length rs → at (updated rs i f) i ≡ f (at rs i)

@@ -1,20 +1,9 @@
 -- The numbers of each task's children, through each change of the regions.
-use Rattle.std.proofs.Common.{◌≡◌, ◌≢◌, ◌<◌, ◌+◌, ℕ, zero, suc, List, [], ◌∷◌, ◌++◌, length, get_or, refl, sym, ap, ◌∙◌, inl, inr, arith}
-use Rattle.std.specs.Prelude.{Some, slice_get}
-use Rattle.std.proofs.lemmas.Bool.{cases_eq, cases_lt}
-use Rattle.std.proofs.lemmas.Option.{slice_get_within}
-use Rattle.std.proofs.lemmas.List.{length-append}
-use Rattle.ot_model.specs.Cells.{updated}
-use Rattle.ot_model.proofs.CellsLemmas.{length-updated}
-use Rattle.ot_model.specs.declared.stmt.Use.{Use}
-use Rattle.ot_task.specs.Regions.{Region, with_child}
-use Rattle.ot_job.specs.Numbered.{at}
-use Rattle.ot_job.specs.Listing.{IsNumbered}
+use Rattle.std.proofs.Common.{◌≡◌, ◌≢◌, ◌<◌, ◌+◌, ℕ, zero, suc, List, [], ◌∷◌, ◌++◌, length, get_or, refl, sym, ap, ◌∙◌, inl, inr, arith, Some, slice_get}
+use Rattle.ot_job.proofs.Common.{cases_eq, cases_lt, slice_get_within, length-append, updated, length-updated, Use, Region, with_child, at, IsNumbered, slice_get-push_place, slice_get-push}
+use Rattle.ot_check.proofs.Cited.{slice_get-last}
 use Rattle.ot_job.proofs.KeptLemmas.{at-updated, at-updated-other, at-more, at-new}
 use Rattle.ot_job.proofs.EachLemmas.{field-kept, field-more}
-use Rattle.ot_job.proofs.KinLemmas.{get-last}
-use Rattle.ot_depend.proofs.ListLemmas.{slice_get-push_place}
-use Rattle.ot_depend.proofs.SiblingsLemmas.{slice_get-push}
 
 -- a region changes, and neither whose child it is nor how many it has
 pub numbered-same : (f : Region → Region) → ((r : Region) → (f r).parent ≡ r.parent) → ((r : Region) → (f r).child ≡ r.child) → ((r : Region) → length (f r).children ≡ length r.children)
@@ -115,7 +104,7 @@ module _ (rs : List Region) (numbers : List (List ℕ)) (old : IsNumbered rs num
   of-new : slice_get (get_or more new.parent []) new.child ≡ Some n
   of-new =
       ap (λ q. slice_get (get_or more q []) new.child) up ∙ ap (λ l. slice_get l new.child) at-i
-      ∙ ap (slice_get (get_or numbers i [] ++ n ∷ [])) (place ∙ sym (old.each i)) ∙ get-last (get_or numbers i []) n
+      ∙ ap (slice_get (get_or numbers i [] ++ n ∷ [])) (place ∙ sym (old.each i)) ∙ slice_get-last (get_or numbers i []) n
 
   pub numbered-created : IsNumbered rs2 more
   numbered-created = record {

@@ -1,38 +1,19 @@
--- What pieces hold of the cells of open groups: nothing of their own task's, and of another task's they only fold.
-use Rattle.std.proofs.Common.{◌≡◌, ◌≢◌, ℕ, ◌<◌, ◌≤◌, Bool, true, false, List, [], ◌∷◌, length, refl, sym, ap, subst, ◌∙◌, ◌⊎◌, inl, inr, true≢false, ◌&&◌}
-use Rattle.std.specs.Prelude.{Some, slice_get}
-use Rattle.std.proofs.lemmas.Bool.{cases_lt, false_from_ne_true}
-use Rattle.ot_model.specs.Names.{NamedIn}
-use Rattle.ot_model.specs.Uses.{conflicts, mode_in, same_fold, Conflict}
-use Rattle.ot_model.specs.declared.expr.Cell.{Cell}
-use Rattle.ot_model.specs.declared.fold.Fold.{Fold as Operation}
-use Rattle.ot_model.specs.declared.stmt.Mode.{Mode}
-use Rattle.ot_model.specs.declared.stmt.Mode.TheVariants.{Reads, Writes, Folds}
-use Rattle.ot_model.specs.declared.stmt.Use.{Use}
-use Rattle.ot_depend.specs.Siblings.{Sibling, is_in}
-use Rattle.ot_check.specs.Paths.{use_as}
-use Rattle.ot_check.specs.Offences.{Declared, allows, folds_to, has_cell}
-use Rattle.ot_check.specs.Touches.{Agree}
-use Rattle.ot_check.specs.declared.fault.Offence.TheVariants.{ReductionMisuse}
-use Rattle.ot_check.proofs.Bits.{or_true, or_right, and_true}
-use Rattle.ot_check.proofs.OpeningLemmas.{opened-none}
-use Rattle.ot_task.specs.Place.{Open}
-use Rattle.ot_task.specs.Regions.{Region, Run}
-use Rattle.ot_task.specs.Pieces.{test_of}
-use Rattle.ot_task.specs.Touched.{piece_touches}
-use Rattle.ot_job.specs.Rights.{IsRight}
-use Rattle.ot_job.specs.Awaiting.{opened}
-use Rattle.ot_job.specs.Numbered.{at, parent_of, todo_at, ended_at}
-use Rattle.ot_job.specs.Sound.{may_at, grouped_in, NamedOnce, IsBegun, IsPlaced, IsSound}
-use Rattle.ot_job.specs.Running.{RunsWell}
-use Rattle.ot_job.specs.Whole.{whole, wholes}
+-- What pieces hold of the cells of open groups, and which group may be opened.
+use Rattle.std.proofs.Common.{◌≡◌, ◌≢◌, ℕ, ◌<◌, ◌≤◌, Bool, true, false, List, [], ◌∷◌, length, refl, sym, ap, subst, ◌∙◌, ◌⊎◌, inl, inr, true≢false, ◌&&◌, Some, slice_get, ◌↔◌, ◌||◌, Contains, Option, None, not, IfSome}
+use Rattle.ot_job.proofs.Common.{cases_lt, false_from_ne_true, NamedIn, conflicts, mode_in, same_fold, Conflict, Cell, Operation, Mode, Reads, Writes, Folds, Use, Sibling, is_in, use_as, Declared, allows, folds_to, has_cell, Agree, ReductionMisuse, or_true, or_right, and_true, opened-none, Open, Region, Run, test_of, piece_touches, IsRight, opened, at, parent_of, todo_at, ended_at, may_at, grouped_in, NamedOnce, IsBegun, IsPlaced, IsSound, RunsWell, whole, wholes, list_any, cases_eq, All-permutation, IsPermutation-sym, IsPermutation-trans, Set, Fold, If, Task, Wait, Group, Body, End, Next, append, lengths, updated, clashes, opened_by_any, IsFine, group_free, groups_inside, Loan, IsNamed, permutation_rest, group_next, stopped, with_rest, children_of, unawaited, Live, IsRoomFor, MayOpen, IsWell, IsOnCourse, assigns_out, loan_in, loans_out}
+use Rattle.ot_check.proofs.Cited.{conflicts_writes}
 use Rattle.ot_job.proofs.FoldLemmas.{same-op, agrees-before, both-fold, writes-all, only-declares, only-unwritten}
 use Rattle.ot_job.proofs.HoldsLemmas.{Among}
 use Rattle.ot_job.proofs.SoundLemmas.{sound, at-past}
-use Rattle.ot_job.proofs.RightsLemmas.{rights_apart}
-use Rattle.ot_job.proofs.GroupLemmas.{writes-agree}
+use Rattle.ot_job.proofs.RightsLemmas.{rights_apart, total, at-whole, named-front, piece-may, piece-meets, safe, right-of, none-conflict, fine-innermost}
 use Rattle.ot_job.proofs.CreatedLemmas.{grouped-opened}
-use Rattle.ot_job.proofs.FreeLemmas.{total, at-whole, named-front, piece-may, piece-meets, safe, right-of, none-conflict}
+use Rattle.ot_job.proofs.PlaceLemmas.{unused, clean-group}
+use Rattle.ot_job.proofs.MovesLemmas.{one-less, stopped-others}
+use Rattle.ot_job.proofs.OpeningLemmas.{has-cell, kept-new, meets-none, not_summed}
+use Rattle.ot_job.proofs.StopLemmas.{placed-piece}
+use Rattle.ot_job.proofs.WholeLemmas.{loans-each}
+
+-- ---- what pieces hold of the cells of open groups: nothing of their own task's, and of another task's they only fold
 
 -- ---- who may hold a cell
 
@@ -187,4 +168,85 @@ module _ (rs : List Region) (s : IsSound (wholes rs)) (lens : List ℕ) (named :
         → ((k : ℕ) (x : Sibling) → slice_get (at rs i).children k ≡ Some x → x.finished ≡ false → is_in o.group x ≡ false)
         → (c : Cell) (m : Mode) (run : Run) → (at rs j).running ≡ Some run → mode_in run.lease.uses c ≡ Some m → i ≢ j → has_cell o.cells c ≡ true → ⊥
     none_out i j o os innermost none_in c m run out held other is =
-        writes-agree m (holders-agree rs s i j (use_as Writes c) (use_as m c) (end-holds rs s i o os innermost none_in c is) (piece-holds j run c m out held) other refl)
+        conflicts_writes m (holders-agree rs s i j (use_as Writes c) (use_as m c) (end-holds rs s i o os innermost none_in c is) (piece-holds j run c m out held) other refl)
+
+-- ---- a group that comes next in a task may be opened once the task's piece has come back
+
+-- ---- a group comes next in a task whose piece is out
+
+module _ (j : Live) (o : IsOnCourse j) (i : ℕ) (run : Run) (out : (at j.regions i).running ≡ Some run)
+    (op : Operation) (cs : List Cell) (b rest : Body) (next : (at j.regions i).rest ≡ Next (Group op cs b) rest) where
+  abbrev r : Region
+  r = at j.regions i
+
+  -- its region once the piece is behind the place
+  behind : IsPlaced (with_rest r.rest (whole r))
+  behind =
+      placed-piece (whole r) (placed j.regions o.sound i) run.assigns r.rest (ap (λ x. append (assigns_out x) r.rest) out)
+      (o.runs i run out).assigns (o.runs i run out).alive
+
+  clean : (list_any (λ c. not (allows r.own (use_as Writes c)) || opened_by_any (opened r.groups) c) cs ≡ false) × (list_any (λ c. unawaited None r.children (λ s. clashes (use_as Writes c) s.uses)) cs ≡ false)
+  clean = clean-group r op cs b (o.runs i run out).calm (subst (λ x. IsFine r.own (opened r.groups) (children_of (unawaited r.waiting r.children)) x) next
+      (fine-innermost r.own (unawaited r.waiting r.children) r.rest r.groups behind.fine)).0
+
+  module _ (c : Cell) (named : has_cell cs c ≡ true) where
+    -- the task may write each of its cells
+    entry-holds : MayHold j.regions i (use_as Writes c)
+    entry-holds = record {
+      begun = o.begun i run out;
+      alive = (o.runs i run out).alive;
+      may = groups_inside r.own (opened r.groups) op cs behind.writes clean.0 op c (or_right (opened r.groups op c) (same_fold op op && has_cell cs c) (and_true (same_fold op op) (has_cell cs c) (same-op op) named));
+      alone = λ k s there unfinished m may. absurd (true≢false (sym may ∙ unused cs r.children k s c clean.1 there unfinished named m));
+    }
+
+    -- no open group names one
+    entry-unopened : (k : ℕ) (by : Operation) → opened (at j.regions k).groups by c ≡ false
+    entry-unopened k by = pick (cases_eq i k)
+      where
+        pick : (i ≡ k) ⊎ (i ≡ k → ⊥) → opened (at j.regions k).groups by c ≡ false
+        pick (inl same) = ap (λ n. opened (at j.regions n).groups by c) (sym same) ∙ opened-none (opened r.groups) by c (group_free r.own (opened r.groups) cs c clean.0 named)
+        pick (inr other) = false_from_ne_true (opened (at j.regions k).groups by c) (λ is.
+            conflicts_writes (Folds by) (holders-agree j.regions o.sound i k (use_as Writes c) (use_as (Folds by) c) entry-holds (group-holds j.regions o.sound k by c is) other refl))
+
+    -- no piece of another task holds one
+    entry-free : (k : ℕ) (x : Run) → (at j.regions k).running ≡ Some x → i ≢ k → (m : Mode) → mode_in x.lease.uses c ≡ Some m → ⊥
+    entry-free k x also other m held =
+        conflicts_writes m (holders-agree j.regions o.sound i k (use_as Writes c) (use_as m c) entry-holds
+        (piece-holds j.regions o.sound (lengths j.cells) o.named o.runs o.begun k x c m also held) other refl)
+
+-- ---- what the owners ask
+
+module _ (j : Live) (w : IsWell j) (o : IsOnCourse j) (i : ℕ) (run : Run) (out : (at j.regions i).running ≡ Some run) where
+  may-open-uses : (op : Operation) (cs : List Cell) (b rest : Body) → (at j.regions i).rest ≡ Next (Group op cs b) rest → (uses : List Use) → ((c : Cell) → IsNamed uses c ↔ Contains cs c)
+      → MayOpen j.owned (loan_in run) j.counts.units uses
+  may-open-uses op cs b rest next uses names = record {
+    new = kept-new j.regions j.owned.groups j.counts.units o.older o.copies;
+    unnamed = λ c named. not_summed j.regions j.owned.groups c o.copies (entry-unopened j o i run out op cs b rest next c (has-cell cs c ((names c).0 named)));
+    unused = λ left ended.
+        All-permutation (λ (l : Loan). ¬ Conflict l.lease.uses uses) (loans_out (updated j.regions i stopped)) left
+        (permutation_rest (loan_in run) (loans_out (updated j.regions i stopped)) left
+        (IsPermutation-trans (loan_in run ∷ loans_out (updated j.regions i stopped)) (loans_out j.regions) (loan_in run ∷ left)
+        (IsPermutation-sym (loans_out j.regions) (loan_in run ∷ loans_out (updated j.regions i stopped)) (one-less j.regions i run out))
+        (IsPermutation-trans (loans_out j.regions) j.owned.out (loan_in run ∷ left) (IsPermutation-sym j.owned.out (loans_out j.regions) w.rights) ended)))
+        (loans-each (λ (l : Loan). ¬ Conflict l.lease.uses uses) (updated j.regions i stopped) free);
+  }
+    where
+      free : (k : ℕ) (x : Run) → (at (updated j.regions i stopped) k).running ≡ Some x → ¬ Conflict x.lease.uses uses
+      free k x is =
+          let (other, same) = stopped-others j.regions i k x is in
+          let also = sym (ap (λ (r : Region). r.running) same) ∙ is in
+          meets-none x.lease.uses uses (λ c m held named. entry-free j o i run out op cs b rest next c (has-cell cs c ((names c).0 named)) k x also (λ e. other (sym e)) m held)
+
+  -- where a group comes next it may be opened
+  pub may-open : (room : Option (Operation × List Use)) → IsRoomFor (group_next (at j.regions i).rest) room → IfSome room (λ r. MayOpen j.owned (loan_in run) j.counts.units r.1)
+  may-open None names = tt
+  may-open (Some room) names = by (at j.regions i).rest refl names
+    where
+      by : (b : Body) → (at j.regions i).rest ≡ b → IsRoomFor (group_next b) (Some room) → MayOpen j.owned (loan_in run) j.counts.units room.1
+      by End is names = absurd names
+      by (Next (Set c e) rest) is names = absurd names
+      by (Next (Fold op c e) rest) is names = absurd names
+      by (Next (If e a b) rest) is names = absurd names
+      by (Next (Task d b) rest) is names = absurd names
+      by (Next (Wait w) rest) is names = absurd names
+      by (Next (Group op cs b) rest) is names = may-open-uses op cs b rest is room.1 names.1

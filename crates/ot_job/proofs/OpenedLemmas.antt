@@ -1,37 +1,13 @@
 -- What pieces hold beside open groups, at each call of a job: what a fold goes into, and which cells are free where a group begins and ends.
-use Rattle.std.proofs.Common.{◌≡◌, ℕ, zero, suc, ◌+◌, ◌<◌, Bool, true, false, ◌&&◌, List, [], ◌∷◌, length, refl, sym, ap, ◌∙◌, ◌⊎◌, inl, inr, arith, true≢false, eq-zero-or-pos}
-use Rattle.std.specs.Prelude.{Option, Some, None, All, Contains, IsSome}
-use Rattle.std.proofs.lemmas.Bool.{cases_eq}
-use Rattle.std.proofs.lemmas.List.Elements.{All-weaker}
-use Rattle.ot_model.specs.Tree.{End}
-use Rattle.ot_model.specs.Names.{NamedIn, AreInShape, IsInShape}
-use Rattle.ot_model.specs.Cells.{cell_of, lengths, updated}
-use Rattle.ot_model.specs.Uses.{AreInOrder, is_fold, mode_in, same_fold}
-use Rattle.ot_model.specs.declared.expr.Cell.{Cell}
-use Rattle.ot_model.specs.declared.fold.Fold.{Fold as Operation}
-use Rattle.ot_model.specs.declared.stmt.Mode.{Mode}
-use Rattle.ot_model.specs.declared.stmt.Mode.TheVariants.{Folds}
+use Rattle.std.proofs.Common.{◌≡◌, ℕ, zero, suc, ◌+◌, ◌<◌, Bool, true, false, ◌&&◌, List, [], ◌∷◌, length, refl, sym, ap, ◌∙◌, ◌⊎◌, inl, inr, arith, true≢false, eq-zero-or-pos, Option, Some, None, All, Contains, IsSome}
+use Rattle.ot_job.proofs.Common.{cases_eq, All-weaker, End, NamedIn, AreInShape, cell_of, lengths, updated, AreInOrder, is_fold, mode_in, same_fold, Cell, Operation, Mode, Folds, Declared, folds_to, has_cell, or_true, and_left, and_right, Lease, Open, Region, Run, leading, awake, begun, AreHeld, opened, is_claimable, at, parent_of, todo_at, IsBegun, IsKin, IsSound, RunsWell, wholes, Live, IsOnCourse}
+use Rattle.ot_model.specs.Names.{IsInShape}
 use Rattle.ot_model.proofs.NamesLemmas.{found_from_in}
-use Rattle.ot_check.specs.Offences.{Declared, folds_to, has_cell}
-use Rattle.ot_check.proofs.Bits.{or_true, and_left, and_right}
-use Rattle.ot_owner.specs.Leases.{Lease}
-use Rattle.ot_task.specs.Place.{Open}
-use Rattle.ot_task.specs.Regions.{Region, Run}
-use Rattle.ot_task.specs.Pieces.{leading, awake, begun}
-use Rattle.ot_task.specs.Modes.{AreHeld}
-use Rattle.ot_job.specs.Awaiting.{opened}
-use Rattle.ot_job.specs.Claiming.{is_claimable}
-use Rattle.ot_job.specs.Numbered.{at, parent_of, todo_at}
-use Rattle.ot_job.specs.Sound.{IsBegun, IsKin, IsSound}
-use Rattle.ot_job.specs.Running.{RunsWell}
-use Rattle.ot_job.specs.Whole.{wholes}
-use Rattle.ot_job.specs.Live.{Live}
-use Rattle.ot_job.specs.Well.{IsOnCourse}
 use Rattle.ot_job.proofs.KeptLemmas.{at-updated}
 use Rattle.ot_job.proofs.CreatedLemmas.{grouped-opened}
 use Rattle.ot_job.proofs.AwakeLemmas.{none-in-group}
 use Rattle.ot_job.proofs.FoldLemmas.{one-op}
-use Rattle.ot_job.proofs.FreeLemmas.{at-whole}
+use Rattle.ot_job.proofs.RightsLemmas.{at-whole}
 use Rattle.ot_job.proofs.OpenLemmas.{known, piece-folds, folds_alone, own_untouched, none_out}
 use Rattle.ot_job.proofs.WellLemmas.{claimable-idle, claimable-goes, sound-now, named-now, well-now, started-now}
 

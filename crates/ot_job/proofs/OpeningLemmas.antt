@@ -1,43 +1,19 @@
 -- Copies are kept of the cells of the open groups and of no others, as tasks go on and as pieces come back.
-use Rattle.std.proofs.Common.{◌≡◌, ◌≢◌, ◌<◌, ◌+◌, ◌↔◌, ◌⊎◌, ℕ, zero, suc, Bool, true, false, ◌&&◌, true≢false, cond, List, [], ◌∷◌, ◌++◌, map, length, get_or, refl, sym, ap, subst, ◌∙◌, inl, inr, arith, Contains, IsPermutation}
-use Rattle.std.specs.Prelude.{Option, Some, None, IsSome, is_some, option_map, unwrap_or, replicate, nat_lt, if◌then◌else◌, ◌==◌}
-use Rattle.std.specs.List.{All, Any, position_from}
-use Rattle.std.proofs.lemmas.Bool.{cases_eq, eqb-true, eq-eqb}
-use Rattle.std.proofs.lemmas.Iterator.Adapters.{position_from-zero, option_map_id}
-use Rattle.std.proofs.lemmas.List.{map-append, get_or_default}
-use Rattle.std.proofs.lemmas.List.Elements.{All-contains, Contains-get_or, Contains-append_left, Contains-append_right, Contains-append_cases, Contains-push_cases}
-use Rattle.std.proofs.lemmas.List.Folds.{Any-from_list_any, list_any-from_Any}
+use Rattle.std.proofs.Common.{◌≡◌, ◌≢◌, ◌<◌, ◌+◌, ◌↔◌, ◌⊎◌, ℕ, zero, suc, Bool, true, false, ◌&&◌, true≢false, cond, List, [], ◌∷◌, ◌++◌, map, length, get_or, refl, sym, ap, subst, ◌∙◌, inl, inr, arith, Contains, IsPermutation, Option, Some, None, IsSome, is_some, option_map, unwrap_or, replicate, nat_lt, if◌then◌else◌, ◌==◌, All, Any}
+use Rattle.ot_job.proofs.Common.{cases_eq, eqb-true, eq-eqb, option_map_id, map-append, get_or_default, All-contains, Any-from_list_any, list_any-from_Any, Contains-permutation, IsPermutation-refl, IsPermutation-sym, IsPermutation-trans, IsPermutation-cons, same_Some, none-some, cell_of, same_cell, updated, Set, Fold, If, Task, Wait, Group, Body, End, Next, Conflict, is_fold, mode_in, first_of, same_fold, Cell, Operation, Mode, Reads, Writes, Folds, Use, has_cell, true_or, or_right, and_true, all_back, copy_of, lent_from, Loan, Owned, IsFreeFor, Summed, IsNamed, IsSummed, IsSummedBy, begun_for, worth_over, worth, worths, LentCell, permutation_rest, cell_of-worths, passed, awake, group_passed, Open, Region, group_next, with_child, new_region, with_created, stepped, stepped_from, executed, next_task, rest_at, children_at, over, stopped, opened, at, parent_of, AreOpen, left_open, Opens, told_parent, closed, moved_on, settled}
+use Rattle.ot_depend.proofs.ReadyLemmas.{same_answer}
+use Rattle.std.specs.List.{position_from}
+use Rattle.std.proofs.lemmas.Iterator.Adapters.{position_from-zero}
+use Rattle.std.proofs.lemmas.List.Elements.{Contains-get_or, Contains-append_left, Contains-append_right, Contains-append_cases, Contains-push_cases}
 use Rattle.std.proofs.lemmas.List.Quantifiers.{position-Some}
-use Rattle.std.proofs.lemmas.List.Sorted.{Contains-permutation, IsPermutation-refl, IsPermutation-sym, IsPermutation-trans, IsPermutation-cons, IsPermutation-middle, IsPermutation-to_front, IsPermutation-append_right}
-use Rattle.std.proofs.lemmas.Option.{same_Some, none-some}
-use Rattle.ot_model.specs.Cells.{cell_of, same_cell, updated}
-use Rattle.ot_model.specs.Tree.{Set, Fold, If, Task, Wait, Group, Body, End, Next}
-use Rattle.ot_model.specs.Uses.{Conflict, is_fold, mode_in, first_of, same_fold}
-use Rattle.ot_model.specs.declared.expr.Cell.{Cell}
-use Rattle.ot_model.specs.declared.fold.Fold.{Fold as Operation}
-use Rattle.ot_model.specs.declared.stmt.Mode.{Mode}
-use Rattle.ot_model.specs.declared.stmt.Mode.TheVariants.{Reads, Writes, Folds}
-use Rattle.ot_model.specs.declared.stmt.Use.{Use}
+use Rattle.std.proofs.lemmas.List.Sorted.{IsPermutation-middle, IsPermutation-to_front, IsPermutation-append_right}
 use Rattle.ot_model.proofs.EqualLemmas.{cell-decides}
-use Rattle.ot_check.specs.Offences.{has_cell}
-use Rattle.ot_check.proofs.Bits.{true_or, or_right, and_true}
-use Rattle.ot_owner.specs.Back.{taken_back, all_back}
-use Rattle.ot_owner.specs.Leases.{copy_of, lent_from}
-use Rattle.ot_owner.specs.Owning.{Loan, Owned, IsFreeFor}
-use Rattle.ot_owner.specs.Rows.{Summed, is_of, place_in, names, IsNamed, IsSummed, IsSummedBy, folds_in, folded_in, folded, begun_in, begun_for, without as without_group}
-use Rattle.ot_owner.specs.Worth.{worth_over, worth, worths, IsCombined}
-use Rattle.ot_owner.specs.declared.lent.LentCell.{LentCell}
+use Rattle.ot_owner.specs.Back.{taken_back}
+use Rattle.ot_owner.specs.Rows.{is_of, place_in, names, folds_in, folded_in, folded, begun_in, without as without_group}
+use Rattle.ot_owner.specs.Worth.{IsCombined}
 use Rattle.ot_owner.proofs.OpenLemmas.{same_worth, worth-unsummed as over-unsummed}
-use Rattle.ot_owner.proofs.OutLemmas.{permutation_rest}
-use Rattle.ot_owner.proofs.WorthLemmas.{cell_of-worths}
-use Rattle.ot_task.specs.Pieces.{passed, awake, ended_group, group_passed}
-use Rattle.ot_task.specs.Place.{Open}
-use Rattle.ot_task.specs.Regions.{Region, group_next, with_child, new_region, with_created, stepped, stepped_from, executed, next_task, rest_at, children_at, over, stopped}
-use Rattle.ot_job.specs.Awaiting.{opened}
-use Rattle.ot_job.specs.Numbered.{at, parent_of}
-use Rattle.ot_job.specs.Opened.{numbers_in, AreOpen}
-use Rattle.ot_job.specs.Opening.{left_open, Opens}
-use Rattle.ot_job.specs.Settling.{told_parent, closed, moved_on, settled}
+use Rattle.ot_task.specs.Pieces.{ended_group}
+use Rattle.ot_job.specs.Opened.{numbers_in}
 use Rattle.ot_job.proofs.FoldLemmas.{same-op}
 use Rattle.ot_job.proofs.KeptLemmas.{at-updated, at-updated-other}
 use Rattle.ot_job.proofs.StepLemmas.{tell-field, end-cases}
@@ -74,11 +50,6 @@ any-of P xs x (k, within, is) holds = (k, x, within, is, holds)
 
 all-of : {A : Type 0} (P : A → Type 0) (xs : List A) → ((x : A) → Contains xs x → P x) → All P xs
 all-of P xs each k d within = each (get_or xs k d) (Contains-get_or xs k d within)
-
-same_bits : (a b : Bool) → (a ≡ true → b ≡ true) → (b ≡ true → a ≡ true) → a ≡ b
-same_bits true b one two = sym (one refl)
-same_bits false true one two = two refl
-same_bits false false one two = refl
 
 -- ---- which cells are named
 
@@ -451,7 +422,7 @@ module _ (rs : List Region) (gs : List Summed) (i : ℕ) (f : Region → Region)
       by k p g (inr entered) (inl kept) same c = let less = kept-below g kept in let number = ap (λ (p : Open). p.group) entered in absurd (omega (arith, less, same, number))
       by k p g (inr entered) (inr fresh) same c =
           sym (ap (names c) fresh)
-          ∙ same_bits (is_some (place_in uses c)) (has_cell o.cells c) (λ there. has-cell o.cells c ((named c).0 (of-place uses c there))) (λ has. place-of uses c ((named c).1 (of-cells o.cells c has)))
+          ∙ same_answer (is_some (place_in uses c)) (has_cell o.cells c) (λ there. has-cell o.cells c ((named c).0 (of-place uses c there))) (λ has. place-of uses c ((named c).1 (of-cells o.cells c has)))
           ∙ ap (λ (p : Open). has_cell p.cells c) entered
 
 -- ---- a piece comes back

@@ -1,24 +1,7 @@
 -- A piece that is out.
-use Rattle.std.proofs.Common.{false, true, sym, ap, ◌∙◌, true≢false, ◌≡◌, ◌<◌, ℕ, zero, suc, List, [], ◌∷◌, length, arith}
-use Rattle.std.specs.Prelude.{All, Contains, IsSome, Some, is_some, get_or, option_map, unwrap_or, Result, Ok, Err, OnOk, OnErr, is_err}
-use Rattle.std.proofs.lemmas.List.Elements.{All-nil, All-cons, All-head, All-tail}
-use Rattle.ot_model.specs.Tree.{Body, End, Next}
-use Rattle.ot_model.specs.Cells.{cell_of}
-use Rattle.ot_task.specs.Place.{Open}
-use Rattle.ot_model.specs.declared.stmt.Use.{Use}
-use Rattle.ot_owner.specs.Leases.{lease_of}
-use Rattle.ot_owner.specs.Owning.{loan_of}
-use Rattle.ot_owner.specs.Lending.{uses_of}
-use Rattle.ot_owner.specs.declared.lent.LentCell.{LentCell}
-use Rattle.ot_task.specs.Regions.{Region, Run, next_task}
-use Rattle.ot_job.specs.Calls.{HasPiece}
-use Rattle.ot_job.specs.Numbered.{at}
-use Rattle.ot_job.specs.Live.{Live}
-use Rattle.ot_job.specs.Taken.{Came, IsOut, worker_in}
-use Rattle.std.proofs.lemmas.Option.{same_Some}
-use Rattle.ot_job.specs.Well.{MaySettle}
-use Rattle.ot_task.specs.Standing.{is_at_end}
-use Rattle.ot_job.proofs.PickLemmas.{at-here}
+use Rattle.std.proofs.Common.{false, true, sym, ap, ◌∙◌, true≢false, ◌≡◌, ◌<◌, ℕ, zero, suc, List, [], ◌∷◌, length, arith, All, Contains, IsSome, Some, is_some, get_or, option_map, unwrap_or, Result, Ok, Err, OnOk, OnErr, is_err}
+use Rattle.ot_job.proofs.Common.{All-nil, All-cons, All-head, All-tail, Body, End, Next, cell_of, Open, Use, lease_of, loan_of, uses_of, LentCell, Region, Run, next_task, HasPiece, at, Live, Came, IsOut, worker_in, same_Some, MaySettle, is_at_end}
+use Rattle.ot_job.proofs.ClaimableLemmas.{at-here}
 
 pub runs-within : (rs : List Region) (i : ℕ) (run : Run) → (at rs i).running ≡ Some run → i < length rs
 runs-within [] i run h = cc

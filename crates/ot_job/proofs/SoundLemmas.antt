@@ -1,28 +1,9 @@
 -- A job's regions make it sound.
-use Rattle.std.proofs.Common.{◌≡◌, ℕ, zero, suc, ◌<◌, ◌≤◌, true, false, List, [], ◌∷◌, length, refl, sym, ap, subst, ◌∙◌, ◌⊎◌, inl, inr, arith, ◌&&◌, true≢false}
-use Rattle.std.specs.Prelude.{Some, slice_get}
-use Rattle.std.proofs.lemmas.Bool.{cases_lt}
-use Rattle.std.proofs.lemmas.Option.{same_Some}
-use Rattle.std.proofs.lemmas.List.Folds.{Any-from_list_any, list_any-from_Any}
-use Rattle.ot_check.proofs.Bits.{and_left, and_right, and_true}
-use Rattle.ot_check.proofs.SameLemmas.{same_is}
-use Rattle.ot_task.proofs.CellLemmas.{same_self}
-use Rattle.ot_model.specs.Uses.{DependsOn, one_writes, conflicts}
-use Rattle.ot_model.specs.declared.expr.Cell.{Cell}
-use Rattle.ot_model.specs.declared.fold.Fold.{Fold as Operation}
-use Rattle.ot_model.specs.declared.stmt.Mode.{Mode}
-use Rattle.ot_model.specs.declared.stmt.Mode.TheVariants.{Reads, Writes, Folds}
-use Rattle.ot_model.specs.declared.stmt.Use.{Use}
-use Rattle.ot_depend.specs.Siblings.{Sibling, IsReady}
-use Rattle.ot_check.specs.Paths.{use_as}
-use Rattle.ot_check.specs.Offences.{Declared, allows, covers, folds_by}
-use Rattle.ot_model.specs.Cells.{same_cell}
-use Rattle.ot_check.specs.Touches.{Agree}
+use Rattle.std.proofs.Common.{◌≡◌, ℕ, zero, suc, ◌<◌, ◌≤◌, true, false, List, [], ◌∷◌, length, refl, sym, ap, subst, ◌∙◌, ◌⊎◌, inl, inr, arith, ◌&&◌, true≢false, Some, slice_get}
+use Rattle.ot_job.proofs.Common.{cases_lt, same_Some, Any-from_list_any, list_any-from_Any, and_left, and_right, and_true, same_is, same_self, conflicts, Cell, Operation, Mode, Reads, Writes, Folds, Use, Sibling, IsReady, use_as, Declared, allows, covers, folds_by, same_cell, Agree, Region, at, gone, parent_of, todo_at, ended_at, may_at, IsBegun, DontMix, IsSound}
+use Rattle.ot_model.specs.Uses.{DependsOn, one_writes}
 use Rattle.ot_job.proofs.FoldLemmas.{same-op, both-fold, covered-fold}
 use Rattle.ot_job.proofs.Kept.{Sound}
-use Rattle.ot_task.specs.Regions.{Region}
-use Rattle.ot_job.specs.Numbered.{at, gone, parent_of, todo_at, ended_at}
-use Rattle.ot_job.specs.Sound.{may_at, IsBegun, DontMix, IsSound}
 
 pub at-past : (rs : List Region) (i : ℕ) → length rs ≤ i → at rs i ≡ gone
 at-past [] i h = refl

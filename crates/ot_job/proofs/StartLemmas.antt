@@ -1,46 +1,12 @@
 -- A job begins well, and where it has ended its cells and counts are the serial meaning of its program.
-use Rattle.std.proofs.Common.{◌≡◌, ℕ, zero, suc, ◌+◌, ◌*◌, ◌<◌, ◌≤◌, Bool, true, false, List, [], ◌∷◌, length, refl, sym, ap, subst, ◌∙◌, arith, true≢false, ◌==◌}
-use Rattle.std.specs.Prelude.{Option, option_map, is_some, ◌||◌, Some, None, slice_get, if◌then◌else◌, IsPermutation, Contains, All}
-use Rattle.std.proofs.lemmas.List.Elements.{All-nil}
-use Rattle.std.proofs.lemmas.List.Sorted.{IsPermutation-refl, IsPermutation-sym, IsPermutation-trans, Contains-permutation}
-use Rattle.std.proofs.lemmas.Bool.{false_from_ne_true}
-use Rattle.ot_model.specs.Tree.{Body, End, Next}
-use Rattle.ot_model.specs.Counts.{size}
-use Rattle.ot_task.specs.Weighing.{weight_of}
+use Rattle.std.proofs.Common.{◌≡◌, ℕ, zero, suc, ◌+◌, ◌*◌, ◌<◌, ◌≤◌, Bool, true, false, List, [], ◌∷◌, length, refl, sym, ap, subst, ◌∙◌, arith, true≢false, ◌==◌, Option, option_map, is_some, ◌||◌, Some, None, slice_get, if◌then◌else◌, IsPermutation, Contains, All}
+use Rattle.ot_job.proofs.Common.{All-nil, IsPermutation-refl, IsPermutation-sym, IsPermutation-trans, Contains-permutation, false_from_ne_true, Body, End, Next, size, weight_of, cell_of, lengths, updated, NamedIn, AreInShape, Expanded, State, serial, serial_run, state_of, length-updated, Sibling, allows, and_left, and_right, Owned, loan_of, lease_of, lent_from, worths, worth_over, worths-same, permutation_rest, Holds, touches_out, left, children_left, Open, Region, Run, root_region, stopped, at, gone, parent_of, todo_at, parents, left_of, IsPlaced, IsSound, wholes, loans_out, AreOpen, Live, IsWell, all_ended, any_out, state_in, Working, Failing, Ended, Failed, Came, IsOut}
 use Rattle.ot_job.proofs.WeighingLemmas.{weight-few, weight-stopped}
-use Rattle.ot_model.specs.Cells.{cell_of, lengths, updated}
-use Rattle.ot_model.specs.Names.{NamedIn, AreInShape}
-use Rattle.ot_model.specs.Programs.{Expanded}
-use Rattle.ot_model.specs.Serial.{State, serial, serial_run}
-use Rattle.ot_model.specs.Runs.{state_of}
-use Rattle.ot_model.proofs.CellsLemmas.{length-updated}
-use Rattle.ot_depend.specs.Siblings.{Sibling}
-use Rattle.ot_check.specs.Disciplined.{IsDisciplined}
-use Rattle.ot_check.specs.Offences.{allows}
-use Rattle.ot_check.proofs.Bits.{and_left, and_right}
-use Rattle.ot_check.proofs.FineLemmas.{disciplined-fine}
-use Rattle.ot_check.proofs.InsideLemmas.{inside}
-use Rattle.ot_owner.specs.Owning.{Owned, loan_of}
-use Rattle.ot_owner.specs.Leases.{lease_of, lent_from}
-use Rattle.ot_owner.specs.Worth.{worths, worth_over}
-use Rattle.ot_owner.proofs.WorthLemmas.{worths-combined, worths-same}
-use Rattle.ot_owner.proofs.OutLemmas.{permutation_rest}
-use Rattle.ot_job.specs.Holding.{Holds, touches_out}
-use Rattle.ot_job.specs.Left.{left, children_left}
-use Rattle.ot_task.specs.Place.{Open}
-use Rattle.ot_task.specs.Regions.{Region, Run, root_region, stopped}
-use Rattle.ot_job.specs.Numbered.{at, gone, parent_of, todo_at, parents, left_of}
-use Rattle.ot_job.specs.Sound.{IsPlaced, IsSound}
-use Rattle.ot_job.specs.Whole.{wholes, loans_out}
-use Rattle.ot_job.specs.Opened.{AreOpen}
-use Rattle.ot_task.specs.Place.{Open}
-use Rattle.ot_job.specs.Live.{Live}
-use Rattle.ot_job.specs.Well.{IsWell}
-use Rattle.ot_job.specs.States.{all_ended, any_out, state_in}
-use Rattle.ot_job.specs.declared.state.State.TheVariants.{Working, Failing, Ended, Failed}
-use Rattle.ot_job.specs.Taken.{Came, IsOut}
+use Rattle.ot_check.specs.Discipline.{IsDisciplined}
+use Rattle.ot_check.proofs.Cited.{disciplined-fine, inside}
+use Rattle.ot_owner.proofs.WorthLemmas.{worths-combined}
 use Rattle.ot_job.proofs.Kept.{touch-all}
-use Rattle.ot_job.proofs.FreeLemmas.{at-whole}
+use Rattle.ot_job.proofs.RightsLemmas.{at-whole}
 use Rattle.ot_job.proofs.OpeningLemmas.{none-open, open-none, none-combined}
 use Rattle.ot_job.proofs.SettleLemmas.{run_of, runs-within}
 use Rattle.ot_job.proofs.WellLemmas.{out-contained}

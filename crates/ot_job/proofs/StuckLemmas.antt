@@ -1,11 +1,14 @@
 -- A job that hasn't ended, and of which no piece is out, has a task that may be claimed.
-use Rattle.std.proofs.Common.{◌≡◌, ℕ, zero, suc, ◌+◌, ◌<◌, ◌≤◌, true, false, List, [], ◌∷◌, length, refl, sym, ap, subst, ◌∙◌, ◌⊎◌, inl, inr, arith, true≢false}
-use Rattle.std.proofs.lemmas.Bool.{cases_Bool}
-use Rattle.std.specs.Prelude.{Some, slice_get}
-use Rattle.ot_depend.specs.Siblings.{Sibling, IsReady}
-use Rattle.ot_task.specs.Regions.{Region}
-use Rattle.ot_job.specs.Numbered.{at, parent_of, ended_at}
-use Rattle.ot_job.specs.Sound.{IsBegun, IsKin, IsSound}
+use Rattle.std.proofs.Common.{◌≡◌, ℕ, zero, suc, ◌+◌, ◌<◌, ◌≤◌, true, false, List, [], ◌∷◌, length, refl, sym, ap, subst, ◌∙◌, ◌⊎◌, inl, inr, arith, true≢false, Some, slice_get, Bool, cond, not, ◌&&◌, ◌||◌, get_or, ◌==◌, None, is_some, filter, count_by, IsTrue, if◌then◌else◌, All}
+use Rattle.ot_job.proofs.Common.{cases_Bool, Sibling, IsReady, Region, at, parent_of, ended_at, IsBegun, IsKin, IsSound, range_with_len, nat_tests, length-map, Body, End, Next, is_ready, is_unfinished, is_unfinished_in, and_true, or_false_left, or_false_right, Open, whole, wholes, is_claimable, claimable_of, is_held, is_let_go, end_lets_go, Live, IsWell, any_out, all_ended, state_in, Working, Failing, Ended, Failed}
+use Rattle.ot_depend.proofs.CountLemmas.{none_unfinished, none_unfinished_in}
+use Rattle.ot_depend.proofs.ReadyLemmas.{is_ready-told}
+use Rattle.ot_job.proofs.AwaitsLemmas.{held-unfinished}
+use Rattle.ot_job.proofs.AwakeLemmas.{none-counted}
+use Rattle.ot_job.proofs.RightsLemmas.{at-whole}
+use Rattle.ot_job.proofs.WellLemmas.{none-running}
+
+-- ---- a job that hasn't ended, and of which no piece is out, has a task that may be claimed
 
 abbrev pub AllFinished : List Sibling → Type 0
 AllFinished kids = (k : ℕ) (s : Sibling) → slice_get kids k ≡ Some s → s.finished ≡ true
@@ -84,3 +87,108 @@ module _ (rs : List Region) (s : IsSound rs) where
       pick kin below (inr (k, l)) =
           let c = child_of (parent_of rs (suc i)) k (omega (arith, below, within)) l in
           go (length rs) c.0 (omega arith) c.2 c.3 c.4
+
+-- ---- a job that is not ended, and of which no piece is out, has a task that is claimable
+
+-- ---- who is not ended
+
+one-left : (rs : List Region) → all_ended rs ≡ false → (i : ℕ) × (i < length rs) × ((at rs i).ended ≡ false)
+one-left [] h = absurd (true≢false h)
+one-left (r ∷ rs) h = by r.ended refl (λ g. one-left rs g)
+  where
+    by : (b : Bool) → r.ended ≡ b → (all_ended rs ≡ false → (i : ℕ) × (i < length rs) × ((at rs i).ended ≡ false)) → (i : ℕ) × (i < suc (length rs)) × ((at (r ∷ rs) i).ended ≡ false)
+    by true e more = let m = more (ap (λ b. b && all_ended rs) (sym e) ∙ h) in (suc m.0, omega (arith, m.1), m.2)
+    by false e more = (0, omega arith, e)
+
+pub none-out : (rs : List Region) → any_out rs ≡ false → (i : ℕ) → (at rs i).running ≡ None
+none-out [] h i = refl
+none-out (r ∷ rs) h zero = none-running r.running (or_false_left (is_some r.running) (any_out rs) h)
+none-out (r ∷ rs) h (suc i) = none-out rs (or_false_right (is_some r.running) (any_out rs) h) i
+
+-- ---- who is free is claimable
+
+all-from : (kids : List Sibling) → AllFinished kids → All (λ s. IsTrue s.finished) kids
+all-from kids all k d within = all k (get_or kids k d) (there kids k d within)
+  where
+    there : (kids : List Sibling) (k : ℕ) (d : Sibling) → k < length kids → slice_get kids k ≡ Some (get_or kids k d)
+    there [] k d within = absurd (omega (arith, within))
+    there (s ∷ kids) zero d within = refl
+    there (s ∷ kids) (suc k) d within = there kids k d (omega (arith, within))
+
+zero-is : (n : ℕ) → n ≡ 0 → (n == 0) ≡ true
+zero-is n e = grind (arith, nat_tests)
+
+lets-go : (r : Region) → AllFinished r.children → is_let_go r ≡ true
+lets-go r all =
+    and_true (not (is_held r.waiting r.children)) (end_lets_go r.rest r.groups r.children)
+    (ap not (held-unfinished r.waiting r.children (none-counted is_unfinished r.children ((none_unfinished r.children).1 (all-from r.children all)))))
+    (at-end r.rest r.groups)
+  where
+    at-end : (rest : Body) (gs : List Open) → end_lets_go rest gs r.children ≡ true
+    at-end End [] = refl
+    at-end (Next x rest) gs = refl
+    at-end End (o ∷ os) = zero-is (count_by (is_unfinished_in o.group) r.children) ((none_unfinished_in o.group r.children).1 (λ k d within here. all-from r.children all k d within))
+
+module _ (rs : List Region) (out : any_out rs ≡ false) (i : ℕ) (f : Free (wholes rs) i) where
+  r : Region
+  r = at rs i
+
+  whole-at : at (wholes rs) i ≡ whole (at rs i)
+  whole-at = at-whole rs i
+
+  free-claimable : is_claimable rs i ≡ true
+  free-claimable =
+      and_true (not (at rs i).ended && not (is_some (at rs i).running)) (((i == 0) || is_ready (at rs (at rs i).parent).children (at rs i).child) && is_let_go (at rs i))
+      (and_true (not (at rs i).ended) (not (is_some (at rs i).running)) (ap not (ap (λ (x : Region). x.ended) (sym whole-at) ∙ f.alive)) (ap (λ o. not (is_some o)) (none-out rs out i)))
+      (and_true ((i == 0) || is_ready (at rs (at rs i).parent).children (at rs i).child) (is_let_go (at rs i)) (begun i refl)
+      (lets-go (at rs i) (subst (λ (x : Region). AllFinished x.children) whole-at f.awaits_none)))
+    where
+      begun : (n : ℕ) → i ≡ n → ((i == 0) || is_ready (at rs (at rs i).parent).children (at rs i).child) ≡ true
+      begun zero e = ap (λ b. b || is_ready (at rs (at rs i).parent).children (at rs i).child) (zero-is i e)
+      begun (suc n) e =
+          let ready = (f.begun (omega (arith, e))).1 in
+          let up : parent_of (wholes rs) i ≡ (at rs i).parent = ap (λ (x : Region). x.parent) whole-at in
+          let table : (at (wholes rs) (parent_of (wholes rs) i)).children ≡ (at rs (at rs i).parent).children =
+          ap (λ m. (at (wholes rs) m).children) up ∙ ap (λ (x : Region). x.children) (at-whole rs (at rs i).parent) in
+          let child : (at (wholes rs) i).child ≡ (at rs i).child = ap (λ (x : Region). x.child) whole-at in
+          let told : is_ready (at rs (at rs i).parent).children (at rs i).child ≡ true =
+          ap (λ kids. is_ready kids (at rs i).child) (sym table) ∙ ap (is_ready (at (wholes rs) (parent_of (wholes rs) i)).children) (sym child)
+          ∙ sym (is_ready-told true (at (wholes rs) (parent_of (wholes rs) i)).children (at (wholes rs) i).child ((λ t. ready), λ t. refl)) in
+          by (i == 0) told
+        where
+          by : (a : Bool) {b : Bool} → b ≡ true → (a || b) ≡ true
+          by true h = refl
+          by false h = h
+
+-- one that passes a test is among those that do
+some-pass : (test : ℕ → Bool) (a n k : ℕ) → k < n → test (a + k) ≡ true → 0 < length (filter test (range_with_len a n))
+some-pass test a zero k below passes = absurd (omega (arith, below))
+some-pass test a (suc n) zero below passes =
+    let e : a + 0 ≡ a = omega arith in
+    let here : test a ≡ true = ap test (sym e) ∙ passes in
+    rw here (omega arith)
+some-pass test a (suc n) (suc k) below passes =
+    let e : a + 1 + k ≡ a + suc k = omega arith in
+    by (test a) (some-pass test (a + 1) n k (omega (arith, below)) (ap test e ∙ passes))
+  where
+    by : (b : Bool) → 0 < length (filter test (range_with_len (a + 1) n)) → 0 < length (cond b (a ∷ filter test (range_with_len (a + 1) n)) (filter test (range_with_len (a + 1) n)))
+    by true h = omega arith
+    by false h = h
+
+pub has-claimable : (j : Live) → IsWell j → j.failing ≡ false → all_ended j.regions ≡ false → any_out j.regions ≡ false → 0 < length (claimable_of j.regions)
+has-claimable j w working left out =
+    let o = w.course working in
+    let one = one-left j.regions left in
+    let f = never_stuck (wholes j.regions) o.sound one.0 (omega (arith, one.1, length-map j.regions whole)) (ap (λ (x : Region). x.ended) (at-whole j.regions one.0) ∙ one.2) in
+    let e : 0 + f.0 ≡ f.0 = omega arith in
+    some-pass (is_claimable j.regions) 0 (length j.regions) f.0 (omega (arith, f.1.within, length-map j.regions whole))
+    (ap (is_claimable j.regions) e ∙ free-claimable j.regions out f.0 f.1)
+
+pub state-working : (j : Live) → state_in j ≡ Working → (j.failing ≡ false) × (all_ended j.regions ≡ false)
+state-working j h = by j.failing (any_out j.regions) (all_ended j.regions) h
+  where
+    by : (f a e : Bool) → (if f then (if a then Failing else Failed) else if e then Ended else Working) ≡ Working → (f ≡ false) × (e ≡ false)
+    by true true e h = cc
+    by true false e h = cc
+    by false a true h = cc
+    by false a false h = (refl, refl)

@@ -1,17 +1,8 @@
 -- What the code does to its lists, told of the regions and numbers in them.
-use Rattle.std.proofs.Common.{◌≡◌, ℕ, zero, suc, List, [], ◌∷◌, map, get_or, set, refl, sym, ◌∙◌, ap}
+use Rattle.std.proofs.Common.{◌≡◌, ℕ, zero, suc, List, [], ◌∷◌, map, get_or, set, refl, sym, ◌∙◌, ap, Result, Ok, Err, OnErr, OnOk}
+use Rattle.ot_job.proofs.Common.{get_or-map, updated, Region}
 use Rattle.std.proofs.lemmas.List.{map-set}
-use Rattle.std.proofs.Math.ListN.{get_or-map}
 use Rattle.ot_model.proofs.CellsLemmas.{set-updated}
-use Rattle.std.specs.Prelude.{Result, Ok, Err, OnErr, OnOk}
-use Rattle.ot_model.specs.Cells.{updated}
-use Rattle.ot_task.specs.Regions.{Region}
-
--- a record is replaced by one that stands for the changed region
-pub map-changed : {A B : Type 0} (g : A → B) (xs : List A) (i : ℕ) (x y : A) (f : B → B) → x ≡ get_or xs i x → g y ≡ f (g x)
-    → map g (set xs i y) ≡ updated (map g xs) i f
-map-changed g xs i x y f is same =
-    map-set g xs i y ∙ set-updated (map g xs) i (g y) (g x) f (same ∙ ap (λ z. f (g z)) is ∙ ap f (sym (get_or-map g xs i x)))
 
 pub set-same : {A : Type 0} (xs : List A) (i : ℕ) (x : A) → x ≡ get_or xs i x → set xs i x ≡ xs
 set-same [] i x is = refl

@@ -1,34 +1,14 @@
 -- Each settle makes a job lighter, and nothing makes it heavier.
-use Rattle.std.proofs.Common.{◌≡◌, ℕ, zero, suc, ◌+◌, ◌*◌, ◌<◌, ◌≤◌, max, Bool, true, false, List, [], ◌∷◌, ◌++◌, length, refl, sym, ap, ◌∙◌, arith, true≢false}
-use Rattle.std.specs.Prelude.{Option, Some, None, is_some, nat_lt, if◌then◌else◌}
-use Rattle.ot_model.specs.Tree.{Set, Fold, If, Task, Wait, Group, Body, End, Next, append}
-use Rattle.ot_model.specs.Counts.{size}
-use Rattle.ot_model.specs.Cells.{updated}
-use Rattle.ot_model.specs.declared.stmt.Use.{Use}
-use Rattle.ot_model.proofs.CellsLemmas.{length-updated, updated-updated}
-use Rattle.ot_owner.specs.Leases.{Lease}
-use Rattle.ot_task.specs.Place.{Open}
-use Rattle.ot_task.specs.Regions.{Region, Run, with_child, new_region, with_created, stepped, stepped_from, executed, next_task, rest_at, children_at, over, stopped, without}
-use Rattle.ot_job.specs.Numbered.{at, parent_of}
-use Rattle.ot_task.specs.Pieces.{leading, behind, passed, begun}
-use Rattle.ot_job.specs.Settling.{closed, settled}
-use Rattle.ot_task.specs.Standing.{is_at_end}
-use Rattle.ot_task.specs.Weighing.{weight, weight_behind, weight_left, region_weight, weight_of}
-use Rattle.ot_job.proofs.SettledLemmas.{front}
+use Rattle.std.proofs.Common.{◌≡◌, ℕ, zero, suc, ◌+◌, ◌*◌, ◌<◌, ◌≤◌, max, Bool, true, false, List, [], ◌∷◌, ◌++◌, length, refl, sym, ap, ◌∙◌, arith, true≢false, Option, Some, None, is_some, nat_lt, if◌then◌else◌}
+use Rattle.ot_job.proofs.Common.{Set, Fold, If, Task, Wait, Group, Body, End, Next, append, size, updated, Use, length-updated, updated-updated, Lease, Open, Region, Run, with_child, new_region, with_created, stepped, stepped_from, executed, next_task, rest_at, children_at, over, stopped, without, at, parent_of, leading, behind, passed, begun, closed, settled, is_at_end, weight_left, region_weight, weight_of}
+use Rattle.ot_parts.proofs.WeightLemmas.{weight-behind}
+use Rattle.ot_task.specs.Weighing.{weight, weight_behind}
+use Rattle.ot_job.proofs.StopLemmas.{front}
 use Rattle.ot_job.proofs.StepLemmas.{tell, tell-field, tell-long, rest-here}
 
 weight-append : (a b : Body) → weight (append a b) ≡ weight a + weight b
 weight-append End b = omega arith
 weight-append (Next x a) b = let h = weight-append a b in omega (arith, h)
-
-weight-after : (b : Body) → weight (behind b) ≡ weight b
-weight-after End = refl
-weight-after (Next (Set c e) rest) = omega (arith, weight-after rest)
-weight-after (Next (Fold op c e) rest) = omega (arith, weight-after rest)
-weight-after (Next (If e a b) rest) = refl
-weight-after (Next (Task d b) rest) = refl
-weight-after (Next (Wait w) rest) = refl
-weight-after (Next (Group op cs b) rest) = refl
 
 -- at most twice the statements
 pub weight-few : (b : Body) → weight b ≤ 2 * size b
@@ -66,8 +46,8 @@ weight-more (r ∷ rs) new = let w = weight-more rs new in omega (arith, w)
 
 begun-left : (lease : Lease) (rest : Body) (os : List Open) → weight_left true (behind (passed rest os).rest) (passed rest os).groups ≡ weight_left false rest os
 begun-left lease End [] = refl
-begun-left lease End (o ∷ os) = ap (λ n. n + weight_behind os) (weight-after o.behind)
-begun-left lease (Next x rest) os = ap (λ n. n + weight_behind os) (weight-after (Next x rest))
+begun-left lease End (o ∷ os) = ap (λ n. n + weight_behind os) (weight-behind o.behind)
+begun-left lease (Next x rest) os = ap (λ n. n + weight_behind os) (weight-behind (Next x rest))
 
 pub weight-begun : (worker : ℕ) (lease : Lease) (rs : List Region) (i : ℕ) → i < length rs → (at rs i).running ≡ None → weight_of (updated rs i (begun worker lease)) ≡ weight_of rs
 weight-begun worker lease rs i h idle =

@@ -1,59 +1,19 @@
 -- A claim is free to be made, and leaves a job well.
-use Rattle.std.proofs.Common.{◌≡◌, ◌≢◌, ℕ, zero, suc, ◌<◌, true, false, not, ◌&&◌, ◌||◌, List, [], ◌∷◌, length, refl, sym, ap, subst, ◌∙◌, ◌⊎◌, inl, inr, ⊎_elim, arith, true≢false}
-use Rattle.std.specs.Prelude.{Option, Some, None, is_some, slice_get, ◌==◌, All, Contains, IsSome, IsPermutation}
-use Rattle.std.proofs.lemmas.Bool.{cases_eq}
-use Rattle.std.proofs.lemmas.Bool.Decides.{nat_tests}
-use Rattle.std.proofs.lemmas.Option.{same_Some}
-use Rattle.std.proofs.lemmas.List.{length-map}
-use Rattle.std.proofs.lemmas.List.Sorted.{Contains-permutation, All-permutation, IsPermutation-sym, IsPermutation-trans, IsPermutation-cons}
-use Rattle.ot_model.specs.Tree.{Set, Fold, If, Task, Wait, Group, Body, End, Next, append}
-use Rattle.ot_model.specs.Names.{NamedIn, AreInShape}
-use Rattle.ot_model.specs.Cells.{updated, lengths, cell_of}
-use Rattle.ot_model.specs.Uses.{AreInOrder, Conflict}
-use Rattle.ot_model.specs.declared.stmt.Use.{Use}
-use Rattle.ot_model.specs.Serial.{State}
-use Rattle.ot_depend.specs.Siblings.{IsReady, IsUnfinished}
-use Rattle.ot_check.proofs.Bits.{and_left, and_right, or_true, not_true}
-use Rattle.ot_owner.specs.Leases.{Lease, lease_of, lent_from}
-use Rattle.ot_owner.specs.Owning.{Owned, IsFreeFor}
-use Rattle.ot_owner.specs.Rows.{begun_for}
-use Rattle.ot_job.specs.Left.{left}
-use Rattle.ot_task.specs.Place.{Open, todo}
-use Rattle.ot_check.specs.walk.Fine.{AreAssigns}
-use Rattle.ot_task.specs.Regions.{Region, Run}
-use Rattle.ot_job.specs.Numbered.{at, parent_of, todo_at, parents, left_of}
+use Rattle.std.proofs.Common.{◌≡◌, ◌≢◌, ℕ, zero, suc, ◌<◌, true, false, not, ◌&&◌, ◌||◌, List, [], ◌∷◌, length, refl, sym, ap, subst, ◌∙◌, ◌⊎◌, inl, inr, ⊎_elim, arith, true≢false, Option, Some, None, is_some, slice_get, ◌==◌, All, Contains, IsSome, IsPermutation}
+use Rattle.ot_job.proofs.Common.{cases_eq, nat_tests, same_Some, length-map, Contains-permutation, All-permutation, IsPermutation-sym, IsPermutation-trans, IsPermutation-cons, Set, Fold, If, Task, Wait, Group, Body, End, Next, append, NamedIn, AreInShape, updated, lengths, cell_of, AreInOrder, Conflict, Use, State, IsReady, IsUnfinished, is_ready, and_left, and_right, or_true, not_true, Lease, lease_of, lent_from, Owned, IsFreeFor, begun_for, left, Open, todo, AreAssigns, Region, Run, at, parent_of, todo_at, parents, left_of, IsBegun, IsSound, length-updated, leading, behind, test_of, passed, awake, begun, group_passed, assigns_out, whole, wholes, loan_in, with_loan, loans_out, AreOpen, left_open, RunsWell, IsWell, IsOnCourse, MaySettle, worths, AreWorthSame, worths-same, state_of, Live, AreHeld, piece_touches, assign_touches, test_touches, is_claimable, Holds, touches_out, is_let_go}
+use Rattle.ot_parts.proofs.LeadingLemmas.{leading-behind}
 use Rattle.ot_model.specs.declared.fold.Fold.TheVariants.{Plus}
-use Rattle.ot_job.specs.Sound.{IsBegun, IsSound}
-use Rattle.ot_model.proofs.CellsLemmas.{length-updated}
-use Rattle.ot_task.specs.Pieces.{leading, behind, test_of, passed, awake, begun, group_passed}
-use Rattle.ot_job.specs.Whole.{assigns_out, whole, wholes, loan_in, with_loan, loans_out}
-use Rattle.ot_job.specs.Opened.{AreOpen}
-use Rattle.ot_job.specs.Opening.{left_open}
-use Rattle.ot_job.specs.Running.{RunsWell}
 use Rattle.ot_job.proofs.WeighingLemmas.{weight-begun}
-use Rattle.ot_job.specs.Well.{IsWell, IsOnCourse}
-use Rattle.ot_owner.specs.Worth.{worths, AreWorthSame}
-use Rattle.ot_owner.proofs.WorthLemmas.{worths-same}
-use Rattle.ot_model.specs.Runs.{state_of}
-use Rattle.ot_job.specs.Live.{Live}
-use Rattle.ot_task.specs.Modes.{AreHeld}
-use Rattle.ot_task.specs.Touched.{piece_touches, assign_touches, test_touches}
-use Rattle.ot_job.specs.Claiming.{is_claimable}
-use Rattle.ot_job.specs.Holding.{Holds, touches_out}
-use Rattle.ot_task.specs.Waits.{is_let_go}
-use Rattle.ot_depend.specs.Siblings.{is_ready}
 use Rattle.ot_job.proofs.KeptLemmas.{parents-updated, at-updated, at-updated-other, todo-append}
 use Rattle.ot_job.proofs.ChangedLemmas.{begun-changed}
 use Rattle.ot_job.proofs.WholeLemmas.{loan, wholes-begun, one-more, loans-each}
 use Rattle.ot_job.proofs.OpeningLemmas.{open-passed, open-grown}
 use Rattle.ot_job.proofs.AwakeLemmas.{sound-awake}
-use Rattle.ot_job.proofs.FreeLemmas.{at-whole, named-front, named-back}
-use Rattle.ot_job.proofs.EnteredLemmas.{each-begun}
+use Rattle.ot_job.proofs.RightsLemmas.{at-whole, named-front, named-back}
+use Rattle.ot_job.proofs.EachLemmas.{each-begun, at-each, field-at}
 use Rattle.ot_job.proofs.HoldingLemmas.{course-holds, course-apart}
-use Rattle.ot_job.proofs.PickLemmas.{ready-from}
+use Rattle.ot_job.proofs.ClaimableLemmas.{ready-from}
 use Rattle.ot_job.proofs.OpenLemmas.{pieces_apart}
-use Rattle.ot_job.proofs.EachLemmas.{at-each, field-at}
-use Rattle.ot_job.specs.Well.{MaySettle}
 use Rattle.ot_task.proofs.HeldLemmas.{AllIn, all-append, reads-in, held-there}
 
 pub leading-assigns : (b : Body) → AreAssigns (leading b)
@@ -64,15 +24,6 @@ leading-assigns (Next (If e a b) rest) = tt
 leading-assigns (Next (Task d b) rest) = tt
 leading-assigns (Next (Wait w) rest) = tt
 leading-assigns (Next (Group op cs b) rest) = tt
-
-leading-behind : (b : Body) → leading (behind b) ≡ End
-leading-behind End = refl
-leading-behind (Next (Set c e) rest) = leading-behind rest
-leading-behind (Next (Fold op c e) rest) = leading-behind rest
-leading-behind (Next (If e a b) rest) = refl
-leading-behind (Next (Task d b) rest) = refl
-leading-behind (Next (Wait w) rest) = refl
-leading-behind (Next (Group op cs b) rest) = refl
 
 -- passing a group's end leaves what is left
 todo-passed : (rest : Body) (gs : List Open) → todo (passed rest gs).rest (passed rest gs).groups ≡ todo rest gs

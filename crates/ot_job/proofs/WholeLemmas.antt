@@ -1,16 +1,6 @@
 -- A claim leaves the regions as they are where pieces that are out count as not begun, but that the task goes on.
-use Rattle.std.proofs.Common.{◌≡◌, ℕ, zero, suc, ◌<◌, List, [], ◌∷◌, length, refl, sym, ap, subst, ◌∙◌, arith}
-use Rattle.std.specs.Prelude.{Option, Some, None, All, IsPermutation}
-use Rattle.std.proofs.lemmas.List.Elements.{All-nil, All-cons}
-use Rattle.std.proofs.lemmas.List.Sorted.{IsPermutation-refl, IsPermutation-trans, IsPermutation-cons, IsPermutation-swap}
-use Rattle.ot_model.specs.Tree.{Set, Fold, If, Task, Wait, Group, Body, End, Next, append}
-use Rattle.ot_model.specs.Cells.{updated}
-use Rattle.ot_owner.specs.Leases.{Lease}
-use Rattle.ot_owner.specs.Owning.{Loan}
-use Rattle.ot_task.specs.Regions.{Region, Run}
-use Rattle.ot_job.specs.Numbered.{at}
-use Rattle.ot_task.specs.Pieces.{leading, behind, passed, awake, begun}
-use Rattle.ot_job.specs.Whole.{assigns_out, whole, wholes, loan_in, with_loan, loans_out}
+use Rattle.std.proofs.Common.{◌≡◌, ℕ, zero, suc, ◌<◌, List, [], ◌∷◌, length, refl, sym, ap, subst, ◌∙◌, arith, Option, Some, None, All, IsPermutation}
+use Rattle.ot_job.proofs.Common.{All-nil, All-cons, IsPermutation-refl, IsPermutation-trans, IsPermutation-cons, IsPermutation-swap, Set, Fold, If, Task, Wait, Group, Body, End, Next, append, updated, Lease, Loan, Region, Run, at, leading, behind, passed, awake, begun, assigns_out, whole, wholes, loan_in, with_loan, loans_out}
 
 pub whole-again : (b : Body) → append (leading b) (behind b) ≡ b
 whole-again End = refl

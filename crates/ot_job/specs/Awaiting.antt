@@ -4,8 +4,7 @@ use Rattle.std.specs.List.{list_any}
 use Rattle.ot_model.specs.Tree.{Body}
 use Rattle.ot_depend.specs.Siblings.{Sibling, is_unfinished, is_in}
 use Rattle.ot_check.specs.Offences.{Declared, Openings}
-use Rattle.ot_check.specs.walk.Walk.{Children, anyone, nothing_open, with_group, through, behind}
-use Rattle.ot_check.specs.walk.Fine.{IsFine}
+use Rattle.ot_check.specs.Discipline.{Children, anyone, nothing_open, with_group, through, behind, IsFine}
 use Rattle.ot_task.specs.Place.{Open}
 use Rattle.ot_task.specs.Regions.{Waiting}
 use Rattle.ot_task.specs.Waits.{is_awaited_at}

@@ -3,7 +3,7 @@ use Rattle.std.specs.Prelude.{◌≡◌, false, None}
 use Rattle.ot_model.specs.Tree.{End}
 use Rattle.ot_model.specs.Uses.{AreInOrder, mode_in}
 use Rattle.ot_model.specs.declared.expr.Cell.{Cell}
-use Rattle.ot_check.specs.walk.Fine.{AreAssigns}
+use Rattle.ot_check.specs.Discipline.{AreAssigns}
 use Rattle.ot_task.specs.Regions.{Region, Run}
 use Rattle.ot_task.specs.Pieces.{leading, test_of}
 use Rattle.ot_task.specs.Modes.{held}

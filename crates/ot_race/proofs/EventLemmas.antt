@@ -11,7 +11,7 @@ use Rattle.ot_model.specs.declared.stmt.Use.{Use}
 use Rattle.ot_check.specs.Paths.{use_as}
 use Rattle.ot_check.specs.Offences.{Declared}
 use Rattle.ot_race.specs.Events.{Event, event, Touches, reads_now, this_way, events, events_one}
-use Rattle.ot_check.proofs.SameLemmas.{eq_apart}
+use Rattle.ot_check.proofs.Cited.{eq_apart}
 use Rattle.ot_race.proofs.SerialLemmas.{after_one-this}
 
 app-assoc : {A : Type 0} (xs ys zs : List A) → (xs ++ ys) ++ zs ≡ xs ++ (ys ++ zs)

@@ -10,8 +10,7 @@ use Rattle.ot_model.specs.declared.stmt.Mode.TheVariants.{Reads, Writes, Folds}
 use Rattle.ot_model.specs.declared.stmt.Use.{Use}
 use Rattle.ot_check.specs.Paths.{use_as}
 use Rattle.ot_model.proofs.EqualLemmas.{fold-decides}
-use Rattle.ot_check.proofs.Bits.{not_false}
-use Rattle.ot_check.proofs.SameLemmas.{cells_equal}
+use Rattle.ot_check.proofs.Cited.{not_false, cells_equal}
 use Rattle.ot_race.specs.Events.{Event}
 use Rattle.ot_race.specs.Races.{IsUsed, IsRace}
 use Rattle.ot_sets.specs.Sets.{has}

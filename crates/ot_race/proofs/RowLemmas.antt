@@ -14,7 +14,7 @@ use Rattle.std.specs.declared.cmp.Ordering.{Ordering}
 use Rattle.std.specs.declared.cmp.Ordering.TheVariants.{Less, Equal, Greater}
 use Rattle.std.proofs.lemmas.Map.Lookups.{exact_unsigned}
 use Rattle.ot_model.proofs.CellsLemmas as cells
-use Rattle.ot_check.proofs.SameLemmas.{cells_equal}
+use Rattle.ot_check.proofs.Cited.{cells_equal}
 use Rattle.ot_race.specs.Ends.{end_of, goes_on, going_on}
 use Rattle.ot_race.specs.Siblings.{is_write, seen_in, seen, seen_by_all, IsLedTo, IsSeenBy, IsElsewhere, HaveEntered, HavePassed, key_of, key_cmp}
 use Rattle.ot_race.specs.declared.siblings.Row.{Row}

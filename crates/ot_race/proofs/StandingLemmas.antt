@@ -4,7 +4,7 @@ use Rattle.std.specs.Prelude.{◌⊎◌, ◌↔◌, Bool, ◌||◌, Option, Some
 use Rattle.std.proofs.lemmas.Bool.{cases_eq, cases_lt}
 use Rattle.ot_model.specs.declared.stmt.Use.{Use}
 use Rattle.ot_check.specs.Offences.{awaits}
-use Rattle.ot_check.proofs.Bits.{or_true, true_or, or_right}
+use Rattle.ot_check.proofs.Cited.{or_true, true_or, or_right}
 use Rattle.ot_race.specs.Events.{Deed, Touches, Begins, Awaits, Leaves, Event}
 use Rattle.ot_race.specs.Order.{IsBy, Does, Leads, InTurn, ByCreation, ByDependence, ByWait, ByEnd, IsBefore, Once}
 use Rattle.ot_sets.specs.Sets.{bit_in, has, words_of}

@@ -8,7 +8,7 @@ use Rattle.ot_model.specs.Value.{val, HasAll}
 use Rattle.ot_model.specs.declared.expr.Cell.{Cell}
 use Rattle.ot_model.specs.declared.stmt.Use.{Use}
 use Rattle.ot_model.specs.Cells.{same_cell}
-use Rattle.ot_check.proofs.ApartLemmas.{value-same, read-weaker}
+use Rattle.ot_check.proofs.Cited.{value-same, read-weaker}
 use Rattle.ot_owner.specs.Lending.{value_at, MayChange, uses_of, use_of}
 use Rattle.ot_owner.specs.Leases.{Lease, lease_of}
 use Rattle.ot_owner.specs.declared.lent.LentCell.{LentCell}

@@ -5,8 +5,8 @@ use Rattle.std.specs.List.{fold, range_with_len}
 use Rattle.std.proofs.lemmas.List.Elements.{All-nil, All-cons}
 use Rattle.ot_model.specs.Tree.{E, Literal, CellAt, Apply, PickFrom, Set, Fold, If, Task, Wait, Group, Body, End, Next}
 use Rattle.ot_model.specs.Names.{IsInShape, FitsShape, ValueNamedIn, NamedIn}
-use Rattle.ot_model.specs.Cells.{cell_of, lengths}
-use Rattle.ot_model.specs.Value.{cell_at}
+use Rattle.ot_model.specs.Cells.{cell_of, lengths, same_cell}
+use Rattle.ot_model.specs.Value.{cell_at, cells_named}
 use Rattle.ot_model.specs.declared.expr.Cell.{Cell}
 use Rattle.ot_model.specs.declared.expr.Section.{Section}
 use Rattle.ot_model.specs.declared.stmt.Mode.{Mode}
@@ -14,10 +14,8 @@ use Rattle.ot_model.specs.declared.stmt.Mode.TheVariants.{Reads}
 use Rattle.ot_model.specs.declared.stmt.Use.{Use}
 use Rattle.ot_model.proofs.NamesLemmas.{found_from_in}
 use Rattle.ot_check.specs.Paths.{use_as}
-use Rattle.ot_model.specs.Value.{cells_named}
 use Rattle.ot_check.specs.Offences.{Declared}
-use Rattle.ot_model.specs.Cells.{same_cell}
-use Rattle.ot_check.proofs.SameLemmas.{same_is}
+use Rattle.ot_check.proofs.Cited.{same_is}
 use Rattle.ot_task.proofs.CellLemmas.{same_self}
 use Rattle.ot_task.specs.Pieces.{leading, behind, test_of}
 use Rattle.ot_model.specs.Uses.{mode_in}

@@ -11,7 +11,7 @@ use Rattle.ot_model.specs.Serial.{State, bump, either}
 use Rattle.ot_model.specs.declared.stmt.Mode.TheVariants.{Reads, Writes}
 use Rattle.ot_check.specs.Paths.{use_as}
 use Rattle.ot_check.specs.Offences.{Declared}
-use Rattle.ot_check.proofs.SameLemmas.{eq_apart}
+use Rattle.ot_check.proofs.Cited.{eq_apart}
 use Rattle.ot_race.specs.Events.{event, Touches, Begins, Leaves, events, events_one, after, after_one}
 use Rattle.ot_ways.specs.Ways.{way_by, ways, ways_one}
 use Rattle.ot_ways.specs.Numbered.{events_on, events_on_one, tasks_on, tasks_on_one}

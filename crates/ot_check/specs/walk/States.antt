@@ -7,7 +7,7 @@ use Rattle.ot_model.specs.declared.expr.Cell.{Cell}
 use Rattle.ot_model.specs.declared.fold.Fold.{Fold as Operation}
 use Rattle.ot_model.specs.declared.stmt.Use.{Use}
 use Rattle.ot_check.specs.Offences.{Declared, Openings}
-use Rattle.ot_check.specs.walk.Walk.{Children}
+use Rattle.ot_check.specs.Discipline.{Children}
 use Rattle.ot_check.specs.walk.Grids.{found_at, widths}
 use Rattle.ot_check.specs.walk.Bits.{bit_in, has}
 use Rattle.ot_check.specs.declared.numbers.Numbers.{Numbers}

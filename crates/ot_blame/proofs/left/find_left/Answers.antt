@@ -1,5 +1,5 @@
 use Rattle.ot_model.specs.View.{stmt_of, stmts_of}
-use Rattle.ot_check.proofs.WalkLemmas.{if_ok}
+use Rattle.ot_check.proofs.Cited.{if_ok}
 use Rattle.ot_check.specs.declared.fault.Offence.TheVariants.{EndsWithChildren}
 use Rattle.ot_blame.proofs.FindLemmas.{nothing_there, left_no_task, left_none}
 use Rattle.ot_blame.proofs.left.find_left.Goals as goal

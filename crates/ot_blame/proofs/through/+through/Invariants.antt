@@ -1,6 +1,6 @@
 use Rattle.std.proofs.Common.{◌≡◌, drop}
 use Rattle.ot_model.specs.View.{stmts_of}
-use Rattle.ot_check.specs.walk.Walk.{through}
+use Rattle.ot_check.specs.Discipline.{through}
 use Rattle.ot_blame.proofs.through.+through.Given as goal
 
 abbrev pub invariant-through-loop-stmt : goal.invariant-through-loop-stmt

@@ -5,7 +5,7 @@ use Rattle.ot_model.specs.declared.stmt.Stmt.{the_lemmas}
 use Rattle.ot_model.specs.declared.stmt.Mode.TheVariants.{Writes, Folds}
 use Rattle.ot_check.specs.Paths.{Touch, use_as}
 use Rattle.ot_model.specs.Value.{cells_named}
-use Rattle.ot_check.specs.walk.Walk.{may_break, is_marked}
+use Rattle.ot_check.specs.Discipline.{may_break, is_marked}
 use Rattle.ot_check.specs.declared.fault.Offence.TheVariants.{ChildBeyond, ReductionMisuse}
 use Rattle.ot_check.proofs.OffenceLemmas.{reading, either_met, either_other, is_marked-Set, is_marked-Fold, is_marked-If, is_marked-ChildBeyond, is_marked-ReductionMisuse}
 use Rattle.ot_check.proofs.statement.is_offence.Goals as goal

@@ -1,6 +1,6 @@
 use Rattle.std.proofs.Common.{sym, ◌∙◌}
 use Rattle.ot_model.specs.View.{stmt_of}
-use Rattle.ot_check.specs.walk.Walk.{is_marked}
+use Rattle.ot_check.specs.Discipline.{is_marked}
 use Rattle.ot_check.proofs.OffenceLemmas.{marked-unending}
 use Rattle.ot_check.proofs.TellingLemmas.{leading-none}
 use Rattle.ot_check.proofs.statement.own_offence.Goals as goal

@@ -7,7 +7,7 @@ use Rattle.ot_model.specs.declared.expr.Expr.{Expr}
 use Rattle.ot_model.specs.declared.stmt.Mode.TheVariants.{Reads}
 use Rattle.ot_check.specs.Paths.{Touch, use_as}
 use Rattle.ot_check.specs.Offences.{Declared, Openings}
-use Rattle.ot_check.specs.walk.Walk.{Children, may_break}
+use Rattle.ot_check.specs.Discipline.{Children, may_break}
 use Rattle.ot_check.specs.declared.fault.Offence.{Offence}
 use Rattle.ot_check.proofs.StandingLemmas.{either-then, either-else}
 use Rattle.ot_check.proofs.touch.+value_breaks.Goals as goal

@@ -5,7 +5,7 @@ use Rattle.ot_model.specs.declared.stmt.Mode.TheVariants.{Reads}
 use Rattle.ot_model.specs.declared.stmt.Use.{Use}
 use Rattle.ot_check.specs.Paths.{Touch, use_as}
 use Rattle.ot_check.specs.Offences.{Declared, Openings}
-use Rattle.ot_check.specs.walk.Walk.{Children, may_break}
+use Rattle.ot_check.specs.Discipline.{Children, may_break}
 use Rattle.ot_check.specs.walk.States.{Represents}
 use Rattle.ot_check.proofs.touch.section_breaks.Given as goal
 

@@ -4,7 +4,8 @@ use Rattle.ot_model.specs.View.{expr_of, stmt_of, stmts_of}
 use Rattle.ot_model.specs.Tree.{Set, Fold, If}
 use Rattle.ot_model.specs.Counts.{size, size_one}
 use Rattle.ot_model.specs.Names.{NamedIn}
-use Rattle.ot_check.specs.walk.Walk.{anyone, behind, behind_one, ended, first, first_one, first_within, is_marked, leading, nobody, nothing_open, placed, through, through_one, with_group}
+use Rattle.ot_check.specs.Discipline.{anyone, behind, behind_one, is_marked, nobody, nothing_open, through, through_one, with_group}
+use Rattle.ot_check.specs.walk.Walk.{ended, first, first_one, first_within, leading, placed}
 use Rattle.ot_check.specs.walk.Bits.{bit_in, has}
 use Rattle.ot_check.specs.walk.States.{IsBehind, Leads, is_open, lens_of}
 use Rattle.ot_check.proofs.TellingLemmas.{first_one-parts, or-assoc, or-none}

@@ -6,7 +6,8 @@ use Rattle.ot_model.specs.Names.{NamedIn}
 use Rattle.ot_model.specs.declared.stmt.Use.{Use}
 use Rattle.ot_check.specs.Offences.{Declared, Openings}
 use Rattle.ot_check.specs.walk.Bits.{has}
-use Rattle.ot_check.specs.walk.Walk.{Children, behind, first, through}
+use Rattle.ot_check.specs.Discipline.{Children, behind, through}
+use Rattle.ot_check.specs.walk.Walk.{first}
 use Rattle.ot_check.specs.walk.States.{Represents, IsBehind, lens_of}
 use Rattle.ot_check.proofs.walk.+walk.Given as goal
 

@@ -1,6 +1,6 @@
 use Rattle.ot_model.specs.View.{stmts_of}
 use Rattle.ot_check.specs.Offences.{Offends}
-use Rattle.ot_check.proofs.WalkLemmas.{if_ok}
+use Rattle.ot_check.proofs.Cited.{if_ok}
 use Rattle.ot_cjudge.proofs.ReportLemmas.{first_none, first_told}
 use Rattle.ot_cjudge.proofs.judging.first_offence.Goals as goal
 

@@ -4,7 +4,7 @@ use Rattle.ot_model.specs.Programs.{Expanded, IsNamedIn}
 use Rattle.ot_model.specs.Shapes.{array_lengths}
 use Rattle.ot_model.specs.View.{stmts_of}
 use Rattle.ot_check.specs.Offences.{Offends, IsFirstOf}
-use Rattle.ot_check.proofs.WalkLemmas.{if_ok}
+use Rattle.ot_check.proofs.Cited.{if_ok}
 use Rattle.ot_cjudge.proofs.FoundLemmas.{body-fits}
 use Rattle.ot_cjudge.proofs.judging.report_offence.Goals as goal
 

@@ -3,7 +3,7 @@ use Rattle.std.specs.Prelude.{IfOk}
 use Rattle.ot_model.specs.Programs.{IsNamedIn, expanded_of}
 use Rattle.ot_model.specs.Shapes.{array_lengths}
 use Rattle.ot_program.specs.Returned.{Gives}
-use Rattle.ot_check.proofs.WalkLemmas.{if_ok}
+use Rattle.ot_check.proofs.Cited.{if_ok}
 use Rattle.ot_cjudge.specs.Reports.{ReportsRead}
 use Rattle.ot_cjudge.specs.SiteView.{source_by}
 use Rattle.ot_cjudge.proofs.judging.report_read.Goals as goal

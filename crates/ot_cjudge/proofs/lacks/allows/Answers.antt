@@ -1,5 +1,5 @@
 use Rattle.std.proofs.Common.{Some, None, option_map, ap, ◌∙◌}
-use Rattle.ot_check.proofs.DeclaredLemmas.{allows-told}
+use Rattle.ot_check.proofs.Cited.{allows-told}
 use Rattle.ot_cjudge.proofs.lacks.allows.Goals as goal
 
 pub returns-in-None-mode : goal.returns-in-None-mode

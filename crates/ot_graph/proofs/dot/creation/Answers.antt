@@ -1,6 +1,6 @@
 use Rattle.std.proofs.Common.{◌++◌, sym, ap, ◌∙◌}
 use Rattle.std.specs.Prelude.{codes}
-use Rattle.ot_check.proofs.WalkLemmas.{on_ok}
+use Rattle.ot_check.proofs.Cited.{on_ok}
 use Rattle.ot_graph.specs.Dot.{creation, numbered}
 use Rattle.ot_graph.specs.Graphs.{passed_of}
 use Rattle.ot_graph.proofs.DotLemmas.{in_three}

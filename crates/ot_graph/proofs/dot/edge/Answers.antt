@@ -1,6 +1,6 @@
 use Rattle.std.proofs.Common.{take, ◌++◌, sym, ap, ◌∙◌}
 use Rattle.std.specs.Prelude.{codes}
-use Rattle.ot_check.proofs.WalkLemmas.{on_ok}
+use Rattle.ot_check.proofs.Cited.{on_ok}
 use Rattle.ot_print.specs.Shown.{sections}
 use Rattle.ot_print.specs.Sections.{sections_of}
 use Rattle.ot_graph.specs.Children.{decls_of}

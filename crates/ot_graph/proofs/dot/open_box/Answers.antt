@@ -1,6 +1,6 @@
 use Rattle.std.proofs.Common.{◌++◌, ap, ◌∙◌}
 use Rattle.std.specs.Prelude.{codes}
-use Rattle.ot_check.proofs.WalkLemmas.{on_ok}
+use Rattle.ot_check.proofs.Cited.{on_ok}
 use Rattle.ot_print.specs.Shown.{group}
 use Rattle.ot_graph.specs.Dot.{numbered}
 use Rattle.ot_graph.proofs.DotLemmas.{in_four}

@@ -1,4 +1,4 @@
-use Rattle.ot_check.proofs.WalkLemmas.{if_ok}
+use Rattle.ot_check.proofs.Cited.{if_ok}
 use Rattle.ot_graph.specs.Drawn.{Draws, DrawsLast}
 use Rattle.ot_graph.proofs.drawing.draw.Goals as goal
 

@@ -1,8 +1,6 @@
 use Rattle.std.proofs.Common.{◌<◌, ◌∙◌, List, length, get_or, ap, sym, subst, arith}
-use Rattle.ot_task.specs.Regions.{Region, executed}
-use Rattle.ot_job.specs.Numbered.{at}
-use Rattle.ot_job.specs.Settling.{CreatesInOrder}
-use Rattle.ot_job.proofs.PickLemmas.{at-here}
+use Rattle.ot_job.proofs.Common.{Region, executed, at, CreatesInOrder}
+use Rattle.ot_job.proofs.ClaimableLemmas.{at-here}
 use Rattle.ot_job.proofs.StepLemmas.{executed-alone, executed-beside}
 use Rattle.ot_job.proofs.arena.execute.Goals.{After-step}
 use Rattle.ot_job.proofs.arena.execute.Goals as goal

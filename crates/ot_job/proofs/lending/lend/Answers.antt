@@ -1,10 +1,5 @@
-use Rattle.std.proofs.Common.{◌≡◌, ℕ, sym, subst, List}
-use Rattle.std.specs.Prelude.{All, Option}
-use Rattle.ot_model.specs.declared.fold.Fold.{Fold as Operation}
-use Rattle.ot_model.specs.declared.stmt.Mode.TheVariants.{Folds}
-use Rattle.ot_owner.specs.Owning.{Loan, IsFreeFor}
-use Rattle.ot_owner.specs.Rows.{Summed, IsSummedBy}
-use Rattle.ot_job.specs.Opening.{left_open}
+use Rattle.std.proofs.Common.{◌≡◌, ℕ, sym, subst, List, All, Option}
+use Rattle.ot_job.proofs.Common.{Operation, Folds, Loan, IsFreeFor, Summed, IsSummedBy, left_open}
 use Rattle.ot_job.proofs.lending.lend.Goals as goal
 
 pub lease-requires-2-clause-last : goal.lease-requires-2-clause-last

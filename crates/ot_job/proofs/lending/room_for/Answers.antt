@@ -1,8 +1,5 @@
-use Rattle.std.proofs.Common.{refl, sym, subst, List, Bor}
-use Rattle.std.specs.Prelude.{Option, Some, option_map}
-use Rattle.ot_model.specs.declared.expr.Cell.{Cell}
-use Rattle.ot_model.specs.declared.fold.Fold.{Fold as Operation}
-use Rattle.ot_job.specs.Opened.{IsRoomFor}
+use Rattle.std.proofs.Common.{refl, sym, subst, List, Bor, Option, Some, option_map}
+use Rattle.ot_job.proofs.Common.{Cell, Operation, IsRoomFor}
 use Rattle.ot_job.proofs.lending.room_for.Goals as goal
 
 pub returns-in_ok-room-in-Some-clause-names : goal.returns-in_ok-room-in-Some-clause-names

@@ -1,12 +1,6 @@
-use Rattle.std.proofs.Common.{◌≢◌, sym, subst, List}
-use Rattle.std.specs.Prelude.{All, Option, IfSome}
-use Rattle.ot_model.specs.declared.fold.Fold.{Fold as Operation}
-use Rattle.ot_model.specs.declared.stmt.Use.{Use}
-use Rattle.ot_owner.specs.Back.{all_back}
-use Rattle.ot_owner.specs.Owning.{loan_of}
-use Rattle.ot_owner.specs.Rows.{Summed, IsSummed}
+use Rattle.std.proofs.Common.{◌≢◌, sym, subst, List, All, Option, IfSome}
+use Rattle.ot_job.proofs.Common.{Operation, Use, all_back, loan_of, Summed, IsSummed, MayOpen}
 use Rattle.ot_owner.proofs.ShareLemmas.{bares-back, new-alike, summed-alike}
-use Rattle.ot_job.specs.Opening.{MayOpen}
 use Rattle.ot_job.proofs.lending.take_back.Goals.{In-Some}
 use Rattle.ot_job.proofs.lending.take_back.Goals as goal
 

@@ -1,5 +1,5 @@
 use Rattle.std.proofs.Common.{w64}
-use Rattle.std.proofs.lemmas.Nat.Bits.{bit_at_clear_same, bit_at_clear_other}
+use Rattle.ot_job.proofs.Common.{bit_at_clear_same, bit_at_clear_other}
 use Rattle.ot_job.proofs.listed.without_bit.Goals as goal
 
 pub returns : goal.returns

@@ -1,11 +1,6 @@
 use Rattle.std.proofs.Common.{◌≢◌, ◌≡◌, ◌<◌, ◌∙◌, ℕ, List, sym, subst, inl, inr, arith, length}
-use Rattle.std.proofs.lemmas.Bool.{cases_eq}
-use Rattle.ot_depend.specs.Kept.{has}
-use Rattle.ot_task.specs.Regions.{Region}
-use Rattle.ot_job.specs.Calls.{IsListFor, IsRefreshed}
-use Rattle.ot_job.specs.Listed.{Numbers}
-use Rattle.ot_job.specs.Listing.{IsListBelow, TellsOf}
-use Rattle.ot_job.proofs.ListingLemmas.{below-but}
+use Rattle.ot_job.proofs.Common.{cases_eq, has, Region, IsListFor, IsRefreshed, Numbers, IsListBelow, TellsOf}
+use Rattle.ot_job.proofs.ListedLemmas.{below-but}
 use Rattle.ot_job.proofs.listing.refresh.Goals as goal
 
 -- one number is listed or is listed no more

@@ -1,8 +1,6 @@
 use Rattle.std.proofs.Common.{◌≡◌, ◌∙◌, ◌||◌, ◌==◌, sym, subst, Bool, true, false, true≢false, get_or, take, ℕ, inl, inr, arith}
-use Rattle.std.proofs.lemmas.Bool.{cases_Bool, eqb-true}
+use Rattle.ot_job.proofs.Common.{cases_Bool, eqb-true, has, TellsOf}
 use Rattle.std.proofs.lemmas.List.Folds.{list_any_more}
-use Rattle.ot_depend.specs.Kept.{has}
-use Rattle.ot_job.specs.Listing.{TellsOf}
 use Rattle.ot_job.proofs.listing.refresh_children.Goals as goal
 
 -- what is among the first of a list and one more

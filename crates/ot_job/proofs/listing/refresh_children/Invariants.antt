@@ -1,5 +1,5 @@
 use Rattle.std.proofs.Common.{take}
-use Rattle.ot_job.specs.Calls.{AreRefreshed}
+use Rattle.ot_job.proofs.Common.{AreRefreshed}
 use Rattle.ot_job.proofs.listing.refresh_children.Given as goal
 
 abbrev pub invariant-loop-child : goal.invariant-loop-child

@@ -1,8 +1,6 @@
 use Rattle.std.proofs.Common.{rules, ◌∙◌, Bool}
-use Rattle.ot_task.specs.Waits.{is_let_go}
-use Rattle.ot_depend.specs.Siblings.{is_ready}
-use Rattle.ot_job.specs.Numbered.{at}
-use Rattle.ot_job.proofs.PickLemmas.{at-here, all-three, zero-or, other-or}
+use Rattle.ot_job.proofs.Common.{is_let_go, is_ready, at}
+use Rattle.ot_job.proofs.ClaimableLemmas.{at-here, all-three, zero-or, other-or}
 use Rattle.ot_job.proofs.pick.is_claimable.Goals.{then-is_idle+then-i-eq0, then-is_idle+else-i-eq0, else-is_idle}
 use Rattle.ot_job.proofs.pick.is_claimable.Goals as goal
 

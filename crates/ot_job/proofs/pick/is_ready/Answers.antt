@@ -1,7 +1,6 @@
 use Rattle.std.proofs.Common.{◌∙◌, ap, sym, arith}
-use Rattle.ot_depend.specs.Siblings.{is_ready}
-use Rattle.ot_task.specs.Regions.{Region}
-use Rattle.ot_job.proofs.PickLemmas.{at-here}
+use Rattle.ot_job.proofs.Common.{is_ready, Region}
+use Rattle.ot_job.proofs.ClaimableLemmas.{at-here}
 use Rattle.ot_job.proofs.pick.is_ready.Goals as goal
 use Rattle.ot_job.proofs.SoundLemmas.{at-past}
 

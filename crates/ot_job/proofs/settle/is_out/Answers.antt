@@ -1,9 +1,7 @@
-use Rattle.std.proofs.Common.{◌≡◌, ◌∙◌, ap, sym, arith, IsTrue, subst}
-use Rattle.std.specs.Prelude.{◌↔◌}
-use Rattle.ot_task.specs.Regions.{Region}
+use Rattle.std.proofs.Common.{◌≡◌, ◌∙◌, ap, sym, arith, IsTrue, subst, ◌↔◌}
+use Rattle.ot_job.proofs.Common.{Region, at}
 use Rattle.ot_task.specs.Pieces.{Runs}
-use Rattle.ot_job.specs.Numbered.{at}
-use Rattle.ot_job.proofs.PickLemmas.{at-here}
+use Rattle.ot_job.proofs.ClaimableLemmas.{at-here}
 use Rattle.ot_job.proofs.settle.is_out.Goals as goal
 use Rattle.ot_job.proofs.SoundLemmas.{at-past}
 

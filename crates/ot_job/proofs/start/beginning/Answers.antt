@@ -1,5 +1,5 @@
 use Rattle.std.proofs.Common.{◌∙◌}
-use Rattle.std.proofs.lemmas.Result.{IfOk-from_err}
+use Rattle.ot_job.proofs.Common.{IfOk-from_err}
 use Rattle.ot_job.proofs.start.beginning.Goals as goal
 
 pub returns-in_err-cells : goal.returns-in_err-cells

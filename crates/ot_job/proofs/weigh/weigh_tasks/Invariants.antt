@@ -1,5 +1,5 @@
 use Rattle.std.proofs.Common.{◌≡◌, ◌+◌, drop}
-use Rattle.ot_task.specs.Weighing.{weight_of}
+use Rattle.ot_job.proofs.Common.{weight_of}
 use Rattle.ot_job.proofs.weigh.weigh_tasks.Given as goal
 
 -- what is weighed and what is not yet weigh what all do

@@ -5,7 +5,7 @@ use Rattle.ot_model.specs.Counts.{size, size_one, tasks_in, tasks_in_one}
 use Rattle.ot_model.specs.Names.{NamedIn}
 use Rattle.ot_model.specs.Runs.{state_of}
 use Rattle.ot_model.specs.Serial.{serial}
-use Rattle.ot_check.proofs.WalkLemmas.{rest_is}
+use Rattle.ot_check.proofs.Cited.{rest_is}
 use Rattle.ot_race.specs.View.{events_in}
 use Rattle.ot_race.proofs.EventLemmas.{events_loop}
 use Rattle.ot_model.specs.declared.stmt.Stmt.{the_lemmas}

@@ -1,5 +1,5 @@
 use Rattle.std.proofs.Common.{◌∙◌, subst}
-use Rattle.ot_check.proofs.WalkLemmas.{if_ok}
+use Rattle.ot_check.proofs.Cited.{if_ok}
 use Rattle.ot_file.specs.Comments.{blanked}
 use Rattle.ot_judge.specs.Judging.{refusals_in, finds}
 use Rattle.ot_judge.specs.Going.{Goes}

@@ -11,7 +11,7 @@ use Rattle.ot_model.specs.View.{expr_of, stmt_of, stmts_of}
 use Rattle.ot_model.specs.Counts.{size, size_one, tasks_in, tasks_in_one}
 use Rattle.ot_model.specs.Names.{NamedIn, OneNamedIn}
 use Rattle.ot_model.specs.declared.stmt.Stmt.{the_lemmas}
-use Rattle.ot_check.proofs.WalkLemmas.{rest_is}
+use Rattle.ot_check.proofs.Cited.{rest_is}
 use Rattle.ot_parts.proofs.MakeLemmas.{condition-fits}
 use Rattle.ot_race.specs.View.{event_of, events_in}
 use Rattle.ot_ways.specs.Ways.{ways, ways_one, turn}

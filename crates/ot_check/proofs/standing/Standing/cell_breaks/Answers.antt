@@ -2,7 +2,7 @@ use Rattle.std.proofs.Common.{[], ◌∷◌, ap, sym, ◌∙◌}
 use Rattle.ot_model.specs.declared.stmt.Mode.TheVariants.{Writes}
 use Rattle.ot_check.specs.Paths.{Enter, use_as}
 use Rattle.ot_check.specs.Offences.{clashes}
-use Rattle.ot_check.specs.walk.Walk.{may_break}
+use Rattle.ot_check.specs.Discipline.{may_break}
 use Rattle.ot_check.proofs.Bits.{or_none}
 use Rattle.ot_check.proofs.RegionLemmas.{stands-clash}
 use Rattle.ot_check.proofs.standing.Standing.cell_breaks.Goals as goal

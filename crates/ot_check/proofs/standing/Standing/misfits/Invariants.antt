@@ -2,7 +2,7 @@ use Rattle.std.proofs.Common.{List, ◌≡◌, false, take}
 use Rattle.std.specs.List.{list_any}
 use Rattle.ot_model.specs.declared.stmt.Use.{Use}
 use Rattle.ot_check.specs.Offences.{Declared, Openings, misfits}
-use Rattle.ot_check.specs.walk.Walk.{Children}
+use Rattle.ot_check.specs.Discipline.{Children}
 use Rattle.ot_check.specs.walk.States.{Represents}
 use Rattle.ot_check.proofs.standing.Standing.misfits.Given as goal
 

@@ -1,5 +1,5 @@
 use Rattle.std.proofs.Common.{ap, true≢false}
-use Rattle.ot_job.specs.States.{aborted}
+use Rattle.ot_job.proofs.Common.{aborted}
 use Rattle.ot_job.proofs.job.Job.abort.Goals as goal
 
 pub invariant_of-self : goal.invariant_of-self

@@ -1,21 +1,6 @@
-use Rattle.std.proofs.Common.{rules, ◌≡◌, ◌<◌, ◌∙◌, refl, ap, sym, subst, arith, length, List}
-use Rattle.std.proofs.lemmas.Result.{IfOk-from_err}
-use Rattle.std.specs.Prelude.{option_map}
-use Rattle.ot_model.specs.Cells.{lengths, updated}
-use Rattle.ot_model.specs.View.{expr_of}
-use Rattle.ot_model.proofs.CountsLemmas.{tasks_in-≤-size}
-use Rattle.ot_owner.specs.Leases.{lease_of}
-use Rattle.ot_owner.specs.Owning.{Owned}
-use Rattle.ot_task.specs.Pieces.{leading, awake, begun}
-use Rattle.ot_task.specs.Regions.{Region, Run}
-use Rattle.ot_job.specs.Claims.{Claims}
+use Rattle.std.proofs.Common.{rules, ◌≡◌, ◌<◌, ◌∙◌, refl, ap, sym, subst, arith, length, List, option_map}
+use Rattle.ot_job.proofs.Common.{IfOk-from_err, lengths, updated, expr_of, tasks_in-≤-size, lease_of, Owned, leading, awake, begun, Region, Run, Claims, live_of, Live, claimable_in, Taken, IsWell, Working}
 use Rattle.ot_job.specs.Dealings.{state_of}
-use Rattle.ot_job.specs.JobView.{live_of}
-use Rattle.ot_job.specs.Live.{Live}
-use Rattle.ot_job.specs.States.{claimable_in}
-use Rattle.ot_job.specs.Taken.{Taken}
-use Rattle.ot_job.specs.Well.{IsWell}
-use Rattle.ot_job.specs.declared.state.State.TheVariants.{Working}
 use Rattle.ot_job.proofs.ClaimedLemmas.{AreLent, picked-is, picked-named, may-lend, lends}
 use Rattle.ot_job.proofs.CourseLemmas.{counts-few}
 use Rattle.ot_job.proofs.DealingsLemmas.{picked-some, picked-working}

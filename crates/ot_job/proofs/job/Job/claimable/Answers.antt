@@ -1,14 +1,8 @@
-use Rattle.std.proofs.Common.{◌∙◌, ap, sym, subst, arith, length, Bool, []}
-use Rattle.std.specs.Prelude.{if◌then◌else◌}
-use Rattle.ot_job.specs.Live.{Live}
-use Rattle.ot_job.specs.Claiming.{claimable_of}
-use Rattle.ot_job.specs.States.{claimable_in}
-use Rattle.ot_job.specs.Well.{IsWell}
-use Rattle.ot_job.proofs.FreeTaskLemmas.{state-working, has-claimable}
-use Rattle.ot_model.proofs.CountsLemmas.{tasks_in-≤-size}
+use Rattle.std.proofs.Common.{◌∙◌, ap, sym, subst, arith, length, Bool, [], if◌then◌else◌}
+use Rattle.ot_job.proofs.Common.{Live, claimable_of, claimable_in, IsWell, tasks_in-≤-size, live_of}
+use Rattle.ot_job.proofs.StuckLemmas.{state-working, has-claimable}
 use Rattle.ot_job.proofs.CourseLemmas.{counts-few}
 use Rattle.ot_job.proofs.DealingsLemmas.{out-none, claimable-few}
-use Rattle.ot_job.specs.JobView.{live_of}
 use Rattle.ot_job.proofs.job.Job.claimable.Goals as goal
 
 pub returns-then-self-clause-count : goal.returns-then-self-clause-count

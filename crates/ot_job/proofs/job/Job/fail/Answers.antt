@@ -1,15 +1,6 @@
-use Rattle.std.proofs.Common.{◌∷◌, refl, ap, sym, subst, arith, List, true, inl, inr}
-use Rattle.std.specs.Prelude.{IsPermutation, option_map}
-use Rattle.ot_owner.specs.Owning.{loan_of}
-use Rattle.ot_task.specs.Regions.{Region}
-use Rattle.ot_task.specs.Weighing.{weight_of}
-use Rattle.ot_job.specs.Calls.{HasPiece}
-use Rattle.ot_job.specs.JobView.{live_of}
-use Rattle.ot_job.specs.Live.{Live}
-use Rattle.ot_job.specs.Numbered.{at}
+use Rattle.std.proofs.Common.{◌∷◌, refl, ap, sym, subst, arith, List, true, inl, inr, IsPermutation, option_map}
+use Rattle.ot_job.proofs.Common.{loan_of, Region, weight_of, HasPiece, live_of, Live, at, Came, IsOut, IsWell}
 use Rattle.ot_job.specs.States.{Fails}
-use Rattle.ot_job.specs.Taken.{Came, IsOut}
-use Rattle.ot_job.specs.Well.{IsWell}
 use Rattle.ot_job.proofs.DealingsLemmas.{stands-by}
 use Rattle.ot_job.proofs.InsideLemmas.{found-as, not-found-out}
 use Rattle.ot_job.proofs.SettleLemmas.{has-piece, has-run, out-here, worker-is}

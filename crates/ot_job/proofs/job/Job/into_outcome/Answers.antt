@@ -1,13 +1,6 @@
-use Rattle.std.proofs.Common.{◌≡◌, ◌∙◌, ap, sym, subst}
-use Rattle.ot_model.specs.Programs.{expanded_of}
-use Rattle.ot_job.specs.Live.{Live}
-use Rattle.ot_job.specs.States.{state_in}
-use Rattle.ot_job.specs.declared.state.State.TheVariants.{Ended}
+use Rattle.std.proofs.Common.{◌≡◌, ◌∙◌, ap, sym, subst, List, ℕ}
+use Rattle.ot_job.proofs.Common.{expanded_of, Live, state_in, Ended, Expanded, serial_run, live_of}
 use Rattle.ot_job.proofs.StartLemmas.{state-ended, ended-meaning}
-use Rattle.std.specs.Prelude.{List, ℕ}
-use Rattle.ot_model.specs.Programs.{Expanded}
-use Rattle.ot_model.specs.Serial.{serial_run}
-use Rattle.ot_job.specs.JobView.{live_of}
 use Rattle.ot_job.proofs.job.Job.into_outcome.Goals as goal
 
 pub returns : goal.returns

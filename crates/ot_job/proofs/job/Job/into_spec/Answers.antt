@@ -1,5 +1,5 @@
 use Rattle.std.proofs.Common.{refl, subst}
-use Rattle.ot_job.specs.Live.{Live}
+use Rattle.ot_job.proofs.Common.{Live}
 use Rattle.ot_job.specs.Dealings.{IsOf}
 use Rattle.ot_job.proofs.job.Job.into_spec.Goals as goal
 

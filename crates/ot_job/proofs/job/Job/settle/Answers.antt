@@ -1,15 +1,5 @@
 use Rattle.std.proofs.Common.{◌≡◌, ℕ, ◌+◌, ◌∙◌, ap, ap₂, sym, subst, arith, List, Bool, true}
-use Rattle.ot_owner.specs.Owning.{Owned}
-use Rattle.ot_task.specs.Regions.{Region}
-use Rattle.ot_job.specs.Calls.{IsBack}
-use Rattle.ot_job.specs.JobView.{live_of}
-use Rattle.ot_job.specs.Live.{Live}
-use Rattle.ot_job.specs.Settling.{Settles, settled}
-use Rattle.ot_job.specs.States.{state_in}
-use Rattle.ot_job.specs.Taken.{Came, IsOut}
-use Rattle.ot_job.specs.Well.{IsWell}
-use Rattle.ot_job.specs.declared.job.Job.TheInside.{Inside}
-use Rattle.ot_job.specs.declared.state.State.TheVariants.{Working}
+use Rattle.ot_job.proofs.Common.{Owned, Region, IsBack, live_of, Live, Settles, settled, state_in, Came, IsOut, IsWell, Inside, Working}
 use Rattle.ot_job.proofs.DealingsLemmas.{works}
 use Rattle.ot_job.proofs.InsideLemmas.{IsSettled, after, found-out, found-as, not-found-out, may-end, may-take-back, fits, units-more, tasks-more, is-settled}
 use Rattle.ot_job.proofs.SettleLemmas.{has-piece, has-run, out-here, ok-holds, err-holds}

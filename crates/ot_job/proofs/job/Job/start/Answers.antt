@@ -1,10 +1,5 @@
 use Rattle.std.proofs.Common.{rules, ap, refl, ◌≡◌, ◌∷◌, [], sym, subst, ℕ, List, false}
-use Rattle.ot_model.specs.Cells.{lengths}
-use Rattle.ot_model.specs.Names.{NamedIn}
-use Rattle.ot_model.specs.Programs.{expanded_of}
-use Rattle.ot_owner.specs.Owning.{Owned}
-use Rattle.ot_job.specs.Live.{Live}
-use Rattle.ot_task.specs.Regions.{root_region}
+use Rattle.ot_job.proofs.Common.{lengths, NamedIn, expanded_of, Owned, Live, root_region}
 use Rattle.ot_job.proofs.StartLemmas.{starts-well}
 use Rattle.ot_job.proofs.job.Job.start.Goals as goal
 

@@ -1,7 +1,5 @@
 use Rattle.std.proofs.Common.{sym, ap, ◌∙◌, ◌≡◌, subst, true, false, true≢false}
-use Rattle.ot_job.specs.Live.{Live}
-use Rattle.ot_job.specs.States.{all_ended, any_out}
-use Rattle.ot_job.specs.Well.{IsWell}
+use Rattle.ot_job.proofs.Common.{Live, all_ended, any_out, IsWell}
 use Rattle.ot_job.proofs.DealingsLemmas.{none-out, out-none}
 use Rattle.ot_job.proofs.StartLemmas.{ended-none-out, state-is-failing, state-is-failed, state-is-ended, state-is-working}
 use Rattle.ot_job.proofs.job.Job.state.Goals as goal

@@ -1,7 +1,5 @@
 use Rattle.std.proofs.Common.{◌∙◌, ap, arith}
-use Rattle.ot_model.specs.Counts.{size}
-use Rattle.ot_job.specs.Live.{Live}
-use Rattle.ot_task.specs.Weighing.{weight_of}
+use Rattle.ot_job.proofs.Common.{size, Live, weight_of}
 use Rattle.ot_job.proofs.job.Job.weight.Goals as goal
 
 pub returns-clause-is : goal.returns-clause-is

@@ -1,8 +1,6 @@
-use Rattle.std.proofs.Common.{◌≡◌, ◌∙◌, ◌+◌, ◌*◌, Some, List, ℕ, length, ap, sym, arith}
-use Rattle.std.specs.Prelude.{slice_get}
-use Rattle.ot_job.specs.Listed.{Numbers, has_number, numbers_in}
-use Rattle.ot_job.proofs.ListingLemmas.{those}
-use Rattle.ot_job.proofs.ListedLemmas.{words-more, found-at, none-at}
+use Rattle.std.proofs.Common.{◌≡◌, ◌∙◌, ◌+◌, ◌*◌, Some, List, ℕ, length, ap, sym, arith, slice_get}
+use Rattle.ot_job.proofs.Common.{Numbers, has_number, numbers_in}
+use Rattle.ot_job.proofs.ListedLemmas.{those, words-more, found-at, none-at}
 use Rattle.ot_job.proofs.listed.Listed.at.Goals as goal
 
 pub bit-requires : goal.bit-requires

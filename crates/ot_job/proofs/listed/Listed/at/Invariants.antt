@@ -1,6 +1,6 @@
 use Rattle.std.proofs.Common.{◌≡◌, ◌+◌, ◌*◌, length}
-use Rattle.ot_job.specs.Listed.{has_number}
-use Rattle.ot_job.proofs.ListingLemmas.{those}
+use Rattle.ot_job.proofs.Common.{has_number}
+use Rattle.ot_job.proofs.ListedLemmas.{those}
 use Rattle.ot_job.proofs.listed.Listed.at.Given as goal
 
 -- how many stand before the word

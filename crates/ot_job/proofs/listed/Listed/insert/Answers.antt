@@ -1,8 +1,5 @@
 use Rattle.std.proofs.Common.{◌≡◌, ◌+◌, ◌/◌, ◌==◌, ◌∙◌, true, false, length, refl, ap, sym, subst, arith, set}
-use Rattle.std.proofs.lemmas.List.{length-set}
-use Rattle.ot_depend.specs.Kept.{has}
-use Rattle.ot_job.specs.Listed.{Numbers, numbers_in}
-use Rattle.ot_job.specs.Listing.{IsListBelow}
+use Rattle.ot_job.proofs.Common.{length-set, has, Numbers, numbers_in, IsListBelow}
 use Rattle.ot_job.proofs.ListedLemmas.{had, has-now, others-have, one-more, numbers-ordered, numbers-few}
 use Rattle.ot_job.proofs.listed.Listed.insert.Goals.{After-with_bit}
 use Rattle.ot_job.proofs.listed.Listed.insert.Goals as goal

@@ -1,6 +1,5 @@
 use Rattle.std.proofs.Common.{◌≡◌, ◌∙◌, ◌++◌, ◌∷◌, [], length, ap, sym, arith}
-use Rattle.std.proofs.lemmas.List.{length-append}
-use Rattle.ot_job.specs.Listed.{Numbers, numbers_in}
+use Rattle.ot_job.proofs.Common.{length-append, Numbers, numbers_in}
 use Rattle.ot_job.proofs.ListedLemmas.{numbers-longer}
 use Rattle.ot_job.proofs.listed.Listed.make_room_for.Goals as goal
 

@@ -1,6 +1,5 @@
 use Rattle.std.proofs.Common.{◌∙◌, ap}
-use Rattle.ot_task.specs.Pieces.{leading_len}
-use Rattle.ot_job.specs.Taken.{Came}
+use Rattle.ot_job.proofs.Common.{leading_len, Came}
 use Rattle.ot_job.proofs.piece.Done.assigns.Goals as goal
 
 pub returns : goal.returns

@@ -1,10 +1,5 @@
-use Rattle.std.proofs.Common.{◌≡◌, List, ap, subst}
-use Rattle.std.specs.Prelude.{All}
-use Rattle.ot_model.specs.declared.stmt.Mode.TheVariants.{Writes}
-use Rattle.ot_owner.specs.Rows.{IsSummed}
-use Rattle.ot_owner.specs.Worth.{AreJoined, worth}
-use Rattle.ot_owner.specs.declared.lent.LentCell.{LentCell}
-use Rattle.ot_job.specs.Taken.{Came}
+use Rattle.std.proofs.Common.{◌≡◌, List, ap, subst, All}
+use Rattle.ot_job.proofs.Common.{Writes, IsSummed, AreJoined, worth, LentCell, Came}
 use Rattle.ot_job.proofs.piece.Done.give_back.Goals as goal
 
 pub returns-clause-worth : goal.returns-clause-worth

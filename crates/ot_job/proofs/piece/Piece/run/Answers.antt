@@ -1,9 +1,5 @@
 use Rattle.std.proofs.Common.{◌∙◌, ap, refl, option_map}
-use Rattle.ot_model.specs.View.{expr_of}
-use Rattle.ot_model.specs.Value.{val}
-use Rattle.ot_owner.specs.Lending.{value_at}
-use Rattle.ot_model.specs.Tree.{Body}
-use Rattle.ot_task.specs.Copies.{assigned}
+use Rattle.ot_job.proofs.Common.{expr_of, val, value_at, Body, assigned}
 use Rattle.ot_job.proofs.RunLemmas.{readable-still, through, made-of}
 use Rattle.ot_job.proofs.piece.Piece.run.Goals as goal
 

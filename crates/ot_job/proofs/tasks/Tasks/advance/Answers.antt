@@ -1,11 +1,6 @@
-use Rattle.std.proofs.Common.{◌≡◌, ◌∙◌, List, length, ap, sym, subst, arith}
-use Rattle.std.specs.Prelude.{is_some}
-use Rattle.std.proofs.lemmas.Result.{IfOk-weaker, on_err_weaker}
-use Rattle.ot_task.specs.Regions.{Region, executed, stepped, tasks_next}
-use Rattle.ot_job.specs.Calls.{HasPiece}
-use Rattle.ot_job.specs.Listing.{numbers_of, AreKept}
-use Rattle.ot_job.specs.Numbered.{at}
-use Rattle.ot_job.specs.Settling.{CreatesInOrder}
+use Rattle.std.proofs.Common.{◌≡◌, ◌∙◌, List, length, ap, sym, subst, arith, is_some}
+use Rattle.ot_job.proofs.Common.{IfOk-weaker, Region, executed, stepped, tasks_next, HasPiece, numbers_of, AreKept, at, CreatesInOrder}
+use Rattle.std.proofs.lemmas.Result.{on_err_weaker}
 use Rattle.ot_job.proofs.CountingLemmas.{counted-stepped}
 use Rattle.ot_job.proofs.KeepingLemmas.{kept-still}
 use Rattle.ot_job.proofs.StepLemmas.{stepped-parent, stepped-child, stepped-children, stepped-running, executed-none}

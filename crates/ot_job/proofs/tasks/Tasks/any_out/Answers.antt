@@ -1,7 +1,5 @@
-use Rattle.std.proofs.Common.{◌∙◌, ap, not, List}
-use Rattle.std.specs.Prelude.{◌==◌}
-use Rattle.ot_task.specs.Regions.{Region}
-use Rattle.ot_job.specs.States.{any_out}
+use Rattle.std.proofs.Common.{◌∙◌, ap, not, List, ◌==◌}
+use Rattle.ot_job.proofs.Common.{Region, any_out}
 use Rattle.ot_job.proofs.CountingLemmas.{out-any}
 use Rattle.ot_job.proofs.tasks.Tasks.any_out.Goals as goal
 

@@ -1,12 +1,6 @@
-use Rattle.std.proofs.Common.{◌≡◌, ◌<◌, ◌+◌, ◌∙◌, List, length, None, refl, ap, sym, subst, arith}
-use Rattle.std.specs.Prelude.{is_some}
-use Rattle.std.proofs.lemmas.List.Sums.{count_by-le-length}
-use Rattle.ot_model.specs.Cells.{updated}
-use Rattle.ot_task.specs.Regions.{Region}
-use Rattle.ot_task.specs.Pieces.{leading, awake, begun}
-use Rattle.ot_job.specs.Numbered.{at}
-use Rattle.ot_job.specs.Listing.{numbers_of, AreKept}
-use Rattle.ot_job.proofs.PickLemmas.{at-here}
+use Rattle.std.proofs.Common.{◌≡◌, ◌<◌, ◌+◌, ◌∙◌, List, length, None, refl, ap, sym, subst, arith, is_some}
+use Rattle.ot_job.proofs.Common.{count_by-le-length, updated, Region, leading, awake, begun, at, numbers_of, AreKept}
+use Rattle.ot_job.proofs.ClaimableLemmas.{at-here}
 use Rattle.ot_job.proofs.ViewLemmas.{set-changed}
 use Rattle.ot_job.proofs.KeepingLemmas.{kept-removed}
 use Rattle.ot_job.proofs.CountingLemmas.{counted-begun}

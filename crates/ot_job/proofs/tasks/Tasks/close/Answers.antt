@@ -1,9 +1,5 @@
-use Rattle.std.proofs.Common.{◌∙◌, ap, sym, subst, arith, refl, List, length}
-use Rattle.std.specs.Prelude.{is_some}
-use Rattle.ot_model.proofs.CellsLemmas.{length-updated}
-use Rattle.ot_task.specs.Regions.{Region, without}
-use Rattle.ot_job.specs.Calls.{HasPiece}
-use Rattle.ot_job.specs.Numbered.{at, parent_of}
+use Rattle.std.proofs.Common.{◌∙◌, ap, sym, subst, arith, refl, List, length, is_some}
+use Rattle.ot_job.proofs.Common.{length-updated, Region, without, HasPiece, at, parent_of}
 use Rattle.ot_job.proofs.tasks.Tasks.close.Goals.{then-i-gt0, else-i-gt0}
 use Rattle.ot_job.proofs.tasks.Tasks.close.Goals as goal
 use Rattle.ot_job.proofs.EachLemmas.{field-kept}

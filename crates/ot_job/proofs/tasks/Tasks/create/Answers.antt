@@ -1,16 +1,8 @@
-use Rattle.std.proofs.Common.{◌≡◌, ◌<◌, ◌+◌, ◌∙◌, ap, sym, subst, arith, ℕ, List, [], ◌∷◌, ◌++◌, map, set, length}
-use Rattle.std.proofs.lemmas.List.{length-map, length-set, map-append, get_or-set_same}
-use Rattle.std.proofs.lemmas.List.Sums.{count_by-le-length}
-use Rattle.std.proofs.lemmas.Result.{IfOk-from_err}
-use Rattle.std.specs.Prelude.{not, vec_len, vec_capacity, get_or}
-use Rattle.ot_model.specs.Cells.{updated}
-use Rattle.ot_task.specs.Regions.{Region, executed, tasks_next}
-use Rattle.ot_job.specs.Calls.{HasPiece, IsRefreshed}
-use Rattle.ot_job.specs.Listing.{numbers_of, AreKept}
-use Rattle.ot_job.specs.Numbered.{at}
-use Rattle.ot_job.specs.Settling.{CreatesInOrder}
+use Rattle.std.proofs.Common.{◌≡◌, ◌<◌, ◌+◌, ◌∙◌, ap, sym, subst, arith, ℕ, List, [], ◌∷◌, ◌++◌, map, set, length, not, vec_len, vec_capacity, get_or}
+use Rattle.ot_job.proofs.Common.{length-map, length-set, map-append, get_or-set_same, count_by-le-length, IfOk-from_err, updated, Region, executed, tasks_next, HasPiece, IsRefreshed, numbers_of, AreKept, at, CreatesInOrder}
+use Rattle.ot_owner.proofs.RowLemmas.{map-changed}
 use Rattle.ot_job.proofs.KeepingLemmas.{kept-roomy, long-tasks, listed-tasks, kept-tasks}
-use Rattle.ot_job.proofs.ViewLemmas.{map-kept, map-changed, on_err_always}
+use Rattle.ot_job.proofs.ViewLemmas.{map-kept, on_err_always}
 use Rattle.ot_job.proofs.tasks.Tasks.create.Goals.{After-index_mut, After-reserve, After-reserve-2, After-make_room_for, After-deref}
 use Rattle.ot_job.proofs.tasks.Tasks.create.Goals as goal
 

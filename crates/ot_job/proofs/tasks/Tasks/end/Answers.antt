@@ -1,9 +1,5 @@
 use Rattle.std.proofs.Common.{◌≡◌, ◌-◌, ◌∙◌, List, false, length, refl, ap, sym, subst, arith}
-use Rattle.ot_model.specs.Cells.{updated}
-use Rattle.ot_task.specs.Regions.{Region, over}
-use Rattle.ot_job.specs.Calls.{HasPiece}
-use Rattle.ot_job.specs.Listing.{numbers_of, AreKept}
-use Rattle.ot_job.specs.Numbered.{at}
+use Rattle.ot_job.proofs.Common.{updated, Region, over, HasPiece, numbers_of, AreKept, at}
 use Rattle.ot_job.proofs.CountingLemmas.{one-goes, counted-over}
 use Rattle.ot_job.proofs.KeepingLemmas.{kept-still}
 use Rattle.ot_job.proofs.ViewLemmas.{set-changed}

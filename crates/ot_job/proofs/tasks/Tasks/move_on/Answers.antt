@@ -1,11 +1,6 @@
-use Rattle.std.proofs.Common.{◌≡◌, ◌∙◌, ap, sym, arith, List, Bool, length}
-use Rattle.std.specs.Prelude.{if◌then◌else◌}
-use Rattle.std.proofs.lemmas.Result.{IfOk-weaker}
-use Rattle.ot_task.specs.Regions.{Region, executed, tasks_next}
-use Rattle.ot_task.specs.Standing.{is_at_end}
-use Rattle.ot_job.specs.Numbered.{at}
-use Rattle.ot_job.specs.Settling.{closed}
-use Rattle.ot_job.proofs.PickLemmas.{at-here}
+use Rattle.std.proofs.Common.{◌≡◌, ◌∙◌, ap, sym, arith, List, Bool, length, if◌then◌else◌}
+use Rattle.ot_job.proofs.Common.{IfOk-weaker, Region, executed, tasks_next, is_at_end, at, closed}
+use Rattle.ot_job.proofs.ClaimableLemmas.{at-here}
 use Rattle.ot_job.proofs.SettleLemmas.{none-next}
 use Rattle.ot_job.proofs.tasks.Tasks.move_on.Goals.{After-is_at_end, After-tasks_next}
 use Rattle.ot_job.proofs.tasks.Tasks.move_on.Goals as goal

@@ -1,10 +1,7 @@
 use Rattle.std.proofs.Common.{◌≡◌, ◌∙◌, ◌++◌, ◌∷◌, [], ℕ, List, ap, sym, subst, arith}
-use Rattle.std.proofs.lemmas.Result.{IfOk-from_err}
+use Rattle.ot_job.proofs.Common.{IfOk-from_err, has, Region, root_region, numbers_of, AreKept}
 use Rattle.std.specs.Arc.{arc_value}
 use Rattle.ot_parts.specs.Parts.{parts_of}
-use Rattle.ot_depend.specs.Kept.{has}
-use Rattle.ot_task.specs.Regions.{Region, root_region}
-use Rattle.ot_job.specs.Listing.{numbers_of, AreKept}
 use Rattle.ot_job.proofs.KeepingLemmas.{kept-root}
 use Rattle.ot_job.proofs.tasks.Tasks.root.Goals as goal
 

@@ -1,11 +1,5 @@
-use Rattle.std.proofs.Common.{◌∙◌, ap, sym, subst, arith, List}
-use Rattle.std.proofs.lemmas.Result.{IfOk-from_err}
-use Rattle.std.specs.Prelude.{is_some}
-use Rattle.ot_model.specs.Cells.{updated}
-use Rattle.ot_task.specs.Regions.{Region, stopped}
-use Rattle.ot_task.specs.Standing.{is_at_end}
-use Rattle.ot_job.specs.Calls.{HasPiece}
-use Rattle.ot_job.specs.Numbered.{at}
+use Rattle.std.proofs.Common.{◌∙◌, ap, sym, subst, arith, List, is_some}
+use Rattle.ot_job.proofs.Common.{IfOk-from_err, updated, Region, stopped, is_at_end, HasPiece, at}
 use Rattle.ot_job.proofs.StepLemmas.{moved-running, moved-long}
 use Rattle.ot_job.proofs.ViewLemmas.{on_err_always}
 use Rattle.ot_job.proofs.tasks.Tasks.settle.Goals as goal

@@ -1,8 +1,5 @@
 use Rattle.std.proofs.Common.{◌≡◌, ◌∙◌, ap, sym, subst, arith, ◌-◌, List, length}
-use Rattle.ot_model.specs.Cells.{updated}
-use Rattle.ot_task.specs.Regions.{Region, stopped}
-use Rattle.ot_job.specs.Calls.{HasPiece}
-use Rattle.ot_job.specs.Listing.{numbers_of, AreKept}
+use Rattle.ot_job.proofs.Common.{updated, Region, stopped, HasPiece, numbers_of, AreKept}
 use Rattle.ot_job.proofs.CountingLemmas.{one-is-out, counted-stopped}
 use Rattle.ot_job.proofs.KeepingLemmas.{long-stopped, listed-stopped, kept-stopped}
 use Rattle.ot_job.proofs.ViewLemmas.{set-changed}

@@ -1,16 +1,8 @@
 use Rattle.std.proofs.Common.{◌≡◌, ◌<◌, ◌∙◌, ap, sym, subst, arith, ℕ, List, [], All, length, get_or}
-use Rattle.std.proofs.lemmas.List.{length-map, get_or_default}
-use Rattle.std.proofs.Math.ListN.{get_or-map}
-use Rattle.ot_model.specs.Cells.{updated}
-use Rattle.ot_model.proofs.CellsLemmas.{length-updated}
-use Rattle.ot_depend.specs.Siblings.{IsReady, IsUnfinished, with_finished}
-use Rattle.ot_depend.specs.Waiting.{LetsTheSame}
-use Rattle.ot_task.specs.Regions.{Region, without}
-use Rattle.ot_job.specs.Calls.{AreRefreshed, IsListFor, MayFinish}
-use Rattle.ot_job.specs.Listing.{numbers_of, AreKept}
-use Rattle.ot_job.specs.Numbered.{at, parent_of}
+use Rattle.ot_job.proofs.Common.{length-map, get_or_default, get_or-map, updated, length-updated, IsReady, IsUnfinished, with_finished, LetsTheSame, Region, without, AreRefreshed, IsListFor, numbers_of, AreKept, at, parent_of}
+use Rattle.ot_job.specs.Calls.{MayFinish}
 use Rattle.ot_job.proofs.KeepingLemmas.{all-known, kept-told-tasks, listed-told, long-told}
-use Rattle.ot_job.proofs.PickLemmas.{at-here, place-told}
+use Rattle.ot_job.proofs.ClaimableLemmas.{at-here, place-told}
 use Rattle.ot_job.proofs.ViewLemmas.{set-changed}
 use Rattle.ot_job.proofs.tasks.Tasks.tell_parent.Goals.{After-place_among-parent, After-deref, After-index-2}
 use Rattle.ot_job.proofs.tasks.Tasks.tell_parent.Goals as goal
