@@ -4,7 +4,7 @@ pub use Rattle.ot_check.proofs.Steps.{IsClosed, closed_of, within-closed, awaite
 pub use Rattle.ot_check.proofs.After.{some_path_one, some_path, through-to}
 pub use Rattle.ot_check.proofs.Meeting.{MeetsInside, Meets}
 pub use Rattle.ot_check.proofs.PathsTold.{meets-on_path, meets-in_tasks}
-pub use Rattle.ot_check.proofs.OpeningLemmas.{opened-none}
+pub use Rattle.ot_check.proofs.OpeningLemmas.{opened-none, opened-by}
 pub use Rattle.ot_check.proofs.SameLemmas.{eq_apart, same_itself, same_is, cells_equal, eq_itself}
 pub use Rattle.ot_check.proofs.DeclaredLemmas.{allows-told}
 pub use Rattle.ot_check.proofs.RowLemmas.{slice_get-last}
@@ -13,6 +13,7 @@ pub use Rattle.ot_check.proofs.OffenceLemmas.{is_offence-ChildBeyond, is_offence
 pub use Rattle.ot_check.proofs.WalkLemmas.{stmt_of-Set, stmt_of-Fold, stmt_of-If, stmt_of-Task, stmt_of-Wait, stmt_of-Group, rest_is, rest_none, if_ok, on_ok}
 pub use Rattle.ot_check.proofs.FineLemmas.{disciplined-fine, behind-more, fine-fewer, fine-append, through-append, false_below}
 pub use Rattle.ot_check.proofs.ApartLemmas.{apart, read-weaker, touch-weaker, value-same, read-behind, one_op, conflicts_writes, conflicts_folds}
-pub use Rattle.ot_check.proofs.FoldLemmas.{fits-folds, fits-reads}
+pub use Rattle.ot_check.proofs.FoldLemmas.{both_false, fits-folds, fits-reads}
 pub use Rattle.ot_check.proofs.TouchLemmas.{harmless, harmless_if, clash_free}
-pub use Rattle.ot_check.proofs.InsideLemmas.{folded, child_fits, group_free, groups_inside, inside}
+pub use Rattle.ot_check.proofs.SetLemmas.{slice_get-more}
+pub use Rattle.ot_check.proofs.InsideLemmas.{Groups, folded, child_fits, group_free, groups_inside, inside}

@@ -13,15 +13,10 @@ use Rattle.ot_model.specs.declared.stmt.Use.{Use}
 use Rattle.ot_model.proofs.EqualLemmas.{fold-decides}
 use Rattle.ot_check.specs.Paths.{use_as}
 use Rattle.ot_check.specs.Offences.{Declared, Openings, allows, covers, clashes, exceeds, misfits, misfits_as, folds_by, folds_to, has_cell, opened_by_any}
-use Rattle.ot_check.specs.walk.Walk.{Children, nothing_open, with_group}
-use Rattle.ot_check.specs.walk.Fine.{IsHarmless}
+use Rattle.ot_check.specs.Discipline.{Children, nothing_open, with_group, IsHarmless}
 use Rattle.ot_check.specs.declared.fault.Offence.TheVariants.{ReductionMisuse, ConflictsWithChild}
 use Rattle.ot_race.specs.Events.{fold_as}
-use Rattle.ot_check.proofs.Bits.{or_true, and_left, and_right, and_true, and_false, or_none, or_false_left, or_false_right, not_true, not_false, any-more, any-same}
-use Rattle.ot_check.proofs.SameLemmas.{same_is, same_itself}
-use Rattle.ot_check.proofs.OpeningLemmas.{opened-by}
-use Rattle.ot_check.proofs.FoldLemmas.{both_false, fits-folds}
-use Rattle.ot_check.proofs.InsideLemmas.{Groups, groups_inside, group_free}
+use Rattle.ot_check.proofs.Cited.{or_true, and_left, and_right, and_true, and_false, or_none, or_false_left, or_false_right, not_true, not_false, any-more, any-same, same_is, same_itself, opened-by, both_false, fits-folds, Groups, groups_inside, group_free}
 
 -- ---- truth values and lists
 

@@ -8,7 +8,7 @@ use Rattle.ot_model.specs.declared.stmt.Mode.{Mode}
 use Rattle.ot_model.specs.declared.stmt.Use.{Use}
 use Rattle.ot_check.specs.Paths.{use_as}
 use Rattle.ot_check.specs.Offences.{Declared, Openings, allows}
-use Rattle.ot_check.specs.walk.Walk.{Children}
+use Rattle.ot_check.specs.Discipline.{Children}
 use Rattle.ot_race.specs.Events.{Event, Begins}
 use Rattle.ot_race.specs.Order.{IsBy, Does, InTurn, IsBefore}
 use Rattle.ot_race.specs.Races.{IsUsed}

@@ -3,7 +3,7 @@ use Rattle.std.proofs.Common.{◌≡◌, ℕ, suc, ◌+◌, Bool, true, false, L
 use Rattle.std.specs.Prelude.{◌==◌, if◌then◌else◌, Some, slice_get}
 use Rattle.std.proofs.lemmas.List.{length-append}
 use Rattle.ot_model.specs.Serial.{either}
-use Rattle.ot_check.proofs.SetLemmas.{slice_get-more}
+use Rattle.ot_check.proofs.Cited.{slice_get-more}
 use Rattle.ot_race.specs.Events.{Event}
 
 -- the part stands in the whole, from place n on

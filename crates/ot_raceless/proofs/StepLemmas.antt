@@ -10,14 +10,13 @@ use Rattle.ot_model.specs.declared.stmt.Mode.{Mode}
 use Rattle.ot_model.specs.declared.stmt.Use.{Use}
 use Rattle.ot_check.specs.Paths.{use_as}
 use Rattle.ot_check.specs.Offences.{Declared, Openings, allows, awaits}
-use Rattle.ot_check.specs.walk.Walk.{Children, anyone, nobody, nothing_open, behind, behind_one, through, with_group}
+use Rattle.ot_check.specs.Discipline.{Children, anyone, nobody, nothing_open, behind, behind_one, through, with_group}
 use Rattle.ot_race.specs.Events.{Deed, Event, Begins, Awaits, Leaves}
 use Rattle.ot_race.specs.Order.{IsBy, Does, ByCreation, ByDependence, ByWait, ByEnd, IsBefore, Once}
 use Rattle.ot_race.specs.Races.{IsUsed}
 use Rattle.ot_race.specs.Standings.{IsKnownTo}
 use Rattle.ot_race.proofs.OrderLemmas.{up_leads, before_trans}
-use Rattle.ot_check.proofs.Bits.{and_true, true_not, true_or, or_right}
-use Rattle.ot_check.proofs.InsideLemmas.{child_fits}
+use Rattle.ot_check.proofs.Cited.{and_true, true_not, true_or, or_right, child_fits}
 use Rattle.ot_raceless.proofs.FitLemmas.{Setting, Fits, IsAmong, IsFree, siblings_agree}
 use Rattle.ot_raceless.proofs.KnownLemmas.{IsHeld, AreGathered, Goes, known_later, known_before, held_later}
 

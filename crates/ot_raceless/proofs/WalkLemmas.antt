@@ -16,8 +16,7 @@ use Rattle.ot_model.specs.declared.stmt.Mode.TheVariants.{Reads, Writes, Folds}
 use Rattle.ot_model.specs.declared.stmt.Use.{Use}
 use Rattle.ot_check.specs.Paths.{Touch, use_as, touches}
 use Rattle.ot_check.specs.Offences.{Declared, Openings, allows, awaits, clashes, opened_by_any}
-use Rattle.ot_check.specs.walk.Walk.{Children, anyone, nobody, nothing_open, behind, behind_one, through, through_one, with_group, may_break, is_marked, ends_with_children}
-use Rattle.ot_check.specs.walk.Fine.{IsClean, IsFineInside, IsFine, IsHarmless}
+use Rattle.ot_check.specs.Discipline.{Children, anyone, nobody, nothing_open, behind, behind_one, through, through_one, with_group, may_break, is_marked, ends_with_children, IsClean, IsFineInside, IsFine, IsHarmless}
 use Rattle.ot_check.specs.declared.fault.Offence.{Offence}
 use Rattle.ot_check.specs.declared.fault.Offence.TheVariants.{NotDeclared, ChildBeyond, ReductionMisuse, ConflictsWithChild, EndsWithChildren}
 use Rattle.ot_race.specs.Events.{Event, event, Way, Touches, Begins, Awaits, Leaves, fold_as, uses_by, events, events_one, events_of, after_one, beginning}
@@ -27,8 +26,7 @@ use Rattle.ot_race.specs.Standings.{IsKnownTo}
 use Rattle.ot_ways.specs.Ways.{way_by}
 use Rattle.ot_ways.specs.Verdicts.{NoWayRaces}
 use Rattle.ot_race.proofs.OrderLemmas.{some_is, is_by, before_trans}
-use Rattle.ot_check.proofs.Bits.{or_false_left, or_false_right, not_false, any-map, true_or, or_right}
-use Rattle.ot_check.proofs.OffenceLemmas.{is_offence-ChildBeyond, is_offence-ReductionMisuse, is_offence-Group}
+use Rattle.ot_check.proofs.Cited.{or_false_left, or_false_right, not_false, any-map, true_or, or_right, is_offence-ChildBeyond, is_offence-ReductionMisuse, is_offence-Group}
 use Rattle.ot_raceless.proofs.PlaceLemmas.{StandsAt, stands_first, stands_rest, stands_left, stands_right, end_of_both, end_of_more, either_of}
 use Rattle.ot_raceless.proofs.FitLemmas.{and_met, Setting, root_setting, child_setting, Fits, IsFree, free_from, free_fold, fold_allowed, fits_inside, setting_inside}
 use Rattle.ot_raceless.proofs.KnownLemmas.{AreGathered, Goes, goes_nowhere, goes_on, goes_with_more}

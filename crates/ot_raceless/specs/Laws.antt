@@ -3,7 +3,7 @@ use Rattle.std.specs.Prelude.{ℕ, List}
 use Rattle.ot_model.specs.Tree.{Body}
 use Rattle.ot_model.specs.Cells.{lengths}
 use Rattle.ot_model.specs.Names.{NamedIn}
-use Rattle.ot_check.specs.Disciplined.{OffendsNowhere}
+use Rattle.ot_check.specs.Discipline.{OffendsNowhere}
 use Rattle.ot_race.specs.Events.{events_of, this_way}
 use Rattle.ot_race.specs.Races.{NothingRaces}
 use Rattle.ot_ways.specs.Verdicts.{NoWayRaces}
