@@ -14,7 +14,7 @@ abbrev pub IsReadOr4 : Option Text → ℕ → Type 0
 IsReadOr4 text number = (read : Option ℕ) × IsRead 16 text read × (number ≡ unwrap_or read 4)
 
 -- the server that the words behind `serve` ask for
-pub record Serves (rows : List Row) (asked : Serve) : Type 0 where
+pub record AsksToServe (rows : List Row) (asked : Serve) : Type 0 where
   pub socket : string_bytes asked.socket ≡ unwrap_or (first_of (codes "socket") rows) []
   pub workers : IsReadOr4 (one_of (codes "workers") rows) asked.workers
   pub sessions : IsReadOr4 (one_of (codes "sessions") rows) asked.sessions
@@ -26,7 +26,7 @@ abbrev pub AsksFor : Option (Text × List Row) → Words → Type 0
 AsksFor entered asked.Solo = (entered_name entered ≢ Some (codes "serve")) × (entered_name entered ≢ Some (codes "sim"))
 AsksFor entered asked.Sim = entered_name entered ≡ Some (codes "sim")
 AsksFor entered (asked.Serve server) =
-    (entered_name entered ≡ Some (codes "serve")) × IfSome (entered_rows entered) (λ rows. Serves rows server)
+    (entered_name entered ≡ Some (codes "serve")) × IfSome (entered_rows entered) (λ rows. AsksToServe rows server)
 
 -- the numbers are in their ranges
 abbrev pub IsInRange : Words → Type 0

@@ -4,9 +4,9 @@ use Rattle.ot_serve.specs.declared.fault.Fault.TheVariants as of
 use Rattle.ot_sim.specs.declared.fault.SimFault.{SimFault}
 use Rattle.ot_sim.specs.declared.fault.SimFault.TheVariants as sim
 
-abbrev pub fault_of : SimFault → Fault
-fault_of sim.ReadFailed = of.ReadFailed
-fault_of sim.WriteFailed = of.WriteFailed
-fault_of sim.Memory = of.Memory
-fault_of sim.LongLine = of.LineTooLong
-fault_of sim.TooManyTurns = of.TooManyReads
+abbrev pub sim_fault : SimFault → Fault
+sim_fault sim.ReadFailed = of.ReadFailed
+sim_fault sim.WriteFailed = of.WriteFailed
+sim_fault sim.Memory = of.Memory
+sim_fault sim.LongLine = of.LineTooLong
+sim_fault sim.TooManyTurns = of.TooManyReads

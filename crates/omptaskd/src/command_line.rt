@@ -2,7 +2,7 @@
 ghost use Rattle.std.specs.Prelude.{◌≡◌, ℕ, List, [], ◌∷◌, map, codes, IfOk};
 ghost use Rattle.clap.specs.Words.{FailsBy, app_of, fault_of, found_of, rows_of, subcommand_of, subcommand_rows_of};
 ghost use Rattle.ot_serve.specs.Serving as serving;
-ghost use Rattle.omptaskd.specs.Asked.{AsksFor, IsInRange, Means, Serves};
+ghost use Rattle.omptaskd.specs.Asked.{AsksFor, IsInRange, Means, AsksToServe};
 ghost use Rattle.omptaskd.specs.Grammar.{program_words};
 
 use crate::asked::Words;
@@ -56,7 +56,7 @@ fn asked_for(alloc: Global, matches: &ArgMatches<'_>) -> Result<Words, AllocErro
 
 /// The server that is asked for.
 fn serve_of(alloc: Global, found: &ArgMatches<'_>) -> Result<Serve, AllocError>
-    ensures serves { IfOk result (Serves (rows_of (found_of found.now))) }
+    ensures serves { IfOk result (AsksToServe (rows_of (found_of found.now))) }
     ensures range { IfOk result serving.IsInRange }
 {
     Ok(Serve {

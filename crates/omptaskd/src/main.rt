@@ -6,7 +6,7 @@ ghost use Rattle.std.specs.Process.{exit_status};
 ghost use Rattle.clap.specs.Words.{kind_of};
 ghost use Rattle.ot_serve.specs.Faults.{status_of};
 ghost use Rattle.ot_serve.specs.Serving.{IsInRange};
-ghost use Rattle.omptaskd.specs.Faults.{fault_of};
+ghost use Rattle.omptaskd.specs.Faults.{sim_fault};
 
 pub mod asked;
 pub mod command_line;
@@ -119,7 +119,7 @@ fn sim<R: Input + Print>(rt: &R, alloc: Global) -> Result<(), Fault> {
 
 /// The program's fault where sim ended with one.
 fn fault_of(fault: SimFault) -> Fault
-    ensures { result ≡ fault_of fault }
+    ensures { result ≡ sim_fault fault }
 {
     match fault {
         SimFault::ReadFailed => Fault::ReadFailed,

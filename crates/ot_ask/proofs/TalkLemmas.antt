@@ -6,7 +6,7 @@ use Rattle.std.proofs.Math.Bool.{or-false, or-true}
 use Rattle.std.proofs.KnownBytes.{Appends-nil, Appends-trans, Consumes-nil, Consumes-trans}
 use Rattle.std.proofs.lemmas.List.Folds.{concat-append, list_any-append}
 use Rattle.std.proofs.lemmas.List.Elements.{All-nil, All-push, All-take, AllZip-push}
-use Rattle.ot_ask.specs.Asking.{Breaks, Counts, Ends, GoesOn, IsAnswered, IsCutShort, IsShown, Leaves, SaysBye, Steps, Talk, Talks, Ways, asked_after, asked_of}
+use Rattle.ot_ask.specs.Asking.{BreaksBy, Counts, Ends, GoesOn, IsAnswered, IsCutShort, IsShown, LeavesServer, SaysBye, TakesOneLine, Talk, Talks, Ways, asked_after, asked_of}
 use Rattle.ot_ask.specs.Lines.{IsWhole, is_last, is_refusal, sent_for}
 use Rattle.ot_ask.specs.Streams.{Gives, Incoming, Link, Outgoing, Writes}
 use Rattle.ot_ask.specs.Tallies.{tally_of, with_reply}
@@ -85,10 +85,10 @@ talk_more Says a b c r s talk step = record {
 
 -- one line more is answered, and isn't to stop the session
 pub talk_on : (Says : List ℕ → List ℕ → Type 0) → (stop : Bool) (a b c : Ways) (r s : Bool) (result : Result Step AskFault) (n : ℕ) (t u : Tally) (talk : Talk Says a b r) → length talk.lines ≡ n
-    → t ≡ tally_of talk.replies → Calm stop r talk.replies → u ≡ with_reply t s → (stop && s) ≡ false → Steps Says b c result → result ≡ Ok (Answered s)
+    → t ≡ tally_of talk.replies → Calm stop r talk.replies → u ≡ with_reply t s → (stop && s) ≡ false → TakesOneLine Says b c result → result ≡ Ok (Answered s)
     → (more : Talk Says a c (r || s)) × (length more.lines ≡ n + 1) × (u ≡ tally_of more.replies) × Calm stop (r || s) more.replies
 talk_on Says stop a b c r s result n t u talk many counted calm more on steps is =
-    let step : IsAnswered Says b c s = subst (Steps Says b c) is steps in
+    let step : IsAnswered Says b c s = subst (TakesOneLine Says b c) is steps in
     let plain : stop ≡ true → s ≡ false = λ stops. sym (ap (λ x. x && s) stops) ∙ on in (
       talk_more Says a b c r s talk step,
       length-append talk.lines (step.line ∷ []) ∙ ap (λ k. k + 1) many,
@@ -134,22 +134,22 @@ counts_bye false replies t counted = counted
 
 -- a goodbye
 pub talks_bye : (Says : List ℕ → List ℕ → Type 0) → (stop : Bool) (a b c : Ways) (r : Bool) (asked : Asked) (step : Result Step AskFault) (t : Tally) (talk : Talk Says a b r)
-    → Calm stop r talk.replies → asked ≡ asked_of r → t ≡ tally_of talk.replies → Steps Says b c step → step ≡ Ok Bye → Talks Says stop a c (Ok asked) t
+    → Calm stop r talk.replies → asked ≡ asked_of r → t ≡ tally_of talk.replies → TakesOneLine Says b c step → step ≡ Ok Bye → Talks Says stop a c (Ok asked) t
 talks_bye Says stop a b c r asked step t talk calm so counted steps is =
-    let bye : SaysBye b c = subst (Steps Says b c) is steps in
+    let bye : SaysBye b c = subst (TakesOneLine Says b c) is steps in
     subst (λ e. Talks Says stop a c (Ok e) t) (sym so)
     (talks Says stop a b c r (Ok (asked_of r)) t talk calm (goes_bye Says (length talk.lines) b c r bye) (counts_bye r talk.replies t counted))
 
 -- the server takes no further line
 pub talks_cut : (Says : List ℕ → List ℕ → Type 0) → (stop : Bool) (a b c : Ways) (r : Bool) (step : Result Step AskFault) (t u : Tally) (talk : Talk Says a b r)
-    → Calm stop r talk.replies → t ≡ tally_of talk.replies → u ≡ with_reply t true → Steps Says b c step → step ≡ Ok CutShortStep
+    → Calm stop r talk.replies → t ≡ tally_of talk.replies → u ≡ with_reply t true → TakesOneLine Says b c step → step ≡ Ok CutShortStep
     → Talks Says stop a c (Ok CutShort) u
 talks_cut Says stop a b c r step t u talk calm counted more steps is =
-    let cut : IsCutShort b c = subst (Steps Says b c) is steps in
+    let cut : IsCutShort b c = subst (TakesOneLine Says b c) is steps in
     talks Says stop a b c r (Ok CutShort) u talk calm cut
     (cut.reply, cut.last, more ∙ ap (λ x. with_reply x true) counted ∙ tally_more talk.replies cut.reply true (untaken_last cut.reply cut.last))
 
-goes_broken : (Says : List ℕ → List ℕ → Type 0) → (n : ℕ) (b c : Ways) (r : Bool) (fault : AskFault) → Breaks Says fault b c → GoesOn Says n b c r (Err fault)
+goes_broken : (Says : List ℕ → List ℕ → Type 0) → (n : ℕ) (b c : Ways) (r : Bool) (fault : AskFault) → BreaksBy Says fault b c → GoesOn Says n b c r (Err fault)
 goes_broken Says n b c r Busy breaks = breaks
 goes_broken Says n b c r UnknownTenant breaks = breaks
 goes_broken Says n b c r StrangeGreeting breaks = breaks
@@ -161,12 +161,12 @@ goes_broken Says n b c r TooManyLines breaks = absurd breaks
 
 -- something goes wrong
 pub talks_broken : (Says : List ℕ → List ℕ → Type 0) → (stop : Bool) (a b c : Ways) (r : Bool) (fault : AskFault) (step : Result Step AskFault) (t : Tally) (talk : Talk Says a b r)
-    → Calm stop r talk.replies → t ≡ tally_of talk.replies → Steps Says b c step → step ≡ Err fault → Talks Says stop a c (Err fault) t
+    → Calm stop r talk.replies → t ≡ tally_of talk.replies → TakesOneLine Says b c step → step ≡ Err fault → Talks Says stop a c (Err fault) t
 talks_broken Says stop a b c r fault step t talk calm counted steps is =
-    let breaks : Breaks Says fault b c = subst (Steps Says b c) is steps in
+    let breaks : BreaksBy Says fault b c = subst (TakesOneLine Says b c) is steps in
     talks Says stop a b c r (Err fault) t talk calm (goes_broken Says (length talk.lines) b c r fault breaks) counted
 
-counts_left : (old new : Link) (result : Result Asked AskFault) (replies : List (List ℕ)) (t : Tally) → Leaves old new result
+counts_left : (old new : Link) (result : Result Asked AskFault) (replies : List (List ℕ)) (t : Tally) → LeavesServer old new result
     → t ≡ tally_of replies → Counts replies result t
 counts_left old new (Ok AllTaken) replies t leaves counted = absurd leaves
 counts_left old new (Ok SomeRefused) replies t leaves counted = counted
@@ -175,10 +175,10 @@ counts_left old new (Err fault) replies t leaves counted = counted
 
 -- a refusal that is to stop the session
 pub talks_left : (Says : List ℕ → List ℕ → Type 0) → (stop : Bool) (a b c d : Ways) (r s : Bool) (result : Result Asked AskFault) (step : Result Step AskFault) (t u : Tally) (talk : Talk Says a b r)
-    → Calm stop r talk.replies → t ≡ tally_of talk.replies → u ≡ with_reply t s → Steps Says b c step → step ≡ Ok (Answered s) → stop ≡ true → s ≡ true
-    → Leaves c.link d.link result → d.typed ≡ c.typed → d.printed ≡ c.printed → Talks Says stop a d result u
+    → Calm stop r talk.replies → t ≡ tally_of talk.replies → u ≡ with_reply t s → TakesOneLine Says b c step → step ≡ Ok (Answered s) → stop ≡ true → s ≡ true
+    → LeavesServer c.link d.link result → d.typed ≡ c.typed → d.printed ≡ c.printed → Talks Says stop a d result u
 talks_left Says stop a b c d r s result step t u talk calm counted more steps is stops refused leaves unread unprinted =
-    let answered : IsAnswered Says b c s = subst (Steps Says b c) is steps in
+    let answered : IsAnswered Says b c s = subst (TakesOneLine Says b c) is steps in
     let counted_now = more ∙ ap (λ x. with_reply x s) counted
     ∙ tally_more talk.replies answered.reply s (untaken-of answered.reply s answered.told answered.goes_on) in
     let ends_so : (stop && (r || s)) ≡ true = ap₂ (λ x y. x && (r || y)) stops refused ∙ or-true r in

@@ -2,9 +2,9 @@
 use Rattle.std.specs.Prelude.{◌≡◌, ◌⊎◌, ◌-◌, ◌^◌, ◌&&◌, ℕ, Bool, true, false, if◌then◌else◌, List, [], ◌∷◌, ◌++◌, length, map, take, Result, Ok, Err}
 use Rattle.std.specs.List.{All, AllZip, concat, list_any}
 use Rattle.std.specs.Io.KnownBytes.{Consumes}
-use Rattle.ot_ask.specs.Greeting.{Greets}
+use Rattle.ot_ask.specs.Greeting.{GreetsServer}
 use Rattle.ot_ask.specs.Lines.{IsWhole, goodbye, is_last, is_refusal, says_bye, sent_for}
-use Rattle.ot_ask.specs.Streams.{BreaksOff, Gives, GivesLine, HasFailed, Incoming, IsLost, IsOver, Link, Outgoing, Writes, link}
+use Rattle.ot_ask.specs.Streams.{BreaksOff, Gives, GivesLine, HasFailed, Incoming, IsLost, IsStreamOver, Link, Outgoing, Writes, link}
 use Rattle.ot_ask.specs.Tallies.{none_counted, tally_of}
 use Rattle.ot_ask.specs.declared.asked.Tally.{Tally}
 use Rattle.ot_ask.specs.declared.asked.Asked.{Asked}
@@ -41,7 +41,7 @@ pub record SaysBye (old new : Ways) : Type 0 where
   pub reads : Gives old.typed new.typed line
   pub sends : Writes old.link.sent new.link.sent (sent_for line)
   pub bye : says_bye (sent_for line) ≡ true
-  pub waits : IsOver old.link.heard new.link.heard
+  pub waits : IsStreamOver old.link.heard new.link.heard
   pub prints : new.printed ≡ old.printed
 
 -- The server ends the session with this reply, which is printed, and then its stream is over. Of the line that it doesn't
@@ -53,7 +53,7 @@ pub record IsCutShort (old new : Ways) : Type 0 where
   pub reads : Gives old.typed new.typed line
   pub sends : Writes old.link.sent new.link.sent (sent_for line) ⊎ BreaksOff old.link.sent new.link.sent (sent_for line)
   pub hears : GivesLine old.link.heard mid reply
-  pub waits : IsOver mid new.link.heard
+  pub waits : IsStreamOver mid new.link.heard
   pub prints : Writes old.printed new.printed reply
   pub last : is_last reply ≡ true
 
@@ -73,25 +73,25 @@ module _ (Says : List ℕ → List ℕ → Type 0) where
 
   -- Where something goes wrong: which failure it was, and that nothing more is printed, but of a reply that can't be printed
   -- a front.
-  abbrev pub Breaks : AskFault → Ways → Ways → Type 0
-  Breaks ReadFailed old new = HasFailed old.typed new.typed × (new.link.sent ≡ old.link.sent) × (new.printed ≡ old.printed)
-  Breaks Closed old new =
+  abbrev pub BreaksBy : AskFault → Ways → Ways → Type 0
+  BreaksBy ReadFailed old new = HasFailed old.typed new.typed × (new.link.sent ≡ old.link.sent) × (new.printed ≡ old.printed)
+  BreaksBy Closed old new =
       (((line : List ℕ) × BreaksOff old.link.sent new.link.sent (sent_for line)) ⊎ IsLost old.link.heard new.link.heard) × (new.printed ≡ old.printed)
-  Breaks WriteFailed old new =
+  BreaksBy WriteFailed old new =
       (reply : List ℕ)
       × (text : List ℕ)
       × GivesLine old.link.heard new.link.heard reply
       × ((text ≡ reply) ⊎ IsShown Says reply text)
       × BreaksOff old.printed new.printed text
-  Breaks Memory old new = new.printed ≡ old.printed
-  Breaks fault old new = ⊥
+  BreaksBy Memory old new = new.printed ≡ old.printed
+  BreaksBy fault old new = ⊥
 
   -- one line, by what it came to
-  abbrev pub Steps : Ways → Ways → Result Step AskFault → Type 0
-  Steps old new (Ok (step.Answered is_refused)) = IsAnswered old new is_refused
-  Steps old new (Ok step.Bye) = SaysBye old new
-  Steps old new (Ok step.CutShort) = IsCutShort old new
-  Steps old new (Err fault) = Breaks fault old new
+  abbrev pub TakesOneLine : Ways → Ways → Result Step AskFault → Type 0
+  TakesOneLine old new (Ok (step.Answered is_refused)) = IsAnswered old new is_refused
+  TakesOneLine old new (Ok step.Bye) = SaysBye old new
+  TakesOneLine old new (Ok step.CutShort) = IsCutShort old new
+  TakesOneLine old new (Err fault) = BreaksBy fault old new
 
 -- ---- all lines
 
@@ -105,10 +105,10 @@ abbrev pub asked_after : Asked → Bool → Asked
 asked_after asked is_refused = if is_refused then SomeRefused else asked
 
 -- behind a refusal a goodbye is sent, and then the server's stream is over; or it can't be sent
-abbrev pub Leaves : Link → Link → Result Asked AskFault → Type 0
-Leaves old new (Ok SomeRefused) = Writes old.sent new.sent goodbye × IsOver old.heard new.heard
-Leaves old new (Err Closed) = BreaksOff old.sent new.sent goodbye × (new.heard ≡ old.heard)
-Leaves old new result = ⊥
+abbrev pub LeavesServer : Link → Link → Result Asked AskFault → Type 0
+LeavesServer old new (Ok SomeRefused) = Writes old.sent new.sent goodbye × IsStreamOver old.heard new.heard
+LeavesServer old new (Err Closed) = BreaksOff old.sent new.sent goodbye × (new.heard ≡ old.heard)
+LeavesServer old new result = ⊥
 
 -- the replies that were printed are counted, also the one that ends the session
 abbrev pub Counts : List (List ℕ) → Result Asked AskFault → Tally → Type 0
@@ -141,11 +141,11 @@ module _ (Says : List ℕ → List ℕ → Type 0) where
   GoesOn count old new is_refused (Ok SomeRefused) = (is_refused ≡ true) × SaysBye old new
   GoesOn count old new is_refused (Ok CutShort) = IsCutShort old new
   GoesOn count old new is_refused (Err TooManyLines) = (count ≡ 2 ^ 64 - 1) × (new ≡ old)
-  GoesOn count old new is_refused (Err fault) = Breaks Says fault old new
+  GoesOn count old new is_refused (Err fault) = BreaksBy Says fault old new
 
   -- What comes behind so many lines that were answered. Where the session stops at the last of them, no line is read any more.
   abbrev pub Ends : Bool → ℕ → Ways → Ways → Bool → Result Asked AskFault → Type 0
-  Ends true count old new is_refused result = Leaves old.link new.link result × (new.typed ≡ old.typed) × (new.printed ≡ old.printed)
+  Ends true count old new is_refused result = LeavesServer old.link new.link result × (new.typed ≡ old.typed) × (new.printed ≡ old.printed)
   Ends false count old new is_refused result = GoesOn count old new is_refused result
 
   -- Lines that are answered, and then an end. A session that is to stop at a refusal stops behind the first reply that is one.
@@ -160,10 +160,10 @@ module _ (Says : List ℕ → List ℕ → Type 0) where
   -- a session of a client: the greeting, and the lines behind it, or a greeting that isn't answered with a welcome
   abbrev pub Asks : List ℕ → Bool → Ways → Ways → Result Asked AskFault → Tally → Type 0
   Asks name stop old new result tally =
-      ((greeted : Link) × Greets name old.link greeted (Ok tt) × Talks stop (record old { link = greeted }) new result tally)
+      ((greeted : Link) × GreetsServer name old.link greeted (Ok tt) × Talks stop (record old { link = greeted }) new result tally)
       ⊎ ((fault : AskFault)
       × (result ≡ Err fault)
-      × Greets name old.link new.link (Err fault)
+      × GreetsServer name old.link new.link (Err fault)
       × (new.typed ≡ old.typed)
       × (new.printed ≡ old.printed)
       × (tally ≡ none_counted))

@@ -19,11 +19,11 @@ pub record IsStrange (reply : List ℕ) : Type 0 where
   pub not_unknown : reply ≢ unknown_text
 
 -- a greeting, by what it came to
-abbrev pub Greets : List ℕ → Link → Link → Result ⊤ AskFault → Type 0
-Greets name old new (Ok done) = (reply : List ℕ) × IsGreeted name old new reply × (is_welcome reply ≡ true)
-Greets name old new (Err Busy) = IsGreeted name old new busy_text
-Greets name old new (Err UnknownTenant) = ((is_name name ≡ false) × (new ≡ old)) ⊎ IsGreeted name old new unknown_text
-Greets name old new (Err StrangeGreeting) = (reply : List ℕ) × IsGreeted name old new reply × IsStrange reply
-Greets name old new (Err Closed) = IsUnanswered (hello_line name) old new
-Greets name old new (Err Memory) = ⊤
-Greets name old new (Err fault) = ⊥
+abbrev pub GreetsServer : List ℕ → Link → Link → Result ⊤ AskFault → Type 0
+GreetsServer name old new (Ok done) = (reply : List ℕ) × IsGreeted name old new reply × (is_welcome reply ≡ true)
+GreetsServer name old new (Err Busy) = IsGreeted name old new busy_text
+GreetsServer name old new (Err UnknownTenant) = ((is_name name ≡ false) × (new ≡ old)) ⊎ IsGreeted name old new unknown_text
+GreetsServer name old new (Err StrangeGreeting) = (reply : List ℕ) × IsGreeted name old new reply × IsStrange reply
+GreetsServer name old new (Err Closed) = IsUnanswered (hello_line name) old new
+GreetsServer name old new (Err Memory) = ⊤
+GreetsServer name old new (Err fault) = ⊥

@@ -13,8 +13,8 @@ ReadsToSend old new line (Err Memory) = ⊤
 ReadsToSend old new line (Err fault) = ⊥
 
 -- a whole reply, or none
-abbrev pub Hears : Incoming → Incoming → List ℕ → Result ⊤ AskFault → Type 0
-Hears old new reply (Ok done) = GivesLine old new reply
-Hears old new reply (Err Closed) = IsLost old new
-Hears old new reply (Err Memory) = ⊤
-Hears old new reply (Err fault) = ⊥
+abbrev pub HearsReply : Incoming → Incoming → List ℕ → Result ⊤ AskFault → Type 0
+HearsReply old new reply (Ok done) = GivesLine old new reply
+HearsReply old new reply (Err Closed) = IsLost old new
+HearsReply old new reply (Err Memory) = ⊤
+HearsReply old new reply (Err fault) = ⊥

@@ -42,8 +42,8 @@ pub record HasFailed (old new : Incoming) : Type 0 where
   pub failed : new.failures ≡ next_count old.failures
 
 -- it is over, in one of these two ways
-abbrev pub IsOver : Incoming → Incoming → Type 0
-IsOver old new = HasEnded old new ⊎ HasFailed old new
+abbrev pub IsStreamOver : Incoming → Incoming → Type 0
+IsStreamOver old new = HasEnded old new ⊎ HasFailed old new
 
 -- a whole line comes
 pub record GivesLine (old new : Incoming) (line : List ℕ) : Type 0 where

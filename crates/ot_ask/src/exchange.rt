@@ -1,7 +1,7 @@
 //! One line and its reply, and a goodbye behind a refusal.
 ghost use Rattle.std.specs.Prelude.{◌≡◌, OnOk, IfErr};
 ghost use Rattle.ot_ask.specs.declared.asked.AskFault.TheVariants.{Memory};
-ghost use Rattle.ot_ask.specs.Asking.{IsShown, Leaves, Steps, ways};
+ghost use Rattle.ot_ask.specs.Asking.{IsShown, LeavesServer, TakesOneLine, ways};
 ghost use Rattle.ot_ask.specs.Streams.{link, outgoing};
 
 use crate::asked::{AskFault, Asked};
@@ -33,7 +33,7 @@ pub(crate) fn exchange<M: Remarker, T: LineSource, H: LineSource, W: Sink, P: Si
     wire: &mut W,
     printed: &mut P,
 ) -> Result<Step, AskFault>
-    ensures { Steps M.says
+    ensures { TakesOneLine M.says
         (ways (T.coming typed.old) (H.coming heard.old) (outgoing (W.contents wire.old) (W.failures wire.old))
         (outgoing (P.contents printed.old) (P.failures printed.old)))
         (ways (T.coming typed.new) (H.coming heard.new) (outgoing (W.contents wire.new) (W.failures wire.new))
@@ -101,7 +101,7 @@ fn without_end(line: &[u8]) -> &[u8] {
 
 /// Says goodbye behind a line that was refused, and waits until the server has ended the session.
 pub(crate) fn leave<H: LineSource, W: Sink>(heard: &mut H, wire: &mut W) -> Result<Asked, AskFault>
-    ensures { Leaves
+    ensures { LeavesServer
         (link (H.coming heard.old) (outgoing (W.contents wire.old) (W.failures wire.old)))
         (link (H.coming heard.new) (outgoing (W.contents wire.new) (W.failures wire.new))) result }
 {

@@ -1,5 +1,5 @@
 //! The greeting.
-ghost use Rattle.ot_ask.specs.Greeting.{Greets};
+ghost use Rattle.ot_ask.specs.Greeting.{GreetsServer};
 ghost use Rattle.ot_ask.specs.Streams.{link, outgoing};
 
 use crate::asked::AskFault;
@@ -17,7 +17,7 @@ pub fn greet<H: LineSource, W: Sink>(
     heard: &mut H,
     wire: &mut W,
 ) -> Result<(), AskFault>
-    ensures { Greets name.now
+    ensures { GreetsServer name.now
         (link (H.coming heard.old) (outgoing (W.contents wire.old) (W.failures wire.old)))
         (link (H.coming heard.new) (outgoing (W.contents wire.new) (W.failures wire.new))) result }
 {

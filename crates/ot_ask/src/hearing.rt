@@ -1,6 +1,6 @@
 //! One line that is read, and one that is heard.
 ghost use Rattle.std.specs.Prelude.{◌≡◌, [], Ok, Err, Option, List, ℕ};
-ghost use Rattle.ot_ask.specs.Hearing.{Hears, ReadsToSend};
+ghost use Rattle.ot_ask.specs.Hearing.{HearsReply, ReadsToSend};
 
 use crate::asked::AskFault;
 use crate::line::complete;
@@ -24,7 +24,7 @@ pub(crate) fn read_line<T: LineSource>(typed: &mut T, line: &mut Vec<u8>) -> Res
 /// Hears a whole line of the server.
 pub fn hear<H: LineSource>(heard: &mut H, reply: &mut Vec<u8>) -> Result<(), AskFault>
     requires { reply.old.items ≡ [] }
-    ensures { Hears (H.coming heard.old) (H.coming heard.new) reply.new.items result }
+    ensures { HearsReply (H.coming heard.old) (H.coming heard.new) reply.new.items result }
 {
     match heard.read_line(reply) {
         Ok(LineEnd::Whole) => Ok(()),

@@ -35,7 +35,7 @@ pub enum ReadFault {
 
 /// Lines that come in.
 pub trait LineSource {
-    ghost use Rattle.ot_ask.specs.Streams.{Incoming, IsOver, ReadsLine};
+    ghost use Rattle.ot_ask.specs.Streams.{Incoming, IsStreamOver, ReadsLine};
 
     // What is still to come, and what happened.
     ghost coming: { Self → Incoming };
@@ -47,7 +47,7 @@ pub trait LineSource {
 
     /// Waits until the input is over: it ends, or fails. What still comes is passed over.
     fn wait_for_end(&mut self)
-        ensures { IsOver (coming self.old) (coming self.new) };
+        ensures { IsStreamOver (coming self.old) (coming self.new) };
 }
 
 /// Lines of a source, however long. A failed read is a failure, and so is the one read too many after 2^32 - 1 of them.

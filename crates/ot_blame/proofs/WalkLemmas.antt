@@ -11,7 +11,7 @@ use Rattle.ot_check.specs.Offences.{stays_within, awaits, is_awaited}
 use Rattle.ot_check.specs.Discipline.{through}
 use Rattle.ot_check.proofs.Cited.{and_true, and_left, and_right, true_not, not_true, false_or, or_none, IsClosed, closed_of, within-closed, awaited-append, touched-balanced, touched-awaited, passes_one-closed, some_path, some_path_one, through-to}
 use Rattle.ot_blame.specs.declared.child.Child.{Child}
-use Rattle.ot_blame.specs.Races.{IsPending, Stands, Somewhere, InTask, InTaskOne, IsAt}
+use Rattle.ot_blame.specs.Races.{IsPending, StandsAt, Somewhere, InTask, InTaskOne, IsAt}
 use Rattle.ot_blame.specs.Walk.{Pending, pending_of, Declares, Carried, Carries, Reaches, Comes, Arrives, ArrivesOne}
 
 -- ---- who stays pending
@@ -199,7 +199,7 @@ arrives-later k y rest p q place x now carries (inr inside) = inr (inr inside)
 
 -- ---- that the statement stands there
 
-stands_at : (place : ℕ) (x : S) (now : Pending) (k : ℕ) (b : Body) → Comes place x now k b → Stands place x (λ steps. ⊤) k b
+stands_at : (place : ℕ) (x : S) (now : Pending) (k : ℕ) (b : Body) → Comes place x now k b → StandsAt place x (λ steps. ⊤) k b
 stands_at place x now k b h = record { before = h.before; own = h.own; later = h.later; passes = h.passes; stands = h.stands; holds = tt }
 
 mutual
@@ -221,7 +221,7 @@ mutual
 -- the walk came to it
 pub is_at_of : (place : ℕ) (x : S) (now : Pending) (b : Body) → Arrives 1 b None place x now → IsAt place x b
 is_at_of place x now b (inl reaches) = inl (stands_at place x now 1 b (comes_of place x now 1 b reaches))
-is_at_of place x now b (inr inside) = inr (in_task (Comes place x now) (Stands place x (λ steps. ⊤)) (stands_at place x now) 1 b inside)
+is_at_of place x now b (inr inside) = inr (in_task (Comes place x now) (StandsAt place x (λ steps. ⊤)) (stands_at place x now) 1 b inside)
 
 -- a child that is carried to the end of a body
 pub pending_at_end : (k : ℕ) (b : Body) (child : Option Child) → Carries (Passes k b) None (pending_of child)

@@ -25,7 +25,7 @@ pub record IsPending (steps : List Step) (child : ℕ) (declared : List Use) : T
   pub unawaited : leaves_unawaited declared behind ≡ true
 
 -- on some path of the body the statement stands at the place, and this holds of the steps before it
-pub record Stands (place : ℕ) (x : S) (Before : List Step → Type 0) (k : ℕ) (body : Body) : Type 0 where
+pub record StandsAt (place : ℕ) (x : S) (Before : List Step → Type 0) (k : ℕ) (body : Body) : Type 0 where
   pub before : List Step
   pub own : List Step
   pub later : List Step
@@ -35,7 +35,7 @@ pub record Stands (place : ℕ) (x : S) (Before : List Step → Type 0) (k : ℕ
 
 -- on some path of the body the statement stands at the place, and the child is unawaited before it
 abbrev pub Meets : ℕ → S → ℕ → List Use → ℕ → Body → Type 0
-Meets place x child declared = Stands place x (λ steps. IsPending steps child declared)
+Meets place x child declared = StandsAt place x (λ steps. IsPending steps child declared)
 
 -- P holds of the body of a task that stands in a body, however deep
 abbrev mutual
@@ -57,7 +57,7 @@ Somewhere P k body = P k body ⊎ InTask P k body
 
 -- the statement stands at the place in a body, or in that of a task in it
 abbrev pub IsAt : ℕ → S → Body → Type 0
-IsAt place x body = Somewhere (Stands place x (λ steps. ⊤)) 1 body
+IsAt place x body = Somewhere (StandsAt place x (λ steps. ⊤)) 1 body
 
 -- ---- where they conflict
 
@@ -78,7 +78,7 @@ pub record Races (body : Body) (place : ℕ) (x : S) (child : ℕ) (declared : L
 -- ---- who is left
 
 -- In the program a task stands at the place, and some path through its body ends with the child unawaited.
-pub record Leaves (body : Body) (place : ℕ) (child : ℕ) (declared : List Use) : Type 0 where
+pub record LeavesChild (body : Body) (place : ℕ) (child : ℕ) (declared : List Use) : Type 0 where
   pub uses : List Use
   pub inside : Body
   pub task : IsAt place (Task uses inside) body

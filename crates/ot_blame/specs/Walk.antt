@@ -13,7 +13,7 @@ use Rattle.ot_model.specs.declared.stmt.Use.{Use}
 use Rattle.ot_check.specs.Paths.{Step, PassesOne, Passes}
 use Rattle.ot_check.specs.Offences.{awaits, clashes}
 use Rattle.ot_check.specs.Discipline.{through}
-use Rattle.ot_blame.specs.Races.{IsPending, Stands, InTask, InTaskOne, uses_of}
+use Rattle.ot_blame.specs.Races.{IsPending, StandsAt, InTask, InTaskOne, uses_of}
 use Rattle.ot_blame.specs.declared.child.Child.{Child}
 use Rattle.ot_blame.specs.declared.walk.Search.{Search}
 use Rattle.ot_blame.specs.declared.walk.Arrived.{Arrived}
@@ -48,7 +48,7 @@ Reaches Path before place x now =
 
 -- some path of a body comes to the statement with the one pending
 abbrev pub Comes : ℕ → S → Pending → ℕ → Body → Type 0
-Comes place x now = Stands place x (λ steps. Carried steps now)
+Comes place x now = StandsAt place x (λ steps. Carried steps now)
 
 -- a walk from a body's first statement on comes to the statement, in the body or in a task in it
 abbrev pub Arrives : ℕ → Body → Pending → ℕ → S → Pending → Type 0

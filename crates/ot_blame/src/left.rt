@@ -5,7 +5,7 @@ ghost use Rattle.ot_model.specs.Counts.{size};
 ghost use Rattle.ot_check.specs.Paths.{Step, Passes};
 ghost use Rattle.ot_check.specs.Offences.{Offends};
 ghost use Rattle.ot_check.specs.declared.fault.Offence.TheVariants.{EndsWithChildren};
-ghost use Rattle.ot_blame.specs.Races.{IsPending, Leaves};
+ghost use Rattle.ot_blame.specs.Races.{IsPending, LeavesChild};
 ghost use Rattle.ot_blame.specs.Walk.{pending_of, carried, inside_of};
 
 use crate::child::Child;
@@ -23,7 +23,7 @@ pub(crate) fn find_left<'a>(
     program: &'a Program,
     place: u32,
 ) -> Result<Option<Child<'a>>, AllocError>
-    ensures leaves { IfOk result (λ found. IfSome found (λ child. Leaves (stmts_of program.now.body.items) place child.place child.decl.now)) }
+    ensures leaves { IfOk result (λ found. IfSome found (λ child. LeavesChild (stmts_of program.now.body.items) place child.place child.decl.now)) }
     ensures all { IfOk result (λ found. found ≡ None → Offends (stmts_of program.now.body.items) place EndsWithChildren → ⊥) }
 {
     let Some(stmt) = statement_at(&program.body, place) else {

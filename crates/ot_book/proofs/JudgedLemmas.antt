@@ -12,7 +12,7 @@ use Rattle.ot_check.specs.declared.fault.Offence.{Offence}
 use Rattle.ot_store.specs.Arrays.{Named}
 use Rattle.ot_book.specs.Replies as r
 use Rattle.ot_book.specs.Faults.{told_by_check}
-use Rattle.ot_book.specs.Considering.{Tells}
+use Rattle.ot_book.specs.Considering.{ComesToAnswer}
 use Rattle.ot_book.specs.declared.told.Told.{Told}
 use Rattle.ot_book.specs.Answers.{Now, Runs, judged, started}
 
@@ -30,7 +30,7 @@ started-offends arrays read p offence place law is first =
 
 -- what is told where a check fails: memory ran out, or the first offence
 pub started-fails : (A : Type 0) (arrays : List Named) (read : Result Expanded Refusal) (p : Expanded) (f : CheckFault) → FirstOffenceIsFirst → read ≡ Ok p →
-    TellsFirst {A = A} (Offends p.body) (Err f) → Tells (started arrays read) arrays arrays (told_by_check f)
+    TellsFirst {A = A} (Offends p.body) (Err f) → ComesToAnswer (started arrays read) arrays arrays (told_by_check f)
 started-fails A arrays read p fault.Memory law is told = inl (refl, refl)
 started-fails A arrays read p (fault.Offence offence place) law is told = inr (started-offends arrays read p offence place law is told)
 

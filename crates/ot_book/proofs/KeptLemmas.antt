@@ -13,7 +13,7 @@ use Rattle.ot_check.specs.Jobs.{Spec}
 use Rattle.ot_check.specs.declared.checked.Checked.{Checked}
 use Rattle.ot_store.proofs.ArraysLemmas.{array_lengths-shape_in}
 use Rattle.ot_book.specs.Books.{Register, next_step, IsOpenFor, IsRight}
-use Rattle.ot_book.specs.BookView.{register_of, HasRoom, IsBook}
+use Rattle.ot_book.specs.BookView.{register_of, HasRoomForReply, IsBook}
 use Rattle.ot_book.specs.declared.book.Pending.{Pending}
 use Rattle.ot_book.specs.declared.book.Book.TheInside.{Inside}
 use Rattle.ot_book.specs.Readings.{Reading, IsReading}
@@ -144,11 +144,11 @@ same-more xs ys i x y wx wy ix iy name len same = λ rest.
 
 -- a book that has room for an open request is one
 pub book-opened : (b new : Inside) (p : Pending) → IsBook b → register_of new ≡ record (register_of b) { pending = Some p.line.items } →
-    vec_len new.log ≡ vec_len b.log → new.first ≡ b.first → new.used ≡ b.used → new.pending ≡ Some p → HasRoom new p → IsBook new
+    vec_len new.log ≡ vec_len b.log → new.first ≡ b.first → new.used ≡ b.used → new.pending ≡ Some p → HasRoomForReply new p → IsBook new
 book-opened b new p h is count first used kept room = record {
   right = subst IsRight (sym is) h.right;
   one = omega (arith, h.one, first);
   few = omega (arith, h.few, first, count);
   used = omega (arith, h.used, used, count, first);
-  room = λ q there. let same : p ≡ q = cc in subst (HasRoom new) same room;
+  room = λ q there. let same : p ≡ q = cc in subst (HasRoomForReply new) same room;
 }

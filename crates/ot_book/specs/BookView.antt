@@ -27,7 +27,7 @@ register_of b = record {
 }
 
 -- there is room for one entry more, and each list of the reply is as long as its section
-pub record HasRoom (b : Inside) (p : Pending) : Type 0 where
+pub record HasRoomForReply (b : Inside) (p : Pending) : Type 0 where
   pub place : vec_len b.log < vec_capacity b.log
   pub below : b.first + vec_len b.log < 2 ^ 32
   pub lists : (program : Expanded) → next_step (register_of b) p.line.items ≡ Runs program →
@@ -38,4 +38,4 @@ pub record IsBook (b : Inside) : Type 0 where
   pub one : 1 ≤ b.first
   pub few : b.first + vec_len b.log ≤ 2 ^ 32
   pub used : b.used ≤ (2 ^ 32 - 1) * (b.first + vec_len b.log)
-  pub room : ForSome b.pending (HasRoom b)
+  pub room : ForSome b.pending (HasRoomForReply b)

@@ -6,8 +6,8 @@ use Rattle.ot_book.specs.declared.code.Code.{Code}
 use Rattle.ot_book.specs.declared.code.Code.TheVariants.{NotJson, NotRequest, Store, Program}
 
 -- the number of a code
-abbrev pub number_of : Code → ℕ
-number_of NotJson = 410
-number_of NotRequest = 411
-number_of (Store refusal) = store.code_of refusal
-number_of (Program refusal) = program.code_of refusal
+abbrev pub code_number : Code → ℕ
+code_number NotJson = 410
+code_number NotRequest = 411
+code_number (Store refusal) = store.code_of refusal
+code_number (Program refusal) = program.code_of refusal

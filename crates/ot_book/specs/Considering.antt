@@ -10,12 +10,12 @@ use Rattle.ot_book.specs.declared.step.Considered.{Considered}
 use Rattle.ot_book.specs.declared.step.Considered.TheVariants.{Now, Runs}
 
 -- memory ran out and nothing has changed, or the step tells this and leaves these arrays
-abbrev pub Tells : answers.Step → List Named → List Named → Told → Type 0
-Tells step old new told = ((told_of told ≡ Lost) × (new ≡ old)) ⊎ (step ≡ answers.Now (told_of told) new)
+abbrev pub ComesToAnswer : answers.Step → List Named → List Named → Told → Type 0
+ComesToAnswer step old new told = ((told_of told ≡ Lost) × (new ≡ old)) ⊎ (step ≡ answers.Now (told_of told) new)
 
 -- a step came to an answer, or to a program whose reply has lists as long as its sections
 abbrev pub ComesTo : answers.Step → List Named → List Named → Considered → Type 0
-ComesTo step old new (Now told) = Tells step old new told
+ComesTo step old new (Now told) = ComesToAnswer step old new told
 ComesTo step old new (Runs spec shows) =
     (step ≡ answers.Runs (expanded_of spec.checked.program))
     × (spec.before ≡ cells_in old)

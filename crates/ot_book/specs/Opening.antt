@@ -22,7 +22,7 @@ pub record AnswersNow (b : Register) (line : List ℕ) (new : Register) : Type 0
   pub never : is_checkpoint line ≡ true → memory ≡ false
   pub at_once : (memory ≡ true) ⊎ ((told : Told) × (arrays : List Named) × (next_step b line ≡ Now told arrays))
 
-abbrev pub Opens : Register → List ℕ → Register → Opened → Type 0
-Opens b line new Full = IsFullFor b line × (new ≡ b)
-Opens b line new Answered = (¬ (IsFullFor b line)) × AnswersNow b line new
-Opens b line new (ToRun spec) = (¬ (IsFullFor b line)) × (new ≡ opened b line) × IsOpenFor new spec
+abbrev pub OpensLine : Register → List ℕ → Register → Opened → Type 0
+OpensLine b line new Full = IsFullFor b line × (new ≡ b)
+OpensLine b line new Answered = (¬ (IsFullFor b line)) × AnswersNow b line new
+OpensLine b line new (ToRun spec) = (¬ (IsFullFor b line)) × (new ≡ opened b line) × IsOpenFor new spec

@@ -3,7 +3,7 @@ use Rattle.std.specs.Prelude.{ℕ, map}
 use Rattle.ot_model.specs.ShapeView.{arrays_of}
 use Rattle.ot_check.specs.Codes.{code_of}
 use Rattle.ot_book.specs.Replies as r
-use Rattle.ot_book.specs.Codes.{number_of}
+use Rattle.ot_book.specs.Codes.{code_number}
 use Rattle.ot_book.specs.declared.told.Told.{Told}
 use Rattle.ot_book.specs.declared.told.Told.TheVariants as v
 use Rattle.ot_book.specs.declared.reply.Reply.{Reply}
@@ -14,7 +14,7 @@ told_of (v.Cells values) = r.Cells values.items
 told_of (v.Arrays arrays) = r.Arrays (arrays_of arrays.items)
 told_of (v.Used units) = r.Used units
 told_of (v.Done tasks units shows) = r.Done tasks units (map (λ s. s.items) shows.items)
-told_of (v.Refused code) = r.Refused (number_of code)
+told_of (v.Refused code) = r.Refused (code_number code)
 told_of (v.Offends offence place) = r.Offends (code_of offence) place
 told_of v.Lost = r.Lost
 

@@ -82,7 +82,7 @@ impl Book {
     ghost use Rattle.ot_book.specs.BookView.{entries_of};
     ghost use Rattle.serde_json.specs.View.{view};
     ghost use Rattle.ot_book.specs.Answers.{value_of, is_checkpoint};
-    ghost use Rattle.ot_book.specs.Opening.{Opens, IsFull};
+    ghost use Rattle.ot_book.specs.Opening.{OpensLine, IsFull};
     ghost use Rattle.std.specs.Arc.{arc_value};
     ghost use Rattle.std.specs.Prelude.{Some, IfSome};
     ghost use Rattle.ot_store.specs.Arrays.{shape_in};
@@ -213,7 +213,7 @@ impl Book {
     /// the reply's place is reserved, and nothing has changed then. Afterwards want of memory is what
     /// the tenant is told, but never at a checkpoint: there memory is told in any case.
     pub fn open(&mut self, alloc: Global, line: &[u8]) -> Result<Opened, AllocError>
-        ensures opened { IfOk result (λ opened. Opens self.old line.now self.new opened) }
+        ensures opened { IfOk result (λ opened. OpensLine self.old line.now self.new opened) }
         ensures memory { OnErr result (self.new ≡ self.old) }
     {
         if let Some(checked) = self.read_before(alloc, line) {
@@ -251,7 +251,7 @@ impl Book {
         checked: Arc<Checked>,
     ) -> Result<Opened, AllocError>
         requires { IsReading (record { line = line.now; shape = shape_in self.old.limits self.old.store; checked = arc_value checked }) }
-        ensures opened { IfOk result (λ opened. Opens self.old line.now self.new opened) }
+        ensures opened { IfOk result (λ opened. OpensLine self.old line.now self.new opened) }
         ensures memory { OnErr result (self.new ≡ self.old) }
     {
         if self.is_full(false) {
@@ -298,7 +298,7 @@ impl Book {
         value: &Option<Value>,
     ) -> Result<Opened, AllocError>
         requires { option_map view value.now ≡ value_of line.now }
-        ensures opened { IfOk result (λ opened. Opens self.old line.now self.new opened) }
+        ensures opened { IfOk result (λ opened. OpensLine self.old line.now self.new opened) }
         ensures memory { OnErr result (self.new ≡ self.old) }
     {
         let checkpoint = wants_checkpoint(value);

@@ -16,11 +16,11 @@ pub enum Code {
 
 impl Code {
     ghost use Rattle.std.specs.Prelude.{◌≡◌};
-    ghost use Rattle.ot_book.specs.Codes.{number_of};
+    ghost use Rattle.ot_book.specs.Codes.{code_number};
 
     /// The number that a client is told.
     pub fn number(self) -> u32
-        ensures { result ≡ number_of self }
+        ensures { result ≡ code_number self }
     {
         match self {
             Code::NotJson => 410,

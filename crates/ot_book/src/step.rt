@@ -6,7 +6,7 @@ ghost use Rattle.ot_model.specs.Programs.{expanded_of, IsNamedIn};
 ghost use Rattle.ot_program.specs.Programs.{program_of};
 ghost use Rattle.ot_store.specs.Arrays.{cells_in, shape_in};
 ghost use Rattle.ot_book.specs.Answers.{value_of, parsed, performed, started, is_checkpoint};
-ghost use Rattle.ot_book.specs.Considering.{Tells, ComesTo};
+ghost use Rattle.ot_book.specs.Considering.{ComesToAnswer, ComesTo};
 ghost use Rattle.ot_book.specs.Requests.{Run, IsProper, request_of, asks_checkpoint};
 ghost use Rattle.ot_book.specs.RequestView.{asked_by};
 ghost use Rattle.ot_book.specs.declared.code.Code.TheVariants.{NotJson};
@@ -59,7 +59,7 @@ fn attempt(
     value: &Option<Value>,
 ) -> Result<Considered, Told>
     ensures ok { IfOk result (λ considered. ComesTo (parsed limits.now store.old used (option_map view value.now)) store.old store.new considered) }
-    ensures refused { IfErr result (λ told. Tells (parsed limits.now store.old used (option_map view value.now)) store.old store.new told) }
+    ensures refused { IfErr result (λ told. ComesToAnswer (parsed limits.now store.old used (option_map view value.now)) store.old store.new told) }
 {
     let Some(value) = value else {
         return Err(Told::Refused(Code::NotJson));
@@ -112,7 +112,7 @@ fn perform(
 ) -> Result<Considered, Told>
     requires { IsProper (asked_by request) }
     ensures ok { IfOk result (λ considered. ComesTo (performed limits.now store.old used (asked_by request.entry)) store.old store.new considered) }
-    ensures refused { IfErr result (λ told. Tells (performed limits.now store.old used (asked_by request.entry)) store.old store.new told) }
+    ensures refused { IfErr result (λ told. ComesToAnswer (performed limits.now store.old used (asked_by request.entry)) store.old store.new told) }
 {
     match request {
         Request::New(name, len) => {
@@ -144,7 +144,7 @@ fn start(alloc: Global, limits: &Limits, store: &Store, text: &Value) -> Result<
     ensures ok { IfOk result (λ considered.
         ComesTo (started store.now (program_of (shape_in limits.now store.now) (view text.now))) store.now store.now considered) }
     ensures refused { IfErr result (λ told.
-        Tells (started store.now (program_of (shape_in limits.now store.now) (view text.now))) store.now store.now told) }
+        ComesToAnswer (started store.now (program_of (shape_in limits.now store.now) (view text.now))) store.now store.now told) }
 {
     let shape = store.shape(alloc, limits)?;
     let program = read_program(alloc, text, &shape)?;

@@ -11,7 +11,7 @@ use Rattle.ot_model.specs.Programs.{expanded_of}
 use Rattle.ot_check.specs.Jobs.{Spec}
 use Rattle.ot_book.specs.Answers.{State, opening, answers, answer_or_lost, is_checkpoint}
 use Rattle.ot_book.specs.Books.{Register, IsOpenFor, max_number, appended, cleared, logged, opened, open_line, refused, state_in}
-use Rattle.ot_book.specs.Opening.{IsFullFor, AnswersNow, Opens}
+use Rattle.ot_book.specs.Opening.{IsFullFor, AnswersNow, OpensLine}
 use Rattle.ot_book.specs.declared.book.Opened.{Opened}
 use Rattle.ot_book.specs.declared.book.Opened.TheVariants.{Full, Answered, ToRun}
 use Rattle.ot_book.specs.Replies.{Told, is_lost}
@@ -289,7 +289,7 @@ full-past a line past = elim (leb_tells (room_asked a).next max_number) [
 ]
 
 -- a checkpoint for which there is room is answered
-pub checkpoint-answered : (b new : Register) (line : List ℕ) (o : Opened) → is_checkpoint line ≡ true → ¬ (IsFullFor b line) → Opens b line new o → (o ≡ Answered → ⊥) → ⊥
+pub checkpoint-answered : (b new : Register) (line : List ℕ) (o : Opened) → is_checkpoint line ≡ true → ¬ (IsFullFor b line) → OpensLine b line new o → (o ≡ Answered → ⊥) → ⊥
 checkpoint-answered b new line Full asks free opens not = free opens.0
 checkpoint-answered b new line Answered asks free opens not = not refl
 checkpoint-answered b new line (ToRun spec) asks free opens not =

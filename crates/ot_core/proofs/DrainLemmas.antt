@@ -19,7 +19,7 @@ use Rattle.ot_core.specs.Asking.{IsUnopened, with_reply}
 use Rattle.ot_core.specs.Index.{job_of}
 use Rattle.ot_core.specs.Floors.{units_of}
 use Rattle.ot_core.specs.Scenes.{Scene, IsScene, IsHeld, Pairs, hand_of, out_at, seat_of}
-use Rattle.ot_core.specs.Steps.{moved, handed, Opens, RepliesTo, Starts, Finishes, CanOpen, CannotReply, Steps}
+use Rattle.ot_core.specs.Steps.{moved, handed, OpensFor, RepliesTo, StartsFor, Finishes, CanOpen, CannotReply, Steps}
 use Rattle.ot_core.specs.Toil.{toil, toil_of, toil_by, unopened, one_if, free_hand}
 use Rattle.ot_core.specs.Draining.{opens_of, closed_by, over_of, over_by, claimable_of, moves_at, full_hand, sum_below, count_of, IsMove, MayStart, MayFinish, IsLively, LivelyAt, AllAnswered}
 use Rattle.ot_core.specs.declared.held.Held.{Held}
@@ -130,7 +130,7 @@ few-open (Some s) = omega arith
 same-replied : (a b : Account) (lost : Bool) → b ≡ with_reply a lost → unopened b ≤ unopened a
 same-replied a b lost is = omega (arith, ap unopened is, answered-replied a lost, few-open a.spec)
 
-falls-open : (old new : Scene) (t : ℕ) (stepped : Stepped) → IsScene old → CanOpen old t → Opens old t stepped new → toil new < toil old
+falls-open : (old new : Scene) (t : ℕ) (stepped : Stepped) → IsScene old → CanOpen old t → OpensFor old t stepped new → toil new < toil old
 falls-open old new t NotNow scene can did = absurd (did.0 can)
 falls-open old new t Answered scene can did =
     let m = did.1 in
@@ -173,7 +173,7 @@ none-left : (o : Option Live) (jobs : List (Option Live)) (t : ℕ) → job_of j
 none-left None jobs t is more none = absurd (omega (arith, more))
 none-left (Some j) jobs t is more none = absurd (omega (arith, more, ap length (none j is)))
 
-falls-start : (old new : Scene) (x : ℕ) (o : Option ℕ) (t pick : ℕ) (stepped : Stepped) → seat_of x ≡ o → IsScene old → MayStart old o t → Starts old o t pick stepped new → toil new < toil old
+falls-start : (old new : Scene) (x : ℕ) (o : Option ℕ) (t pick : ℕ) (stepped : Stepped) → seat_of x ≡ o → IsScene old → MayStart old o t → StartsFor old o t pick stepped new → toil new < toil old
 falls-start old new x None t pick stepped seat scene may did = absurd may.0
 falls-start old new x (Some w) t pick (Started k) seat scene may did =
     let takes = (claimed-gives did.claims.job _ _ (Some did.piece) did.claims.next did.claims.claimed).1 in

@@ -16,7 +16,7 @@ use Rattle.ot_job.specs.Taken.{Came as Done}
 use Rattle.ot_job.specs.declared.state.State.TheVariants.{Working, Failing, Ended, Failed}
 use Rattle.ot_job.proofs.DealingsLemmas.{claimed-gives}
 use Rattle.ot_core.specs.Index.{job_of, Begins}
-use Rattle.ot_core.specs.Floors.{Floor, with_job, IsFree, Submits, Enters, NothingAt, Claims, ClaimsOf, IsWorking, FailsIn, AbortsJob, HasJob, HasOver, Leaves, Collects, Settles, units_of}
+use Rattle.ot_core.specs.Floors.{Floor, with_job, IsFree, SubmitsFor, EntersFor, NothingAt, ClaimsFor, ClaimsOf, IsWorking, FailsIn, AbortsJob, HasJob, HasOver, LeavesFor, CollectsFor, SettlesFor, units_of}
 use Rattle.ot_core.specs.Turns.{RunsShort}
 use Rattle.ot_core.specs.declared.hall.Collected.TheVariants as collected
 
@@ -41,7 +41,7 @@ pub claims-of : {E : Type 0} (f now : Floor) (t pick worker : ℕ) (job next : L
 claims-of f now t pick worker job next (Ok None) is at claimed =
     let gives = claimed-gives job pick worker None next claimed in
     (nothing-at f now t job is at gives.0, written-again f now t job next is at gives.1)
-claims-of f now t pick worker job next (Ok (Some p)) is at claimed = subst (λ o. Claims o t pick worker p (with_job f t (Some next))) is (record {
+claims-of f now t pick worker job next (Ok (Some p)) is at claimed = subst (λ o. ClaimsFor o t pick worker p (with_job f t (Some next))) is (record {
   job = job;
   is = at;
   next = next;
@@ -75,10 +75,10 @@ pub has-over : (f now : Floor) (t : ℕ) → f ≡ now → HasOver now t → IsS
 has-over f now t is over = let o = subst (λ g. HasOver g t) (sym is) over in ap is_some o.is
 
 pub leaves : (f now : Floor) (t : ℕ) (job : Live) (jobs : List (Option Live)) → f ≡ now → HasOver now t → job_of f.jobs t ≡ Some job → jobs ≡ set f.jobs t None
-    → Leaves now t job (record { jobs = jobs; units = f.units })
+    → LeavesFor now t job (record { jobs = jobs; units = f.units })
 leaves f now t job jobs is over at left =
     let o = subst (λ g. HasOver g t) (sym is) over in
-    subst (λ g. Leaves g t job (record { jobs = jobs; units = f.units })) is (record {
+    subst (λ g. LeavesFor g t job (record { jobs = jobs; units = f.units })) is (record {
       is = at;
       over = subst (λ (j : Live). IsOver (state_of j)) (same_Some o.job job (sym o.is ∙ at)) o.over;
       new_is = ap (λ js. let r : Floor = record { jobs = js; units = f.units } in r) left;
@@ -88,26 +88,26 @@ abbrev has-job : (f : Floor) (t : ℕ) (spec : Spec) (job : Live) → job_of f.j
 has-job f t spec job at of = record { job = job; is = at; of = of }
 
 pub collects-pending : (f now : Floor) (t : ℕ) (spec : Spec) (job : Live) → f ≡ now → job_of f.jobs t ≡ Some job → IsOf spec job
-    → (state_of job ≡ Working) ⊎ (state_of job ≡ Failing) → Collects now t spec collected.Pending now
-collects-pending f now t spec job is at of state = subst (λ o. Collects o t spec collected.Pending o) is ((has-job f t spec job at of, state), refl)
+    → (state_of job ≡ Working) ⊎ (state_of job ≡ Failing) → CollectsFor now t spec collected.Pending now
+collects-pending f now t spec job is at of state = subst (λ o. CollectsFor o t spec collected.Pending o) is ((has-job f t spec job at of, state), refl)
 
 pub collects-ended : (f now : Floor) (t : ℕ) (spec : Spec) (job : Live) (outcome : Outcome) (jobs : List (Option Live)) → f ≡ now → job_of f.jobs t ≡ Some job → IsOf spec job
     → state_of job ≡ Ended → NoneOut job → IsMeaning spec outcome → jobs ≡ set f.jobs t None
-    → Collects now t spec (collected.Ended outcome) (record { jobs = jobs; units = f.units })
+    → CollectsFor now t spec (collected.Ended outcome) (record { jobs = jobs; units = f.units })
 collects-ended f now t spec job outcome jobs is at of state calm means left =
-    subst (λ o. Collects o t spec (collected.Ended outcome) (record { jobs = jobs; units = f.units })) is
+    subst (λ o. CollectsFor o t spec (collected.Ended outcome) (record { jobs = jobs; units = f.units })) is
     ((has-job f t spec job at of, state, calm), means, ap (λ js. let r : Floor = record { jobs = js; units = f.units } in r) left)
 
 pub collects-failed : (f now : Floor) (t : ℕ) (spec : Spec) (job : Live) (jobs : List (Option Live)) → f ≡ now → job_of f.jobs t ≡ Some job → IsOf spec job
     → state_of job ≡ Failed → NoneOut job → jobs ≡ set f.jobs t None
-    → Collects now t spec collected.Failed (record { jobs = jobs; units = f.units })
+    → CollectsFor now t spec collected.Failed (record { jobs = jobs; units = f.units })
 collects-failed f now t spec job jobs is at of state calm left =
-    subst (λ o. Collects o t spec collected.Failed (record { jobs = jobs; units = f.units })) is
+    subst (λ o. CollectsFor o t spec collected.Failed (record { jobs = jobs; units = f.units })) is
     ((has-job f t spec job at of, state, calm), ap (λ js. let r : Floor = record { jobs = js; units = f.units } in r) left)
 
 pub submits : (f now : Floor) (t : ℕ) (spec : Spec) (jobs : List (Option Live)) → f ≡ now → IsFree f t → Begins f.jobs t spec jobs
-    → Submits now t spec (record { jobs = jobs; units = f.units })
-submits f now t spec jobs is free begins = subst (λ o. Submits o t spec (record { jobs = jobs; units = f.units })) is (record {
+    → SubmitsFor now t spec (record { jobs = jobs; units = f.units })
+submits f now t spec jobs is free begins = subst (λ o. SubmitsFor o t spec (record { jobs = jobs; units = f.units })) is (record {
   free = free;
   job = begins.job;
   starts = begins.starts;
@@ -115,8 +115,8 @@ submits f now t spec jobs is free begins = subst (λ o. Submits o t spec (record
 })
 
 pub enters : (f now : Floor) (t : ℕ) (job : Live) (jobs : List (Option Live)) → f ≡ now → IsFree f t → jobs ≡ set f.jobs t (Some job)
-    → Enters now t job (record { jobs = jobs; units = f.units })
-enters f now t job jobs is free with_it = subst (λ o. Enters o t job (record { jobs = jobs; units = f.units })) is (record {
+    → EntersFor now t job (record { jobs = jobs; units = f.units })
+enters f now t job jobs is free with_it = subst (λ o. EntersFor o t job (record { jobs = jobs; units = f.units })) is (record {
   free = free;
   new_is = ap (λ js. let r : Floor = record { jobs = js; units = f.units } in r) with_it;
 })
@@ -126,9 +126,9 @@ pub is-free : (jobs : List (Option Live)) (t : ℕ) → t < length jobs → job_
 is-free jobs t within none = slice_get_read jobs (length jobs) t None refl within (sym none)
 
 pub settles : (f now : Floor) (t : ℕ) (done : Done) (n x : ℕ) (job next : Live) → f ≡ now → job_of f.jobs t ≡ Some job
-    → HasSettled job done n next → x ≡ units_of f t + n → Settles now t done n (record { jobs = set f.jobs t (Some next); units = set f.units t x })
+    → HasSettled job done n next → x ≡ units_of f t + n → SettlesFor now t done n (record { jobs = set f.jobs t (Some next); units = set f.units t x })
 settles f now t done n x job next is at settled more =
-    subst (λ o. Settles o t done n (record { jobs = set f.jobs t (Some next); units = set f.units t x })) is (record {
+    subst (λ o. SettlesFor o t done n (record { jobs = set f.jobs t (Some next); units = set f.units t x })) is (record {
       job = job;
       is = at;
       next = next;

@@ -18,9 +18,9 @@ use Rattle.ot_job.proofs.DealingsLemmas.{claimed-gives, settles-pays, fails-brea
 use Rattle.ot_core.specs.Accounts.{Account, IsSound}
 use Rattle.ot_core.specs.Asking.{with_reply}
 use Rattle.ot_core.specs.Index.{job_of}
-use Rattle.ot_core.specs.Floors.{Floor, Claims, Settles, FailsIn, AbortsJob, IsWorking, IsStrange, NothingAt, HasJob, with_job, with_settled, units_of, total_of}
+use Rattle.ot_core.specs.Floors.{Floor, ClaimsFor, SettlesFor, FailsIn, AbortsJob, IsWorking, IsStrange, NothingAt, HasJob, with_job, with_settled, units_of, total_of}
 use Rattle.ot_core.specs.Scenes.{Scene, IsScene, Pairs, Agrees, hand_of, held_work, out_at}
-use Rattle.ot_core.specs.Steps.{handed, moved, Takes, GivesBack, BreaksJob, EndsJob, Stops, CannotReply, CannotStart, MayTake}
+use Rattle.ot_core.specs.Steps.{handed, moved, HandTakes, GivesBack, BreaksJob, EndsJob, StopsJob, CannotReply, CannotStart, MayTake}
 use Rattle.ot_core.specs.declared.held.Held.{Held}
 use Rattle.ot_core.proofs.AccountLemmas.{answered-≤}
 use Rattle.ot_core.proofs.FloorLemmas.{job-within}
@@ -73,7 +73,7 @@ was s t j a scene job at = subst (λ o. Agrees a o (units_of s.floor t)) job (sc
 
 -- ---- a worker takes a piece
 
-scene-taken : (s : Scene) (w t pick : ℕ) (piece : Piece) (floor : Floor) → IsScene s → w < 16 → hand_of s.hands w ≡ None → Claims s.floor t pick (w + 1) piece floor
+scene-taken : (s : Scene) (w t pick : ℕ) (piece : Piece) (floor : Floor) → IsScene s → w < 16 → hand_of s.hands w ≡ None → ClaimsFor s.floor t pick (w + 1) piece floor
     → IsScene (handed s floor w (Some (record { tenant = t; piece = piece })))
 scene-taken s w t pick piece floor scene below free claims =
     let h : Held = record { tenant = t; piece = piece } in
@@ -88,13 +88,13 @@ scene-taken s w t pick piece floor scene below free claims =
     (held-taken s.floor.jobs (set s.floor.jobs t (Some k)) s.hands w h scene.held (omega (arith, below, scene.hands_many)) free
     (ap (λ o. out_at o piece.task) claims.is ∙ takes.free) (ap (λ o. out_at o piece.task) mine ∙ takes.taken) (others-out s.floor.jobs t piece.task j k claims.is takes.others)))
 
-pub taken : (s now : Scene) (w t pick task : ℕ) (piece : Piece) (floor : Floor) (hand : Option Held) → s ≡ now → IsScene s → w < 16 → hand_of s.hands w ≡ None → Claims s.floor t pick (w + 1) piece floor
-    → task ≡ piece.task → hand ≡ Some (record { tenant = t; piece = piece }) → IsScene (handed s floor w hand) × Takes now w t pick task (handed s floor w hand)
+pub taken : (s now : Scene) (w t pick task : ℕ) (piece : Piece) (floor : Floor) (hand : Option Held) → s ≡ now → IsScene s → w < 16 → hand_of s.hands w ≡ None → ClaimsFor s.floor t pick (w + 1) piece floor
+    → task ≡ piece.task → hand ≡ Some (record { tenant = t; piece = piece }) → IsScene (handed s floor w hand) × HandTakes now w t pick task (handed s floor w hand)
 taken s now w t pick task piece floor hand is scene below free claims task_is hand_is =
     let h : Held = record { tenant = t; piece = piece } in
-    let does : Takes s w t pick task (handed s floor w (Some h)) = record { free = free; piece = piece; floor = floor; claims = claims; task_is = task_is; new_is = refl } in
-    subst (λ o. IsScene (handed s floor w o) × Takes now w t pick task (handed s floor w o)) (sym hand_is)
-    (scene-taken s w t pick piece floor scene below free claims, subst (λ o. Takes o w t pick task (handed s floor w (Some h))) is does)
+    let does : HandTakes s w t pick task (handed s floor w (Some h)) = record { free = free; piece = piece; floor = floor; claims = claims; task_is = task_is; new_is = refl } in
+    subst (λ o. IsScene (handed s floor w o) × HandTakes now w t pick task (handed s floor w o)) (sym hand_is)
+    (scene-taken s w t pick piece floor scene below free claims, subst (λ o. HandTakes o w t pick task (handed s floor w (Some h))) is does)
 
 -- a tenant's job goes on with the same pieces out
 scene-goes_on : (s : Scene) (t : ℕ) (j k : Live) → IsScene s → job_of s.floor.jobs t ≡ Some j → SameSpec j k → settled_units k ≡ settled_units j
@@ -116,13 +116,13 @@ as-before s now floor is scene same =
 
 -- a job fails
 pub stopped : (s now : Scene) (t : ℕ) (floor : Floor) → s ≡ now → IsScene s → IsWorking s.floor t → AbortsJob s.floor t floor
-    → IsScene (record { accounts = s.accounts; floor = floor; hands = s.hands }) × Stops now t (record { accounts = s.accounts; floor = floor; hands = s.hands })
+    → IsScene (record { accounts = s.accounts; floor = floor; hands = s.hands }) × StopsJob now t (record { accounts = s.accounts; floor = floor; hands = s.hands })
 stopped s now t floor is scene working stops =
     let fails = aborted-aborts stops.job (aborted stops.job) refl in
-    let does : Stops s t (record { accounts = s.accounts; floor = floor; hands = s.hands }) = record { working = working; floor = floor; aborts = stops; new_is = refl } in (
+    let does : StopsJob s t (record { accounts = s.accounts; floor = floor; hands = s.hands }) = record { working = working; floor = floor; aborts = stops; new_is = refl } in (
       subst (λ f. IsScene (record { accounts = s.accounts; floor = f; hands = s.hands })) (sym stops.new_is)
           (scene-goes_on s t stops.job (aborted stops.job) scene stops.is fails.same fails.units fails.works),
-      subst (λ o. Stops o t (record { accounts = s.accounts; floor = floor; hands = s.hands })) is does,
+      subst (λ o. StopsJob o t (record { accounts = s.accounts; floor = floor; hands = s.hands })) is does,
     )
 
 -- ---- a worker gives its piece back
@@ -157,8 +157,8 @@ returned j k done h task ran returns = subst (λ w. Returns j h.piece.task w k) 
 
 -- it is settled
 pub given : (s now : Scene) (w : ℕ) (h : Held) (done : Done) (n : ℕ) (floor : Floor) (hand : Option Held) → s ≡ now → IsScene s → w < 16 → hand_of s.hands w ≡ Some h
-    → done.task ≡ h.piece.task → brought done ≡ held_work h → Settles s.floor h.tenant done n floor → hand ≡ None
-    → IsScene (handed s floor w hand) × GivesBack now w (λ f t d g. Settles f t d n g) (handed s floor w hand)
+    → done.task ≡ h.piece.task → brought done ≡ held_work h → SettlesFor s.floor h.tenant done n floor → hand ≡ None
+    → IsScene (handed s floor w hand) × GivesBack now w (λ f t d g. SettlesFor f t d n g) (handed s floor w hand)
 given s now w h done n floor hand is scene below mine task ran does gone =
     let t = h.tenant in
     let j = does.job in
@@ -169,10 +169,10 @@ given s now w h done n floor hand is scene below mine task ran does gone =
     scene-given s w h j k (set s.floor.units t more) scene below mine does.is (returned j k done h task ran pays.returns) (but-set s.floor.units t more)
     (λ a at. subst (Agrees a (Some k)) (sym (get_or-set_same s.floor.units t more 0 (omega (arith, slice_get_within s.accounts t a at, scene.units_many))))
     (agrees-job a j k (units_of s.floor t) n (was s t j a scene does.is at) pays.returns.same pays.units pays.few)) in
-    let back : GivesBack s w (λ f t d g. Settles f t d n g) (handed s floor w None) =
+    let back : GivesBack s w (λ f t d g. SettlesFor f t d n g) (handed s floor w None) =
     record { held = h; is = mine; done = done; task_is = task; ran = ran; floor = floor; does_so = does; new_is = refl } in
-    subst (λ o. IsScene (handed s floor w o) × GivesBack now w (λ f t d g. Settles f t d n g) (handed s floor w o)) (sym gone)
-    (subst (λ f. IsScene (handed s f w None)) (sym does.new_is) right, subst (λ o. GivesBack o w (λ f t d g. Settles f t d n g) (handed s floor w None)) is back)
+    subst (λ o. IsScene (handed s floor w o) × GivesBack now w (λ f t d g. SettlesFor f t d n g) (handed s floor w o)) (sym gone)
+    (subst (λ f. IsScene (handed s f w None)) (sym does.new_is) right, subst (λ o. GivesBack o w (λ f t d g. SettlesFor f t d n g) (handed s floor w None)) is back)
 
 -- a piece that was out fails its job
 fails-by : (old new : Live) (d : Done) → work_at old d.task ≡ Some (brought d) → HasFailed old d new → FailsBy old d new

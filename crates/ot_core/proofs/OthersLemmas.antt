@@ -9,9 +9,9 @@ use Rattle.ot_job.specs.Taken.{Came as Done}
 use Rattle.ot_job.specs.States.{aborted}
 use Rattle.ot_core.specs.Accounts.{Account}
 use Rattle.ot_core.specs.Index.{job_of}
-use Rattle.ot_core.specs.Floors.{Floor, with_job, with_settled, units_of, Settles}
+use Rattle.ot_core.specs.Floors.{Floor, with_job, with_settled, units_of, SettlesFor}
 use Rattle.ot_core.specs.Scenes.{Scene, hand_of, seat_of}
-use Rattle.ot_core.specs.Steps.{moved, handed, Admits, Opens, Starts, Finishes, RepliesTo, Aborts, GivesBack, BreaksJob, Steps, IsAsItWas, LeavesOthers, of_tenant, holder}
+use Rattle.ot_core.specs.Steps.{moved, handed, AdmitsFor, OpensFor, StartsFor, Finishes, RepliesTo, AbortsFor, GivesBack, BreaksJob, Steps, IsAsItWas, LeavesOthers, of_tenant, holder}
 use Rattle.ot_core.specs.declared.held.Held.{Held}
 use Rattle.ot_core.specs.declared.event.Event.{Event}
 use Rattle.ot_core.specs.declared.event.Event.TheVariants as event
@@ -94,20 +94,20 @@ by-back u w old new does back but not =
     let other : u ≢ back.held.tenant = λ is. not (ap Some is ∙ ap (option_map (λ (h : Held). h.tenant)) (sym back.is)) in
     by-handed u back.held.tenant w old new back.floor None other but (ap (of_tenant u) back.is ∙ not_own u back.held other) refl back.new_is
 
-others-admit : (t : ℕ) (line : List ℕ) (old new : Scene) (stepped : Stepped) → Admits old t line stepped new → (u : ℕ) → u ≢ t → IsAsItWas u old new
+others-admit : (t : ℕ) (line : List ℕ) (old new : Scene) (stepped : Stepped) → AdmitsFor old t line stepped new → (u : ℕ) → u ≢ t → IsAsItWas u old new
 others-admit t line old new NotNow did = λ u not. same u old new did.1
 others-admit t line old new Full did = λ u not. same u old new did.1
 others-admit t line old new Asked did = λ u not. by-moved u t old new did.next old.floor not (same-floor old.floor t) did.new_is
 others-admit t line old new other did = absurd did
 
-others-open : (t : ℕ) (old new : Scene) (stepped : Stepped) → Opens old t stepped new → (u : ℕ) → u ≢ t → IsAsItWas u old new
+others-open : (t : ℕ) (old new : Scene) (stepped : Stepped) → OpensFor old t stepped new → (u : ℕ) → u ≢ t → IsAsItWas u old new
 others-open t old new NotNow did = λ u not. same u old new did.1
 others-open t old new Answered did = λ u not. by-moved u t old new did.1.next old.floor not (same-floor old.floor t) did.1.new_is
 others-open t old new Job did = λ u not.
     by-moved u t old new did.1.next did.1.floor not (job-floor old.floor did.1.floor t (Some did.1.submits.job) did.1.submits.new_is) did.1.new_is
 others-open t old new other did = absurd did
 
-others-start : (w : Option ℕ) (t pick : ℕ) (old new : Scene) (stepped : Stepped) → Starts old w t pick stepped new → (u : ℕ) → u ≢ t → IsAsItWas u old new
+others-start : (w : Option ℕ) (t pick : ℕ) (old new : Scene) (stepped : Stepped) → StartsFor old w t pick stepped new → (u : ℕ) → u ≢ t → IsAsItWas u old new
 others-start None t pick old new stepped did = λ u not. same u old new did.1
 others-start (Some w) t pick old new (Started k) did = λ u not.
     by-handed u t w old new did.floor _ not (job-floor old.floor did.floor t (Some did.claims.next) did.claims.new_is) (ap (of_tenant u) did.free) (not_own u _ not) did.new_is
@@ -117,7 +117,7 @@ others-start (Some w) t pick old new other did = absurd did
 others-finish : (w : Option ℕ) (old new : Scene) (stepped : Stepped) → Finishes old w stepped new → (u : ℕ) → Some u ≢ holder w old.hands → IsAsItWas u old new
 others-finish None old new stepped did = λ u not. same u old new did.1
 others-finish (Some w) old new (Finished n) did = λ u not.
-    by-back u w old new (λ f t d g. Settles f t d n g) did (settled-floor old.floor did.floor did.held.tenant did.does_so.next n did.does_so.new_is) not
+    by-back u w old new (λ f t d g. SettlesFor f t d n g) did (settled-floor old.floor did.floor did.held.tenant did.does_so.next n did.does_so.new_is) not
 others-finish (Some w) old new FinishedFailed did = λ u not.
     by-back u w old new BreaksJob did (job-floor old.floor did.floor did.held.tenant (Some did.does_so.next) did.does_so.new_is) not
 others-finish (Some w) old new NotNow did = λ u not. same u old new did.1
@@ -128,7 +128,7 @@ others-reply t old new NotNow did = λ u not. same u old new did.1
 others-reply t old new Replied did = λ u not. by-moved u t old new _ (with_job old.floor t None) not (job-floor old.floor (with_job old.floor t None) t None refl) did.new_is
 others-reply t old new other did = absurd did
 
-others-abort : (t : ℕ) (old new : Scene) (stepped : Stepped) → Aborts old t stepped new → (u : ℕ) → u ≢ t → IsAsItWas u old new
+others-abort : (t : ℕ) (old new : Scene) (stepped : Stepped) → AbortsFor old t stepped new → (u : ℕ) → u ≢ t → IsAsItWas u old new
 others-abort t old new NotNow did = λ u not. same u old new did.1
 others-abort t old new Aborted did = λ u not. by-floor u t old new did.floor not (job-floor old.floor did.floor t (Some (aborted did.aborts.job)) did.aborts.new_is) did.new_is
 others-abort t old new other did = absurd did

@@ -11,7 +11,7 @@ use Rattle.ot_job.proofs.DealingsLemmas.{starts-fresh}
 use Rattle.ot_core.specs.Accounts.{Account, IsSound, answered}
 use Rattle.ot_core.specs.Asking.{IsAnswered, IsUnopened, Waits, with_reply}
 use Rattle.ot_core.specs.Index.{job_of}
-use Rattle.ot_core.specs.Floors.{Floor, with_job, units_of, Submits}
+use Rattle.ot_core.specs.Floors.{Floor, with_job, units_of, SubmitsFor}
 use Rattle.ot_core.specs.Scenes.{Scene, Pairs, Agrees, AreHeld, IsScene, out_at}
 use Rattle.ot_core.specs.Steps.{moved, HasTenant, Moves, CanOpen, StartsJob}
 use Rattle.ot_core.specs.declared.held.Held.{Held}
@@ -190,7 +190,7 @@ job-set jobs t job below = get_or-set_same jobs t job None below
 
 -- a tenant's request is open and its job begins
 pub scene-opened : (s : Scene) (t : ℕ) (a b : Account) (spec : Spec) (floor : Floor) → IsScene s → slice_get s.accounts t ≡ Some a → a.spec ≡ None → IsSound b
-    → Waits a spec b → Submits s.floor t spec floor → IsScene (moved s t b floor)
+    → Waits a spec b → SubmitsFor s.floor t spec floor → IsScene (moved s t b floor)
 scene-opened s t a b spec floor scene at free sound waits submits =
     let j = submits.job in
     let fresh = starts-fresh spec j submits.starts in
@@ -235,6 +235,6 @@ cannot-open s now t a is at not can =
     not (subst IsUnopened (same_Some back.0 a (sym back.1 ∙ at)) back.2)
 
 pub starts-job : (s now : Scene) (t : ℕ) (a b : Account) (spec : Spec) (floor : Floor) → s ≡ now → slice_get s.accounts t ≡ Some a
-    → Waits a spec b → Submits s.floor t spec floor → StartsJob now t (moved s t b floor)
+    → Waits a spec b → SubmitsFor s.floor t spec floor → StartsJob now t (moved s t b floor)
 starts-job s now t a b spec floor is at waits submits =
     subst (λ o. StartsJob o t (moved s t b floor)) is (record { account = a; is = at; spec = spec; next = b; waits = waits; floor = floor; submits = submits; new_is = refl })

@@ -24,17 +24,17 @@ next_line a = unwrap_or (slice_get a.asked (answered a)) []
 abbrev pub IsFull : Account → List ℕ → Type 0
 IsFull a line = takes (room_asked a) line ≡ false
 
-abbrev pub HasRoom : Account → List ℕ → Type 0
-HasRoom a line = takes (room_asked a) line ≡ true
+abbrev pub HasRoomFor : Account → List ℕ → Type 0
+HasRoomFor a line = takes (room_asked a) line ≡ true
 
 -- fewer lines were asked in all than may have numbers
 abbrev pub MayAsk : Account → Type 0
 MayAsk a = length a.asked < max_number
 
 -- the line is asked, or there is no room for it
-abbrev pub Admits : Account → List ℕ → Bool → Account → Type 0
-Admits old line false new = IsFull old line × (new ≡ old)
-Admits old line true new = HasRoom old line × (new ≡ record old { asked = old.asked ++ line ∷ [] })
+abbrev pub AdmitsLine : Account → List ℕ → Bool → Account → Type 0
+AdmitsLine old line false new = IsFull old line × (new ≡ old)
+AdmitsLine old line true new = HasRoomFor old line × (new ≡ record old { asked = old.asked ++ line ∷ [] })
 
 -- what is kept of the replies where this line is answered: at a checkpoint all before it
 abbrev pub kept_at : Account → List ℕ → List Told
@@ -62,6 +62,6 @@ pub record IsAnswered (old : Account) (new : Account) : Type 0 where
   pub never : is_checkpoint (next_line old) ≡ true → lost ≡ false
   pub at_once : (lost ≡ true) ⊎ ((told : Told) × (arrays : List Named) × (next_step old.book (next_line old) ≡ Now told arrays))
 
-abbrev pub Opens : Account → Option Spec → Account → Type 0
-Opens old None new = IsAnswered old new
-Opens old (Some job) new = Waits old job new
+abbrev pub OpensNext : Account → Option Spec → Account → Type 0
+OpensNext old None new = IsAnswered old new
+OpensNext old (Some job) new = Waits old job new

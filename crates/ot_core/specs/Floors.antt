@@ -45,14 +45,14 @@ abbrev pub IsFree : Floor → ℕ → Type 0
 IsFree f t = slice_get f.jobs t ≡ Some None
 
 -- the tenant has a job of this spec that begins
-pub record Submits (old : Floor) (t : ℕ) (spec : Spec) (new : Floor) : Type 0 where
+pub record SubmitsFor (old : Floor) (t : ℕ) (spec : Spec) (new : Floor) : Type 0 where
   pub free : IsFree old t
   pub job : Live
   pub starts : Starts spec job
   pub new_is : new ≡ with_job old t (Some job)
 
 -- the tenant, which had no job, has this one
-pub record Enters (old : Floor) (t : ℕ) (job : Live) (new : Floor) : Type 0 where
+pub record EntersFor (old : Floor) (t : ℕ) (job : Live) (new : Floor) : Type 0 where
   pub free : IsFree old t
   pub new_is : new ≡ with_job old t (Some job)
 
@@ -61,7 +61,7 @@ abbrev pub NothingAt : List (Option Live) → ℕ → Type 0
 NothingAt jobs t = (j : Live) → job_of jobs t ≡ Some j → claimable_in j ≡ []
 
 -- a piece of the tenant's job is claimed by the worker
-pub record Claims (old : Floor) (t pick worker : ℕ) (piece : Piece) (new : Floor) : Type 0 where
+pub record ClaimsFor (old : Floor) (t pick worker : ℕ) (piece : Piece) (new : Floor) : Type 0 where
   pub job : Live
   pub is : job_of old.jobs t ≡ Some job
   pub next : Live
@@ -70,7 +70,7 @@ pub record Claims (old : Floor) (t pick worker : ℕ) (piece : Piece) (new : Flo
 
 abbrev pub ClaimsOf : Floor → ℕ → ℕ → ℕ → Option Piece → Floor → Type 0
 ClaimsOf old t pick worker None new = NothingAt old.jobs t × (new ≡ old)
-ClaimsOf old t pick worker (Some piece) new = Claims old t pick worker piece new
+ClaimsOf old t pick worker (Some piece) new = ClaimsFor old t pick worker piece new
 
 -- the tenant's job works
 pub record IsWorking (f : Floor) (t : ℕ) : Type 0 where
@@ -79,7 +79,7 @@ pub record IsWorking (f : Floor) (t : ℕ) : Type 0 where
   pub working : state_of job ≡ state.Working
 
 -- a piece of the tenant's job is settled, and its units are counted
-pub record Settles (old : Floor) (t : ℕ) (done : Done) (n : ℕ) (new : Floor) : Type 0 where
+pub record SettlesFor (old : Floor) (t : ℕ) (done : Done) (n : ℕ) (new : Floor) : Type 0 where
   pub job : Live
   pub is : job_of old.jobs t ≡ Some job
   pub next : Live
@@ -118,13 +118,13 @@ abbrev pub IsStrange : Floor → ℕ → Spec → Type 0
 IsStrange f t spec = (j : Live) → job_of f.jobs t ≡ Some j → IsOf spec j → ⊥
 
 -- Whoever submitted this spec asks for its job. One that is over is taken out.
-abbrev pub Collects : Floor → ℕ → Spec → Collected → Floor → Type 0
-Collects old t spec collected.Stranger new = IsStrange old t spec × (new ≡ old)
-Collects old t spec collected.Pending new =
+abbrev pub CollectsFor : Floor → ℕ → Spec → Collected → Floor → Type 0
+CollectsFor old t spec collected.Stranger new = IsStrange old t spec × (new ≡ old)
+CollectsFor old t spec collected.Pending new =
     ((has : HasJob old t spec) × ((state_of has.job ≡ state.Working) ⊎ (state_of has.job ≡ state.Failing))) × (new ≡ old)
-Collects old t spec (collected.Ended outcome) new =
+CollectsFor old t spec (collected.Ended outcome) new =
     ((has : HasJob old t spec) × (state_of has.job ≡ state.Ended) × NoneOut has.job) × IsMeaning spec outcome × (new ≡ with_job old t None)
-Collects old t spec collected.Failed new =
+CollectsFor old t spec collected.Failed new =
     ((has : HasJob old t spec) × (state_of has.job ≡ state.Failed) × NoneOut has.job) × (new ≡ with_job old t None)
 
 -- the tenant's job is over
@@ -134,7 +134,7 @@ pub record HasOver (f : Floor) (t : ℕ) : Type 0 where
   pub over : IsOver (state_of job)
 
 -- the tenant's job, which is over, is taken out
-pub record Leaves (old : Floor) (t : ℕ) (job : Live) (new : Floor) : Type 0 where
+pub record LeavesFor (old : Floor) (t : ℕ) (job : Live) (new : Floor) : Type 0 where
   pub is : job_of old.jobs t ≡ Some job
   pub over : IsOver (state_of job)
   pub new_is : new ≡ with_job old t None

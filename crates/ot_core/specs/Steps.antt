@@ -11,7 +11,7 @@ use Rattle.ot_core.specs.Accounts.{Account}
 use Rattle.ot_core.specs.Asking as asking
 use Rattle.ot_core.specs.Asking.{IsFull, MayAsk, IsUnopened, IsAnswered, Waits, with_reply}
 use Rattle.ot_core.specs.Index.{job_of}
-use Rattle.ot_core.specs.Floors.{Floor, units_of, with_job, Submits, NothingAt, Claims, IsWorking, Settles, AbortsJob}
+use Rattle.ot_core.specs.Floors.{Floor, units_of, with_job, SubmitsFor, NothingAt, ClaimsFor, IsWorking, SettlesFor, AbortsJob}
 use Rattle.ot_core.specs.Scenes.{Scene, hand_of, held_work, seat_of}
 use Rattle.ot_core.specs.declared.held.Held.{Held}
 use Rattle.ot_core.specs.declared.event.Stepped.{Stepped}
@@ -41,11 +41,11 @@ pub record Moves (P : Account → Account → Type 0) (old : Scene) (t : ℕ) (n
 abbrev pub HasTenant : (Account → Type 0) → Scene → ℕ → Type 0
 HasTenant P s t = (a : Account) × (slice_get s.accounts t ≡ Some a) × P a
 
-abbrev pub Admits : Scene → ℕ → List ℕ → Stepped → Scene → Type 0
-Admits old t line NotNow new = (slice_get old.accounts t ≡ None) × (new ≡ old)
-Admits old t line Full new = HasTenant (λ a. IsFull a line) old t × (new ≡ old)
-Admits old t line Asked new = Moves (λ a b. asking.Admits a line true b) old t new
-Admits old t line other new = ⊥
+abbrev pub AdmitsFor : Scene → ℕ → List ℕ → Stepped → Scene → Type 0
+AdmitsFor old t line NotNow new = (slice_get old.accounts t ≡ None) × (new ≡ old)
+AdmitsFor old t line Full new = HasTenant (λ a. IsFull a line) old t × (new ≡ old)
+AdmitsFor old t line Asked new = Moves (λ a b. asking.AdmitsLine a line true b) old t new
+AdmitsFor old t line other new = ⊥
 
 -- ---- a tenant's next line is opened
 
@@ -60,23 +60,23 @@ pub record StartsJob (old : Scene) (t : ℕ) (new : Scene) : Type 0 where
   pub next : Account
   pub waits : Waits account spec next
   pub floor : Floor
-  pub submits : Submits old.floor t spec floor
+  pub submits : SubmitsFor old.floor t spec floor
   pub new_is : new ≡ moved old t next floor
 
-abbrev pub Opens : Scene → ℕ → Stepped → Scene → Type 0
-Opens old t NotNow new = (¬ (CanOpen old t)) × (new ≡ old)
-Opens old t Answered new = CanOpen old t × Moves IsAnswered old t new
-Opens old t Job new = CanOpen old t × StartsJob old t new
-Opens old t other new = ⊥
+abbrev pub OpensFor : Scene → ℕ → Stepped → Scene → Type 0
+OpensFor old t NotNow new = (¬ (CanOpen old t)) × (new ≡ old)
+OpensFor old t Answered new = CanOpen old t × Moves IsAnswered old t new
+OpensFor old t Job new = CanOpen old t × StartsJob old t new
+OpensFor old t other new = ⊥
 
 -- ---- a worker takes a piece
 
 -- the hand takes the piece that the job's claim gives
-pub record Takes (old : Scene) (w t pick task : ℕ) (new : Scene) : Type 0 where
+pub record HandTakes (old : Scene) (w t pick task : ℕ) (new : Scene) : Type 0 where
   pub free : hand_of old.hands w ≡ None
   pub piece : Piece
   pub floor : Floor
-  pub claims : Claims old.floor t pick (w + 1) piece floor
+  pub claims : ClaimsFor old.floor t pick (w + 1) piece floor
   pub task_is : task ≡ piece.task
   pub new_is : new ≡ handed old floor w (Some (record { tenant = t; piece = piece }))
 
@@ -84,11 +84,11 @@ pub record Takes (old : Scene) (w t pick task : ℕ) (new : Scene) : Type 0 wher
 abbrev pub CannotStart : Scene → ℕ → ℕ → Type 0
 CannotStart s w t = IsSome (hand_of s.hands w) ⊎ NothingAt s.floor.jobs t
 
-abbrev pub Starts : Scene → Option ℕ → ℕ → ℕ → Stepped → Scene → Type 0
-Starts old None t pick stepped new = (stepped ≡ NotNow) × (new ≡ old)
-Starts old (Some w) t pick (Started k) new = Takes old w t pick k new
-Starts old (Some w) t pick NotNow new = CannotStart old w t × (new ≡ old)
-Starts old (Some w) t pick other new = ⊥
+abbrev pub StartsFor : Scene → Option ℕ → ℕ → ℕ → Stepped → Scene → Type 0
+StartsFor old None t pick stepped new = (stepped ≡ NotNow) × (new ≡ old)
+StartsFor old (Some w) t pick (Started k) new = HandTakes old w t pick k new
+StartsFor old (Some w) t pick NotNow new = CannotStart old w t × (new ≡ old)
+StartsFor old (Some w) t pick other new = ⊥
 
 -- ---- a worker has run its piece
 
@@ -113,7 +113,7 @@ pub record GivesBack (old : Scene) (w : ℕ) (does : Floor → ℕ → Done → 
 
 abbrev pub Finishes : Scene → Option ℕ → Stepped → Scene → Type 0
 Finishes old None stepped new = (stepped ≡ NotNow) × (new ≡ old)
-Finishes old (Some w) (Finished n) new = GivesBack old w (λ f t d g. Settles f t d n g) new
+Finishes old (Some w) (Finished n) new = GivesBack old w (λ f t d g. SettlesFor f t d n g) new
 Finishes old (Some w) FinishedFailed new = GivesBack old w BreaksJob new
 Finishes old (Some w) NotNow new = (hand_of old.hands w ≡ None) × (new ≡ old)
 Finishes old (Some w) other new = ⊥
@@ -142,26 +142,26 @@ RepliesTo old t other new = ⊥
 
 -- ---- a tenant's job fails, for want of memory at a claim
 
-pub record Stops (old : Scene) (t : ℕ) (new : Scene) : Type 0 where
+pub record StopsJob (old : Scene) (t : ℕ) (new : Scene) : Type 0 where
   pub working : IsWorking old.floor t
   pub floor : Floor
   pub aborts : AbortsJob old.floor t floor
   pub new_is : new ≡ record old { floor = floor }
 
-abbrev pub Aborts : Scene → ℕ → Stepped → Scene → Type 0
-Aborts old t NotNow new = (¬ (IsWorking old.floor t)) × (new ≡ old)
-Aborts old t Aborted new = Stops old t new
-Aborts old t other new = ⊥
+abbrev pub AbortsFor : Scene → ℕ → Stepped → Scene → Type 0
+AbortsFor old t NotNow new = (¬ (IsWorking old.floor t)) × (new ≡ old)
+AbortsFor old t Aborted new = StopsJob old t new
+AbortsFor old t other new = ⊥
 
 -- ---- events
 
 abbrev pub Steps : Scene → Event → Stepped → Scene → Type 0
-Steps old (event.Admit t line) stepped new = Admits old t line.now stepped new
-Steps old (event.Open t) stepped new = Opens old t stepped new
-Steps old (event.Start w t pick) stepped new = Starts old (seat_of w) t pick stepped new
+Steps old (event.Admit t line) stepped new = AdmitsFor old t line.now stepped new
+Steps old (event.Open t) stepped new = OpensFor old t stepped new
+Steps old (event.Start w t pick) stepped new = StartsFor old (seat_of w) t pick stepped new
 Steps old (event.Finish w) stepped new = Finishes old (seat_of w) stepped new
 Steps old (event.Reply t) stepped new = RepliesTo old t stepped new
-Steps old (event.Abort t) stepped new = Aborts old t stepped new
+Steps old (event.Abort t) stepped new = AbortsFor old t stepped new
 
 -- ---- want of memory
 

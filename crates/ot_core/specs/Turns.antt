@@ -2,7 +2,7 @@
 use Rattle.std.specs.Prelude.{◌≡◌, ◌≤◌, ◌<◌, ◌⊎◌, ℕ, List, length, Option, Some, None}
 use Rattle.ot_job.specs.Live.{Live}
 use Rattle.ot_job.specs.Taken.{Taken as Piece}
-use Rattle.ot_core.specs.Floors.{Floor, Claims, NothingAt, IsWorking}
+use Rattle.ot_core.specs.Floors.{Floor, ClaimsFor, NothingAt, IsWorking}
 
 -- no tenant from one number up to another has a claimable task
 abbrev pub NothingIn : List (Option Live) → ℕ → ℕ → Type 0
@@ -20,7 +20,7 @@ IsNext jobs first (Some t) = ¬ (NothingAt jobs t) × (((first ≤ t) × Nothing
 -- a piece of some tenant, where a tenant has a claimable task
 abbrev pub ClaimsSome : Floor → ℕ → ℕ → Option (ℕ × Piece) → Floor → Type 0
 ClaimsSome old turn worker None new = NothingAnywhere old.jobs × (new ≡ old)
-ClaimsSome old turn worker (Some p) new = Claims old p.0 turn worker p.1 new
+ClaimsSome old turn worker (Some p) new = ClaimsFor old p.0 turn worker p.1 new
 
 -- memory ran out at a claim of this tenant, whose job works and has a claimable task, and nothing has changed
 pub record RunsShort (old : Floor) (t : ℕ) (new : Floor) : Type 0 where

@@ -66,7 +66,7 @@ impl Hall {
     ghost use Rattle.ot_job.specs.States.{claimable_in};
     ghost use Rattle.ot_job.specs.Dealings.{state_of};
     ghost use Rattle.ot_core.specs.Index.{job_of};
-    ghost use Rattle.ot_core.specs.Floors.{new_floor, units_of, total_of, IsFree, Submits, Enters, ClaimsOf, IsWorking, NothingAt, Settles, RefusesIn, FailsIn, AbortsJob, Collects, HasOver, Leaves};
+    ghost use Rattle.ot_core.specs.Floors.{new_floor, units_of, total_of, IsFree, SubmitsFor, EntersFor, ClaimsOf, IsWorking, NothingAt, SettlesFor, RefusesIn, FailsIn, AbortsJob, CollectsFor, HasOver, LeavesFor};
     ghost use Rattle.ot_core.specs.Draining.{claimable_of, over_of, LivelyAt};
     ghost use Rattle.ot_core.specs.Turns.{NothingAnywhere, IsNext, ClaimsSome, RunsShort};
     ghost use Rattle.ot_core.specs.declared.hall.SubmitFault.TheVariants.{Busy};
@@ -93,7 +93,7 @@ impl Hall {
         tenant: u32,
         spec: JobSpec,
     ) -> Result<(), (JobSpec, SubmitFault)>
-        ensures begun { IfOk result (λ _. Submits self.old tenant spec self.new) }
+        ensures begun { IfOk result (λ _. SubmitsFor self.old tenant spec self.new) }
         ensures busy { IfErr result (λ e. e.1 ≡ Busy ↔ ¬ (IsFree self.old tenant)) }
         ensures back { IfErr result (λ e. (e.0 ≡ spec) × (self.new ≡ self.old)) }
     {
@@ -113,7 +113,7 @@ impl Hall {
     /// Takes in a job for a tenant that has none. It takes no longer however long the job's program is. `Busy` comes
     /// where the tenant has a job or there is no such tenant, and with each refusal the job comes back.
     pub fn enter(&mut self, tenant: u32, job: Job) -> Result<(), (Job, SubmitFault)>
-        ensures entered { IfOk result (λ _. Enters self.old tenant job self.new) }
+        ensures entered { IfOk result (λ _. EntersFor self.old tenant job self.new) }
         ensures busy { IfErr result (λ e. e.1 ≡ Busy ↔ ¬ (IsFree self.old tenant)) }
         ensures back { IfErr result (λ e. (e.0 ≡ job) × (self.new ≡ self.old)) }
     {
@@ -188,7 +188,7 @@ impl Hall {
     /// Takes a piece of the tenant back. Its units are counted for the tenant and in the total.
     pub fn settle(&mut self, alloc: Global, tenant: u32, done: Done) -> Result<u32, (Done, Refused)>
         requires { total_of self.old + 20000 < 2 ^ 63 }
-        ensures settled { IfOk result (λ units. Settles self.old tenant done units self.new) }
+        ensures settled { IfOk result (λ units. SettlesFor self.old tenant done units self.new) }
         ensures few { IfOk result (λ units. units ≤ 20000) }
         ensures same { IfErr result (λ r. r.0 ≡ done) }
         ensures refuses { IfErr result (λ r. RefusesIn (job_of self.old.jobs tenant) done r.1) }
@@ -231,7 +231,7 @@ impl Hall {
 
     /// What became of the tenant's job of this spec. One that is over is taken out.
     pub fn collect(&mut self, tenant: u32, spec: &JobSpec) -> Collected
-        ensures { Collects self.old tenant spec.now result self.new }
+        ensures { CollectsFor self.old tenant spec.now result self.new }
     {
         let Some(job) = self.jobs.get(tenant) else {
             return Collected::Stranger;
@@ -258,7 +258,7 @@ impl Hall {
     /// Takes the tenant's job out, which is over. It takes no longer however long the job's program is.
     pub fn leave(&mut self, tenant: u32) -> Job
         requires { HasOver self.old tenant }
-        ensures { Leaves self.old tenant result self.new }
+        ensures { LeavesFor self.old tenant result self.new }
     {
         let job = self.jobs.take(tenant);
         self.marks.put(tenant, false);

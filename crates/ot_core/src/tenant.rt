@@ -49,7 +49,7 @@ impl Tenant {
     ghost use Rattle.ot_core.specs.Accounts.{Account, IsSound, answered};
     ghost use Rattle.ot_core.specs.Given.{reply_in};
     ghost use Rattle.ot_core.specs.Headline.{IsTold};
-    ghost use Rattle.ot_core.specs.Asking.{Admits, Opens, with_reply, new_account, next_line, MayAsk, IsUnopened};
+    ghost use Rattle.ot_core.specs.Asking.{AdmitsLine, OpensNext, with_reply, new_account, next_line, MayAsk, IsUnopened};
 
     /// A tenant that asked nothing yet.
     pub(crate) fn new(alloc: Global, book: Book, base: Store) -> Tenant
@@ -71,7 +71,7 @@ impl Tenant {
 
     /// Asks a line, where there is room for it.
     pub(crate) fn admit(&mut self, alloc: Global, line: &[u8]) -> Result<bool, AllocError>
-        ensures admitted { IfOk result (λ took. Admits self.old line.now took self.new) }
+        ensures admitted { IfOk result (λ took. AdmitsLine self.old line.now took self.new) }
         ensures memory { OnErr result (MayAsk self.old × (self.new ≡ self.old)) }
         ensures sound { IsSound self.new }
     {
@@ -91,7 +91,7 @@ impl Tenant {
     /// Opens the next line: it is answered, or this job is to be run.
     pub(crate) fn open(&mut self, alloc: Global) -> Result<Option<JobSpec>, AllocError>
         requires { IsUnopened self.old }
-        ensures opened { IfOk result (λ job. Opens self.old job self.new) }
+        ensures opened { IfOk result (λ job. OpensNext self.old job self.new) }
         ensures memory { OnErr result (self.new ≡ self.old) }
         ensures sound { IsSound self.new }
     {

@@ -52,7 +52,7 @@ impl World {
     ghost use Rattle.ot_core.specs.Draining.{Drains, DrainsPart, AllAnswered, count_of, moves_at, opens_of, full_hand, IsMove, IsFreeWorker, MayFinish, LivelyAt};
     ghost use Rattle.ot_core.specs.Headline.{Tells, TellsAll};
     ghost use Rattle.ot_core.specs.Asking.{MayAsk};
-    ghost use Rattle.ot_core.specs.Steps.{Admits, Opens, Starts, Finishes, RepliesTo, Aborts, Steps, HasTenant, CanOpen, MayTake, RunsOut, LeavesOthers};
+    ghost use Rattle.ot_core.specs.Steps.{AdmitsFor, OpensFor, StartsFor, Finishes, RepliesTo, AbortsFor, Steps, HasTenant, CanOpen, MayTake, RunsOut, LeavesOthers};
 
     /// Tenants with these names, limits and arrays, who asked nothing yet.
     pub fn new(alloc: Global, openings: Vec<(String, Limits, Store)>) -> Result<World, AllocError>
@@ -337,7 +337,7 @@ impl World {
 
     // A tenant asks a line.
     fn admit(&mut self, alloc: Global, tenant: u32, line: &[u8]) -> Result<Stepped, AllocError>
-        ensures stepped { IfOk result (λ stepped. Admits self.old tenant line.now stepped self.new) }
+        ensures stepped { IfOk result (λ stepped. AdmitsFor self.old tenant line.now stepped self.new) }
         ensures memory { OnErr result (HasTenant MayAsk self.old tenant × (self.new ≡ self.old)) }
     {
         let Some(account) = self.tenants.get_mut(tenant as usize) else {
@@ -351,7 +351,7 @@ impl World {
 
     // A tenant's next line is opened.
     fn open(&mut self, alloc: Global, tenant: u32) -> Result<Stepped, AllocError>
-        ensures stepped { IfOk result (λ stepped. Opens self.old tenant stepped self.new) }
+        ensures stepped { IfOk result (λ stepped. OpensFor self.old tenant stepped self.new) }
         ensures memory { OnErr result (CanOpen self.old tenant × (self.new ≡ self.old)) }
     {
         let Some(account) = self.tenants.get_mut(tenant as usize) else {
@@ -379,7 +379,7 @@ impl World {
         pick: u32,
     ) -> Result<Stepped, AllocError>
         requires { hand < 16 }
-        ensures stepped { IfOk result (λ stepped. Starts self.old (Some hand) tenant pick stepped self.new) }
+        ensures stepped { IfOk result (λ stepped. StartsFor self.old (Some hand) tenant pick stepped self.new) }
         ensures memory { OnErr result (MayTake self.old (Some hand) tenant × (self.new ≡ self.old)) }
     {
         if self.hands[hand].is_some() {
@@ -439,7 +439,7 @@ impl World {
 
     // A tenant's job fails, for want of memory at a claim.
     fn abort(&mut self, tenant: u32) -> Stepped
-        ensures { Aborts self.old tenant result self.new }
+        ensures { AbortsFor self.old tenant result self.new }
     {
         let Some(State::Working) = self.hall.state(tenant) else {
             return Stepped::NotNow;

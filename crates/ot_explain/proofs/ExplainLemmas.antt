@@ -10,7 +10,7 @@ use Rattle.ot_front.specs.Device.{AppendsFront}
 use Rattle.ot_book.specs.Room.{room_in}
 use Rattle.ot_front.specs.Heard.{Heard, HasNoEnd, max_line}
 use Rattle.ot_front.specs.Told.{Lines, marked, after, told}
-use Rattle.ot_front.specs.Session.{closing, heard_in, session_text, logged_lines, TellsAll, BreaksOff, Tells, Session}
+use Rattle.ot_front.specs.Session.{closing, heard_in, session_text, logged_lines, TellsAll, BreaksOff, SessionTells, Session}
 use Rattle.ot_front.specs.Serving.{Going, Serving}
 use Rattle.ot_front.specs.declared.fault.End.{End}
 use Rattle.ot_front.specs.declared.fault.End.TheVariants as end
@@ -59,7 +59,7 @@ off_plain book bytes lost written t = plain-front (session_text book bytes lost)
 run_plain : (book : Register) (lines : Lines) (written : List ℕ) → written ≡ told book lines → without_remarks written ≡ written
 run_plain book lines written is = ap without_remarks is ∙ plain-all (told book lines) (plain-told book lines) ∙ sym is
 
-written_plain : (book : Register) (bytes : List ℕ) (lost : List Bool) (written : List ℕ) (result : Result End FrontFault) → Tells book bytes lost written result → without_remarks written ≡ written
+written_plain : (book : Register) (bytes : List ℕ) (lost : List Bool) (written : List ℕ) (result : Result End FrontFault) → SessionTells book bytes lost written result → without_remarks written ≡ written
 written_plain book bytes lost written (Ok end.EndOfInput) t = all_plain book bytes lost written None t
 written_plain book bytes lost written (Ok end.Bye) t = all_plain book bytes lost written (Some end.Bye) t
 written_plain book bytes lost written (Ok end.Full) t = all_plain book bytes lost written (Some end.Full) t

@@ -5,7 +5,7 @@ use Rattle.ot_book.specs.Books.{Register, next_number}
 use Rattle.ot_book.specs.Room.{Room, room_in, takes, with_entry, room_after}
 use Rattle.ot_front.specs.Heard.{Heard, nothing_heard, hear, with_line, with_byte, is_bye, max_line}
 use Rattle.ot_front.specs.Told.{Lines, texts, marks, marked, after, told, RunsProgram}
-use Rattle.ot_front.specs.Session.{closing, heard_in, session_text, logged_lines, TellsAll, LeavesRun, BreaksOff, Tells, Session}
+use Rattle.ot_front.specs.Session.{closing, heard_in, session_text, logged_lines, TellsAll, LeavesRun, BreaksOff, SessionTells, Session}
 use Rattle.ot_front.specs.Serving.{Going}
 use Rattle.ot_front.specs.declared.fault.End.{End}
 use Rattle.ot_front.specs.declared.fault.End.TheVariants as end
@@ -227,7 +227,7 @@ off_joined first bytes more lines book lost written j t =
     }
 
 tells_joined : (first : Register) (bytes more : List ℕ) (lines : Lines) (book : Register) (lost : List Bool) (written : List ℕ) (result : Result End FrontFault) → Joined first bytes more lines book →
-    Tells book more lost written result → Tells first (bytes ++ more) (marks lines ++ lost) (told first lines ++ written) result
+    SessionTells book more lost written result → SessionTells first (bytes ++ more) (marks lines ++ lost) (told first lines ++ written) result
 tells_joined first bytes more lines book lost written (Ok end.EndOfInput) j t = all_joined first bytes more lines book lost written None j t
 tells_joined first bytes more lines book lost written (Ok end.Bye) j t = all_joined first bytes more lines book lost written (Some end.Bye) j t
 tells_joined first bytes more lines book lost written (Ok end.Full) j t = all_joined first bytes more lines book lost written (Some end.Full) j t

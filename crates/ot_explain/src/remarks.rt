@@ -1,6 +1,6 @@
 //! What is said of a refusal, line by line.
 ghost use Rattle.std.specs.Prelude.{◌≡◌, ℕ, List, IfOk, MatchOption, None, Some, string_bytes};
-ghost use Rattle.ot_book.specs.Codes.{number_of};
+ghost use Rattle.ot_book.specs.Codes.{code_number};
 ghost use Rattle.ot_check.specs.Codes.{code_of};
 ghost use Rattle.ot_explain.specs.Remarks.{last_code, with_code};
 
@@ -39,7 +39,7 @@ pub(crate) fn sentence(alloc: Global, code: u32) -> Result<String, AllocError>
 
 /// The sentence, and what more can be said of a refusal without a place.
 fn refused(alloc: Global, book: &Book, entry: &Entry, code: Code) -> Result<String, AllocError>
-    ensures { IfOk result (λ text. (first : List ℕ) × (string_bytes text ≡ with_code (number_of code) first)) }
+    ensures { IfOk result (λ text. (first : List ℕ) × (string_bytes text ≡ with_code (code_number code) first)) }
 {
     let mut said = sentence(alloc, code.number())?;
     let more = behind(alloc, book, entry, code)?;

@@ -2,7 +2,7 @@
 use Rattle.std.proofs.Common.{ℕ, List, Option, inl, inr}
 use Rattle.std.specs.Prelude.{⊤, Some, None, Result, Ok, Err}
 use Rattle.ot_book.specs.Books.{Register}
-use Rattle.ot_front.specs.Greetings.{NeverAsks, Tells, Greets}
+use Rattle.ot_front.specs.Greetings.{NeverAsks, AnswersFirstLine, Greets}
 use Rattle.ot_front.specs.declared.fault.FrontFault.{FrontFault}
 use Rattle.ot_front.specs.declared.fault.FrontFault.TheVariants.{ReadFailed, WriteFailed, Memory, Stranger, TooManyTurns, SocketFailed}
 
@@ -17,7 +17,7 @@ never_asks bytes left ended (Err TooManyTurns) never = never
 never_asks bytes left ended (Err SocketFailed) never = never
 
 tells : (names : List (List ℕ)) (bytes : List ℕ) (left : Option (List ℕ)) (ended : Type 0) (start held : Option (List ℕ)) (result : Result (Option Register) FrontFault) →
-    Tells names bytes left ended start held result → Tells names bytes left ⊤ start held result
+    AnswersFirstLine names bytes left ended start held result → AnswersFirstLine names bytes left ⊤ start held result
 tells names bytes left ended start held result (inl asked) = inl asked
 tells names bytes left ended start held result (inr cut) = inr (cut.0, cut.1, never_asks bytes left ended result cut.2)
 

@@ -11,7 +11,7 @@ use Rattle.serde_json.specs.declared.value.Value.{Value}
 use Rattle.ot_book.specs.Books.{Register, next_number}
 use Rattle.ot_front.specs.Heard.{HasNoEnd}
 use Rattle.ot_front.specs.FirstLines.{read_with}
-use Rattle.ot_front.specs.Greetings.{hello_of, hello_json, Greeting, greeting_of, Asks, IsFirstLine, IsTooLong, IsCut, IsRefused, IsGiven, refusal_text, hello_text, Writes, Answers, Greets}
+use Rattle.ot_front.specs.Greetings.{hello_of, hello_json, Greeting, greeting_of, Asks, IsFirstLine, IsTooLong, IsCut, IsRefused, IsGiven, refusal_text, hello_text, WritesReply, Answers, Greets}
 use Rattle.ot_lines.specs.declared.source.Failed.{Failed}
 use Rattle.ot_lines.specs.declared.lines.Heard.{Heard}
 use Rattle.ot_lines.specs.declared.lines.Heard.TheVariants.{Line, Long}
@@ -48,7 +48,7 @@ hello-tokens book n t0 t1 t2 t3 t4 t5 number e0 e1 e2 e3 e4 e5 =
 
 -- a refusal is told
 pub answers_refused : (names : List (List ℕ)) (greeting : Greeting) (why : Refusal) (start held : Option (List ℕ)) (result : Result (Option Register) FrontFault) →
-    IsRefused names greeting why → Writes start held (refusal_text why) result → IfOk result (λ given. given ≡ None) → Answers names greeting start held result
+    IsRefused names greeting why → WritesReply start held (refusal_text why) result → IfOk result (λ given. given ≡ None) → Answers names greeting start held result
 answers_refused names greeting why start held (Ok None) refused writes none = (why, refused, writes)
 answers_refused names greeting why start held (Ok (Some book)) refused writes none = absurd (cc)
 answers_refused names greeting why start held (Err WriteFailed) refused writes none = (refusal_text why, inl (why, refused, refl), writes)
@@ -60,7 +60,7 @@ answers_refused names greeting why start held (Err SocketFailed) refused writes 
 
 -- a book is given
 pub answers_given : (names : List (List ℕ)) (greeting : Greeting) (book : Register) (start held : Option (List ℕ)) (result : Result (Option Register) FrontFault) →
-    IsGiven names greeting book → Writes start held (hello_text book) result → IfOk result (λ given. given ≡ Some book) → Answers names greeting start held result
+    IsGiven names greeting book → WritesReply start held (hello_text book) result → IfOk result (λ given. given ≡ Some book) → Answers names greeting start held result
 answers_given names greeting book start held (Ok None) is writes given = absurd (cc)
 answers_given names greeting book start held (Ok (Some other)) is writes given =
     let same : book ≡ other = cc in
@@ -101,7 +101,7 @@ greets_whole names ahead left ended start held result line first is reads one sh
 pub greets_long : (names : List (List ℕ)) (ahead left : Option (List ℕ)) (ended : Type 0) (start held : Option (List ℕ)) (result : Result (Option Register) FrontFault)
     (line : List ℕ) (first : Heard) → first ≡ Long → Consumes ahead left (read_with (Ok first) line) → HasNoEnd line →
     ((same : Result Heard Failed) → same ≡ Ok first → same ≡ Ok Long → length line ≡ 65) →
-    Writes start held (refusal_text NotGreeting) result → IfOk result (λ given. given ≡ None) → Greets names ahead left ended start held result
+    WritesReply start held (refusal_text NotGreeting) result → IfOk result (λ given. given ≡ None) → Greets names ahead left ended start held result
 greets_long names ahead left ended start held result line first is reads clean long writes none =
     let too_long : IsTooLong line = record {
       clean = clean;

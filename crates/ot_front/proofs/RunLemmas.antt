@@ -5,7 +5,7 @@ use Rattle.ot_model.specs.Programs.{Expanded, expanded_of}
 use Rattle.ot_check.specs.Jobs.{Spec}
 use Rattle.ot_book.specs.Answers.{Step, Now, Runs}
 use Rattle.ot_book.specs.Books.{Register, opened, open_step}
-use Rattle.ot_book.specs.Opening.{Opens}
+use Rattle.ot_book.specs.Opening.{OpensLine}
 use Rattle.ot_front.specs.Serving.{WouldRun}
 use Rattle.ot_book.specs.declared.book.Opened.{Opened}
 use Rattle.ot_book.specs.declared.book.Opened.TheVariants.{ToRun}
@@ -15,15 +15,15 @@ no_run : (s : Step) (p : Expanded) → ∥ s ≡ Runs p ∥₁ → (x : Expanded
 no_run (Now told arrays) p some = absurd (∥∥₁_elim some (λ (x y : ⊥). absurd x) (λ is. cc))
 no_run (Runs q) p some = (q, refl)
 
-pub run_asked : (b new : Register) (line : List ℕ) (o : Opened) (spec : Spec) → Opens b line new o → o ≡ ToRun spec → RunsProgram b line
+pub run_asked : (b new : Register) (line : List ℕ) (o : Opened) (spec : Spec) → OpensLine b line new o → o ≡ ToRun spec → RunsProgram b line
 run_asked b new line o spec opens is =
-    let h : Opens b line new (ToRun spec) = subst (Opens b line new) is opens in
+    let h : OpensLine b line new (ToRun spec) = subst (OpensLine b line new) is opens in
     let asks : ∥ open_step (opened b line) ≡ Runs (expanded_of spec.checked.program) ∥₁ =
     subst (λ x. ∥ open_step x ≡ Runs (expanded_of spec.checked.program) ∥₁) h.1 h.2.asks in
     no_run _ (expanded_of spec.checked.program) asks
 
-pub would_run : (b new : Register) (line : List ℕ) (o : Opened) (spec : Spec) → Opens b line new o → o ≡ ToRun spec → WouldRun b line
+pub would_run : (b new : Register) (line : List ℕ) (o : Opened) (spec : Spec) → OpensLine b line new o → o ≡ ToRun spec → WouldRun b line
 would_run b new line o spec opens is = record {
-  room = (subst (Opens b line new) is opens).0;
+  room = (subst (OpensLine b line new) is opens).0;
   runs = run_asked b new line o spec opens is;
 }

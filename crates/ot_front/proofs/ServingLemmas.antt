@@ -7,7 +7,7 @@ use Rattle.std.proofs.lemmas.List.{length-take-le}
 use Rattle.ot_book.specs.Books.{Register, next_number}
 use Rattle.ot_front.specs.Heard.{Heard}
 use Rattle.ot_front.specs.Told.{Lines, texts, marks, marked, after, told}
-use Rattle.ot_front.specs.Session.{heard_in, logged_lines, Tells, Session, Serves}
+use Rattle.ot_front.specs.Session.{heard_in, logged_lines, SessionTells, Session, Serves}
 use Rattle.ot_front.specs.Serving.{result_of, Going, Serving}
 use Rattle.ot_front.specs.declared.fault.End.{End}
 use Rattle.ot_front.specs.declared.fault.End.TheVariants.{Bye, EndOfInput, Full, LongLine, Closed}
@@ -64,7 +64,7 @@ IsIdle (Err Memory) = Unit {0}
 IsIdle result = ⊥
 
 tells_idle : (first : Register) (bytes : List ℕ) (lines : Lines) (partial : List ℕ) (result : Result End FrontFault) → IsIdle result →
-    heard_in first bytes ≡ record { lines = texts lines; partial = partial; end = None } → Tells first bytes (marks lines) (told first lines ++ []) result
+    heard_in first bytes ≡ record { lines = texts lines; partial = partial; end = None } → SessionTells first bytes (marks lines) (told first lines ++ []) result
 tells_idle first bytes lines partial (Ok EndOfInput) idle hears = tells_all first bytes lines partial None hears
 tells_idle first bytes lines partial (Ok Bye) idle hears = absurd idle
 tells_idle first bytes lines partial (Ok Full) idle hears = absurd idle

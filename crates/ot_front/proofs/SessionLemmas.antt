@@ -12,8 +12,8 @@ use Rattle.ot_book.proofs.RoomLemmas.{full-takes, free-takes}
 use Rattle.ot_front.specs.Device.{AppendsFront}
 use Rattle.ot_front.specs.Heard.{Heard, hear, with_line, is_bye, max_line, HasNoEnd}
 use Rattle.ot_front.specs.Told.{Lines, texts, marks, marked, after, told, reply_line, last_reply, RunsProgram}
-use Rattle.ot_front.specs.Session.{closing, heard_in, session_text, logged_lines, TellsAll, LeavesRun, BreaksOff, Tells, Session}
-use Rattle.ot_front.specs.Serving.{result_of, Going, Goes, Takes, WouldRun}
+use Rattle.ot_front.specs.Session.{closing, heard_in, session_text, logged_lines, TellsAll, LeavesRun, BreaksOff, SessionTells, Session}
+use Rattle.ot_front.specs.Serving.{result_of, Going, Goes, LogsLine, WouldRun}
 use Rattle.ot_front.specs.declared.fault.End.{End}
 use Rattle.ot_front.specs.declared.fault.End.TheVariants as end
 use Rattle.ot_front.specs.declared.fault.FrontFault.{FrontFault}
@@ -53,7 +53,7 @@ few-marks first bytes lines rest hears =
 
 -- a session whose logged lines are these
 pub session_of : (first : Register) (start : Option (List ℕ)) (bytes : List ℕ) (book : Register) (held : Option (List ℕ)) (lines : Lines) (rest : List (List ℕ)) (written : List ℕ) (result : Result End FrontFault) →
-    (heard_in first bytes).lines ≡ texts lines ++ rest → book ≡ after first lines → Appends start held written → Tells first bytes (marks lines) written result →
+    (heard_in first bytes).lines ≡ texts lines ++ rest → book ≡ after first lines → Appends start held written → SessionTells first bytes (marks lines) written result →
     Session first book bytes start held result
 session_of first start bytes book held lines rest written result hears logs writes tells = record {
   lost = marks lines;
@@ -79,7 +79,7 @@ tells_all first bytes lines partial end hears =
 -- a session that has told all
 session_all : (first : Register) (start : Option (List ℕ)) (bytes : List ℕ) (book : Register) (held now : Option (List ℕ)) (lines : Lines) (partial : List ℕ) (end : Option End) (result : Result End FrontFault) →
     heard_in first bytes ≡ record { lines = texts lines; partial = partial; end = end } → book ≡ after first lines → Appends start held (told first lines) → Appends held now (closing end) →
-    (TellsAll first bytes (marks lines) (told first lines ++ closing end) end → Tells first bytes (marks lines) (told first lines ++ closing end) result) →
+    (TellsAll first bytes (marks lines) (told first lines ++ closing end) end → SessionTells first bytes (marks lines) (told first lines ++ closing end) result) →
     Session first book bytes start now result
 session_all first start bytes book held now lines partial end result hears logs writes closes tells =
     session_of first start bytes book now lines [] (told first lines ++ closing end) result
@@ -221,7 +221,7 @@ going_on {first} {start} {bytes} {line} {book} {held} new now lost going bye fre
 pub stops_in_reply : {first : Register} {start : Option (List ℕ)} {bytes line : List ℕ} {book : Register} {held : Option (List ℕ)} →
     (new : Register) (now : Option (List ℕ)) (lost : Bool) (result : Result End FrontFault) → Going first start bytes line book held → is_bye line ≡ false → takes (room_in book) line ≡ true →
     new ≡ logged book line lost → (n : ℕ) × Appends held now (take n (reply_line book (line, lost))) →
-    ((lost : List Bool) (written : List ℕ) → BreaksOff first (bytes ++ 10 ∷ []) lost written → Tells first (bytes ++ 10 ∷ []) lost written result) →
+    ((lost : List Bool) (written : List ℕ) → BreaksOff first (bytes ++ 10 ∷ []) lost written → SessionTells first (bytes ++ 10 ∷ []) lost written result) →
     Session first new (bytes ++ 10 ∷ []) start now result
 stops_in_reply {first} {start} {bytes} {line} {book} {held} new now lost result going bye free is front tells =
     let next : List ℕ × Bool = (line, lost) in
@@ -238,7 +238,7 @@ stops_in_reply {first} {start} {bytes} {line} {book} {held} new now lost result 
 -- the line changed nothing, and nothing was written
 stops_unlogged : {first : Register} {start : Option (List ℕ)} {bytes line : List ℕ} {book : Register} {held : Option (List ℕ)} →
     (new : Register) (result : Result End FrontFault) → (going : Going first start bytes line book held) → is_bye line ≡ false → takes (room_in book) line ≡ true → new ≡ book →
-    Tells first (bytes ++ 10 ∷ []) (marks going.lines) (told first going.lines) result →
+    SessionTells first (bytes ++ 10 ∷ []) (marks going.lines) (told first going.lines) result →
     Session first new (bytes ++ 10 ∷ []) start held result
 stops_unlogged {first} {start} {bytes} {line} {book} {held} new result going bye free is tells =
     session_of first start (bytes ++ 10 ∷ []) new held going.lines (line ∷ []) (told first going.lines) result
@@ -355,7 +355,7 @@ closed_going {first} going closed = ap (λ (b : Register). b.pending) going.logs
 
 pub offered_full : {first : Register} {start : Option (List ℕ)} {bytes line : List ℕ} {book : Register} {held : Option (List ℕ)} →
     (new : Register) (now : Option (List ℕ)) (took : Bool) → Going first start bytes line book held → first.pending ≡ None → is_bye line ≡ false →
-    Takes book line took new → took ≡ false → Appends held now (closing (Some end.Full)) → Session first new (bytes ++ 10 ∷ []) start now (Ok end.Full)
+    LogsLine book line took new → took ≡ false → Appends held now (closing (Some end.Full)) → Session first new (bytes ++ 10 ∷ []) start now (Ok end.Full)
 offered_full new now true going closed bye does so writes = absurd (true≢false so)
 offered_full {first} {start} {bytes} {line} {book} new now false going closed bye does so writes =
     subst (λ b. Session first b (bytes ++ 10 ∷ []) start now (Ok end.Full)) (sym does.1)
@@ -363,7 +363,7 @@ offered_full {first} {start} {bytes} {line} {book} new now false going closed by
 
 pub offered_full_cut : {first : Register} {start : Option (List ℕ)} {bytes line : List ℕ} {book : Register} {held : Option (List ℕ)} →
     (new : Register) (now : Option (List ℕ)) (took : Bool) → Going first start bytes line book held → first.pending ≡ None → is_bye line ≡ false →
-    Takes book line took new → took ≡ false → AppendsFront held now (closing (Some end.Full)) → Session first new (bytes ++ 10 ∷ []) start now (Err fault.WriteFailed)
+    LogsLine book line took new → took ≡ false → AppendsFront held now (closing (Some end.Full)) → Session first new (bytes ++ 10 ∷ []) start now (Err fault.WriteFailed)
 offered_full_cut new now true going closed bye does so front = absurd (true≢false so)
 offered_full_cut {first} {start} {bytes} {line} {book} new now false going closed bye does so front =
     subst (λ b. Session first b (bytes ++ 10 ∷ []) start now (Err fault.WriteFailed)) (sym does.1)
@@ -371,7 +371,7 @@ offered_full_cut {first} {start} {bytes} {line} {book} new now false going close
 
 pub offered_taken : {first : Register} {start : Option (List ℕ)} {bytes line : List ℕ} {book : Register} {held : Option (List ℕ)} →
     (new : Register) (now : Option (List ℕ)) (took : Bool) (r : Result ⊤ Stop) → Going first start bytes line book held → is_bye line ≡ false →
-    Takes book line took new → took ≡ true → OnOk r (Appends held now (last_reply new)) → OnErr r ((n : ℕ) × Appends held now (take n (last_reply new))) →
+    LogsLine book line took new → took ≡ true → OnOk r (Appends held now (last_reply new)) → OnErr r ((n : ℕ) × Appends held now (take n (last_reply new))) →
     IfErr r (λ stop. (stop ≡ WriteFailed) ⊎ (stop ≡ Memory)) → Goes first start (bytes ++ 10 ∷ []) [] new now r
 offered_taken {line = line} {book = book} new now true r going bye does so written cut stops =
     goes_reply new now r going bye (free-takes book line does.0) (does.1, does.2) written cut stops
@@ -470,7 +470,7 @@ off_more : (first : Register) (bytes more : List ℕ) (lost : List Bool) (writte
 off_more first bytes more lost written few t = off_more_at first bytes more lost written few (heard_in first bytes).end refl t
 
 tells_more : (first : Register) (bytes more : List ℕ) (lost : List Bool) (written : List ℕ) (stop : Stop) → length lost ≤ length (heard_in first bytes).lines →
-    Tells first bytes lost written (result_of stop) → Tells first (bytes ++ more) lost written (result_of stop)
+    SessionTells first bytes lost written (result_of stop) → SessionTells first (bytes ++ more) lost written (result_of stop)
 tells_more first bytes more lost written Bye few t = all_more first bytes more lost written end.Bye t
 tells_more first bytes more lost written Full few t = all_more first bytes more lost written end.Full t
 tells_more first bytes more lost written LongLine few t = all_more first bytes more lost written end.LongLine t

@@ -10,7 +10,7 @@ use Rattle.ot_book.specs.Answers.{is_checkpoint, answer_or_lost}
 use Rattle.ot_book.specs.Room.{Room, room_in, room_after}
 use Rattle.ot_book.proofs.BookLemmas.{logged-by}
 use Rattle.ot_book.proofs.RoomLemmas.{room-logged}
-use Rattle.ot_front.specs.Serving.{Takes}
+use Rattle.ot_front.specs.Serving.{LogsLine}
 use Rattle.ot_front.specs.Told.{Lines, texts, marks, marked, after, told, reply_line}
 
 -- ---- lines and marks
@@ -83,7 +83,7 @@ some-logged book line lost =
     logged-by (λ b. 0 < length b.log) book line lost (is_checkpoint line) refl (λ _. omega arith)
     (λ _. omega (arith, length-append book.log ((line, (answer_or_lost book.limits (state_in book) line lost).0) ∷ [])))
 
-pub some-taken : (book new : Register) (line : List ℕ) (took : Bool) → Takes book line took new → took ≡ true → 0 < length new.log
+pub some-taken : (book new : Register) (line : List ℕ) (took : Bool) → LogsLine book line took new → took ≡ true → 0 < length new.log
 some-taken book new line true is so = omega (arith, some-logged book line is.1, ap (λ (b : Register). length b.log) is.2)
 some-taken book new line false is so = absurd (true≢false (sym so))
 

@@ -109,11 +109,11 @@ IsReply names greeting text =
     ⊎ ((book : Register) × IsGiven names greeting book × (text ≡ hello_text book))
 
 -- how much of a reply is written, by the result
-abbrev pub Writes : {A : Type 0} → Option (List ℕ) → Option (List ℕ) → List ℕ → Result A FrontFault → Type 0
-Writes start held text (Ok given) = Appends start held text
-Writes start held text (Err WriteFailed) = AppendsFront start held text
-Writes start held text (Err Memory) = held ≡ start
-Writes start held text (Err fault) = ⊥
+abbrev pub WritesReply : {A : Type 0} → Option (List ℕ) → Option (List ℕ) → List ℕ → Result A FrontFault → Type 0
+WritesReply start held text (Ok given) = Appends start held text
+WritesReply start held text (Err WriteFailed) = AppendsFront start held text
+WritesReply start held text (Err Memory) = held ≡ start
+WritesReply start held text (Err fault) = ⊥
 
 -- what is written in answer to a greeting, by the result
 abbrev pub Answers : List (List ℕ) → Greeting → Option (List ℕ) → Option (List ℕ) → Result (Option Register) FrontFault → Type 0
@@ -131,8 +131,8 @@ NeverAsks bytes left ended (Err Memory) = bytes ≡ []
 NeverAsks bytes left ended result = ⊥
 
 -- What was asked is answered; where nothing was asked nothing is written.
-abbrev pub Tells : List (List ℕ) → List ℕ → Option (List ℕ) → Type 0 → Option (List ℕ) → Option (List ℕ) → Result (Option Register) FrontFault → Type 0
-Tells names bytes left ended start held result =
+abbrev pub AnswersFirstLine : List (List ℕ) → List ℕ → Option (List ℕ) → Type 0 → Option (List ℕ) → Option (List ℕ) → Result (Option Register) FrontFault → Type 0
+AnswersFirstLine names bytes left ended start held result =
     ((greeting : Greeting) × Asks bytes greeting × Answers names greeting start held result)
     ⊎ (IsCut bytes × (held ≡ start) × NeverAsks bytes left ended result)
 
@@ -140,4 +140,4 @@ Tells names bytes left ended start held result =
 pub record Greets (names : List (List ℕ)) (ahead left : Option (List ℕ)) (ended : Type 0) (start held : Option (List ℕ)) (result : Result (Option Register) FrontFault) : Type 0 where
   pub bytes : List ℕ
   pub reads : Consumes ahead left bytes
-  pub tells : Tells names bytes left ended start held result
+  pub tells : AnswersFirstLine names bytes left ended start held result

@@ -58,9 +58,9 @@ pub record Serving (first : Register) (ahead left start : Option (List ℕ)) (pa
   pub going : Going first start bytes partial book held
 
 -- the line is logged, or the book has no room for it
-abbrev pub Takes : Register → List ℕ → Bool → Register → Type 0
-Takes old line true new = (¬ (IsFullFor old line)) × (lost : Bool) × (new ≡ logged old line lost)
-Takes old line false new = IsFullFor old line × (new ≡ old)
+abbrev pub LogsLine : Register → List ℕ → Bool → Register → Type 0
+LogsLine old line true new = (¬ (IsFullFor old line)) × (lost : Bool) × (new ≡ logged old line lost)
+LogsLine old line false new = IsFullFor old line × (new ≡ old)
 
 -- it would run a program
 pub record WouldRun (old : Register) (line : List ℕ) : Type 0 where

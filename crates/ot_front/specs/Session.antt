@@ -54,15 +54,15 @@ pub record BreaksOff (book : Register) (bytes : List ℕ) (lost : List Bool) (wr
   pub no_other : (length written ≤ length (told book (logged_lines book bytes lost))) ⊎ (length lost ≡ length (heard_in book bytes).lines)
 
 -- what is written and logged, by the result
-abbrev pub Tells : Register → List ℕ → List Bool → List ℕ → Result End FrontFault → Type 0
-Tells book bytes lost written (Ok EndOfInput) = TellsAll book bytes lost written None
-Tells book bytes lost written (Ok Closed) = LeavesRun book bytes lost written
-Tells book bytes lost written (Ok end) = TellsAll book bytes lost written (Some end)
-Tells book bytes lost written (Err Stranger) = LeavesRun book bytes lost written
-Tells book bytes lost written (Err WriteFailed) = BreaksOff book bytes lost written
-Tells book bytes lost written (Err Memory) = BreaksOff book bytes lost written
-Tells book bytes lost written (Err SocketFailed) = ⊥
-Tells book bytes lost written (Err fault) = TellsAll book bytes lost written None
+abbrev pub SessionTells : Register → List ℕ → List Bool → List ℕ → Result End FrontFault → Type 0
+SessionTells book bytes lost written (Ok EndOfInput) = TellsAll book bytes lost written None
+SessionTells book bytes lost written (Ok Closed) = LeavesRun book bytes lost written
+SessionTells book bytes lost written (Ok end) = TellsAll book bytes lost written (Some end)
+SessionTells book bytes lost written (Err Stranger) = LeavesRun book bytes lost written
+SessionTells book bytes lost written (Err WriteFailed) = BreaksOff book bytes lost written
+SessionTells book bytes lost written (Err Memory) = BreaksOff book bytes lost written
+SessionTells book bytes lost written (Err SocketFailed) = ⊥
+SessionTells book bytes lost written (Err fault) = TellsAll book bytes lost written None
 
 -- A session over bytes: the first of the lines that it hears are logged, as many as the number of the next request
 -- has grown by, and so much of its text is written as its result tells. Of lines that a checkpoint dropped from the
@@ -74,7 +74,7 @@ pub record Session (old new : Register) (bytes : List ℕ) (start held : Option 
   pub grown : next_number new ≡ next_number old + length lost
   pub logs : new ≡ after old (logged_lines old bytes lost)
   pub writes : Appends start held written
-  pub tells : Tells old bytes lost written result
+  pub tells : SessionTells old bytes lost written result
 
 -- A session over the bytes that it read. Before the last read, which gave at most `latest` of them, it
 -- had heard no end, and it has logged all lines that it had heard.

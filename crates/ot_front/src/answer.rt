@@ -4,7 +4,7 @@ ghost use Rattle.std.specs.Io.KnownBytes.{Appends};
 ghost use Rattle.ot_book.specs.declared.executor.NotDone.TheVariants as not_done;
 ghost use Rattle.ot_front.specs.Device.{count_after};
 ghost use Rattle.ot_front.specs.Told.{last_reply};
-ghost use Rattle.ot_front.specs.Serving.{failed_writes, Takes, WouldRun};
+ghost use Rattle.ot_front.specs.Serving.{failed_writes, LogsLine, WouldRun};
 ghost use Rattle.ot_front.specs.declared.stop.Stop.TheVariants.{WriteFailed, Memory};
 
 use crate::device::Sink;
@@ -22,7 +22,7 @@ pub(crate) fn answer<E: Executor>(
     executor: &mut E,
     line: &[u8],
 ) -> Result<bool, NotDone>
-    ensures takes { IfOk result (λ took. Takes book.old line.now took book.new) }
+    ensures takes { IfOk result (λ took. LogsLine book.old line.now took book.new) }
     ensures unlogged { OnErr result (book.new ≡ book.old) }
     ensures runs { IfErr result (λ why. why ≢ not_done.Memory → WouldRun book.old line.now) }
 {

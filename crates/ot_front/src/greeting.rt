@@ -7,7 +7,7 @@ ghost use Rattle.ot_book.specs.Requests.{name_in};
 ghost use Rattle.ot_front.specs.Device.{next_count, count_after};
 ghost use Rattle.ot_lines.specs.Lines.{opened};
 ghost use Rattle.ot_front.specs.FirstLines.{first_bounds};
-ghost use Rattle.ot_front.specs.Greetings.{hello_of, greeting_of, hello_text, refusal_text, Writes, Answers, Greets, IsGiven, IsRefused};
+ghost use Rattle.ot_front.specs.Greetings.{hello_of, greeting_of, hello_text, refusal_text, WritesReply, Answers, Greets, IsGiven, IsRefused};
 ghost use Rattle.ot_front.specs.Racks.{with_taken, with_laid, Hands};
 ghost use Rattle.ot_front.specs.declared.fault.FrontFault.TheVariants.{ReadFailed, WriteFailed, Memory};
 ghost use Rattle.ot_front.specs.declared.refusal.Refusal.TheVariants.{NotJson, NotGreeting};
@@ -186,7 +186,7 @@ fn read_name(value: &Value) -> Option<&str>
 
 /// Tells why there is no book.
 fn refuse<W: Sink>(why: Refusal, sink: &mut W) -> Result<Option<Book>, FrontFault>
-    ensures writes { Writes (W.contents sink.old) (W.contents sink.new) (refusal_text why) result }
+    ensures writes { WritesReply (W.contents sink.old) (W.contents sink.new) (refusal_text why) result }
     ensures none { IfOk result (λ given. given ≡ None) }
     ensures write_failed { result ≡ Err WriteFailed → W.failures sink.new ≡ next_count (W.failures sink.old) }
     ensures write_worked { result ≢ Err WriteFailed → W.failures sink.new ≡ W.failures sink.old }
@@ -208,7 +208,7 @@ fn welcome<B: Rack, W: Sink>(
     ensures names { B.names rack.new ≡ B.names rack.old }
     ensures kept { OnOk result (B.moves rack.new ≡ B.moves rack.old) }
     ensures laid { OnErr result (B.moves rack.new ≡ with_laid book (B.moves rack.old)) }
-    ensures writes { Writes (W.contents sink.old) (W.contents sink.new) (hello_text book) result }
+    ensures writes { WritesReply (W.contents sink.old) (W.contents sink.new) (hello_text book) result }
     ensures given { IfOk result (λ given. given ≡ Some book) }
     ensures write_failed { result ≡ Err WriteFailed → W.failures sink.new ≡ next_count (W.failures sink.old) }
     ensures write_worked { result ≢ Err WriteFailed → W.failures sink.new ≡ W.failures sink.old }
@@ -224,7 +224,7 @@ fn welcome<B: Rack, W: Sink>(
 
 /// Writes the reply to a greeting that gets this book.
 fn say_hello<W: Sink>(alloc: Global, book: &Book, sink: &mut W) -> Result<(), FrontFault>
-    ensures writes { Writes (W.contents sink.old) (W.contents sink.new) (hello_text book.now) result }
+    ensures writes { WritesReply (W.contents sink.old) (W.contents sink.new) (hello_text book.now) result }
     ensures write_failed { result ≡ Err WriteFailed → W.failures sink.new ≡ next_count (W.failures sink.old) }
     ensures write_worked { result ≢ Err WriteFailed → W.failures sink.new ≡ W.failures sink.old }
 {

@@ -15,20 +15,20 @@ use Rattle.ot_graph.specs.declared.graph.Graph.{Graph}
 use Rattle.ot_graph.specs.declared.link.Link.{Link}
 
 -- words, and a number behind them
-abbrev pub numbered : Text → ℕ → Text
-numbered words n = words ++ decimal n
+abbrev pub words_numbered : Text → ℕ → Text
+words_numbered words n = words ++ decimal n
 
 -- ---- nodes: `t` with a task's number, `w` with that of a wait; groups are boxes, and have numbers, too
 
 abbrev pub task_node : List Text → Created → Text
 task_node names c =
-    numbered (codes "  t") c.number ++ numbered (codes " [label=\"") c.place ++ codes ": " ++ task names c.uses ++ codes "\"];\n"
+    words_numbered (codes "  t") c.number ++ words_numbered (codes " [label=\"") c.place ++ codes ": " ++ task names c.uses ++ codes "\"];\n"
 
 abbrev pub wait_node : List Text → ℕ → Option (List Use) → Text
-wait_node names n w = numbered (codes "  w") n ++ codes " [shape=box, label=\"" ++ wait names w ++ codes "\"];\n"
+wait_node names n w = words_numbered (codes "  w") n ++ codes " [shape=box, label=\"" ++ wait names w ++ codes "\"];\n"
 
 abbrev pub box : List Text → ℕ → Operation → List Cell → Text
-box names n op cs = numbered (codes "  subgraph cluster_") n ++ codes " {\n  label=\"" ++ group names op cs ++ codes "\";\n"
+box names n op cs = words_numbered (codes "  subgraph cluster_") n ++ codes " {\n  label=\"" ++ group names op cs ++ codes "\";\n"
 
 -- what is written of a mark: of a wait with the one number, of the beginning of a group with the other
 abbrev pub node : List Text → ℕ → ℕ → Passed → Text
@@ -59,11 +59,11 @@ nodes names n g (m ∷ ms) = node names (n + 1) (g + 1) m ++ nodes names (n + wa
 
 abbrev pub awaited_edges : ℕ → List Created → Text
 awaited_edges n [] = []
-awaited_edges n (c ∷ cs) = numbered (codes "  t") c.number ++ numbered (codes " -> w") n ++ codes " [style=dotted];\n" ++ awaited_edges n cs
+awaited_edges n (c ∷ cs) = words_numbered (codes "  t") c.number ++ words_numbered (codes " -> w") n ++ codes " [style=dotted];\n" ++ awaited_edges n cs
 
 abbrev pub creation : ℕ → Passed → Text
-creation n (Creates own c) = numbered (codes "  t") own ++ numbered (codes " -> t") c.number ++ codes " [style=dashed];\n"
-creation n (Awaits own w awaited) = numbered (codes "  t") own ++ numbered (codes " -> w") n ++ codes " [style=dashed];\n" ++ awaited_edges n awaited
+creation n (Creates own c) = words_numbered (codes "  t") own ++ words_numbered (codes " -> t") c.number ++ codes " [style=dashed];\n"
+creation n (Awaits own w awaited) = words_numbered (codes "  t") own ++ words_numbered (codes " -> w") n ++ codes " [style=dashed];\n" ++ awaited_edges n awaited
 creation n (Enters op cs) = []
 creation n Leaves = []
 
@@ -76,7 +76,7 @@ creations n (m ∷ ms) = creation (n + 1) m ++ creations (n + waits_in m) ms
 
 abbrev pub edge_of : List Text → List Child → Link → Child → Child → Text
 edge_of names children link one other =
-    numbered (codes "  t") one.number ++ numbered (codes " -> t") other.number ++ codes " [label=\""
+    words_numbered (codes "  t") one.number ++ words_numbered (codes " -> t") other.number ++ codes " [label=\""
     ++ sections names (sections_of (cells_at one.decl.now (between link (decls_of children)) other.decl.now)) ++ codes "\"];\n"
 
 -- of the two children that the link names

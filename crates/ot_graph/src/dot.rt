@@ -129,7 +129,7 @@ fn open_box(out: &mut Printer<'_>, number: u64, op: Fold, cells: &[Cell]) -> Res
 
 /// Words with a number behind them.
 fn numbered(out: &mut Printer<'_>, words: &str, number: u64) -> Result<(), AllocError>
-    ensures text { OnOk result (out.new.text ≡ out.old.text ++ dot.numbered words.now number) }
+    ensures text { OnOk result (out.new.text ≡ out.old.text ++ dot.words_numbered words.now number) }
     ensures names { out.new.names ≡ out.old.names }
 {
     out.words(words)?;

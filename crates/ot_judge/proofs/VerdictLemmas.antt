@@ -11,7 +11,7 @@ use Rattle.ot_store.specs.Arrays.{Named}
 use Rattle.ot_book.specs.Replies as r
 use Rattle.ot_book.specs.Answers.{Step, Now, Runs, answer_or_lost, finished, is_checkpoint}
 use Rattle.ot_book.specs.Books.{Register, state_in, next_step, appended, cleared, logged, opened, open_step, refused}
-use Rattle.ot_book.specs.Opening.{IsFullFor, Opens}
+use Rattle.ot_book.specs.Opening.{IsFullFor, OpensLine}
 use Rattle.ot_book.specs.declared.book.Opened.{Opened}
 use Rattle.ot_book.specs.declared.book.Opened.TheVariants.{Full, Answered, ToRun}
 use Rattle.ot_book.proofs.BookLemmas.{logged-by, state-cleared}
@@ -70,17 +70,17 @@ by_memory false book new line v free is (inr step) says = (
   is ∙ sym (ap (λ s. logged book line (is_run s)) step.2),
 )
 
-answered : (book new : Register) (line : List ℕ) (o : Opened) (v : Verdict) → Opens book line new o → o ≡ Answered → Says new v → (v ≡ verdict_of book line) × (new ≡ passed book line)
+answered : (book new : Register) (line : List ℕ) (o : Opened) (v : Verdict) → OpensLine book line new o → o ≡ Answered → Says new v → (v ≡ verdict_of book line) × (new ≡ passed book line)
 answered book new line o v opens is says =
-    let h : Opens book line new Answered = subst (Opens book line new) is opens in
+    let h : OpensLine book line new Answered = subst (OpensLine book line new) is opens in
     by_memory h.1.memory book new line v h.0 h.1.new_is h.1.at_once says
 
-pub answered_verdict : (book new : Register) (line : List ℕ) (o : Opened) (result : Result Verdict JudgeFault) → Opens book line new o → o ≡ Answered → IfOk result (Says new) →
+pub answered_verdict : (book new : Register) (line : List ℕ) (o : Opened) (result : Result Verdict JudgeFault) → OpensLine book line new o → o ≡ Answered → IfOk result (Says new) →
     IfOk result (λ v. v ≡ verdict_of book line)
 answered_verdict book new line o (Ok v) opens is says = (answered book new line o v opens is says).0
 answered_verdict book new line o (Err fault) opens is says = tt
 
-pub answered_passed : (book new : Register) (line : List ℕ) (o : Opened) (result : Result Verdict JudgeFault) → Opens book line new o → o ≡ Answered → IfOk result (Says new) →
+pub answered_passed : (book new : Register) (line : List ℕ) (o : Opened) (result : Result Verdict JudgeFault) → OpensLine book line new o → o ≡ Answered → IfOk result (Says new) →
     IfOk result (λ v. is_full v ≡ false → new ≡ passed book line)
 answered_passed book new line o (Ok v) opens is says = λ _. (answered book new line o v opens is says).1
 answered_passed book new line o (Err fault) opens is says = tt
@@ -91,19 +91,19 @@ run_taken : (s : Step) → is_run s ≡ true → verdict_by s ≡ verdict.Taken
 run_taken (Runs program) is = refl
 run_taken (Now told arrays) is = absurd (cc)
 
-would_run : (book new : Register) (line : List ℕ) (o : Opened) (spec : Spec) → Opens book line new o → o ≡ ToRun spec → is_run (next_step book line) ≡ true
+would_run : (book new : Register) (line : List ℕ) (o : Opened) (spec : Spec) → OpensLine book line new o → o ≡ ToRun spec → is_run (next_step book line) ≡ true
 would_run book new line o spec opens is =
-    let h : Opens book line new (ToRun spec) = subst (Opens book line new) is opens in
+    let h : OpensLine book line new (ToRun spec) = subst (OpensLine book line new) is opens in
     let asks : ∥ open_step (opened book line) ≡ Runs (expanded_of spec.checked.program) ∥₁ =
     subst (λ x. ∥ open_step x ≡ Runs (expanded_of spec.checked.program) ∥₁) h.1 h.2.asks in
     ∥∥₁_elim asks (Bool-set (is_run (next_step book line)) true) (λ it. ap is_run it)
 
-pub run_verdict : (book new : Register) (line : List ℕ) (o : Opened) (spec : Spec) → Opens book line new o → o ≡ ToRun spec → verdict.Taken ≡ verdict_of book line
+pub run_verdict : (book new : Register) (line : List ℕ) (o : Opened) (spec : Spec) → OpensLine book line new o → o ≡ ToRun spec → verdict.Taken ≡ verdict_of book line
 run_verdict book new line o spec opens is =
-    let h : Opens book line new (ToRun spec) = subst (Opens book line new) is opens in
+    let h : OpensLine book line new (ToRun spec) = subst (OpensLine book line new) is opens in
     sym (taken_by book line h.0 ∙ run_taken (next_step book line) (would_run book new line o spec opens is))
 
-pub run_passed : (book mid new : Register) (line : List ℕ) (o : Opened) (spec : Spec) → Opens book line mid o → o ≡ ToRun spec → new ≡ refused mid → new ≡ passed book line
+pub run_passed : (book mid new : Register) (line : List ℕ) (o : Opened) (spec : Spec) → OpensLine book line mid o → o ≡ ToRun spec → new ≡ refused mid → new ≡ passed book line
 run_passed book mid new line o spec opens is closes =
-    let h : Opens book line mid (ToRun spec) = subst (Opens book line mid) is opens in
+    let h : OpensLine book line mid (ToRun spec) = subst (OpensLine book line mid) is opens in
     closes ∙ ap refused h.1 ∙ sym (ap (logged book line) (would_run book mid line o spec opens is))

@@ -6,11 +6,11 @@ use Rattle.ot_keep.specs.Replies.{Reply, Taken, Used, Listed, Cells}
 use Rattle.ot_keep.specs.declared.answer.Answer.{Answer}
 use Rattle.ot_keep.specs.declared.answer.Answer.TheVariants as v
 
-abbrev pub told_by : Answer → Reply
-told_by (v.Taken number) = Taken number
-told_by (v.Used units) = Used units
-told_by (v.Listed arrays) = Listed (arrays_of arrays.items)
-told_by (v.Cells cells) = Cells cells.items
+abbrev pub reply_by : Answer → Reply
+reply_by (v.Taken number) = Taken number
+reply_by (v.Used units) = Used units
+reply_by (v.Listed arrays) = Listed (arrays_of arrays.items)
+reply_by (v.Cells cells) = Cells cells.items
 
 abbrev pub sized_by : ArrayShape → List ℕ × ℕ
 sized_by array = (string_bytes array.name, array.len)

@@ -18,12 +18,12 @@ abbrev pub cells_line : List ℕ → ℕ → List ℕ
 cells_line name len = codes "[\"get\",\"" ++ name ++ codes "\",0," ++ decimal len ++ codes "]\n"
 
 -- the line that is sent
-abbrev pub line_of : Question → List ℕ
-line_of Checkpoint = codes "[\"checkpoint\"]\n"
-line_of Units = codes "[\"used\"]\n"
-line_of Arrays = codes "[\"list\"]\n"
-line_of (CellsOf name len) = cells_line name len
-line_of (Line line) = line
+abbrev pub question_line : Question → List ℕ
+question_line Checkpoint = codes "[\"checkpoint\"]\n"
+question_line Units = codes "[\"used\"]\n"
+question_line Arrays = codes "[\"list\"]\n"
+question_line (CellsOf name len) = cells_line name len
+question_line (Line line) = line
 
 -- the reply is of the kind that the request asks for
 abbrev pub answers : Question → Reply → Bool
@@ -46,27 +46,27 @@ pub record IsReplied (line : List ℕ) (old new : Link) (reply : List ℕ) : Typ
 -- a request is sent, and what it asks for is heard
 pub record Turn (question : Question) (old new : Link) (reply : Reply) : Type 0 where
   pub line : List ℕ
-  pub replied : IsReplied (line_of question) old new line
+  pub replied : IsReplied (question_line question) old new line
   pub told : answer_to question line ≡ Some reply
 
 -- why it isn't
-abbrev pub Fails : Question → Link → Link → KeepFault → Type 0
-Fails question old new (Ask ask.Closed) = IsUnanswered (line_of question) old new
-Fails question old new (Ask ask.Memory) = ⊤
-Fails question old new StrangeReply = (line : List ℕ) × IsReplied (line_of question) old new line × (answer_to question line ≡ None)
-Fails question old new fault = ⊥
+abbrev pub TurnFails : Question → Link → Link → KeepFault → Type 0
+TurnFails question old new (Ask ask.Closed) = IsUnanswered (question_line question) old new
+TurnFails question old new (Ask ask.Memory) = ⊤
+TurnFails question old new StrangeReply = (line : List ℕ) × IsReplied (question_line question) old new line × (answer_to question line ≡ None)
+TurnFails question old new fault = ⊥
 
 -- ---- one after another
 
 -- requests with what they are told
-abbrev pub Talks : Link → Link → List (Question × Reply) → Type 0
-Talks old new [] = new ≡ old
-Talks old new (t ∷ ts) = (mid : Link) × Turn t.0 old mid t.1 × Talks mid new ts
+abbrev pub AsksInTurn : Link → Link → List (Question × Reply) → Type 0
+AsksInTurn old new [] = new ≡ old
+AsksInTurn old new (t ∷ ts) = (mid : Link) × Turn t.0 old mid t.1 × AsksInTurn mid new ts
 
 -- some are told what they ask for, and then one isn't
-pub record Stops (old new : Link) (fault : KeepFault) : Type 0 where
+pub record StopsAsking (old new : Link) (fault : KeepFault) : Type 0 where
   pub turns : List (Question × Reply)
   pub last : Link
-  pub talk : Talks old last turns
+  pub talk : AsksInTurn old last turns
   pub question : Question
-  pub fails : Fails question last new fault
+  pub fails : TurnFails question last new fault

@@ -1,11 +1,11 @@
 -- How a tenant is saved.
 use Rattle.std.specs.Prelude.{◌≡◌, ◌⊎◌, ◌+◌, ℕ, List, [], ◌∷◌, ◌++◌, Result, Ok, Err}
 use Rattle.ot_store.specs.Arrays.{Named}
-use Rattle.ot_ask.specs.Greeting.{Greets}
+use Rattle.ot_ask.specs.Greeting.{GreetsServer}
 use Rattle.ot_ask.specs.Streams.{BreaksOff, Link, Outgoing, Writes}
 use Rattle.ot_ask.specs.declared.asked.AskFault.{AskFault}
 use Rattle.ot_keep.specs.Files.{Makes, file_text}
-use Rattle.ot_keep.specs.Questions.{Question, Checkpoint, Units, Stops, Talks}
+use Rattle.ot_keep.specs.Questions.{Question, Checkpoint, Units, StopsAsking, AsksInTurn}
 use Rattle.ot_keep.specs.Replies.{Reply, Taken, Used}
 use Rattle.ot_keep.specs.Tenants.{SaysBye, arrays_turns}
 use Rattle.ot_keep.specs.declared.fault.KeepFault.{KeepFault}
@@ -21,7 +21,7 @@ saving_turns arrays used first last =
 pub record HasTold (old new : Link) (arrays : List Named) (next used : ℕ) : Type 0 where
   pub first : ℕ
   pub last : ℕ
-  pub talk : Talks old new (saving_turns arrays used first last)
+  pub talk : AsksInTurn old new (saving_turns arrays used first last)
   pub number : next ≡ last + 1
 
 -- Behind a greeting the server has told all that is saved; this is its text.
@@ -29,7 +29,7 @@ pub record IsText (name : List ℕ) (old new : Link) (next used : ℕ) (text : L
   pub greeted : Link
   pub arrays : List Named
   pub session : List ℕ
-  pub greets : Greets name old greeted (Ok tt)
+  pub greets : GreetsServer name old greeted (Ok tt)
   pub told : HasTold greeted new arrays next used
   pub makes : Makes arrays session
   pub is : text ≡ file_text session next used
@@ -37,8 +37,8 @@ pub record IsText (name : List ℕ) (old new : Link) (next used : ℕ) (text : L
 -- There is no session, or it stops before a request is answered.
 abbrev pub IsUnheld : List ℕ → Link → Link → KeepFault → Type 0
 IsUnheld name old new fault =
-    ((why : AskFault) × (fault ≡ Ask why) × Greets name old new (Err why))
-    ⊎ ((greeted : Link) × Greets name old greeted (Ok tt) × Stops greeted new fault)
+    ((why : AskFault) × (fault ≡ Ask why) × GreetsServer name old new (Err why))
+    ⊎ ((greeted : Link) × GreetsServer name old greeted (Ok tt) × StopsAsking greeted new fault)
 
 -- a save, by what it came to
 abbrev pub Saves : List ℕ → Link → Link → Outgoing → Outgoing → Result Saved KeepFault → Type 0

@@ -1,7 +1,7 @@
 -- How a tenant's arrays are asked for, and how a session ends.
 use Rattle.std.specs.Prelude.{◌⊎◌, ℕ, List, ◌∷◌, length, map}
 use Rattle.ot_store.specs.Arrays.{Named, listed}
-use Rattle.ot_ask.specs.Streams.{BreaksOff, IsOver, Link, Writes}
+use Rattle.ot_ask.specs.Streams.{BreaksOff, IsStreamOver, Link, Writes}
 use Rattle.ot_keep.specs.Files.{bye_line}
 use Rattle.ot_keep.specs.Questions.{Question, Arrays, CellsOf}
 use Rattle.ot_keep.specs.Replies.{Reply, Listed, Cells}
@@ -20,4 +20,4 @@ arrays_turns arrays = (Arrays, Listed (listed arrays)) ∷ map cells_turn arrays
 -- A goodbye, or a front of it where the server has gone, is sent, and then the server's stream is over.
 pub record SaysBye (old new : Link) : Type 0 where
   pub sends : Writes old.sent new.sent bye_line ⊎ BreaksOff old.sent new.sent bye_line
-  pub waits : IsOver old.heard new.heard
+  pub waits : IsStreamOver old.heard new.heard

@@ -6,7 +6,7 @@ ghost use Rattle.ot_model.specs.ShapeView.{arrays_of};
 ghost use Rattle.ot_book.specs.Answers.{value_of};
 ghost use Rattle.ot_book.specs.Requests.{all_numbers, name_in, size_in};
 ghost use Rattle.ot_keep.specs.Replies.{all_sized, list_in, listed_of, reply_in, reply_of, sized_in, sized_of};
-ghost use Rattle.ot_keep.specs.Answers.{sized_by, told_by};
+ghost use Rattle.ot_keep.specs.Answers.{sized_by, reply_by};
 
 use ot_model::ArrayShape;
 use ot_program::{is_name, is_word};
@@ -28,7 +28,7 @@ pub(crate) enum Answer {
 
 /// What a reply tells, where it is of one of the four forms.
 pub(crate) fn read_answer(alloc: Global, reply: &[u8]) -> Result<Option<Answer>, AllocError>
-    ensures { IfOk result (λ answer. option_map told_by answer ≡ reply_in reply.now) }
+    ensures { IfOk result (λ answer. option_map reply_by answer ≡ reply_in reply.now) }
 {
     match read_value(alloc, reply)? {
         Some(value) => read_reply(alloc, &value),
@@ -52,7 +52,7 @@ fn read_value(alloc: Global, line: &[u8]) -> Result<Option<Value>, AllocError>
 }
 
 fn read_reply(alloc: Global, value: &Value) -> Result<Option<Answer>, AllocError>
-    ensures { IfOk result (λ answer. option_map told_by answer ≡ reply_of (view value.now)) }
+    ensures { IfOk result (λ answer. option_map reply_by answer ≡ reply_of (view value.now)) }
 {
     match value {
         Value::Array(items) => read_list(alloc, items),
@@ -62,7 +62,7 @@ fn read_reply(alloc: Global, value: &Value) -> Result<Option<Answer>, AllocError
 
 #[tactic(auto, using(crate::proofs::ReplyLemmas::no_reply))]
 fn read_list(alloc: Global, items: &[Value]) -> Result<Option<Answer>, AllocError>
-    ensures { IfOk result (λ answer. option_map told_by answer ≡ list_in (items_view items.now)) }
+    ensures { IfOk result (λ answer. option_map reply_by answer ≡ list_in (items_view items.now)) }
 {
     let len = items.len();
     if len != 2 && len != 3 {
@@ -79,7 +79,7 @@ fn read_list(alloc: Global, items: &[Value]) -> Result<Option<Answer>, AllocErro
 }
 
 fn read_taken(tag: &Value, number: &Value) -> Option<Answer>
-    ensures { option_map told_by result ≡ list_in (item (view tag.now) (item (view number.now) no_items)) }
+    ensures { option_map reply_by result ≡ list_in (item (view tag.now) (item (view number.now) no_items)) }
 {
     if !is_word(tag, "ok") {
         return None;
@@ -91,7 +91,7 @@ fn read_taken(tag: &Value, number: &Value) -> Option<Answer>
 }
 
 fn read_told(alloc: Global, tag: &Value, told: &Value) -> Result<Option<Answer>, AllocError>
-    ensures { IfOk result (λ answer. option_map told_by answer ≡ listed_of (view tag.now) (view told.now)) }
+    ensures { IfOk result (λ answer. option_map reply_by answer ≡ listed_of (view tag.now) (view told.now)) }
 {
     if is_word(tag, "used") {
         return Ok(match told.as_u64() {

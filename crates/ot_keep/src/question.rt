@@ -1,9 +1,9 @@
 //! What is asked of a server, and its answer.
 ghost use Rattle.std.specs.Prelude.{◌≡◌, IfOk, MatchResult, string_bytes, true};
 ghost use Rattle.ot_ask.specs.Streams.{link, outgoing};
-ghost use Rattle.ot_keep.specs.Answers.{told_by};
+ghost use Rattle.ot_keep.specs.Answers.{reply_by};
 ghost use Rattle.ot_keep.specs.Asked.{asked_by};
-ghost use Rattle.ot_keep.specs.Questions.{Arrays, CellsOf, Checkpoint, Fails, Line, Turn, Units, answers, cells_line, line_of};
+ghost use Rattle.ot_keep.specs.Questions.{Arrays, CellsOf, Checkpoint, TurnFails, Line, Turn, Units, answers, cells_line, question_line};
 ghost use Rattle.ot_keep.specs.Replies.{Cells, Listed, Taken, Used};
 ghost use Rattle.ot_model.specs.ShapeView.{arrays_of};
 
@@ -38,7 +38,7 @@ pub(crate) fn ask_checkpoint<H: LineSource, W: Sink>(
     ensures { MatchResult result
         (λ told. Turn Checkpoint (link (H.coming heard.old) (outgoing (W.contents wire.old) (W.failures wire.old)))
         (link (H.coming heard.new) (outgoing (W.contents wire.new) (W.failures wire.new))) (Taken told))
-        (λ fault. Fails Checkpoint (link (H.coming heard.old) (outgoing (W.contents wire.old) (W.failures wire.old)))
+        (λ fault. TurnFails Checkpoint (link (H.coming heard.old) (outgoing (W.contents wire.old) (W.failures wire.old)))
         (link (H.coming heard.new) (outgoing (W.contents wire.new) (W.failures wire.new))) fault) }
 {
     match ask(alloc, &Question::Checkpoint, heard, wire) {
@@ -57,7 +57,7 @@ pub(crate) fn ask_units<H: LineSource, W: Sink>(
     ensures { MatchResult result
         (λ told. Turn Units (link (H.coming heard.old) (outgoing (W.contents wire.old) (W.failures wire.old)))
         (link (H.coming heard.new) (outgoing (W.contents wire.new) (W.failures wire.new))) (Used told))
-        (λ fault. Fails Units (link (H.coming heard.old) (outgoing (W.contents wire.old) (W.failures wire.old)))
+        (λ fault. TurnFails Units (link (H.coming heard.old) (outgoing (W.contents wire.old) (W.failures wire.old)))
         (link (H.coming heard.new) (outgoing (W.contents wire.new) (W.failures wire.new))) fault) }
 {
     match ask(alloc, &Question::Units, heard, wire) {
@@ -76,7 +76,7 @@ pub(crate) fn ask_arrays<H: LineSource, W: Sink>(
     ensures { MatchResult result
         (λ told. Turn Arrays (link (H.coming heard.old) (outgoing (W.contents wire.old) (W.failures wire.old)))
         (link (H.coming heard.new) (outgoing (W.contents wire.new) (W.failures wire.new))) (Listed (arrays_of told.items)))
-        (λ fault. Fails Arrays (link (H.coming heard.old) (outgoing (W.contents wire.old) (W.failures wire.old)))
+        (λ fault. TurnFails Arrays (link (H.coming heard.old) (outgoing (W.contents wire.old) (W.failures wire.old)))
         (link (H.coming heard.new) (outgoing (W.contents wire.new) (W.failures wire.new))) fault) }
 {
     match ask(alloc, &Question::Arrays, heard, wire) {
@@ -97,7 +97,7 @@ pub(crate) fn ask_cells<H: LineSource, W: Sink>(
     ensures { MatchResult result
         (λ told. Turn (CellsOf name.now len) (link (H.coming heard.old) (outgoing (W.contents wire.old) (W.failures wire.old)))
         (link (H.coming heard.new) (outgoing (W.contents wire.new) (W.failures wire.new))) (Cells told.items))
-        (λ fault. Fails (CellsOf name.now len) (link (H.coming heard.old) (outgoing (W.contents wire.old) (W.failures wire.old)))
+        (λ fault. TurnFails (CellsOf name.now len) (link (H.coming heard.old) (outgoing (W.contents wire.old) (W.failures wire.old)))
         (link (H.coming heard.new) (outgoing (W.contents wire.new) (W.failures wire.new))) fault) }
 {
     match ask(alloc, &Question::CellsOf(name, len), heard, wire) {
@@ -117,7 +117,7 @@ pub(crate) fn ask_line<H: LineSource, W: Sink>(
     ensures { MatchResult result
         (λ told. Turn (Line line.now) (link (H.coming heard.old) (outgoing (W.contents wire.old) (W.failures wire.old)))
         (link (H.coming heard.new) (outgoing (W.contents wire.new) (W.failures wire.new))) (Taken told))
-        (λ fault. Fails (Line line.now) (link (H.coming heard.old) (outgoing (W.contents wire.old) (W.failures wire.old)))
+        (λ fault. TurnFails (Line line.now) (link (H.coming heard.old) (outgoing (W.contents wire.old) (W.failures wire.old)))
         (link (H.coming heard.new) (outgoing (W.contents wire.new) (W.failures wire.new))) fault) }
 {
     match ask(alloc, &Question::Line(line), heard, wire) {
@@ -136,10 +136,10 @@ fn ask<H: LineSource, W: Sink>(
 ) -> Result<Answer, KeepFault>
     ensures turn { MatchResult result
         (λ answer. Turn (asked_by question.now) (link (H.coming heard.old) (outgoing (W.contents wire.old) (W.failures wire.old)))
-        (link (H.coming heard.new) (outgoing (W.contents wire.new) (W.failures wire.new))) (told_by answer))
-        (λ fault. Fails (asked_by question.now) (link (H.coming heard.old) (outgoing (W.contents wire.old) (W.failures wire.old)))
+        (link (H.coming heard.new) (outgoing (W.contents wire.new) (W.failures wire.new))) (reply_by answer))
+        (λ fault. TurnFails (asked_by question.now) (link (H.coming heard.old) (outgoing (W.contents wire.old) (W.failures wire.old)))
         (link (H.coming heard.new) (outgoing (W.contents wire.new) (W.failures wire.new))) fault) }
-    ensures fits { IfOk result (λ answer. answers (asked_by question.now) (told_by answer) ≡ true) }
+    ensures fits { IfOk result (λ answer. answers (asked_by question.now) (reply_by answer) ≡ true) }
 {
     let Ok(line) = question_line(alloc, question) else {
         return Err(KeepFault::Ask(AskFault::Memory));
@@ -160,7 +160,7 @@ fn ask<H: LineSource, W: Sink>(
 
 /// The line of a request, with its LF.
 fn question_line(alloc: Global, question: &Question<'_>) -> Result<Vec<u8>, AllocError>
-    ensures { IfOk result (λ line. line.items ≡ line_of (asked_by question.now)) }
+    ensures { IfOk result (λ line. line.items ≡ question_line (asked_by question.now)) }
 {
     match question {
         Question::Checkpoint => Vec::from_slice(alloc, b"[\"checkpoint\"]\n".as_slice()),
@@ -180,7 +180,7 @@ fn cells_line(alloc: Global, name: &str, len: u32) -> Result<Vec<u8>, AllocError
 
 /// Whether an answer is one to the request.
 fn fits(question: &Question<'_>, answer: &Answer) -> bool
-    ensures { result ≡ answers (asked_by question.now) (told_by answer.now) }
+    ensures { result ≡ answers (asked_by question.now) (reply_by answer.now) }
 {
     match (question, answer) {
         (Question::Checkpoint | Question::Line(_), Answer::Taken(_)) => true,

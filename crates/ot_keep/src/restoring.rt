@@ -1,7 +1,7 @@
 //! A tenant is restored.
 ghost use Rattle.ot_ask.specs.Streams.{link, outgoing};
 ghost use Rattle.ot_keep.specs.Files.{AreLines};
-ghost use Rattle.ot_keep.specs.Restoring.{Clears, Compares, Restores, Takes};
+ghost use Rattle.ot_keep.specs.Restoring.{Clears, Compares, Restores, TakesSession};
 
 use crate::body::session_text;
 use crate::fault::KeepFault;
@@ -90,7 +90,7 @@ fn send_lines<H: LineSource, W: Sink>(
     wire: &mut W,
 ) -> Result<(), KeepFault>
     requires { AreLines session.now }
-    ensures { Takes session.now
+    ensures { TakesSession session.now
         (link (H.coming heard.old) (outgoing (W.contents wire.old) (W.failures wire.old)))
         (link (H.coming heard.new) (outgoing (W.contents wire.new) (W.failures wire.new))) result }
 {

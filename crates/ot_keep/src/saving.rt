@@ -2,7 +2,7 @@
 ghost use Rattle.std.specs.Prelude.{MatchResult, map};
 ghost use Rattle.ot_ask.specs.Streams.{link, outgoing};
 ghost use Rattle.ot_keep.specs.Arrays.{named_by};
-ghost use Rattle.ot_keep.specs.Questions.{Stops};
+ghost use Rattle.ot_keep.specs.Questions.{StopsAsking};
 ghost use Rattle.ot_keep.specs.Saving.{HasTold, Saves};
 
 use crate::array::Array;
@@ -82,7 +82,7 @@ fn read_tenant<H: LineSource, W: Sink>(
         (λ tenant. HasTold (link (H.coming heard.old) (outgoing (W.contents wire.old) (W.failures wire.old)))
         (link (H.coming heard.new) (outgoing (W.contents wire.new) (W.failures wire.new)))
         (map named_by tenant.arrays.items) tenant.next tenant.used)
-        (λ fault. Stops (link (H.coming heard.old) (outgoing (W.contents wire.old) (W.failures wire.old)))
+        (λ fault. StopsAsking (link (H.coming heard.old) (outgoing (W.contents wire.old) (W.failures wire.old)))
         (link (H.coming heard.new) (outgoing (W.contents wire.new) (W.failures wire.new))) fault) }
 {
     if let Err(fault) = ask_checkpoint(alloc, heard, wire) {

@@ -5,7 +5,7 @@ ghost use Rattle.ot_model.specs.ShapeView.{arrays_of};
 ghost use Rattle.ot_store.specs.Arrays.{listed};
 ghost use Rattle.ot_keep.specs.Answers.{sized_by};
 ghost use Rattle.ot_keep.specs.Arrays.{named_by};
-ghost use Rattle.ot_keep.specs.Questions.{Fails, Stops, Talks, Turn};
+ghost use Rattle.ot_keep.specs.Questions.{TurnFails, StopsAsking, AsksInTurn, Turn};
 ghost use Rattle.ot_keep.specs.Tenants.{arrays_turns, cells_turn, SaysBye, sized};
 
 use crate::array::Array;
@@ -23,9 +23,9 @@ pub(crate) fn read_arrays<H: LineSource, W: Sink>(
     wire: &mut W,
 ) -> Result<Vec<Array>, KeepFault>
     ensures { MatchResult result
-        (λ arrays. Talks (link (H.coming heard.old) (outgoing (W.contents wire.old) (W.failures wire.old)))
+        (λ arrays. AsksInTurn (link (H.coming heard.old) (outgoing (W.contents wire.old) (W.failures wire.old)))
         (link (H.coming heard.new) (outgoing (W.contents wire.new) (W.failures wire.new))) (arrays_turns (map named_by arrays.items)))
-        (λ fault. Stops (link (H.coming heard.old) (outgoing (W.contents wire.old) (W.failures wire.old)))
+        (λ fault. StopsAsking (link (H.coming heard.old) (outgoing (W.contents wire.old) (W.failures wire.old)))
         (link (H.coming heard.new) (outgoing (W.contents wire.new) (W.failures wire.new))) fault) }
 {
     let shapes = match ask_arrays(alloc, heard, wire) {
@@ -43,10 +43,10 @@ fn read_each<H: LineSource, W: Sink>(
     wire: &mut W,
 ) -> Result<Vec<Array>, KeepFault>
     ensures { MatchResult result
-        (λ arrays. Talks (link (H.coming heard.old) (outgoing (W.contents wire.old) (W.failures wire.old)))
+        (λ arrays. AsksInTurn (link (H.coming heard.old) (outgoing (W.contents wire.old) (W.failures wire.old)))
         (link (H.coming heard.new) (outgoing (W.contents wire.new) (W.failures wire.new))) (map cells_turn (map named_by arrays.items))
         × (listed (map named_by arrays.items) ≡ arrays_of shapes.now))
-        (λ fault. Stops (link (H.coming heard.old) (outgoing (W.contents wire.old) (W.failures wire.old)))
+        (λ fault. StopsAsking (link (H.coming heard.old) (outgoing (W.contents wire.old) (W.failures wire.old)))
         (link (H.coming heard.new) (outgoing (W.contents wire.new) (W.failures wire.new))) fault) }
 {
     let mut arrays = Vec::new(alloc);
@@ -74,7 +74,7 @@ fn read_array<H: LineSource, W: Sink>(
         (λ array. (sized (named_by array) ≡ sized_by shape.now)
         × Turn (cells_turn (named_by array)).0 (link (H.coming heard.old) (outgoing (W.contents wire.old) (W.failures wire.old)))
         (link (H.coming heard.new) (outgoing (W.contents wire.new) (W.failures wire.new))) (cells_turn (named_by array)).1)
-        (λ fault. Stops (link (H.coming heard.old) (outgoing (W.contents wire.old) (W.failures wire.old)))
+        (λ fault. StopsAsking (link (H.coming heard.old) (outgoing (W.contents wire.old) (W.failures wire.old)))
         (link (H.coming heard.new) (outgoing (W.contents wire.new) (W.failures wire.new))) fault) }
 {
     let Ok(name) = String::from_str(alloc, shape.name.as_str()) else {

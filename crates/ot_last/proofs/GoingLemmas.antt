@@ -14,7 +14,7 @@ use Rattle.ot_front.proofs.HeardLemmas.{heard-more, at_line, with_line-bye, with
 use Rattle.ot_front.proofs.ToldLemmas.{after-more, room-after, next-after, pending-after}
 use Rattle.ot_last.specs.LastRuns.{Run, Taken, BadAt, found, found_in, closed_by, beginner}
 use Rattle.ot_last.specs.Finding.{TellsOf, Finds}
-use Rattle.ot_last.specs.Going.{run_in, kept, Going, Says, Goes, result_of, told_by, SaysAfter, Hears}
+use Rattle.ot_last.specs.Going.{run_in, kept, Going, Says, Goes, result_of, told_at_end, SaysAfter, HearsSession}
 use Rattle.ot_last.specs.declared.found.LastRun.{LastRun}
 use Rattle.ot_last.specs.declared.fault.LastFault.{LastFault}
 use Rattle.ot_last.specs.declared.fault.LastFault.TheVariants as fault
@@ -161,7 +161,7 @@ says_after left bytes last stop says =
 
 -- ---- what is told of it all
 
-tells_so : (left : Option (List ℕ)) (bytes : List ℕ) (result : Result ⊤ LastFault) (last : Option LastRun) → SaysAfter left bytes (run_in last) result → TellsOf left bytes (told_by result last)
+tells_so : (left : Option (List ℕ)) (bytes : List ℕ) (result : Result ⊤ LastFault) (last : Option LastRun) → SaysAfter left bytes (run_in last) result → TellsOf left bytes (told_at_end result last)
 tells_so left bytes (Ok done) (Some last) says = says
 tells_so left bytes (Ok done) None says = says
 tells_so left bytes (Err fault.NoRun) last says = absurd says
@@ -170,17 +170,17 @@ tells_so left bytes (Err fault.ReadFailed) last says = tt
 tells_so left bytes (Err fault.TooManyReads) last says = tt
 tells_so left bytes (Err fault.Memory) last says = tt
 
-pub finds : (ahead left : Option (List ℕ)) (result : Result ⊤ LastFault) (last : Option LastRun) → Hears ahead left (run_in last) result → Finds ahead left (told_by result last)
+pub finds : (ahead left : Option (List ℕ)) (result : Result ⊤ LastFault) (last : Option LastRun) → HearsSession ahead left (run_in last) result → Finds ahead left (told_at_end result last)
 finds ahead left result last h = record {
   bytes = h.bytes;
   reads = h.reads;
   tells = tells_so left h.bytes result last h.says;
 }
 
-pub told_failed : (read : Result ⊤ LastFault) (last : Option LastRun) → told_by read last ≡ Err fault.ReadFailed → read ≡ Err fault.ReadFailed
+pub told_failed : (read : Result ⊤ LastFault) (last : Option LastRun) → told_at_end read last ≡ Err fault.ReadFailed → read ≡ Err fault.ReadFailed
 told_failed (Ok done) (Some last) is = cc
 told_failed (Ok done) None is = cc
 told_failed (Err why) last is = let same : why ≡ fault.ReadFailed = cc in ap Err same
 
-pub told_worked : (read : Result ⊤ LastFault) (last : Option LastRun) → (told_by read last ≡ Err fault.ReadFailed → ⊥) → read ≡ Err fault.ReadFailed → ⊥
-told_worked read last other is = other (ap (λ r. told_by r last) is)
+pub told_worked : (read : Result ⊤ LastFault) (last : Option LastRun) → (told_at_end read last ≡ Err fault.ReadFailed → ⊥) → read ≡ Err fault.ReadFailed → ⊥
+told_worked read last other is = other (ap (λ r. told_at_end r last) is)

@@ -14,7 +14,7 @@ use Rattle.ot_front.specs.Heard.{max_line}
 use Rattle.ot_front.specs.Serving.{session_bounds}
 use Rattle.ot_front.proofs.PrefixLemmas.{consumed}
 use Rattle.ot_last.specs.LastRuns.{Run}
-use Rattle.ot_last.specs.Going.{Going, Goes, Says, SaysAfter, TakesLine, result_of, Hears, run_in}
+use Rattle.ot_last.specs.Going.{Going, Goes, Says, SaysAfter, TakesLine, result_of, HearsSession, run_in}
 use Rattle.ot_last.specs.declared.found.LastRun.{LastRun}
 use Rattle.ot_last.specs.declared.fault.LastFault.{LastFault}
 use Rattle.ot_last.specs.declared.fault.LastFault.TheVariants as fault
@@ -31,7 +31,7 @@ Took old last line new now result = TakesLine old (run_in last) line new (run_in
 
 -- what is so, and whether a read failed
 pub record HearsAll (f h : Flow) (now : Option Run) (result : Result ⊤ LastFault) : Type 0 where
-  pub hears : Hears f.ahead h.ahead now result
+  pub hears : HearsSession f.ahead h.ahead now result
   pub read_failed : result ≡ Err fault.ReadFailed → h.failures ≡ next_count f.failures
   pub read_worked : result ≢ Err fault.ReadFailed → h.failures ≡ f.failures
 
@@ -80,7 +80,7 @@ by_stop from to f h first new a b field why result is told begun begins l =
     let begun_line = going_piece to.line (through_going begins t) s.is.clean (omega (arith, s.is.short)) in
     let says = stop_more (run_in b) why ((lines ++ to.line) ++ 10 ∷ []) to.ahead (s.last (lines ++ to.line) begun_line) in
     let bytes : (lines ++ (to.line ++ 10 ∷ [])) ++ to.ahead ≡ ((lines ++ to.line) ++ 10 ∷ []) ++ to.ahead = ap (λ xs. xs ++ to.ahead) (sym (append_assoc lines to.line (10 ∷ []))) in
-    let hears : Hears f.ahead h.ahead (run_in b) (result_of why) = record {
+    let hears : HearsSession f.ahead h.ahead (run_in b) (result_of why) = record {
       bytes = ((lines ++ to.line) ++ 10 ∷ []) ++ to.ahead;
       reads = subst (Consumes f.ahead h.ahead) bytes (reads t.passes);
       says = says_after h.ahead (((lines ++ to.line) ++ 10 ∷ []) ++ to.ahead) (run_in b) why says;

@@ -12,7 +12,7 @@ use Rattle.ot_store.specs.Arrays.{Named, listed, cells_in}
 use Rattle.ot_book.specs.Replies as r
 use Rattle.ot_book.specs.Answers.{Now, Runs, answer_or_lost, finished, is_checkpoint}
 use Rattle.ot_book.specs.Books.{Register, state_in, next_number, next_step, appended, cleared, logged, opened, open_step, closed}
-use Rattle.ot_book.specs.Opening.{IsFullFor, AnswersNow, Opens}
+use Rattle.ot_book.specs.Opening.{IsFullFor, AnswersNow, OpensLine}
 use Rattle.ot_book.specs.declared.book.Opened.{Opened}
 use Rattle.ot_book.specs.declared.book.Opened.TheVariants.{Full, Answered, ToRun}
 use Rattle.ot_book.proofs.BookLemmas.{logged-by, state-cleared}
@@ -106,11 +106,11 @@ runs_same : (p q : Expanded) → Runs p ≡ Runs q → p ≡ q
 runs_same p q is = cc
 
 -- the program that the line runs
-pub runs_it : (book new : Register) (line : List ℕ) (o : Opened) (spec : Spec) → Opens book line new o → o ≡ ToRun spec →
+pub runs_it : (book new : Register) (line : List ℕ) (o : Opened) (spec : Spec) → OpensLine book line new o → o ≡ ToRun spec →
     next_step book line ≡ Runs (expanded_of spec.checked.program)
 runs_it book new line o spec opens is =
     let asked = run_asked book new line o spec opens is in
-    let h : Opens book line new (ToRun spec) = subst (Opens book line new) is opens in
+    let h : OpensLine book line new (ToRun spec) = subst (OpensLine book line new) is opens in
     let asks : ∥ open_step (opened book line) ≡ Runs (expanded_of spec.checked.program) ∥₁ =
     subst (λ x. ∥ open_step x ≡ Runs (expanded_of spec.checked.program) ∥₁) h.1 h.2.asks in
     let same : asked.0 ≡ expanded_of spec.checked.program =
@@ -118,10 +118,10 @@ runs_it book new line o spec opens is =
     asked.1 ∙ ap Runs same
 
 pub run_line : {bytes line : List ℕ} {book : Register} {last : Option Run} → (mid new : Register) (o : Opened) (spec : Spec) (now : Option Run) → Going bytes line book last →
-    is_bye line ≡ false → Opens book line mid o → o ≡ ToRun spec → new ≡ closed mid →
+    is_bye line ≡ false → OpensLine book line mid o → o ≡ ToRun spec → new ≡ closed mid →
     now ≡ Some (run_with (expanded_of spec.checked.program) (listed mid.store) spec.before) → Going (bytes ++ 10 ∷ []) [] new now
 run_line {bytes} {line} {book} {last} mid new o spec now g bye opens is closes runs =
-    let h : Opens book line mid (ToRun spec) = subst (Opens book line mid) is opens in
+    let h : OpensLine book line mid (ToRun spec) = subst (OpensLine book line mid) is opens in
     let program = expanded_of spec.checked.program in
     let new_is : new ≡ logged book line false = closes ∙ ap closed h.1 in
     let store : mid.store ≡ book.store = ap (λ (b : Register). b.store) h.1 in
@@ -135,7 +135,7 @@ run_line {bytes} {line} {book} {last} mid new o spec now g bye opens is closes r
 
 -- run, or stopped for want of memory
 pub run_goes : {bytes line : List ℕ} {book : Register} {last : Option Run} → (mid new : Register) (o : Opened) (spec : Spec) (result : Result ⊤ Stop) (now : Option Run) → Going bytes line book last →
-    is_bye line ≡ false → Opens book line mid o → o ≡ ToRun spec → OnOk result (new ≡ closed mid) →
+    is_bye line ≡ false → OpensLine book line mid o → o ≡ ToRun spec → OnOk result (new ≡ closed mid) →
     OnOk result (now ≡ Some (run_with (expanded_of spec.checked.program) (listed mid.store) spec.before)) → OnErr result (result ≡ Err Memory) → Goes (bytes ++ 10 ∷ []) [] new now result
 run_goes {bytes} {line} {book} {last} mid new o spec (Ok done) now g bye opens is closes runs memory = run_line mid new o spec now g bye opens is closes runs
 run_goes {bytes} {line} {book} {last} mid new o spec (Err stop) now g bye opens is closes runs memory =
@@ -147,18 +147,18 @@ some-answered book line new now = omega (arith, some-logged book line now.memory
 -- ---- by what the book answered
 
 pub full_line : {bytes line : List ℕ} {book : Register} {last : Option Run} → (mid : Register) (o : Opened) (number : ℕ) → Going bytes line book last → is_bye line ≡ false →
-    Opens book line mid o → o ≡ Full → number ≡ next_number book → (more : List ℕ) → Says ((bytes ++ 10 ∷ []) ++ more) last (Bad number answer.Full)
+    OpensLine book line mid o → o ≡ Full → number ≡ next_number book → (more : List ℕ) → Says ((bytes ++ 10 ∷ []) ++ more) last (Bad number answer.Full)
 full_line {bytes} {line} {book} mid o number g bye opens is same =
-    let h : Opens book line mid Full = subst (Opens book line mid) is opens in
+    let h : OpensLine book line mid Full = subst (OpensLine book line mid) is opens in
     stops_full number g bye (full-takes book line (closed_going g) h.0) same
 
 pub now_line : {bytes line : List ℕ} {book : Register} {last : Option Run} → (new : Register) (o : Opened) (number : ℕ) (result : Result ⊤ Stop) → Going bytes line book last →
-    is_bye line ≡ false → Opens book line new o → o ≡ Answered → number ≡ next_number book →
+    is_bye line ≡ false → OpensLine book line new o → o ≡ Answered → number ≡ next_number book →
     ((told : r.Told) → last_told new ≡ Some told → result ≡ judged told number) → Goes (bytes ++ 10 ∷ []) [] new last result
 now_line {bytes} {line} {book} new o number result g bye opens is same says =
-    let h : Opens book line new Answered = subst (Opens book line new) is opens in
+    let h : OpensLine book line new Answered = subst (OpensLine book line new) is opens in
     answered_line new number result g bye h.0 h.1 same says
 
-pub some-opened : (book : Register) (line : List ℕ) (new : Register) (o : Opened) → Opens book line new o → o ≡ Answered → 0 < length new.log
+pub some-opened : (book : Register) (line : List ℕ) (new : Register) (o : Opened) → OpensLine book line new o → o ≡ Answered → 0 < length new.log
 some-opened book line new o opens is =
-    let h : Opens book line new Answered = subst (Opens book line new) is opens in some-answered book line new h.1
+    let h : OpensLine book line new Answered = subst (OpensLine book line new) is opens in some-answered book line new h.1

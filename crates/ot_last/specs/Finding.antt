@@ -9,13 +9,13 @@ use Rattle.ot_last.specs.declared.fault.LastFault.{LastFault}
 use Rattle.ot_last.specs.declared.fault.LastFault.TheVariants.{NoRun, BadLine}
 
 -- the session is over: it heard a goodbye, or its source has nothing more
-abbrev pub IsOver : Option (List ℕ) → List ℕ → Type 0
-IsOver left bytes = ((heard_in beginner bytes).end ≡ Some Bye) ⊎ IsAtEnd left
+abbrev pub IsSessionOver : Option (List ℕ) → List ℕ → Type 0
+IsSessionOver left bytes = ((heard_in beginner bytes).end ≡ Some Bye) ⊎ IsAtEnd left
 
 -- what is told after these bytes
 abbrev pub TellsOf : Option (List ℕ) → List ℕ → Result LastRun LastFault → Type 0
-TellsOf left bytes (Ok last) = IsOver left bytes × (found_in beginner bytes ≡ Taken (Some (run_of last)))
-TellsOf left bytes (Err NoRun) = IsOver left bytes × (found_in beginner bytes ≡ Taken None)
+TellsOf left bytes (Ok last) = IsSessionOver left bytes × (found_in beginner bytes ≡ Taken (Some (run_of last)))
+TellsOf left bytes (Err NoRun) = IsSessionOver left bytes × (found_in beginner bytes ≡ Taken None)
 TellsOf left bytes (Err (BadLine number answer)) = found_in beginner bytes ≡ BadAt number answer
 TellsOf left bytes (Err fault) = Unit {0}
 

@@ -8,7 +8,7 @@ use Rattle.ot_front.specs.Told.{Lines, after}
 use Rattle.ot_front.specs.Session.{heard_in}
 use Rattle.ot_front.specs.declared.fault.End.TheVariants as end
 use Rattle.ot_last.specs.LastRuns.{Run, Taken, BadAt, found, found_in, beginner, run_of}
-use Rattle.ot_last.specs.Finding.{IsOver}
+use Rattle.ot_last.specs.Finding.{IsSessionOver}
 use Rattle.ot_last.specs.declared.found.LastRun.{LastRun}
 use Rattle.ot_last.specs.declared.fault.LastFault.{LastFault}
 use Rattle.ot_last.specs.declared.fault.LastFault.TheVariants as fault
@@ -65,20 +65,20 @@ result_of (Bad number answer) = Err (fault.BadLine number answer)
 result_of Memory = Err fault.Memory
 
 -- the last run, where all was read
-abbrev pub told_by : Result ⊤ LastFault → Option LastRun → Result LastRun LastFault
-told_by (Ok done) (Some last) = Ok last
-told_by (Ok done) None = Err fault.NoRun
-told_by (Err why) last = Err why
+abbrev pub told_at_end : Result ⊤ LastFault → Option LastRun → Result LastRun LastFault
+told_at_end (Ok done) (Some last) = Ok last
+told_at_end (Ok done) None = Err fault.NoRun
+told_at_end (Err why) last = Err why
 
 -- what is so of a session that was read so far
 abbrev pub SaysAfter : Option (List ℕ) → List ℕ → Option Run → Result ⊤ LastFault → Type 0
-SaysAfter left bytes last (Ok done) = IsOver left bytes × (found_in beginner bytes ≡ Taken last)
+SaysAfter left bytes last (Ok done) = IsSessionOver left bytes × (found_in beginner bytes ≡ Taken last)
 SaysAfter left bytes last (Err fault.NoRun) = ⊥
 SaysAfter left bytes last (Err (fault.BadLine number answer)) = found_in beginner bytes ≡ BadAt number answer
 SaysAfter left bytes last (Err other) = Unit {0}
 
 -- the bytes that were read, and what is so of them
-pub record Hears (ahead left : Option (List ℕ)) (last : Option Run) (result : Result ⊤ LastFault) : Type 0 where
+pub record HearsSession (ahead left : Option (List ℕ)) (last : Option Run) (result : Result ⊤ LastFault) : Type 0 where
   pub bytes : List ℕ
   pub reads : Consumes ahead left bytes
   pub says : SaysAfter left bytes last result

@@ -4,7 +4,7 @@ ghost use Rattle.ot_lines.specs.Lines.{opened};
 ghost use Rattle.ot_front.specs.Device.{next_count};
 ghost use Rattle.ot_front.specs.Serving.{session_bounds};
 ghost use Rattle.ot_last.specs.Finding.{Finds};
-ghost use Rattle.ot_last.specs.Going.{Going, Hears, run_in, told_by};
+ghost use Rattle.ot_last.specs.Going.{Going, HearsSession, run_in, told_at_end};
 ghost use Rattle.ot_last.specs.declared.fault.LastFault.TheVariants.{ReadFailed};
 
 use crate::fault::{LastFault, Untaken};
@@ -36,7 +36,7 @@ pub fn last_run<R: Source>(alloc: Global, source: &mut R) -> Result<LastRun, Las
 
 /// The last run, where all was read.
 fn told(read: Result<(), LastFault>, last: Option<LastRun>) -> Result<LastRun, LastFault>
-    ensures { result ≡ told_by read last }
+    ensures { result ≡ told_at_end read last }
 {
     match read {
         Ok(()) => match last {
@@ -57,7 +57,7 @@ fn hear_all<R: Source>(
 ) -> Result<(), LastFault>
     requires begins { Going [] [] book.old (run_in last.old) }
     requires begun { lines.old ≡ opened session_bounds }
-    ensures hears { Hears (R.ahead source.old) (R.ahead source.new) (run_in last.new) result }
+    ensures hears { HearsSession (R.ahead source.old) (R.ahead source.new) (run_in last.new) result }
     ensures read_failed { result ≡ Err ReadFailed → R.failures source.new ≡ next_count (R.failures source.old) }
     ensures read_worked { result ≢ Err ReadFailed → R.failures source.new ≡ R.failures source.old }
 {

@@ -17,8 +17,8 @@ use Rattle.ot_book.specs.Books.{Register, state_in, logged}
 use Rattle.ot_book.specs.Replies as r
 use Rattle.ot_book.specs.Requests.{Request, New, Free, Put, Get, Arrays, Used, Checkpoint, Run, request_of, size_in}
 use Rattle.ot_book.proofs.BookLemmas.{state-logged}
-use Rattle.ot_mirror.specs.Heard.{all_sized, told_in, told_of}
-use Rattle.ot_mirror.specs.Mirrors.{Sizes, left_by, sent, behind, Follows}
+use Rattle.ot_mirror.specs.Heard.{all_sized, told_in, told_in_data}
+use Rattle.ot_mirror.specs.Mirrors.{Sizes, left_by, sent, behind, MirrorFollows}
 use Rattle.ot_mirror.proofs.SizesLemmas.{left-sent}
 use Rattle.ot_mirror.proofs.GivenLemmas.{listed-finished}
 
@@ -83,7 +83,7 @@ offends_leaves sizes line None p = refl
 offends_leaves sizes line (Some code) None = refl
 offends_leaves sizes line (Some code) (Some place) = refl
 
-reply_leaves : (sizes : Sizes) (line : List ℕ) (n : ℕ) (told : r.Told) → behind sizes line (told_of (r.json_of n told)) ≡ told_leaves sizes line told
+reply_leaves : (sizes : Sizes) (line : List ℕ) (n : ℕ) (told : r.Told) → behind sizes line (told_in_data (r.json_of n told)) ≡ told_leaves sizes line told
 reply_leaves sizes line n r.Accepted = refl
 reply_leaves sizes line n (r.Cells values) = refl
 reply_leaves sizes line n (r.Arrays arrays) = listed_leaves sizes line (all_sized (items_of (map r.sized arrays)))
@@ -114,10 +114,10 @@ line_leaves limits s line false usual =
     step_leaves s line (step_of limits s.arrays s.used line) (keeps-parsed limits s.arrays s.used (value_of line))
     (ap (λ l. left_by (listed s.arrays) (step_of l s.arrays s.used line)) usual ∙ left-sent s.arrays s.used line)
 
-pub follows : Follows
+pub follows : MirrorFollows
 follows book line reply memory number usual told =
     let s = state_in book in
     ap (λ (t : State). listed t.arrays) (state-logged book line memory)
     ∙ line_leaves book.limits s line memory usual
     ∙ sym (reply_leaves (listed book.store) line number (answer_or_lost book.limits s line memory).0)
-    ∙ sym (ap (λ o. behind (listed book.store) line (option_and_then told_of o)) told)
+    ∙ sym (ap (λ o. behind (listed book.store) line (option_and_then told_in_data o)) told)

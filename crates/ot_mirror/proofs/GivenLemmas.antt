@@ -12,7 +12,7 @@ use Rattle.ot_store.specs.Usual.{usual_limits}
 use Rattle.ot_store.proofs.ArraysLemmas.{names_in-recelled, cells_in-recelled}
 use Rattle.ot_book.specs.Answers.{State, Step, Now, Runs, finished, step_of, answer, answer_or_lost}
 use Rattle.ot_book.specs.Books.{Register, state_in, next_step, appended, cleared, logged, opened, open_step, given_up}
-use Rattle.ot_book.specs.Opening.{IsFullFor, Opens}
+use Rattle.ot_book.specs.Opening.{IsFullFor, OpensLine}
 use Rattle.ot_book.specs.Replies.{Told, is_lost}
 use Rattle.ot_book.specs.declared.book.Opened.{Opened}
 use Rattle.ot_book.specs.declared.book.Opened.TheVariants.{Full, Answered, ToRun}
@@ -30,20 +30,20 @@ free arrays line (inr (inl past)) = absurd (omega (arith, past))
 free arrays line (inr (inr at)) = absurd (omega (arith, at.0))
 
 -- the log of such a book isn't full
-pub given_full : (arrays : List Named) (line : List ℕ) (old new : Register) (o : Opened) → old ≡ begun arrays → Opens old line new o → o ≡ Full → ⊥
+pub given_full : (arrays : List Named) (line : List ℕ) (old new : Register) (o : Opened) → old ≡ begun arrays → OpensLine old line new o → o ≡ Full → ⊥
 given_full arrays line old new o first opens is =
-    let full : Opens old line new Full = subst (Opens old line new) is opens in
+    let full : OpensLine old line new Full = subst (OpensLine old line new) is opens in
     free arrays line (subst (λ b. IsFullFor b line) first full.0)
 
-pub given_answered : (arrays : List Named) (line : List ℕ) (old new : Register) (o : Opened) → old ≡ begun arrays → Opens old line new o → o ≡ Answered → Given arrays line new
+pub given_answered : (arrays : List Named) (line : List ℕ) (old new : Register) (o : Opened) → old ≡ begun arrays → OpensLine old line new o → o ≡ Answered → Given arrays line new
 given_answered arrays line old new o first opens is =
-    let answered : Opens old line new Answered = subst (Opens old line new) is opens in
+    let answered : OpensLine old line new Answered = subst (OpensLine old line new) is opens in
     inl (answered.1.memory, answered.1.new_is ∙ ap (λ b. logged b line answered.1.memory) first)
 
-pub given_run : (arrays : List Named) (line : List ℕ) (old mid new : Register) (o : Opened) (spec : Spec) → old ≡ begun arrays → Opens old line mid o → o ≡ ToRun spec → new ≡ given_up mid →
+pub given_run : (arrays : List Named) (line : List ℕ) (old mid new : Register) (o : Opened) (spec : Spec) → old ≡ begun arrays → OpensLine old line mid o → o ≡ ToRun spec → new ≡ given_up mid →
     Given arrays line new
 given_run arrays line old mid new o spec first opens is gives =
-    let runs : Opens old line mid (ToRun spec) = subst (Opens old line mid) is opens in
+    let runs : OpensLine old line mid (ToRun spec) = subst (OpensLine old line mid) is opens in
     let opened_is : mid ≡ opened (begun arrays) line = runs.1 ∙ ap (λ b. opened b line) first in
     let asks : ∥ open_step (opened (begun arrays) line) ≡ Runs (expanded_of spec.checked.program) ∥₁ =
     subst (λ x. ∥ open_step x ≡ Runs (expanded_of spec.checked.program) ∥₁) opened_is runs.2.asks in

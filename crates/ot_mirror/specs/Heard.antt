@@ -33,17 +33,17 @@ two_behind tag code place =
     if is_word tag (codes "err") then option_and_then (λ c. option_map (Offends c) (size_in 0 place)) (size_in 0 code) else None
 
 -- `["ok",n]`, `["arrays",n,[[name,len],..]]`, `["err",n,code]`, `["err",n,code,place]`
-abbrev pub told_by : Items → Option Told
-told_by no_items = None
-told_by (item tag no_items) = None
-told_by (item tag (item n no_items)) = if is_word tag (codes "ok") then option_map (λ k. Accepted) (number_in n) else None
-told_by (item tag (item n (item d no_items))) = option_and_then (λ k. one_behind tag d) (number_in n)
-told_by (item tag (item n (item d (item e no_items)))) = option_and_then (λ k. two_behind tag d e) (number_in n)
-told_by (item tag (item n (item d (item e (item f fs))))) = None
+abbrev pub told_in_list : Items → Option Told
+told_in_list no_items = None
+told_in_list (item tag no_items) = None
+told_in_list (item tag (item n no_items)) = if is_word tag (codes "ok") then option_map (λ k. Accepted) (number_in n) else None
+told_in_list (item tag (item n (item d no_items))) = option_and_then (λ k. one_behind tag d) (number_in n)
+told_in_list (item tag (item n (item d (item e no_items)))) = option_and_then (λ k. two_behind tag d e) (number_in n)
+told_in_list (item tag (item n (item d (item e (item f fs))))) = None
 
-abbrev pub told_of : Data → Option Told
-told_of d = option_and_then told_by (as_array d)
+abbrev pub told_in_data : Data → Option Told
+told_in_data d = option_and_then told_in_list (as_array d)
 
 -- what a reply tells, where it is one of these; its LF is among the white space of JSON
 abbrev pub told_in : List ℕ → Option Told
-told_in reply = option_and_then told_of (value_of reply)
+told_in reply = option_and_then told_in_data (value_of reply)

@@ -39,7 +39,7 @@ behind sizes line other = sizes
 
 -- Where a book has arrays of some sizes, whatever is in their cells, and a reply tells what the book answers to a line, the
 -- book has arrays of the sizes behind it.
-abbrev pub Follows : Type 0
-Follows = (book : Register) (line reply : List ℕ) (memory : Bool) (number : ℕ) → book.limits ≡ usual_limits →
+abbrev pub MirrorFollows : Type 0
+MirrorFollows = (book : Register) (line reply : List ℕ) (memory : Bool) (number : ℕ) → book.limits ≡ usual_limits →
     value_of reply ≡ Some (json_of number (answer_or_lost book.limits (state_in book) line memory).0) →
     listed (logged book line memory).store ≡ behind (listed book.store) line (told_in reply)

@@ -5,7 +5,7 @@ ghost use Rattle.serde_json.specs.View.{view, items_view};
 ghost use Rattle.ot_model.specs.ShapeView.{arrays_of};
 ghost use Rattle.ot_book.specs.Answers.{value_of};
 ghost use Rattle.ot_book.specs.Requests.{name_in, size_in};
-ghost use Rattle.ot_mirror.specs.Heard.{all_sized, one_behind, sized_in, sized_of, told_by, told_in, told_of, two_behind};
+ghost use Rattle.ot_mirror.specs.Heard.{all_sized, one_behind, sized_in, sized_of, told_in_list, told_in, told_in_data, two_behind};
 ghost use Rattle.ot_mirror.specs.HeardView.{sized_as, told_as};
 
 use ot_model::ArrayShape;
@@ -57,7 +57,7 @@ fn read_value(alloc: Global, reply: &[u8]) -> Result<Option<Value>, AllocError>
 }
 
 fn read_reply(alloc: Global, value: &Value) -> Result<Option<Heard>, AllocError>
-    ensures { IfOk result (λ heard. option_map told_as heard ≡ told_of (view value.now)) }
+    ensures { IfOk result (λ heard. option_map told_as heard ≡ told_in_data (view value.now)) }
 {
     match value {
         Value::Array(items) => read_items(alloc, items),
@@ -67,7 +67,7 @@ fn read_reply(alloc: Global, value: &Value) -> Result<Option<Heard>, AllocError>
 
 #[tactic(auto, using(crate::proofs::HeardLemmas::no_reply))]
 fn read_items(alloc: Global, items: &[Value]) -> Result<Option<Heard>, AllocError>
-    ensures { IfOk result (λ heard. option_map told_as heard ≡ told_by (items_view items.now)) }
+    ensures { IfOk result (λ heard. option_map told_as heard ≡ told_in_list (items_view items.now)) }
 {
     let len = items.len();
     if len < 2 || len > 4 {
@@ -88,7 +88,7 @@ fn read_items(alloc: Global, items: &[Value]) -> Result<Option<Heard>, AllocErro
 }
 
 fn read_taken(tag: &Value, number: &Value) -> Option<Heard>
-    ensures { option_map told_as result ≡ told_by (item (view tag.now) (item (view number.now) no_items)) }
+    ensures { option_map told_as result ≡ told_in_list (item (view tag.now) (item (view number.now) no_items)) }
 {
     if !is_word(tag, "ok") {
         return None;

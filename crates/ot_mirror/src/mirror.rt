@@ -1,5 +1,5 @@
 //! A tenant's arrays as far as a server's replies tell.
-ghost use Rattle.ot_mirror.specs.Mirrors.{Follows};
+ghost use Rattle.ot_mirror.specs.Mirrors.{MirrorFollows};
 
 use crate::heard::{Heard, hear};
 use crate::remarks::remarks_on_refusal;
@@ -69,5 +69,5 @@ impl Mirror {
 
 /// A mirror has the names and lengths of a tenant's arrays behind each line, where it had them before.
 pub fn mirrors_follow()
-    ensures { Follows }
+    ensures { MirrorFollows }
 {}

@@ -13,7 +13,7 @@ use Rattle.ot_core.specs.Floors.{Floor, IsWorking, RefusesIn, FailsIn}
 use Rattle.ot_core.specs.Turns.{RunsShort}
 use Rattle.ot_core.specs.declared.hall.SubmitFault.TheVariants.{Memory}
 use Rattle.ot_book.specs.declared.executor.NotDone.TheVariants as refused
-use Rattle.ot_pool.specs.Shared.{Shared, Turns, Takes, Breaks, Collects, Leaves}
+use Rattle.ot_pool.specs.Shared.{Shared, Turns, ReturnsPiece, BreaksItsJob, Collects, Leaves}
 
 -- a job that works does so where nothing has changed
 pub still-working : (old new : Floor) (t : ℕ) → RunsShort old t new → IsWorking new t
@@ -24,7 +24,7 @@ pub fails-same : (f g : Floor) (t : ℕ) (done back : Done) (job : Option Live) 
 fails-same f g t done back job same = subst (λ d. FailsIn f t d job g) same
 
 pub breaks : (old mid new : Floor) (t : ℕ) (done back : Done) (why : Refused) → back ≡ done → RefusesIn (job_of old.jobs t) done why → mid ≡ old
-    → FailsIn mid t back (job_of mid.jobs t) new → Breaks t done old new
+    → FailsIn mid t back (job_of mid.jobs t) new → BreaksItsJob t done old new
 breaks old mid new t done back why same refused before fails =
     record {
       why = why;
@@ -39,9 +39,9 @@ turns P s now g is unset does = subst (λ o. Turns P o (record { floor = g; clos
 
 pub counts-none : (s now : Shared) (t : ℕ) (done back : Done) (why : Refused) (mid g : Floor) → s ≡ now → s.closed ≡ false → back ≡ done
     → RefusesIn (job_of s.floor.jobs t) done why → mid ≡ s.floor → FailsIn mid t back (job_of mid.jobs t) g
-    → Takes now t done None (record { floor = g; closed = s.closed })
+    → ReturnsPiece now t done None (record { floor = g; closed = s.closed })
 counts-none s now t done back why mid g is unset same refused before fails =
-    inl (turns (Breaks t done) s now g is unset (breaks s.floor mid g t done back why same refused before fails))
+    inl (turns (BreaksItsJob t done) s now g is unset (breaks s.floor mid g t done back why same refused before fails))
 
 -- ---- a collect in two calls
 

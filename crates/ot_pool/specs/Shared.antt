@@ -28,14 +28,14 @@ abbrev pub new_shared : ℕ → Shared
 new_shared tenants = record { floor = new_floor tenants; closed = false }
 
 -- whether the total has room for the units of one more piece
-abbrev pub HasRoom : Floor → Type 0
-HasRoom f = total_of f + 20000 < 2 ^ 63
+abbrev pub HasRoomForUnits : Floor → Type 0
+HasRoomForUnits f = total_of f + 20000 < 2 ^ 63
 
 -- What the type carries, of so many units in the ledger's book and so many tenants: the book has the total; where the mark isn't
 -- set there is room for one more piece; each tenant has its places.
 pub record IsKept (s : Shared) (units tenants : ℕ) : Type 0 where
   pub counted : units ≡ total_of s.floor
-  pub room : s.closed ≡ false → HasRoom s.floor
+  pub room : s.closed ≡ false → HasRoomForUnits s.floor
   pub jobs_many : length s.floor.jobs ≡ tenants
   pub units_many : length s.floor.units ≡ tenants
 
@@ -54,45 +54,45 @@ pub record Turns (P : Floor → Floor → Type 0) (old new : Shared) : Type 0 wh
 
 -- the tenant has a job of this spec that begins
 abbrev pub Submits : Shared → ℕ → Spec → Shared → Type 0
-Submits old t spec new = Turns (λ f g. floors.Submits f t spec g) old new
+Submits old t spec new = Turns (λ f g. floors.SubmitsFor f t spec g) old new
 
 -- why a spec isn't taken
-abbrev pub Refuses : Shared → ℕ → NotDone → Type 0
-Refuses old t Closed = old.closed ≡ true
-Refuses old t Stranger = (old.closed ≡ false) × ¬ (IsFree old.floor t)
-Refuses old t Memory = (old.closed ≡ false) × IsFree old.floor t
+abbrev pub RefusesSpec : Shared → ℕ → NotDone → Type 0
+RefusesSpec old t Closed = old.closed ≡ true
+RefusesSpec old t Stranger = (old.closed ≡ false) × ¬ (IsFree old.floor t)
+RefusesSpec old t Memory = (old.closed ≡ false) × IsFree old.floor t
 
 -- ---- a submit in two calls: the job begins before the turn, and the turn takes it in
 
 -- the tenant has this job
 abbrev pub Enters : Shared → ℕ → Live → Shared → Type 0
-Enters old t job new = Turns (λ f g. floors.Enters f t job g) old new
+Enters old t job new = Turns (λ f g. floors.EntersFor f t job g) old new
 
 -- ---- claim
 
 -- memory ran out at a claim of the tenant's job, which works, and so it fails
-pub record Aborts (t : ℕ) (old new : Floor) : Type 0 where
+pub record AbortsAtClaim (t : ℕ) (old new : Floor) : Type 0 where
   pub working : IsWorking old t
   pub some : ¬ (NothingAt old.jobs t)
   pub aborts : AbortsJob old t new
 
 -- a piece of some tenant, where a tenant has a claimable task
-abbrev pub Claims : Shared → ℕ → ℕ → Claimed → Shared → Type 0
-Claims old turn worker (claimed.Got t piece) new = Turns (λ f g. ClaimsSome f turn worker (Some (t, piece)) g) old new
-Claims old turn worker claimed.Idle new = Turns (λ f g. ClaimsSome f turn worker None g) old new
-Claims old turn worker (claimed.Aborted t) new = Turns (Aborts t) old new
-Claims old turn worker claimed.Closed new = FindsClosed old new
+abbrev pub ClaimsAny : Shared → ℕ → ℕ → Claimed → Shared → Type 0
+ClaimsAny old turn worker (claimed.Got t piece) new = Turns (λ f g. ClaimsSome f turn worker (Some (t, piece)) g) old new
+ClaimsAny old turn worker claimed.Idle new = Turns (λ f g. ClaimsSome f turn worker None g) old new
+ClaimsAny old turn worker (claimed.Aborted t) new = Turns (AbortsAtClaim t) old new
+ClaimsAny old turn worker claimed.Closed new = FindsClosed old new
 
 -- ---- settle
 
 -- A piece is settled, and its units are counted. The mark is set where there is no room for one more.
-pub record Settles (old : Shared) (t : ℕ) (done : Done) (n : ℕ) (new : Shared) : Type 0 where
+pub record SettlesAndMarks (old : Shared) (t : ℕ) (done : Done) (n : ℕ) (new : Shared) : Type 0 where
   pub is_open : old.closed ≡ false
-  pub settles : floors.Settles old.floor t done n new.floor
-  pub bound : new.closed ≡ false ↔ HasRoom new.floor
+  pub settles : floors.SettlesFor old.floor t done n new.floor
+  pub bound : new.closed ≡ false ↔ HasRoomForUnits new.floor
 
 -- a piece isn't settled, and fails the job that it is of
-pub record Breaks (t : ℕ) (done : Done) (old new : Floor) : Type 0 where
+pub record BreaksItsJob (t : ℕ) (done : Done) (old new : Floor) : Type 0 where
   pub why : Refused
   pub refused : RefusesIn (job_of old.jobs t) done why
   pub fails : FailsIn old t done (job_of old.jobs t) new
@@ -104,18 +104,18 @@ pub record FailsClosed (old : Shared) (t : ℕ) (done : Done) (new : Shared) : T
   pub still : new.closed ≡ true
 
 -- a piece comes back with so many units counted, or with none
-abbrev pub Takes : Shared → ℕ → Done → Option ℕ → Shared → Type 0
-Takes old t done (Some n) new = Settles old t done n new
-Takes old t done None new = Turns (Breaks t done) old new ⊎ FailsClosed old t done new
+abbrev pub ReturnsPiece : Shared → ℕ → Done → Option ℕ → Shared → Type 0
+ReturnsPiece old t done (Some n) new = SettlesAndMarks old t done n new
+ReturnsPiece old t done None new = Turns (BreaksItsJob t done) old new ⊎ FailsClosed old t done new
 
 -- ---- collect
 
 -- whoever submitted this spec asks for its job
 abbrev pub Collects : Shared → ℕ → Spec → Option (Result Outcome NotDone) → Shared → Type 0
-Collects old t spec None new = Turns (λ f g. floors.Collects f t spec collected.Pending g) old new
-Collects old t spec (Some (Ok outcome)) new = Turns (λ f g. floors.Collects f t spec (collected.Ended outcome) g) old new
-Collects old t spec (Some (Err Memory)) new = Turns (λ f g. floors.Collects f t spec collected.Failed g) old new
-Collects old t spec (Some (Err Stranger)) new = Turns (λ f g. floors.Collects f t spec collected.Stranger g) old new
+Collects old t spec None new = Turns (λ f g. floors.CollectsFor f t spec collected.Pending g) old new
+Collects old t spec (Some (Ok outcome)) new = Turns (λ f g. floors.CollectsFor f t spec (collected.Ended outcome) g) old new
+Collects old t spec (Some (Err Memory)) new = Turns (λ f g. floors.CollectsFor f t spec collected.Failed g) old new
+Collects old t spec (Some (Err Stranger)) new = Turns (λ f g. floors.CollectsFor f t spec collected.Stranger g) old new
 Collects old t spec (Some (Err Closed)) new = FindsClosed old new
 
 -- ---- looks, which are no turns
@@ -139,7 +139,7 @@ IsGoing f t = is_going (option_map (λ j. state_of j) (job_of f.jobs t)) ≡ tru
 -- the tenant's job, if it is over, whichever spec it has
 abbrev pub Leaves : Shared → ℕ → Option (Result Live NotDone) → Shared → Type 0
 Leaves old t None new = Turns (λ f g. IsGoing f t × (g ≡ f)) old new
-Leaves old t (Some (Ok job)) new = Turns (λ f g. floors.Leaves f t job g) old new
+Leaves old t (Some (Ok job)) new = Turns (λ f g. floors.LeavesFor f t job g) old new
 Leaves old t (Some (Err Memory)) new = ⊥
 Leaves old t (Some (Err Stranger)) new = Turns (λ f g. (job_of f.jobs t ≡ None) × (g ≡ f)) old new
 Leaves old t (Some (Err Closed)) new = FindsClosed old new
@@ -149,13 +149,13 @@ Leaves old t (Some (Err Closed)) new = FindsClosed old new
 -- a piece comes back, where there is one
 abbrev pub TakesBack : Shared → Option (ℕ × Done) → Shared → Type 0
 TakesBack old None new = new ≡ old
-TakesBack old (Some p) new = (units : Option ℕ) × Takes old p.0 p.1 units new
+TakesBack old (Some p) new = (units : Option ℕ) × ReturnsPiece old p.0 p.1 units new
 
 -- a worker hands back what it ran, and claims behind it
 pub record Rounds (old : Shared) (back : Option (ℕ × Done)) (turn worker : ℕ) (got : Claimed) (new : Shared) : Type 0 where
   pub between : Shared
   pub takes : TakesBack old back between
-  pub claims : Claims between turn worker got new
+  pub claims : ClaimsAny between turn worker got new
 
 -- whose piece came back
 abbrev pub client_of : Option (ℕ × Done) → Option ℕ

@@ -67,7 +67,7 @@ impl<L: Ledger> Model for Hub<L> {
 impl<L: Ledger> Hub<L> {
     ghost use Rattle.std.specs.Prelude.{◌≤◌, true, false, IfOk, IfErr, IfSome, IfNone, IsTrue, sum};
     ghost use Rattle.ot_check.specs.Jobs.{IsMeaning};
-    ghost use Rattle.ot_pool.specs.Shared.{new_shared, Submits, Enters, Refuses, Claims, Takes, Collects, Leaves, is_pending};
+    ghost use Rattle.ot_pool.specs.Shared.{new_shared, Submits, Enters, RefusesSpec, ClaimsAny, ReturnsPiece, Collects, Leaves, is_pending};
     ghost use Rattle.ot_job.specs.States.{Starts};
     ghost use Rattle.ot_check.specs.Jobs.{Spec};
     ghost use Rattle.ot_core.specs.Turns.{NothingAnywhere};
@@ -94,7 +94,7 @@ impl<L: Ledger> Hub<L> {
         spec: JobSpec,
     ) -> Result<(), (JobSpec, NotDone)>
         ensures begun { IfOk result (λ _. Submits self.old tenant spec self.new) }
-        ensures refused { IfErr result (λ e. Refuses self.old tenant e.1) }
+        ensures refused { IfErr result (λ e. RefusesSpec self.old tenant e.1) }
         ensures back { IfErr result (λ e. (e.0 ≡ spec) × (self.new ≡ self.old)) }
     {
         if self.is_closed {
@@ -112,7 +112,7 @@ impl<L: Ledger> Hub<L> {
     pub fn enter(&mut self, tenant: u32, job: Job) -> Result<(), (Job, NotDone)>
         ensures entered { IfOk result (λ _. Enters self.old tenant job self.new) }
         ensures submitted { IfOk result (λ _. (spec : Spec) → Starts spec job → Submits self.old tenant spec self.new) }
-        ensures refused { IfErr result (λ e. Refuses self.old tenant e.1) }
+        ensures refused { IfErr result (λ e. RefusesSpec self.old tenant e.1) }
         ensures back { IfErr result (λ e. (e.0 ≡ job) × (self.new ≡ self.old)) }
     {
         if self.is_closed {
@@ -129,7 +129,7 @@ impl<L: Ledger> Hub<L> {
     /// memory fails at once.
     pub fn claim(&mut self, alloc: Global, turn: u64, worker: u32) -> Claimed
         requires worker { (1 ≤ worker) × (worker ≤ 16) }
-        ensures { Claims self.old turn worker result self.new }
+        ensures { ClaimsAny self.old turn worker result self.new }
     {
         if self.is_closed {
             return Claimed::Closed;
@@ -154,7 +154,7 @@ impl<L: Ledger> Hub<L> {
         share: &mut Share<L>,
     ) -> Option<u32>
         requires { 0 < share.old.parts }
-        ensures taken { Takes self.old tenant done result self.new }
+        ensures taken { ReturnsPiece self.old tenant done result self.new }
         ensures counted { IfSome result (λ units. share.new.amount ≡ share.old.amount + units) }
         ensures uncounted { IfNone result (share.new.amount ≡ share.old.amount) }
         ensures parts { share.new.parts ≡ share.old.parts }
@@ -297,11 +297,11 @@ pub fn outcome_of(job: Job, spec: &JobSpec) -> Result<Outcome, NotDone>
 }
 
 ghost use Rattle.std.specs.Prelude.{◌↔◌, IsTrue};
-ghost use Rattle.ot_pool.specs.Shared.{HasRoom};
+ghost use Rattle.ot_pool.specs.Shared.{HasRoomForUnits};
 
 // Whether the total has room for the units of one more piece.
 fn has_room(hall: &Hall) -> bool
-    ensures { IsTrue result ↔ HasRoom hall.now }
+    ensures { IsTrue result ↔ HasRoomForUnits hall.now }
 {
     let (_, total) = hall.units(0);
     total < END_OF_UNITS - UNITS_OF_A_PIECE

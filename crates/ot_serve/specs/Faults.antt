@@ -8,17 +8,17 @@ use Rattle.ot_pool.specs.declared.crew.NotStarted.{NotStarted}
 use Rattle.ot_pool.specs.declared.crew.NotStarted.TheVariants as start
 
 -- the line on standard error
-abbrev pub line_of : Fault → List ℕ
-line_of of.ReadFailed = codes "omptaskd: read failed"
-line_of of.WriteFailed = codes "omptaskd: write failed"
-line_of of.Memory = codes "omptaskd: no memory"
-line_of of.Stranger = codes "omptaskd: stranger"
-line_of of.TooManyReads = codes "omptaskd: too many reads"
-line_of of.LineTooLong = codes "omptaskd: line too long"
-line_of of.BadTenantName = codes "omptaskd: bad tenant name"
-line_of of.TooManyTenants = codes "omptaskd: too many tenants"
-line_of of.SocketFailed = codes "omptaskd: socket failed"
-line_of of.NoThread = codes "omptaskd: no thread"
+abbrev pub stderr_line : Fault → List ℕ
+stderr_line of.ReadFailed = codes "omptaskd: read failed"
+stderr_line of.WriteFailed = codes "omptaskd: write failed"
+stderr_line of.Memory = codes "omptaskd: no memory"
+stderr_line of.Stranger = codes "omptaskd: stranger"
+stderr_line of.TooManyReads = codes "omptaskd: too many reads"
+stderr_line of.LineTooLong = codes "omptaskd: line too long"
+stderr_line of.BadTenantName = codes "omptaskd: bad tenant name"
+stderr_line of.TooManyTenants = codes "omptaskd: too many tenants"
+stderr_line of.SocketFailed = codes "omptaskd: socket failed"
+stderr_line of.NoThread = codes "omptaskd: no thread"
 
 -- the exit status
 abbrev pub status_of : Fault → ℕ
@@ -34,13 +34,13 @@ status_of of.SocketFailed = 1
 status_of of.NoThread = 1
 
 -- the program's fault where a session, or the sessions at a socket, ended with one
-abbrev pub fault_of : FrontFault → Fault
-fault_of front.ReadFailed = of.ReadFailed
-fault_of front.WriteFailed = of.WriteFailed
-fault_of front.Memory = of.Memory
-fault_of front.Stranger = of.Stranger
-fault_of front.TooManyTurns = of.TooManyReads
-fault_of front.SocketFailed = of.SocketFailed
+abbrev pub front_fault : FrontFault → Fault
+front_fault front.ReadFailed = of.ReadFailed
+front_fault front.WriteFailed = of.WriteFailed
+front_fault front.Memory = of.Memory
+front_fault front.Stranger = of.Stranger
+front_fault front.TooManyTurns = of.TooManyReads
+front_fault front.SocketFailed = of.SocketFailed
 
 -- the program's fault where not every worker was started
 abbrev pub fault_of_start : NotStarted → Fault

@@ -1,6 +1,6 @@
 //! What the program tells of a fault, and the status that it ends with.
 ghost use Rattle.std.specs.Prelude.{◌≡◌};
-ghost use Rattle.ot_serve.specs.Faults.{line_of, status_of, fault_of, fault_of_start};
+ghost use Rattle.ot_serve.specs.Faults.{stderr_line, status_of, front_fault, fault_of_start};
 
 use ot_front::FrontFault;
 use ot_pool::NotStarted;
@@ -21,7 +21,7 @@ pub enum Fault {
 }
 
 impl From<FrontFault> for Fault {
-    ghost from_gives = { λ fault f. f ≡ fault_of fault };
+    ghost from_gives = { λ fault f. f ≡ front_fault fault };
 
     fn from(fault: FrontFault) -> Fault {
         match fault {
@@ -48,7 +48,7 @@ impl From<NotStarted> for Fault {
 
 /// The line that the program prints, without the line feed, and its exit status.
 pub fn fault_line(fault: &Fault) -> (&'static str, u8)
-    ensures line { result.0.now ≡ line_of fault.now }
+    ensures line { result.0.now ≡ stderr_line fault.now }
     ensures status { result.1 ≡ status_of fault.now }
 {
     let line = match fault {

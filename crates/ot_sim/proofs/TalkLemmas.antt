@@ -18,7 +18,7 @@ use Rattle.ot_sim.specs.declared.fault.SimFault.{SimFault}
 use Rattle.ot_sim.specs.declared.fault.SimFault.TheVariants as fault
 use Rattle.ot_sim.specs.Playing.{PlaysLine, empty_play}
 use Rattle.ot_sim.specs.Talk.{max_line, IsLine, PlaysAll, Talks, TalksAll, StopsAtLong, TalksBy, TalksOver}
-use Rattle.ot_sim.specs.Running.{fault_of, untold_writes, sim_bounds, TakesLine, IsRun}
+use Rattle.ot_sim.specs.Running.{untold_fault, untold_writes, sim_bounds, TakesLine, IsRun}
 
 -- ---- what is told
 
@@ -128,39 +128,39 @@ module _ {A : Type 0} (contents : A → Option (List ℕ)) (failures : A → ℕ
   begun from to f h first new a b result begins nobody l =
       subst (λ p. Listens Took (opened sim_bounds) f p a to h new b result) nobody (subst (λ x. Listens Took x f first a to h new b result) begins l)
 
-  stop_writes : (why : Untold) → untold_writes (Err why) ≡ write_failures (Err (fault_of why))
+  stop_writes : (why : Untold) → untold_writes (Err why) ≡ write_failures (Err (untold_fault why))
   stop_writes untold.WriteFailed = refl
   stop_writes untold.Memory = refl
 
-  stop_reads : (why : Untold) → read_failures (Err (fault_of why)) ≡ 0
+  stop_reads : (why : Untold) → read_failures (Err (untold_fault why)) ≡ 0
   stop_reads untold.WriteFailed = refl
   stop_reads untold.Memory = refl
 
-  no_turns : (why : Untold) (r : Result ⊤ SimFault) → r ≡ Err (fault_of why) → r ≢ Err fault.TooManyTurns
+  no_turns : (why : Untold) (r : Result ⊤ SimFault) → r ≡ Err (untold_fault why) → r ≢ Err fault.TooManyTurns
   no_turns untold.WriteFailed r is same = cc
   no_turns untold.Memory r is same = cc
 
-  stop_talks : (bytes : List ℕ) (start held : Option (List ℕ)) (why : Untold) → TalksBy bytes start held (Err (fault_of why))
+  stop_talks : (bytes : List ℕ) (start held : Option (List ℕ)) (why : Untold) → TalksBy bytes start held (Err (untold_fault why))
   stop_talks bytes start held untold.WriteFailed = tt
   stop_talks bytes start held untold.Memory = tt
 
   pub by_stop : (from to : Hearing) (f h : Flow) (first new : Play) (a b : A) (field : Ended Untold) (why : Untold) (told : SimFault) →
-      field ≡ ended_as.Stopped why → told ≡ fault_of why → from ≡ opened sim_bounds → first ≡ empty_play → Listens Took from f first a to h new b (Ok field) →
+      field ≡ ended_as.Stopped why → told ≡ untold_fault why → from ≡ opened sim_bounds → first ≡ empty_play → Listens Took from f first a to h new b (Ok field) →
       IsRun f h (contents a) (contents b) (failures a) (failures b) (Err told)
   by_stop from to f h first new a b field why told is fault_is begins nobody l =
       let s : StopsAt Took (opened sim_bounds) f empty_play a to h new b why =
       subst (λ (e : Ended Untold). Listens Took (opened sim_bounds) f empty_play a to h new b (Ok e)) is (begun from to f h first new a b (Ok field) begins nobody l) in
       let t = s.through in
       let bytes = (ended t.lines ++ (to.line ++ 10 ∷ [])) ++ to.ahead in
-      let over : TalksOver f.ahead h.ahead (contents a) (contents b) (Err (fault_of why)) = record {
+      let over : TalksOver f.ahead h.ahead (contents a) (contents b) (Err (untold_fault why)) = record {
         bytes = bytes;
         reads = reads t.passes;
         talks = stop_talks bytes (contents a) (contents b) why;
       } in
       subst (λ e. IsRun f h (contents a) (contents b) (failures a) (failures b) (Err e)) (sym fault_is)
-      (run {result = Err (fault_of why)} (failures a) (failures b) t.passes.reads to.left over t.passes.left t.passes.counted (λ same. absurd (no_turns why (Err (fault_of why)) refl same)) tt tt
+      (run {result = Err (untold_fault why)} (failures a) (failures b) t.passes.reads to.left over t.passes.left t.passes.counted (λ same. absurd (no_turns why (Err (untold_fault why)) refl same)) tt tt
       (t.passes.failed ∙ ap (λ n. count_after n f.failures) (sym (stop_reads why)))
-      (s.last.failures ∙ ap (λ n. count_after n (failures s.more)) (stop_writes why) ∙ ap (count_after (write_failures (Err (fault_of why)))) (worked t)))
+      (s.last.failures ∙ ap (λ n. count_after n (failures s.more)) (stop_writes why) ∙ ap (count_after (write_failures (Err (untold_fault why)))) (worked t)))
 
   pub by_end : (from to : Hearing) (f h : Flow) (first new : Play) (a b : A) (field : Ended Untold) →
       field ≡ ended_as.End → from ≡ opened sim_bounds → first ≡ empty_play → Listens Took from f first a to h new b (Ok field) →

@@ -1,7 +1,7 @@
 -- What a line asks.
 use Rattle.std.specs.Prelude.{ℕ, bytes_eq, codes, if◌then◌else◌, List, Option, Some, None}
 use Rattle.ot_program.specs.Names.{is_name}
-use Rattle.ot_sim.specs.Words.{word, behind, number_of, worker_of}
+use Rattle.ot_sim.specs.Words.{word, behind, number_in_word, worker_of}
 use Rattle.ot_sim.specs.declared.line.Line.{Line}
 use Rattle.ot_sim.specs.declared.line.Line.TheVariants as line
 
@@ -55,7 +55,7 @@ start_of w t pick = Bad
 
 abbrev pub start_behind : List ℕ → List ℕ → Option (List ℕ) → Said
 start_behind w t None = Bad
-start_behind w t (Some pick) = start_of (worker_of w) t (number_of pick)
+start_behind w t (Some pick) = start_of (worker_of w) t (number_in_word pick)
 
 abbrev pub start_words : List ℕ → Option (List ℕ) → Said
 start_words w None = Bad
@@ -94,5 +94,5 @@ by_words w None = lone_word w
 by_words w (Some rest) = by_word w rest
 
 -- the bytes of a line, without its LF
-abbrev pub line_of : List ℕ → Said
-line_of bytes = by_words (word bytes) (behind bytes)
+abbrev pub said_in : List ℕ → Said
+said_in bytes = by_words (word bytes) (behind bytes)

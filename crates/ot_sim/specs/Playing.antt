@@ -19,9 +19,9 @@ use Rattle.ot_sim.specs.declared.play.Play.{Play}
 use Rattle.ot_sim.specs.declared.play.Saying.{Saying}
 use Rattle.ot_sim.specs.declared.play.Saying.TheVariants as saying
 use Rattle.ot_sim.specs.Asking.{event_of, saying_of}
-use Rattle.ot_sim.specs.Lines.{said_of, line_of}
+use Rattle.ot_sim.specs.Lines.{said_of, said_in}
 use Rattle.ot_sim.specs.Tables.{is_barred, place_of}
-use Rattle.ot_sim.specs.Texts.{text_of}
+use Rattle.ot_sim.specs.Texts.{answer_text}
 
 -- ---- the tenants, and their world
 
@@ -79,21 +79,21 @@ news (name ∷ names) t old new = reply_lines name (drop (count_at old t) (repli
 -- what is told, as text
 abbrev pub said_text : Saying → Scene → List ℕ
 said_text (saying.Reply name t) s = last_reply name.now t s
-said_text (saying.Answer a) s = text_of a
+said_text (saying.Answer a) s = answer_text a
 
 -- an event, where the line asks for one
 abbrev pub Happens : Line → Option Event → Scene → List ℕ → Scene → Type 0
-Happens line None old text new = (text ≡ text_of answer.BadLine) × (new ≡ old)
+Happens line None old text new = (text ≡ answer_text answer.BadLine) × (new ≡ old)
 Happens line (Some e) old text new = (stepped : Stepped) × Steps old e stepped new × (text ≡ said_text (saying_of line e stepped) new)
 
 abbrev pub usage_text : Line → Option ℕ → Scene → List ℕ
-usage_text (line.Usage name) (Some t) s = text_of (answer.Usage name (units_of s.floor t) (total_of s.floor))
-usage_text line t s = text_of answer.BadLine
+usage_text (line.Usage name) (Some t) s = answer_text (answer.Usage name (units_of s.floor t) (total_of s.floor))
+usage_text line t s = answer_text answer.BadLine
 
 -- a line over a world
 abbrev pub PlaysIn : List (List ℕ) → Line → Scene → List ℕ → Scene → Type 0
 PlaysIn names line.Drain old text new =
-    Drains old new × AllAnswered new × (text ≡ news names 0 old new ++ text_of answer.Drained)
+    Drains old new × AllAnswered new × (text ≡ news names 0 old new ++ answer_text answer.Drained)
 PlaysIn names (line.Usage name) old text new = (text ≡ usage_text (line.Usage name) (place_of names name.now) old) × (new ≡ old)
 PlaysIn names line old text new = Happens line (event_of names line) old text new
 
@@ -105,13 +105,13 @@ pub record PlaysOn (old : Play) (line : Line) (text : List ℕ) (new : Play) : T
 
 abbrev pub Plays : Play → Line → List ℕ → Play → Type 0
 Plays old (line.Tenant name) text new =
-    (text ≡ (if is_late old name.now then text_of answer.BadLine else text_of (answer.Tenant name)))
+    (text ≡ (if is_late old name.now then answer_text answer.BadLine else answer_text (answer.Tenant name)))
     × (new ≡ (if is_late old name.now then old else made old name.now))
-Plays old line.NoTenant text new = (text ≡ text_of answer.BadLine) × (new ≡ old)
+Plays old line.NoTenant text new = (text ≡ answer_text answer.BadLine) × (new ≡ old)
 Plays old line text new = PlaysOn old line text new
 
 -- the bytes of a line, without its LF
 pub record PlaysLine (old : Play) (bytes text : List ℕ) (new : Play) : Type 0 where
   pub line : Line
-  pub read : said_of line ≡ line_of bytes
+  pub read : said_of line ≡ said_in bytes
   pub plays : Plays old line text new

@@ -13,9 +13,9 @@ use Rattle.ot_sim.specs.Playing.{PlaysLine, count_at, world_of}
 use Rattle.ot_sim.specs.Talk.{TalksOver}
 
 -- what sim answers that stops at a line
-abbrev pub fault_of : Untold → SimFault
-fault_of untold.WriteFailed = fault.WriteFailed
-fault_of untold.Memory = fault.Memory
+abbrev pub untold_fault : Untold → SimFault
+untold_fault untold.WriteFailed = fault.WriteFailed
+untold_fault untold.Memory = fault.Memory
 
 -- how many writes failed
 abbrev pub untold_writes : Result ⊤ Untold → ℕ
@@ -23,8 +23,8 @@ untold_writes (Err untold.WriteFailed) = 1
 untold_writes result = 0
 
 -- a text is written of which this holds
-abbrev pub Writes : Option (List ℕ) → Option (List ℕ) → (List ℕ → Type 0) → Type 0
-Writes old new Holds = (text : List ℕ) × Holds text × Appends old new text
+abbrev pub WritesText : Option (List ℕ) → Option (List ℕ) → (List ℕ → Type 0) → Type 0
+WritesText old new Holds = (text : List ℕ) × Holds text × Appends old new text
 
 -- the world has begun
 abbrev pub begun : Play → Play
@@ -43,7 +43,7 @@ sim_bounds = record { line = 65600; read = 65536; reads = 1000000 }
 
 -- a line without its LF, by what it came to
 pub record TakesLine (old : Play) (held : Option (List ℕ)) (before : ℕ) (line : List ℕ) (new : Play) (now : Option (List ℕ)) (later : ℕ) (result : Result ⊤ Untold) : Type 0 where
-  pub plays : OnOk result (Writes held now (λ text. PlaysLine old line text new))
+  pub plays : OnOk result (WritesText held now (λ text. PlaysLine old line text new))
   pub failures : later ≡ count_after (untold_writes result) before
 
 -- A run over what a source tells before it and after it, and the failures of its sink.

@@ -20,10 +20,10 @@ digits_behind n (b ∷ bs) =
     if is_digit b && nat_lt next (2 ^ 32) then digits_behind next bs else None
 
 -- a number in decimal, without leading zeros
-abbrev pub number_of : List ℕ → Option ℕ
-number_of [] = None
-number_of (b ∷ []) = digits_behind 0 (b ∷ [])
-number_of (b ∷ more ∷ bs) = if b == 48 then None else digits_behind 0 (b ∷ more ∷ bs)
+abbrev pub number_in_word : List ℕ → Option ℕ
+number_in_word [] = None
+number_in_word (b ∷ []) = digits_behind 0 (b ∷ [])
+number_in_word (b ∷ more ∷ bs) = if b == 48 then None else digits_behind 0 (b ∷ more ∷ bs)
 
 -- the number of a worker, 1 to 16
 abbrev pub worker_in_range : Option ℕ → Option ℕ
@@ -31,4 +31,4 @@ worker_in_range None = None
 worker_in_range (Some w) = if nat_le 1 w && nat_le w 16 then Some w else None
 
 abbrev pub worker_of : List ℕ → Option ℕ
-worker_of bytes = worker_in_range (number_of bytes)
+worker_of bytes = worker_in_range (number_in_word bytes)

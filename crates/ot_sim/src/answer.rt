@@ -1,7 +1,7 @@
 //! What a line is answered, as text.
 ghost use Rattle.std.specs.Prelude.{◌≡◌, ◌++◌, ◌∷◌, [], OnOk, string_bytes};
 ghost use Rattle.std.specs.Fmt.{decimal};
-ghost use Rattle.ot_sim.specs.Texts.{text_of};
+ghost use Rattle.ot_sim.specs.Texts.{answer_text};
 
 use std::alloc::AllocError;
 use std::fmt::Write;
@@ -39,7 +39,7 @@ pub enum Answer<'a> {
 
 /// Writes an answer behind what is written, ended by one LF.
 pub fn write_answer(answer: Answer<'_>, out: &mut String) -> Result<(), AllocError>
-    ensures { OnOk result (string_bytes out.new ≡ string_bytes out.old ++ text_of answer.entry) }
+    ensures { OnOk result (string_bytes out.new ≡ string_bytes out.old ++ answer_text answer.entry) }
 {
     match answer {
         Answer::Tenant(tenant) => write_words("tenant ", tenant, "\n", out),

@@ -1,6 +1,6 @@
 //! How sim goes wrong.
 ghost use Rattle.std.specs.Prelude.{◌≡◌};
-ghost use Rattle.ot_sim.specs.Running.{fault_of};
+ghost use Rattle.ot_sim.specs.Running.{untold_fault};
 
 use std::alloc::{AllocError, AllocFailed};
 
@@ -25,7 +25,7 @@ pub(crate) enum Untold {
 
 impl Untold {
     pub(crate) fn fault(self) -> SimFault
-        ensures { result ≡ fault_of self }
+        ensures { result ≡ untold_fault self }
     {
         match self {
             Untold::WriteFailed => SimFault::WriteFailed,

@@ -1,6 +1,6 @@
 //! What a line asks.
 ghost use Rattle.std.specs.Prelude.{◌≡◌, Some};
-ghost use Rattle.ot_sim.specs.Lines.{said_of, line_of, by_word, lone_word, tenant_line, admit_line, tenant_of, start_line, finish_line};
+ghost use Rattle.ot_sim.specs.Lines.{said_of, said_in, by_word, lone_word, tenant_line, admit_line, tenant_of, start_line, finish_line};
 ghost use Rattle.ot_sim.specs.Lines as of;
 
 use crate::word::{name, number, split, worker};
@@ -34,7 +34,7 @@ pub enum Line<'a> {
 
 /// Reads a line, without its LF.
 pub fn read_line(line: &[u8]) -> Line<'_>
-    ensures { said_of result ≡ line_of line.now }
+    ensures { said_of result ≡ said_in line.now }
 {
     match split(line) {
         (word, Some(rest)) => first_word(word, rest),

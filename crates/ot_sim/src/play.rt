@@ -5,8 +5,8 @@ ghost use Rattle.ot_core.specs.Scenes.{Scene};
 ghost use Rattle.ot_front.specs.Device.{count_after};
 ghost use Rattle.ot_sim.specs.declared.line.Line.TheVariants as line;
 ghost use Rattle.ot_sim.specs.Tables.{place_of};
-ghost use Rattle.ot_sim.specs.Texts.{text_of};
-ghost use Rattle.ot_sim.specs.Running.{untold_writes, Writes, counts_at};
+ghost use Rattle.ot_sim.specs.Texts.{answer_text};
+ghost use Rattle.ot_sim.specs.Running.{untold_writes, WritesText, counts_at};
 ghost use Rattle.ot_sim.specs.Asking.{event_of, answer_of, saying_of};
 ghost use Rattle.ot_sim.specs.Playing.{PlaysIn, Happens, replies_at, count_at, last_reply, reply_lines, news, usage_text};
 
@@ -37,7 +37,7 @@ impl Play {
     ghost use Rattle.std.specs.Prelude.{◌≡◌, OnOk, IfOk};
     ghost use Rattle.ot_front.specs.Device.{count_after};
     ghost use Rattle.ot_sim.specs.declared.line.Line.TheVariants as line;
-    ghost use Rattle.ot_sim.specs.Running.{untold_writes, Writes, begun};
+    ghost use Rattle.ot_sim.specs.Running.{untold_writes, WritesText, begun};
     ghost use Rattle.ot_sim.specs.Playing.{Plays, PlaysLine, PlaysOn, empty_play};
 
     /// Nobody is there.
@@ -65,7 +65,7 @@ impl Play {
         line: &[u8],
         sink: &mut W,
     ) -> Result<(), Untold>
-        ensures plays { OnOk result (Writes (W.contents sink.old) (W.contents sink.new) (λ text. PlaysLine self.old line.now text self.new)) }
+        ensures plays { OnOk result (WritesText (W.contents sink.old) (W.contents sink.new) (λ text. PlaysLine self.old line.now text self.new)) }
         ensures failures { W.failures sink.new ≡ count_after (untold_writes result) (W.failures sink.old) }
     {
         match read_line(line) {
@@ -77,7 +77,7 @@ impl Play {
 
     /// A tenant is made, before all other lines.
     fn make<W: Sink>(&mut self, alloc: Global, name: &str, sink: &mut W) -> Result<(), Untold>
-        ensures plays { OnOk result (Writes (W.contents sink.old) (W.contents sink.new) (λ text. Plays self.old (line.Tenant name.entry) text self.new)) }
+        ensures plays { OnOk result (WritesText (W.contents sink.old) (W.contents sink.new) (λ text. Plays self.old (line.Tenant name.entry) text self.new)) }
         ensures failures { W.failures sink.new ≡ count_after (untold_writes result) (W.failures sink.old) }
     {
         if self.world.is_none() && self.names.add(alloc, name)? {
@@ -93,7 +93,7 @@ impl Play {
         line: Line<'_>,
         sink: &mut W,
     ) -> Result<(), Untold>
-        ensures plays { OnOk result (Writes (W.contents sink.old) (W.contents sink.new) (λ text. PlaysOn self.old line.entry text self.new)) }
+        ensures plays { OnOk result (WritesText (W.contents sink.old) (W.contents sink.new) (λ text. PlaysOn self.old line.entry text self.new)) }
         ensures failures { W.failures sink.new ≡ count_after (untold_writes result) (W.failures sink.old) }
     {
         self.begin(alloc)?;
@@ -125,7 +125,7 @@ fn play_line<W: Sink>(
     line: Line<'_>,
     sink: &mut W,
 ) -> Result<(), Untold>
-    ensures plays { OnOk result (Writes (W.contents sink.old) (W.contents sink.new) (λ text. PlaysIn names.now line.entry world.old text world.new)) }
+    ensures plays { OnOk result (WritesText (W.contents sink.old) (W.contents sink.new) (λ text. PlaysIn names.now line.entry world.old text world.new)) }
     ensures failures { W.failures sink.new ≡ count_after (untold_writes result) (W.failures sink.old) }
 {
     match line {
@@ -161,7 +161,7 @@ fn step<W: Sink>(
     event: Event<'_>,
     sink: &mut W,
 ) -> Result<(), Untold>
-    ensures happens { OnOk result (Writes (W.contents sink.old) (W.contents sink.new) (λ text. Happens line.entry (Some event.entry) world.old text world.new)) }
+    ensures happens { OnOk result (WritesText (W.contents sink.old) (W.contents sink.new) (λ text. Happens line.entry (Some event.entry) world.old text world.new)) }
     ensures failures { W.failures sink.new ≡ count_after (untold_writes result) (W.failures sink.old) }
 {
     let stepped = world.step(alloc, event)?;
@@ -222,7 +222,7 @@ fn drain<W: Sink>(
     world: &mut World,
     sink: &mut W,
 ) -> Result<(), Untold>
-    ensures plays { OnOk result (Writes (W.contents sink.old) (W.contents sink.new) (λ text. PlaysIn names.now line.Drain world.old text world.new)) }
+    ensures plays { OnOk result (WritesText (W.contents sink.old) (W.contents sink.new) (λ text. PlaysIn names.now line.Drain world.old text world.new)) }
     ensures failures { W.failures sink.new ≡ count_after (untold_writes result) (W.failures sink.old) }
 {
     let given = counts_given(alloc, world, names.count())?;
@@ -334,7 +334,7 @@ fn usage<W: Sink>(
 
 /// Writes one answer.
 fn tell<W: Sink>(alloc: Global, answer: Answer<'_>, sink: &mut W) -> Result<(), Untold>
-    ensures told { OnOk result (Appends (W.contents sink.old) (W.contents sink.new) (text_of answer.entry)) }
+    ensures told { OnOk result (Appends (W.contents sink.old) (W.contents sink.new) (answer_text answer.entry)) }
     ensures failures { W.failures sink.new ≡ count_after (untold_writes result) (W.failures sink.old) }
 {
     let mut text = String::new(alloc);

@@ -1,7 +1,7 @@
 //! Words of a line: what stands between two spaces.
 ghost use Rattle.std.specs.Prelude.{◌≡◌, Some, None, option_map, if◌then◌else◌};
 ghost use Rattle.ot_program.specs.Names.{is_name, is_digit};
-ghost use Rattle.ot_sim.specs.Words.{word, behind, digits_behind, number_of, worker_of};
+ghost use Rattle.ot_sim.specs.Words.{word, behind, digits_behind, number_in_word, worker_of};
 
 use memchr::memchr;
 use ot_program::is_name;
@@ -47,7 +47,7 @@ pub(crate) fn worker(word: &[u8]) -> Option<u32>
 
 /// The word as a number below 2^32, in decimal and without leading zeros.
 pub(crate) fn number(word: &[u8]) -> Option<u32>
-    ensures { result ≡ number_of word.now }
+    ensures { result ≡ number_in_word word.now }
 {
     match word {
         [] => None,

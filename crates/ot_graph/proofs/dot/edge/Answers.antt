@@ -5,7 +5,7 @@ use Rattle.ot_print.specs.Shown.{sections}
 use Rattle.ot_print.specs.Sections.{sections_of}
 use Rattle.ot_graph.specs.Children.{decls_of}
 use Rattle.ot_graph.specs.Links.{between, cells_at}
-use Rattle.ot_graph.specs.Dot.{numbered}
+use Rattle.ot_graph.specs.Dot.{words_numbered}
 use Rattle.ot_graph.proofs.DotLemmas.{in_five, row_at, edge_is}
 use Rattle.ot_graph.proofs.dot.edge.Goals as goal
 
@@ -28,9 +28,9 @@ returns-clause-text c =
     on_ok c.words-2.result _ _
     (λ last.
     in_five out.text c.numbered.new.out.text c.numbered-2.new.out.text c.words.new.self.text c.cells.new.self.text c.words-2.new.self.text
-    (numbered (codes "  t") one.number) (numbered (codes " -> t") other.number) (codes " [label=\"") (sections out.names (sections_of met)) (codes "\"];\n")
-    (c.in_ok-numbered.ensures.text ∙ ap (λ n. out.text ++ numbered (codes "  t") n) c.from.ensures)
-    (c.in_ok-numbered-2.ensures.text ∙ ap (λ n. c.numbered.new.out.text ++ numbered (codes " -> t") n) c.from-2.ensures)
+    (words_numbered (codes "  t") one.number) (words_numbered (codes " -> t") other.number) (codes " [label=\"") (sections out.names (sections_of met)) (codes "\"];\n")
+    (c.in_ok-numbered.ensures.text ∙ ap (λ n. out.text ++ words_numbered (codes "  t") n) c.from.ensures)
+    (c.in_ok-numbered-2.ensures.text ∙ ap (λ n. c.numbered.new.out.text ++ words_numbered (codes " -> t") n) c.from-2.ensures)
     c.in_ok-words.ensures.text
     (c.in_ok-cells-2.ensures.text
     ∙ ap (λ names. c.words.new.self.text ++ sections names (sections_of c.deref.result.now)) (c.in_ok-words.ensures.names ∙ c.in_ok-numbered-2.ensures.names ∙ c.in_ok-numbered.ensures.names)

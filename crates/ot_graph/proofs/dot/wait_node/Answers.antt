@@ -2,7 +2,7 @@ use Rattle.std.proofs.Common.{◌++◌, ap, ◌∙◌}
 use Rattle.std.specs.Prelude.{codes, option_copied}
 use Rattle.ot_check.proofs.Cited.{on_ok}
 use Rattle.ot_print.specs.Shown.{wait}
-use Rattle.ot_graph.specs.Dot.{numbered}
+use Rattle.ot_graph.specs.Dot.{words_numbered}
 use Rattle.ot_graph.proofs.DotLemmas.{in_four}
 use Rattle.ot_graph.proofs.dot.wait_node.Goals as goal
 
@@ -12,7 +12,7 @@ returns-clause-text c =
     let w = option_copied c.args.wait in
     on_ok c.words-2.result _ _
     (in_four out.text c.numbered.new.out.text c.words.new.self.text c.wait_label.new.out.text c.words-2.new.self.text
-    (numbered (codes "  w") c.args.number) (codes " [shape=box, label=\"") (wait out.names w) (codes "\"];\n")
+    (words_numbered (codes "  w") c.args.number) (codes " [shape=box, label=\"") (wait out.names w) (codes "\"];\n")
     c.in_ok-numbered.ensures.text c.in_ok-words.ensures.text
     (c.in_ok-wait_label.ensures.text ∙ ap (λ names. c.words.new.self.text ++ wait names w) (c.in_ok-words.ensures.names ∙ c.in_ok-numbered.ensures.names)))
     c.words-2.ensures.text

@@ -3,7 +3,7 @@ use Rattle.std.specs.List.{concat}
 use Rattle.std.proofs.lemmas.List.Elements.{All-nil, All-push}
 use Rattle.ot_ask.specs.Streams.{link, outgoing}
 use Rattle.ot_ask.specs.Lines.{IsWhole}
-use Rattle.ot_keep.specs.Questions.{Fails, Line}
+use Rattle.ot_keep.specs.Questions.{TurnFails, Line}
 use Rattle.ot_keep.proofs.KeepLemmas.{stops_later, stops_now, takes_stop}
 use Rattle.ot_keep.proofs.LineLemmas.{joined_here, joined_more, line_whole, lines_after, no_rest, one_longer, taken_more}
 use Rattle.ot_keep.proofs.restoring.send_lines.Goals as goal
@@ -45,7 +45,7 @@ returns-in-Err-StrangeReply g c =
       is = joined_here so_far.0 line c.split_at.result.1.now rest c.args.session.now (c.in-Some.at + 1) c.split_at.ensures.front c.split_at.ensures.back so_far.2;
       mid = (link (g.H.LineSource.coming c.loop-at.heard) (outgoing (g.W.Sink.contents c.loop-at.wire) (g.W.Sink.failures c.loop-at.wire)));
       taken = so_far.4;
-      fails = subst (Fails (Line line) (link (g.H.LineSource.coming c.loop-at.heard) (outgoing (g.W.Sink.contents c.loop-at.wire) (g.W.Sink.failures c.loop-at.wire))) (link (g.H.LineSource.coming c.ask_line.new.heard) (outgoing (g.W.Sink.contents c.ask_line.new.wire) (g.W.Sink.failures c.ask_line.new.wire)))) c.in-Err-StrangeReply.field-0-is c.in-Err-StrangeReply.ensures;
+      fails = subst (TurnFails (Line line) (link (g.H.LineSource.coming c.loop-at.heard) (outgoing (g.W.Sink.contents c.loop-at.wire) (g.W.Sink.failures c.loop-at.wire))) (link (g.H.LineSource.coming c.ask_line.new.heard) (outgoing (g.W.Sink.contents c.ask_line.new.wire) (g.W.Sink.failures c.ask_line.new.wire)))) c.in-Err-StrangeReply.field-0-is c.in-Err-StrangeReply.ensures;
       count = ap (λ n. n + 1) so_far.5;
     }
 

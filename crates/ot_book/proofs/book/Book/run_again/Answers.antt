@@ -7,7 +7,7 @@ use Rattle.ot_store.specs.Arrays.{shape_in, cells_in}
 use Rattle.ot_book.specs.Replies.{Lost}
 use Rattle.ot_book.specs.Answers.{is_checkpoint}
 use Rattle.ot_book.specs.Books.{Register}
-use Rattle.ot_book.specs.BookView.{register_of, entries_of, HasRoom}
+use Rattle.ot_book.specs.BookView.{register_of, entries_of, HasRoomForReply}
 use Rattle.ot_book.specs.Opening.{IsFull, IsFullFor, AnswersNow}
 use Rattle.ot_book.specs.declared.book.Pending.{Pending}
 use Rattle.ot_book.specs.declared.book.Book.TheInside.{Inside}
@@ -86,7 +86,7 @@ invariant_of-self-2 c =
     let below : inside.first + vec_len inside.log < 2 ^ 32 = not_last inside false free in
     let p : Pending = record { line = c.in_ok-line.line; shows = c.in-Ok.shows } in
     let opened : Inside = record inside { log = c.reserve.new.self; pending = Some p } in
-    let room : HasRoom opened p = record {
+    let room : HasRoomForReply opened p = record {
       place = search rules;
       below = omega (arith, below, c.reserve.ensures.len);
       lists = λ program runs.

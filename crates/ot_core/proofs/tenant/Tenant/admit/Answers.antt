@@ -6,7 +6,7 @@ use Rattle.ot_book.specs.Books.{max_number}
 use Rattle.ot_book.specs.Room.{takes}
 use Rattle.ot_core.specs.Accounts.{Account, IsSound, room_asked}
 use Rattle.ot_core.specs.AccountView.{account_of}
-use Rattle.ot_core.specs.Asking.{IsFull, HasRoom}
+use Rattle.ot_core.specs.Asking.{IsFull, HasRoomFor}
 use Rattle.ot_core.proofs.AccountLemmas.{sound-admitted, full-past, test-takes, entries-asked, entries-admitted}
 use Rattle.ot_core.proofs.tenant.Tenant.admit.Goals as goal
 
@@ -57,7 +57,7 @@ next_since-self-inside-requires c =
 pub returns-clause-admitted : goal.returns-clause-admitted
 returns-clause-admitted c =
     let a = account_of c.self.inside in (
-      subst (λ b. HasRoom b c.args.line.now) c.self.view_is (room_at c),
+      subst (λ b. HasRoomFor b c.args.line.now) c.self.view_is (room_at c),
       ap (λ ls. let b : Account = record a { asked = ls } in b) (asked_at c) ∙ ap (λ (b : Account). record b { asked = b.asked ++ c.args.line.now ∷ [] }) c.self.view_is,
     )
 

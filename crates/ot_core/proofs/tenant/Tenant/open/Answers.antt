@@ -2,7 +2,7 @@ use Rattle.std.proofs.Common.{◌≡◌, sym, ap, ◌∙◌, subst, true, false,
 use Rattle.std.specs.Prelude.{unwrap_or}
 use Rattle.ot_book.specs.Answers.{is_checkpoint}
 use Rattle.ot_book.specs.Books.{IsOpenFor, opened}
-use Rattle.ot_book.specs.Opening.{IsFullFor, Opens, AnswersNow}
+use Rattle.ot_book.specs.Opening.{IsFullFor, OpensLine, AnswersNow}
 use Rattle.ot_core.specs.Accounts.{IsSound, answered, room_asked}
 use Rattle.ot_core.specs.AccountView.{account_of}
 use Rattle.ot_core.specs.Asking.{next_line, IsUnopened, Waits}
@@ -22,7 +22,7 @@ unreachable-requires c =
     let a = account_of c.self.inside in
     let free : IsUnopened a = subst IsUnopened (sym c.self.view_is) c.requires in
     let line : c.line_at-line.result.now ≡ next_line a = c.line_at-line.ensures ∙ ap (λ n. unwrap_or (slice_get a.asked n) []) (c.answered-next.ensures ∙ ap answered (sym c.self.view_is)) in
-    let now = subst (Opens a.book c.line_at-line.result.now c.open.new.self) c.in-Full.is c.in_ok-open.ensures.opened in
+    let now = subst (OpensLine a.book c.line_at-line.result.now c.open.new.self) c.in-Full.is c.in_ok-open.ensures.opened in
     free-next a c.self.invariant.sound free (subst (IsFullFor a.book) line now.0)
 
 pub invariant_of-self-in-Answered : goal.invariant_of-self-in-Answered
@@ -31,7 +31,7 @@ invariant_of-self-in-Answered c =
     let free : IsUnopened a = subst IsUnopened (sym c.self.view_is) c.requires in
     let line : c.line_at-line.result.now ≡ next_line a = c.line_at-line.ensures ∙ ap (λ n. unwrap_or (slice_get a.asked n) []) (c.answered-next.ensures ∙ ap answered (sym c.self.view_is)) in
     let other : is_checkpoint c.line_at-line.result.now ≡ false = sym c.in_ok-is_checkpoint.ensures ∙ c.if-branch.false in
-    let now : AnswersNow a.book c.line_at-line.result.now c.open.new.self = (subst (Opens a.book c.line_at-line.result.now c.open.new.self) c.in-Answered.is c.in_ok-open.ensures.opened).1 in
+    let now : AnswersNow a.book c.line_at-line.result.now c.open.new.self = (subst (OpensLine a.book c.line_at-line.result.now c.open.new.self) c.in-Answered.is c.in_ok-open.ensures.opened).1 in
     let is = answered-is a c.open.new.self c.line_at-line.result.now now.memory other line now.new_is free.1 in record {
       sound = subst IsSound (sym is) (sound-replied a now.memory c.self.invariant.sound free.0);
       since = c.self.invariant.since ∙ sym (entries-replied a now.memory) ∙ ap (λ b. (room_asked b).entries) (sym is);
@@ -46,7 +46,7 @@ invariant_of-self-in_default c =
     let free : IsUnopened a = subst IsUnopened (sym c.self.view_is) c.requires in
     let line : c.line_at-line.result.now ≡ next_line a = c.line_at-line.ensures ∙ ap (λ n. unwrap_or (slice_get a.asked n) []) (c.answered-next.ensures ∙ ap answered (sym c.self.view_is)) in
     let other : is_checkpoint c.line_at-line.result.now ≡ false = sym c.in_ok-is_checkpoint.ensures ∙ c.if-branch.false in
-    let now = subst (Opens a.book c.line_at-line.result.now c.open.new.self) c.in-ToRun.is c.in_ok-open.ensures.opened in
+    let now = subst (OpensLine a.book c.line_at-line.result.now c.open.new.self) c.in-ToRun.is c.in_ok-open.ensures.opened in
     let lost = lost-again a c.line_at-line.result.now c.open.new.self c.close_refused.new.self now.1 c.close_refused.ensures in
     let is = answered-is a c.close_refused.new.self c.line_at-line.result.now true other line lost free.1 in record {
       sound = subst IsSound (sym is) (sound-replied a true c.self.invariant.sound free.0);
@@ -61,7 +61,7 @@ invariant_of-self-2 c =
     let a = account_of c.self.inside in
     let free : IsUnopened a = subst IsUnopened (sym c.self.view_is) c.requires in
     let line : c.line_at-line.result.now ≡ next_line a = c.line_at-line.ensures ∙ ap (λ n. unwrap_or (slice_get a.asked n) []) (c.answered-next.ensures ∙ ap answered (sym c.self.view_is)) in
-    let now = subst (Opens a.book c.line_at-line.result.now c.open.new.self) c.in-ToRun.is c.in_ok-open.ensures.opened in
+    let now = subst (OpensLine a.book c.line_at-line.result.now c.open.new.self) c.in-ToRun.is c.in_ok-open.ensures.opened in
     let runs : IsOpenFor (opened a.book (next_line a)) c.in-ToRun.spec = subst (λ b. IsOpenFor b c.in-ToRun.spec) (now.1 ∙ ap (opened a.book) line) now.2 in
     let is = opened-is a c.open.new.self c.line_at-line.result.now c.in-ToRun.spec line now.1 in record {
       sound = subst IsSound (sym is) (sound-opened a c.in-ToRun.spec c.self.invariant.sound free.0 runs);
@@ -73,7 +73,7 @@ returns-clause-opened c =
     let a = account_of c.self.inside in
     let free : IsUnopened a = subst IsUnopened (sym c.self.view_is) c.requires in
     let line : c.line_at-line.result.now ≡ next_line a = c.line_at-line.ensures ∙ ap (λ n. unwrap_or (slice_get a.asked n) []) (c.answered-next.ensures ∙ ap answered (sym c.self.view_is)) in
-    let now = subst (Opens a.book c.line_at-line.result.now c.open.new.self) c.in-ToRun.is c.in_ok-open.ensures.opened in
+    let now = subst (OpensLine a.book c.line_at-line.result.now c.open.new.self) c.in-ToRun.is c.in_ok-open.ensures.opened in
     let runs : IsOpenFor (opened a.book (next_line a)) c.in-ToRun.spec = subst (λ b. IsOpenFor b c.in-ToRun.spec) (now.1 ∙ ap (opened a.book) line) now.2 in
     subst (λ o. Waits o c.in-Ok.copy (account_of (record c.self.inside { book = c.open.new.self; spec = Some c.in-ToRun.spec }))) c.self.view_is (record {
       spec = c.in-ToRun.spec;

@@ -2,7 +2,7 @@ use Rattle.std.proofs.Common.{◌≡◌, ◌++◌, sym, ap, ◌∙◌, subst, ma
 use Rattle.std.specs.Prelude.{slice_get, unwrap_or}
 use Rattle.std.proofs.lemmas.List.{map-append}
 use Rattle.ot_book.specs.Answers.{is_checkpoint}
-use Rattle.ot_book.specs.Opening.{IsFullFor, Opens, AnswersNow}
+use Rattle.ot_book.specs.Opening.{IsFullFor, OpensLine, AnswersNow}
 use Rattle.ot_book.specs.ReplyView.{told_of}
 use Rattle.ot_core.specs.Accounts.{IsSound, answered, told, room_asked}
 use Rattle.ot_core.specs.AccountView.{account_of}
@@ -25,7 +25,7 @@ is_replied c =
     let unopened : IsUnopened a = subst IsUnopened (sym c.self.view_is) c.requires.unopened in
     let line : c.line_at.result.now ≡ next_line a = c.line_at.ensures ∙ ap (λ n. unwrap_or (slice_get a.asked n) []) (c.answered-next.ensures ∙ ap answered (sym c.self.view_is)) in
     let asks : is_checkpoint c.line_at.result.now ≡ true = ap is_checkpoint line ∙ ap (λ b. is_checkpoint (next_line b)) c.self.view_is ∙ c.requires.checkpoint in
-    let now : AnswersNow a.book c.line_at.result.now c.open.new.self = (subst (Opens a.book c.line_at.result.now c.open.new.self) c.in-Answered.is c.in_ok-open.ensures.opened).1 in
+    let now : AnswersNow a.book c.line_at.result.now c.open.new.self = (subst (OpensLine a.book c.line_at.result.now c.open.new.self) c.in-Answered.is c.in_ok-open.ensures.opened).1 in
     let kept : map told_of c.put_behind.new.kept.items ≡ told a =
     ap (map told_of) c.put_behind.ensures ∙ map-append told_of c.reserve.new.self.items c.in_ok-copies.copies.items
     ∙ ap (λ ts. map told_of ts ++ map told_of c.in_ok-copies.copies.items) c.in_ok-reserve.ensures.items

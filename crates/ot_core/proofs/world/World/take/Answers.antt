@@ -1,6 +1,6 @@
 use Rattle.std.proofs.Common.{subst}
 use Rattle.std.specs.Prelude.{IfOk}
-use Rattle.ot_core.specs.Steps.{Starts, Finishes}
+use Rattle.ot_core.specs.Steps.{StartsFor, Finishes}
 use Rattle.ot_core.specs.declared.event.Event.TheVariants.{Admit, Open, Start, Finish, Reply}
 use Rattle.ot_core.proofs.OthersLemmas.{others, others-on}
 use Rattle.ot_core.proofs.MemoryLemmas.{out-unchanged, out-start}
@@ -9,7 +9,7 @@ use Rattle.ot_core.proofs.world.World.take.Goals as goal
 pub returns-in-Some-clause-others : goal.returns-in-Some-clause-others
 returns-in-Some-clause-others c =
     rw c.in-Start.is (others-on (Start c.in-Start.worker c.in-Start.tenant c.in-Start.pick) c.args.self.now c.start.new.self c.start.result
-    (subst (λ o. IfOk c.start.result (λ stepped. Starts c.args.self.now o c.in-Start.tenant c.in-Start.pick stepped c.start.new.self)) c.in-Some.ensures c.start.ensures.stepped))
+    (subst (λ o. IfOk c.start.result (λ stepped. StartsFor c.args.self.now o c.in-Start.tenant c.in-Start.pick stepped c.start.new.self)) c.in-Some.ensures c.start.ensures.stepped))
 
 pub returns-in-Some-seat_of-clause-others : goal.returns-in-Some-seat_of-clause-others
 returns-in-Some-seat_of-clause-others c =
