@@ -56,14 +56,14 @@ same_reports s z cells start r q told t same begun is h =
 
 -- ---- texts that begin empty
 
-pub race_is : (name cell k l m t u z : List ℕ) (here other h o : Site) → k ≡ [] → l ≡ k ++ cell → m ≡ l → t ≡ [] → u ≡ t ++ here_line name m here other
-    → z ≡ u ++ other_line name other → here ≡ h → other ≡ o → z ≡ here_line name cell h o ++ other_line name o
-race_is name cell k l m t u z here other h o none put same empty first second hh oo =
+pub race_is : (name cell known k l m t u z : List ℕ) (here other h o : Site) → k ≡ [] → l ≡ k ++ cell → m ≡ l → t ≡ [] → u ≡ t ++ here_line name m here other
+    → z ≡ u ++ other_line name other known → here ≡ h → other ≡ o → z ≡ here_line name cell h o ++ other_line name o known
+race_is name cell known k l m t u z here other h o none put same empty first second hh oo =
     let is : m ≡ cell = same ∙ put ∙ ap (λ x. x ++ cell) none in
-    second ∙ ap (λ x. x ++ other_line name other) (first ∙ ap (λ x. x ++ here_line name m here other) empty)
-    ∙ ap (λ x. here_line name x here other ++ other_line name other) is
-    ∙ ap (λ x. here_line name cell x other ++ other_line name other) hh
-    ∙ ap (λ x. here_line name cell h x ++ other_line name x) oo
+    second ∙ ap (λ x. x ++ other_line name other known) (first ∙ ap (λ x. x ++ here_line name m here other) empty)
+    ∙ ap (λ x. here_line name x here other ++ other_line name other known) is
+    ∙ ap (λ x. here_line name cell x other ++ other_line name other known) hh
+    ∙ ap (λ x. here_line name cell h x ++ other_line name x known) oo
 
 pub warning_is : (name words k l m t u : List ℕ) (site z : Site) (code number : ℕ) → k ≡ [] → l ≡ k ++ words → m ≡ l → t ≡ [] → u ≡ t ++ warning_line name site m code
     → site ≡ z → code ≡ number → u ≡ warning_line name z words number

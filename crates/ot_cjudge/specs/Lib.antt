@@ -7,4 +7,5 @@ pub mod Fits
 pub mod Lacks
 pub mod FoundView
 pub mod Faults
+pub mod Findings
 pub mod Reports

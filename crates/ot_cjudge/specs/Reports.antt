@@ -16,13 +16,14 @@ use Rattle.ot_file.specs.declared.position.Position.{Position}
 use Rattle.ot_program.specs.Programs.{program_of}
 use Rattle.ot_program.specs.declared.fault.Refusal.{Refusal}
 use Rattle.ot_program.specs.declared.fault.Refusal.TheVariants.{Form, Size, UnknownArray, OutOfRange, EmptySection, TooLarge, TooManyTasks, MixedReduction}
-use Rattle.ot_race.specs.Events.{this_way, events_of}
-use Rattle.ot_race.specs.Races.{NothingRaces, IsFirstRace}
 use Rattle.ot_race.specs.declared.race.Race.{Race}
 use Rattle.ot_cjudge.specs.Start.{named, shape_of, cells_of}
 use Rattle.ot_cjudge.specs.Sites.{Source, Site, site_of, entry_site}
 use Rattle.ot_cjudge.specs.Lines.{place_text, turns_text, cell_text}
 use Rattle.ot_cjudge.specs.Lacks.{lacks}
+use Rattle.ot_cjudge.specs.Findings.{Finds}
+use Rattle.ot_cjudge.specs.declared.finding.Finding.{Finding}
+use Rattle.ot_cjudge.specs.declared.finding.Finding.TheVariants.{InRun, OnWay, Nowhere, OnlyRun}
 use Rattle.ot_cjudge.specs.declared.lowered.Lowered.{Lowered}
 use Rattle.ot_cjudge.specs.declared.report.Verdict.{Verdict}
 use Rattle.ot_cjudge.specs.declared.report.Verdict.TheVariants as v
@@ -36,14 +37,21 @@ here_line name cell here other =
     place_text name here.position ++ (codes ": error: " ++ (cell ++ (codes " is touched here while it may be touched at "
     ++ (place_text name other.position ++ (turns_text here.turns ++ codes " [race]\n")))))
 
--- `NAME:LINE:COLUMN: note: the other touch (i = 0, j = 2); with these numbers nothing orders the two`
-abbrev pub other_line : List ℕ → Site → List ℕ
-other_line name other =
-    place_text name other.position ++ (codes ": note: the other touch" ++ (turns_text other.turns ++ codes "; with these numbers nothing orders the two\n"))
+-- what is known of the two: in the run nothing orders them; or an `if` may go so that both touch the cell and nothing does
+abbrev pub in_run : List ℕ
+in_run = codes "with these numbers nothing orders the two"
 
-abbrev pub race_text : Source → Race → List ℕ
-race_text s told =
-    here_line s.name (cell_text s.arrays told.cell) (site_of s told.later) (site_of s told.place) ++ other_line s.name (site_of s told.place)
+abbrev pub on_path : List ℕ
+on_path = codes "some path has both"
+
+-- `NAME:LINE:COLUMN: note: the other touch (i = 0, j = 2); with these numbers nothing orders the two`
+abbrev pub other_line : List ℕ → Site → List ℕ → List ℕ
+other_line name other known =
+    place_text name other.position ++ (codes ": note: the other touch" ++ (turns_text other.turns ++ (codes "; " ++ (known ++ codes "\n"))))
+
+abbrev pub race_text : Source → List ℕ → Race → List ℕ
+race_text s known told =
+    here_line s.name (cell_text s.arrays told.cell) (site_of s told.later) (site_of s told.place) ++ other_line s.name (site_of s told.place) known
 
 -- ---- what the server would refuse
 
@@ -78,6 +86,15 @@ warning_text s body None = []
 warning_text s body (Some first) =
     warning_line s.name (site_of s first.0) (advice s.arrays first.1 (lacks body first.0 first.1)) (code_of first.1)
 
+abbrev pub Warns : Source → Body → List ℕ → Type 0
+Warns s body text = (first : Option (ℕ × Offence)) × IsFirstOf (Offends body) first × (text ≡ warning_text s body first)
+
+-- ---- where there are too many ways
+
+-- `NAME: note: only the run with these numbers was judged: there are too many paths`
+abbrev pub only_run_line : List ℕ → List ℕ
+only_run_line name = name ++ codes ": note: only the run with these numbers was judged: there are too many paths\n"
+
 -- ---- what isn't judged
 
 abbrev pub reason_of : Refusal → List ℕ
@@ -96,12 +113,16 @@ outside_line name p reason = place_text name p ++ (codes ": error: " ++ (reason 
 
 -- ---- the whole
 
--- of the run of a program that begins with these cells
+-- of what is found
+abbrev pub ReportsFinding : Source → Body → Finding → Verdict → List ℕ → Type 0
+ReportsFinding s body (InRun race) verdict text = (verdict ≡ v.Races) × (text ≡ race_text s in_run race)
+ReportsFinding s body (OnWay race) verdict text = (verdict ≡ v.Races) × (text ≡ race_text s on_path race)
+ReportsFinding s body Nowhere verdict text = (verdict ≡ v.Clean) × Warns s body text
+ReportsFinding s body OnlyRun verdict text = (verdict ≡ v.Clean) × (warning : List ℕ) × Warns s body warning × (text ≡ warning ++ only_run_line s.name)
+
+-- of a program that begins with these cells
 abbrev pub ReportsRun : Source → List (List ℕ) → Body → Verdict → List ℕ → Type 0
-ReportsRun s cells body v.Races text = (told : Race) × IsFirstRace (events_of this_way body cells) told.cell told.place told.later × (text ≡ race_text s told)
-ReportsRun s cells body v.Clean text =
-    NothingRaces (events_of this_way body cells) × (first : Option (ℕ × Offence)) × IsFirstOf (Offends body) first × (text ≡ warning_text s body first)
-ReportsRun s cells body v.Outside text = ⊥
+ReportsRun s cells body verdict text = (finding : Finding) × Finds body cells finding × ReportsFinding s body finding verdict text
 
 -- of a program that was read, or wasn't: then it is told at one of its entries
 abbrev pub ReportsRead : Source → List (List ℕ) → Result Expanded Refusal → Verdict → List ℕ → Type 0

@@ -1,12 +1,11 @@
 //! A C text, judged over the program that stands for it.
-ghost use Rattle.std.specs.Prelude.{◌≡◌, ℕ, List, IfOk, Option, Some, Result};
+ghost use Rattle.std.specs.Prelude.{◌≡◌, ◌++◌, ℕ, List, IfOk, Option, Some, Result};
 ghost use Rattle.serde_json.specs.View.{view};
 ghost use Rattle.ot_model.specs.View.{stmts_of};
 ghost use Rattle.ot_model.specs.Cells.{lengths};
 ghost use Rattle.ot_model.specs.Programs.{Expanded, IsNamedIn, expanded_of};
 ghost use Rattle.ot_model.specs.Shapes.{array_lengths};
 ghost use Rattle.ot_check.specs.Offences.{Offends, IsFirstOf};
-ghost use Rattle.ot_check.specs.declared.fault.Offence.{Offence};
 ghost use Rattle.ot_file.specs.Positions.{position_of};
 ghost use Rattle.ot_program.specs.Returned.{Fails, Gives};
 ghost use Rattle.ot_program.specs.declared.fault.Refusal.{Refusal};
@@ -15,8 +14,9 @@ ghost use Rattle.ot_cjudge.specs.SiteView.{source_by};
 ghost use Rattle.ot_cjudge.specs.Fits.{Fits};
 ghost use Rattle.ot_cjudge.specs.Lacks.{lacks};
 ghost use Rattle.ot_cjudge.specs.Faults.{Says};
-ghost use Rattle.ot_cjudge.specs.Reports.{Reports, ReportsRead, ReportsRun, race_text, warning_text, outside_line, reason_of, run_of};
+ghost use Rattle.ot_cjudge.specs.Reports.{Reports, ReportsRead, ReportsRun, ReportsFinding, Warns, race_text, warning_text, only_run_line, outside_line, reason_of, run_of};
 
+use crate::finding::{Finding, find_race};
 use crate::found::find_in;
 use crate::lacks::lacks_by;
 use crate::line::put_cell;
@@ -24,16 +24,19 @@ use crate::lowered::Lowered;
 use crate::report::{Report, Verdict};
 use crate::source::{Source, position_at};
 use crate::start::{MAX_TASKS, cells_of, shape_of};
-use crate::telling::{put_advice, put_here, put_other, put_outside, put_warning, reason_of};
+use crate::telling::{
+    put_advice, put_here, put_only_run, put_other, put_outside, put_warning, reason_of,
+};
 use ot_check::{CheckFault, Offence, check};
 use ot_fault::first_fault;
 use ot_model::{Cells, Program, Shape, Use};
 use ot_program::{ProgramFault, Refusal, read_program};
-use ot_race::{Race, this_run};
+use ot_race::Race;
 use serde_json::Value;
 use std::alloc::{AllocError, Global};
 
-/// Judges a C text of this name over the program that stands for it, as it runs with the C's numbers, and writes what is found.
+/// Judges a C text of this name over the program that stands for it, as it runs with the C's numbers and on all ways through its
+/// branches, and writes what is found.
 pub fn report_c(
     alloc: Global,
     name: &str,
@@ -104,7 +107,7 @@ fn run_of(alloc: Global, program: Value) -> Result<Value, AllocError>
     Ok(Value::Array(vec![in alloc; word, program]?))
 }
 
-/// What is written of the run of a program over these arrays that begins with these cells.
+/// What is written of a program over these arrays that begins with these cells.
 fn report_run(
     alloc: Global,
     source: &Source<'_>,
@@ -116,16 +119,46 @@ fn report_run(
     requires cells { lengths cells ≡ array_lengths shape.now }
     ensures { IfOk result (λ report. ReportsRun (source_by source.now) cells (stmts_of program.now.body.items) report.verdict report.text.items) }
 {
-    match this_run(alloc, program, cells)? {
-        Some(race) => report_race(alloc, source, race),
-        None => report_offence(alloc, source, shape, program),
+    let finding = find_race(alloc, program, cells)?;
+    report_finding(alloc, source, shape, program, finding)
+}
+
+/// What is written of what is found.
+fn report_finding(
+    alloc: Global,
+    source: &Source<'_>,
+    shape: &Shape,
+    program: &Program,
+    finding: Finding,
+) -> Result<Report, AllocError>
+    requires { IsNamedIn (array_lengths shape.now) (expanded_of program.now) }
+    ensures { IfOk result (λ report. ReportsFinding (source_by source.now) (stmts_of program.now.body.items) finding report.verdict report.text.items) }
+{
+    match finding {
+        Finding::InRun(race) => report_race(
+            alloc,
+            source,
+            "with these numbers nothing orders the two",
+            race,
+        ),
+        Finding::OnWay(race) => report_race(alloc, source, "some path has both", race),
+        Finding::Nowhere => report_offence(alloc, source, shape, program),
+        Finding::OnlyRun => {
+            let told = report_offence(alloc, source, shape, program)?;
+            with_only_run(source, told)
+        }
     }
 }
 
-/// What is written of a race.
-fn report_race(alloc: Global, source: &Source<'_>, race: Race) -> Result<Report, AllocError>
+/// What is written of a race, with what is known of the two touches.
+fn report_race(
+    alloc: Global,
+    source: &Source<'_>,
+    known: &str,
+    race: Race,
+) -> Result<Report, AllocError>
     ensures verdict { IfOk result (λ report. report.verdict ≡ Verdict.Races) }
-    ensures text { IfOk result (λ report. report.text.items ≡ race_text (source_by source.now) race) }
+    ensures text { IfOk result (λ report. report.text.items ≡ race_text (source_by source.now) known.now race) }
 {
     let here = source.site_of(alloc, race.later)?;
     let other = source.site_of(alloc, race.place)?;
@@ -140,11 +173,21 @@ fn report_race(alloc: Global, source: &Source<'_>, race: Race) -> Result<Report,
         &other,
         &mut text,
     )?;
-    put_other(alloc, source.name, &other, &mut text)?;
+    put_other(alloc, source.name, &other, known, &mut text)?;
     Ok(Report {
         verdict: Verdict::Races,
         text,
     })
+}
+
+/// The same, with the line that only the run was judged.
+fn with_only_run(source: &Source<'_>, told: Report) -> Result<Report, AllocError>
+    ensures verdict { IfOk result (λ report. report.verdict ≡ told.verdict) }
+    ensures text { IfOk result (λ report. report.text.items ≡ told.text.items ++ only_run_line source.now.name.now) }
+{
+    let Report { verdict, mut text } = told;
+    put_only_run(source.name, &mut text)?;
+    Ok(Report { verdict, text })
 }
 
 /// What is written of a program in which nothing races: what a server refuses it for.
@@ -156,8 +199,7 @@ fn report_offence(
 ) -> Result<Report, AllocError>
     requires { IsNamedIn (array_lengths shape.now) (expanded_of program.now) }
     ensures verdict { IfOk result (λ report. report.verdict ≡ Verdict.Clean) }
-    ensures text { IfOk result (λ report. (first : Option (ℕ × Offence)) × IsFirstOf (Offends (stmts_of program.now.body.items)) first
-        × (report.text.items ≡ warning_text (source_by source.now) (stmts_of program.now.body.items) first)) }
+    ensures text { IfOk result (λ report. Warns (source_by source.now) (stmts_of program.now.body.items) report.text.items) }
 {
     let copied = program.copy(alloc)?;
     let first = first_offence(alloc, copied, shape)?;

@@ -1,6 +1,7 @@
 //! Programs in C, judged over the programs that stand for them, and what is written of each.
 #![tactic(auto)]
 
+mod finding;
 mod found;
 mod judging;
 mod lacks;

@@ -3,7 +3,7 @@ ghost use Rattle.std.specs.Prelude.{◌≡◌, ◌++◌, codes, OnOk};
 ghost use Rattle.std.specs.Fmt.{decimal};
 ghost use Rattle.ot_model.specs.ShapeView.{arrays_of};
 ghost use Rattle.ot_cjudge.specs.SiteView.{site_by};
-ghost use Rattle.ot_cjudge.specs.Reports.{here_line, other_line, kind_text, clause_text, advice, warning_line, reason_of, outside_line};
+ghost use Rattle.ot_cjudge.specs.Reports.{here_line, other_line, only_run_line, kind_text, clause_text, advice, warning_line, reason_of, outside_line};
 
 use crate::line::{put_cell, put_place, put_turns, put_words};
 use crate::source::Site;
@@ -34,19 +34,34 @@ pub(crate) fn put_here(
     Ok(())
 }
 
-/// The line about the other touch.
+/// The line about the other touch, with what is known of the two.
 pub(crate) fn put_other(
     alloc: Global,
     name: &str,
     other: &Site<'_>,
+    known: &str,
     out: &mut Vec<u8>,
 ) -> Result<(), AllocError>
-    ensures { OnOk result (out.new.items ≡ out.old.items ++ other_line name.now (site_by other.now)) }
+    ensures { OnOk result (out.new.items ≡ out.old.items ++ other_line name.now (site_by other.now) known.now) }
 {
     put_place(alloc, name, other.position, out)?;
     put_words(out, ": note: the other touch")?;
     put_turns(alloc, other, out)?;
-    put_words(out, "; with these numbers nothing orders the two\n")?;
+    put_words(out, "; ")?;
+    put_words(out, known)?;
+    put_words(out, "\n")?;
+    Ok(())
+}
+
+/// The line that only the run was judged.
+pub(crate) fn put_only_run(name: &str, out: &mut Vec<u8>) -> Result<(), AllocError>
+    ensures { OnOk result (out.new.items ≡ out.old.items ++ only_run_line name.now) }
+{
+    put_words(out, name)?;
+    put_words(
+        out,
+        ": note: only the run with these numbers was judged: there are too many paths\n",
+    )?;
     Ok(())
 }
 

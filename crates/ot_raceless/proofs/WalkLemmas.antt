@@ -23,6 +23,7 @@ use Rattle.ot_race.specs.Events.{Event, event, Way, Touches, Begins, Awaits, Lea
 use Rattle.ot_race.specs.Order.{IsBy, Does, InTurn, ByCreation, IsBefore, Once}
 use Rattle.ot_race.specs.Races.{IsUsed}
 use Rattle.ot_race.specs.Standings.{IsKnownTo}
+use Rattle.ot_corder.specs.declared.order.Order.TheVariants.{OfLanguage}
 use Rattle.ot_ways.specs.Ways.{way_by}
 use Rattle.ot_ways.specs.Verdicts.{NoWayRaces}
 use Rattle.ot_race.proofs.OrderLemmas.{some_is, is_by, before_trans}
@@ -359,7 +360,7 @@ mutual
       (goes_on es me own opened (behind_one children x) (behind children (Next x rest)) from n (n + length one) (n + length one + length later) first next)
 
 -- a body that is fine races on no way
-pub fine_races_on_no_way : (body : Body) → IsFine None nothing_open nobody body → NoWayRaces body
+pub fine_races_on_no_way : (body : Body) → IsFine None nothing_open nobody body → NoWayRaces OfLanguage body
 fine_races_on_no_way body fine = λ condition cells cell i j race.
     let es = events_of (way_by condition) body cells in
     let whole : StandsAt es 0 es = λ k e is. let at : k ≡ 0 + k = omega arith in subst (λ n. slice_get es n ≡ Some e) at is in

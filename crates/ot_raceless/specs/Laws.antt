@@ -6,11 +6,12 @@ use Rattle.ot_model.specs.Names.{NamedIn}
 use Rattle.ot_check.specs.Discipline.{OffendsNowhere}
 use Rattle.ot_race.specs.Events.{events_of, this_way}
 use Rattle.ot_race.specs.Races.{NothingRaces}
+use Rattle.ot_corder.specs.declared.order.Order.TheVariants.{OfLanguage}
 use Rattle.ot_ways.specs.Verdicts.{NoWayRaces}
 
 -- what a check accepts races on no way
 abbrev pub AcceptedRacesOnNoWay : Type 0
-AcceptedRacesOnNoWay = (body : Body) → OffendsNowhere body → NoWayRaces body
+AcceptedRacesOnNoWay = (body : Body) → OffendsNowhere body → NoWayRaces OfLanguage body
 
 -- nor in a run from any cells among which are all that it names
 abbrev pub AcceptedRacesInNoRun : Type 0

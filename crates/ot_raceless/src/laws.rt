@@ -3,6 +3,7 @@
 ghost use Rattle.ot_model.specs.View.{stmts_of};
 ghost use Rattle.ot_race.specs.Events.{events_of, this_way};
 ghost use Rattle.ot_race.specs.Races.{NothingRaces};
+ghost use Rattle.ot_corder.specs.declared.order.Order.TheVariants.{OfLanguage};
 ghost use Rattle.ot_ways.specs.Verdicts.{NoWayRaces};
 ghost use Rattle.ot_raceless.specs.Laws.{AcceptedRacesInNoRun, AcceptedRacesOnNoWay};
 
@@ -27,7 +28,7 @@ pub fn accepted_races_in_no_run()
 
 /// A program that was checked races on no way.
 pub fn checked_races_on_no_way(checked: &Checked)
-    ensures { NoWayRaces (stmts_of checked.now.program.body.items) }
+    ensures { NoWayRaces OfLanguage (stmts_of checked.now.program.body.items) }
 {
     accepted_races_on_no_way();
 }

@@ -7,31 +7,76 @@ ghost use Rattle.ot_ways.specs.Verdicts.{Tells};
 use crate::extent::{MANY, extent_all};
 use crate::follow::{Owner, Trail, follow_all};
 use crate::verdict::Verdict;
-use ot_model::Program;
-use ot_race::judge;
+use ot_corder::{Order, judge_by};
+use ot_model::{Program, Stmt};
 use std::alloc::{AllocError, Global};
 
-/// The first race on one of the ways through a program, or that no way races. More than 1,024 ways are not judged.
-pub fn any_way(alloc: Global, program: &Program) -> Result<Verdict, AllocError>
+/// So many statements on all ways together are judged.
+const MOST_STATEMENTS: u64 = 2_000_000;
+
+/// The first race on one of the ways through a program where this orders tasks, or that no way races. More than 1,024 ways are not
+/// judged, nor those that have more than 2,000,000 statements together.
+pub fn any_way(alloc: Global, order: Order, program: &Program) -> Result<Verdict, AllocError>
     requires { (lens : List ℕ) × NamedIn lens (stmts_of program.now.body.items) }
-    ensures { IfOk result (Tells (stmts_of program.now.body.items)) }
+    ensures { IfOk result (Tells order (stmts_of program.now.body.items)) }
 {
-    let extent = extent_all(&program.body);
-    if extent.ways == MANY {
-        return Ok(Verdict::TooManyWays);
+    match few_ways(&program.body) {
+        Some(ways) => judge_ways(alloc, order, program, ways),
+        None => Ok(Verdict::TooManyWays),
     }
-    for way in 0..extent.ways {
+}
+
+ghost use Rattle.std.specs.Prelude.{◌≡◌, ◌<◌, ◌*◌, ◌^◌, ◌&&◌, nat_lt, nat_le, MatchOption};
+ghost use Rattle.ot_model.specs.Counts.{size};
+ghost use Rattle.ot_ways.specs.Ways.{ways};
+ghost use Rattle.ot_ways.specs.Verdicts.{AreFew};
+
+/// The number of ways through a body, where they are judged.
+fn few_ways(body: &Vec<Stmt>) -> Option<u32>
+    requires { size (stmts_of body.now.items) < 2 ^ 32 }
+    ensures { MatchOption result (AreFew (stmts_of body.now.items) → ⊥) (λ few. AreFew (stmts_of body.now.items) × (few ≡ ways (stmts_of body.now.items))) }
+{
+    let extent = extent_all(body);
+    if are_few(extent.ways, extent.statements) {
+        Some(extent.ways)
+    } else {
+        None
+    }
+}
+
+/// Whether so many ways through so many statements are judged.
+fn are_few(ways: u32, statements: u32) -> bool
+    ensures { result ≡ (nat_lt ways 1025 && nat_le (ways * statements) 2000000) }
+{
+    match u64::from(ways).checked_mul(u64::from(statements)) {
+        Some(together) => ways < MANY && together <= MOST_STATEMENTS,
+        None => false,
+    }
+}
+
+/// The first race on one of so many ways.
+fn judge_ways(
+    alloc: Global,
+    order: Order,
+    program: &Program,
+    count: u32,
+) -> Result<Verdict, AllocError>
+    requires named { (lens : List ℕ) × NamedIn lens (stmts_of program.now.body.items) }
+    requires few { AreFew (stmts_of program.now.body.items) }
+    requires all { count ≡ ways (stmts_of program.now.body.items) }
+    ensures { IfOk result (Tells order (stmts_of program.now.body.items)) }
+{
+    for way in 0..count {
         let trail = follow(alloc, program, way)?;
-        if let Some(race) = judge(alloc, &trail.events)? {
+        if let Some(race) = judge_by(alloc, order, &trail.events)? {
             return Ok(Verdict::RacesOnWay(trail.turns, race));
         }
     }
     Ok(Verdict::RacesOnNoWay)
 }
 
-ghost use Rattle.std.specs.Prelude.{◌≡◌, ◌<◌, ◌^◌, None, length};
+ghost use Rattle.std.specs.Prelude.{None, length};
 ghost use Rattle.ot_race.specs.View.{events_in};
-ghost use Rattle.ot_ways.specs.Ways.{ways};
 ghost use Rattle.ot_ways.specs.Numbered.{events_on, turns_on};
 
 /// What happens on the way of this number.

@@ -2,6 +2,7 @@
 ghost use Rattle.std.specs.Prelude.{◌≡◌, ◌∷◌, []};
 ghost use Rattle.ot_model.specs.Shapes.{array_lengths};
 
+use ot_corder::Order;
 use ot_model::{Cells, Shape};
 use ot_race::{Race, this_run};
 use ot_ways::{Verdict, any_way};
@@ -44,7 +45,7 @@ pub(crate) fn told_of_ways(alloc: Global, cells: u32, body: &str) -> Result<Stri
     let Ok(program) = read(alloc, text.as_str(), &shape) else {
         return String::from_str(alloc, "unread");
     };
-    match any_way(alloc, &program)? {
+    match any_way(alloc, Order::OfLanguage, &program)? {
         Verdict::RacesOnNoWay => String::from_str(alloc, "none"),
         Verdict::TooManyWays => String::from_str(alloc, "many"),
         Verdict::RacesOnWay(turns, race) => {

@@ -3,8 +3,10 @@ use Rattle.ot_cjudge.proofs.telling.put_other.Goals as goal
 
 pub returns : goal.returns
 returns c =
-    let end = c.put_words-2.new.out.items in
+    let end = c.put_words-4.new.out.items in
     wrote_two c.args.out.now.items c.put_place.new.out.items end _ _ c.in_ok-put_place.ensures
     (wrote_two c.put_place.new.out.items c.put_words.new.out.items end _ _ c.in_ok-put_words.ensures
     (wrote_two c.put_words.new.out.items c.put_turns.new.out.items end _ _ c.in_ok-put_turns.ensures
-    c.in_ok-put_words-2.ensures))
+    (wrote_two c.put_turns.new.out.items c.put_words-2.new.out.items end _ _ c.in_ok-put_words-2.ensures
+    (wrote_two c.put_words-2.new.out.items c.put_words-3.new.out.items end _ _ c.in_ok-put_words-3.ensures
+    c.in_ok-put_words-4.ensures))))

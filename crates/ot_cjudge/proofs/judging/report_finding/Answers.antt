@@ -1,0 +1,39 @@
+use Rattle.std.proofs.Common.{◌∙◌, sym, subst}
+use Rattle.ot_model.specs.View.{stmts_of}
+use Rattle.ot_cjudge.specs.Reports.{ReportsFinding}
+use Rattle.ot_cjudge.specs.SiteView.{source_by}
+use Rattle.ot_cjudge.proofs.ReportLemmas.{if_both}
+use Rattle.ot_cjudge.proofs.judging.report_finding.Goals as goal
+
+pub returns-in-InRun : goal.returns-in-InRun
+returns-in-InRun c =
+    let s = source_by c.args.source.now in
+    let body = stmts_of c.args.program.now.body.items in
+    if_both c.report_race.result _ _ (λ report. ReportsFinding s body c.args.finding report.verdict report.text.items)
+    (λ report v t. subst (λ f. ReportsFinding s body f report.verdict report.text.items) (sym c.in-InRun.is) (v, t))
+    c.report_race.ensures.verdict c.report_race.ensures.text
+
+pub returns-in-OnWay : goal.returns-in-OnWay
+returns-in-OnWay c =
+    let s = source_by c.args.source.now in
+    let body = stmts_of c.args.program.now.body.items in
+    if_both c.report_race-in-OnWay.result _ _ (λ report. ReportsFinding s body c.args.finding report.verdict report.text.items)
+    (λ report v t. subst (λ f. ReportsFinding s body f report.verdict report.text.items) (sym c.in-OnWay.is) (v, t))
+    c.report_race-in-OnWay.ensures.verdict c.report_race-in-OnWay.ensures.text
+
+pub returns-in-Nowhere : goal.returns-in-Nowhere
+returns-in-Nowhere c =
+    let s = source_by c.args.source.now in
+    let body = stmts_of c.args.program.now.body.items in
+    if_both c.report_offence.result _ _ (λ report. ReportsFinding s body c.args.finding report.verdict report.text.items)
+    (λ report v t. subst (λ f. ReportsFinding s body f report.verdict report.text.items) (sym c.in-Nowhere.is) (v, t))
+    c.report_offence.ensures.verdict c.report_offence.ensures.text
+
+pub returns-in_ok-told-in-OnlyRun : goal.returns-in_ok-told-in-OnlyRun
+returns-in_ok-told-in-OnlyRun c =
+    let s = source_by c.args.source.now in
+    let body = stmts_of c.args.program.now.body.items in
+    if_both c.with_only_run.result _ _ (λ report. ReportsFinding s body c.args.finding report.verdict report.text.items)
+    (λ report v t. subst (λ f. ReportsFinding s body f report.verdict report.text.items) (sym c.in-OnlyRun.is)
+    (v ∙ c.in_ok-told-in-OnlyRun.ensures.verdict, c.in_ok-told-in-OnlyRun.told.text.items, c.in_ok-told-in-OnlyRun.ensures.text, t))
+    c.with_only_run.ensures.verdict c.with_only_run.ensures.text

@@ -1,0 +1,68 @@
+//! Races of what stands for a C text, as C orders its tasks.
+ghost use Rattle.std.specs.Prelude.{IfOk};
+ghost use Rattle.ot_model.specs.View.{stmts_of};
+ghost use Rattle.ot_model.specs.Cells.{lengths};
+ghost use Rattle.ot_model.specs.Names.{NamedIn};
+ghost use Rattle.ot_cjudge.specs.Findings.{Finds};
+
+use ot_corder::{Order, judge_by};
+use ot_model::{Cells, Program};
+use ot_race::{Race, run_events};
+use ot_ways::{Verdict as WaysVerdict, any_way};
+use std::alloc::{AllocError, Global};
+
+/// What is found of a program that begins with the C's numbers.
+#[derive(Clone, Copy, Debug, PartialEq, Eq)]
+pub(crate) enum Finding {
+    /// Its run races.
+    InRun(Race),
+    /// Its run doesn't race, but another way through its branches does.
+    OnWay(Race),
+    /// No way races.
+    Nowhere,
+    /// Its run doesn't race, and there are too many ways.
+    OnlyRun,
+}
+
+/// Looks for a race in the run of a program that begins with these cells, and then on all ways.
+pub(crate) fn find_race(
+    alloc: Global,
+    program: &Program,
+    cells: Cells,
+) -> Result<Finding, AllocError>
+    requires { NamedIn (lengths cells) (stmts_of program.now.body.items) }
+    ensures { IfOk result (Finds (stmts_of program.now.body.items) cells) }
+{
+    match race_in_run(alloc, program, cells)? {
+        Some(race) => Ok(Finding::InRun(race)),
+        None => {
+            let told = any_way(alloc, Order::OfC, program)?;
+            Ok(finding_of(told))
+        }
+    }
+}
+
+ghost use Rattle.ot_race.specs.Races.{TellsFirst};
+ghost use Rattle.ot_cjudge.specs.Findings.{events_in_c};
+
+fn race_in_run(alloc: Global, program: &Program, cells: Cells) -> Result<Option<Race>, AllocError>
+    requires { NamedIn (lengths cells) (stmts_of program.now.body.items) }
+    ensures { IfOk result (TellsFirst (events_in_c (stmts_of program.now.body.items) cells)) }
+{
+    let events = run_events(alloc, program, cells)?;
+    judge_by(alloc, Order::OfC, &events)
+}
+
+ghost use Rattle.std.specs.Prelude.{◌≡◌};
+ghost use Rattle.ot_cjudge.specs.Findings.{finding_of};
+
+/// What the ways tell of a program whose run doesn't race.
+fn finding_of(told: WaysVerdict) -> Finding
+    ensures { result ≡ finding_of told }
+{
+    match told {
+        WaysVerdict::RacesOnNoWay => Finding::Nowhere,
+        WaysVerdict::RacesOnWay(_, race) => Finding::OnWay(race),
+        WaysVerdict::TooManyWays => Finding::OnlyRun,
+    }
+}

@@ -1,0 +1,2 @@
+pub mod DependLemmas
+pub mod EventLemmas

@@ -1,0 +1,63 @@
+//! What events declare in C.
+ghost use Rattle.std.specs.Prelude.{◌≡◌, IfOk};
+ghost use Rattle.ot_corder.specs.Orders.{depend_of};
+
+use ot_model::{Decl, Mode};
+use std::alloc::{AllocError, Global};
+
+/// The uses of a declaration that make dependences.
+fn depend_of(alloc: Global, decl: &Decl) -> Result<Decl, AllocError>
+    ensures { IfOk result (λ kept. kept ≡ depend_of decl.now) }
+{
+    let mut kept = Vec::new(alloc);
+    for used in decl.uses() {
+        if !is_fold(used.mode) {
+            kept.push(*used)?;
+        }
+    }
+    Ok(Decl::new(kept))
+}
+
+ghost use Rattle.ot_model.specs.Uses.{is_fold};
+
+fn is_fold(mode: Mode) -> bool
+    ensures { result ≡ is_fold mode }
+{
+    matches!(mode, Mode::Folds(_))
+}
+
+ghost use Rattle.std.specs.Prelude.{map};
+ghost use Rattle.ot_corder.specs.Orders.{declares};
+ghost use Rattle.ot_race.specs.View.{deed_of, events_in};
+
+use ot_race::{Deed, Event};
+
+/// What each event declares in C.
+#[tactic(auto, using(crate::proofs::EventLemmas::declared_next))]
+pub(crate) fn declared_by(alloc: Global, events: &[Event<'_>]) -> Result<Vec<Decl>, AllocError>
+    ensures { IfOk result (λ declared. declared.items ≡ map (λ e. declares e.deed) (events_in events.now)) }
+{
+    let mut declared = Vec::with_capacity(alloc, events.len())?;
+    for event in events {
+        declared.push(declares(alloc, event.deed)?)?;
+    }
+    Ok(declared)
+}
+
+fn declares(alloc: Global, deed: Deed<'_>) -> Result<Decl, AllocError>
+    ensures { IfOk result (λ declared. declared ≡ declares (deed_of deed.entry)) }
+{
+    match deed {
+        Deed::Begins(_, decl) => depend_of(alloc, decl),
+        Deed::Awaits(Some(decl)) => decl.copy(alloc),
+        Deed::Touches | Deed::Awaits(None) | Deed::Leaves(_) => nothing(alloc),
+    }
+}
+
+ghost use Rattle.std.specs.Prelude.{[]};
+
+fn nothing(alloc: Global) -> Result<Decl, AllocError>
+    ensures { IfOk result (λ declared. declared ≡ []) }
+{
+    Ok(Decl::new(Vec::new(alloc)))
+}
