@@ -1,5 +1,8 @@
 pub mod Why
 pub mod Whys
 pub mod Counting
+pub mod Mixed
+pub mod Entries
 pub mod Laws
 pub mod First
+pub mod Walk
