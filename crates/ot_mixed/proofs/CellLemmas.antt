@@ -1,11 +1,11 @@
 -- The first mixed cell of clauses is where the walk along the row ends.
-use Rattle.std.proofs.Common.{◌≡◌, ℕ, zero, suc, ◌+◌, ◌*◌, ◌^◌, ◌<◌, ◌≤◌, Bool, true, false, cond, ◌&&◌, ◌||◌, List, [], ◌∷◌, ◌++◌, map, Option, Some, None, nat_eq, refl, sym, ap, subst, ◌∙◌, inl, inr, arith}
+use Rattle.std.proofs.Common.{◌≡◌, ℕ, zero, suc, ◌+◌, ◌^◌, ◌<◌, ◌≤◌, Bool, true, false, cond, ◌&&◌, List, [], ◌∷◌, map, Option, Some, None, nat_eq, refl, sym, ap, subst, ◌∙◌, inl, inr, arith}
 use Rattle.std.specs.Prelude.{◌⊎◌, nat_lt, not, flat_map, find, option_map}
 use Rattle.std.specs.List.{list_any, fold, range_with_len}
 use Rattle.std.proofs.lemmas.Bool.{lt-ltb, ltb-true, cases_lt}
 use Rattle.ot_model.specs.Cells.{same_cell, is_before}
 use Rattle.ot_model.specs.Shapes.{Arrays}
-use Rattle.ot_model.specs.Uses.{Precedes, is_fold, same_fold, same_mode}
+use Rattle.ot_model.specs.Uses.{Precedes, is_fold, same_mode}
 use Rattle.ot_model.specs.Value.{cell_at, cells_of}
 use Rattle.ot_model.specs.declared.expr.Cell.{Cell}
 use Rattle.ot_model.specs.declared.expr.Section.{Section}
@@ -16,8 +16,8 @@ use Rattle.ot_program.specs.Meanings.{Clause}
 use Rattle.ot_program.proofs.Declared.{same_keys, keys_same}
 use Rattle.ot_mixed.specs.Mixed.{first_mixed, named}
 use Rattle.ot_mixed.specs.Rows.{Row, address, row_of, Fits, same_operation}
-use Rattle.ot_mixed.proofs.InLemmas.{In, in_left, in_right, in_either, in_one, in_map, map_in, or_either, or_left, or_right, and_both, any_in, in_any, not_true}
-use Rattle.ot_mixed.proofs.SweepLemmas.{Covers, Clear, IsFirst, Outcome, operation_differs}
+use Rattle.ot_mixed.proofs.InLemmas.{In, in_left, in_right, in_either, or_either, or_left, or_right, and_both, any_in, in_any, not_true}
+use Rattle.ot_mixed.proofs.SweepLemmas.{Covers, Clear, Outcome, operation_differs}
 
 -- ---- cells
 
@@ -232,6 +232,7 @@ ascending_by c x cs true b is same up rest = (all_behind, up)
   where
     first : Precedes c x
     first = before_is c x is
+
     all_behind : (d : Cell) → In d (x ∷ cs) → Precedes c d
     all_behind d (inl e) = subst (Precedes c) (sym e) first
     all_behind d (inr h) = precedes_on c x d first (up.0 d h)

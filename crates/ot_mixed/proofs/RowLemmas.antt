@@ -11,9 +11,8 @@ use Rattle.serde_json.specs.Data.{Data}
 use Rattle.serde_json.specs.View.{view, items_view}
 use Rattle.serde_json.specs.declared.value.Value.{Value}
 use Rattle.ot_model.specs.Shapes.{Arrays}
-use Rattle.ot_program.specs.Meanings.{each, Bindings, Clause, clause}
+use Rattle.ot_program.specs.Meanings.{each, Clause}
 use Rattle.ot_program.specs.declared.fault.Refusal.{Refusal}
-use Rattle.ot_place.specs.Texts.{Profile}
 use Rattle.ot_mixed.specs.Mixed.{named, first_mixed}
 use Rattle.ot_mixed.specs.Rows.{Row, row_of, row_by, Fits, sweep}
 use Rattle.ot_mixed.specs.declared.clause.Named.{Named}
@@ -73,6 +72,7 @@ rising (n ∷ ns) h = (first, rising ns (λ i j d le within. h (suc i) (suc j) d
   where
     later : All (λ (m : Named). n.from ≤ m.from) ns
     later k d within = h 0 (suc k) d (omega arith) (omega (arith, within))
+
     first : (q : Row) → In q (map row_by ns) → n.from ≤ q.from
     first q there =
         let m = map_in row_by q ns there in

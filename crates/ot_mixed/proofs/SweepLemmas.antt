@@ -1,12 +1,11 @@
 -- Along the row of cells, the first clause that folds otherwise than one that it shares a cell with begins at the first mixed cell.
-use Rattle.std.proofs.Common.{◌≡◌, ℕ, ◌+◌, ◌<◌, ◌≤◌, Bool, true, false, cond, ◌&&◌, List, [], ◌∷◌, ◌++◌, Option, Some, None, refl, sym, ap, subst, ◌∙◌, inl, inr, append-nil, append_assoc, arith}
-use Rattle.std.specs.Prelude.{◌⊎◌, nat_lt, not}
+use Rattle.std.proofs.Common.{◌≡◌, ℕ, ◌<◌, ◌≤◌, Bool, true, false, cond, ◌&&◌, List, [], ◌∷◌, ◌++◌, Option, Some, None, refl, sym, ap, subst, ◌∙◌, inl, inr, append-nil, append_assoc, arith}
+use Rattle.std.specs.Prelude.{nat_lt, not}
 use Rattle.std.proofs.lemmas.Bool.{lt-ltb, ltb-true, cases_lt}
-use Rattle.ot_model.specs.Uses.{same_fold}
 use Rattle.ot_model.specs.declared.fold.Fold.{Fold}
 use Rattle.ot_model.proofs.EqualLemmas.{fold-decides}
 use Rattle.ot_mixed.specs.Rows.{Row, same_operation, sweep}
-use Rattle.ot_mixed.proofs.InLemmas.{In, in_left, in_right, in_either, in_one, and_both}
+use Rattle.ot_mixed.proofs.InLemmas.{In, in_left, in_right, in_either, in_one}
 
 -- ---- operations
 

@@ -80,7 +80,10 @@ fn put<'a>(named: &mut Vec<Named<'a>>, clause: Option<Named<'a>>) -> Result<(), 
     ensures { OnOk result (named.new.items ≡ named.old.items ++ option_to_list clause.entry) }
 {
     match clause {
-        Some(clause) => named.push(clause),
+        Some(clause) => {
+            named.push(clause)?;
+            Ok(())
+        }
         None => Ok(()),
     }
 }

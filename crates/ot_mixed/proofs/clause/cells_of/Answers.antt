@@ -1,4 +1,4 @@
-use Rattle.std.proofs.Common.{rules, ◌≡◌, ◌∙◌, ◌<◌, ◌^◌, Some, sym, ap, refl, arith}
+use Rattle.std.proofs.Common.{rules, ◌∙◌, ◌<◌, ◌^◌, Some, sym, ap, refl}
 use Rattle.serde_json.specs.View.{view}
 use Rattle.ot_model.specs.ShapeView.{arrays_of}
 use Rattle.ot_place.specs.Seeking.{bindings_of}

@@ -1,4 +1,3 @@
-use Rattle.std.proofs.Common.{◌∙◌}
 use Rattle.ot_program.specs.Faults.{clause_faults}
 use Rattle.ot_program.specs.Meanings.{clause}
 use Rattle.ot_place.specs.Seeking.{bindings_of}
