@@ -21,7 +21,7 @@ use Rattle.ot_place.specs.declared.text.Text.{Text as CodeText}
 use Rattle.ot_place.specs.declared.text.Text.TheVariants as t
 use Rattle.ot_fault.specs.Counting.{counts_of, counts_with, past_limits}
 use Rattle.ot_fault.specs.Entries.{mixed_why, mixed_whys, whys_at, whys_behind, first_behind, first_among}
-use Rattle.ot_fault.specs.Mixed.{mixed_of}
+use Rattle.ot_mixed.specs.Mixed.{mixed_of}
 use Rattle.ot_fault.specs.Walk.{Walked, Passed, Met, unless_told, counted, walk}
 use Rattle.ot_fault.specs.Why.{Why, Form, NoStatement, Unbound, TooGreat, NotExact, Unknown, NoCell, NoCells, Empty, Nested, Deep, TooMany, TooManyTasks, Mixed, long, short, earlier, noted, after}
 use Rattle.ot_fault.specs.Whys.{unless, nested, text_whys}

@@ -27,7 +27,7 @@ use Rattle.ot_program.specs.declared.fault.Refusal.TheVariants.{Form, MixedReduc
 use Rattle.ot_place.specs.Texts.{Profile, text_by}
 use Rattle.ot_place.specs.declared.text.Text.{Text as CodeText}
 use Rattle.ot_place.specs.declared.text.Text.TheVariants as t
-use Rattle.ot_fault.specs.Mixed.{first_mixed, named, mixed_of, faults_of}
+use Rattle.ot_mixed.specs.Mixed.{first_mixed, named, mixed_of, faults_of}
 use Rattle.ot_fault.specs.Entries.{mixed_why, mixed_whys}
 use Rattle.ot_fault.specs.Why.{Why, Form as NoForm, Unbound, TooGreat, NotExact, Unknown, NoCell, NoCells, Empty, Nested, Deep, refusal_of, short, long}
 use Rattle.ot_fault.specs.declared.why.Wanted.TheVariants as wanted

@@ -9,7 +9,7 @@ use Rattle.ot_program.specs.Limits.{total}
 use Rattle.ot_program.specs.Meanings.{Bindings}
 use Rattle.ot_place.specs.Spots.{text_spots}
 use Rattle.ot_fault.specs.Counting.{counts_of, past_limits}
-use Rattle.ot_fault.specs.Mixed.{mixed_of}
+use Rattle.ot_mixed.specs.Mixed.{mixed_of}
 use Rattle.ot_fault.specs.Why.{Why, Form, Mixed, short, after}
 use Rattle.ot_fault.specs.Whys.{text_whys}
 use Rattle.ot_fault.specs.declared.own.Tally.{Tally as CodeTally}

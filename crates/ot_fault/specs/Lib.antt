@@ -1,7 +1,6 @@
 pub mod Why
 pub mod Whys
 pub mod Counting
-pub mod Mixed
 pub mod Entries
 pub mod Laws
 pub mod First

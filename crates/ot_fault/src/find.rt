@@ -17,9 +17,9 @@ ghost use Rattle.ot_fault.specs.Entries.{mixed_whys, first_among, first_fault};
 ghost use Rattle.ot_fault.specs.Walk.{walk, step_by, found_by, walk_on, in_bodies};
 
 use crate::look::Look;
-use crate::mixed::mixed_in;
 use crate::own::Tally;
 use crate::why::{Count, First, Wanted, Why};
+use ot_mixed::mixed_in;
 use ot_model::ArrayShape;
 use ot_place::{Profile, Text, Trail, Turn, letters, read_profile, size_of, text_of};
 use serde_json::Value;

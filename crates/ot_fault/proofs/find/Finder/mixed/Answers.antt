@@ -4,7 +4,7 @@ use Rattle.serde_json.specs.View.{view}
 use Rattle.ot_place.specs.Seeking.{bindings_of}
 use Rattle.ot_place.specs.Texts.{text_by}
 use Rattle.ot_fault.specs.First.{shape_of}
-use Rattle.ot_fault.specs.Mixed.{named_by}
+use Rattle.ot_mixed.specs.Mixed.{named_by}
 use Rattle.ot_fault.proofs.FirstLemmas.{mixed_found, mixed_none}
 use Rattle.ot_fault.proofs.RefusalLemmas.{task_faultless}
 use Rattle.ot_fault.proofs.find.Finder.mixed.Goals as goal
