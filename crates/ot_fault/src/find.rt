@@ -5,9 +5,9 @@ ghost use Rattle.ot_fault.specs.First.{told_by};
 ghost use Rattle.ot_fault.specs.Counting.{more_than, past_limits};
 
 use crate::look::Look;
-use crate::mixed::mixed_in;
 use crate::own::Tally;
 use crate::why::{Count, First, Wanted, Why};
+use ot_mixed::mixed_in;
 use ot_model::ArrayShape;
 use ot_place::{Profile, Text, Trail, Turn, letters, read_profile, size_of, text_of};
 use serde_json::Value;
@@ -249,7 +249,7 @@ impl Finder<'_> {
         first.past_limits(counts, u64::from(self.tasks));
         if first.why.is_none() {
             if let Text::Task(clauses, _) = text {
-                if let Some((name, index)) = mixed_in(self.alloc, clauses, trail)? {
+                if let Some((name, index)) = mixed_in(self.alloc, self.arrays, clauses, trail)? {
                     first.note(Why::Mixed(name, index));
                 }
             }
