@@ -1,5 +1,5 @@
 -- Requests and programs by their length.
-use Rattle.std.proofs.Common.{◌≡◌, ◌≢◌, List, [], length, get_or, Some, None, map, refl, sym, arith}
+use Rattle.std.proofs.Common.{◌≡◌, ◌≢◌, List, [], ◌∷◌, length, get_or, Some, None, map, refl, sym, arith}
 use Rattle.ot_model.specs.Shapes.{Arrays}
 use Rattle.serde_json.specs.Data.{Data, array}
 use Rattle.serde_json.specs.View.{view, items_view}
@@ -16,14 +16,14 @@ use Rattle.ot_fault.specs.Entries.{first_among, first_fault}
 use Rattle.ot_fault.specs.Walk.{Walked, walk}
 use Rattle.ot_fault.proofs.FirstLemmas.{placed_of, met_in, first_walked, none_among}
 
-no_request : (shape : Arrays) (vs : List Value) → length vs ≢ 2 → first_fault shape (array (items_view vs)) ≡ None
+pub no_request : (shape : Arrays) (vs : List Value) → length vs ≢ 2 → first_fault shape (array (items_view vs)) ≡ None
 no_request shape (a ∷ b ∷ []) other = absurd (other refl)
 no_request shape _ other = refl
 
-a_request : (shape : Arrays) (vs : List Value) (t d : Value) → length vs ≡ 2 → t ≡ get_or vs 0 t → d ≡ get_or vs 1 d
+pub a_request : (shape : Arrays) (vs : List Value) (d : Value) → length vs ≡ 2 → d ≡ get_or vs 1 d
     → first_fault shape (array (items_view vs)) ≡ first_among shape (view d) (map (λ s. s.placed) (text_spots (view d)))
-a_request shape (x ∷ y ∷ []) t d two p q = rw (sym q) refl
-a_request shape _ t d two p q = absurd (omega arith)
+a_request shape (x ∷ y ∷ []) d two is = rw (sym is) refl
+a_request shape _ d two is = absurd (omega arith)
 
 pub ruleset requests = (no_request, a_request)
 

@@ -204,12 +204,18 @@ walk_first : (shape : Arrays) (before ps : List Placed)
     → met_in (walk shape (short (length before)) (counts_of (total shape before)) ps) ≡ first_behind shape before ps
 walk_first shape before [] = refl
 walk_first shape before (p ∷ ps) =
-    rw (counted-one shape before p, short-one before p)
-    (met_by (after None (whys_behind shape before p)) (short (length before)) _ _ (walk_first shape (before ++ p ∷ []) ps))
+    let told : Option Why = after None (whys_behind shape before p) in
+    let n : ℕ = short (length before) in
+    let rest : Walked = walk shape (short (length (before ++ p ∷ []))) (counts_of (total shape (before ++ p ∷ []))) ps in
+    ap (λ (counts : CodeTally). met_in (unless_told (after None (whys_at shape counts p)) n (walk shape (short (n + 1)) counts ps))) (counted-one shape before p)
+    ∙ ap (λ (m : ℕ). met_in (unless_told told n (walk shape m (counts_of (total shape (before ++ p ∷ []))) ps))) (short-one before p)
+    ∙ met_by told n rest (first_behind shape (before ++ p ∷ []) ps) (walk_first shape (before ++ p ∷ []) ps)
 
 pub program_placed : (shape : Arrays) (program t a b : Data) (profile : Profile) → profile_of t ≡ Some profile
     → first_among shape program (map placed_of (program_spots t a b)) ≡ first_behind shape [] (in_copy (program_copy profile a b))
-program_placed shape program t a b profile named = rw (named, copy_placed (1 ∷ []) (program_copy profile a b)) refl
+program_placed shape program t a b profile named =
+    let are : map placed_of (program_spots t a b) ≡ in_copy (program_copy profile a b) = rw named (copy_placed (1 ∷ []) (program_copy profile a b)) in
+    ap (first_among shape program) are
 
 pub first_walked : (shape : Arrays) (program t a b : Data) (profile : Profile) (w : Walked) → profile_of t ≡ Some profile
     → w ≡ walk shape 0 (counts_of (total shape [])) (in_copy (program_copy profile a b))

@@ -57,15 +57,15 @@ turns_have level variables body first (suc more) h =
     (at_has level variables Turn (body first) Done tt (h first) tt) (turns_have level variables body (suc first) more h)
 
 mutual
+  unfolding copies copies_of copy
+
   copies_have : (profile : Profile) (w : Data) → profile_of w ≡ Some profile → (level : ℕ) (d : Data) (variables : Bindings)
       → AllHave (in_order (copies profile level d variables))
-  unfolding copies
   copies_have profile w named level (array ds) variables = items_have profile w named level ds variables
   copies_have profile w named level _ variables = (tt, tt)
 
   items_have : (profile : Profile) (w : Data) → profile_of w ≡ Some profile → (level : ℕ) (ds : Items) (variables : Bindings)
       → AllHave (in_order (copies_of profile level ds variables))
-  unfolding copies_of
   items_have profile w named level no_items variables = tt
   items_have profile w named level (item d ds) variables =
       both_have (in_copy (copy profile level d variables)) (in_order (copies_of profile level ds variables))
@@ -73,7 +73,6 @@ mutual
 
   copy_has : (profile : Profile) (w : Data) → profile_of w ≡ Some profile → (level : ℕ) (d : Data) (variables : Bindings)
       → AllHave (in_copy (copy profile level d variables))
-  unfolding copy
   copy_has profile w named level (array (item t no_items)) variables =
       if_has (is_word t (codes "wait")) (at level variables WaitText Done Done) (at level variables NoFormText Done Done) (tt, tt) (tt, tt)
   copy_has profile w named level (array (item t (item a no_items))) variables =

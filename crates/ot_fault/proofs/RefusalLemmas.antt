@@ -39,10 +39,10 @@ use Rattle.ot_fault.proofs.ClauseLemmas.{by_profile}
 abbrev pub Are : List Why → List Refusal → Type 0
 Are whys faults = map refusal_of whys ≡ faults
 
-two_are : (vs ws : List Why) (fs gs : List Refusal) → Are vs fs → Are ws gs → Are (vs ++ ws) (fs ++ gs)
+pub two_are : (vs ws : List Why) (fs gs : List Refusal) → Are vs fs → Are ws gs → Are (vs ++ ws) (fs ++ gs)
 two_are vs ws fs gs h k = map-append refusal_of vs ws ∙ rw (h, k) refl
 
-unless_is : (test : Bool) (why : Why) → Are (unless test why) (told.unless test (refusal_of why))
+pub unless_is : (test : Bool) (why : Why) → Are (unless test why) (told.unless test (refusal_of why))
 unless_is true why = refl
 unless_is false why = refl
 

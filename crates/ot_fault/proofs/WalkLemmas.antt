@@ -127,7 +127,9 @@ pub for_is : (shape : Arrays) (defined : Profile) (level : ℕ) (variables : Bin
     → walk shape n counts (in_bodies defined level variables (text_by defined text))
     ≡ walk shape n counts (in_order (turns level variables (λ k. copies defined (level + 1) (view d.now) ((name, k) ∷ variables)) from (behind - from)))
 for_is shape defined level variables text a b c d name from behind n counts is named first last =
-    rw (is, named, first, last) (ap (walk shape n counts) (append-nil _))
+    let body : ℕ → Copies = λ k. copies defined (level + 1) (view d.now) ((letters (view a.now), k) ∷ variables) in
+    let all : List Placed = in_order (turns level variables body (size variables (view b.now)) (size variables (view c.now) - size variables (view b.now))) in
+    rw (is, named, first, last) (ap {y = all} (walk shape n counts) (append-nil all))
 
 -- a statement, and then its bodies
 statement-is : (defined : Profile) (level : ℕ) (variables : Bindings) (d : Data) (text : CodeText) → text_by defined text ≡ text_at defined d
@@ -142,14 +144,14 @@ pub statement_passes : (shape : Arrays) (defined : Profile) (level : ℕ) (varia
     → walk shape n counts (in_copy (copy defined level d variables)) ≡ walk shape m more (in_bodies defined level variables (text_by defined text))
 statement_passes shape defined level variables d text n m counts more is h =
     ap (walk shape n counts) (statement-is defined level variables d text is)
-    ∙ passed shape n m counts more (record { level = level; variables = variables; text = text_by defined text } ∷ []) _ h
+    ∙ passed shape n m counts more (record { level = level; variables = variables; text = text_by defined text } ∷ []) (in_bodies defined level variables (text_by defined text)) h
 
 pub statement_ends : (shape : Arrays) (defined : Profile) (level : ℕ) (variables : Bindings) (d : Data) (text : CodeText) (n m : ℕ) (counts : CodeTally) (why : Why)
     → text_by defined text ≡ text_at defined d
     → Met m why ≡ walk shape n counts (record { level = level; variables = variables; text = text_by defined text } ∷ [])
     → Met m why ≡ walk shape n counts (in_copy (copy defined level d variables))
 statement_ends shape defined level variables d text n m counts why is h =
-    ended shape n m counts why (record { level = level; variables = variables; text = text_by defined text } ∷ []) _ h
+    ended shape n m counts why (record { level = level; variables = variables; text = text_by defined text } ∷ []) (in_bodies defined level variables (text_by defined text)) h
     ∙ ap (walk shape n counts) (sym (statement-is defined level variables d text is))
 
 -- an entry, and then a body alone

@@ -6,7 +6,7 @@ use Rattle.ot_program.proofs.Seen.{array_seen}
 use Rattle.ot_place.specs.Seeking.{bindings_of}
 use Rattle.ot_place.specs.Texts.{depth_of}
 use Rattle.ot_place.proofs.CopyLemmas.{no_list, a_list, item_depth}
-use Rattle.ot_fault.specs.First.{shape_of}
+use Rattle.ot_fault.specs.First.{shape_of, why_by}
 use Rattle.ot_fault.specs.Why.{short}
 use Rattle.ot_fault.specs.Walk.{step_by, walk_on}
 use Rattle.ot_fault.proofs.WalkLemmas.{seen_as, items_pass, items_end, items_none, turns_pass, turns_end, turns_none, if_passes, if_ends, for_is, statement_passes, statement_ends, one_passes, one_ends}
@@ -139,12 +139,16 @@ statement-returns-in-Met t c defined nested p level =
 pub turn-returns-in-Passed : goal.turn-returns-in-Passed
 turn-returns-in-Passed t c defined nested p level =
     seen_as c.body.result _ _
-    (one_passes (shape_of c.args.self.now.arrays.now c.args.self.now.tasks) (record { level = nested; variables = bindings_of c.args.trail.now; text = Turn }) _ _ _ _ _ (sym (ap step_by c.in-Passed.is) ∙ c.in_ok-passed.ensures defined nested p level))
+    (one_passes (shape_of c.args.self.now.arrays.now c.args.self.now.tasks) (record { level = nested; variables = bindings_of c.args.trail.now; text = Turn })
+    (in_order (copies defined (nested + 1) (view c.args.body.now) ((c.args.turn.name.now, c.args.turn.number) ∷ bindings_of c.args.trail.now)))
+    c.args.passed.entries c.in-Passed.passed.entries c.args.passed.counts c.in-Passed.passed.counts (sym (ap step_by c.in-Passed.is) ∙ c.in_ok-passed.ensures defined nested p level))
     (c.body.ensures defined (nested + 1) p (omega (arith, level)))
 
 pub turn-returns-in-Met : goal.turn-returns-in-Met
 turn-returns-in-Met t c defined nested p level =
-    one_ends (shape_of c.args.self.now.arrays.now c.args.self.now.tasks) (record { level = nested; variables = bindings_of c.args.trail.now; text = Turn }) _ _ _ _ _ (sym (ap step_by c.in-Met.is) ∙ c.in_ok-passed.ensures defined nested p level)
+    one_ends (shape_of c.args.self.now.arrays.now c.args.self.now.tasks) (record { level = nested; variables = bindings_of c.args.trail.now; text = Turn })
+    (in_order (copies defined (nested + 1) (view c.args.body.now) ((c.args.turn.name.now, c.args.turn.number) ∷ bindings_of c.args.trail.now)))
+    c.args.passed.entries c.in-Met.found.index c.args.passed.counts (why_by c.in-Met.found.why) (sym (ap step_by c.in-Met.is) ∙ c.in_ok-passed.ensures defined nested p level)
 
 pub turns-returns-in-Met : goal.turns-returns-in-Met
 turns-returns-in-Met t c defined nested p level =
