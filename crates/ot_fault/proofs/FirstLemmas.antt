@@ -135,8 +135,9 @@ entry_is shape nested level variables text t0 t1 t2 told counts own with_own is 
 pub entry_met : (told : Option Why) (n : ℕ) (rest : Walked) (why : Why) → Some why ≡ told → Met n why ≡ unless_told told n rest
 entry_met told n rest why is = rw (← is) refl
 
-pub entry_passed : (told : Option Why) (n m : ℕ) (counts : CodeTally) → None ≡ told → Passed m counts ≡ unless_told told n (Passed m counts)
-entry_passed told n m counts is = rw (← is) refl
+pub entry_passed : (told : Option Why) (n m next : ℕ) (more counts : CodeTally) → None ≡ told → m ≡ next → more ≡ counts
+    → Passed m more ≡ unless_told told n (Passed next counts)
+entry_passed told n m next more counts is one with_own = rw (← is, one, with_own) refl
 
 -- ---- the entries are the spots of `ot_place`
 

@@ -129,7 +129,7 @@ pub for_is : (shape : Arrays) (defined : Profile) (level : ℕ) (variables : Bin
 for_is shape defined level variables text a b c d name from behind n counts is named first last =
     let body : ℕ → Copies = λ k. copies defined (level + 1) (view d.now) ((letters (view a.now), k) ∷ variables) in
     let all : List Placed = in_order (turns level variables body (size variables (view b.now)) (size variables (view c.now) - size variables (view b.now))) in
-    rw (is, named, first, last) (ap {y = all} (walk shape n counts) (append-nil all))
+    rw (is, named, first, last) (ap (walk shape n counts) {y = all} (append-nil all))
 
 -- a statement, and then its bodies
 statement-is : (defined : Profile) (level : ℕ) (variables : Bindings) (d : Data) (text : CodeText) → text_by defined text ≡ text_at defined d
@@ -160,5 +160,5 @@ pub one_passes : (shape : Arrays) (p : Placed) (ps : List Placed) (n m : ℕ) (c
 one_passes shape p ps n m counts more h = passed shape n m counts more (p ∷ []) (ps ++ []) h ∙ ap (walk shape m more) (append-nil ps)
 
 pub one_ends : (shape : Arrays) (p : Placed) (ps : List Placed) (n m : ℕ) (counts : CodeTally) (why : Why) → Met m why ≡ walk shape n counts (p ∷ [])
-    → Met m why ≡ walk shape n counts (p ∷ ps)
-one_ends shape p ps n m counts why h = ended shape n m counts why (p ∷ []) ps h
+    → Met m why ≡ walk shape n counts (p ∷ (ps ++ []))
+one_ends shape p ps n m counts why h = ended shape n m counts why (p ∷ []) (ps ++ []) h
