@@ -1,14 +1,13 @@
 -- The first fault of an entry, and the first entry that has one.
-use Rattle.std.proofs.Common.{◌≡◌, ℕ, ◌+◌, ◌<◌, ◌≤◌, Bool, true, false, cond, List, [], ◌∷◌, ◌++◌, map, length, Option, Some, None, Bor, refl, sym, ap, ◌∙◌, arith, inl, inr, append-nil}
-use Rattle.std.specs.Prelude.{nat_lt, option_map, unwrap_or}
+use Rattle.std.proofs.Common.{◌≡◌, ℕ, ◌+◌, ◌≤◌, Bool, true, false, cond, List, [], ◌∷◌, ◌++◌, map, length, Option, Some, None, Bor, refl, sym, ap, ◌∙◌, arith, inl, inr}
+use Rattle.std.specs.Prelude.{option_map}
 use Rattle.std.specs.Option.{option_or, option_to_list}
-use Rattle.std.proofs.lemmas.Bool.{cases_lt, lt-ltb, le-ltb}
+use Rattle.std.proofs.lemmas.Bool.{cases_lt, le-ltb}
 use Rattle.std.proofs.lemmas.List.{map-append}
 use Rattle.serde_json.specs.Data.{Data}
 use Rattle.serde_json.specs.View.{view}
 use Rattle.serde_json.specs.declared.value.Value.{Value}
 use Rattle.ot_model.specs.Shapes.{Arrays}
-use Rattle.ot_model.specs.declared.expr.Cell.{Cell}
 use Rattle.ot_program.specs.Copies.{Text, SetText, AddText, FoldText, IfText, ForText, Turn, TaskText, WaitText, WaitForText, GroupText, GroupByText, ProgramText, NoForm, Placed, Copy, At, Copies, Done, Then, in_copy, in_order}
 use Rattle.ot_program.specs.Limits.{Tally, total, plus, own_tally}
 use Rattle.ot_program.specs.Meanings.{Bindings}
@@ -23,8 +22,8 @@ use Rattle.ot_fault.specs.Counting.{counts_of, counts_with, past_limits}
 use Rattle.ot_fault.specs.Entries.{mixed_why, mixed_whys, whys_at, whys_behind, first_behind, first_among}
 use Rattle.ot_mixed.specs.Mixed.{mixed_of}
 use Rattle.ot_fault.specs.Walk.{Walked, Passed, Met, unless_told, counted, walk}
-use Rattle.ot_fault.specs.Why.{Why, Form, NoStatement, Unbound, TooGreat, NotExact, Unknown, NoCell, NoCells, Empty, Nested, Deep, TooMany, TooManyTasks, Mixed, long, short, earlier, noted, after}
-use Rattle.ot_fault.specs.Whys.{unless, nested, text_whys}
+use Rattle.ot_fault.specs.Why.{Why, Form, NoStatement, Unbound, TooGreat, NotExact, Unknown, NoCell, NoCells, Empty, Nested, Deep, TooMany, TooManyTasks, Mixed, long, short, earlier, after}
+use Rattle.ot_fault.specs.Whys.{nested, text_whys}
 use Rattle.ot_fault.specs.declared.own.Tally.{Tally as CodeTally}
 use Rattle.ot_fault.proofs.AfterLemmas.{after-append}
 

@@ -1,4 +1,4 @@
-use Rattle.std.proofs.Common.{◌≡◌, ◌∙◌, List, [], Option, Some, map, refl, sym, ap, arith}
+use Rattle.std.proofs.Common.{◌∙◌, List, Some, map, sym, ap, arith}
 use Rattle.serde_json.specs.View.{view}
 use Rattle.ot_place.specs.Spots.{Spot}
 use Rattle.ot_place.proofs.PlaceLemmas.{no_program}

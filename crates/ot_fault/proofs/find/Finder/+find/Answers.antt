@@ -8,7 +8,7 @@ use Rattle.ot_place.specs.Texts.{depth_of}
 use Rattle.ot_place.proofs.CopyLemmas.{no_list, a_list, item_depth}
 use Rattle.ot_fault.specs.First.{shape_of, why_by}
 use Rattle.ot_fault.specs.Why.{short}
-use Rattle.ot_fault.specs.Walk.{step_by, walk_on}
+use Rattle.ot_fault.specs.Walk.{step_by}
 use Rattle.ot_fault.proofs.WalkLemmas.{seen_as, items_pass, items_end, items_none, turns_pass, turns_end, turns_none, if_passes, if_ends, for_is, statement_passes, statement_ends, one_passes, one_ends}
 use Rattle.ot_fault.proofs.find.Finder.+find.Goals as goal
 

@@ -1,8 +1,6 @@
-use Rattle.std.proofs.Common.{◌≡◌, ◌∙◌, [], sym, ap, refl}
+use Rattle.std.proofs.Common.{◌∙◌, sym, ap, refl}
 use Rattle.std.specs.Prelude.{option_map}
-use Rattle.serde_json.specs.View.{view}
 use Rattle.ot_place.specs.Seeking.{bindings_of}
-use Rattle.ot_place.specs.Texts.{text_by}
 use Rattle.ot_fault.specs.First.{shape_of}
 use Rattle.ot_mixed.specs.Mixed.{named_by}
 use Rattle.ot_fault.proofs.FirstLemmas.{mixed_found, mixed_none}

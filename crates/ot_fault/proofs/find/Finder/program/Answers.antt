@@ -1,4 +1,4 @@
-use Rattle.std.proofs.Common.{◌≡◌, ◌∙◌, ◌∷◌, [], sym, ap, subst, arith}
+use Rattle.std.proofs.Common.{◌≡◌, ◌∙◌, [], sym, ap, subst, arith}
 use Rattle.std.specs.Prelude.{IfOk}
 use Rattle.serde_json.specs.View.{view}
 use Rattle.ot_program.specs.Copies.{ProgramText, copies, in_copy, in_order}

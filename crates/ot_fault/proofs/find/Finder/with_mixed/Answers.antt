@@ -1,4 +1,4 @@
-use Rattle.std.proofs.Common.{◌∙◌, sym, ap, refl}
+use Rattle.std.proofs.Common.{ap}
 use Rattle.std.specs.Prelude.{option_map}
 use Rattle.ot_place.specs.Seeking.{bindings_of}
 use Rattle.ot_place.specs.Texts.{text_by}
