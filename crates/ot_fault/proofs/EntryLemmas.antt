@@ -14,7 +14,7 @@ use Rattle.ot_place.proofs.PlaceLemmas.{a_program}
 use Rattle.ot_fault.specs.Counting.{counts_of}
 use Rattle.ot_fault.specs.Entries.{first_among, first_fault}
 use Rattle.ot_fault.specs.Walk.{Walked, walk}
-use Rattle.ot_fault.proofs.FirstLemmas.{placed_of, met_in, first_walked, none_among}
+use Rattle.ot_fault.proofs.FirstLemmas.{placed_of, met_in, first_walked}
 
 pub no_request : (shape : Arrays) (vs : List Value) → length vs ≢ 2 → first_fault shape (array (items_view vs)) ≡ None
 no_request shape (a ∷ b ∷ []) other = absurd (other refl)
@@ -34,9 +34,3 @@ pub program_walked : (shape : Arrays) (program : Data) (vs : List Value) (t a b 
     → met_in w ≡ first_among shape program (map placed_of (text_spots (array (items_view vs))))
 program_walked shape program vs t a b profile w three p q r named is =
     rw (a_program vs t a b three p q r) (first_walked shape program (view t) (view a) (view b) profile w named is)
-
-pub program_unnamed : (shape : Arrays) (program : Data) (vs : List Value) (t a b : Value) → length vs ≡ 3
-    → t ≡ get_or vs 0 t → a ≡ get_or vs 1 a → b ≡ get_or vs 2 b → profile_of (view t) ≡ None
-    → first_among shape program [] ≡ first_among shape program (map placed_of (text_spots (array (items_view vs))))
-program_unnamed shape program vs t a b three p q r named =
-    rw (a_program vs t a b three p q r) (sym (none_among shape program (view t) (view a) (view b) named))
