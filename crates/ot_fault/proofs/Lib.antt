@@ -4,3 +4,7 @@ pub mod PartLemmas
 pub mod LoopLemmas
 pub mod ClauseLemmas
 pub mod RefusalLemmas
+pub mod EntryLemmas
+pub mod WalkLemmas
+pub mod FirstLemmas
+pub mod LawLemmas

@@ -1,41 +1,48 @@
 -- The faults of parts, each with what is compared, have the refusals that `ot_program`'s faults of these parts are.
-use Rattle.std.proofs.Common.{◌≡◌, ℕ, ◌+◌, Bool, true, false, cond, ◌&&◌, ◌||◌, List, [], ◌∷◌, ◌++◌, map, Option, Some, None, codes, refl, ◌∙◌, append_assoc, append-nil}
-use Rattle.std.specs.Prelude.{◌==◌, not, nat_lt, nat_le, flat_map, is_some, option_map, unwrap_or}
+use Rattle.std.proofs.Common.{◌≡◌, ℕ, ◌+◌, Bool, true, false, cond, ◌&&◌, ◌||◌, List, [], ◌∷◌, ◌++◌, map, Option, Some, None, Bor, codes, refl, sym, ap, ◌∙◌, append_assoc, append-nil}
+use Rattle.std.specs.Prelude.{◌==◌, not, nat_lt, nat_le, flat_map, is_some, option_map, find, unwrap_or}
+use Rattle.std.specs.Option.{option_to_list}
 use Rattle.std.specs.List.{list_any}
 use Rattle.std.proofs.lemmas.List.{map-append}
 use Rattle.serde_json.specs.Data.{Data, number, string, array, no_items, item}
 use Rattle.serde_json.specs.View.{view}
+use Rattle.serde_json.specs.declared.value.Value.{Value}
 use Rattle.ot_model.specs.Shapes.{Arrays}
 use Rattle.ot_model.specs.declared.expr.Op.TheVariants.{Plus}
 use Rattle.ot_model.specs.declared.fold.Fold.{Fold}
 use Rattle.ot_model.specs.declared.fold.Fold.TheVariants as by
 use Rattle.ot_model.specs.declared.stmt.Mode.{Mode}
 use Rattle.ot_model.specs.declared.stmt.Mode.TheVariants.{Reads, Writes, Folds}
+use Rattle.ot_model.specs.declared.expr.Cell.{Cell}
+use Rattle.ot_program.specs.Copies.{Text, SetText, AddText, FoldText, IfText, ForText, Turn, TaskText, WaitText, WaitForText, GroupText, GroupByText, ProgramText, NoForm as NoStatementForm}
+use Rattle.ot_program.specs.Declarations.{named_cells, is_mixed}
 use Rattle.ot_program.specs.Faults as told
 use Rattle.ot_program.specs.Faults.{size_faults, value_faults}
 use Rattle.ot_program.specs.Limits.{max_nesting, max_depth, size_depth, depth_of}
-use Rattle.ot_program.specs.Meanings.{items, letters, Bindings, bound, sign_of, in_range, exact, size, is_called, length_of, op_of, fold_of, value, mode_of, red_of}
+use Rattle.ot_program.specs.Meanings.{items, letters, Bindings, bound, sign_of, in_range, exact, size, is_called, length_of, op_of, fold_of, value, mode_of, red_of, clause}
 use Rattle.ot_program.specs.Names.{whole_number, is_name, is_word}
 use Rattle.ot_program.specs.Profiles.{is_one, profile_of}
 use Rattle.ot_program.specs.declared.fault.Refusal.{Refusal}
-use Rattle.ot_program.specs.declared.fault.Refusal.TheVariants.{Form}
+use Rattle.ot_program.specs.declared.fault.Refusal.TheVariants.{Form, MixedReduction}
 use Rattle.ot_place.specs.Texts.{Profile, text_by}
 use Rattle.ot_place.specs.declared.text.Text.{Text as CodeText}
 use Rattle.ot_place.specs.declared.text.Text.TheVariants as t
+use Rattle.ot_mixed.specs.Mixed.{first_mixed, named, mixed_of, faults_of}
+use Rattle.ot_fault.specs.Entries.{mixed_why, mixed_whys}
 use Rattle.ot_fault.specs.Why.{Why, Form as NoForm, Unbound, TooGreat, NotExact, Unknown, NoCell, NoCells, Empty, Nested, Deep, refusal_of, short, long}
 use Rattle.ot_fault.specs.declared.why.Wanted.TheVariants as wanted
 use Rattle.ot_fault.specs.Whys.{unless, no_list, list_whys, deep, name_whys, variable_whys, size_whys, array_whys, indexed_whys, cell_whys, section_of_whys, section_whys, value_whys, expression_whys, target_whys, fold_whys, is_depend, is_mode, red_whys, clause_whys, wait_clause_whys, nested, group_whys, text_whys}
-use Rattle.ot_fault.specs.Laws.{mixed_faults}
+use Rattle.ot_fault.specs.Laws.{HasProfile}
 use Rattle.ot_fault.proofs.ClauseLemmas.{by_profile}
 
 -- they have these refusals
 abbrev pub Are : List Why → List Refusal → Type 0
 Are whys faults = map refusal_of whys ≡ faults
 
-two_are : (vs ws : List Why) (fs gs : List Refusal) → Are vs fs → Are ws gs → Are (vs ++ ws) (fs ++ gs)
+pub two_are : (vs ws : List Why) (fs gs : List Refusal) → Are vs fs → Are ws gs → Are (vs ++ ws) (fs ++ gs)
 two_are vs ws fs gs h k = map-append refusal_of vs ws ∙ rw (h, k) refl
 
-unless_is : (test : Bool) (why : Why) → Are (unless test why) (told.unless test (refusal_of why))
+pub unless_is : (test : Bool) (why : Why) → Are (unless test why) (told.unless test (refusal_of why))
 unless_is true why = refl
 unless_is false why = refl
 
@@ -238,64 +245,107 @@ group_is shape level variables a b =
     (two_are sections (no_list b) _ _ (each_are (section_whys shape variables) (told.section_faults shape variables) (section_is shape variables) a) (list_is b))
     (nested_is level)
 
-alone : (ws : List Why) (fs : List Refusal) → Are ws fs → map refusal_of ws ++ [] ≡ fs
-alone ws fs h = append-nil (map refusal_of ws) ∙ h
+alone : (ws : List Why) (fs : List Refusal) → Are ws fs → Are (ws ++ []) fs
+alone ws fs h = ap (map refusal_of) (append-nil ws) ∙ h
 
-behind : (ws : List Why) (fs gs hs : List Refusal) → Are ws (fs ++ gs) → map refusal_of ws ++ hs ≡ fs ++ (gs ++ hs)
-behind ws fs gs hs h = rw h (append_assoc fs gs hs)
+behind : (ws vs : List Why) (fs gs hs : List Refusal) → Are ws (fs ++ gs) → Are vs hs → Are (ws ++ vs) (fs ++ (gs ++ hs))
+behind ws vs fs gs hs h k = two_are ws vs (fs ++ gs) hs h k ∙ append_assoc fs gs hs
 
-pub text_is : (shape : Arrays) (profile : Profile) (w : Data) → profile_of w ≡ Some profile → (level : ℕ) (variables : Bindings) (text : CodeText)
-    → map refusal_of (text_whys shape level variables (text_by profile text)) ++ mixed_faults shape variables (text_by profile text)
-    ≡ told.text_faults shape level variables (text_by profile text)
-text_is shape profile w named level variables (t.Set a b) =
-    alone (target_whys shape variables (view a.now) (view b.now)) _ (target_is shape variables (view a.now) (view b.now))
-text_is shape profile w named level variables (t.Add a b) =
-    alone (target_whys shape variables (view a.now) (view b.now)) _ (target_is shape variables (view a.now) (view b.now))
-text_is shape profile w named level variables (t.Fold op a b) =
-    alone (fold_whys (view op.now) ++ target_whys shape variables (view a.now) (view b.now)) _
-    (two_are (fold_whys (view op.now)) (target_whys shape variables (view a.now) (view b.now)) _ _ (fold_is (view op.now))
-    (target_is shape variables (view a.now) (view b.now)))
-text_is shape profile w named level variables (t.If a b c) =
-    let value = expression_whys shape variables (view a.now) in
-    let one = no_list (view b.now) in
-    let two = no_list (view c.now) in
+found_are : (p : Cell → Bool) (why : Cell → Why) (cs : List Cell) → ((c : Cell) → refusal_of (why c) ≡ MixedReduction)
+    → Are (option_to_list (option_map why (find p cs))) (told.unless (not (list_any p cs)) MixedReduction)
+found_are p why [] told_as = refl
+found_are p why (c ∷ cs) told_as = by (p c) (found_are p why cs told_as)
+  where
+    by : (b : Bool) → Are (option_to_list (option_map why (find p cs))) (told.unless (not (list_any p cs)) MixedReduction)
+        → Are (option_to_list (option_map why (cond b (Some c) (find p cs)))) (told.unless (not (b || list_any p cs)) MixedReduction)
+    by true rest = ap (λ (r : Refusal). r ∷ []) (told_as c)
+    by false rest = rest
+
+map_map : (f : Cell → List ℕ × ℕ) (g : List ℕ × ℕ → Why) (o : Option Cell) → option_map g (option_map f o) ≡ option_map (λ c. g (f c)) o
+map_map f g None = refl
+map_map f g (Some c) = refl
+
+mixed_are : (shape : Arrays) (profile : Profile) (variables : Bindings) (a : Data)
+    → Are (option_to_list (option_map mixed_why (mixed_of shape profile variables a))) (told.mixed (map (clause shape profile variables) (items a)))
+mixed_are shape profile variables a =
+    let clauses = map (clause shape profile variables) (items a) in
+    ap (λ (o : Option Why). map refusal_of (option_to_list o)) (map_map (named shape) mixed_why (first_mixed clauses))
+    ∙ found_are (is_mixed clauses) (λ c. mixed_why (named shape c)) (named_cells clauses) (λ c. refl)
+
+pub text_is : (shape : Arrays) (level : ℕ) (variables : Bindings) (text : Text) → HasProfile text
+    → Are (text_whys shape level variables text ++ mixed_whys shape variables text) (told.text_faults shape level variables text)
+text_is shape level variables (SetText a b) h =
+    alone (target_whys shape variables a b) _ (target_is shape variables a b)
+text_is shape level variables (AddText a b) h =
+    alone (target_whys shape variables a b) _ (target_is shape variables a b)
+text_is shape level variables (FoldText op a b) h =
+    alone (fold_whys op ++ target_whys shape variables a b) _
+    (two_are (fold_whys op) (target_whys shape variables a b) _ _ (fold_is op)
+    (target_is shape variables a b))
+text_is shape level variables (IfText a b c) h =
+    let value = expression_whys shape variables a in
+    let one = no_list b in
+    let two = no_list c in
     alone ((value ++ (one ++ two)) ++ nested level) _
     (two_are (value ++ (one ++ two)) (nested level) _ _
-    (two_are value (one ++ two) _ _ (expression_is shape variables (view a.now))
-    (two_are one two _ _ (list_is (view b.now)) (list_is (view c.now)))) (nested_is level))
-text_is shape profile w named level variables (t.For a b c d) =
-    let name = name_whys (view a.now) in
-    let from = size_whys variables (view b.now) in
-    let behind = size_whys variables (view c.now) in
-    let body = no_list (view d.now) in
-    let one = deep (view b.now) (size_depth (view b.now)) in
-    let two = deep (view c.now) (size_depth (view c.now)) in
+    (two_are value (one ++ two) _ _ (expression_is shape variables a)
+    (two_are one two _ _ (list_is b) (list_is c))) (nested_is level))
+text_is shape level variables (ForText a b c d) h =
+    let name = name_whys a in
+    let from = size_whys variables b in
+    let behind = size_whys variables c in
+    let body = no_list d in
+    let one = deep b (size_depth b) in
+    let two = deep c (size_depth c) in
     alone ((name ++ ((from ++ behind) ++ body)) ++ (nested level ++ (one ++ two))) _
     (two_are (name ++ ((from ++ behind) ++ body)) (nested level ++ (one ++ two)) _ _
-    (two_are name ((from ++ behind) ++ body) _ _ (name_is (view a.now))
+    (two_are name ((from ++ behind) ++ body) _ _ (name_is a)
     (two_are (from ++ behind) body _ _
-    (two_are from behind _ _ (size_is variables (view b.now)) (size_is variables (view c.now))) (list_is (view d.now))))
+    (two_are from behind _ _ (size_is variables b) (size_is variables c)) (list_is d)))
     (two_are (nested level) (one ++ two) _ _ (nested_is level)
-    (two_are one two _ _ (deep_is (view b.now) (size_depth (view b.now))) (deep_is (view c.now) (size_depth (view c.now))))))
-text_is shape profile w named level variables t.Turn = refl
-text_is shape profile w named level variables (t.Task a b) =
-    let clauses = list_whys (clause_whys shape profile variables) (view a.now) in
-    behind ((clauses ++ no_list (view b.now)) ++ nested level)
-    (told.list_faults (told.clause_faults shape profile variables) (view a.now) ++ told.no_list (view b.now)) (told.nested level) _
-    (two_are (clauses ++ no_list (view b.now)) (nested level) _ _
-    (two_are clauses (no_list (view b.now)) _ _
-    (each_are (clause_whys shape profile variables) (told.clause_faults shape profile variables) (clause_is shape profile w named variables) (view a.now))
-    (list_is (view b.now))) (nested_is level))
-text_is shape profile w named level variables t.Wait = refl
-text_is shape profile w named level variables (t.WaitFor a) =
-    alone (list_whys (wait_clause_whys shape variables) (view a.now)) _
-    (each_are (wait_clause_whys shape variables) (told.wait_clause_faults shape variables) (wait_clause_is shape variables) (view a.now))
-text_is shape profile w named level variables (t.Group a b) =
-    alone (group_whys shape level variables (view a.now) (view b.now)) _ (group_is shape level variables (view a.now) (view b.now))
-text_is shape profile w named level variables (t.GroupBy op a b) =
-    alone (fold_whys (view op.now) ++ group_whys shape level variables (view a.now) (view b.now)) _
-    (two_are (fold_whys (view op.now)) (group_whys shape level variables (view a.now) (view b.now)) _ _ (fold_is (view op.now))
-    (group_is shape level variables (view a.now) (view b.now)))
-text_is shape profile w named level variables (t.Program a b) =
-    alone (group_whys shape level variables (view a.now) (view b.now)) _ (group_is shape level variables (view a.now) (view b.now))
-text_is shape profile w named level variables t.None = refl
+    (two_are one two _ _ (deep_is b (size_depth b)) (deep_is c (size_depth c)))))
+text_is shape level variables Turn h = refl
+text_is shape level variables (TaskText profile a b) h =
+    let clauses = list_whys (clause_whys shape profile variables) a in
+    behind ((clauses ++ no_list b) ++ nested level) (option_to_list (option_map mixed_why (mixed_of shape profile variables a)))
+    (told.list_faults (told.clause_faults shape profile variables) a ++ told.no_list b) (told.nested level) _
+    (two_are (clauses ++ no_list b) (nested level) _ _
+    (two_are clauses (no_list b) _ _
+    (each_are (clause_whys shape profile variables) (told.clause_faults shape profile variables) (clause_is shape profile h.0 h.1 variables) a)
+    (list_is b)) (nested_is level)) (mixed_are shape profile variables a)
+text_is shape level variables WaitText h = refl
+text_is shape level variables (WaitForText a) h =
+    alone (list_whys (wait_clause_whys shape variables) a) _
+    (each_are (wait_clause_whys shape variables) (told.wait_clause_faults shape variables) (wait_clause_is shape variables) a)
+text_is shape level variables (GroupText a b) h =
+    alone (group_whys shape level variables a b) _ (group_is shape level variables a b)
+text_is shape level variables (GroupByText op a b) h =
+    alone (fold_whys op ++ group_whys shape level variables a b) _
+    (two_are (fold_whys op) (group_whys shape level variables a b) _ _ (fold_is op)
+    (group_is shape level variables a b))
+text_is shape level variables (ProgramText a b) h =
+    alone (group_whys shape level variables a b) _ (group_is shape level variables a b)
+text_is shape level variables NoStatementForm h = refl
+
+none_first : (vs ws : List Why) → vs ++ ws ≡ [] → vs ≡ []
+none_first [] ws h = refl
+none_first (v ∷ vs) ws h = absurd cc
+
+none_second : (vs ws : List Why) → vs ++ ws ≡ [] → ws ≡ []
+none_second [] ws h = h
+none_second (v ∷ vs) ws h = absurd cc
+
+-- the clauses of a task without a fault have none
+pub clauses_faultless : (shape : Arrays) (profile : Profile) (w : Data) → profile_of w ≡ Some profile → (level : ℕ) (variables : Bindings) (a b : Data)
+    → text_whys shape level variables (TaskText profile a b) ≡ [] → faults_of shape profile variables a ≡ []
+clauses_faultless shape profile w named level variables a b h =
+    let clauses = list_whys (clause_whys shape profile variables) a in
+    let whys = flat_map (clause_whys shape profile variables) (items a) in
+    let none : whys ≡ [] = none_second (no_list a) whys (none_first clauses (no_list b) (none_first (clauses ++ no_list b) (nested level) h)) in
+    sym (flat_are (clause_whys shape profile variables) (told.clause_faults shape profile variables) (clause_is shape profile w named variables) (items a))
+    ∙ ap (map refusal_of) none
+
+pub task_faultless : (shape : Arrays) (profile : Profile) (w : Data) → profile_of w ≡ Some profile → (level : ℕ) (variables : Bindings) (text : CodeText) (a b : Bor Value)
+    → text ≡ t.Task a b → text_whys shape level variables (text_by profile text) ≡ [] → faults_of shape profile variables (view a.now) ≡ []
+task_faultless shape profile w named level variables text a b is h =
+    clauses_faultless shape profile w named level variables (view a.now) (view b.now) (rw is at h)

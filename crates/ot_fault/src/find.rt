@@ -1,13 +1,25 @@
-//! The first statement of a program that has a fault.
-ghost use Rattle.std.specs.Prelude.{◌≡◌};
-ghost use Rattle.ot_fault.specs.Why.{after};
-ghost use Rattle.ot_fault.specs.First.{told_by};
-ghost use Rattle.ot_fault.specs.Counting.{more_than, past_limits};
+//! The first entry of a program that has a fault.
+ghost use Rattle.std.specs.Prelude.{◌≡◌, ℕ, ◌+◌, ◌-◌, [], ◌∷◌, ◌++◌, None, IfOk, option_map, map};
+ghost use Rattle.serde_json.specs.Data.{array};
+ghost use Rattle.serde_json.specs.View.{view, items_view};
+ghost use Rattle.ot_program.specs.Copies.{copies, copies_of, copy, turns as each_turn, at, Done, Turn as OneTurn, in_order, in_copy};
+ghost use Rattle.ot_program.specs.Limits.{total};
+ghost use Rattle.ot_program.specs.Programs.{program_copy};
+ghost use Rattle.ot_place.specs.Seeking.{bindings_of};
+ghost use Rattle.ot_place.specs.Spots.{text_spots};
+ghost use Rattle.ot_place.specs.Texts.{Profile as Defined, text_by};
+ghost use Rattle.ot_fault.specs.Why.{Form, short, after};
+ghost use Rattle.ot_fault.specs.declared.why.Wanted.TheVariants.{Program};
+ghost use Rattle.ot_fault.specs.Whys.{text_whys};
+ghost use Rattle.ot_fault.specs.First.{IsProfile, why_by, told_by, shape_of};
+ghost use Rattle.ot_fault.specs.Counting.{counts_of, more_than, past_limits};
+ghost use Rattle.ot_fault.specs.Entries.{mixed_whys, first_among, first_fault};
+ghost use Rattle.ot_fault.specs.Walk.{walk, step_by, found_by, walk_on, in_bodies};
 
 use crate::look::Look;
-use crate::mixed::mixed_in;
 use crate::own::Tally;
 use crate::why::{Count, First, Wanted, Why};
+use ot_mixed::mixed_in;
 use ot_model::ArrayShape;
 use ot_place::{Profile, Text, Trail, Turn, letters, read_profile, size_of, text_of};
 use serde_json::Value;
@@ -35,45 +47,101 @@ pub fn first_fault<'a>(
     request: &'a Value,
     arrays: &[ArrayShape],
     tasks: u32,
-) -> Result<Option<Found<'a>>, AllocError> {
-    let Value::Array(items) = request else {
+) -> Result<Option<Found<'a>>, AllocError>
+    ensures { IfOk result (λ found. option_map found_by found ≡ first_fault (shape_of arrays.now tasks) (view request.now)) }
+{
+    match request {
+        Value::Array(items) => in_request(alloc, items, arrays, tasks),
+        _ => Ok(None),
+    }
+}
+
+#[tactic(auto, using(crate::proofs::EntryLemmas::requests))]
+fn in_request<'a>(
+    alloc: Global,
+    items: &'a [Value],
+    arrays: &[ArrayShape],
+    tasks: u32,
+) -> Result<Option<Found<'a>>, AllocError>
+    ensures { IfOk result (λ found. option_map found_by found ≡ first_fault (shape_of arrays.now tasks) (array (items_view items.now))) }
+{
+    if items.len() != 2 {
         return Ok(None);
-    };
-    let [_, program] = items.as_slice() else {
-        return Ok(None);
-    };
-    if let Value::Array(parts) = program {
-        if let [tag, shows, body] = parts.as_slice() {
-            if let Some(profile) = read_profile(tag) {
+    }
+    match items {
+        [_, program] => in_program(alloc, program, arrays, tasks),
+        _ => unreachable!(),
+    }
+}
+
+fn in_program<'a>(
+    alloc: Global,
+    program: &'a Value,
+    arrays: &[ArrayShape],
+    tasks: u32,
+) -> Result<Option<Found<'a>>, AllocError>
+    ensures { IfOk result (λ found. option_map found_by found
+        ≡ first_among (shape_of arrays.now tasks) (view program.now) (map (λ s. s.placed) (text_spots (view program.now)))) }
+{
+    match program {
+        Value::Array(parts) => in_parts(alloc, program, parts, arrays, tasks),
+        _ => Ok(Some(no_program(program))),
+    }
+}
+
+fn in_parts<'a>(
+    alloc: Global,
+    program: &'a Value,
+    parts: &'a [Value],
+    arrays: &[ArrayShape],
+    tasks: u32,
+) -> Result<Option<Found<'a>>, AllocError>
+    ensures { IfOk result (λ found. option_map found_by found
+        ≡ first_among (shape_of arrays.now tasks) (view program.now) (map (λ s. s.placed) (text_spots (array (items_view parts.now))))) }
+{
+    if parts.len() != 3 {
+        return Ok(Some(no_program(program)));
+    }
+    match parts {
+        [tag, shows, body] => match read_profile(tag) {
+            Some(profile) => {
                 let finder = Finder {
                     alloc,
                     arrays,
                     tasks,
                     profile,
                 };
-                return match finder.program(shows, body)? {
+                match finder.program(shows, body)? {
                     Step::Passed(_) => Ok(None),
                     Step::Met(found) => Ok(Some(found)),
-                };
+                }
             }
-        }
+            None => Ok(Some(no_program(program))),
+        },
+        _ => unreachable!(),
     }
-    Ok(Some(Found {
+}
+
+/// That a program is of no form.
+fn no_program(program: &Value) -> Found<'_>
+    ensures { found_by result ≡ (0, Form (view program.now) Program) }
+{
+    Found {
         index: 0,
         why: Why::Form(program, Wanted::Program),
-    }))
+    }
 }
 
 /// How many were passed without a fault, and what they count.
 #[derive(Clone, Copy, Debug)]
-struct Passed {
-    entries: u32,
-    counts: Tally,
+pub(crate) struct Passed {
+    pub(crate) entries: u32,
+    pub(crate) counts: Tally,
 }
 
 /// How far a walk came.
 #[derive(Clone, Copy, Debug)]
-enum Step<'a> {
+pub(crate) enum Step<'a> {
     /// There was no fault.
     Passed(Passed),
     /// It is at the first fault.
@@ -82,23 +150,27 @@ enum Step<'a> {
 
 /// A walk through a program's statements to the first that has a fault.
 #[derive(Clone, Copy)]
-struct Finder<'s> {
-    alloc: Global,
-    arrays: &'s [ArrayShape],
-    tasks: u32,
-    profile: Profile,
+pub(crate) struct Finder<'s> {
+    pub(crate) alloc: Global,
+    pub(crate) arrays: &'s [ArrayShape],
+    pub(crate) tasks: u32,
+    pub(crate) profile: Profile,
 }
 
 /// The turns of a loop.
 #[derive(Clone, Copy)]
-struct Turns<'a> {
-    variable: &'a str,
-    from: u64,
-    behind: u64,
+pub(crate) struct Turns<'a> {
+    pub(crate) variable: &'a str,
+    pub(crate) from: u64,
+    pub(crate) behind: u64,
 }
 
 impl Finder<'_> {
-    fn program<'a>(&self, shows: &'a Value, body: &'a Value) -> Result<Step<'a>, AllocError> {
+    fn program<'a>(&self, shows: &'a Value, body: &'a Value) -> Result<Step<'a>, AllocError>
+        ensures { (defined : Defined) → IsProfile self.now.profile defined → IfOk result (λ step. step_by step
+            ≡ walk (shape_of self.now.arrays.now self.now.tasks) 0 (counts_of (total (shape_of self.now.arrays.now self.now.tasks) []))
+            (in_copy (program_copy defined (view shows.now) (view body.now)))) }
+    {
         let root = Trail::Root;
         let passed = Passed {
             entries: 0,
@@ -118,7 +190,10 @@ impl Finder<'_> {
         trail: &Trail<'_, 'a>,
         level: u32,
         passed: Passed,
-    ) -> Result<Step<'a>, AllocError> {
+    ) -> Result<Step<'a>, AllocError>
+        ensures { (defined : Defined) (nested : ℕ) → IsProfile self.now.profile defined → level ≡ short nested → IfOk result (λ step. step_by step ≡ walk_on self.now passed
+            (in_order (copies defined nested (view body.now) (bindings_of trail.now)))) }
+    {
         match body {
             Value::Array(items) => self.items(items, &*trail, level, passed),
             _ => self.enter(Text::None, &*trail, level, passed),
@@ -132,7 +207,10 @@ impl Finder<'_> {
         trail: &Trail<'_, 'a>,
         level: u32,
         passed: Passed,
-    ) -> Result<Step<'a>, AllocError> {
+    ) -> Result<Step<'a>, AllocError>
+        ensures { (defined : Defined) (nested : ℕ) → IsProfile self.now.profile defined → level ≡ short nested → IfOk result (λ step. step_by step ≡ walk_on self.now passed
+            (in_order (copies_of defined nested (items_view items.now) (bindings_of trail.now)))) }
+    {
         let mut passed = passed;
         for item in items {
             match self.statement(item, &*trail, level, passed)? {
@@ -151,7 +229,10 @@ impl Finder<'_> {
         trail: &Trail<'_, 'a>,
         level: u32,
         passed: Passed,
-    ) -> Result<Step<'a>, AllocError> {
+    ) -> Result<Step<'a>, AllocError>
+        ensures { (defined : Defined) (nested : ℕ) → IsProfile self.now.profile defined → level ≡ short nested → IfOk result (λ step. step_by step ≡ walk_on self.now passed
+            (in_copy (copy defined nested (view statement.now) (bindings_of trail.now)))) }
+    {
         let text = text_of(self.profile, statement);
         match self.enter(text, &*trail, level, passed)? {
             Step::Passed(passed) => self.bodies(text, &*trail, level, passed),
@@ -167,7 +248,10 @@ impl Finder<'_> {
         trail: &Trail<'_, 'a>,
         level: u32,
         passed: Passed,
-    ) -> Result<Step<'a>, AllocError> {
+    ) -> Result<Step<'a>, AllocError>
+        ensures { (defined : Defined) (nested : ℕ) → IsProfile self.now.profile defined → level ≡ short nested → IfOk result (λ step. step_by step ≡ walk_on self.now passed
+            (in_bodies defined nested (bindings_of trail.now) (text_by defined text.entry))) }
+    {
         let inner = level.saturating_add(1);
         match text {
             Text::If(_, one, two) => match self.body(one, &*trail, inner, passed)? {
@@ -197,7 +281,12 @@ impl Finder<'_> {
         trail: &Trail<'_, 'a>,
         level: u32,
         passed: Passed,
-    ) -> Result<Step<'a>, AllocError> {
+    ) -> Result<Step<'a>, AllocError>
+        ensures { (defined : Defined) (nested : ℕ) → IsProfile self.now.profile defined → level ≡ short nested → IfOk result (λ step. step_by step ≡ walk_on self.now passed
+            (in_order (each_turn nested (bindings_of trail.now)
+            (λ n. copies defined (nested + 1) (view body.now) ((turns.entry.variable.now, n) ∷ bindings_of trail.now))
+            turns.entry.from (turns.entry.behind - turns.entry.from)))) }
+    {
         let mut passed = passed;
         for number in turns.from..turns.behind {
             let turn = Turn {
@@ -220,7 +309,11 @@ impl Finder<'_> {
         trail: &Trail<'_, 'a>,
         level: u32,
         passed: Passed,
-    ) -> Result<Step<'a>, AllocError> {
+    ) -> Result<Step<'a>, AllocError>
+        ensures { (defined : Defined) (nested : ℕ) → IsProfile self.now.profile defined → level ≡ short nested → IfOk result (λ step. step_by step ≡ walk_on self.now passed
+            (in_copy (at nested (bindings_of trail.now) OneTurn
+            (copies defined (nested + 1) (view body.now) ((turn.entry.name.now, turn.entry.number) ∷ bindings_of trail.now)) Done))) }
+    {
         match self.enter(Text::Turn, &*trail, level, passed)? {
             Step::Passed(passed) => {
                 let inner = Trail::Turn(turn, &*trail);
@@ -237,7 +330,10 @@ impl Finder<'_> {
         trail: &Trail<'_, 'a>,
         level: u32,
         passed: Passed,
-    ) -> Result<Step<'a>, AllocError> {
+    ) -> Result<Step<'a>, AllocError>
+        ensures { (defined : Defined) (nested : ℕ) → IsProfile self.now.profile defined → level ≡ short nested → IfOk result (λ step. step_by step ≡ walk_on self.now passed
+            (record { level = nested; variables = bindings_of trail.now; text = text_by defined text.entry } ∷ [])) }
+    {
         let look = Look {
             arrays: self.arrays,
             tasks: self.tasks,
@@ -247,23 +343,56 @@ impl Finder<'_> {
         let own = look.own_parts(&mut first, self.profile, level, text);
         let counts = passed.counts.plus(own);
         first.past_limits(counts, u64::from(self.tasks));
-        if first.why.is_none() {
-            if let Text::Task(clauses, _) = text {
-                if let Some((name, index)) = mixed_in(self.alloc, clauses, trail)? {
-                    first.note(Why::Mixed(name, index));
-                }
-            }
-        }
-        Ok(match first.why {
-            Some(why) => Step::Met(Found {
+        match self.with_mixed(first.why, text, trail)? {
+            Some(why) => Ok(Step::Met(Found {
                 index: passed.entries,
                 why,
-            }),
-            None => Step::Passed(Passed {
+            })),
+            None => Ok(Step::Passed(Passed {
                 entries: passed.entries.saturating_add(1),
                 counts,
-            }),
-        })
+            })),
+        }
+    }
+
+    /// What is told of an entry of which this is told so far.
+    fn with_mixed<'a>(
+        &self,
+        told: Option<Why<'a>>,
+        text: Text<'a>,
+        trail: &Trail<'_, 'a>,
+    ) -> Result<Option<Why<'a>>, AllocError>
+        ensures { (defined : Defined) (level : ℕ) → IsProfile self.now.profile defined
+            → (option_map why_by told.entry ≡ None → text_whys (shape_of self.now.arrays.now self.now.tasks) level (bindings_of trail.now) (text_by defined text.entry) ≡ [])
+            → IfOk result (λ why. option_map why_by why ≡ after (option_map why_by told.entry)
+            (mixed_whys (shape_of self.now.arrays.now self.now.tasks) (bindings_of trail.now) (text_by defined text.entry))) }
+    {
+        match told {
+            Some(why) => Ok(Some(why)),
+            None => self.mixed(text, trail),
+        }
+    }
+
+    /// Of a task without another fault, a cell that it declares under `red` and otherwise.
+    fn mixed<'a>(
+        &self,
+        text: Text<'a>,
+        trail: &Trail<'_, 'a>,
+    ) -> Result<Option<Why<'a>>, AllocError>
+        ensures { (defined : Defined) (level : ℕ) → IsProfile self.now.profile defined
+            → text_whys (shape_of self.now.arrays.now self.now.tasks) level (bindings_of trail.now) (text_by defined text.entry) ≡ []
+            → IfOk result (λ why. option_map why_by why
+            ≡ after None (mixed_whys (shape_of self.now.arrays.now self.now.tasks) (bindings_of trail.now) (text_by defined text.entry))) }
+    {
+        match text {
+            Text::Task(clauses, _) => {
+                match mixed_in(self.alloc, self.arrays, clauses, trail)? {
+                    Some((name, index)) => Ok(Some(Why::Mixed(name, index))),
+                    None => Ok(None),
+                }
+            }
+            _ => Ok(None),
+        }
     }
 }
 

@@ -4,7 +4,6 @@
 mod find;
 pub mod laws;
 mod look;
-mod mixed;
 mod own;
 mod why;
 

@@ -1,9 +1,15 @@
-use Rattle.std.proofs.Common.{◌≡◌, ◌∙◌, ◌+◌, ◌*◌, max, ap, arith}
+use Rattle.std.proofs.Common.{◌≡◌, ◌∙◌, ◌+◌, ◌*◌, ◌∷◌, max, sym, ap, arith}
 use Rattle.serde_json.specs.Data.{depth, items_depth}
 use Rattle.serde_json.specs.View.{view, items_view}
+use Rattle.ot_program.specs.Copies.{copies, in_order, Turn}
 use Rattle.ot_program.proofs.Seen.{array_seen}
+use Rattle.ot_place.specs.Seeking.{bindings_of}
 use Rattle.ot_place.specs.Texts.{depth_of}
-use Rattle.ot_place.proofs.CopyLemmas.{item_depth}
+use Rattle.ot_place.proofs.CopyLemmas.{no_list, a_list, item_depth}
+use Rattle.ot_fault.specs.First.{shape_of, why_by}
+use Rattle.ot_fault.specs.Why.{short}
+use Rattle.ot_fault.specs.Walk.{step_by}
+use Rattle.ot_fault.proofs.WalkLemmas.{seen_as, items_pass, items_end, items_none, turns_pass, turns_end, turns_none, if_passes, if_ends, for_is, statement_passes, statement_ends, one_passes, one_ends}
 use Rattle.ot_fault.proofs.find.Finder.+find.Goals as goal
 
 pub bodies-body-requires : goal.bodies-body-requires
@@ -70,3 +76,96 @@ pub turns-turn-requires : goal.turns-turn-requires
 turns-turn-requires t c =
     let m : 6 * depth (view c.args.body.now) + 2 ≡ t = c.decreases in
     (omega (arith, m), tt)
+
+pub bodies-returns-in-Passed : goal.bodies-returns-in-Passed
+bodies-returns-in-Passed t c defined nested p level =
+    let variables = bindings_of c.args.trail.now in
+    let inner : _ ≡ short (nested + 1) = omega (arith, level) in
+    seen_as c.body-in-Passed.result _ _
+    (if_passes (shape_of c.args.self.now.arrays.now c.args.self.now.tasks) defined nested variables c.args.text _ _ _ _ _ _ _ c.in-If.is
+    (sym (ap step_by c.in-Passed.is) ∙ c.in_ok-passed-in-If.ensures defined (nested + 1) p inner))
+    (c.body-in-Passed.ensures defined (nested + 1) p inner)
+
+pub bodies-returns-in-Met : goal.bodies-returns-in-Met
+bodies-returns-in-Met t c defined nested p level =
+    let variables = bindings_of c.args.trail.now in
+    if_ends (shape_of c.args.self.now.arrays.now c.args.self.now.tasks) defined nested variables c.args.text _ _ _ _ _ _ _ c.in-If.is
+    (sym (ap step_by c.in-Met.is) ∙ c.in_ok-passed-in-If.ensures defined (nested + 1) p (omega (arith, level)))
+
+pub bodies-returns-in-For : goal.bodies-returns-in-For
+bodies-returns-in-For t c defined nested p level =
+    seen_as c.turns.result _ _
+    (for_is (shape_of c.args.self.now.arrays.now c.args.self.now.tasks) defined nested (bindings_of c.args.trail.now) c.args.text _ _ _ _ _ _ _ _ _ c.in-For.is
+    c.letters.ensures c.size_of.ensures c.size_of-in-For.ensures)
+    (c.turns.ensures defined nested p level)
+
+pub body-returns-in-Array : goal.body-returns-in-Array
+body-returns-in-Array t c defined nested p level =
+    rw (array_seen _ _ _ c.in-Array.is c.deref.ensures.value, a_list defined nested c.deref.result.now (bindings_of c.args.trail.now)) (c.items.ensures defined nested p level)
+
+pub body-returns-in_default : goal.body-returns-in_default
+body-returns-in_default t c defined nested p level =
+    rw (no_list defined nested c.args.body.now (bindings_of c.args.trail.now) c.in_default.not-Array) (c.enter.ensures defined nested p level)
+
+pub items-returns-in-Met : goal.items-returns-in-Met
+items-returns-in-Met t c defined nested p level =
+    items_end (shape_of c.args.self.now.arrays.now c.args.self.now.tasks) defined nested (bindings_of c.args.trail.now) c.args.items.now _ _ _ _ _ _
+    c.loop-item-test.true c.item-item.is (sym (ap step_by c.in-Met.is) ∙ c.in_ok-more.ensures defined nested p level)
+    ∙ sym (c.loop-item.invariant defined nested p level)
+
+pub items-loop-item-preserved : goal.items-loop-item-preserved
+items-loop-item-preserved t c defined nested p level =
+    c.loop-item.invariant defined nested p level
+    ∙ items_pass (shape_of c.args.self.now.arrays.now c.args.self.now.tasks) defined nested (bindings_of c.args.trail.now) c.args.items.now _ _ _ _ _ _
+    c.loop-item-test.true c.item-item.is (sym (ap step_by c.in-Passed.is) ∙ c.in_ok-more.ensures defined nested p level)
+
+pub items-returns : goal.items-returns
+items-returns t c defined nested p level =
+    sym (c.loop-item.invariant defined nested p level
+    ∙ items_none (shape_of c.args.self.now.arrays.now c.args.self.now.tasks) defined nested (bindings_of c.args.trail.now) c.args.items.now _ _ _ c.loop-item-test.false)
+
+pub statement-returns-in-Passed : goal.statement-returns-in-Passed
+statement-returns-in-Passed t c defined nested p level =
+    seen_as c.bodies.result _ _
+    (statement_passes (shape_of c.args.self.now.arrays.now c.args.self.now.tasks) defined nested (bindings_of c.args.trail.now) (view c.args.statement.now) c.text_of-text.result _ _ _ _
+    (c.text_of-text.ensures.is defined p.0) (sym (ap step_by c.in-Passed.is) ∙ c.in_ok-passed.ensures defined nested p level))
+    (c.bodies.ensures defined nested p level)
+
+pub statement-returns-in-Met : goal.statement-returns-in-Met
+statement-returns-in-Met t c defined nested p level =
+    statement_ends (shape_of c.args.self.now.arrays.now c.args.self.now.tasks) defined nested (bindings_of c.args.trail.now) (view c.args.statement.now) c.text_of-text.result _ _ _ _
+    (c.text_of-text.ensures.is defined p.0) (sym (ap step_by c.in-Met.is) ∙ c.in_ok-passed.ensures defined nested p level)
+
+pub turn-returns-in-Passed : goal.turn-returns-in-Passed
+turn-returns-in-Passed t c defined nested p level =
+    seen_as c.body.result _ _
+    (one_passes (shape_of c.args.self.now.arrays.now c.args.self.now.tasks) (record { level = nested; variables = bindings_of c.args.trail.now; text = Turn })
+    (in_order (copies defined (nested + 1) (view c.args.body.now) ((c.args.turn.name.now, c.args.turn.number) ∷ bindings_of c.args.trail.now)))
+    c.args.passed.entries c.in-Passed.passed.entries c.args.passed.counts c.in-Passed.passed.counts (sym (ap step_by c.in-Passed.is) ∙ c.in_ok-passed.ensures defined nested p level))
+    (c.body.ensures defined (nested + 1) p (omega (arith, level)))
+
+pub turn-returns-in-Met : goal.turn-returns-in-Met
+turn-returns-in-Met t c defined nested p level =
+    one_ends (shape_of c.args.self.now.arrays.now c.args.self.now.tasks) (record { level = nested; variables = bindings_of c.args.trail.now; text = Turn })
+    (in_order (copies defined (nested + 1) (view c.args.body.now) ((c.args.turn.name.now, c.args.turn.number) ∷ bindings_of c.args.trail.now)))
+    c.args.passed.entries c.in-Met.found.index c.args.passed.counts (why_by c.in-Met.found.why) (sym (ap step_by c.in-Met.is) ∙ c.in_ok-passed.ensures defined nested p level)
+
+pub turns-returns-in-Met : goal.turns-returns-in-Met
+turns-returns-in-Met t c defined nested p level =
+    turns_end (shape_of c.args.self.now.arrays.now c.args.self.now.tasks) nested (bindings_of c.args.trail.now)
+    (λ n. copies defined (nested + 1) (view c.args.body.now) ((c.args.turns.variable.now, n) ∷ bindings_of c.args.trail.now)) _ _ _ _ _ _
+    c.loop-number-test.true (sym (ap step_by c.in-Met.is) ∙ c.in_ok-more.ensures defined nested p level)
+    ∙ sym (c.loop-number.invariant defined nested p level)
+
+pub turns-loop-number-preserved : goal.turns-loop-number-preserved
+turns-loop-number-preserved t c defined nested p level =
+    c.loop-number.invariant defined nested p level
+    ∙ turns_pass (shape_of c.args.self.now.arrays.now c.args.self.now.tasks) nested (bindings_of c.args.trail.now)
+    (λ n. copies defined (nested + 1) (view c.args.body.now) ((c.args.turns.variable.now, n) ∷ bindings_of c.args.trail.now)) _ _ _ _ _ _
+    c.loop-number-test.true (sym (ap step_by c.in-Passed.is) ∙ c.in_ok-more.ensures defined nested p level)
+
+pub turns-returns : goal.turns-returns
+turns-returns t c defined nested p level =
+    sym (c.loop-number.invariant defined nested p level
+    ∙ turns_none (shape_of c.args.self.now.arrays.now c.args.self.now.tasks) nested (bindings_of c.args.trail.now)
+    (λ n. copies defined (nested + 1) (view c.args.body.now) ((c.args.turns.variable.now, n) ∷ bindings_of c.args.trail.now)) _ _ _ _ c.loop-number-test.false)

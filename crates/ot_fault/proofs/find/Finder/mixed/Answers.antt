@@ -1,0 +1,22 @@
+use Rattle.std.proofs.Common.{◌∙◌, sym, ap, refl}
+use Rattle.std.specs.Prelude.{option_map}
+use Rattle.ot_place.specs.Seeking.{bindings_of}
+use Rattle.ot_fault.specs.First.{shape_of}
+use Rattle.ot_mixed.specs.Mixed.{named_by}
+use Rattle.ot_fault.proofs.FirstLemmas.{mixed_found, mixed_none}
+use Rattle.ot_fault.proofs.RefusalLemmas.{task_faultless}
+use Rattle.ot_fault.proofs.find.Finder.mixed.Goals as goal
+
+pub returns-in-Some : goal.returns-in-Some
+returns-in-Some c defined level p none =
+    let shape = (shape_of c.args.self.now.arrays.now c.args.self.now.tasks) in
+    let variables = bindings_of c.args.trail.now in
+    mixed_found shape defined variables c.args.text _ _ _ c.in-Task.is
+    (sym (ap (option_map named_by) c.in-Some.is) ∙ c.in_ok-name-in-Task.ensures shape defined p.1.0 refl p.1.1 (task_faultless shape defined p.1.0 p.1.1 level variables c.args.text _ _ c.in-Task.is none))
+
+pub returns-in-None : goal.returns-in-None
+returns-in-None c defined level p none =
+    let shape = (shape_of c.args.self.now.arrays.now c.args.self.now.tasks) in
+    let variables = bindings_of c.args.trail.now in
+    mixed_none shape defined variables c.args.text _ _ c.in-Task.is
+    (sym (ap (option_map named_by) c.in-None.is) ∙ c.in_ok-name-in-Task.ensures shape defined p.1.0 refl p.1.1 (task_faultless shape defined p.1.0 p.1.1 level variables c.args.text _ _ c.in-Task.is none))

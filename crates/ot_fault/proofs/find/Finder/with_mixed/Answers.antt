@@ -1,0 +1,14 @@
+use Rattle.std.proofs.Common.{ap}
+use Rattle.std.specs.Prelude.{option_map}
+use Rattle.ot_place.specs.Seeking.{bindings_of}
+use Rattle.ot_place.specs.Texts.{text_by}
+use Rattle.ot_fault.specs.First.{shape_of, why_by}
+use Rattle.ot_fault.proofs.FirstLemmas.{told_already}
+use Rattle.ot_fault.proofs.find.Finder.with_mixed.Goals as goal
+
+pub returns-in-Some : goal.returns-in-Some
+returns-in-Some c defined level p none =
+    told_already _ _ (shape_of c.args.self.now.arrays.now c.args.self.now.tasks) (bindings_of c.args.trail.now) (text_by defined c.args.text) (ap (option_map why_by) c.in-Some.is)
+
+pub returns-in-None : goal.returns-in-None
+returns-in-None c defined level p none = rw c.in-None.is (c.mixed.ensures defined level p (none (ap (option_map why_by) c.in-None.is)))

@@ -1,0 +1,33 @@
+use Rattle.std.proofs.Common.{◌∙◌, List, Some, map, sym, ap, arith}
+use Rattle.serde_json.specs.View.{view}
+use Rattle.ot_place.specs.Spots.{Spot}
+use Rattle.ot_place.proofs.PlaceLemmas.{no_program}
+use Rattle.ot_fault.specs.Entries.{first_among}
+use Rattle.ot_fault.specs.First.{shape_of}
+use Rattle.ot_fault.specs.Walk.{step_by}
+use Rattle.ot_fault.specs.declared.find.Step.{Step}
+use Rattle.ot_fault.proofs.EntryLemmas.{program_walked}
+use Rattle.ot_fault.proofs.FirstLemmas.{placed_of, met_in}
+use Rattle.ot_fault.proofs.find.in_parts.Goals as goal
+
+pub returns-then-parts-ne3 : goal.returns-then-parts-ne3
+returns-then-parts-ne3 c =
+    ap Some c.no_program.ensures
+    ∙ ap (λ (ss : List Spot). first_among (shape_of c.args.arrays.now c.args.tasks) (view c.args.program.now) (map placed_of ss))
+    (sym (no_program c.args.parts.now c.if-parts-ne3.true))
+
+pub returns-in-Passed : goal.returns-in-Passed
+returns-in-Passed c =
+    let profile = c.in-Some.ensures in
+    sym (ap (λ (step : Step). met_in (step_by step)) c.in-Passed.is)
+    ∙ program_walked (shape_of c.args.arrays.now c.args.tasks) (view c.args.program.now) c.args.parts.now c.tag-item.result c.shows-item.result c.body-item.result
+    profile.0 _ (omega (arith, c.if-parts-ne3.false, c.in-len3.len_at_least, c.in-len3.len_below)) c.tag-item.is c.shows-item.is c.body-item.is profile.1
+    (c.in_ok-program-in-Some.ensures profile.0 (profile.2, (view c.tag-item.result, profile.1)))
+
+pub returns-in-Met : goal.returns-in-Met
+returns-in-Met c =
+    let profile = c.in-Some.ensures in
+    sym (ap (λ (step : Step). met_in (step_by step)) c.in-Met.is)
+    ∙ program_walked (shape_of c.args.arrays.now c.args.tasks) (view c.args.program.now) c.args.parts.now c.tag-item.result c.shows-item.result c.body-item.result
+    profile.0 _ (omega (arith, c.if-parts-ne3.false, c.in-len3.len_at_least, c.in-len3.len_below)) c.tag-item.is c.shows-item.is c.body-item.is profile.1
+    (c.in_ok-program-in-Some.ensures profile.0 (profile.2, (view c.tag-item.result, profile.1)))
