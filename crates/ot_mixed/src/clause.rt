@@ -201,22 +201,7 @@ fn fold_of(op: &Value) -> Option<Fold>
     ensures { result ≡ fold_of (view op.now) }
 {
     match op {
-        Value::String(text) => fold_named(text.as_str()),
-        _ => None,
-    }
-}
-
-fn fold_named(text: &str) -> Option<Fold>
-    ensures { result ≡ fold_of (string text.now) }
-{
-    match text {
-        "+" => Some(Fold::Plus),
-        "*" => Some(Fold::Times),
-        "&" => Some(Fold::And),
-        "|" => Some(Fold::Or),
-        "^" => Some(Fold::Xor),
-        "min" => Some(Fold::Min),
-        "max" => Some(Fold::Max),
+        Value::String(text) => Fold::of_identifier(text.as_str()),
         _ => None,
     }
 }
