@@ -1,6 +1,6 @@
 //! A clause, by where its section stands in one row of all cells.
 ghost use Rattle.std.specs.Prelude.{◌≡◌, [], ◌||◌, if◌then◌else◌, length, Some, None, option_map, codes};
-ghost use Rattle.serde_json.specs.Data.{Data, string, array, no_items, item};
+ghost use Rattle.serde_json.specs.Data.{Data, array, no_items, item};
 ghost use Rattle.serde_json.specs.View.{view, items_view};
 ghost use Rattle.ot_model.specs.Shapes.{Arrays};
 ghost use Rattle.ot_model.specs.ShapeView.{arrays_of};
