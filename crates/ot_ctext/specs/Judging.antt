@@ -1,5 +1,5 @@
 -- What is written of a text in C.
-use Rattle.std.specs.Prelude.{◌≡◌, ℕ, List, map, Result, Ok, Err, string_bytes}
+use Rattle.std.specs.Prelude.{◌≡◌, ℕ, List, map, Ok, Err, string_bytes}
 use Rattle.serde_json.specs.View.{view}
 use Rattle.ot_file.specs.Positions.{position_of}
 use Rattle.ot_cjudge.specs.Reports.{Reports, outside_line}
