@@ -1,5 +1,6 @@
 -- What the words ask for.
-use Rattle.std.specs.Prelude.{◌≡◌, ◌≢◌, ℕ, List, [], map, Option, Some, IfSome, codes, option_map, slice_get, string_bytes, unwrap_or}
+use Rattle.std.specs.Prelude.{◌≡◌, ◌≢◌, true, ℕ, List, [], map, Option, Some, IfSome, codes, nat_eq, Bool, option_map, slice_get, string_bytes, unwrap_or}
+use Rattle.std.specs.List.{ends_with}
 use Rattle.clap.specs.Words.{Row, Text, all_of, first_of, one_of}
 use Rattle.ot_commands.specs.Matched.{IsRead, IsSaid, entered_name, entered_rows}
 use Rattle.omptask.specs.declared.asked.Ask.{Ask}
@@ -24,7 +25,19 @@ pub record AsksManner (rows : List Row) (manner : Manner) : Type 0 where
 pub record AsksFiles (rows : List Row) (check : Check) : Type 0 where
   pub defined : map string_bytes check.defined.items ≡ unwrap_or (all_of (codes "define") rows) []
   pub lines : IsSaid (one_of (codes "lines") rows) check.lines
+  pub name : string_bytes check.name ≡ unwrap_or (first_of (codes "name") rows) []
   pub files : map string_bytes check.files.items ≡ unwrap_or (all_of (codes "file") rows) []
+
+-- the files that the words behind `lines` ask to be written
+pub record AsksLines (rows : List Row) (check : Check) : Type 0 where
+  pub defined : check.defined.items ≡ []
+  pub lines : check.lines ≡ true
+  pub name : string_bytes check.name ≡ unwrap_or (first_of (codes "name") rows) []
+  pub files : map string_bytes check.files.items ≡ unwrap_or (all_of (codes "file") rows) []
+
+-- a file of this name is in C
+abbrev pub is_c : List ℕ → Bool
+is_c name = ends_with nat_eq name (codes ".c")
 
 -- what a subcommand asks for
 abbrev pub AsksFor : Option (Text × List Row) → Words → Type 0
@@ -35,6 +48,7 @@ AsksFor entered (asked.Explain code quiet) =
     × (entered_name entered ≢ Some (codes "graph"))
     × (entered_name entered ≢ Some (codes "c"))
     × (entered_name entered ≢ Some (codes "check"))
+    × (entered_name entered ≢ Some (codes "lines"))
     × (entered_name entered ≡ Some (codes "explain") → IfSome (entered_rows entered) (λ rows. IsRead 999 (one_of (codes "code") rows) code × IsSaid (one_of (codes "quiet") rows) quiet))
 AsksFor entered (asked.Ask ask manner) =
     (entered_name entered ≡ Some (codes "ask")) × IfSome (entered_rows entered) (λ rows. AsksServer rows ask × AsksManner rows manner)
@@ -46,6 +60,8 @@ AsksFor entered asked.Graph = entered_name entered ≡ Some (codes "graph")
 AsksFor entered asked.C = entered_name entered ≡ Some (codes "c")
 AsksFor entered (asked.Check check) =
     (entered_name entered ≡ Some (codes "check")) × IfSome (entered_rows entered) (λ rows. AsksFiles rows check)
+AsksFor entered (asked.Lines check) =
+    (entered_name entered ≡ Some (codes "lines")) × IfSome (entered_rows entered) (λ rows. AsksLines rows check)
 
 -- the path of the socket that the words name, empty where they name none
 abbrev pub socket_of : Words → List ℕ
@@ -58,4 +74,5 @@ socket_of other = []
 abbrev pub word_of : Words → Fault → List ℕ
 word_of (asked.Check check) (of.BadDefinition place) = unwrap_or (option_map string_bytes (slice_get check.defined.items place)) []
 word_of (asked.Check check) (of.Unread place want) = unwrap_or (option_map string_bytes (slice_get check.files.items place)) []
+word_of (asked.Lines check) (of.Unread place want) = unwrap_or (option_map string_bytes (slice_get check.files.items place)) []
 word_of words fault = socket_of words

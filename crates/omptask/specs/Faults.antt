@@ -6,6 +6,8 @@ use Rattle.ot_ask.specs.declared.asked.AskFault.{AskFault}
 use Rattle.ot_ask.specs.declared.asked.AskFault.TheVariants as ask
 use Rattle.ot_ask.specs.declared.asked.Asked.{Asked}
 use Rattle.ot_ask.specs.declared.asked.Asked.TheVariants as asked
+use Rattle.ot_cjudge.specs.declared.report.Verdict.{Verdict}
+use Rattle.ot_cjudge.specs.declared.report.Verdict.TheVariants as verdict
 use Rattle.ot_front.specs.declared.fault.FrontFault.{FrontFault}
 use Rattle.ot_front.specs.declared.fault.FrontFault.TheVariants as front
 use Rattle.ot_keep.specs.declared.fault.KeepFault.{KeepFault}
@@ -13,7 +15,7 @@ use Rattle.ot_keep.specs.declared.fault.KeepFault.TheVariants as keep
 use Rattle.ot_last.specs.declared.fault.LastFault.{LastFault}
 use Rattle.ot_last.specs.declared.fault.LastFault.TheVariants as last
 use Rattle.omptask.specs.declared.ended.Ended.{Ended}
-use Rattle.omptask.specs.declared.ended.Ended.TheVariants.{Well, Refused}
+use Rattle.omptask.specs.declared.ended.Ended.TheVariants.{Well, Refused, Outside}
 use Rattle.omptask.specs.declared.reaching.Cause.{Cause}
 use Rattle.omptask.specs.declared.reaching.Cause.TheVariants as cause
 use Rattle.omptask.specs.declared.fault.Fault.{Fault}
@@ -127,6 +129,19 @@ ended_of asked.AllTaken = Well
 ended_of asked.SomeRefused = Refused
 ended_of asked.CutShort = Refused
 
+-- how it ends by a verdict on a text in C
+abbrev pub ended_by : Verdict → Ended
+ended_by verdict.Clean = Well
+ended_by verdict.Races = Refused
+ended_by verdict.Outside = Outside
+
+-- how it ends where one file ends so, and another so: what isn't judged outweighs what is refused
+abbrev pub worse : Ended → Ended → Ended
+worse Outside other = Outside
+worse Refused Outside = Outside
+worse Refused other = Refused
+worse Well other = other
+
 -- the status of a fault: where another session is there it can be tried again, and where a line was refused it can't; a bad
 -- definition is a word of the command line that can't be read
 abbrev pub status_of_fault : Fault → ℕ
@@ -139,3 +154,4 @@ status_of_fault fault = 1
 abbrev pub status_of : Ended → ℕ
 status_of Well = 0
 status_of Refused = 3
+status_of Outside = 1

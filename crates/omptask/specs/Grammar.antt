@@ -36,8 +36,15 @@ c_words = (new_app (codes "c")).top
 unfoldable pub define_rule : Rule
 define_rule = record (new_rule (codes "define")) { long = Some (codes "define"); action = Some Append; value_names = 1 }
 
+-- what standard input is called
+unfoldable pub call_rule : Rule
+call_rule = record (new_rule (codes "name")) { long = Some (codes "name"); value_names = 1 }
+
 unfoldable pub check_words : Shape
-check_words = (with_rule (with_rule (with_rule (new_app (codes "check")) define_rule) (flag_rule (codes "lines"))) (names_rule (codes "file"))).top
+check_words = (with_rule (with_rule (with_rule (with_rule (new_app (codes "check")) define_rule) (flag_rule (codes "lines"))) call_rule) (names_rule (codes "file"))).top
+
+unfoldable pub lines_words : Shape
+lines_words = (with_rule (with_rule (new_app (codes "lines")) call_rule) (names_rule (codes "file"))).top
 
 -- one of the subcommands has to be given, but where the version is asked for
 unfoldable pub program_words : App
@@ -45,4 +52,4 @@ program_words =
     let program = on_top (λ s. record s { has_version = true; subcommand_required = true }) (new_app (codes "omptask")) in
     let asks = with_subcommand (with_subcommand program explain_words) ask_words in
     let draws = with_subcommand (with_subcommand (with_subcommand (with_subcommand asks save_words) restore_words) graph_words) c_words in
-    with_subcommand draws check_words
+    with_subcommand (with_subcommand draws check_words) lines_words

@@ -16,8 +16,10 @@ pub enum Words {
     Graph,
     /// The last run of a session as a program in C.
     C,
-    /// Files of requests, judged with no program run.
+    /// Files of requests, or in C, judged with no program run.
     Check(Check),
+    /// The same, written as lines.
+    Lines(Check),
 }
 
 /// A tenant of a server, which listens at a Unix socket.
@@ -38,13 +40,15 @@ pub struct Manner {
     pub explain: bool,
 }
 
-/// Files whose requests are to be judged, or written as lines.
+/// Files that are to be judged, or written as lines of requests.
 #[derive(Debug, PartialEq, Eq, Drop)]
 pub struct Check {
     /// Arrays that are there before each file, as `NAME=LEN`.
     pub defined: Vec<String>,
     /// Whether the requests are to be written, one a line, and nothing is judged.
     pub lines: bool,
+    /// What standard input is called; empty where that isn't said.
+    pub name: String,
     /// The paths of the files; `-` is standard input.
     pub files: Vec<String>,
 }

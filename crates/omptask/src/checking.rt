@@ -1,7 +1,13 @@
 //! Files that are judged, or written as lines.
+ghost use Rattle.std.specs.Prelude.{◌≡◌};
+ghost use Rattle.omptask.specs.Faults.{ended_by, worse};
+ghost use Rattle.omptask.specs.Asked.{is_c};
+
 use crate::asked::Check;
 use crate::ended::Ended;
 use crate::fault::{Fault, want_for};
+use ot_cjudge::Verdict;
+use ot_ctext::{Session, judge_text, session_of};
 use ot_front::{Writing, write_whole};
 use ot_judge::{JudgeFault, lines_of};
 use ot_model::ArrayShape;
@@ -16,7 +22,7 @@ use std::rt::Files;
 const STDIN_NAME: &str = "<stdin>";
 
 /// Judges the files that are asked for, one after another, or writes their requests as lines.
-pub(crate) fn check_files<R: Input + Print + Files>(
+pub(crate) fn check_files<R: Input + Print + Eprint + Files>(
     rt: &R,
     alloc: Global,
     check: &Check,
@@ -25,40 +31,114 @@ pub(crate) fn check_files<R: Input + Print + Files>(
     let mut ended = Ended::Well;
     for (place, path) in check.files.iter().enumerate() {
         let text = text_of(rt, alloc, path.as_str(), place)?;
-        if check.lines {
-            write_lines(rt, alloc, text.as_slice())?;
-        } else if is_refused(rt, alloc, name_of(path.as_str()), text.as_slice(), &arrays)? {
-            ended = Ended::Refused;
-        }
+        let name = name_of(path.as_str(), check.name.as_str());
+        let one = match (check.lines, is_c(name)) {
+            (true, true) => write_session(rt, alloc, name, text.as_slice())?,
+            (true, false) => write_lines(rt, alloc, text.as_slice())?,
+            (false, true) => judge_c(rt, alloc, name, text.as_slice())?,
+            (false, false) => judge_requests(rt, alloc, name, text.as_slice(), &arrays)?,
+        };
+        ended = worse(ended, one);
     }
     Ok(ended)
 }
 
 /// What a file is called.
-fn name_of(path: &str) -> &str {
-    if path == "-" { STDIN_NAME } else { path }
+fn name_of<'a>(path: &'a str, given: &'a str) -> &'a str {
+    if path != "-" {
+        path
+    } else if given.is_empty() {
+        STDIN_NAME
+    } else {
+        given
+    }
+}
+
+/// Whether a file of this name is in C.
+fn is_c(name: &str) -> bool
+    ensures { result ≡ is_c name.now }
+{
+    name.as_bytes().ends_with(b".c".as_slice())
+}
+
+/// How the program ends where one file ends so, and another so: what isn't judged outweighs what is refused.
+fn worse(one: Ended, other: Ended) -> Ended
+    ensures { result ≡ worse one other }
+{
+    match (one, other) {
+        (Ended::Outside, _) | (_, Ended::Outside) => Ended::Outside,
+        (Ended::Refused, _) | (_, Ended::Refused) => Ended::Refused,
+        _ => Ended::Well,
+    }
 }
 
 /// Writes the requests of a file, one a line.
-fn write_lines<R: Print>(rt: &R, alloc: Global, text: &[u8]) -> Result<(), Fault> {
+fn write_lines<R: Print>(rt: &R, alloc: Global, text: &[u8]) -> Result<Ended, Fault> {
     let Ok(lines) = lines_of(alloc, text) else {
         return Err(Fault::Memory);
     };
-    write(rt, lines.as_slice())
+    write(rt, lines.as_slice())?;
+    Ok(Ended::Well)
 }
 
-/// Judges a file, writes what is refused, and answers whether anything was.
-fn is_refused<R: Print>(
+/// Writes the session that runs a text in C; why there is none, goes to standard error.
+fn write_session<R: Print + Eprint>(
+    rt: &R,
+    alloc: Global,
+    name: &str,
+    text: &[u8],
+) -> Result<Ended, Fault> {
+    match session_of(alloc, name, text) {
+        Ok(Session::Lines(lines)) => {
+            write(rt, lines.as_slice())?;
+            Ok(Ended::Well)
+        }
+        Ok(Session::Outside(line)) => {
+            if let Ok(line) = str::from_utf8(line.as_slice()) {
+                let _ = eprint!(rt; "{line}");
+            }
+            Ok(Ended::Outside)
+        }
+        Err(_) => Err(Fault::Memory),
+    }
+}
+
+/// Judges a text in C, and writes what is found.
+fn judge_c<R: Print>(rt: &R, alloc: Global, name: &str, text: &[u8]) -> Result<Ended, Fault> {
+    let Ok(report) = judge_text(alloc, name, text) else {
+        return Err(Fault::Memory);
+    };
+    write(rt, report.text.as_slice())?;
+    Ok(ended_by(report.verdict))
+}
+
+/// How the program ends by a verdict.
+fn ended_by(verdict: Verdict) -> Ended
+    ensures { result ≡ ended_by verdict }
+{
+    match verdict {
+        Verdict::Clean => Ended::Well,
+        Verdict::Races => Ended::Refused,
+        Verdict::Outside => Ended::Outside,
+    }
+}
+
+/// Judges a file of requests, and writes what is refused.
+fn judge_requests<R: Print>(
     rt: &R,
     alloc: Global,
     name: &str,
     text: &[u8],
     arrays: &Vec<ArrayShape>,
-) -> Result<bool, Fault> {
+) -> Result<Ended, Fault> {
     match report_on(alloc, name, text, arrays.as_slice()) {
         Ok(report) => {
             write(rt, report.text.as_slice())?;
-            Ok(report.refused > 0)
+            Ok(if report.refused > 0 {
+                Ended::Refused
+            } else {
+                Ended::Well
+            })
         }
         Err(JudgeFault::Array(place)) => Err(Fault::BadDefinition(place)),
         Err(JudgeFault::Memory) => Err(Fault::Memory),

@@ -1,7 +1,7 @@
 //! The command line.
 ghost use Rattle.std.specs.Prelude.{◌≡◌, map, IfOk};
 ghost use Rattle.clap.specs.Words.{FailsBy, app_of, fault_of, found_of, rows_of, subcommand_of, subcommand_rows_of};
-ghost use Rattle.omptask.specs.Asked.{AsksFor, AsksFiles, AsksManner, AsksServer};
+ghost use Rattle.omptask.specs.Asked.{AsksFor, AsksFiles, AsksLines, AsksManner, AsksServer};
 ghost use Rattle.omptask.specs.Grammar.{program_words};
 
 use crate::asked::{Ask, Check, Manner, Words};
@@ -52,6 +52,10 @@ fn asked_for(alloc: Global, matches: &ArgMatches<'_>) -> Result<Words, AllocErro
         let check = check_of(alloc, found)?;
         return Ok(Words::Check(check));
     }
+    if let Some(found) = matches.subcommand_matches("lines") {
+        let check = lines_of(alloc, found)?;
+        return Ok(Words::Lines(check));
+    }
     Ok(Words::Explain(None, false))
 }
 
@@ -82,6 +86,19 @@ fn check_of(alloc: Global, found: &ArgMatches<'_>) -> Result<Check, AllocError>
     Ok(Check {
         defined: texts(alloc, found, "define")?,
         lines: flag(found, "lines"),
+        name: text(alloc, found, "name")?,
+        files: texts(alloc, found, "file")?,
+    })
+}
+
+/// The files that are to be written as lines.
+fn lines_of(alloc: Global, found: &ArgMatches<'_>) -> Result<Check, AllocError>
+    ensures { IfOk result (AsksLines (rows_of (found_of found.now))) }
+{
+    Ok(Check {
+        defined: Vec::new(alloc),
+        lines: true,
+        name: text(alloc, found, "name")?,
         files: texts(alloc, found, "file")?,
     })
 }

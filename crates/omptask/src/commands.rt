@@ -2,7 +2,7 @@
 ghost use Rattle.std.specs.Prelude.{◌≡◌, IfOk, false};
 ghost use Rattle.clap.specs.Words.{app_of, rule_of, shape_of};
 ghost use Rattle.clap.specs.declared.builder.command.Command.TheViews.{out-Command as fields_of};
-ghost use Rattle.omptask.specs.Grammar.{program_words, explain_words, ask_words, save_words, restore_words, graph_words, c_words, check_words, code_rule, name_rule, define_rule};
+ghost use Rattle.omptask.specs.Grammar.{program_words, explain_words, ask_words, save_words, restore_words, graph_words, c_words, check_words, lines_words, call_rule, code_rule, name_rule, define_rule};
 
 use clap::{Arg, ArgAction, Command, value_parser};
 use ot_commands::{flag_arg, names_arg, socket_arg};
@@ -56,11 +56,17 @@ The status is 1 where a line isn't taken, behind the last run too, or none runs 
 
 /// What `check` reads and writes.
 const CHECK_HELP: &str = "\
-A FILE has requests over any number of lines, and comments from `//` to a line's end; what begins with \"program\"
+A FILE whose name ends in .c is C with OpenMP: it is told whether two touches race as its tasks run with its numbers.
+Any other FILE has requests over any number of lines, and comments from `//` to a line's end; what begins with \"program\"
 or \"program2\" stands for the `run` of it. `-` is standard input. No program is run. For each request that is refused
-a line `FILE:LINE:COLUMN: error: CODE: ..` is written, and behind it lines `FILE:LINE:COLUMN: note: ..`. Each FILE
+a line `FILE:LINE:COLUMN: error: CODE: ..` is written, and behind it lines `FILE:LINE:COLUMN: note: ..`. Each such FILE
 begins with the arrays of --define; it makes others by its own requests.
-The status is 3 where anything was refused, and 1 where a FILE couldn't be judged.";
+The status is 1 where a FILE couldn't be judged, else 3 where anything was refused or races.";
+
+/// What `lines` writes.
+const LINES_HELP: &str = "\
+It writes what `omptaskd solo` reads: of a FILE whose name ends in .c the requests that make its arrays and run it, of
+any other FILE its requests. `-` is standard input. What of C isn't read is told on standard error, with status 1.";
 
 /// What `--socket` is.
 const SOCKET_HELP: &str = "Where the server's socket stands";
@@ -74,6 +80,7 @@ pub(crate) fn program_command<'a>(alloc: Global) -> Result<Command<'a>, AllocErr
     let save = save_command(alloc)?;
     let restore = restore_command(alloc)?;
     let check = check_command(alloc)?;
+    let lines = lines_command(alloc)?;
     Command::new(alloc, "omptask")
         .about(
             "What omptaskd refuses, said in words, its runs as graphs and in C, and a client for people",
@@ -86,7 +93,8 @@ pub(crate) fn program_command<'a>(alloc: Global) -> Result<Command<'a>, AllocErr
         .subcommand(restore)?
         .subcommand(graph_command(alloc))?
         .subcommand(c_command(alloc))?
-        .subcommand(check)
+        .subcommand(check)?
+        .subcommand(lines)
 }
 
 fn explain_command<'a>(alloc: Global) -> Result<Command<'a>, AllocError>
@@ -166,7 +174,7 @@ fn check_command<'a>(alloc: Global) -> Result<Command<'a>, AllocError>
     ensures own { IfOk result (λ command. (fields_of command).has_globals ≡ false) }
 {
     Command::new(alloc, "check")
-        .about("Say where the requests of files are refused, with no program run")
+        .about("Say where files in C race, and requests are refused, with no program run")
         .after_help(CHECK_HELP)
         .arg(define_arg(alloc))?
         .arg(flag_arg(
@@ -174,6 +182,18 @@ fn check_command<'a>(alloc: Global) -> Result<Command<'a>, AllocError>
             "lines",
             "Write the requests of the files, one a line, and judge nothing",
         ))?
+        .arg(call_arg(alloc))?
+        .arg(names_arg(alloc, "file", "FILE", "The files; - is standard input"))
+}
+
+fn lines_command<'a>(alloc: Global) -> Result<Command<'a>, AllocError>
+    ensures words { IfOk result (λ command. shape_of command ≡ lines_words) }
+    ensures own { IfOk result (λ command. (fields_of command).has_globals ≡ false) }
+{
+    Command::new(alloc, "lines")
+        .about("Write the requests of files, one a line, also of files in C")
+        .after_help(LINES_HELP)
+        .arg(call_arg(alloc))?
         .arg(names_arg(alloc, "file", "FILE", "The files; - is standard input"))
 }
 
@@ -195,6 +215,16 @@ fn name_arg<'a>(alloc: Global) -> Arg<'a>
         .value_name("NAME")
         .required(true)
         .help("The tenant")
+}
+
+fn call_arg<'a>(alloc: Global) -> Arg<'a>
+    ensures rule { rule_of result ≡ call_rule }
+    ensures own { result.global ≡ false }
+{
+    Arg::new(alloc, "name")
+        .long("name")
+        .value_name("NAME")
+        .help("What standard input is called, as race.c")
 }
 
 fn define_arg<'a>(alloc: Global) -> Arg<'a>

@@ -5,6 +5,8 @@
 pub enum Ended {
     /// All was taken, or written.
     Well,
-    /// A line was refused.
+    /// A line was refused, or touches race.
     Refused,
+    /// A text isn't judged.
+    Outside,
 }

@@ -93,7 +93,7 @@ fn run<R: Input + Print + Eprint + Files + Net>(
         Words::Explain(Some(code), _) => explain_code(rt, alloc, *code),
         Words::Graph => draw_run(rt, alloc),
         Words::C => write_run(rt, alloc),
-        Words::Check(asked) => check_files(rt, alloc, asked),
+        Words::Check(asked) | Words::Lines(asked) => check_files(rt, alloc, asked),
     };
     match ended {
         Ok(ended) => status_of(ended),
@@ -107,7 +107,9 @@ fn word_of<'a>(asked: &'a Words, fault: &Fault) -> &'a str
 {
     match (asked, fault) {
         (Words::Check(check), Fault::BadDefinition(place)) => word_at(&check.defined, *place),
-        (Words::Check(check), Fault::Unread(place, _)) => word_at(&check.files, *place),
+        (Words::Check(check) | Words::Lines(check), Fault::Unread(place, _)) => {
+            word_at(&check.files, *place)
+        }
         _ => socket_of(asked),
     }
 }
@@ -359,6 +361,7 @@ fn status_of(ended: Ended) -> ExitCode
     match ended {
         Ended::Well => ExitCode::SUCCESS,
         Ended::Refused => ExitCode::from(3),
+        Ended::Outside => ExitCode::from(1),
     }
 }
 

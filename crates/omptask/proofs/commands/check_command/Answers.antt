@@ -14,9 +14,10 @@ returns-clause-words c =
     let new = ap app_of_fields c.after_help.ensures ∙ ap app_of_fields c.about.ensures ∙ c.new.ensures.app in
     let define = c.in_ok-arg.ensures.shape c.define_arg.ensures.own ∙ ap₂ with_rule new c.define_arg.ensures.rule in
     let lines = c.in_ok-arg-2.ensures.shape c.flag_arg.ensures.own ∙ ap₂ with_rule define c.flag_arg.ensures.rule in
-    IfOk-weaker c.arg-3.result _ _
-    (λ command added. ap (λ (a : App). a.top) (added.shape c.names_arg.ensures.own ∙ ap₂ with_rule lines c.names_arg.ensures.rule))
-    c.arg-3.ensures
+    let call = c.in_ok-arg-3.ensures.shape c.call_arg.ensures.own ∙ ap₂ with_rule lines c.call_arg.ensures.rule in
+    IfOk-weaker c.arg-4.result _ _
+    (λ command added. ap (λ (a : App). a.top) (added.shape c.names_arg.ensures.own ∙ ap₂ with_rule call c.names_arg.ensures.rule))
+    c.arg-4.ensures
 
 -- no argument is global
 pub returns-clause-own : goal.returns-clause-own
@@ -25,4 +26,5 @@ returns-clause-own c =
     ∙ ap (λ (f : Command-F Command). f.has_globals) c.about.ensures ∙ c.new.ensures.local in
     let define = c.in_ok-arg.ensures.globals ∙ ap₂ (λ a b. a || b) new c.define_arg.ensures.own in
     let lines = c.in_ok-arg-2.ensures.globals ∙ ap₂ (λ a b. a || b) define c.flag_arg.ensures.own in
-    IfOk-weaker c.arg-3.result _ _ (λ command added. added.globals ∙ ap₂ (λ a b. a || b) lines c.names_arg.ensures.own) c.arg-3.ensures
+    let call = c.in_ok-arg-3.ensures.globals ∙ ap₂ (λ a b. a || b) lines c.call_arg.ensures.own in
+    IfOk-weaker c.arg-4.result _ _ (λ command added. added.globals ∙ ap₂ (λ a b. a || b) call c.names_arg.ensures.own) c.arg-4.ensures

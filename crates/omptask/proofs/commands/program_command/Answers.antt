@@ -20,6 +20,7 @@ returns c =
     let with_restore = c.in_ok-subcommand-4.ensures.shape c.in_ok-restore.ensures.own ∙ ap₂ with_subcommand with_save c.in_ok-restore.ensures.words in
     let with_graph = c.in_ok-subcommand-5.ensures.shape c.graph_command.ensures.own ∙ ap₂ with_subcommand with_restore c.graph_command.ensures.words in
     let with_c = c.in_ok-subcommand-6.ensures.shape c.c_command.ensures.own ∙ ap₂ with_subcommand with_graph c.c_command.ensures.words in
-    IfOk-weaker c.subcommand-7.result _ _
-    (λ command added. added.shape c.in_ok-check.ensures.own ∙ ap₂ with_subcommand with_c c.in_ok-check.ensures.words)
-    c.subcommand-7.ensures
+    let with_check = c.in_ok-subcommand-7.ensures.shape c.in_ok-check.ensures.own ∙ ap₂ with_subcommand with_c c.in_ok-check.ensures.words in
+    IfOk-weaker c.subcommand-8.result _ _
+    (λ command added. added.shape c.in_ok-lines.ensures.own ∙ ap₂ with_subcommand with_check c.in_ok-lines.ensures.words)
+    c.subcommand-8.ensures

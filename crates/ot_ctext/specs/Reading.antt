@@ -1,0 +1,53 @@
+-- What a text in C means: a program of the language, or why it has none.
+use Rattle.std.specs.Prelude.{◌≡◌, ℕ, ◌-◌, List, length, slice_get, Result, Ok, Err, String, unwrap_or}
+use Rattle.std.specs.declared.alloc.Global.{Global}
+use Rattle.ot_words.specs.Words.{Read, AreBelow, AreNames, all_spoken, words_in}
+use Rattle.ot_words.specs.declared.word.Word.{Word}
+use Rattle.ot_cstatement.specs.Faults.{words_left}
+use Rattle.ot_cstatement.specs.declared.fault.Fault.{Fault}
+use Rattle.ot_cfile.specs.Files.{file_at}
+use Rattle.ot_cfile.specs.Program.{Whole}
+use Rattle.ot_cmeaning.specs.Results.{Refusal}
+use Rattle.ot_clower.specs.Files.{Program, lowered, lowered_of}
+use Rattle.ot_ctext.specs.Reasons.{file_reason, program_reason, word_reason}
+use Rattle.ot_ctext.specs.declared.reading.Meaning.{Meaning}
+use Rattle.ot_ctext.specs.declared.reading.Meaning.TheVariants as m
+
+-- a program, with its arrays and the places of its statements; or a byte, and why what stands there isn't judged
+abbrev pub Meant : Type 0
+Meant = Result Program (ℕ × List ℕ)
+
+-- the byte at which the word begins that so many words are left from, or the text's end
+abbrev pub byte_at : List ℕ → ℕ → ℕ → ℕ
+byte_at starts size left = unwrap_or (slice_get starts (length starts - left)) size
+
+abbrev pub reasoned : Result Program Refusal → Meant
+reasoned (Ok program) = Ok program
+reasoned (Err e) = Err (e.0, program_reason e.1)
+
+-- of a file whose names are these, and whose words begin at these bytes
+abbrev pub meaning_of_file : List (String Global) → List ℕ → Whole → Meant
+meaning_of_file names starts file = reasoned (lowered names starts file)
+
+abbrev pub meaning_read : List (String Global) → List ℕ → ℕ → Result Whole Fault → Meant
+meaning_read names starts size (Ok file) = meaning_of_file names starts file
+meaning_read names starts size (Err fault) = Err (byte_at starts size (words_left fault), file_reason fault)
+
+-- of the words of a text of so many bytes
+abbrev pub meaning_of_words : List (String Global) → List ℕ → ℕ → List Word → Meant
+meaning_of_words names starts size words = meaning_read names starts size (file_at words)
+
+-- of a text: its words have numbers for names, in any order
+abbrev pub MeansRead : ℕ → Read → Meant → Type 0
+MeansRead size (Err fault) meant = meant ≡ Err (fault.start, word_reason fault.wrong)
+MeansRead size (Ok read) meant =
+    (names : List (String Global)) × (words : List Word) × AreNames names × AreBelow (length names) words
+    × (read.1 ≡ all_spoken names words) × (meant ≡ meaning_of_words names read.0 size words)
+
+abbrev pub Means : List ℕ → Meant → Type 0
+Means text meant = MeansRead (length text) (words_in text) meant
+
+-- what the code gives of it
+abbrev pub seen : Meaning → Meant
+seen (m.Program lowered) = Ok (lowered_of lowered)
+seen (m.Outside byte reason) = Err (byte, reason.now)

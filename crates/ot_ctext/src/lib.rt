@@ -1,0 +1,11 @@
+//! Texts in C with OpenMP, judged, and as sessions that run them.
+#![tactic(auto)]
+
+mod judging;
+mod reading;
+mod reasons;
+mod requests;
+mod session;
+
+pub use judging::judge_text;
+pub use session::{Session, session_of};

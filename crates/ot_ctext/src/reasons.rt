@@ -1,0 +1,123 @@
+//! Why a text isn't judged, in words.
+ghost use Rattle.std.specs.Prelude.{◌≡◌};
+ghost use Rattle.ot_ctext.specs.Reasons as meant;
+
+use ot_clower::Reason;
+use ot_words::Wrong;
+
+/// Why a text has no words.
+pub(crate) fn word_reason(wrong: Wrong) -> &'static str
+    ensures { result.now ≡ meant.word_reason wrong }
+{
+    match wrong {
+        Wrong::NoWord => "here begins nothing that is read",
+        Wrong::NoNumber =>
+            "a number is decimal or hexadecimal, with an end that says its type or none",
+        Wrong::TooLarge => "no type has this number",
+        Wrong::OpenComment => "this comment doesn't end",
+        Wrong::SplicedComment => "this comment goes on behind a backslash",
+        Wrong::OpenText => "this string doesn't end on its line",
+        Wrong::OtherDirective => "of directives #include, #define and #pragma omp are read",
+    }
+}
+
+/// Why words say no value, or no clause.
+fn part_reason(fault: ot_cread::Fault) -> &'static str
+    ensures { result.now ≡ meant.part_reason fault }
+{
+    match fault {
+        ot_cread::Fault::NoValue(_) => "a value that is read has to begin here",
+        ot_cread::Fault::NoMark(_) => "another mark has to stand here",
+        ot_cread::Fault::NoName(_) => "a name has to stand here",
+        ot_cread::Fault::NoClause(_) => "this is no clause that is read, or no item of one",
+        ot_cread::Fault::TooDeep(_) => "brackets nest too deep, or too many signs stand in a row",
+        ot_cread::Fault::TooLong(_) => "the text ends before it is whole",
+    }
+}
+
+/// Why words say no file.
+pub(crate) fn file_reason(fault: ot_cstatement::Fault) -> &'static str
+    ensures { result.now ≡ meant.file_reason fault }
+{
+    match fault {
+        ot_cstatement::Fault::Part(part) => part_reason(part),
+        ot_cstatement::Fault::NoMark(_) => "another mark has to stand here",
+        ot_cstatement::Fault::NoName(_) => "a name has to stand here",
+        ot_cstatement::Fault::NoText(_) => "a string has to stand here",
+        ot_cstatement::Fault::NoType(_) =>
+            "a type has to stand here, as int, unsigned, long, uint64_t or size_t",
+        ot_cstatement::Fault::NoVariable(_) => "the name of a loop's variable has to stand here",
+        ot_cstatement::Fault::OtherVariable(_) =>
+            "a loop tests and steps the variable that it declares",
+        ot_cstatement::Fault::OtherStep(_) => "a loop goes on by one",
+        _ => statement_reason(fault),
+    }
+}
+
+fn statement_reason(fault: ot_cstatement::Fault) -> &'static str
+    ensures { result.now ≡ meant.statement_reason fault }
+{
+    match fault {
+        ot_cstatement::Fault::NoStatement(_) => "this is no statement that is read",
+        ot_cstatement::Fault::Declared(_) => "tasks would have copies of what a block declares",
+        ot_cstatement::Fault::NoDirective(_) => "this directive isn't read here",
+        ot_cstatement::Fault::OtherClause(_) =>
+            "this directive isn't read with all of these clauses",
+        ot_cstatement::Fault::NoSingle(_) => "single, master or masked has to stand here, alone",
+        ot_cstatement::Fault::NoConstant(_) =>
+            "a constant is a number, a name, or a value in brackets",
+        ot_cstatement::Fault::NoRegion(_) => "main has no parallel region",
+        ot_cstatement::Fault::More(_) => "nothing stands behind main",
+        ot_cstatement::Fault::TooDeep(_) => "statements nest too deep",
+        _ => "the text ends before it is whole",
+    }
+}
+
+/// Why a file has no program.
+pub(crate) fn program_reason(reason: Reason) -> &'static str
+    ensures { result.now ≡ meant.program_reason reason }
+{
+    match reason {
+        Reason::Unknown => "this names what isn't declared",
+        Reason::NoName => "a name here has 1 to 16 of a to z, 0 to 9 and _, a letter first",
+        Reason::Twice => "this declares a name that means something already",
+        Reason::OtherType => "only loops have variables of another type than uint64_t",
+        Reason::NoConstant => "this wants a constant number that its type holds",
+        Reason::NoLength => "an array has 1 to 65536 cells, and no more values than cells",
+        Reason::NoSize => "a place and a bound are made of numbers and loop variables by + - *",
+        Reason::OwnBound => "this loop's bounds name its own variable",
+        Reason::Narrow => "an int begins with a number of type int",
+        _ => use_reason(reason),
+    }
+}
+
+fn use_reason(reason: Reason) -> &'static str
+    ensures { result.now ≡ meant.use_reason reason }
+{
+    match reason {
+        Reason::WholeArray => "this names an array whole where a number is wanted",
+        Reason::NoArray => "this names a cell of what is no array",
+        Reason::LoopVariable => "a loop's variable is read only, and each task has a copy",
+        Reason::Constant => "a constant is read only, and no cell",
+        Reason::Wraps => "numbers of type unsigned may wrap here",
+        Reason::Signed => "numbers that may be negative are compared here",
+        Reason::Rest => "% is by a power of two, or in an array's index",
+        _ => directive_reason(reason),
+    }
+}
+
+fn directive_reason(reason: Reason) -> &'static str
+    ensures { result.now ≡ meant.directive_reason reason }
+{
+    match reason {
+        Reason::Combined => "an open group combines over this, and the task has no copy of it",
+        Reason::OwnCopy => "a task's copy is only folded into, by its operation",
+        Reason::NoGroup => "no open group combines over this by the operation",
+        Reason::Operations => "a group combines by one operation",
+        Reason::Private => "only a loop's variable is firstprivate",
+        Reason::Iterator => "an iterator counts single cells, as in a[i]",
+        Reason::NoRegion => "tasks, waits and groups stand in a parallel region",
+        Reason::Pointer => "pointers aren't judged",
+        _ => "functions aren't judged",
+    }
+}

@@ -1,0 +1,17 @@
+/* A wavefront whose tasks have no clauses: each reads what the task of the turn before writes. */
+#include <stdint.h>
+#include <stdio.h>
+#define N 4
+static uint64_t m[N * N] = {1};
+int main(void)
+{
+    #pragma omp parallel
+    #pragma omp single
+    for (int i = 1; i < N; i++)
+        for (int j = 1; j < N; j++) {
+            #pragma omp task
+            m[i * N + j] = m[(i - 1) * N + j] + m[i * N + j - 1];
+        }
+    printf("%lu\n", m[N * N - 1]);
+    return 0;
+}
