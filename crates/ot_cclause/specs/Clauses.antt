@@ -79,15 +79,15 @@ may_join (s.Constant n k) op = None
 may_join (s.Turn k) op = None
 may_join s.Begins op = None
 may_join (s.Cells length) op = None
-may_join (s.Pointer p) op = None
+may_join (s.Pointer x p) op = None
 may_join (s.Function i) op = None
 
 abbrev pub opening : Name → Operation → Bool → Option Pointee → Opening
 opening x op own cell = record { array = number_of x; operation = op; own = own; pointee = cell }
 
-abbrev pub part_or_cell : Around → ℕ → Name → Option Pointee × Option ℕ → Part → Sectioned
-part_or_cell a at x (None, length) p = part a at x length p
-part_or_cell a at x (Some cell, length) p = pointed a at cell p
+abbrev pub part_or_cell : Around → ℕ → Name → Option Pointee → Option ℕ → Part → Sectioned
+part_or_cell a at x None length p = part a at x length p
+part_or_cell a at x (Some cell) length p = pointed a at cell p
 
 abbrev pub own_of : Option Pointee → List Own
 own_of None = []
@@ -96,7 +96,7 @@ own_of (Some cell) = record { cell = cell; named = false } ∷ []
 abbrev pub joined_by : ℕ → Head → Operation → Entry → Option (Option Pointee × Option ℕ) → Headed
 joined_by at h op item None = Err (at, why.NoGroup)
 joined_by at h op item (Some found) =
-    part_or_cell h.around at item.array found item.part >>= λ d.
+    part_or_cell h.around at item.array found.0 found.1 item.part >>= λ d.
     Ok (record { clauses = h.clauses ++ form (codes "red") (string (operation_word op) ∷ d ∷ []) ∷ []; around = with_opening h.around (opening item.array op true found.0); own = h.own ++ own_of found.0 })
 
 -- under `in_reduction`: the task has a copy of its own
@@ -111,14 +111,14 @@ apart_by a at x cells (s.Constant n k) = Err (at, why.Constant)
 apart_by a at x cells (s.Turn k) = Err (at, why.LoopVariable)
 apart_by a at x cells s.Begins = Err (at, why.LoopVariable)
 apart_by a at x cells (s.Combined o length) = Err (at, why.Combined)
-apart_by a at x cells (s.Pointer p) = Err (at, why.Pointer)
+apart_by a at x cells (s.Pointer y p) = Err (at, why.Pointer)
 apart_by a at x cells (s.Function i) = Err (at, why.Function)
 
 abbrev pub apart : Around → ℕ → ℕ → Run → Result (Unit {0}) Refusal
 apart a at x cells = apart_by a at x cells (sense a (n.Other x))
 
 abbrev pub pointer_in : Sense → Option Pointee
-pointer_in (s.Pointer p) = Some p
+pointer_in (s.Pointer x p) = Some (record { array = x; place = p })
 pointer_in s.Nothing = None
 pointer_in (s.Constant n k) = None
 pointer_in (s.Turn k) = None
@@ -145,7 +145,7 @@ shared at (s.Constant n k) = Err (at, why.Constant)
 shared at (s.Turn k) = Err (at, why.LoopVariable)
 shared at s.Begins = Err (at, why.LoopVariable)
 shared at (s.Combined c length) = Err (at, why.Combined)
-shared at (s.Pointer p) = Err (at, why.Pointer)
+shared at (s.Pointer x p) = Err (at, why.Pointer)
 shared at (s.Function i) = Err (at, why.Function)
 
 -- under `firstprivate`: what is so anyway
@@ -156,7 +156,7 @@ private at (s.Constant n k) = Err (at, why.Private)
 private at s.Begins = Err (at, why.Private)
 private at (s.Cells length) = Err (at, why.Private)
 private at (s.Combined c length) = Err (at, why.Private)
-private at (s.Pointer p) = Err (at, why.Private)
+private at (s.Pointer x p) = Err (at, why.Private)
 private at (s.Function i) = Err (at, why.Private)
 
 abbrev pub item_step : ℕ → Role → Option Span → Head → Entry → Headed

@@ -27,7 +27,7 @@ no_cells (s.Turn k) = why.LoopVariable
 no_cells s.Begins = why.LoopVariable
 no_cells (s.Cells length) = why.Combined
 no_cells (s.Combined o length) = why.Combined
-no_cells (s.Pointer p) = why.Pointer
+no_cells (s.Pointer x p) = why.Pointer
 no_cells (s.Function i) = why.Function
 
 -- how many cells an array has
@@ -83,7 +83,7 @@ section_by a at over item (s.Constant n k) = Err (at, why.Constant)
 section_by a at over item (s.Turn k) = Err (at, why.LoopVariable)
 section_by a at over item s.Begins = Err (at, why.LoopVariable)
 section_by a at over item (s.Combined o length) = Err (at, why.Combined)
-section_by a at over item (s.Pointer p) = Err (at, why.Pointer)
+section_by a at over item (s.Pointer x p) = Err (at, why.Pointer)
 section_by a at over item (s.Function i) = Err (at, why.Function)
 
 -- the section that an item names, over which no open group combines
@@ -113,7 +113,7 @@ length_of (s.Constant n k) = None
 length_of (s.Turn k) = None
 length_of s.Begins = None
 length_of (s.Combined o length) = None
-length_of (s.Pointer p) = None
+length_of (s.Pointer x p) = None
 length_of (s.Function i) = None
 
 abbrev pub cells_named : Around → Option Span → Entry → Run

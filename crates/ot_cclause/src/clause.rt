@@ -83,7 +83,7 @@ fn may_join(sense: Sense, operation: Operation) -> Option<(Option<Pointee>, Opti
             }
         }
         Sense::Nothing | Sense::Constant(_, _) | Sense::Turn(_) | Sense::Begins => None,
-        Sense::Cells(_) | Sense::Pointer(_) | Sense::Function(_) => None,
+        Sense::Cells(_) | Sense::Pointer(_, _) | Sense::Function(_) => None,
     }
 }
 
@@ -107,7 +107,7 @@ fn part_or_cell(
     found: (Option<Pointee>, Option<usize>),
     item: &Item,
 ) -> Result<Value, CFault>
-    ensures { Gives (λ v. view v) result (meant.part_or_cell scope.now start item.now.array found (part_of item.now.place)) }
+    ensures { Gives (λ v. view v) result (meant.part_or_cell scope.now start item.now.array found.0 found.1 (part_of item.now.place)) }
 {
     match found.0 {
         None => part(alloc, scope, start, item.array, found.1, &item.place),
@@ -177,7 +177,7 @@ fn pointer_in(sense: Sense) -> Option<Pointee>
     ensures { result ≡ meant.pointer_in sense }
 {
     match sense {
-        Sense::Pointer(cell) => Some(cell),
+        Sense::Pointer(array, place) => Some(Pointee { array, place }),
         Sense::Nothing | Sense::Constant(_, _) | Sense::Turn(_) | Sense::Begins => None,
         Sense::Cells(_) | Sense::Combined(_, _) | Sense::Function(_) => None,
     }

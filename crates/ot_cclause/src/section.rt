@@ -20,7 +20,7 @@ pub fn no_cells(sense: Sense) -> Reason
         Sense::Constant(_, _) => Reason::Constant,
         Sense::Turn(_) | Sense::Begins => Reason::LoopVariable,
         Sense::Cells(_) | Sense::Combined(_, _) => Reason::Combined,
-        Sense::Pointer(_) => Reason::Pointer,
+        Sense::Pointer(_, _) => Reason::Pointer,
         Sense::Function(_) => Reason::Function,
     }
 }
@@ -182,7 +182,7 @@ fn length_of(sense: Sense) -> Option<usize>
     match sense {
         Sense::Cells(length) => length,
         Sense::Nothing | Sense::Constant(_, _) | Sense::Turn(_) | Sense::Begins => None,
-        Sense::Combined(_, _) | Sense::Pointer(_) | Sense::Function(_) => None,
+        Sense::Combined(_, _) | Sense::Pointer(_, _) | Sense::Function(_) => None,
     }
 }
 

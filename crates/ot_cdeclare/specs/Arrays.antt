@@ -38,7 +38,7 @@ named_over at d x new None = Err (at, why.NoName)
 named_over at d x new (Some m.Nothing) = Ok (record d { meanings = slice_set d.meanings x new })
 named_over at d x new (Some (m.Constant n k)) = Err (at, why.Twice)
 named_over at d x new (Some (m.Cells length)) = Err (at, why.Twice)
-named_over at d x new (Some (m.Pointer p)) = Err (at, why.Twice)
+named_over at d x new (Some (m.Pointer y p)) = Err (at, why.Twice)
 named_over at d x new (Some (m.Function i)) = Err (at, why.Twice)
 
 -- a name that means nothing yet comes to mean this

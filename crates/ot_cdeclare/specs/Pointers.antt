@@ -27,7 +27,7 @@ count_by at (Some (m.Cells (Some n))) = Ok n
 count_by at (Some (m.Cells None)) = Err (at, why.Pointee)
 count_by at (Some m.Nothing) = Err (at, why.Pointee)
 count_by at (Some (m.Constant n k)) = Err (at, why.Pointee)
-count_by at (Some (m.Pointer p)) = Err (at, why.Pointee)
+count_by at (Some (m.Pointer x p)) = Err (at, why.Pointee)
 count_by at (Some (m.Function i)) = Err (at, why.Pointee)
 count_by at None = Err (at, why.Pointee)
 
@@ -39,13 +39,13 @@ pointee names at d x i =
     place_in at count (constant (outside names d.meanings false) i) >>= λ place.
     Ok (record { array = array; place = place })
 
-abbrev pub is_same : Pointee → Pointee → Bool
-is_same p q = p.array == q.array && p.place == q.place
+abbrev pub is_same : ℕ → ℕ → Pointee → Bool
+is_same x i p = x == p.array && i == p.place
 
 abbrev pub pointing_over : ℕ → D → ℕ → Pointee → Option Meaning → Result D Refusal
 pointing_over at d p cell None = Err (at, why.NoName)
-pointing_over at d p cell (Some m.Nothing) = Ok (record d { meanings = slice_set d.meanings p (m.Pointer cell) })
-pointing_over at d p cell (Some (m.Pointer other)) = if is_same other cell then Ok d else Err (at, why.Pointee)
+pointing_over at d p cell (Some m.Nothing) = Ok (record d { meanings = slice_set d.meanings p (m.Pointer cell.array cell.place) })
+pointing_over at d p cell (Some (m.Pointer x i)) = if is_same x i cell then Ok d else Err (at, why.Pointee)
 pointing_over at d p cell (Some (m.Constant n k)) = Err (at, why.Twice)
 pointing_over at d p cell (Some (m.Cells length)) = Err (at, why.Twice)
 pointing_over at d p cell (Some (m.Function i)) = Err (at, why.Twice)

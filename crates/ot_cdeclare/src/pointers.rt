@@ -61,11 +61,11 @@ fn pointee(
     }
 }
 
-/// Whether both are the same cell.
-fn is_same(one: Pointee, two: Pointee) -> bool
-    ensures { result ≡ meant.is_same one two }
+/// Whether it is the cell of this array at this place.
+fn is_same(array: usize, place: u64, cell: Pointee) -> bool
+    ensures { result ≡ meant.is_same array place cell }
 {
-    one.array == two.array && one.place == two.place
+    array == cell.array && place == cell.place
 }
 
 /// A name that means nothing yet, or points there already, points to a cell.
@@ -80,15 +80,15 @@ fn pointing(
     match declared.meanings.get(name) {
         None => return Err(CFault::Outside(start, Reason::NoName)),
         Some(Meaning::Nothing) => {}
-        Some(Meaning::Pointer(other)) => {
-            if is_same(*other, cell) {
+        Some(Meaning::Pointer(array, place)) => {
+            if is_same(*array, *place, cell) {
                 return Ok(declared);
             }
             return Err(CFault::Outside(start, Reason::Pointee));
         }
         Some(_) => return Err(CFault::Outside(start, Reason::Twice)),
     }
-    declared.meanings[name] = Meaning::Pointer(cell);
+    declared.meanings[name] = Meaning::Pointer(cell.array, cell.place);
     Ok(declared)
 }
 

@@ -50,7 +50,7 @@ increment_at (w.Mark m.Increment ∷ ws) = Ok ws
 increment_at ws = Err (NoMark (length ws))
 
 unfoldable pub zero_at : List Word → Behind
-zero_at (w.Number 0 t ∷ ws) = Ok ws
+zero_at (w.Number i t ∷ ws) = if i == 0 then Ok ws else Err (NoMark (length (w.Number i t ∷ ws)))
 zero_at ws = Err (NoMark (length ws))
 
 -- a character between single quotes

@@ -111,7 +111,13 @@ pub(crate) fn zero(words: &[Word]) -> Result<&[Word], ReadError>
     ensures { Gives (λ x. x.now) result (read.zero_at words.now) }
 {
     match words {
-        [Word::Number(0, _), rest @ ..] => Ok(rest),
+        [Word::Number(number, _), rest @ ..] => {
+            if *number == 0 {
+                Ok(rest)
+            } else {
+                Err(ReadError::Fault(Fault::NoMark(words.len())))
+            }
+        }
         _ => Err(ReadError::Fault(Fault::NoMark(words.len()))),
     }
 }

@@ -57,7 +57,7 @@ aimed at s.Nothing = Err (at, why.Unknown)
 aimed at (s.Constant n k) = Err (at, why.Constant)
 aimed at (s.Turn k) = Err (at, why.LoopVariable)
 aimed at s.Begins = Err (at, why.LoopVariable)
-aimed at (s.Pointer p) = Err (at, why.Pointer)
+aimed at (s.Pointer x p) = Err (at, why.Pointer)
 aimed at (s.Function i) = Err (at, why.Function)
 
 -- no open group combines by a pointer over an array's cell that is assigned to

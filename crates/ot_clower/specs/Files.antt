@@ -3,7 +3,7 @@ use Rattle.std.specs.Prelude.{ℕ, ◌+◌, nat_lt, Bool, true, false, List, [],
 use Rattle.std.specs.declared.alloc.Global.{Global}
 use Rattle.serde_json.specs.Data.{Data, string, Items}
 use Rattle.serde_json.specs.View.{view, items_of}
-use Rattle.ot_cread.specs.declared.tree.Operation.TheVariants as p
+use Rattle.ot_cread.specs.declared.tree.Operation.TheVariants as op
 use Rattle.ot_cread.specs.Tree.{E, Claim}
 use Rattle.ot_cstatement.specs.Tree.{S, Body}
 use Rattle.ot_cfile.specs.Program.{Entry, Constant, Global as Global', Function, Act, Local, Region, Does, Whole}
@@ -93,7 +93,7 @@ abbrev pub region : Names → Origin → List Meaning → ℕ → List Claim →
 region names o meanings at cs b =
     heading at (outside names meanings true) cs >>= λ h.
     body o h.around b >>= λ x.
-    Ok (group at p.Plus [] x)
+    Ok (group at op.Plus [] x)
 
 -- a statement outside of regions
 abbrev pub alone : Names → Origin → List Meaning → S → Result L Refusal

@@ -12,7 +12,7 @@ use Rattle.ot_cread.specs.Tree.{E, Claim}
 use Rattle.ot_cstatement.specs.Tree.{Aim, Course, S, Block, Assign, If, For, Task, Wait, Group, Yield, Call, Print, Show, Point, Body, End, Next}
 use Rattle.ot_cmeaning.specs.declared.reason.Reason.TheVariants as why
 use Rattle.ot_cmeaning.specs.declared.scope.Sense.{Sense}
-use Rattle.ot_cmeaning.specs.declared.scope.Sense.TheVariants as s
+use Rattle.ot_cmeaning.specs.declared.scope.Sense.TheVariants as means
 use Rattle.ot_cmeaning.specs.declared.scope.Turn.{Turn}
 use Rattle.ot_cmeaning.specs.Forms.{nat, form, listed}
 use Rattle.ot_cmeaning.specs.Results.{Refusal, ◌>>=◌}
@@ -21,7 +21,7 @@ use Rattle.ot_cmeaning.specs.Sizes.{size}
 use Rattle.ot_cmeaning.specs.Values.{value}
 use Rattle.ot_clower.specs.declared.statements.Bounds.{Bounds}
 use Rattle.ot_clower.specs.declared.statements.Became.{Became}
-use Rattle.ot_clower.specs.declared.statements.Became.TheVariants as b
+use Rattle.ot_clower.specs.declared.statements.Became.TheVariants as got
 use Rattle.ot_clower.specs.declared.statements.Called.{Called}
 use Rattle.ot_clower.specs.declared.statements.Source.{Source}
 use Rattle.ot_cdeclare.specs.Places.{byte_of}
@@ -32,8 +32,8 @@ use Rattle.ot_clower.specs.Lines.{L, Lowered, lines_of, none, one, joined}
 use Rattle.ot_cclause.specs.Operations.{operation_word}
 
 abbrev pub became_of : Became → Lowered
-became_of (b.Lines lines) = Ok (lines_of lines)
-became_of (b.Outside at why) = Err (at, why)
+became_of (got.Lines lines) = Ok (lines_of lines)
+became_of (got.Outside at reason) = Err (at, reason)
 
 -- what becomes of a function where it is called, in regions and outside of them
 pub record Twice : Type 0 where
@@ -86,14 +86,14 @@ show a at = if a.inside then Err (at, why.Function) else Ok none
 -- ---- calls
 
 abbrev pub function_by : ℕ → Sense → Result ℕ Refusal
-function_by at (s.Function i) = Ok i
-function_by at s.Nothing = Err (at, why.Function)
-function_by at (s.Constant n k) = Err (at, why.Function)
-function_by at (s.Turn k) = Err (at, why.Function)
-function_by at s.Begins = Err (at, why.Function)
-function_by at (s.Cells length) = Err (at, why.Function)
-function_by at (s.Combined o length) = Err (at, why.Function)
-function_by at (s.Pointer p) = Err (at, why.Function)
+function_by at (means.Function i) = Ok i
+function_by at means.Nothing = Err (at, why.Function)
+function_by at (means.Constant n k) = Err (at, why.Function)
+function_by at (means.Turn k) = Err (at, why.Function)
+function_by at means.Begins = Err (at, why.Function)
+function_by at (means.Cells length) = Err (at, why.Function)
+function_by at (means.Combined o length) = Err (at, why.Function)
+function_by at (means.Pointer x p) = Err (at, why.Function)
 
 -- Which function a name is that is called with these values. It touches what names mean where it stands: while a group
 -- combines over a name, the name is a task's own copy where it is called, and the array itself in the function.

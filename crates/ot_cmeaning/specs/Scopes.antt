@@ -51,9 +51,9 @@ opened_or None length = s.Cells length
 opened_or (Some o) length = s.Combined o length
 
 -- what a pointer is, if an open group combines over its cell by it or not
-abbrev pub pointed_or : Option Opening → Pointee → Sense
-pointed_or None p = s.Pointer p
-pointed_or (Some o) p = s.Combined o None
+abbrev pub pointed_or : Option Opening → ℕ → ℕ → Sense
+pointed_or None x p = s.Pointer x p
+pointed_or (Some o) x p = s.Combined o None
 
 -- a constant stands for its number wherever its name stands (C17, section 6.10.3)
 abbrev pub sense_by : Meaning → Option Turn → Option Opening → Sense
@@ -61,7 +61,7 @@ sense_by (m.Constant n k) turn opening = s.Constant n k
 sense_by m.Nothing turn opening = turn_or turn s.Nothing
 sense_by (m.Function i) turn opening = turn_or turn (s.Function i)
 sense_by (m.Cells length) turn opening = turn_or turn (opened_or opening length)
-sense_by (m.Pointer p) turn opening = turn_or turn (pointed_or opening p)
+sense_by (m.Pointer x p) turn opening = turn_or turn (pointed_or opening x p)
 
 -- what a name means
 abbrev pub sense : Around → Name → Sense

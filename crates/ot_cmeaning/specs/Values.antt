@@ -47,7 +47,7 @@ whole d k = record { text = d; kind = k; whole = true }
 abbrev pub no_array : Sense → Reason
 no_array s.Nothing = why.Unknown
 no_array (s.Combined c length) = why.Combined
-no_array (s.Pointer p) = why.Pointer
+no_array (s.Pointer x p) = why.Pointer
 no_array (s.Constant n k) = why.NoArray
 no_array (s.Turn k) = why.NoArray
 no_array s.Begins = why.NoArray
@@ -59,7 +59,7 @@ array_by at name (s.Cells (Some n)) = Ok (string name)
 array_by at name (s.Cells None) = Err (at, why.NoArray)
 array_by at name s.Nothing = Err (at, why.Unknown)
 array_by at name (s.Combined c length) = Err (at, why.Combined)
-array_by at name (s.Pointer p) = Err (at, why.Pointer)
+array_by at name (s.Pointer x p) = Err (at, why.Pointer)
 array_by at name (s.Constant n k) = Err (at, why.NoArray)
 array_by at name (s.Turn k) = Err (at, why.NoArray)
 array_by at name s.Begins = Err (at, why.NoArray)
@@ -104,7 +104,7 @@ named_by at name (s.Cells (Some n)) = Err (at, why.WholeArray)
 named_by at name s.Nothing = Err (at, why.Unknown)
 named_by at name s.Begins = Err (at, why.OwnBound)
 named_by at name (s.Combined c length) = Err (at, why.Combined)
-named_by at name (s.Pointer p) = Err (at, why.Pointer)
+named_by at name (s.Pointer x p) = Err (at, why.Pointer)
 named_by at name (s.Function i) = Err (at, why.Function)
 
 -- a constant, a loop's variable, or a variable

@@ -26,7 +26,7 @@ fn named(scope: &Scope<'_>, name: Name) -> Option<(u64, IntegerType)>
         Sense::Constant(number, kind) => Some((number, kind)),
         Sense::Nothing | Sense::Turn(_) | Sense::Begins => None,
         Sense::Cells(_) | Sense::Combined(_, _) => None,
-        Sense::Pointer(_) | Sense::Function(_) => None,
+        Sense::Pointer(_, _) | Sense::Function(_) => None,
     }
 }
 

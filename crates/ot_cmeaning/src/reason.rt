@@ -105,6 +105,7 @@ impl Reason {
             _ => self.text_of_names(),
         }
     }
+
     fn text_of_names(self) -> &'static str {
         match self {
             Reason::Pointer => "a pointer only stands for a cell that a reduction names by it",

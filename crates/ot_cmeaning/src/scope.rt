@@ -30,7 +30,8 @@ pub enum Meaning {
     Constant(u64, IntegerType),
     /// An array of so many cells, or a variable, which is an array of one.
     Cells(Option<usize>),
-    Pointer(Pointee),
+    /// A pointer to a cell: the number of its array among the names of the text, and its place.
+    Pointer(usize, u64),
     /// A function, by its number among those of the file.
     Function(usize),
 }
@@ -70,7 +71,8 @@ pub enum Sense {
     /// Cells over which an open group combines.
     Combined(Opening, Option<usize>),
     /// A pointer to a cell over which no open group combines by it.
-    Pointer(Pointee),
+    /// A pointer to a cell: the number of its array among the names of the text, and its place.
+    Pointer(usize, u64),
     /// A function, by its number among those of the file.
     Function(usize),
 }
@@ -155,10 +157,10 @@ impl<'a> Scope<'a> {
                     sense_of_cells(opening_among(&self.opened, name), length),
                 )
             }
-            Meaning::Pointer(pointee) => {
+            Meaning::Pointer(array, place) => {
                 sense_of_turn(
                     turn_among(&self.turns, name),
-                    sense_of_pointer(opening_among(&self.opened, name), pointee),
+                    sense_of_pointer(opening_among(&self.opened, name), array, place),
                 )
             }
         }
@@ -371,11 +373,11 @@ fn sense_of_cells(opening: Option<Opening>, length: Option<usize>) -> Sense
     }
 }
 
-fn sense_of_pointer(opening: Option<Opening>, pointee: Pointee) -> Sense
-    ensures { result ≡ around.pointed_or opening pointee }
+fn sense_of_pointer(opening: Option<Opening>, array: usize, place: u64) -> Sense
+    ensures { result ≡ around.pointed_or opening array place }
 {
     match opening {
         Some(opening) => Sense::Combined(opening, None),
-        None => Sense::Pointer(pointee),
+        None => Sense::Pointer(array, place),
     }
 }

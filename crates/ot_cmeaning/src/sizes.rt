@@ -25,7 +25,7 @@ pub(crate) fn no_number(sense: Sense) -> Reason
         Sense::Cells(Some(_)) => Reason::WholeArray,
         Sense::Cells(None) => Reason::NoSize,
         Sense::Combined(_, _) => Reason::Combined,
-        Sense::Pointer(_) => Reason::Pointer,
+        Sense::Pointer(_, _) => Reason::Pointer,
         Sense::Function(_) => Reason::Function,
     }
 }

@@ -50,7 +50,10 @@ fn whole(value: Value, kind: IntegerType) -> Worth
 }
 
 /// So many cells from a place on, where both are known.
-pub fn run_by(first: Option<(u64, IntegerType)>, count: Option<(u64, IntegerType)>) -> Option<(u64, u64)>
+pub fn run_by(
+    first: Option<(u64, IntegerType)>,
+    count: Option<(u64, IntegerType)>,
+) -> Option<(u64, u64)>
     ensures { result ≡ values.run_by first count }
 {
     let (first, _) = first?;
@@ -78,12 +81,7 @@ fn run(scope: &Scope<'_>, index: &Expr) -> Option<(u64, u64)>
 }
 
 /// No open group combines, by a pointer, over a cell of an array that an index may name.
-pub fn untouched(
-    scope: &Scope<'_>,
-    start: usize,
-    array: Name,
-    index: &Expr,
-) -> Result<(), CFault>
+pub fn untouched(scope: &Scope<'_>, start: usize, array: Name, index: &Expr) -> Result<(), CFault>
     ensures { Gives (λ x. x) result (values.untouched scope.now start array (expr_of index.now)) }
 {
     if scope.is_pointed(array, run(scope, index)) {
@@ -110,7 +108,7 @@ fn no_array(sense: Sense) -> Reason
     match sense {
         Sense::Nothing => Reason::Unknown,
         Sense::Combined(_, _) => Reason::Combined,
-        Sense::Pointer(_) => Reason::Pointer,
+        Sense::Pointer(_, _) => Reason::Pointer,
         Sense::Constant(_, _) | Sense::Turn(_) | Sense::Begins => Reason::NoArray,
         Sense::Cells(_) | Sense::Function(_) => Reason::NoArray,
     }
