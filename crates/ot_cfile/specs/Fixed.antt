@@ -1,5 +1,5 @@
 -- Words that have to stand at the front of what is read of a known function.
-use Rattle.std.specs.Prelude.{ℕ, ◌==◌, List, [], ◌∷◌, length, Result, Ok, Err, if◌then◌else◌}
+use Rattle.std.specs.Prelude.{ℕ, ◌==◌, List, ◌∷◌, length, Result, Ok, Err, if◌then◌else◌}
 use Rattle.ot_words.specs.declared.known.Known.TheVariants as k
 use Rattle.ot_words.specs.declared.mark.Mark.TheVariants as m
 use Rattle.ot_words.specs.declared.word.Name.TheVariants as n

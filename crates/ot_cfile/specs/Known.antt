@@ -1,7 +1,7 @@
 -- Functions that are known by their bodies, which read so but for their parameters' names:
 -- `static uint64_t min(uint64_t one, uint64_t two) { return one < two ? one : two; }`, `max` likewise, and
 -- `static void show(const uint64_t *cells, size_t count)`, which only prints.
-use Rattle.std.specs.Prelude.{ℕ, ◌==◌, List, [], ◌∷◌, length, Option, Some, None, Result, Ok, Err, if◌then◌else◌}
+use Rattle.std.specs.Prelude.{ℕ, ◌==◌, List, ◌∷◌, length, Option, Some, None, Result, Ok, Err, if◌then◌else◌}
 use Rattle.ot_words.specs.declared.known.Known.TheVariants as k
 use Rattle.ot_words.specs.declared.word.IntegerType.{IntegerType}
 use Rattle.ot_words.specs.declared.word.IntegerType.TheVariants as t
