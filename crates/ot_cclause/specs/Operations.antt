@@ -27,6 +27,15 @@ fold_of s.Xor = Some o.Xor
 fold_of s.Equal = None
 fold_of s.Less = None
 fold_of s.Rest = None
+fold_of s.Either = None
+fold_of s.Both = None
+fold_of s.Unequal = None
+fold_of s.More = None
+fold_of s.AtMost = None
+fold_of s.AtLeast = None
+fold_of s.ShiftLeft = None
+fold_of s.ShiftRight = None
+fold_of s.Over = None
 
 abbrev pub is_minus : Sign → Bool
 is_minus s.Minus = true
@@ -38,6 +47,15 @@ is_minus s.Xor = false
 is_minus s.Equal = false
 is_minus s.Less = false
 is_minus s.Rest = false
+is_minus s.Either = false
+is_minus s.Both = false
+is_minus s.Unequal = false
+is_minus s.More = false
+is_minus s.AtMost = false
+is_minus s.AtLeast = false
+is_minus s.ShiftLeft = false
+is_minus s.ShiftRight = false
+is_minus s.Over = false
 
 abbrev pub call_fold : Call → Operation
 call_fold c.Min = o.Min

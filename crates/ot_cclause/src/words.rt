@@ -29,6 +29,8 @@ pub fn fold_of(sign: Sign) -> Option<Operation>
         Sign::Or => Some(Operation::Or),
         Sign::Xor => Some(Operation::Xor),
         Sign::Equal | Sign::Less | Sign::Rest => None,
+        Sign::Either | Sign::Both | Sign::Unequal | Sign::More | Sign::AtMost => None,
+        Sign::AtLeast | Sign::ShiftLeft | Sign::ShiftRight | Sign::Over => None,
     }
 }
 

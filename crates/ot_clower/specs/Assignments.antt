@@ -6,7 +6,7 @@ use Rattle.ot_words.specs.declared.word.Name.{Name}
 use Rattle.ot_words.specs.declared.word.Name.TheVariants as n
 use Rattle.ot_cread.specs.declared.sign.Sign.{Sign}
 use Rattle.ot_cread.specs.declared.tree.Operation.{Operation}
-use Rattle.ot_cread.specs.Tree.{E, Literal, Variable, CellAt, Unsigned, Called, Apply}
+use Rattle.ot_cread.specs.Tree.{E, Literal, Variable, CellAt, Unsigned, Signed, Called, Apply, Choose}
 use Rattle.ot_cstatement.specs.Tree.{Aim}
 use Rattle.ot_cmeaning.specs.declared.reason.Reason.TheVariants as why
 use Rattle.ot_cmeaning.specs.declared.scope.Pointee.{Pointee}
@@ -122,6 +122,8 @@ own_set a at own cell t (Literal n k) = Err (at, why.OwnCopy)
 own_set a at own cell t (Variable y) = Err (at, why.OwnCopy)
 own_set a at own cell t (CellAt y i) = Err (at, why.OwnCopy)
 own_set a at own cell t (Unsigned e) = Err (at, why.OwnCopy)
+own_set a at own cell t (Signed sign e) = Err (at, why.OwnCopy)
+own_set a at own cell t (Choose t0 e f) = Err (at, why.OwnCopy)
 
 abbrev pub set : Around → ℕ → Data → E → Stated
 set a at cell e = value a at e >>= λ v. Ok (form (codes "set") (cell ∷ v.text ∷ []))

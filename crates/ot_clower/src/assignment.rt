@@ -245,6 +245,7 @@ fn own_set(
         Expr::Number(_, _) | Expr::Variable(_) | Expr::Cell(_, _) | Expr::Cast(_) => {
             Err(CFault::Outside(start, Reason::OwnCopy))
         }
+        Expr::Unary(_, _) | Expr::Choice(_, _, _) => Err(CFault::Outside(start, Reason::OwnCopy)),
     }
 }
 

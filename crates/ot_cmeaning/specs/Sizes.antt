@@ -6,7 +6,7 @@ use Rattle.ot_words.specs.declared.word.IntegerType.TheVariants.{UnsignedLong}
 use Rattle.ot_words.specs.declared.word.Name.{Name}
 use Rattle.ot_cread.specs.declared.sign.Sign.{Sign}
 use Rattle.ot_cread.specs.declared.sign.Sign.TheVariants as o
-use Rattle.ot_cread.specs.Tree.{E, Literal, Variable, CellAt, Unsigned, Called, Apply}
+use Rattle.ot_cread.specs.Tree.{E, Literal, Variable, CellAt, Unsigned, Signed, Called, Apply, Choose}
 use Rattle.ot_cmeaning.specs.declared.reason.Reason.{Reason}
 use Rattle.ot_cmeaning.specs.declared.reason.Reason.TheVariants as why
 use Rattle.ot_cmeaning.specs.declared.scope.Sense.{Sense}
@@ -57,6 +57,15 @@ size_word o.And = None
 size_word o.Equal = None
 size_word o.Less = None
 size_word o.Rest = None
+size_word o.Either = None
+size_word o.Both = None
+size_word o.Unequal = None
+size_word o.More = None
+size_word o.AtMost = None
+size_word o.AtLeast = None
+size_word o.ShiftLeft = None
+size_word o.ShiftRight = None
+size_word o.Over = None
 
 abbrev pub both : ℕ → Option (List ℕ) → Sized → Sized → Sized
 both at None one two = Err (at, why.NoSize)
@@ -69,4 +78,6 @@ size a at (Variable x) = named a at x
 size a at (CellAt x i) = Err (at, why.NoSize)
 size a at (Unsigned e) = size a at e >>= λ x. Ok (x.0, UnsignedLong)
 size a at (Called c x y) = Err (at, why.NoSize)
+size a at (Signed sign e) = Err (at, why.NoSize)
+size a at (Choose t x y) = Err (at, why.NoSize)
 size a at (Apply sign x y) = both at (size_word sign) (size a at x) (size a at y)

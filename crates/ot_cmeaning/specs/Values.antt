@@ -9,7 +9,7 @@ use Rattle.ot_cread.specs.declared.sign.Sign.{Sign}
 use Rattle.ot_cread.specs.declared.sign.Sign.TheVariants as o
 use Rattle.ot_cread.specs.declared.tree.Call.{Call}
 use Rattle.ot_cread.specs.declared.tree.Call.TheVariants as c
-use Rattle.ot_cread.specs.Tree.{E, Literal, Variable, CellAt, Unsigned, Called, Apply}
+use Rattle.ot_cread.specs.Tree.{E, Literal, Variable, CellAt, Unsigned, Signed, Called, Apply, Choose}
 use Rattle.ot_cmeaning.specs.declared.reason.Reason.{Reason}
 use Rattle.ot_cmeaning.specs.declared.reason.Reason.TheVariants as why
 use Rattle.ot_cmeaning.specs.declared.scope.Sense.{Sense}
@@ -123,6 +123,15 @@ sign_word o.Plus = codes "+"
 sign_word o.Minus = codes "-"
 sign_word o.Times = codes "*"
 sign_word o.Rest = codes ""
+sign_word o.Either = codes ""
+sign_word o.Both = codes ""
+sign_word o.Unequal = codes ""
+sign_word o.More = codes ""
+sign_word o.AtMost = codes ""
+sign_word o.AtLeast = codes ""
+sign_word o.ShiftLeft = codes ""
+sign_word o.ShiftRight = codes ""
+sign_word o.Over = codes ""
 
 abbrev pub call_word : Call → List ℕ
 call_word c.Min = codes "min"
@@ -140,6 +149,15 @@ agrees o.And k w = w || not (is_narrow k)
 agrees o.Equal k w = w || not (is_narrow k)
 agrees o.Less k w = w || is_word k
 agrees o.Rest k w = false
+agrees o.Either k w = false
+agrees o.Both k w = false
+agrees o.Unequal k w = false
+agrees o.More k w = false
+agrees o.AtMost k w = false
+agrees o.AtLeast k w = false
+agrees o.ShiftLeft k w = false
+agrees o.ShiftRight k w = false
+agrees o.Over k w = false
 
 abbrev pub disagrees : Sign → Reason
 disagrees o.Plus = why.Wraps
@@ -151,6 +169,15 @@ disagrees o.And = why.Wraps
 disagrees o.Equal = why.Wraps
 disagrees o.Less = why.Signed
 disagrees o.Rest = why.Rest
+disagrees o.Either = why.Sign
+disagrees o.Both = why.Sign
+disagrees o.Unequal = why.Sign
+disagrees o.More = why.Sign
+disagrees o.AtMost = why.Sign
+disagrees o.AtLeast = why.Sign
+disagrees o.ShiftLeft = why.Sign
+disagrees o.ShiftRight = why.Sign
+disagrees o.Over = why.Sign
 
 -- the type of a result
 abbrev pub result_kind : Sign → IntegerType → IntegerType
@@ -163,6 +190,15 @@ result_kind o.Or k = k
 result_kind o.Xor k = k
 result_kind o.And k = k
 result_kind o.Rest k = k
+result_kind o.Either k = k
+result_kind o.Both k = k
+result_kind o.Unequal k = k
+result_kind o.More k = k
+result_kind o.AtMost k = k
+result_kind o.AtLeast k = k
+result_kind o.ShiftLeft k = k
+result_kind o.ShiftRight k = k
+result_kind o.Over k = k
 
 -- whether a result isn't negative
 abbrev pub result_whole : Sign → IntegerType → Bool → Bool
@@ -175,6 +211,15 @@ result_whole o.Or k w = w || is_word k
 result_whole o.Xor k w = w || is_word k
 result_whole o.And k w = w || is_word k
 result_whole o.Rest k w = w || is_word k
+result_whole o.Either k w = false
+result_whole o.Both k w = false
+result_whole o.Unequal k w = false
+result_whole o.More k w = false
+result_whole o.AtMost k w = false
+result_whole o.AtLeast k w = false
+result_whole o.ShiftLeft k w = false
+result_whole o.ShiftRight k w = false
+result_whole o.Over k w = false
 
 abbrev pub applied_in : ℕ → Sign → IntegerType → Bool → Data → Data → Valued
 applied_in at sign k w x y = if agrees sign k w then Ok (record { text = form (sign_word sign) (x ∷ y ∷ []); kind = result_kind sign k; whole = result_whole sign k w }) else Err (at, disagrees sign)
@@ -220,6 +265,15 @@ is_rest o.Xor = false
 is_rest o.And = false
 is_rest o.Equal = false
 is_rest o.Less = false
+is_rest o.Either = false
+is_rest o.Both = false
+is_rest o.Unequal = false
+is_rest o.More = false
+is_rest o.AtMost = false
+is_rest o.AtLeast = false
+is_rest o.ShiftLeft = false
+is_rest o.ShiftRight = false
+is_rest o.Over = false
 
 -- two values with a sign between, of which the second may be a constant
 abbrev pub operation : ℕ → Sign → Valued → Valued → Option Typed → Valued
@@ -231,6 +285,8 @@ unfoldable mutual
   value a at (Variable x) = named a at x
   value a at (CellAt x i) = untouched a at x i >>= λ u. indexed a at x i
   value a at (Unsigned e) = value a at e >>= λ x. Ok (word x.text)
+  value a at (Signed sign e) = Err (at, why.Sign)
+  value a at (Choose t x y) = Err (at, why.Sign)
   value a at (Called f x y) = value a at x >>= λ v. value a at y >>= λ w. Ok (word (form (call_word f) (v.text ∷ w.text ∷ [])))
   value a at (Apply sign x y) = operation at sign (value a at x) (value a at y) (constant a y)
 

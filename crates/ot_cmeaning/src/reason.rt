@@ -35,6 +35,8 @@ pub enum Reason {
     Signed,
     /// A rest by another number than a power of two.
     Rest,
+    /// A sign that the language has no operation for.
+    Sign,
     /// A name over which an open group combines, and of which the task has no copy of its own.
     Combined,
     /// A task's own copy that isn't folded into by its operation.
@@ -89,6 +91,7 @@ impl Reason {
             Reason::Wraps => "numbers of type unsigned may wrap here",
             Reason::Signed => "numbers that may be negative are compared here",
             Reason::Rest => "% is by a power of two, or in an array's index",
+            Reason::Sign => "no operation is like this sign",
             _ => self.text_of_directive(),
         }
     }

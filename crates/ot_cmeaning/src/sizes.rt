@@ -54,6 +54,8 @@ fn size_word(sign: Sign) -> Option<&'static str>
         Sign::Minus => Some("-"),
         Sign::Times => Some("*"),
         Sign::Or | Sign::Xor | Sign::And | Sign::Equal | Sign::Less | Sign::Rest => None,
+        Sign::Either | Sign::Both | Sign::Unequal | Sign::More | Sign::AtMost => None,
+        Sign::AtLeast | Sign::ShiftLeft | Sign::ShiftRight | Sign::Over => None,
     }
 }
 
@@ -76,7 +78,9 @@ pub fn size(
             let (value, _) = size(alloc, scope, start, value)?;
             Ok((value, IntegerType::UnsignedLong))
         }
-        Expr::Call(_, _, _) => Err(CFault::Outside(start, Reason::NoSize)),
+        Expr::Unary(_, _) | Expr::Call(_, _, _) | Expr::Choice(_, _, _) => {
+            Err(CFault::Outside(start, Reason::NoSize))
+        }
         Expr::Op(sign, one, two) => {
             let Some(word) = size_word(*sign) else {
                 return Err(CFault::Outside(start, Reason::NoSize));

@@ -156,7 +156,8 @@ fn sign_word(sign: Sign) -> &'static str
         Sign::Plus => "+",
         Sign::Minus => "-",
         Sign::Times => "*",
-        Sign::Rest => "",
+        Sign::Rest | Sign::Over | Sign::ShiftLeft | Sign::ShiftRight => "",
+        Sign::Either | Sign::Both | Sign::Unequal | Sign::More | Sign::AtMost | Sign::AtLeast => "",
     }
 }
 
@@ -177,7 +178,9 @@ fn agrees(sign: Sign, kind: IntegerType, whole: bool) -> bool
         Sign::Plus | Sign::Minus | Sign::Times => !is_narrow(kind),
         Sign::Or | Sign::Xor | Sign::And | Sign::Equal => whole || !is_narrow(kind),
         Sign::Less => whole || is_word(kind),
-        Sign::Rest => false,
+        Sign::Rest | Sign::Over | Sign::ShiftLeft | Sign::ShiftRight => false,
+        Sign::Either | Sign::Both | Sign::Unequal => false,
+        Sign::More | Sign::AtMost | Sign::AtLeast => false,
     }
 }
 
@@ -190,6 +193,9 @@ fn disagrees(sign: Sign) -> Reason
         Sign::Or | Sign::Xor | Sign::And | Sign::Equal => Reason::Wraps,
         Sign::Less => Reason::Signed,
         Sign::Rest => Reason::Rest,
+        Sign::Over | Sign::ShiftLeft | Sign::ShiftRight => Reason::Sign,
+        Sign::Either | Sign::Both | Sign::Unequal => Reason::Sign,
+        Sign::More | Sign::AtMost | Sign::AtLeast => Reason::Sign,
     }
 }
 
@@ -201,6 +207,9 @@ fn result_kind(sign: Sign, kind: IntegerType) -> IntegerType
         Sign::Equal | Sign::Less => IntegerType::Int,
         Sign::Plus | Sign::Minus | Sign::Times => kind,
         Sign::Or | Sign::Xor | Sign::And | Sign::Rest => kind,
+        Sign::Over | Sign::ShiftLeft | Sign::ShiftRight => kind,
+        Sign::Either | Sign::Both | Sign::Unequal => kind,
+        Sign::More | Sign::AtMost | Sign::AtLeast => kind,
     }
 }
 
@@ -213,6 +222,9 @@ fn result_whole(sign: Sign, kind: IntegerType, whole: bool) -> bool
         Sign::Minus => is_word(kind),
         Sign::Plus | Sign::Times => whole || is_word(kind),
         Sign::Or | Sign::Xor | Sign::And | Sign::Rest => whole || is_word(kind),
+        Sign::Over | Sign::ShiftLeft | Sign::ShiftRight => false,
+        Sign::Either | Sign::Both | Sign::Unequal => false,
+        Sign::More | Sign::AtMost | Sign::AtLeast => false,
     }
 }
 
@@ -354,6 +366,7 @@ pub fn value(alloc: Global, scope: &Scope<'_>, start: usize, expr: &Expr) -> Res
             indexed(alloc, scope, start, *array, index)
         }
         Expr::Cast(inner) => Ok(word(value(alloc, scope, start, inner)?.value)),
+        Expr::Unary(_, _) | Expr::Choice(_, _, _) => Err(CFault::Outside(start, Reason::Sign)),
         Expr::Call(call, one, two) => {
             let one = value(alloc, scope, start, one)?;
             let two = value(alloc, scope, start, two)?;
