@@ -3,8 +3,8 @@
 
 mod arrays;
 mod place;
-mod pointers;
+mod pointer;
 
 pub use arrays::{CArray, Declared, declaration, named, number_of};
 pub use place::byte_of;
-pub use pointers::pointers;
+pub use pointer::pointers;

@@ -62,7 +62,7 @@ fn first_place(lines: &Lines) -> usize
 pub(crate) fn joined(one: Lines, two: Lines) -> Result<Lines, CFault>
     ensures { Gives lines_of result (meant.joined (lines_of one) (lines_of two)) }
 {
-    if two.places.len() > MAX_STATEMENTS || one.places.len() > MAX_STATEMENTS - two.places.len() {
+    if one.places.len() + two.places.len() > MAX_STATEMENTS {
         return Err(CFault::Outside(first_place(&two), Reason::TooMany));
     }
     let mut statements = one.statements;

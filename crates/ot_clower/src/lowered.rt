@@ -1,5 +1,5 @@
 //! A file whole.
-ghost use Rattle.std.specs.Prelude.{◌≡◌, false, map, Ok};
+ghost use Rattle.std.specs.Prelude.{◌≡◌, ◌<◌, ◌^◌, false, map, Ok};
 ghost use Rattle.serde_json.specs.View.{view, items_view};
 ghost use Rattle.ot_cread.specs.Tree.{expr_of, clauses_of};
 ghost use Rattle.ot_cstatement.specs.Tree.{list_of, body_of, stmt_of};
@@ -108,6 +108,7 @@ fn function_body(
 /// How many statements a function has.
 fn length(became: &Became) -> usize
     ensures { result ≡ meant.length_of (became_of became.now) }
+    ensures { result < 2 ^ 63 }
 {
     match became {
         Became::Lines(lines) => lines.places.len(),
@@ -119,8 +120,8 @@ fn length(became: &Became) -> usize
 fn counted(start: usize, count: usize, called: &Called) -> Result<usize, CFault>
     ensures { Gives (λ n. n) result (meant.counted start count (called_of called.now)) }
 {
-    let more = length(&called.inside).saturating_add(length(&called.outside));
-    if more > MAX_TOGETHER || count > MAX_TOGETHER - more {
+    let more = length(&called.inside) + length(&called.outside);
+    if count > MAX_TOGETHER || more > MAX_TOGETHER || count + more > MAX_TOGETHER {
         Err(CFault::Outside(start, Reason::TooMany))
     } else {
         Ok(count + more)

@@ -263,18 +263,28 @@ fn once_more(alloc: Global, became: &Became) -> Result<Lines, CFault>
     }
 }
 
+/// Which function it is, if it is one.
+fn function_by(start: usize, sense: Sense) -> Result<usize, CFault>
+    ensures { Gives (λ n. n) result (meant.function_by start sense) }
+{
+    match sense {
+        Sense::Function(number) => Ok(number),
+        _ => Err(CFault::Outside(start, Reason::Function)),
+    }
+}
+
 /// Which function a name is that is called here.
 fn function_at(scope: &Scope<'_>, start: usize, name: Name, exprs: &[Expr]) -> Result<usize, CFault>
     ensures { Gives (λ n. n) result (meant.function_at scope.now start name (exprs_of exprs.now)) }
 {
-    if !exprs.is_empty() {
-        return Err(CFault::Outside(start, Reason::Function));
-    }
-    if scope.combines() {
-        return Err(CFault::Outside(start, Reason::CallInGroup));
-    }
-    match scope.sense(name) {
-        Sense::Function(number) => Ok(number),
+    match exprs {
+        [] => {
+            if scope.combines() {
+                Err(CFault::Outside(start, Reason::CallInGroup))
+            } else {
+                function_by(start, scope.sense(name))
+            }
+        }
         _ => Err(CFault::Outside(start, Reason::Function)),
     }
 }

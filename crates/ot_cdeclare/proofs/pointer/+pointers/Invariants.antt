@@ -2,7 +2,7 @@ use Rattle.std.proofs.Common.{◌≡◌, drop}
 use Rattle.ot_cstatement.specs.Tree.{body_of, list_of}
 use Rattle.ot_cdeclare.specs.Arrays.{declared_of}
 use Rattle.ot_cdeclare.specs.Pointers.{pointers_from}
-use Rattle.ot_cdeclare.proofs.pointers.+pointers.Given as goal
+use Rattle.ot_cdeclare.proofs.pointer.+pointers.Given as goal
 
 -- those that are left complete what there is
 abbrev pub invariant-pointers-loop-stmt : goal.invariant-pointers-loop-stmt

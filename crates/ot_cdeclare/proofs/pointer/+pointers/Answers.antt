@@ -3,7 +3,7 @@ use Rattle.ot_cstatement.specs.Tree.{body_of, list_of}
 use Rattle.ot_cdeclare.specs.Arrays.{declared_of}
 use Rattle.ot_cdeclare.specs.Pointers.{pointers_from}
 use Rattle.ot_cdeclare.proofs.PointerLemmas.{pointers_more, pointers_fails, pointers_last}
-use Rattle.ot_cdeclare.proofs.pointers.+pointers.Goals as goal
+use Rattle.ot_cdeclare.proofs.pointer.+pointers.Goals as goal
 
 pub pointers-returns-in_err-declared : goal.pointers-returns-in_err-declared
 pointers-returns-in_err-declared t c =
