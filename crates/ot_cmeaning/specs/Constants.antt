@@ -5,7 +5,7 @@ use Rattle.ot_words.specs.declared.word.IntegerType.TheVariants.{UnsignedLong}
 use Rattle.ot_words.specs.declared.word.Name.{Name}
 use Rattle.ot_cread.specs.declared.sign.Sign.{Sign}
 use Rattle.ot_cread.specs.declared.sign.Sign.TheVariants as o
-use Rattle.ot_cread.specs.Tree.{E, Literal, Variable, CellAt, Unsigned, Called, Apply}
+use Rattle.ot_cread.specs.Tree.{E, Literal, Variable, CellAt, Unsigned, Signed, Called, Apply, Choose}
 use Rattle.ot_cmeaning.specs.declared.scope.Sense.{Sense}
 use Rattle.ot_cmeaning.specs.declared.scope.Sense.TheVariants as s
 use Rattle.ot_cmeaning.specs.Kinds.{joined, holds}
@@ -25,7 +25,8 @@ named_by (s.Turn k) = None
 named_by s.Begins = None
 named_by (s.Cells length) = None
 named_by (s.Combined o length) = None
-named_by s.Function = None
+named_by (s.Pointer x p) = None
+named_by (s.Function i) = None
 
 abbrev pub named : Around → Name → Option Typed
 named a x = named_by (sense a x)
@@ -44,6 +45,15 @@ exact o.And a b = None
 exact o.Equal a b = None
 exact o.Less a b = None
 exact o.Rest a b = None
+exact o.Either a b = None
+exact o.Both a b = None
+exact o.Unequal a b = None
+exact o.More a b = None
+exact o.AtMost a b = None
+exact o.AtLeast a b = None
+exact o.ShiftLeft a b = None
+exact o.ShiftRight a b = None
+exact o.Over a b = None
 
 abbrev pub held_if : IntegerType → Option ℕ → Option Typed
 held_if k None = None
@@ -68,4 +78,6 @@ constant a (Variable x) = named a x
 constant a (CellAt x i) = None
 constant a (Unsigned e) = as_word (constant a e)
 constant a (Called c x y) = None
+constant a (Signed sign e) = None
+constant a (Choose t x y) = None
 constant a (Apply sign x y) = both sign (constant a x) (constant a y)

@@ -6,7 +6,7 @@ use Rattle.ot_words.specs.declared.word.IntegerType.TheVariants.{UnsignedLong}
 use Rattle.ot_words.specs.declared.word.Name.{Name}
 use Rattle.ot_cread.specs.declared.sign.Sign.{Sign}
 use Rattle.ot_cread.specs.declared.sign.Sign.TheVariants as o
-use Rattle.ot_cread.specs.Tree.{E, Literal, Variable, CellAt, Unsigned, Called, Apply}
+use Rattle.ot_cread.specs.Tree.{E, Literal, Variable, CellAt, Unsigned, Signed, Called, Apply, Choose}
 use Rattle.ot_cmeaning.specs.declared.reason.Reason.{Reason}
 use Rattle.ot_cmeaning.specs.declared.reason.Reason.TheVariants as why
 use Rattle.ot_cmeaning.specs.declared.scope.Sense.{Sense}
@@ -29,7 +29,8 @@ no_number s.Begins = why.OwnBound
 no_number (s.Cells (Some n)) = why.WholeArray
 no_number (s.Cells None) = why.NoSize
 no_number (s.Combined c length) = why.Combined
-no_number s.Function = why.Function
+no_number (s.Pointer x p) = why.Pointer
+no_number (s.Function i) = why.Function
 
 abbrev pub named_by : ℕ → List ℕ → Sense → Sized
 named_by at name (s.Constant n k) = Ok (nat n, k)
@@ -39,7 +40,8 @@ named_by at name s.Begins = Err (at, why.OwnBound)
 named_by at name (s.Cells (Some n)) = Err (at, why.WholeArray)
 named_by at name (s.Cells None) = Err (at, why.NoSize)
 named_by at name (s.Combined c length) = Err (at, why.Combined)
-named_by at name s.Function = Err (at, why.Function)
+named_by at name (s.Pointer x p) = Err (at, why.Pointer)
+named_by at name (s.Function i) = Err (at, why.Function)
 
 -- the number of a constant, or a loop's variable
 abbrev pub named : Around → ℕ → Name → Sized
@@ -55,6 +57,15 @@ size_word o.And = None
 size_word o.Equal = None
 size_word o.Less = None
 size_word o.Rest = None
+size_word o.Either = None
+size_word o.Both = None
+size_word o.Unequal = None
+size_word o.More = None
+size_word o.AtMost = None
+size_word o.AtLeast = None
+size_word o.ShiftLeft = None
+size_word o.ShiftRight = None
+size_word o.Over = None
 
 abbrev pub both : ℕ → Option (List ℕ) → Sized → Sized → Sized
 both at None one two = Err (at, why.NoSize)
@@ -67,4 +78,6 @@ size a at (Variable x) = named a at x
 size a at (CellAt x i) = Err (at, why.NoSize)
 size a at (Unsigned e) = size a at e >>= λ x. Ok (x.0, UnsignedLong)
 size a at (Called c x y) = Err (at, why.NoSize)
+size a at (Signed sign e) = Err (at, why.NoSize)
+size a at (Choose t x y) = Err (at, why.NoSize)
 size a at (Apply sign x y) = both at (size_word sign) (size a at x) (size a at y)

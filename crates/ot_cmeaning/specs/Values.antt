@@ -9,7 +9,7 @@ use Rattle.ot_cread.specs.declared.sign.Sign.{Sign}
 use Rattle.ot_cread.specs.declared.sign.Sign.TheVariants as o
 use Rattle.ot_cread.specs.declared.tree.Call.{Call}
 use Rattle.ot_cread.specs.declared.tree.Call.TheVariants as c
-use Rattle.ot_cread.specs.Tree.{E, Literal, Variable, CellAt, Unsigned, Called, Apply}
+use Rattle.ot_cread.specs.Tree.{E, Literal, Variable, CellAt, Unsigned, Signed, Called, Apply, Choose}
 use Rattle.ot_cmeaning.specs.declared.reason.Reason.{Reason}
 use Rattle.ot_cmeaning.specs.declared.reason.Reason.TheVariants as why
 use Rattle.ot_cmeaning.specs.declared.scope.Sense.{Sense}
@@ -19,7 +19,7 @@ use Rattle.ot_cmeaning.specs.Constants.{Typed, constant}
 use Rattle.ot_cmeaning.specs.Forms.{nat, form, listed}
 use Rattle.ot_cmeaning.specs.Kinds.{joined, is_word, is_narrow}
 use Rattle.ot_cmeaning.specs.Results.{Refusal, ◌>>=◌}
-use Rattle.ot_cmeaning.specs.Scopes.{Around, sense, name_text}
+use Rattle.ot_cmeaning.specs.Scopes.{Around, Run, is_pointed, sense, name_text}
 use Rattle.ot_cmeaning.specs.Sizes.{size}
 
 -- a value, with the type that it has in C, and whether it is known to be no negative number there
@@ -47,21 +47,42 @@ whole d k = record { text = d; kind = k; whole = true }
 abbrev pub no_array : Sense → Reason
 no_array s.Nothing = why.Unknown
 no_array (s.Combined c length) = why.Combined
+no_array (s.Pointer x p) = why.Pointer
 no_array (s.Constant n k) = why.NoArray
 no_array (s.Turn k) = why.NoArray
 no_array s.Begins = why.NoArray
 no_array (s.Cells length) = why.NoArray
-no_array s.Function = why.NoArray
+no_array (s.Function i) = why.NoArray
 
 abbrev pub array_by : ℕ → List ℕ → Sense → Result Data Refusal
 array_by at name (s.Cells (Some n)) = Ok (string name)
 array_by at name (s.Cells None) = Err (at, why.NoArray)
 array_by at name s.Nothing = Err (at, why.Unknown)
 array_by at name (s.Combined c length) = Err (at, why.Combined)
+array_by at name (s.Pointer x p) = Err (at, why.Pointer)
 array_by at name (s.Constant n k) = Err (at, why.NoArray)
 array_by at name (s.Turn k) = Err (at, why.NoArray)
 array_by at name s.Begins = Err (at, why.NoArray)
-array_by at name s.Function = Err (at, why.NoArray)
+array_by at name (s.Function i) = Err (at, why.NoArray)
+
+-- so many cells from a place on, where both are known
+abbrev pub run_by : Option Typed → Option Typed → Run
+run_by None count = None
+run_by (Some first) None = None
+run_by (Some first) (Some count) = Some (first.0, count.0)
+
+abbrev pub one_cell : Option Typed → Run
+one_cell first = run_by first (Some (1, Int))
+
+-- which cells of an array an index may name: one, or those of which one is picked
+unfoldable pub run : Around → E → Run
+run a (Apply o.Rest chosen count) = run_by (Some (0, Int)) (constant a count)
+run a (Apply o.Plus first (Apply o.Rest chosen count)) = run_by (constant a first) (constant a count)
+run a i = one_cell (constant a i)
+
+-- no open group combines, by a pointer, over a cell of an array that an index may name
+abbrev pub untouched : Around → ℕ → Name → E → Result (Unit {0}) Refusal
+untouched a at x i = if is_pointed a x (run a i) then Err (at, why.Combined) else Ok tt
 
 -- the name of an array, over which no open group combines
 abbrev pub array_name : Around → ℕ → Name → Result Data Refusal
@@ -83,7 +104,8 @@ named_by at name (s.Cells (Some n)) = Err (at, why.WholeArray)
 named_by at name s.Nothing = Err (at, why.Unknown)
 named_by at name s.Begins = Err (at, why.OwnBound)
 named_by at name (s.Combined c length) = Err (at, why.Combined)
-named_by at name s.Function = Err (at, why.Function)
+named_by at name (s.Pointer x p) = Err (at, why.Pointer)
+named_by at name (s.Function i) = Err (at, why.Function)
 
 -- a constant, a loop's variable, or a variable
 abbrev pub named : Around → ℕ → Name → Valued
@@ -101,6 +123,15 @@ sign_word o.Plus = codes "+"
 sign_word o.Minus = codes "-"
 sign_word o.Times = codes "*"
 sign_word o.Rest = codes ""
+sign_word o.Either = codes ""
+sign_word o.Both = codes ""
+sign_word o.Unequal = codes ""
+sign_word o.More = codes ""
+sign_word o.AtMost = codes ""
+sign_word o.AtLeast = codes ""
+sign_word o.ShiftLeft = codes ""
+sign_word o.ShiftRight = codes ""
+sign_word o.Over = codes ""
 
 abbrev pub call_word : Call → List ℕ
 call_word c.Min = codes "min"
@@ -118,6 +149,15 @@ agrees o.And k w = w || not (is_narrow k)
 agrees o.Equal k w = w || not (is_narrow k)
 agrees o.Less k w = w || is_word k
 agrees o.Rest k w = false
+agrees o.Either k w = false
+agrees o.Both k w = false
+agrees o.Unequal k w = false
+agrees o.More k w = false
+agrees o.AtMost k w = false
+agrees o.AtLeast k w = false
+agrees o.ShiftLeft k w = false
+agrees o.ShiftRight k w = false
+agrees o.Over k w = false
 
 abbrev pub disagrees : Sign → Reason
 disagrees o.Plus = why.Wraps
@@ -129,6 +169,15 @@ disagrees o.And = why.Wraps
 disagrees o.Equal = why.Wraps
 disagrees o.Less = why.Signed
 disagrees o.Rest = why.Rest
+disagrees o.Either = why.Sign
+disagrees o.Both = why.Sign
+disagrees o.Unequal = why.Sign
+disagrees o.More = why.Sign
+disagrees o.AtMost = why.Sign
+disagrees o.AtLeast = why.Sign
+disagrees o.ShiftLeft = why.Sign
+disagrees o.ShiftRight = why.Sign
+disagrees o.Over = why.Sign
 
 -- the type of a result
 abbrev pub result_kind : Sign → IntegerType → IntegerType
@@ -141,6 +190,15 @@ result_kind o.Or k = k
 result_kind o.Xor k = k
 result_kind o.And k = k
 result_kind o.Rest k = k
+result_kind o.Either k = k
+result_kind o.Both k = k
+result_kind o.Unequal k = k
+result_kind o.More k = k
+result_kind o.AtMost k = k
+result_kind o.AtLeast k = k
+result_kind o.ShiftLeft k = k
+result_kind o.ShiftRight k = k
+result_kind o.Over k = k
 
 -- whether a result isn't negative
 abbrev pub result_whole : Sign → IntegerType → Bool → Bool
@@ -153,6 +211,15 @@ result_whole o.Or k w = w || is_word k
 result_whole o.Xor k w = w || is_word k
 result_whole o.And k w = w || is_word k
 result_whole o.Rest k w = w || is_word k
+result_whole o.Either k w = false
+result_whole o.Both k w = false
+result_whole o.Unequal k w = false
+result_whole o.More k w = false
+result_whole o.AtMost k w = false
+result_whole o.AtLeast k w = false
+result_whole o.ShiftLeft k w = false
+result_whole o.ShiftRight k w = false
+result_whole o.Over k w = false
 
 abbrev pub applied_in : ℕ → Sign → IntegerType → Bool → Data → Data → Valued
 applied_in at sign k w x y = if agrees sign k w then Ok (record { text = form (sign_word sign) (x ∷ y ∷ []); kind = result_kind sign k; whole = result_whole sign k w }) else Err (at, disagrees sign)
@@ -198,6 +265,15 @@ is_rest o.Xor = false
 is_rest o.And = false
 is_rest o.Equal = false
 is_rest o.Less = false
+is_rest o.Either = false
+is_rest o.Both = false
+is_rest o.Unequal = false
+is_rest o.More = false
+is_rest o.AtMost = false
+is_rest o.AtLeast = false
+is_rest o.ShiftLeft = false
+is_rest o.ShiftRight = false
+is_rest o.Over = false
 
 -- two values with a sign between, of which the second may be a constant
 abbrev pub operation : ℕ → Sign → Valued → Valued → Option Typed → Valued
@@ -207,8 +283,10 @@ unfoldable mutual
   pub value : Around → ℕ → E → Valued
   value a at (Literal n k) = Ok (whole (nat n) k)
   value a at (Variable x) = named a at x
-  value a at (CellAt x i) = indexed a at x i
+  value a at (CellAt x i) = untouched a at x i >>= λ u. indexed a at x i
   value a at (Unsigned e) = value a at e >>= λ x. Ok (word x.text)
+  value a at (Signed sign e) = Err (at, why.Sign)
+  value a at (Choose t x y) = Err (at, why.Sign)
   value a at (Called f x y) = value a at x >>= λ v. value a at y >>= λ w. Ok (word (form (call_word f) (v.text ∷ w.text ∷ [])))
   value a at (Apply sign x y) = operation at sign (value a at x) (value a at y) (constant a y)
 

@@ -25,7 +25,8 @@ fn named(scope: &Scope<'_>, name: Name) -> Option<(u64, IntegerType)>
     match scope.sense(name) {
         Sense::Constant(number, kind) => Some((number, kind)),
         Sense::Nothing | Sense::Turn(_) | Sense::Begins => None,
-        Sense::Cells(_) | Sense::Combined(_, _) | Sense::Function => None,
+        Sense::Cells(_) | Sense::Combined(_, _) => None,
+        Sense::Pointer(_, _) | Sense::Function(_) => None,
     }
 }
 
@@ -38,6 +39,8 @@ fn exact(sign: Sign, one: u64, two: u64) -> Option<u64>
         Sign::Minus => one.checked_sub(two),
         Sign::Times => one.checked_mul(two),
         Sign::Or | Sign::Xor | Sign::And | Sign::Equal | Sign::Less | Sign::Rest => None,
+        Sign::Either | Sign::Both | Sign::Unequal | Sign::More | Sign::AtMost => None,
+        Sign::AtLeast | Sign::ShiftLeft | Sign::ShiftRight | Sign::Over => None,
     }
 }
 
@@ -66,7 +69,7 @@ pub fn constant(scope: &Scope<'_>, expr: &Expr) -> Option<(u64, IntegerType)>
             let (number, _) = constant(scope, value)?;
             Some((number, IntegerType::UnsignedLong))
         }
-        Expr::Call(_, _, _) => None,
+        Expr::Unary(_, _) | Expr::Call(_, _, _) | Expr::Choice(_, _, _) => None,
         Expr::Op(sign, one, two) => {
             let one = constant(scope, one)?;
             let two = constant(scope, two)?;

@@ -25,7 +25,8 @@ pub(crate) fn no_number(sense: Sense) -> Reason
         Sense::Cells(Some(_)) => Reason::WholeArray,
         Sense::Cells(None) => Reason::NoSize,
         Sense::Combined(_, _) => Reason::Combined,
-        Sense::Function => Reason::Function,
+        Sense::Pointer(_, _) => Reason::Pointer,
+        Sense::Function(_) => Reason::Function,
     }
 }
 
@@ -53,6 +54,8 @@ fn size_word(sign: Sign) -> Option<&'static str>
         Sign::Minus => Some("-"),
         Sign::Times => Some("*"),
         Sign::Or | Sign::Xor | Sign::And | Sign::Equal | Sign::Less | Sign::Rest => None,
+        Sign::Either | Sign::Both | Sign::Unequal | Sign::More | Sign::AtMost => None,
+        Sign::AtLeast | Sign::ShiftLeft | Sign::ShiftRight | Sign::Over => None,
     }
 }
 
@@ -75,7 +78,9 @@ pub fn size(
             let (value, _) = size(alloc, scope, start, value)?;
             Ok((value, IntegerType::UnsignedLong))
         }
-        Expr::Call(_, _, _) => Err(CFault::Outside(start, Reason::NoSize)),
+        Expr::Unary(_, _) | Expr::Call(_, _, _) | Expr::Choice(_, _, _) => {
+            Err(CFault::Outside(start, Reason::NoSize))
+        }
         Expr::Op(sign, one, two) => {
             let Some(word) = size_word(*sign) else {
                 return Err(CFault::Outside(start, Reason::NoSize));

@@ -49,6 +49,48 @@ fn whole(value: Value, kind: IntegerType) -> Worth
     }
 }
 
+/// So many cells from a place on, where both are known.
+pub fn run_by(
+    first: Option<(u64, IntegerType)>,
+    count: Option<(u64, IntegerType)>,
+) -> Option<(u64, u64)>
+    ensures { result ≡ values.run_by first count }
+{
+    let (first, _) = first?;
+    let (count, _) = count?;
+    Some((first, count))
+}
+
+/// Which cells of an array an index may name: one, or those of which one is picked.
+#[tactic(auto, unfolding(crate::specs::Values::run))]
+fn run(scope: &Scope<'_>, index: &Expr) -> Option<(u64, u64)>
+    ensures { result ≡ values.run scope.now (expr_of index.now) }
+{
+    match index {
+        Expr::Op(Sign::Rest, _, count) => {
+            run_by(Some((0, IntegerType::Int)), constant(scope, count))
+        }
+        Expr::Op(Sign::Plus, first, more) => match &**more {
+            Expr::Op(Sign::Rest, _, count) => {
+                run_by(constant(scope, first), constant(scope, count))
+            }
+            _ => run_by(constant(scope, index), Some((1, IntegerType::Int))),
+        },
+        _ => run_by(constant(scope, index), Some((1, IntegerType::Int))),
+    }
+}
+
+/// No open group combines, by a pointer, over a cell of an array that an index may name.
+pub fn untouched(scope: &Scope<'_>, start: usize, array: Name, index: &Expr) -> Result<(), CFault>
+    ensures { Gives (λ x. x) result (values.untouched scope.now start array (expr_of index.now)) }
+{
+    if scope.is_pointed(array, run(scope, index)) {
+        Err(CFault::Outside(start, Reason::Combined))
+    } else {
+        Ok(())
+    }
+}
+
 /// The name of an array, a cell of which is wanted.
 fn array_name(alloc: Global, scope: &Scope<'_>, start: usize, array: Name) -> Result<Value, CFault>
     ensures { Gives (λ v. view v) result (values.array_name scope.now start array) }
@@ -66,8 +108,9 @@ fn no_array(sense: Sense) -> Reason
     match sense {
         Sense::Nothing => Reason::Unknown,
         Sense::Combined(_, _) => Reason::Combined,
+        Sense::Pointer(_, _) => Reason::Pointer,
         Sense::Constant(_, _) | Sense::Turn(_) | Sense::Begins => Reason::NoArray,
-        Sense::Cells(_) | Sense::Function => Reason::NoArray,
+        Sense::Cells(_) | Sense::Function(_) => Reason::NoArray,
     }
 }
 
@@ -113,7 +156,8 @@ fn sign_word(sign: Sign) -> &'static str
         Sign::Plus => "+",
         Sign::Minus => "-",
         Sign::Times => "*",
-        Sign::Rest => "",
+        Sign::Rest | Sign::Over | Sign::ShiftLeft | Sign::ShiftRight => "",
+        Sign::Either | Sign::Both | Sign::Unequal | Sign::More | Sign::AtMost | Sign::AtLeast => "",
     }
 }
 
@@ -134,7 +178,9 @@ fn agrees(sign: Sign, kind: IntegerType, whole: bool) -> bool
         Sign::Plus | Sign::Minus | Sign::Times => !is_narrow(kind),
         Sign::Or | Sign::Xor | Sign::And | Sign::Equal => whole || !is_narrow(kind),
         Sign::Less => whole || is_word(kind),
-        Sign::Rest => false,
+        Sign::Rest | Sign::Over | Sign::ShiftLeft | Sign::ShiftRight => false,
+        Sign::Either | Sign::Both | Sign::Unequal => false,
+        Sign::More | Sign::AtMost | Sign::AtLeast => false,
     }
 }
 
@@ -147,6 +193,9 @@ fn disagrees(sign: Sign) -> Reason
         Sign::Or | Sign::Xor | Sign::And | Sign::Equal => Reason::Wraps,
         Sign::Less => Reason::Signed,
         Sign::Rest => Reason::Rest,
+        Sign::Over | Sign::ShiftLeft | Sign::ShiftRight => Reason::Sign,
+        Sign::Either | Sign::Both | Sign::Unequal => Reason::Sign,
+        Sign::More | Sign::AtMost | Sign::AtLeast => Reason::Sign,
     }
 }
 
@@ -158,6 +207,9 @@ fn result_kind(sign: Sign, kind: IntegerType) -> IntegerType
         Sign::Equal | Sign::Less => IntegerType::Int,
         Sign::Plus | Sign::Minus | Sign::Times => kind,
         Sign::Or | Sign::Xor | Sign::And | Sign::Rest => kind,
+        Sign::Over | Sign::ShiftLeft | Sign::ShiftRight => kind,
+        Sign::Either | Sign::Both | Sign::Unequal => kind,
+        Sign::More | Sign::AtMost | Sign::AtLeast => kind,
     }
 }
 
@@ -170,6 +222,9 @@ fn result_whole(sign: Sign, kind: IntegerType, whole: bool) -> bool
         Sign::Minus => is_word(kind),
         Sign::Plus | Sign::Times => whole || is_word(kind),
         Sign::Or | Sign::Xor | Sign::And | Sign::Rest => whole || is_word(kind),
+        Sign::Over | Sign::ShiftLeft | Sign::ShiftRight => false,
+        Sign::Either | Sign::Both | Sign::Unequal => false,
+        Sign::More | Sign::AtMost | Sign::AtLeast => false,
     }
 }
 
@@ -306,8 +361,12 @@ pub fn value(alloc: Global, scope: &Scope<'_>, start: usize, expr: &Expr) -> Res
     match expr {
         Expr::Number(number, kind) => Ok(whole(Value::from(*number), *kind)),
         Expr::Variable(name) => named(alloc, scope, start, *name),
-        Expr::Cell(array, index) => indexed(alloc, scope, start, *array, index),
+        Expr::Cell(array, index) => {
+            untouched(scope, start, *array, index)?;
+            indexed(alloc, scope, start, *array, index)
+        }
         Expr::Cast(inner) => Ok(word(value(alloc, scope, start, inner)?.value)),
+        Expr::Unary(_, _) | Expr::Choice(_, _, _) => Err(CFault::Outside(start, Reason::Sign)),
         Expr::Call(call, one, two) => {
             let one = value(alloc, scope, start, one)?;
             let two = value(alloc, scope, start, two)?;
