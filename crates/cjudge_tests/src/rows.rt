@@ -28,6 +28,18 @@ const MANY: &str = r#"[["for","i",0,11,[["if",["c","x",0],[["set",["c","a",1],"i
 [["for","i",0,10,[["if",["c","x",0],[["set",["c","a",1],"i"]],[]]]],["for","i",0,2000,[["set",["c","a",1],"i"]]]]
 "#;
 
+/// Items that overlap, with the column of the statement that has the second one: of siblings, of one task, in two turns, of a
+/// wait. Behind them items that don't: of a child and its parent, the same ones, one that only folds.
+const ITEMS: &str =
+    r#"[["task",[["out",["a",0,2]]],[["set",["c","a",0],1]]],["task",[["in",["a",1,2]]],[]]]|3
+[["task",[["in",["a",0,2]],["in",["a",1,2]]],[]]]|1
+[["for","i",0,2,[["task",[["out",["a","i",2]]],[["set",["c","a","i"],1]]]]]]|2
+[["task",[["out",["a",0,2]]],[["set",["c","a",0],1]]],["wait",[["in",["a",1,1]]]]]|3
+[["task",[["out",["a",0,4]]],[["task",[["out",["a",0,1]]],[["set",["c","a",0],1]]],["wait"]]]]|
+[["task",[["out",["a",0,2]]],[["set",["c","a",0],1]]],["task",[["out",["a",0,2]]],[["set",["c","a",0],1]]],["task",[["out",["a",2,2]]],[]]]|
+[["group","+",[["a",0,4]],[["task",[["red","+",["a",0,2]]],[["fold","+",["c","a",0],1]]],["task",[["red","+",["a",1,2]]],[["fold","+",["c","a",1],1]]]]]]|
+"#;
+
 /// What is written about a text that this body stands for. It is None where the body can't be read.
 fn report_of(alloc: Global, body: &str) -> Result<Option<Report>, AllocError> {
     let text = format!(in alloc; "[\"program2\",[[\"a\",0,4],[\"x\",0,1]],{body}]")?;
@@ -121,5 +133,27 @@ fn many_ways(rt: HostRuntime) -> Result<(), Fail> {
         let told = tells(alloc, body, Verdict::Clean, wanted)?;
         assert!(rt; told, "{body}");
     }
+    Ok(())
+}
+
+#[test]
+fn items(rt: HostRuntime) -> Result<(), Fail> {
+    let alloc = rt.alloc();
+    let mut rows = 0u32;
+    for line in ITEMS.lines() {
+        if let Some((body, column)) = line.split_once("|") {
+            let told = if column.is_empty() {
+                tells(alloc, body, Verdict::Clean, "")?
+            } else {
+                let lines = format!(in alloc;
+                    "k.c:1:{column}: error: an item of a depend clause overlaps in part with another one of this task or of a sibling [outside]\n"
+                )?;
+                tells(alloc, body, Verdict::Outside, lines.as_str())?
+            };
+            assert!(rt; told, "{line}");
+            rows = rows.wrapping_add(1);
+        }
+    }
+    assert!(rt; rows == 7);
     Ok(())
 }
