@@ -52,7 +52,7 @@ pub position_next : (name : List ℕ) (arrays : List ArrayShape) (i : ℕ) (a : 
     → i + position_or_len (λ a. bytes_eq a.0 name) (arrays_of (drop i arrays)) ≡ position_or_len (λ a. bytes_eq a.0 name) (arrays_of arrays)
     → i + 1 + position_or_len (λ a. bytes_eq a.0 name) (arrays_of (drop (i + 1) arrays)) ≡ position_or_len (λ a. bytes_eq a.0 name) (arrays_of arrays)
 position_next name arrays i a within is eq sum =
-    let step : position_or_len (λ a. bytes_eq a.0 name) (arrays_of (drop i arrays)) ≡ suc (position_or_len (λ a. bytes_eq a.0 name) (arrays_of (drop (i + 1) arrays))) =
+    let step : position_or_len (λ a. bytes_eq a.0 name) (arrays_of (drop i arrays)) ≡ 1 + position_or_len (λ a. bytes_eq a.0 name) (arrays_of (drop (i + 1) arrays)) =
     rw (drop-cons arrays i a within, ← is, eq, add-one) refl in
     omega (arith, step, sum)
 

@@ -19,6 +19,6 @@ loop-position-preserved c = (
 
 pub returns : goal.returns
 returns c =
-    subst (λ (n : ℕ). IfOk c.short.result (λ p. p ≡ n))
+    subst (λ (n : ℕ). IfOk c.short-2.result (λ p. p ≡ n))
     (position_end c.args.name.now c.args.arrays.now c.loop-position.position c.loop-position-test.false c.loop-position.invariant.0 c.loop-position.invariant.1)
-    c.short.ensures
+    c.short-2.ensures

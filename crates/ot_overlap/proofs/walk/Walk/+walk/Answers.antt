@@ -9,7 +9,7 @@ use Rattle.ot_place.specs.Seeking.{bindings_of}
 use Rattle.ot_place.proofs.CopyLemmas.{no_list, a_list, item_depth}
 use Rattle.ot_overlap.specs.Items.{met_in}
 use Rattle.ot_overlap.specs.View.{met_by, arrays_by}
-use Rattle.ot_overlap.proofs.WalkLemmas.{items_next, items_none, turns_next, turns_none, statement_met, for_met}
+use Rattle.ot_overlap.proofs.WalkLemmas.{items_next, items_none, turns_next, turns_none, statement_met, for_met, if_met}
 use Rattle.ot_overlap.proofs.walk.Walk.+walk.Goals as goal
 
 pub body-items-requires : goal.body-items-requires
@@ -133,4 +133,8 @@ turns-returns t c defined level s =
     c.loop-number-test.false)
 
 pub bodies-returns-in_ok-body-in-If : goal.bodies-returns-in_ok-body-in-If
-bodies-returns-in_ok-body-in-If t c defined level s = ?
+bodies-returns-in_ok-body-in-If t c defined level s =
+    on_ok_weaker c.body-in-If.result
+    (λ e. if_met (arrays_by c.args.self.now) defined level (bindings_of c.args.trail.now) c.args.task c.args.text _ _ _ (met_by c.args.met.now) _ _ c.in-If.is
+    (c.in_ok-body-in-If.ensures defined (level + 1) s) e)
+    (c.body-in-If.ensures defined (level + 1) s)
