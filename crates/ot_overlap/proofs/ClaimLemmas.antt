@@ -1,5 +1,5 @@
 -- Claims of cells, and the overlaps that they show.
-use Rattle.std.proofs.Common.{◌≡◌, ◌≢◌, ℕ, zero, suc, [], ◌∷◌, length, get_or, ◌+◌, ◌<◌, ◌≤◌, Bool, true, false, cond, ◌&&◌, ◌⊎◌, inl, inr, List, refl, sym, ap, ◌∙◌, subst, arith, is_eq}
+use Rattle.std.proofs.Common.{◌≡◌, ◌≢◌, ℕ, zero, suc, [], ◌∷◌, length, slice_index_or, ◌+◌, ◌<◌, ◌≤◌, Bool, true, false, cond, ◌&&◌, ◌⊎◌, inl, inr, List, refl, sym, ap, ◌∙◌, subst, arith, is_eq}
 use Rattle.std.specs.Prelude.{◌==◌, ◌||◌, nat_le, nat_lt, not, Some, None, slice_get}
 use Rattle.std.specs.BTreeMap.{get, Updates}
 use Rattle.std.specs.Ordering.{nat_cmp, ordering_then}
@@ -277,11 +277,15 @@ are_none items claims none =
       none = λ i j o less. omega (arith, less);
     }
 
--- an element whose place is known
-pub stands : (items : List Item) (n : ℕ) (it : Item) → n < length items → it ≡ get_or items n it → slice_get items n ≡ Some it
-stands [] n it l h = absurd (omega (arith, l))
-stands (x ∷ xs) zero it l h = ap Some (sym h)
-stands (x ∷ xs) (suc n) it l h = stands xs n it (omega (arith, l)) h
+-- what an index beyond all items gives
+abbrev pub nowhere : Item
+nowhere = record { parent = 0; entry = 0; section = section_of 0 0 0 }
+
+-- the item at an index
+pub stands_at : (items : List Item) (n : ℕ) (other : Item) → n < length items → slice_get items n ≡ Some (slice_index_or items n other)
+stands_at [] n other l = absurd (omega (arith, l))
+stands_at (x ∷ xs) zero other l = refl
+stands_at (x ∷ xs) (suc n) other l = stands_at xs n other (omega (arith, l))
 
 pub stands_within : (items : List Item) (n : ℕ) (it : Item) → slice_get items n ≡ Some it → n < length items
 stands_within [] n it h = absurd (none_some it h)

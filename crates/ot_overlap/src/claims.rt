@@ -24,13 +24,13 @@ impl Claims {
     }
 
     /// Whether a cell of an item is claimed by another section.
-    pub(crate) fn clashes(&self, item: Item) -> bool
-        ensures some { result ≡ true → Clashes self.now item }
-        ensures none { result ≡ false → Clashes self.now item → ⊥ }
+    pub(crate) fn clashes(&self, item: &Item) -> bool
+        ensures some { result ≡ true → Clashes self.now item.now }
+        ensures none { result ≡ false → Clashes self.now item.now → ⊥ }
     {
-        let section = item.section;
-        let start = u64::from(section.start);
-        for index in start..start + u64::from(section.len) {
+        let start = u64::from(item.section.start);
+        let len = u64::from(item.section.len);
+        for index in start..start + len {
             if self.differs(item, index) {
                 return true;
             }
@@ -39,9 +39,9 @@ impl Claims {
     }
 
     /// Whether another section than that of the item claims the cell at an index of its array.
-    fn differs(&self, item: Item, index: u64) -> bool
-        ensures some { result ≡ true → DiffersAt self.now item index }
-        ensures none { result ≡ false → DiffersAt self.now item index → ⊥ }
+    fn differs(&self, item: &Item, index: u64) -> bool
+        ensures some { result ≡ true → DiffersAt self.now item.now index }
+        ensures none { result ≡ false → DiffersAt self.now item.now index → ⊥ }
     {
         match self.sections.get(&(item.parent, item.section.array, index)) {
             Some(section) => !are_same(*section, item.section),
@@ -50,13 +50,14 @@ impl Claims {
     }
 
     /// An item claims its cells.
-    pub(crate) fn enter(&mut self, item: Item) -> Result<(), AllocError>
+    pub(crate) fn enter(&mut self, item: &Item) -> Result<(), AllocError>
         ensures { OnOk result ((parent array index : ℕ) → claimed self.new parent array index
-            ≡ (if is_here item parent array index then Some item.section else claimed self.old parent array index)) }
+            ≡ (if is_here item.now parent array index then Some item.now.section else claimed self.old parent array index)) }
     {
+        let start = u64::from(item.section.start);
+        let len = u64::from(item.section.len);
         let section = item.section;
-        let start = u64::from(section.start);
-        for index in start..start + u64::from(section.len) {
+        for index in start..start + len {
             self.sections
                 .insert((item.parent, section.array, index), section)?;
         }

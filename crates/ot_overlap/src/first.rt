@@ -11,12 +11,11 @@ pub(crate) fn first_of(alloc: Global, items: &[Item]) -> Result<Option<u32>, All
     ensures { IfOk result (IsFirst items.now) }
 {
     let mut claims = Claims::new(alloc);
-    for number in 0..items.len() {
-        let item = &items[number];
-        if claims.clashes(*item) {
+    for item in items {
+        if claims.clashes(item) {
             return Ok(Some(item.entry));
         }
-        claims.enter(*item)?;
+        claims.enter(item)?;
     }
     Ok(None)
 }

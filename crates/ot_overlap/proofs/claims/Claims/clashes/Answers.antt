@@ -7,7 +7,7 @@ pub loop-index-preserved : goal.loop-index-preserved
 loop-index-preserved c = (
   omega (arith, c.loop-index.invariant.0),
   λ k from below differs. elim (cases_eq k c.loop-index.index) [
-    | inl last ↦ c.differs.ensures.none c.if-differs.false (subst (DiffersAt c.args.self.now c.args.item) last differs)
+    | inl last ↦ c.differs.ensures.none c.if-differs.false (subst (DiffersAt c.args.self.now c.args.item.now) last differs)
     | inr before ↦ c.loop-index.invariant.1 k from (omega (arith, below, before)) differs
   ],
 )
