@@ -1,14 +1,14 @@
 -- Claims of cells, and the overlaps that they show.
 use Rattle.std.proofs.Common.{◌≡◌, ◌≢◌, ℕ, zero, suc, [], ◌∷◌, length, slice_index_or, ◌+◌, ◌<◌, ◌≤◌, Bool, true, false, cond, ◌&&◌, ◌⊎◌, inl, inr, List, refl, sym, ap, ◌∙◌, subst, arith, is_eq}
 use Rattle.std.specs.Prelude.{◌==◌, ◌||◌, nat_le, nat_lt, not, Some, None, slice_get}
-use Rattle.std.specs.BTreeMap.{get, Updates}
+use Rattle.std.specs.BTreeMap.{Updates}
 use Rattle.std.specs.Ordering.{nat_cmp, ordering_then}
 use Rattle.std.specs.declared.cmp.Ordering.{Ordering}
 use Rattle.std.specs.declared.cmp.Ordering.TheVariants.{Less, Equal, Greater}
 use Rattle.std.proofs.lemmas.Bool.{cases_eq, cases_lt}
 use Rattle.std.proofs.lemmas.Bool.Decides.{nat_tests}
 use Rattle.ot_model.specs.declared.expr.Section.{Section}
-use Rattle.ot_overlap.specs.Claims.{Key, key_cmp, claimed, DiffersAt, Clashes, is_here, AreClaims}
+use Rattle.ot_overlap.specs.Claims.{Key, key_cmp, claimed, Clashes, is_here, AreClaims}
 use Rattle.ot_overlap.specs.Overlaps.{Covers, IsOverlap, IsFirst}
 use Rattle.ot_overlap.specs.declared.claims.Claims.{Claims}
 use Rattle.ot_overlap.specs.declared.item.Item.{Item}

@@ -1,5 +1,5 @@
 -- What is met in bodies and turns, one after the other, and in the items of clauses.
-use Rattle.std.proofs.Common.{◌≡◌, ◌≢◌, ℕ, suc, ◌+◌, ◌-◌, ◌<◌, ◌≤◌, List, [], ◌∷◌, ◌++◌, map, length, get_or, drop, refl, sym, ap, ◌∙◌, add-one, append_assoc, append-nil, arith, Bor}
+use Rattle.std.proofs.Common.{◌≡◌, ℕ, suc, ◌+◌, ◌-◌, ◌<◌, ◌≤◌, List, [], ◌∷◌, ◌++◌, map, length, get_or, drop, refl, sym, ap, ◌∙◌, add-one, append_assoc, append-nil, arith, Bor}
 use Rattle.std.proofs.Math.Seq.{drop-cons}
 use Rattle.std.proofs.lemmas.List.{drop_all, map-append}
 use Rattle.serde_json.specs.Data.{Data}
@@ -12,7 +12,7 @@ use Rattle.ot_place.specs.Texts.{Profile, text_by, text_at, first_copies, second
 use Rattle.ot_place.specs.declared.text.Text.{Text as CodeText}
 use Rattle.ot_place.specs.declared.text.Text.TheVariants as t
 use Rattle.ot_place.proofs.CopyLemmas.{copy_is}
-use Rattle.ot_overlap.specs.Items.{Met, met_at, met_one, met_in, task_of, item_of, section_as, sections_among}
+use Rattle.ot_overlap.specs.Items.{Met, met_at, met_one, met_in, task_of, section_as, sections_among}
 use Rattle.ot_overlap.specs.declared.item.Item.{Item}
 
 -- ---- the items of a body
