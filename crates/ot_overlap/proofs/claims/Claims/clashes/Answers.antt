@@ -1,4 +1,4 @@
-use Rattle.std.proofs.Common.{ℕ, ◌≤◌, ◌<◌, subst, inl, inr, arith}
+use Rattle.std.proofs.Common.{subst, inl, inr, arith}
 use Rattle.std.proofs.lemmas.Bool.{cases_eq}
 use Rattle.ot_overlap.specs.Claims.{DiffersAt}
 use Rattle.ot_overlap.proofs.claims.Claims.clashes.Goals as goal

@@ -1,4 +1,4 @@
-use Rattle.std.proofs.Common.{◌≡◌, ◌∙◌, ℕ, ◌+◌, ◌≤◌, cond, ap, arith}
+use Rattle.std.proofs.Common.{◌≡◌, ◌∙◌, ◌+◌, cond, ap, arith}
 use Rattle.std.specs.Prelude.{Some}
 use Rattle.ot_overlap.specs.Claims.{claimed}
 use Rattle.ot_overlap.proofs.ClaimLemmas.{is_upto, entered_none, entered_next}
