@@ -28,16 +28,20 @@ const MANY: &str = r#"[["for","i",0,11,[["if",["c","x",0],[["set",["c","a",1],"i
 [["for","i",0,10,[["if",["c","x",0],[["set",["c","a",1],"i"]],[]]]],["for","i",0,2000,[["set",["c","a",1],"i"]]]]
 "#;
 
-/// Items that overlap, with the column of the statement that has the second one: of siblings, of one task, in two turns, of a
-/// wait. Behind them items that don't: of a child and its parent, the same ones, one that only folds.
+/// Items that overlap, with the column of the statement that is told: of siblings, of one task, in two turns, of a wait, one that
+/// reads before one that writes, two that write behind one that reads. Behind them items that don't, or of which none writes: of a
+/// child and its parent, the same ones, one that only folds, two that read.
 const ITEMS: &str =
     r#"[["task",[["out",["a",0,2]]],[["set",["c","a",0],1]]],["task",[["in",["a",1,2]]],[]]]|3
-[["task",[["in",["a",0,2]],["in",["a",1,2]]],[]]]|1
+[["task",[["in",["a",0,2]],["inout",["a",1,2]]],[]]]|1
 [["for","i",0,2,[["task",[["out",["a","i",2]]],[["set",["c","a","i"],1]]]]]]|2
 [["task",[["out",["a",0,2]]],[["set",["c","a",0],1]]],["wait",[["in",["a",1,1]]]]]|3
+[["task",[["in",["a",0,2]]],[]],["task",[["out",["a",1,1]]],[["set",["c","a",1],1]]]]|1
+[["task",[["in",["a",0,3]]],[]],["task",[["out",["a",0,2]]],[["set",["c","a",0],1]]],["task",[["out",["a",1,1]]],[]]]|4
 [["task",[["out",["a",0,4]]],[["task",[["out",["a",0,1]]],[["set",["c","a",0],1]]],["wait"]]]]|
 [["task",[["out",["a",0,2]]],[["set",["c","a",0],1]]],["task",[["out",["a",0,2]]],[["set",["c","a",0],1]]],["task",[["out",["a",2,2]]],[]]]|
 [["group","+",[["a",0,4]],[["task",[["red","+",["a",0,2]]],[["fold","+",["c","a",0],1]]],["task",[["red","+",["a",1,2]]],[["fold","+",["c","a",1],1]]]]]]|
+[["task",[["in",["a",0,4]],["out",["x",0,1]]],[["set",["c","x",0],["c","a",0]]]],["task",[["in",["a",0,1]]],[]]]|
 "#;
 
 /// What is written about a text that this body stands for. It is None where the body can't be read.
@@ -154,6 +158,6 @@ fn items(rt: HostRuntime) -> Result<(), Fail> {
             rows = rows.wrapping_add(1);
         }
     }
-    assert!(rt; rows == 7);
+    assert!(rt; rows == 10);
     Ok(())
 }

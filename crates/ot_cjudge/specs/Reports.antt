@@ -129,7 +129,7 @@ ReportsFinding s body OnlyRun verdict text = (verdict ≡ v.Clean) × (warning :
 abbrev pub ReportsRun : Source → List (List ℕ) → Body → Verdict → List ℕ → Type 0
 ReportsRun s cells body verdict text = (finding : Finding) × Finds body cells finding × ReportsFinding s body finding verdict text
 
--- of one of which an item of a `depend` clause overlaps in part with one before it, or none does
+-- of one of which an item of a `depend` clause overlaps in part with one that writes, or none does
 abbrev pub ReportsItems : Source → List (List ℕ) → Body → Option ℕ → Verdict → List ℕ → Type 0
 ReportsItems s cells body (Some entry) verdict text = (verdict ≡ v.Outside) × (text ≡ outside_line s.name (entry_site s entry).position overlaps)
 ReportsItems s cells body None verdict text = ReportsRun s cells body verdict text

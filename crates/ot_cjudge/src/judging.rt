@@ -126,7 +126,7 @@ fn report_program(
     }
 }
 
-/// What is written of a program of which this entry has an item that overlaps in part with another one.
+/// What is written of a program of which this entry has an item that overlaps in part with one that writes.
 fn report_overlap(alloc: Global, source: &Source<'_>, entry: u32) -> Result<Report, AllocError>
     ensures verdict { IfOk result (λ report. report.verdict ≡ Verdict.Outside) }
     ensures text { IfOk result (λ report. report.text.items ≡ outside_line source.now.name.now (entry_site (source_by source.now) entry).position overlaps) }
@@ -146,7 +146,7 @@ fn report_overlap(alloc: Global, source: &Source<'_>, entry: u32) -> Result<Repo
     })
 }
 
-/// What is written of a program in which no items overlap in part.
+/// What is written of a program in which no items of which one writes overlap in part.
 fn report_run(
     alloc: Global,
     source: &Source<'_>,

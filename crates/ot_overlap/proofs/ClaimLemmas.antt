@@ -8,8 +8,8 @@ use Rattle.std.specs.declared.cmp.Ordering.TheVariants.{Less, Equal, Greater}
 use Rattle.std.proofs.lemmas.Bool.{cases_eq, cases_lt}
 use Rattle.std.proofs.lemmas.Bool.Decides.{nat_tests}
 use Rattle.ot_model.specs.declared.expr.Section.{Section}
-use Rattle.ot_overlap.specs.Claims.{Key, key_cmp, claimed, Clashes, is_here, AreClaims}
-use Rattle.ot_overlap.specs.Overlaps.{Covers, IsOverlap, IsFirst}
+use Rattle.ot_overlap.specs.Claims.{Key, key_cmp, claimed, Clashes, is_here, is_taken, AreClaims}
+use Rattle.ot_overlap.specs.Overlaps.{Covers, IsOverlap, IsFirstIn}
 use Rattle.ot_overlap.specs.declared.claims.Claims.{Claims}
 use Rattle.ot_overlap.specs.declared.item.Item.{Item}
 
@@ -161,20 +161,20 @@ some_same : {A : Type 0} (x y : A) → Some x ≡ Some y → x ≡ y
 some_same x y h = cc
 
 abbrev Entered : Claims → Item → Claims → Type 0
-Entered old it new = (parent array index : ℕ) → claimed new parent array index ≡ cond (is_here it parent array index) (Some it.section) (claimed old parent array index)
+Entered old it new = (parent array index : ℕ) → claimed new parent array index ≡ cond (is_taken it parent array index) (Some it.section) (claimed old parent array index)
 
-at_here : (old new : Claims) (it : Item) (parent array index : ℕ) → Entered old it new → is_here it parent array index ≡ true
+at_here : (old new : Claims) (it : Item) (parent array index : ℕ) → Entered old it new → is_taken it parent array index ≡ true
     → claimed new parent array index ≡ Some it.section
 at_here old new it parent array index entered here =
     entered parent array index ∙ ap (λ b. cond b (Some it.section) (claimed old parent array index)) here
 
-at_other : (old new : Claims) (it : Item) (parent array index : ℕ) → Entered old it new → is_here it parent array index ≡ false
+at_other : (old new : Claims) (it : Item) (parent array index : ℕ) → Entered old it new → is_taken it parent array index ≡ false
     → claimed new parent array index ≡ claimed old parent array index
 at_other old new it parent array index entered away =
     entered parent array index ∙ ap (λ b. cond b (Some it.section) (claimed old parent array index)) away
 
 module _ (items : List Item) (n : ℕ) (it : Item) (old : Claims) (there : slice_get items n ≡ Some it) (are : AreClaims items n old) where
-  pub overlaps : Clashes old it → IsFirst items (Some it.entry)
+  pub overlaps : Clashes old it → IsFirstIn items (Some it.entry)
   overlaps clash =
       let index = clash.0 in
       let covers = clash.1 in
@@ -190,6 +190,7 @@ module _ (items : List Item) (n : ℕ) (it : Item) (old : Claims) (there : slice
           other = it;
           earlier = found.3;
           later = there;
+          writes = found.8;
           siblings = found.4;
           array = found.5;
           index = index;
@@ -204,25 +205,25 @@ module _ (items : List Item) (n : ℕ) (it : Item) (old : Claims) (there : slice
 
   module _ (new : Claims) (free : Clashes old it → ⊥) (entered : Entered old it new) where
     kept_sound : (parent array index : ℕ) (s : Section) → claimed new parent array index ≡ Some s
-        → (i : ℕ) × (jt : Item) × (i < n + 1) × (slice_get items i ≡ Some jt) × (jt.parent ≡ parent) × (jt.section.array ≡ array) × (jt.section ≡ s) × Covers s index
+        → (i : ℕ) × (jt : Item) × (i < n + 1) × (slice_get items i ≡ Some jt) × (jt.parent ≡ parent) × (jt.section.array ≡ array) × (jt.section ≡ s) × Covers s index × (jt.writes ≡ true)
     kept_sound parent array index s claim =
-        elim (true_or_false (is_here it parent array index)) [
+        elim (true_or_false (is_taken it parent array index)) [
           | inl here ↦
-              let is = here_is it parent array index here in
+              let is = here_is it parent array index (right_of it.writes _ here) in
               let same : it.section ≡ s = some_same it.section s (sym (at_here old new it parent array index entered here) ∙ claim) in
-              (n, it, omega arith, there, is.0, is.1, same, subst (λ (t : Section). Covers t index) same is.2)
+              (n, it, omega arith, there, is.0, is.1, same, subst (λ (t : Section). Covers t index) same is.2, left_of it.writes _ here)
           | inr away ↦
               let found = are.sound parent array index s (sym (at_other old new it parent array index entered away) ∙ claim) in
-              (found.0, found.1, omega (arith, found.2), found.3, found.4, found.5, found.6, found.7)
+              (found.0, found.1, omega (arith, found.2), found.3, found.4, found.5, found.6, found.7, found.8)
         ]
 
-    earlier_kept : (i : ℕ) (jt : Item) → i < n → slice_get items i ≡ Some jt → (index : ℕ) → Covers jt.section index
+    earlier_kept : (i : ℕ) (jt : Item) → i < n → slice_get items i ≡ Some jt → jt.writes ≡ true → (index : ℕ) → Covers jt.section index
         → claimed new jt.parent jt.section.array index ≡ Some jt.section
-    earlier_kept i jt less at_i index covers =
-        let claim = are.complete i jt less at_i index covers in
-        elim (true_or_false (is_here it jt.parent jt.section.array index)) [
+    earlier_kept i jt less at_i writes index covers =
+        let claim = are.complete i jt less at_i writes index covers in
+        elim (true_or_false (is_taken it jt.parent jt.section.array index)) [
           | inl here ↦
-              let is = here_is it jt.parent jt.section.array index here in
+              let is = here_is it jt.parent jt.section.array index (right_of it.writes _ here) in
               elim (sections_equal jt.section it.section) [
                 | inl same ↦ at_here old new it jt.parent jt.section.array index entered here ∙ ap Some (sym same)
                 | inr apart ↦
@@ -233,15 +234,15 @@ module _ (items : List Item) (n : ℕ) (it : Item) (old : Claims) (there : slice
           | inr away ↦ at_other old new it jt.parent jt.section.array index entered away ∙ claim
         ]
 
-    kept_complete : (i : ℕ) (jt : Item) → i < n + 1 → slice_get items i ≡ Some jt → (index : ℕ) → Covers jt.section index
+    kept_complete : (i : ℕ) (jt : Item) → i < n + 1 → slice_get items i ≡ Some jt → jt.writes ≡ true → (index : ℕ) → Covers jt.section index
         → claimed new jt.parent jt.section.array index ≡ Some jt.section
-    kept_complete i jt less at_i index covers =
+    kept_complete i jt less at_i writes index covers =
         elim (cases_eq i n) [
           | inl last ↦
               let same : jt ≡ it = some_same jt it (sym at_i ∙ ap (λ k. slice_get items k) last ∙ there) in
-              subst (λ (x : Item). Covers x.section index → claimed new x.parent x.section.array index ≡ Some x.section) (sym same)
-              (λ cs. at_here old new it it.parent it.section.array index entered (is_there it it.parent it.section.array index refl refl cs)) covers
-          | inr before ↦ earlier_kept i jt (omega (arith, less, before)) at_i index covers
+              subst (λ (x : Item). x.writes ≡ true → Covers x.section index → claimed new x.parent x.section.array index ≡ Some x.section) (sym same)
+              (λ ws cs. at_here old new it it.parent it.section.array index entered (both_of it.writes _ ws (is_there it it.parent it.section.array index refl refl cs))) writes covers
+          | inr before ↦ earlier_kept i jt (omega (arith, less, before)) at_i writes index covers
         ]
 
     kept_none : (i j : ℕ) → IsOverlap items i j → j < n + 1 → ⊥
@@ -249,7 +250,7 @@ module _ (items : List Item) (n : ℕ) (it : Item) (old : Claims) (there : slice
         elim (cases_eq j n) [
           | inl last ↦
               let same : o.other ≡ it = some_same o.other it (sym o.later ∙ ap (λ k. slice_get items k) last ∙ there) in
-              let claim = are.complete i o.one (omega (arith, o.order, last)) o.earlier o.index o.here in
+              let claim = are.complete i o.one (omega (arith, o.order, last)) o.earlier o.writes o.index o.here in
               let moved : claimed old it.parent it.section.array o.index ≡ Some o.one.section =
               ap (λ (x : Item). claimed old x.parent x.section.array o.index) (sym same)
               ∙ ap (λ p. claimed old p o.other.section.array o.index) (sym o.siblings) ∙ ap (λ a. claimed old o.one.parent a o.index) (sym o.array) ∙ claim in
@@ -273,13 +274,13 @@ pub are_none : (items : List Item) (claims : Claims) → ((parent array index : 
 are_none items claims none =
     record {
       sound = λ parent array index s claim. absurd (none_some s (sym (none parent array index) ∙ claim));
-      complete = λ i it less at_i index covers. absurd (omega (arith, less));
+      complete = λ i it less at_i writes index covers. absurd (omega (arith, less));
       none = λ i j o less. omega (arith, less);
     }
 
 -- what an index beyond all items gives
 abbrev pub nowhere : Item
-nowhere = record { parent = 0; entry = 0; section = section_of 0 0 0 }
+nowhere = record { parent = 0; entry = 0; writes = false; section = section_of 0 0 0 }
 
 -- the item at an index
 pub stands_at : (items : List Item) (n : ℕ) (other : Item) → n < length items → slice_get items n ≡ Some (slice_index_or items n other)

@@ -1,6 +1,6 @@
 -- Clauses and sections by their length.
 use Rattle.std.proofs.Common.{◌≡◌, ◌≢◌, ℕ, ◌+◌, ◌<◌, ◌≤◌, true, false, List, [], ◌∷◌, length, get_or, drop, codes, refl, sym, add-one, arith}
-use Rattle.std.specs.Prelude.{if◌then◌else◌, Some, None, bytes_eq, string_bytes}
+use Rattle.std.specs.Prelude.{if◌then◌else◌, not, Some, None, bytes_eq, string_bytes}
 use Rattle.std.specs.List.{position_or_len}
 use Rattle.std.proofs.Math.Seq.{drop-cons}
 use Rattle.std.proofs.lemmas.List.{drop_all}
@@ -12,7 +12,7 @@ use Rattle.serde_json.specs.declared.value.Value.{Value}
 use Rattle.ot_model.specs.Shapes.{Arrays}
 use Rattle.ot_program.specs.Meanings.{Bindings, position_of, size, section}
 use Rattle.ot_program.specs.Names.{is_word}
-use Rattle.ot_overlap.specs.Items.{depends}
+use Rattle.ot_overlap.specs.Items.{depends, writes}
 
 pub no_clause : (vs : List Value) → length vs ≢ 2 → depends (array (items_view vs)) ≡ None
 no_clause (a ∷ b ∷ []) other = absurd (other refl)
@@ -24,6 +24,16 @@ a_clause (x ∷ y ∷ []) t a two p q = rw (sym p, sym q) refl
 a_clause _ t a two p q = absurd (omega arith)
 
 pub ruleset clauses = (no_clause, a_clause)
+
+pub no_word : (vs : List Value) → length vs ≢ 2 → writes (array (items_view vs)) ≡ false
+no_word (a ∷ b ∷ []) other = absurd (other refl)
+no_word _ other = refl
+
+pub a_word : (vs : List Value) (t : Value) → length vs ≡ 2 → t ≡ get_or vs 0 t → writes (array (items_view vs)) ≡ not (is_word (view t) (codes "in"))
+a_word (x ∷ y ∷ []) t two p = rw (sym p) refl
+a_word _ t two p = absurd (omega arith)
+
+pub ruleset words = (no_word, a_word)
 
 pub no_section : (shape : Arrays) (variables : Bindings) (vs : List Value) → length vs ≢ 3
     → section shape variables (array (items_view vs)) ≡ record { array = 0; start = 0; len = 0 }

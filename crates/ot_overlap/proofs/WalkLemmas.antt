@@ -5,14 +5,13 @@ use Rattle.std.proofs.lemmas.List.{drop_all, map-append}
 use Rattle.serde_json.specs.Data.{Data}
 use Rattle.serde_json.specs.View.{view, items_view}
 use Rattle.serde_json.specs.declared.value.Value.{Value}
-use Rattle.ot_model.specs.declared.expr.Section.{Section}
 use Rattle.ot_program.specs.Copies.{Copies, Done, Turn, at, turns, copies, copies_of, copy}
 use Rattle.ot_program.specs.Meanings.{Bindings, each, letters, size}
 use Rattle.ot_place.specs.Texts.{Profile, text_by, text_at, first_copies, second_copies, copy_by}
 use Rattle.ot_place.specs.declared.text.Text.{Text as CodeText}
 use Rattle.ot_place.specs.declared.text.Text.TheVariants as t
 use Rattle.ot_place.proofs.CopyLemmas.{copy_is}
-use Rattle.ot_overlap.specs.Items.{Met, met_at, met_one, met_in, task_of, section_as, sections_among}
+use Rattle.ot_overlap.specs.Items.{Named, Met, met_at, met_one, met_in, task_of, section_as, sections_among}
 use Rattle.ot_overlap.specs.declared.item.Item.{Item}
 
 -- ---- the items of a body
@@ -58,7 +57,7 @@ statement_is arrays defined level variables parent d text m is =
 
 -- ---- clauses
 
-pub clauses_next : (arrays : List (List ℕ × ℕ)) (variables : Bindings) (f : Section → Item) (vs : List Value) (i : ℕ) (v : Value) (before now all : List Item)
+pub clauses_next : (arrays : List (List ℕ × ℕ)) (variables : Bindings) (f : Named → Item) (vs : List Value) (i : ℕ) (v : Value) (before now all : List Item)
     → i < length vs → v ≡ get_or vs i v → now ≡ before ++ map f (section_as arrays variables (view v))
     → before ++ map f (sections_among arrays variables (each (items_view (drop i vs)))) ≡ all
     → now ++ map f (sections_among arrays variables (each (items_view (drop (i + 1) vs)))) ≡ all
@@ -70,7 +69,7 @@ clauses_next arrays variables f vs i v before now all within is noted h =
     ∙ ap (λ xs. before ++ xs) (sym (map-append f (section_as arrays variables (view v)) more))
     ∙ ap (λ ss. before ++ map f ss) (sym next) ∙ h
 
-pub clauses_end : (arrays : List (List ℕ × ℕ)) (variables : Bindings) (f : Section → Item) (vs : List Value) (i : ℕ) (now all : List Item)
+pub clauses_end : (arrays : List (List ℕ × ℕ)) (variables : Bindings) (f : Named → Item) (vs : List Value) (i : ℕ) (now all : List Item)
     → length vs ≤ i → now ++ map f (sections_among arrays variables (each (items_view (drop i vs)))) ≡ all → now ≡ all
 clauses_end arrays variables f vs i now all past h =
     let none : sections_among arrays variables (each (items_view (drop i vs))) ≡ [] = rw (drop_all i vs past) refl in

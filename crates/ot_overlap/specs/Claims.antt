@@ -1,5 +1,5 @@
--- What is kept of the items so far: of each task's children and each cell, the section that has the cell.
-use Rattle.std.specs.Prelude.{◌≡◌, ◌≢◌, ℕ, ◌+◌, ◌<◌, ◌==◌, nat_le, nat_lt, ◌&&◌, Bool, List, Option, Some, slice_get}
+-- What is kept of the items so far: of each task's children and each cell, the section that has the cell and is written.
+use Rattle.std.specs.Prelude.{◌≡◌, ◌≢◌, ℕ, ◌+◌, ◌<◌, ◌==◌, nat_le, nat_lt, ◌&&◌, Bool, true, List, Option, Some, slice_get}
 use Rattle.std.specs.BTreeMap.{get}
 use Rattle.std.specs.Ordering.{nat_cmp, ordering_then}
 use Rattle.std.specs.declared.cmp.Ordering.{Ordering}
@@ -15,7 +15,7 @@ Key = ℕ × ℕ × ℕ
 abbrev pub key_cmp : Key → Key → Ordering
 key_cmp x y = ordering_then (ordering_then (nat_cmp x.0 y.0) (nat_cmp x.1 y.1)) (nat_cmp x.2 y.2)
 
--- the section that has the cell among the items of this task's children
+-- the section that has the cell among the items of this task's children that write
 abbrev pub claimed : Claims → ℕ → ℕ → ℕ → Option Section
 claimed claims parent array index = get key_cmp claims.sections (parent, array, index)
 
@@ -32,10 +32,14 @@ abbrev pub is_here : Item → ℕ → ℕ → ℕ → Bool
 is_here it parent array index =
     it.parent == parent && (it.section.array == array && (nat_le it.section.start index && nat_lt index (it.section.start + it.section.len)))
 
--- what is kept behind the first n items, none of which overlaps in part with one before it
+-- the same, where the item writes
+abbrev pub is_taken : Item → ℕ → ℕ → ℕ → Bool
+is_taken it parent array index = it.writes && is_here it parent array index
+
+-- what is kept behind the first n items, none of which overlaps in part with one that writes before it
 pub record AreClaims (items : List Item) (n : ℕ) (claims : Claims) : Type 0 where
   pub sound : (parent array index : ℕ) (s : Section) → claimed claims parent array index ≡ Some s
-      → (i : ℕ) × (it : Item) × (i < n) × (slice_get items i ≡ Some it) × (it.parent ≡ parent) × (it.section.array ≡ array) × (it.section ≡ s) × Covers s index
-  pub complete : (i : ℕ) (it : Item) → i < n → slice_get items i ≡ Some it → (index : ℕ) → Covers it.section index
+      → (i : ℕ) × (it : Item) × (i < n) × (slice_get items i ≡ Some it) × (it.parent ≡ parent) × (it.section.array ≡ array) × (it.section ≡ s) × Covers s index × (it.writes ≡ true)
+  pub complete : (i : ℕ) (it : Item) → i < n → slice_get items i ≡ Some it → it.writes ≡ true → (index : ℕ) → Covers it.section index
       → claimed claims it.parent it.section.array index ≡ Some it.section
   pub none : (i j : ℕ) → IsOverlap items i j → j < n → ⊥

@@ -1,5 +1,5 @@
 -- The items of a program's `depend` clauses, each with the entry that has it and with the task in whose body that entry is.
-use Rattle.std.specs.Prelude.{ℕ, ◌+◌, ◌++◌, if◌then◌else◌, List, [], ◌∷◌, map, flat_map, Option, Some, None, option_map, unwrap_or, codes}
+use Rattle.std.specs.Prelude.{ℕ, Bool, false, not, ◌+◌, ◌++◌, if◌then◌else◌, List, [], ◌∷◌, map, flat_map, Option, Some, None, option_map, unwrap_or, codes}
 use Rattle.serde_json.specs.Data.{Data, array, no_items, item}
 use Rattle.ot_model.specs.Shapes.{Arrays}
 use Rattle.ot_model.specs.declared.expr.Section.{Section}
@@ -10,8 +10,12 @@ use Rattle.ot_program.specs.Profiles.{profile_of}
 use Rattle.ot_program.specs.Programs.{program_copy}
 use Rattle.ot_overlap.specs.declared.item.Item.{Item}
 
-abbrev pub item_of : ℕ → ℕ → Section → Item
-item_of parent entry section = record { parent = parent; entry = entry; section = section }
+-- what a clause names: whether it writes there, and the section
+abbrev pub Named : Type 0
+Named = Bool × Section
+
+abbrev pub item_of : ℕ → ℕ → Named → Item
+item_of parent entry named = record { parent = parent; entry = entry; writes = named.0; section = named.1 }
 
 -- ---- the clauses of a statement
 
@@ -20,25 +24,30 @@ abbrev pub depends : Data → Option Data
 depends (array (item t (item a no_items))) = if is_word t (codes "red") then None else Some a
 depends _ = None
 
+-- `in` alone doesn't write
+abbrev pub writes : Data → Bool
+writes (array (item t (item a no_items))) = not (is_word t (codes "in"))
+writes _ = false
+
 -- arrays of these names and lengths
 abbrev pub over : List (List ℕ × ℕ) → Arrays
 over arrays = record { arrays = arrays; tasks = 0 }
 
-abbrev pub section_by : List (List ℕ × ℕ) → Bindings → Option Data → List Section
-section_by arrays variables None = []
-section_by arrays variables (Some named) = section (over arrays) variables named ∷ []
+abbrev pub section_by : List (List ℕ × ℕ) → Bindings → Bool → Option Data → List Named
+section_by arrays variables writing None = []
+section_by arrays variables writing (Some named) = (writing, section (over arrays) variables named) ∷ []
 
-abbrev pub section_as : List (List ℕ × ℕ) → Bindings → Data → List Section
-section_as arrays variables clause = section_by arrays variables (depends clause)
+abbrev pub section_as : List (List ℕ × ℕ) → Bindings → Data → List Named
+section_as arrays variables clause = section_by arrays variables (writes clause) (depends clause)
 
-abbrev pub sections_among : List (List ℕ × ℕ) → Bindings → List Data → List Section
+abbrev pub sections_among : List (List ℕ × ℕ) → Bindings → List Data → List Named
 sections_among arrays variables clauses = flat_map (section_as arrays variables) clauses
 
-abbrev pub sections_in : List (List ℕ × ℕ) → Bindings → Data → List Section
+abbrev pub sections_in : List (List ℕ × ℕ) → Bindings → Data → List Named
 sections_in arrays variables clauses = sections_among arrays variables (items clauses)
 
 -- A wait with clauses waits as an empty task that has them (OpenMP API 5.2, section 15.5).
-abbrev pub sections_at : List (List ℕ × ℕ) → Bindings → Text → List Section
+abbrev pub sections_at : List (List ℕ × ℕ) → Bindings → Text → List Named
 sections_at arrays variables (TaskText profile clauses body) = sections_in arrays variables clauses
 sections_at arrays variables (WaitForText clauses) = sections_in arrays variables clauses
 sections_at arrays variables text = []

@@ -1,13 +1,13 @@
 //! Which items claim which cells.
 ghost use Rattle.std.specs.Prelude.{◌≡◌, ℕ, OnOk, true, false, if◌then◌else◌, Some, None};
-ghost use Rattle.ot_overlap.specs.Claims.{claimed, Clashes, DiffersAt, is_here};
+ghost use Rattle.ot_overlap.specs.Claims.{claimed, Clashes, DiffersAt, is_here, is_taken};
 
 use crate::item::Item;
 use ot_model::Section;
 use std::alloc::{AllocError, Global};
 use std::collections::BTreeMap;
 
-/// The section that has a cell among the items of a task's children, by that task, the array and the index.
+/// The section that has a cell among the items of a task's children that write, by that task, the array and the index.
 #[derive(Debug, Drop)]
 pub(crate) struct Claims {
     sections: BTreeMap<(u32, u32, u64), Section>,
@@ -49,8 +49,20 @@ impl Claims {
         }
     }
 
+    /// An item that writes claims its cells.
+    pub(crate) fn take(&mut self, item: &Item) -> Result<(), AllocError>
+        ensures { OnOk result ((parent array index : ℕ) → claimed self.new parent array index
+            ≡ (if is_taken item.now parent array index then Some item.now.section else claimed self.old parent array index)) }
+    {
+        if item.writes {
+            self.enter(item)
+        } else {
+            Ok(())
+        }
+    }
+
     /// An item claims its cells.
-    pub(crate) fn enter(&mut self, item: &Item) -> Result<(), AllocError>
+    fn enter(&mut self, item: &Item) -> Result<(), AllocError>
         ensures { OnOk result ((parent array index : ℕ) → claimed self.new parent array index
             ≡ (if is_here item.now parent array index then Some item.now.section else claimed self.old parent array index)) }
     {

@@ -39,6 +39,31 @@ fn depends_in(items: &[Value]) -> Option<&Value>
     }
 }
 
+ghost use Rattle.ot_overlap.specs.Items.{writes};
+
+/// Whether a clause writes.
+pub(crate) fn writes(clause: &Value) -> bool
+    ensures { result ≡ writes (view clause.now) }
+{
+    match clause {
+        Value::Array(items) => writes_in(items),
+        _ => false,
+    }
+}
+
+#[tactic(auto, using(crate::proofs::ClauseLemmas::words))]
+fn writes_in(items: &[Value]) -> bool
+    ensures { result ≡ writes (array (items_view items.now)) }
+{
+    if items.len() != 2 {
+        return false;
+    }
+    match items {
+        [tag, _] => !is_word(tag, "in"),
+        _ => unreachable!(),
+    }
+}
+
 ghost use Rattle.ot_model.specs.ShapeView.{arrays_of};
 ghost use Rattle.ot_place.specs.Seeking.{bindings_of};
 ghost use Rattle.ot_program.specs.Meanings.{section};

@@ -8,14 +8,15 @@ ghost use Rattle.ot_overlap.specs.Overlaps.{IsFirst};
 
 use crate::first::first_of;
 use crate::item::Item;
+use crate::order::writers_first;
 use crate::walk::{Met, Walk};
 use ot_model::ArrayShape;
 use ot_place::read_profile;
 use serde_json::Value;
 use std::alloc::{AllocError, Global};
 
-/// The first entry of the program that a request runs over these arrays of which an item of a `depend` clause overlaps in part with
-/// another one of its own, or with one of a sibling before it.
+/// Of the program that a request runs over these arrays, the entry of the first item of a `depend` clause that overlaps in part with
+/// one that writes, of its own or of a sibling; those that write come first.
 pub fn first_overlap(
     alloc: Global,
     request: &Value,
@@ -24,7 +25,8 @@ pub fn first_overlap(
     ensures { IfOk result (IsFirst (items_of (arrays_of arrays.now) (view request.now))) }
 {
     let items = items_of(alloc, request, arrays)?;
-    first_of(alloc, &items)
+    let ordered = writers_first(alloc, &items)?;
+    first_of(alloc, &ordered)
 }
 
 ghost use Rattle.std.specs.Prelude.{◌≡◌};

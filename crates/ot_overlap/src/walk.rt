@@ -8,7 +8,7 @@ ghost use Rattle.ot_place.specs.Seeking.{bindings_of};
 ghost use Rattle.ot_overlap.specs.Items.{met_at, met_one, met_in, task_of};
 ghost use Rattle.ot_overlap.specs.View.{met_by, arrays_by};
 
-use crate::clause::{depends, section_of};
+use crate::clause::{depends, section_of, writes};
 use crate::item::Item;
 use ot_model::ArrayShape;
 use ot_place::{Profile, Text, Trail, Turn, letters, size_of, text_of};
@@ -288,6 +288,7 @@ impl Walk<'_> {
         noted.push(Item {
             parent,
             entry,
+            writes: writes(clause),
             section,
         })?;
         Ok(())

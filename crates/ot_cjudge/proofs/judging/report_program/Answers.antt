@@ -14,7 +14,7 @@ returns-in-Some c =
     let s = source_by c.args.source.now in
     let body = stmts_of c.args.program.now.body.items in
     if_both c.report_overlap.result _ _ (λ report. ReportsProgram s c.args.cells body report.verdict report.text.items)
-    (λ report v t. (Some c.in-Some.entry, subst (IsFirst (items_of s.arrays s.request)) c.in-Some.is c.in_ok-entry.ensures, v, t))
+    (λ report v t. (Some c.in-Some.entry, subst (IsFirst (items_of s.arrays s.request)) c.in-Some.is c.in_ok-entry.ensures, (v, t)))
     c.report_overlap.ensures.verdict c.report_overlap.ensures.text
 
 pub returns-in-None : goal.returns-in-None

@@ -17,8 +17,8 @@ loop-item-preserved c =
     let items = c.args.items.now in
     let n = c.loop-item.item-index in
     let it = slice_index_or items n nowhere in
-    are_next items n it c.loop-item.claims (stands_at items n nowhere (omega (arith, c.loop-item-test.true))) c.loop-item.invariant c.enter.new.self
-    (c.clashes.ensures.none c.if-clashes.false) c.in_ok-enter.ensures
+    are_next items n it c.loop-item.claims (stands_at items n nowhere (omega (arith, c.loop-item-test.true))) c.loop-item.invariant c.take.new.self
+    (c.clashes.ensures.none c.if-clashes.false) c.in_ok-take.ensures
 
 pub returns : goal.returns
 returns c = λ i j o.
