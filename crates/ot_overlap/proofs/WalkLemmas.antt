@@ -102,9 +102,3 @@ pub if_met : (arrays : List (List ℕ × ℕ)) (defined : Profile) (level : ℕ)
     → new ≡ met_in arrays task (second_copies defined level variables (text_by defined text)) (met_in arrays task (first_copies defined level variables (text_by defined text)) old)
 if_met arrays defined level variables task text e a b old mid new is mid_is new_is =
     rw is (new_is ∙ ap (met_in arrays task (copies defined (level + 1) (view b.now) variables)) mid_is)
-
-abbrev met : ℕ → List Item → Met
-met entries items = record { entries = entries; items = items }
-
-pub met_is : (a b : ℕ) (xs ys : List Item) → a ≡ b → xs ≡ ys → met a xs ≡ met b ys
-met_is a b xs ys p q = ap (λ n. met n xs) p ∙ ap (met b) q
