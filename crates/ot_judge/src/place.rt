@@ -11,7 +11,9 @@ use crate::told::told_last;
 use ot_book::{Book, Code, Told};
 use ot_fault::first_fault;
 use ot_file::offset_of;
+use ot_model::Shape;
 use ot_place::{Place, entry_of, place_of};
+use ot_store::Limits;
 use serde_json::Value;
 use std::alloc::{AllocError, Global};
 
@@ -101,6 +103,19 @@ fn not_json_in(alloc: Global, piece: &[u8]) -> Result<usize, AllocError>
     }
 }
 
+/// Which entry of the program that a request runs has the first fault.
+fn faulty_entry(
+    alloc: Global,
+    request: &Value,
+    shape: &Shape,
+    limits: &Limits,
+) -> Result<Option<u32>, AllocError> {
+    match first_fault(alloc, request, shape.arrays(), limits.tasks)? {
+        Some(found) => Ok(Some(found.index)),
+        None => Ok(None),
+    }
+}
+
 /// How many bytes of a piece stand before the first statement of its program that has a fault.
 fn fault_in(alloc: Global, book: &Book, piece: &[u8]) -> Result<usize, AllocError>
     ensures { IfOk result (λ place. place ≤ length piece.now) }
@@ -111,10 +126,10 @@ fn fault_in(alloc: Global, book: &Book, piece: &[u8]) -> Result<usize, AllocErro
     };
     let limits = book.limits();
     let shape = book.store().shape(alloc, &limits)?;
-    let Some(found) = first_fault(alloc, &request, shape.arrays(), limits.tasks)? else {
+    let Some(entry) = faulty_entry(alloc, &request, &shape, &limits)? else {
         return Ok(0);
     };
-    match entry_of(alloc, &request, found.index)? {
+    match entry_of(alloc, &request, entry)? {
         Some(place) => Ok(offset_in(piece, &place)),
         None => Ok(0),
     }

@@ -2,13 +2,23 @@
 use crate::place::{Telling, at_line, shown};
 use crate::reasoning::{all_of, cells};
 use crate::statement::unlike_statement;
-use ot_fault::{Count, Wanted, Why, first_fault};
+use ot_fault::{Count, Found, Wanted, Why, first_fault};
 use ot_model::{ArrayShape, Op};
 use ot_place::{entry_of, value_at};
 use ot_program::{Refusal, is_word};
 use ot_store::Limits;
 use serde_json::Value;
 use std::alloc::{AllocError, Global};
+
+/// The first fault of the program that a request runs.
+fn fault_in<'a>(
+    alloc: Global,
+    request: &'a Value,
+    arrays: &[ArrayShape],
+    limits: &Limits,
+) -> Result<Option<Found<'a>>, AllocError> {
+    first_fault(alloc, request, arrays, limits.tasks)
+}
 
 /// Where the first fault is of the program that a request runs, and what it is. There is nothing to tell where that isn't
 /// what the request was refused for.
@@ -21,7 +31,7 @@ pub(crate) fn of_program(
     telling: Telling,
 ) -> Result<Vec<String>, AllocError> {
     let mut reasons = Vec::new(alloc);
-    let Some(found) = first_fault(alloc, request, arrays, limits.tasks)? else {
+    let Some(found) = fault_in(alloc, request, arrays, limits)? else {
         return Ok(reasons);
     };
     if found.why.refusal() != refusal {
