@@ -46,10 +46,13 @@ check_words = (with_rule (with_rule (with_rule (with_rule (new_app (codes "check
 unfoldable pub lines_words : Shape
 lines_words = (with_rule (with_rule (new_app (codes "lines")) call_rule) (names_rule (codes "file"))).top
 
--- one of the subcommands has to be given, but where the version is asked for
+-- one of the subcommands has to be given, but where the version is asked for; these hold a session, or explain one
+unfoldable pub session_words : App
+session_words =
+    let program = on_top (λ s. record s { has_version = true; subcommand_required = true }) (new_app (codes "omptask")) in
+    with_subcommand (with_subcommand (with_subcommand (with_subcommand program explain_words) ask_words) save_words) restore_words
+
+-- all of them
 unfoldable pub program_words : App
 program_words =
-    let program = on_top (λ s. record s { has_version = true; subcommand_required = true }) (new_app (codes "omptask")) in
-    let asks = with_subcommand (with_subcommand program explain_words) ask_words in
-    let draws = with_subcommand (with_subcommand (with_subcommand (with_subcommand asks save_words) restore_words) graph_words) c_words in
-    with_subcommand (with_subcommand draws check_words) lines_words
+    with_subcommand (with_subcommand (with_subcommand (with_subcommand session_words graph_words) c_words) check_words) lines_words

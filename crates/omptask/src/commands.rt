@@ -2,7 +2,7 @@
 ghost use Rattle.std.specs.Prelude.{◌≡◌, IfOk, false};
 ghost use Rattle.clap.specs.Words.{app_of, rule_of, shape_of};
 ghost use Rattle.clap.specs.declared.builder.command.Command.TheViews.{out-Command as fields_of};
-ghost use Rattle.omptask.specs.Grammar.{program_words, explain_words, ask_words, save_words, restore_words, graph_words, c_words, check_words, lines_words, call_rule, code_rule, name_rule, define_rule};
+ghost use Rattle.omptask.specs.Grammar.{program_words, session_words, explain_words, ask_words, save_words, restore_words, graph_words, c_words, check_words, lines_words, call_rule, code_rule, name_rule, define_rule};
 
 use clap::{Arg, ArgAction, Command, value_parser};
 use ot_commands::{flag_arg, names_arg, socket_arg};
@@ -75,12 +75,23 @@ const SOCKET_HELP: &str = "Where the server's socket stands";
 pub(crate) fn program_command<'a>(alloc: Global) -> Result<Command<'a>, AllocError>
     ensures { IfOk result (λ command. app_of command ≡ program_words) }
 {
+    let check = check_command(alloc)?;
+    let lines = lines_command(alloc)?;
+    session_command(alloc)?
+        .subcommand(graph_command(alloc))?
+        .subcommand(c_command(alloc))?
+        .subcommand(check)?
+        .subcommand(lines)
+}
+
+/// The program's command, with the subcommands that hold a session, or explain one.
+fn session_command<'a>(alloc: Global) -> Result<Command<'a>, AllocError>
+    ensures { IfOk result (λ command. app_of command ≡ session_words) }
+{
     let explain = explain_command(alloc)?;
     let ask = ask_command(alloc)?;
     let save = save_command(alloc)?;
     let restore = restore_command(alloc)?;
-    let check = check_command(alloc)?;
-    let lines = lines_command(alloc)?;
     Command::new(alloc, "omptask")
         .about(
             "What omptaskd refuses, said in words, its runs as graphs and in C, and a client for people",
@@ -90,11 +101,7 @@ pub(crate) fn program_command<'a>(alloc: Global) -> Result<Command<'a>, AllocErr
         .subcommand(explain)?
         .subcommand(ask)?
         .subcommand(save)?
-        .subcommand(restore)?
-        .subcommand(graph_command(alloc))?
-        .subcommand(c_command(alloc))?
-        .subcommand(check)?
-        .subcommand(lines)
+        .subcommand(restore)
 }
 
 fn explain_command<'a>(alloc: Global) -> Result<Command<'a>, AllocError>

@@ -1,26 +1,16 @@
-use Rattle.std.proofs.Common.{ap, ap₂, ◌∙◌, true, Some}
+use Rattle.std.proofs.Common.{ap₂, ◌∙◌}
 use Rattle.std.proofs.lemmas.Result.{IfOk-weaker}
-use Rattle.clap.specs.Words.{Shape, with_subcommand}
-use Rattle.clap.specs.Simple.{app_of_fields, on_top}
-use Rattle.clap.specs.declared.builder.command.Command.TheViews.{out-Command}
+use Rattle.clap.specs.Words.{with_subcommand}
 use Rattle.omptask.specs.Grammar.{program_words}
 use Rattle.omptask.proofs.commands.program_command.Goals as goal
 
 pub returns : goal.returns
 unfolding program_words
 returns c =
-    let named = ap app_of_fields c.about.ensures ∙ c.new.ensures.app in
-    let versioned = ap app_of_fields {y = record (out-Command c.about.result) { version = Some _ }} c.version.ensures
-    ∙ ap (on_top (λ (s : Shape). record s { has_version = true })) named in
-    let required = ap app_of_fields {y = record (out-Command c.version.result) { subcommand_required = true }} c.subcommand_required.ensures in
-    let top = required ∙ ap (on_top (λ (s : Shape). record s { subcommand_required = true })) versioned in
-    let with_explain = c.in_ok-subcommand.ensures.shape c.in_ok-explain.ensures.own ∙ ap₂ with_subcommand top c.in_ok-explain.ensures.words in
-    let with_ask = c.in_ok-subcommand-2.ensures.shape c.in_ok-ask.ensures.own ∙ ap₂ with_subcommand with_explain c.in_ok-ask.ensures.words in
-    let with_save = c.in_ok-subcommand-3.ensures.shape c.in_ok-save.ensures.own ∙ ap₂ with_subcommand with_ask c.in_ok-save.ensures.words in
-    let with_restore = c.in_ok-subcommand-4.ensures.shape c.in_ok-restore.ensures.own ∙ ap₂ with_subcommand with_save c.in_ok-restore.ensures.words in
-    let with_graph = c.in_ok-subcommand-5.ensures.shape c.graph_command.ensures.own ∙ ap₂ with_subcommand with_restore c.graph_command.ensures.words in
-    let with_c = c.in_ok-subcommand-6.ensures.shape c.c_command.ensures.own ∙ ap₂ with_subcommand with_graph c.c_command.ensures.words in
-    let with_check = c.in_ok-subcommand-7.ensures.shape c.in_ok-check.ensures.own ∙ ap₂ with_subcommand with_c c.in_ok-check.ensures.words in
-    IfOk-weaker c.subcommand-8.result _ _
+    let with_graph = c.in_ok-subcommand.ensures.shape c.graph_command.ensures.own
+    ∙ ap₂ with_subcommand c.in_ok-session_command.ensures c.graph_command.ensures.words in
+    let with_c = c.in_ok-subcommand-2.ensures.shape c.c_command.ensures.own ∙ ap₂ with_subcommand with_graph c.c_command.ensures.words in
+    let with_check = c.in_ok-subcommand-3.ensures.shape c.in_ok-check.ensures.own ∙ ap₂ with_subcommand with_c c.in_ok-check.ensures.words in
+    IfOk-weaker c.subcommand-4.result _ _
     (λ command added. added.shape c.in_ok-lines.ensures.own ∙ ap₂ with_subcommand with_check c.in_ok-lines.ensures.words)
-    c.subcommand-8.ensures
+    c.subcommand-4.ensures
