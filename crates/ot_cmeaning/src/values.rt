@@ -6,14 +6,14 @@ ghost use Rattle.ot_cmeaning.specs.Results.{Gives};
 ghost use Rattle.ot_cmeaning.specs.Values.{worth_of};
 ghost use Rattle.ot_cmeaning.specs.Values as values;
 
-use crate::constants::constant;
+use crate::constants::{constant, constant_of, power};
 use crate::fault::CFault;
 use crate::json::{form2, three};
 use crate::kind::{is_narrow, is_word, joined};
 use crate::reason::Reason;
 use crate::scope::{Scope, Sense};
 use crate::sizes::{no_number, size};
-use ot_cread::{Call, Expr, Sign};
+use ot_cread::{Call, Expr, Sign, Unary};
 use ot_words::{IntegerType, Name};
 use serde_json::Value;
 use std::alloc::Global;
@@ -100,21 +100,80 @@ fn named(alloc: Global, scope: &Scope<'_>, start: usize, name: Name) -> Result<W
     }
 }
 
-/// The word of an operation of values; a rest has none.
-fn sign_word(sign: Sign) -> &'static str
-    ensures { result.now ≡ values.sign_word sign }
+/// An operation that the language has as C has it.
+#[derive(Clone, Copy)]
+pub(crate) enum Basic {
+    Or,
+    Xor,
+    And,
+    Equal,
+    Less,
+    Plus,
+    Minus,
+    Times,
+}
+
+/// How an operation of two values is meant.
+#[derive(Clone, Copy)]
+pub(crate) enum Form {
+    /// As it stands.
+    Is,
+    /// Of the second one and the first.
+    Turned,
+    /// Whether it gives 0.
+    Not,
+    /// Whether it gives 0 of the second one and the first.
+    TurnedNot,
+}
+
+/// What two values with a sign between become.
+#[derive(Clone, Copy)]
+pub(crate) enum Way {
+    Plain(Form, Basic),
+    /// An operation of whether both aren't 0, of which C may leave out the second.
+    Lazy(Basic),
+    Shift,
+    Rest,
+    /// A number that is known.
+    Known,
+}
+
+fn way(sign: Sign) -> Way
+    ensures { result ≡ values.way sign }
 {
     match sign {
-        Sign::Or => "|",
-        Sign::Xor => "^",
-        Sign::And => "&",
-        Sign::Equal => "=",
-        Sign::Less => "<",
-        Sign::Plus => "+",
-        Sign::Minus => "-",
-        Sign::Times => "*",
-        Sign::Rest | Sign::Over | Sign::ShiftLeft | Sign::ShiftRight => "",
-        Sign::Either | Sign::Both | Sign::Unequal | Sign::More | Sign::AtMost | Sign::AtLeast => "",
+        Sign::Or => Way::Plain(Form::Is, Basic::Or),
+        Sign::Xor => Way::Plain(Form::Is, Basic::Xor),
+        Sign::And => Way::Plain(Form::Is, Basic::And),
+        Sign::Equal => Way::Plain(Form::Is, Basic::Equal),
+        Sign::Unequal => Way::Plain(Form::Not, Basic::Equal),
+        Sign::Less => Way::Plain(Form::Is, Basic::Less),
+        Sign::More => Way::Plain(Form::Turned, Basic::Less),
+        Sign::AtMost => Way::Plain(Form::TurnedNot, Basic::Less),
+        Sign::AtLeast => Way::Plain(Form::Not, Basic::Less),
+        Sign::Plus => Way::Plain(Form::Is, Basic::Plus),
+        Sign::Minus => Way::Plain(Form::Is, Basic::Minus),
+        Sign::Times => Way::Plain(Form::Is, Basic::Times),
+        Sign::Both => Way::Lazy(Basic::And),
+        Sign::Either => Way::Lazy(Basic::Or),
+        Sign::ShiftLeft => Way::Shift,
+        Sign::Rest => Way::Rest,
+        Sign::Over | Sign::ShiftRight => Way::Known,
+    }
+}
+
+fn basic_word(basic: Basic) -> &'static str
+    ensures { result.now ≡ values.basic_word basic }
+{
+    match basic {
+        Basic::Or => "|",
+        Basic::Xor => "^",
+        Basic::And => "&",
+        Basic::Equal => "=",
+        Basic::Less => "<",
+        Basic::Plus => "+",
+        Basic::Minus => "-",
+        Basic::Times => "*",
     }
 }
 
@@ -128,83 +187,215 @@ fn call_word(call: Call) -> &'static str
 }
 
 /// Whether the language computes in numbers of 64 bits what C does in this type, of numbers that aren't negative or may be.
-fn agrees(sign: Sign, kind: IntegerType, whole: bool) -> bool
-    ensures { result ≡ values.agrees sign kind whole }
+fn agrees(basic: Basic, kind: IntegerType, whole: bool) -> bool
+    ensures { result ≡ values.agrees basic kind whole }
 {
-    match sign {
-        Sign::Plus | Sign::Minus | Sign::Times => !is_narrow(kind),
-        Sign::Or | Sign::Xor | Sign::And | Sign::Equal => whole || !is_narrow(kind),
-        Sign::Less => whole || is_word(kind),
-        Sign::Rest | Sign::Over | Sign::ShiftLeft | Sign::ShiftRight => false,
-        Sign::Either | Sign::Both | Sign::Unequal => false,
-        Sign::More | Sign::AtMost | Sign::AtLeast => false,
+    match basic {
+        Basic::Plus | Basic::Minus | Basic::Times => !is_narrow(kind),
+        Basic::Or | Basic::Xor | Basic::And | Basic::Equal => whole || !is_narrow(kind),
+        Basic::Less => whole || is_word(kind),
     }
 }
 
 /// Why it doesn't.
-fn disagrees(sign: Sign) -> Reason
-    ensures { result ≡ values.disagrees sign }
+fn disagrees(basic: Basic) -> Reason
+    ensures { result ≡ values.disagrees basic }
 {
-    match sign {
-        Sign::Plus | Sign::Minus | Sign::Times => Reason::Wraps,
-        Sign::Or | Sign::Xor | Sign::And | Sign::Equal => Reason::Wraps,
-        Sign::Less => Reason::Signed,
-        Sign::Rest => Reason::Rest,
-        Sign::Over | Sign::ShiftLeft | Sign::ShiftRight => Reason::Sign,
-        Sign::Either | Sign::Both | Sign::Unequal => Reason::Sign,
-        Sign::More | Sign::AtMost | Sign::AtLeast => Reason::Sign,
+    match basic {
+        Basic::Plus | Basic::Minus | Basic::Times => Reason::Wraps,
+        Basic::Or | Basic::Xor | Basic::And | Basic::Equal => Reason::Wraps,
+        Basic::Less => Reason::Signed,
     }
 }
 
 /// The type of a result.
-fn result_kind(sign: Sign, kind: IntegerType) -> IntegerType
-    ensures { result ≡ values.result_kind sign kind }
+fn result_kind(basic: Basic, kind: IntegerType) -> IntegerType
+    ensures { result ≡ values.result_kind basic kind }
 {
-    match sign {
-        Sign::Equal | Sign::Less => IntegerType::Int,
-        Sign::Plus | Sign::Minus | Sign::Times => kind,
-        Sign::Or | Sign::Xor | Sign::And | Sign::Rest => kind,
-        Sign::Over | Sign::ShiftLeft | Sign::ShiftRight => kind,
-        Sign::Either | Sign::Both | Sign::Unequal => kind,
-        Sign::More | Sign::AtMost | Sign::AtLeast => kind,
+    match basic {
+        Basic::Equal | Basic::Less => IntegerType::Int,
+        Basic::Plus | Basic::Minus | Basic::Times => kind,
+        Basic::Or | Basic::Xor | Basic::And => kind,
     }
 }
 
 /// Whether a result isn't negative.
-fn result_whole(sign: Sign, kind: IntegerType, whole: bool) -> bool
-    ensures { result ≡ values.result_whole sign kind whole }
+fn result_whole(basic: Basic, kind: IntegerType, whole: bool) -> bool
+    ensures { result ≡ values.result_whole basic kind whole }
 {
-    match sign {
-        Sign::Equal | Sign::Less => true,
-        Sign::Minus => is_word(kind),
-        Sign::Plus | Sign::Times => whole || is_word(kind),
-        Sign::Or | Sign::Xor | Sign::And | Sign::Rest => whole || is_word(kind),
-        Sign::Over | Sign::ShiftLeft | Sign::ShiftRight => false,
-        Sign::Either | Sign::Both | Sign::Unequal => false,
-        Sign::More | Sign::AtMost | Sign::AtLeast => false,
+    match basic {
+        Basic::Equal | Basic::Less => true,
+        Basic::Minus => is_word(kind),
+        Basic::Plus | Basic::Times => whole || is_word(kind),
+        Basic::Or | Basic::Xor | Basic::And => whole || is_word(kind),
     }
 }
 
-fn is_rest(sign: Sign) -> bool
-    ensures { result ≡ values.is_rest sign }
-{
-    matches!(sign, Sign::Rest)
-}
-
-/// Two values with a sign between, which isn't `%`.
-fn applied(alloc: Global, start: usize, sign: Sign, one: Worth, two: Worth) -> Result<Worth, CFault>
-    ensures { Gives worth_of result (values.applied start sign (worth_of one) (worth_of two)) }
+/// A basic operation of two values.
+fn applied(
+    alloc: Global,
+    start: usize,
+    basic: Basic,
+    one: Worth,
+    two: Worth,
+) -> Result<Worth, CFault>
+    ensures { Gives worth_of result (values.applied start basic (worth_of one) (worth_of two)) }
 {
     let kind = joined(one.kind, two.kind);
     let both = one.whole && two.whole;
-    if !agrees(sign, kind, both) {
-        return Err(CFault::Outside(start, disagrees(sign)));
+    if !agrees(basic, kind, both) {
+        return Err(CFault::Outside(start, disagrees(basic)));
     }
     Ok(Worth {
-        value: form2(alloc, sign_word(sign), one.value, two.value)?,
-        kind: result_kind(sign, kind),
-        whole: result_whole(sign, kind, both),
+        value: form2(alloc, basic_word(basic), one.value, two.value)?,
+        kind: result_kind(basic, kind),
+        whole: result_whole(basic, kind, both),
     })
+}
+
+/// A number of type `int`.
+fn int(number: u64) -> Worth
+    ensures { worth_of result ≡ values.int number }
+{
+    whole(Value::from(number), IntegerType::Int)
+}
+
+/// Whether a value is 0.
+fn denied(alloc: Global, start: usize, one: Worth) -> Result<Worth, CFault>
+    ensures { Gives worth_of result (values.denied start (worth_of one)) }
+{
+    applied(alloc, start, Basic::Equal, one, int(0))
+}
+
+/// Whether a value isn't 0.
+fn truth(alloc: Global, start: usize, one: Worth) -> Result<Worth, CFault>
+    ensures { Gives worth_of result (values.truth start (worth_of one)) }
+{
+    let none = denied(alloc, start, one)?;
+    denied(alloc, start, none)
+}
+
+/// An operation of two values, as it is meant.
+fn formed(
+    alloc: Global,
+    start: usize,
+    form: Form,
+    basic: Basic,
+    one: Worth,
+    two: Worth,
+) -> Result<Worth, CFault>
+    ensures { Gives worth_of result (values.formed start form basic (worth_of one) (worth_of two)) }
+{
+    match form {
+        Form::Is => applied(alloc, start, basic, one, two),
+        Form::Turned => applied(alloc, start, basic, two, one),
+        Form::Not => {
+            let result = applied(alloc, start, basic, one, two)?;
+            denied(alloc, start, result)
+        }
+        Form::TurnedNot => {
+            let result = applied(alloc, start, basic, two, one)?;
+            denied(alloc, start, result)
+        }
+    }
+}
+
+/// A value with a sign before it.
+fn signed(alloc: Global, start: usize, sign: Unary, one: Worth) -> Result<Worth, CFault>
+    ensures { Gives worth_of result (values.signed start sign (worth_of one)) }
+{
+    match sign {
+        Unary::Plus => Ok(one),
+        Unary::Minus => applied(alloc, start, Basic::Minus, int(0), one),
+        Unary::Not => denied(alloc, start, one),
+        Unary::Invert => {
+            let below = applied(alloc, start, Basic::Minus, int(0), int(1))?;
+            applied(alloc, start, Basic::Minus, below, one)
+        }
+    }
+}
+
+/// Two values, of which C may leave out the second.
+fn lazily(
+    alloc: Global,
+    start: usize,
+    basic: Basic,
+    one: Worth,
+    two: Worth,
+) -> Result<Worth, CFault>
+    ensures { Gives worth_of result (values.lazily start basic (worth_of one) (worth_of two)) }
+{
+    let one = truth(alloc, start, one)?;
+    let two = truth(alloc, start, two)?;
+    applied(alloc, start, basic, one, two)
+}
+
+/// One of two values by a test, of which C leaves out one. `other` and `again` are the same.
+fn chosen(
+    alloc: Global,
+    start: usize,
+    test: Worth,
+    one: Worth,
+    other: Worth,
+    again: Worth,
+) -> Result<Worth, CFault>
+    ensures { Gives worth_of result (values.chosen start (worth_of test) (worth_of one) (worth_of other) (worth_of again)) }
+{
+    let test = truth(alloc, start, test)?;
+    let more = applied(alloc, start, Basic::Minus, one, other)?;
+    let more = applied(alloc, start, Basic::Times, test, more)?;
+    applied(alloc, start, Basic::Plus, again, more)
+}
+
+/// A value shifted to the left.
+fn shifted(
+    alloc: Global,
+    start: usize,
+    one: Worth,
+    by: Option<(u64, IntegerType)>,
+) -> Result<Worth, CFault>
+    ensures { Gives worth_of result (values.shifted start (worth_of one) by) }
+{
+    let Some((count, _)) = by else {
+        return Err(CFault::Outside(start, Reason::Shift));
+    };
+    match power(count) {
+        Some(number) => applied(alloc, start, Basic::Times, one, int(number)),
+        None => Err(CFault::Outside(start, Reason::Shift)),
+    }
+}
+
+/// A number that is known.
+fn known(start: usize, number: Option<(u64, IntegerType)>, why: Reason) -> Result<Worth, CFault>
+    ensures { Gives worth_of result (values.known start number why) }
+{
+    match number {
+        Some((number, kind)) => Ok(whole(Value::from(number), kind)),
+        None => Err(CFault::Outside(start, why)),
+    }
+}
+
+/// Whether a name is no cell.
+fn is_no_cell(sense: Sense) -> bool
+    ensures { result ≡ values.is_no_cell sense }
+{
+    !matches!(sense, Sense::Cells(_))
+}
+
+/// Whether a value reads no cell, and makes no choice.
+#[tactic(auto, unfolding(crate::specs::Values::is_settled))]
+fn is_settled(scope: &Scope<'_>, expr: &Expr) -> bool
+    ensures { result ≡ values.is_settled scope.now (expr_of expr.now) }
+{
+    match expr {
+        Expr::Number(_, _) => true,
+        Expr::Variable(name) => is_no_cell(scope.sense(*name)),
+        Expr::Cell(_, _) | Expr::Choice(_, _, _) => false,
+        Expr::Cast(one) | Expr::Unary(_, one) => is_settled(scope, one),
+        Expr::Call(_, one, two) | Expr::Op(_, one, two) => {
+            is_settled(scope, one) && is_settled(scope, two)
+        }
+    }
 }
 
 /// Whether `%` of a value by a number of this type is a rest of the number that the value is modulo 2^64.
@@ -220,20 +411,21 @@ fn is_power(number: u64) -> bool
     number > 0 && number & (number - 1) == 0
 }
 
-/// A value `%` a power of two.
+/// A value `%` a power of two, or a number that is known.
 fn rest(
     alloc: Global,
     start: usize,
     one: Worth,
     by: Option<(u64, IntegerType)>,
+    all: Option<(u64, IntegerType)>,
 ) -> Result<Worth, CFault>
-    ensures { Gives worth_of result (values.rest start (worth_of one) by) }
+    ensures { Gives worth_of result (values.rest start (worth_of one) by all) }
 {
     let Some((number, kind)) = by else {
         return Err(CFault::Outside(start, Reason::Rest));
     };
     if !is_power(number) || !has_rest(&one, kind) {
-        return Err(CFault::Outside(start, Reason::Rest));
+        return known(start, all, Reason::Rest);
     }
     let joined = joined(one.kind, kind);
     let value = form2(alloc, "&", one.value, Value::from(number - 1))?;
@@ -309,6 +501,67 @@ fn indexed(
     }
 }
 
+/// Two values with a sign between.
+#[cycle(value)]
+fn operation(
+    alloc: Global,
+    scope: &Scope<'_>,
+    start: usize,
+    sign: Sign,
+    one: &Expr,
+    two: &Expr,
+) -> Result<Worth, CFault>
+    ensures { Gives worth_of result (values.operation scope.now start sign (expr_of one.now) (expr_of two.now)) }
+{
+    match way(sign) {
+        Way::Known => known(start, constant_of(scope, sign, one, two), Reason::Quotient),
+        Way::Rest => {
+            let left = value(alloc, scope, start, one)?;
+            let all = constant_of(scope, sign, one, two);
+            rest(alloc, start, left, constant(scope, two), all)
+        }
+        Way::Shift => {
+            let left = value(alloc, scope, start, one)?;
+            shifted(alloc, start, left, constant(scope, two))
+        }
+        Way::Lazy(basic) => {
+            let left = value(alloc, scope, start, one)?;
+            if !is_settled(scope, two) {
+                return Err(CFault::Outside(start, Reason::LeftOut));
+            }
+            let right = value(alloc, scope, start, two)?;
+            lazily(alloc, start, basic, left, right)
+        }
+        Way::Plain(form, basic) => {
+            let left = value(alloc, scope, start, one)?;
+            let right = value(alloc, scope, start, two)?;
+            formed(alloc, start, form, basic, left, right)
+        }
+    }
+}
+
+/// `test ? one : other`
+#[cycle(value)]
+fn choice(
+    alloc: Global,
+    scope: &Scope<'_>,
+    start: usize,
+    test: &Expr,
+    one: &Expr,
+    other: &Expr,
+) -> Result<Worth, CFault>
+    ensures { Gives worth_of result (values.choice scope.now start (expr_of test.now) (expr_of one.now) (expr_of other.now)) }
+{
+    let test = value(alloc, scope, start, test)?;
+    if !is_settled(scope, one) || !is_settled(scope, other) {
+        return Err(CFault::Outside(start, Reason::LeftOut));
+    }
+    let first = value(alloc, scope, start, one)?;
+    let second = value(alloc, scope, start, other)?;
+    let again = value(alloc, scope, start, other)?;
+    chosen(alloc, start, test, first, second, again)
+}
+
 /// A value.
 #[cycle(value)]
 #[tactic(auto, unfolding(crate::specs::Values::value))]
@@ -320,19 +573,16 @@ pub fn value(alloc: Global, scope: &Scope<'_>, start: usize, expr: &Expr) -> Res
         Expr::Variable(name) => named(alloc, scope, start, *name),
         Expr::Cell(array, index) => indexed(alloc, scope, start, *array, index),
         Expr::Cast(inner) => Ok(word(value(alloc, scope, start, inner)?.value)),
-        Expr::Unary(_, _) | Expr::Choice(_, _, _) => Err(CFault::Outside(start, Reason::Sign)),
+        Expr::Unary(sign, inner) => {
+            let one = value(alloc, scope, start, inner)?;
+            signed(alloc, start, *sign, one)
+        }
+        Expr::Choice(test, one, other) => choice(alloc, scope, start, test, one, other),
         Expr::Call(call, one, two) => {
             let one = value(alloc, scope, start, one)?;
             let two = value(alloc, scope, start, two)?;
             Ok(word(form2(alloc, call_word(*call), one.value, two.value)?))
         }
-        Expr::Op(sign, one, two) => {
-            let one = value(alloc, scope, start, one)?;
-            if is_rest(*sign) {
-                return rest(alloc, start, one, constant(scope, two));
-            }
-            let two = value(alloc, scope, start, two)?;
-            applied(alloc, start, *sign, one, two)
-        }
+        Expr::Op(sign, one, two) => operation(alloc, scope, start, *sign, one, two),
     }
 }
