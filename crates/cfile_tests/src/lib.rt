@@ -2,6 +2,8 @@
 #![tactic(auto)]
 
 #[cfg(test)]
+mod calls;
+#[cfg(test)]
 mod files;
 #[cfg(test)]
 mod forms;
@@ -9,6 +11,10 @@ mod forms;
 mod kernels;
 #[cfg(test)]
 mod lowered;
+#[cfg(test)]
+mod pointers;
+#[cfg(test)]
+mod printed;
 #[cfg(test)]
 mod programs;
 #[cfg(test)]

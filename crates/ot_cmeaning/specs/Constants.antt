@@ -25,7 +25,8 @@ named_by (s.Turn k) = None
 named_by s.Begins = None
 named_by (s.Cells length) = None
 named_by (s.Combined o length) = None
-named_by s.Function = None
+named_by (s.Pointer x p) = None
+named_by (s.Function i) = None
 
 abbrev pub named : Around → Name → Option Typed
 named a x = named_by (sense a x)

@@ -31,7 +31,8 @@ no_number s.Begins = why.OwnBound
 no_number (s.Cells (Some n)) = why.WholeArray
 no_number (s.Cells None) = why.NoSize
 no_number (s.Combined c length) = why.Combined
-no_number s.Function = why.Function
+no_number (s.Pointer x p) = why.Pointer
+no_number (s.Function i) = why.Function
 
 abbrev pub named_by : ℕ → List ℕ → Sense → Sized
 named_by at name (s.Constant n k) = Ok (nat n, k)
@@ -41,7 +42,8 @@ named_by at name s.Begins = Err (at, why.OwnBound)
 named_by at name (s.Cells (Some n)) = Err (at, why.WholeArray)
 named_by at name (s.Cells None) = Err (at, why.NoSize)
 named_by at name (s.Combined c length) = Err (at, why.Combined)
-named_by at name s.Function = Err (at, why.Function)
+named_by at name (s.Pointer x p) = Err (at, why.Pointer)
+named_by at name (s.Function i) = Err (at, why.Function)
 
 -- the number of a constant, or a loop's variable
 abbrev pub named : Around → ℕ → Name → Sized

@@ -27,7 +27,7 @@ use Rattle.ot_cmeaning.specs.Constants.{Typed, power, both, constant}
 use Rattle.ot_cmeaning.specs.Forms.{nat, form, listed}
 use Rattle.ot_cmeaning.specs.Kinds.{joined, is_word, is_narrow}
 use Rattle.ot_cmeaning.specs.Results.{Refusal, ◌>>=◌}
-use Rattle.ot_cmeaning.specs.Scopes.{Around, sense, name_text}
+use Rattle.ot_cmeaning.specs.Scopes.{Around, Run, is_pointed, sense, name_text}
 use Rattle.ot_cmeaning.specs.Sizes.{size}
 
 -- a value, with the type that it has in C, and whether it is known to be no negative number there
@@ -55,21 +55,42 @@ whole d k = record { text = d; kind = k; whole = true }
 abbrev pub no_array : Sense → Reason
 no_array s.Nothing = why.Unknown
 no_array (s.Combined c length) = why.Combined
+no_array (s.Pointer x p) = why.Pointer
 no_array (s.Constant n k) = why.NoArray
 no_array (s.Turn k) = why.NoArray
 no_array s.Begins = why.NoArray
 no_array (s.Cells length) = why.NoArray
-no_array s.Function = why.NoArray
+no_array (s.Function i) = why.NoArray
 
 abbrev pub array_by : ℕ → List ℕ → Sense → Result Data Refusal
 array_by at name (s.Cells (Some n)) = Ok (string name)
 array_by at name (s.Cells None) = Err (at, why.NoArray)
 array_by at name s.Nothing = Err (at, why.Unknown)
 array_by at name (s.Combined c length) = Err (at, why.Combined)
+array_by at name (s.Pointer x p) = Err (at, why.Pointer)
 array_by at name (s.Constant n k) = Err (at, why.NoArray)
 array_by at name (s.Turn k) = Err (at, why.NoArray)
 array_by at name s.Begins = Err (at, why.NoArray)
-array_by at name s.Function = Err (at, why.NoArray)
+array_by at name (s.Function i) = Err (at, why.NoArray)
+
+-- so many cells from a place on, where both are known
+abbrev pub run_by : Option Typed → Option Typed → Run
+run_by None count = None
+run_by (Some first) None = None
+run_by (Some first) (Some count) = Some (first.0, count.0)
+
+abbrev pub one_cell : Option Typed → Run
+one_cell first = run_by first (Some (1, Int))
+
+-- which cells of an array an index may name: one, or those of which one is picked
+unfoldable pub run : Around → E → Run
+run a (Apply o.Rest chosen count) = run_by (Some (0, Int)) (constant a count)
+run a (Apply o.Plus first (Apply o.Rest chosen count)) = run_by (constant a first) (constant a count)
+run a i = one_cell (constant a i)
+
+-- no open group combines, by a pointer, over a cell of an array that an index may name
+abbrev pub untouched : Around → ℕ → Name → E → Result (Unit {0}) Refusal
+untouched a at x i = if is_pointed a x (run a i) then Err (at, why.Combined) else Ok tt
 
 -- the name of an array, over which no open group combines
 abbrev pub array_name : Around → ℕ → Name → Result Data Refusal
@@ -91,7 +112,8 @@ named_by at name (s.Cells (Some n)) = Err (at, why.WholeArray)
 named_by at name s.Nothing = Err (at, why.Unknown)
 named_by at name s.Begins = Err (at, why.OwnBound)
 named_by at name (s.Combined c length) = Err (at, why.Combined)
-named_by at name s.Function = Err (at, why.Function)
+named_by at name (s.Pointer x p) = Err (at, why.Pointer)
+named_by at name (s.Function i) = Err (at, why.Function)
 
 -- a constant, a loop's variable, or a variable
 abbrev pub named : Around → ℕ → Name → Valued
@@ -297,7 +319,7 @@ unfoldable mutual
   pub value : Around → ℕ → E → Valued
   value a at (Literal n k) = Ok (whole (nat n) k)
   value a at (Variable x) = named a at x
-  value a at (CellAt x i) = indexed a at x i
+  value a at (CellAt x i) = untouched a at x i >>= λ u. indexed a at x i
   value a at (Unsigned e) = value a at e >>= λ x. Ok (word x.text)
   value a at (Signed sign e) = value a at e >>= λ x. signed at sign x
   value a at (Choose t x y) = choice_of at (value a at t) (value a at x) (value a at y) (is_settled a x && is_settled a y)

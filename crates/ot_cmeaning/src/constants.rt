@@ -25,7 +25,8 @@ fn named(scope: &Scope<'_>, name: Name) -> Option<(u64, IntegerType)>
     match scope.sense(name) {
         Sense::Constant(number, kind) => Some((number, kind)),
         Sense::Nothing | Sense::Turn(_) | Sense::Begins => None,
-        Sense::Cells(_) | Sense::Combined(_, _) | Sense::Function => None,
+        Sense::Cells(_) | Sense::Combined(_, _) => None,
+        Sense::Pointer(_, _) | Sense::Function(_) => None,
     }
 }
 

@@ -55,10 +55,18 @@ pub enum Reason {
     Iterator,
     /// A task, a wait or a group outside of a parallel region.
     NoRegion,
-    /// A pointer.
+    /// A pointer by which no open group combines.
     Pointer,
+    /// A pointer to what isn't one cell at a constant place, or to different cells in one file.
+    Pointee,
+    /// A task takes part in a reduction by a pointer, and its cell isn't under `depend(in: ..)`.
+    NoDependence,
     /// A function.
     Function,
+    /// A function that is called while a group combines, whose cells it may touch.
+    CallInGroup,
+    /// More statements than a program may have, those of functions at each of their calls.
+    TooMany,
 }
 
 impl Reason {
@@ -103,8 +111,18 @@ impl Reason {
             Reason::Private => "only a loop's variable is firstprivate",
             Reason::Iterator => "an iterator counts single cells, as in a[i]",
             Reason::NoRegion => "tasks, waits and groups stand in a parallel region",
-            Reason::Pointer => "pointers aren't judged",
-            _ => "functions aren't judged",
+            _ => self.text_of_names(),
+        }
+    }
+
+    fn text_of_names(self) -> &'static str {
+        match self {
+            Reason::Pointer => "a pointer only stands for a cell that a reduction names by it",
+            Reason::Pointee => "a pointer points to one cell, at a number, wherever it is declared",
+            Reason::NoDependence => "in_reduction by a pointer wants its cell under depend(in: ..)",
+            Reason::CallInGroup => "a function is called here while a group combines",
+            Reason::TooMany => "a program has at most 20000 statements",
+            _ => "this function isn't judged here",
         }
     }
 }

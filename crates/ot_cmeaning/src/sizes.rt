@@ -26,7 +26,8 @@ pub(crate) fn no_number(sense: Sense) -> Reason
         Sense::Cells(Some(_)) => Reason::WholeArray,
         Sense::Cells(None) => Reason::NoSize,
         Sense::Combined(_, _) => Reason::Combined,
-        Sense::Function => Reason::Function,
+        Sense::Pointer(_, _) => Reason::Pointer,
+        Sense::Function(_) => Reason::Function,
     }
 }
 

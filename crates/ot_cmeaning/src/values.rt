@@ -49,6 +49,48 @@ fn whole(value: Value, kind: IntegerType) -> Worth
     }
 }
 
+/// So many cells from a place on, where both are known.
+pub fn run_by(
+    first: Option<(u64, IntegerType)>,
+    count: Option<(u64, IntegerType)>,
+) -> Option<(u64, u64)>
+    ensures { result ≡ values.run_by first count }
+{
+    let (first, _) = first?;
+    let (count, _) = count?;
+    Some((first, count))
+}
+
+/// Which cells of an array an index may name: one, or those of which one is picked.
+#[tactic(auto, unfolding(crate::specs::Values::run))]
+fn run(scope: &Scope<'_>, index: &Expr) -> Option<(u64, u64)>
+    ensures { result ≡ values.run scope.now (expr_of index.now) }
+{
+    match index {
+        Expr::Op(Sign::Rest, _, count) => {
+            run_by(Some((0, IntegerType::Int)), constant(scope, count))
+        }
+        Expr::Op(Sign::Plus, first, more) => match &**more {
+            Expr::Op(Sign::Rest, _, count) => {
+                run_by(constant(scope, first), constant(scope, count))
+            }
+            _ => run_by(constant(scope, index), Some((1, IntegerType::Int))),
+        },
+        _ => run_by(constant(scope, index), Some((1, IntegerType::Int))),
+    }
+}
+
+/// No open group combines, by a pointer, over a cell of an array that an index may name.
+pub fn untouched(scope: &Scope<'_>, start: usize, array: Name, index: &Expr) -> Result<(), CFault>
+    ensures { Gives (λ x. x) result (values.untouched scope.now start array (expr_of index.now)) }
+{
+    if scope.is_pointed(array, run(scope, index)) {
+        Err(CFault::Outside(start, Reason::Combined))
+    } else {
+        Ok(())
+    }
+}
+
 /// The name of an array, a cell of which is wanted.
 fn array_name(alloc: Global, scope: &Scope<'_>, start: usize, array: Name) -> Result<Value, CFault>
     ensures { Gives (λ v. view v) result (values.array_name scope.now start array) }
@@ -66,8 +108,9 @@ fn no_array(sense: Sense) -> Reason
     match sense {
         Sense::Nothing => Reason::Unknown,
         Sense::Combined(_, _) => Reason::Combined,
+        Sense::Pointer(_, _) => Reason::Pointer,
         Sense::Constant(_, _) | Sense::Turn(_) | Sense::Begins => Reason::NoArray,
-        Sense::Cells(_) | Sense::Function => Reason::NoArray,
+        Sense::Cells(_) | Sense::Function(_) => Reason::NoArray,
     }
 }
 
@@ -571,7 +614,10 @@ pub fn value(alloc: Global, scope: &Scope<'_>, start: usize, expr: &Expr) -> Res
     match expr {
         Expr::Number(number, kind) => Ok(whole(Value::from(*number), *kind)),
         Expr::Variable(name) => named(alloc, scope, start, *name),
-        Expr::Cell(array, index) => indexed(alloc, scope, start, *array, index),
+        Expr::Cell(array, index) => {
+            untouched(scope, start, *array, index)?;
+            indexed(alloc, scope, start, *array, index)
+        }
         Expr::Cast(inner) => Ok(word(value(alloc, scope, start, inner)?.value)),
         Expr::Unary(sign, inner) => {
             let one = value(alloc, scope, start, inner)?;
