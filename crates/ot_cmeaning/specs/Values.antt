@@ -18,8 +18,8 @@ use Rattle.ot_cmeaning.specs.declared.scope.Sense.{Sense}
 use Rattle.ot_cmeaning.specs.declared.scope.Sense.TheVariants as s
 use Rattle.ot_cmeaning.specs.declared.values.Basic.{Basic}
 use Rattle.ot_cmeaning.specs.declared.values.Basic.TheVariants as op
-use Rattle.ot_cmeaning.specs.declared.values.Form.{Form}
-use Rattle.ot_cmeaning.specs.declared.values.Form.TheVariants as forms
+use Rattle.ot_cmeaning.specs.declared.values.Manner.{Manner}
+use Rattle.ot_cmeaning.specs.declared.values.Manner.TheVariants as manners
 use Rattle.ot_cmeaning.specs.declared.values.Way.{Way}
 use Rattle.ot_cmeaning.specs.declared.values.Way.TheVariants as ways
 use Rattle.ot_cmeaning.specs.declared.values.Worth.{Worth}
@@ -122,25 +122,25 @@ named a at x = named_by at (name_text a x) (sense a x)
 -- ---- operations
 
 -- what two values with a sign between become
-abbrev pub way : Sign → Way
-way o.Or = ways.Plain forms.Is op.Or
-way o.Xor = ways.Plain forms.Is op.Xor
-way o.And = ways.Plain forms.Is op.And
-way o.Equal = ways.Plain forms.Is op.Equal
-way o.Unequal = ways.Plain forms.Not op.Equal
-way o.Less = ways.Plain forms.Is op.Less
-way o.More = ways.Plain forms.Turned op.Less
-way o.AtMost = ways.Plain forms.TurnedNot op.Less
-way o.AtLeast = ways.Plain forms.Not op.Less
-way o.Plus = ways.Plain forms.Is op.Plus
-way o.Minus = ways.Plain forms.Is op.Minus
-way o.Times = ways.Plain forms.Is op.Times
-way o.Both = ways.Lazy op.And
-way o.Either = ways.Lazy op.Or
-way o.ShiftLeft = ways.Shift
-way o.Rest = ways.Rest
-way o.Over = ways.Known
-way o.ShiftRight = ways.Known
+abbrev pub way_of : Sign → Way
+way_of o.Or = ways.Plain manners.Is op.Or
+way_of o.Xor = ways.Plain manners.Is op.Xor
+way_of o.And = ways.Plain manners.Is op.And
+way_of o.Equal = ways.Plain manners.Is op.Equal
+way_of o.Unequal = ways.Plain manners.Not op.Equal
+way_of o.Less = ways.Plain manners.Is op.Less
+way_of o.More = ways.Plain manners.Turned op.Less
+way_of o.AtMost = ways.Plain manners.TurnedNot op.Less
+way_of o.AtLeast = ways.Plain manners.Not op.Less
+way_of o.Plus = ways.Plain manners.Is op.Plus
+way_of o.Minus = ways.Plain manners.Is op.Minus
+way_of o.Times = ways.Plain manners.Is op.Times
+way_of o.Both = ways.Lazy op.And
+way_of o.Either = ways.Lazy op.Or
+way_of o.ShiftLeft = ways.Shift
+way_of o.Rest = ways.Rest
+way_of o.Over = ways.Known
+way_of o.ShiftRight = ways.Known
 
 abbrev pub basic_word : Basic → List ℕ
 basic_word op.Or = codes "|"
@@ -220,11 +220,11 @@ abbrev pub truth : ℕ → W → Valued
 truth at x = denied at x >>= λ none. denied at none
 
 -- in C `x > y` is `y < x`, `x != y` is `!(x == y)`, `x <= y` is `!(y < x)`, and `x >= y` is `!(x < y)`
-abbrev pub formed : ℕ → Form → Basic → W → W → Valued
-formed at forms.Is basic x y = applied at basic x y
-formed at forms.Turned basic x y = applied at basic y x
-formed at forms.Not basic x y = applied at basic x y >>= λ z. denied at z
-formed at forms.TurnedNot basic x y = applied at basic y x >>= λ z. denied at z
+abbrev pub meant : ℕ → Manner → Basic → W → W → Valued
+meant at manners.Is basic x y = applied at basic x y
+meant at manners.Turned basic x y = applied at basic y x
+meant at manners.Not basic x y = applied at basic x y >>= λ z. denied at z
+meant at manners.TurnedNot basic x y = applied at basic y x >>= λ z. denied at z
 
 -- in C `-x` is `0 - x`, `!x` is `x == 0`, and `~x` is `0 - 1 - x`
 abbrev pub signed : ℕ → Unary → W → Valued
@@ -241,19 +241,22 @@ lazily at basic x y = truth at x >>= λ a. truth at y >>= λ c. applied at basic
 abbrev pub chosen : ℕ → W → W → W → W → Valued
 chosen at t x y again = truth at t >>= λ a. applied at op.Minus x y >>= λ more. applied at op.Times a more >>= λ part. applied at op.Plus again part
 
-abbrev pub shifted_by : ℕ → W → Option ℕ → Valued
-shifted_by at x None = Err (at, why.Shift)
-shifted_by at x (Some n) = applied at op.Times x (int n)
-
--- `x << n` is `x * 2^n`
-abbrev pub shifted : ℕ → W → Option Typed → Valued
-shifted at x None = Err (at, why.Shift)
-shifted at x (Some by) = shifted_by at x (power by.0)
-
 -- a number that is known, or why none is
 abbrev pub known : ℕ → Option Typed → Reason → Valued
 known at None reason = Err (at, reason)
 known at (Some x) reason = Ok (whole (nat x.0) x.1)
+
+abbrev pub shifted_by : ℕ → W → Option ℕ → Valued
+shifted_by at x None = Err (at, why.Shift)
+shifted_by at x (Some n) = applied at op.Times x (word (nat n))
+
+abbrev pub power_of : Option Typed → Option ℕ
+power_of None = None
+power_of (Some by) = power by.0
+
+-- `x << n` is `x * 2^n` where x is a `uint64_t`; else both are known
+abbrev pub shifted : ℕ → W → Option Typed → Option Typed → Valued
+shifted at x by all = if is_word x.kind then shifted_by at x (power_of by) else known at all why.Shift
 
 -- whether `%` of a value by a number of a type is a rest of the number that the value is modulo 2^64
 abbrev pub has_rest : W → IntegerType → Bool
@@ -290,7 +293,8 @@ is_no_cell (s.Turn k) = true
 is_no_cell s.Begins = true
 is_no_cell (s.Cells length) = false
 is_no_cell (s.Combined c length) = true
-is_no_cell s.Function = true
+is_no_cell (s.Pointer x p) = true
+is_no_cell (s.Function i) = true
 
 -- whether a value reads no cell, and makes no choice: then it is the same whether C computes it or leaves it out
 unfoldable pub is_settled : Around → E → Bool
@@ -305,9 +309,9 @@ is_settled a (Choose t x y) = false
 
 -- two values by a way: the second may be a constant, or both; it may be left out if it is settled
 abbrev pub by_way : ℕ → Way → Valued → Valued → Option Typed → Option Typed → Bool → Valued
-by_way at (ways.Plain form basic) one two by all settled = one >>= λ x. two >>= λ y. formed at form basic x y
+by_way at (ways.Plain manner basic) one two by all settled = one >>= λ x. two >>= λ y. meant at manner basic x y
 by_way at (ways.Lazy basic) one two by all settled = one >>= λ x. if settled then (two >>= λ y. lazily at basic x y) else Err (at, why.LeftOut)
-by_way at ways.Shift one two by all settled = one >>= λ x. shifted at x by
+by_way at ways.Shift one two by all settled = one >>= λ x. shifted at x by all
 by_way at ways.Rest one two by all settled = one >>= λ x. rest at x by all
 by_way at ways.Known one two by all settled = known at all why.Quotient
 
@@ -324,7 +328,7 @@ unfoldable mutual
   value a at (Signed sign e) = value a at e >>= λ x. signed at sign x
   value a at (Choose t x y) = choice_of at (value a at t) (value a at x) (value a at y) (is_settled a x && is_settled a y)
   value a at (Called f x y) = value a at x >>= λ v. value a at y >>= λ w. Ok (word (form (call_word f) (v.text ∷ w.text ∷ [])))
-  value a at (Apply sign x y) = by_way at (way sign) (value a at x) (value a at y) (constant a y) (both sign (constant a x) (constant a y)) (is_settled a y)
+  value a at (Apply sign x y) = by_way at (way_of sign) (value a at x) (value a at y) (constant a y) (both sign (constant a x) (constant a y)) (is_settled a y)
 
   -- a place in an array: a value `%` a size, alone or behind a size and `+`; or a size
   pub indexed : Around → ℕ → Name → E → Valued
@@ -338,7 +342,7 @@ unfoldable mutual
 
 -- two values with a sign between
 abbrev pub operation : Around → ℕ → Sign → E → E → Valued
-operation a at sign x y = by_way at (way sign) (value a at x) (value a at y) (constant a y) (both sign (constant a x) (constant a y)) (is_settled a y)
+operation a at sign x y = by_way at (way_of sign) (value a at x) (value a at y) (constant a y) (both sign (constant a x) (constant a y)) (is_settled a y)
 
 -- `t ? x : y`
 abbrev pub choice : Around → ℕ → E → E → E → Valued

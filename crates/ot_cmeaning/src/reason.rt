@@ -35,7 +35,7 @@ pub enum Reason {
     Signed,
     /// A rest by another number than a power of two.
     Rest,
-    /// A shift to the left by what isn't known, or by too much.
+    /// A shift to the left of what is no `uint64_t` and isn't known, or by what isn't known, or by too much.
     Shift,
     /// A quotient, or a shift to the right, that isn't known.
     Quotient,
@@ -95,7 +95,7 @@ impl Reason {
             Reason::Wraps => "numbers of type unsigned may wrap here",
             Reason::Signed => "numbers that may be negative are compared here",
             Reason::Rest => "% is by a power of two, or in an array's index",
-            Reason::Shift => "<< is by a number that is known and below 64",
+            Reason::Shift => "<< is of a uint64_t, by a known number below 64, or of known numbers",
             Reason::Quotient => "/ and >> are of numbers that are known",
             Reason::LeftOut => "what && || ?: may leave out here reads no cell and has no ?:",
             _ => self.text_of_directive(),

@@ -158,7 +158,7 @@ pub(crate) enum Basic {
 
 /// How an operation of two values is meant.
 #[derive(Clone, Copy)]
-pub(crate) enum Form {
+pub(crate) enum Manner {
     /// As it stands.
     Is,
     /// Of the second one and the first.
@@ -172,7 +172,7 @@ pub(crate) enum Form {
 /// What two values with a sign between become.
 #[derive(Clone, Copy)]
 pub(crate) enum Way {
-    Plain(Form, Basic),
+    Plain(Manner, Basic),
     /// An operation of whether both aren't 0, of which C may leave out the second.
     Lazy(Basic),
     Shift,
@@ -181,22 +181,22 @@ pub(crate) enum Way {
     Known,
 }
 
-fn way(sign: Sign) -> Way
-    ensures { result ≡ values.way sign }
+fn way_of(sign: Sign) -> Way
+    ensures { result ≡ values.way_of sign }
 {
     match sign {
-        Sign::Or => Way::Plain(Form::Is, Basic::Or),
-        Sign::Xor => Way::Plain(Form::Is, Basic::Xor),
-        Sign::And => Way::Plain(Form::Is, Basic::And),
-        Sign::Equal => Way::Plain(Form::Is, Basic::Equal),
-        Sign::Unequal => Way::Plain(Form::Not, Basic::Equal),
-        Sign::Less => Way::Plain(Form::Is, Basic::Less),
-        Sign::More => Way::Plain(Form::Turned, Basic::Less),
-        Sign::AtMost => Way::Plain(Form::TurnedNot, Basic::Less),
-        Sign::AtLeast => Way::Plain(Form::Not, Basic::Less),
-        Sign::Plus => Way::Plain(Form::Is, Basic::Plus),
-        Sign::Minus => Way::Plain(Form::Is, Basic::Minus),
-        Sign::Times => Way::Plain(Form::Is, Basic::Times),
+        Sign::Or => Way::Plain(Manner::Is, Basic::Or),
+        Sign::Xor => Way::Plain(Manner::Is, Basic::Xor),
+        Sign::And => Way::Plain(Manner::Is, Basic::And),
+        Sign::Equal => Way::Plain(Manner::Is, Basic::Equal),
+        Sign::Unequal => Way::Plain(Manner::Not, Basic::Equal),
+        Sign::Less => Way::Plain(Manner::Is, Basic::Less),
+        Sign::More => Way::Plain(Manner::Turned, Basic::Less),
+        Sign::AtMost => Way::Plain(Manner::TurnedNot, Basic::Less),
+        Sign::AtLeast => Way::Plain(Manner::Not, Basic::Less),
+        Sign::Plus => Way::Plain(Manner::Is, Basic::Plus),
+        Sign::Minus => Way::Plain(Manner::Is, Basic::Minus),
+        Sign::Times => Way::Plain(Manner::Is, Basic::Times),
         Sign::Both => Way::Lazy(Basic::And),
         Sign::Either => Way::Lazy(Basic::Or),
         Sign::ShiftLeft => Way::Shift,
@@ -319,24 +319,24 @@ fn truth(alloc: Global, start: usize, one: Worth) -> Result<Worth, CFault>
 }
 
 /// An operation of two values, as it is meant.
-fn formed(
+fn meant(
     alloc: Global,
     start: usize,
-    form: Form,
+    manner: Manner,
     basic: Basic,
     one: Worth,
     two: Worth,
 ) -> Result<Worth, CFault>
-    ensures { Gives worth_of result (values.formed start form basic (worth_of one) (worth_of two)) }
+    ensures { Gives worth_of result (values.meant start manner basic (worth_of one) (worth_of two)) }
 {
-    match form {
-        Form::Is => applied(alloc, start, basic, one, two),
-        Form::Turned => applied(alloc, start, basic, two, one),
-        Form::Not => {
+    match manner {
+        Manner::Is => applied(alloc, start, basic, one, two),
+        Manner::Turned => applied(alloc, start, basic, two, one),
+        Manner::Not => {
             let result = applied(alloc, start, basic, one, two)?;
             denied(alloc, start, result)
         }
-        Form::TurnedNot => {
+        Manner::TurnedNot => {
             let result = applied(alloc, start, basic, two, one)?;
             denied(alloc, start, result)
         }
@@ -390,24 +390,6 @@ fn chosen(
     applied(alloc, start, Basic::Plus, again, more)
 }
 
-/// A value shifted to the left.
-fn shifted(
-    alloc: Global,
-    start: usize,
-    one: Worth,
-    by: Option<(u64, IntegerType)>,
-) -> Result<Worth, CFault>
-    ensures { Gives worth_of result (values.shifted start (worth_of one) by) }
-{
-    let Some((count, _)) = by else {
-        return Err(CFault::Outside(start, Reason::Shift));
-    };
-    match power(count) {
-        Some(number) => applied(alloc, start, Basic::Times, one, int(number)),
-        None => Err(CFault::Outside(start, Reason::Shift)),
-    }
-}
-
 /// A number that is known.
 fn known(start: usize, number: Option<(u64, IntegerType)>, why: Reason) -> Result<Worth, CFault>
     ensures { Gives worth_of result (values.known start number why) }
@@ -415,6 +397,33 @@ fn known(start: usize, number: Option<(u64, IntegerType)>, why: Reason) -> Resul
     match number {
         Some((number, kind)) => Ok(whole(Value::from(number), kind)),
         None => Err(CFault::Outside(start, why)),
+    }
+}
+
+/// 2 to a number that is known, where that is below 2^64.
+fn power_of(by: Option<(u64, IntegerType)>) -> Option<u64>
+    ensures { result ≡ values.power_of by }
+{
+    let (count, _) = by?;
+    power(count)
+}
+
+/// A value shifted to the left by a number that is known, or a number that is known.
+fn shifted(
+    alloc: Global,
+    start: usize,
+    one: Worth,
+    by: Option<(u64, IntegerType)>,
+    all: Option<(u64, IntegerType)>,
+) -> Result<Worth, CFault>
+    ensures { Gives worth_of result (values.shifted start (worth_of one) by all) }
+{
+    if !is_word(one.kind) {
+        return known(start, all, Reason::Shift);
+    }
+    match power_of(by) {
+        Some(number) => applied(alloc, start, Basic::Times, one, word(Value::from(number))),
+        None => Err(CFault::Outside(start, Reason::Shift)),
     }
 }
 
@@ -556,7 +565,7 @@ fn operation(
 ) -> Result<Worth, CFault>
     ensures { Gives worth_of result (values.operation scope.now start sign (expr_of one.now) (expr_of two.now)) }
 {
-    match way(sign) {
+    match way_of(sign) {
         Way::Known => known(start, constant_of(scope, sign, one, two), Reason::Quotient),
         Way::Rest => {
             let left = value(alloc, scope, start, one)?;
@@ -565,7 +574,8 @@ fn operation(
         }
         Way::Shift => {
             let left = value(alloc, scope, start, one)?;
-            shifted(alloc, start, left, constant(scope, two))
+            let all = constant_of(scope, sign, one, two);
+            shifted(alloc, start, left, constant(scope, two), all)
         }
         Way::Lazy(basic) => {
             let left = value(alloc, scope, start, one)?;
@@ -575,10 +585,10 @@ fn operation(
             let right = value(alloc, scope, start, two)?;
             lazily(alloc, start, basic, left, right)
         }
-        Way::Plain(form, basic) => {
+        Way::Plain(manner, basic) => {
             let left = value(alloc, scope, start, one)?;
             let right = value(alloc, scope, start, two)?;
-            formed(alloc, start, form, basic, left, right)
+            meant(alloc, start, manner, basic, left, right)
         }
     }
 }
