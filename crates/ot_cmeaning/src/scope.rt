@@ -70,8 +70,8 @@ pub enum Sense {
     Cells(Option<usize>),
     /// Cells over which an open group combines.
     Combined(Opening, Option<usize>),
-    /// A pointer to a cell over which no open group combines by it.
-    /// A pointer to a cell: the number of its array among the names of the text, and its place.
+    /// A pointer to a cell over which no open group combines by it: the number of its array among the names of the
+    /// text, and its place.
     Pointer(usize, u64),
     /// A function, by its number among those of the file.
     Function(usize),
@@ -141,29 +141,33 @@ impl<'a> Scope<'a> {
         }
     }
 
-    /// What a name among those of the text means, if it isn't a constant.
+    /// The innermost loop of this variable.
+    fn turn(&self, name: usize) -> Option<Turn>
+        ensures { result ≡ turn_of self.now name }
+    {
+        turn_among(&self.turns, name)
+    }
+
+    /// The innermost group that combines over this array, or by this pointer.
+    fn opening(&self, name: usize) -> Option<Opening>
+        ensures { result ≡ opening_of self.now name }
+    {
+        opening_among(&self.opened, name)
+    }
+
+    /// What a name among those of the text means.
     fn sense_of(&self, name: usize, meaning: Meaning) -> Sense
         ensures { result ≡ around.sense_by meaning (turn_of self.now name) (opening_of self.now name) }
     {
-        match meaning {
-            Meaning::Constant(number, kind) => Sense::Constant(number, kind),
-            Meaning::Nothing => sense_of_turn(turn_among(&self.turns, name), Sense::Nothing),
-            Meaning::Function(index) => {
-                sense_of_turn(turn_among(&self.turns, name), Sense::Function(index))
-            }
-            Meaning::Cells(length) => {
-                sense_of_turn(
-                    turn_among(&self.turns, name),
-                    sense_of_cells(opening_among(&self.opened, name), length),
-                )
-            }
-            Meaning::Pointer(array, place) => {
-                sense_of_turn(
-                    turn_among(&self.turns, name),
-                    sense_of_pointer(opening_among(&self.opened, name), array, place),
-                )
-            }
-        }
+        let opening = self.opening(name);
+        let inner = match meaning {
+            Meaning::Constant(number, kind) => return Sense::Constant(number, kind),
+            Meaning::Nothing => Sense::Nothing,
+            Meaning::Function(index) => Sense::Function(index),
+            Meaning::Cells(length) => sense_of_cells(opening, length),
+            Meaning::Pointer(array, place) => sense_of_pointer(opening, array, place),
+        };
+        sense_of_turn(self.turn(name), inner)
     }
 
     /// What a name means here.
