@@ -339,11 +339,3 @@ unfoldable mutual
   pub behind : Around → ℕ → Data → Data → E → Valued
   behind a at name first (Apply o.Rest chosen count) = pick a at name first (value a at chosen) count
   behind a at name first more = summed a at name first more
-
--- two values with a sign between
-abbrev pub operation : Around → ℕ → Sign → E → E → Valued
-operation a at sign x y = by_way at (way_of sign) (value a at x) (value a at y) (constant a y) (both sign (constant a x) (constant a y)) (is_settled a y)
-
--- `t ? x : y`
-abbrev pub choice : Around → ℕ → E → E → E → Valued
-choice a at t x y = choice_of at (value a at t) (value a at x) (value a at y) (is_settled a x && is_settled a y)

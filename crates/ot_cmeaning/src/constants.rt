@@ -104,23 +104,18 @@ fn applied(
     held(number, joined(one.1, two.1))
 }
 
-/// The number that two values with a sign between are.
-#[cycle(constant)]
-pub(crate) fn constant_of(
-    scope: &Scope<'_>,
+/// Two numbers with a sign between, where both are known.
+pub(crate) fn both(
     sign: Sign,
-    one: &Expr,
-    two: &Expr,
+    one: Option<(u64, IntegerType)>,
+    two: Option<(u64, IntegerType)>,
 ) -> Option<(u64, IntegerType)>
-    ensures { result ≡ constants.both sign (constants.constant scope.now (expr_of one.now)) (constants.constant scope.now (expr_of two.now)) }
+    ensures { result ≡ constants.both sign one two }
 {
-    let one = constant(scope, one)?;
-    let two = constant(scope, two)?;
-    applied(sign, one, two)
+    applied(sign, one?, two?)
 }
 
 /// The number that a value is wherever it is computed, with its type.
-#[cycle(constant)]
 #[tactic(auto, unfolding(crate::specs::Constants::constant))]
 pub fn constant(scope: &Scope<'_>, expr: &Expr) -> Option<(u64, IntegerType)>
     ensures { result ≡ constants.constant scope.now (expr_of expr.now) }
@@ -134,6 +129,6 @@ pub fn constant(scope: &Scope<'_>, expr: &Expr) -> Option<(u64, IntegerType)>
             Some((number, IntegerType::UnsignedLong))
         }
         Expr::Unary(_, _) | Expr::Call(_, _, _) | Expr::Choice(_, _, _) => None,
-        Expr::Op(sign, one, two) => constant_of(scope, *sign, one, two),
+        Expr::Op(sign, one, two) => both(*sign, constant(scope, one), constant(scope, two)),
     }
 }

@@ -5,7 +5,7 @@ ghost use Rattle.ot_cread.specs.Tree.{expr_of};
 ghost use Rattle.ot_cmeaning.specs.Results.{Gives};
 ghost use Rattle.ot_cmeaning.specs.Sizes as sizes;
 
-use crate::constants::constant_of;
+use crate::constants::{both, constant};
 use crate::fault::CFault;
 use crate::json::form2;
 use crate::kind::joined;
@@ -94,7 +94,7 @@ pub fn size(
         }
         Expr::Op(sign, one, two) => {
             let Some(word) = size_word(*sign) else {
-                return known(start, constant_of(scope, *sign, one, two));
+                return known(start, both(*sign, constant(scope, one), constant(scope, two)));
             };
             let (one, one_kind) = size(alloc, scope, start, one)?;
             let (two, two_kind) = size(alloc, scope, start, two)?;

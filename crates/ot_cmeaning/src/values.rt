@@ -6,7 +6,7 @@ ghost use Rattle.ot_cmeaning.specs.Results.{Gives};
 ghost use Rattle.ot_cmeaning.specs.Values.{worth_of};
 ghost use Rattle.ot_cmeaning.specs.Values as values;
 
-use crate::constants::{constant, constant_of, power};
+use crate::constants::{both, constant, power};
 use crate::fault::CFault;
 use crate::json::{form2, three};
 use crate::kind::{is_narrow, is_word, joined};
@@ -553,68 +553,6 @@ fn indexed(
     }
 }
 
-/// Two values with a sign between.
-#[cycle(value)]
-fn operation(
-    alloc: Global,
-    scope: &Scope<'_>,
-    start: usize,
-    sign: Sign,
-    one: &Expr,
-    two: &Expr,
-) -> Result<Worth, CFault>
-    ensures { Gives worth_of result (values.operation scope.now start sign (expr_of one.now) (expr_of two.now)) }
-{
-    match way_of(sign) {
-        Way::Known => known(start, constant_of(scope, sign, one, two), Reason::Quotient),
-        Way::Rest => {
-            let left = value(alloc, scope, start, one)?;
-            let all = constant_of(scope, sign, one, two);
-            rest(alloc, start, left, constant(scope, two), all)
-        }
-        Way::Shift => {
-            let left = value(alloc, scope, start, one)?;
-            let all = constant_of(scope, sign, one, two);
-            shifted(alloc, start, left, constant(scope, two), all)
-        }
-        Way::Lazy(basic) => {
-            let left = value(alloc, scope, start, one)?;
-            if !is_settled(scope, two) {
-                return Err(CFault::Outside(start, Reason::LeftOut));
-            }
-            let right = value(alloc, scope, start, two)?;
-            lazily(alloc, start, basic, left, right)
-        }
-        Way::Plain(manner, basic) => {
-            let left = value(alloc, scope, start, one)?;
-            let right = value(alloc, scope, start, two)?;
-            meant(alloc, start, manner, basic, left, right)
-        }
-    }
-}
-
-/// `test ? one : other`
-#[cycle(value)]
-fn choice(
-    alloc: Global,
-    scope: &Scope<'_>,
-    start: usize,
-    test: &Expr,
-    one: &Expr,
-    other: &Expr,
-) -> Result<Worth, CFault>
-    ensures { Gives worth_of result (values.choice scope.now start (expr_of test.now) (expr_of one.now) (expr_of other.now)) }
-{
-    let test = value(alloc, scope, start, test)?;
-    if !is_settled(scope, one) || !is_settled(scope, other) {
-        return Err(CFault::Outside(start, Reason::LeftOut));
-    }
-    let first = value(alloc, scope, start, one)?;
-    let second = value(alloc, scope, start, other)?;
-    let again = value(alloc, scope, start, other)?;
-    chosen(alloc, start, test, first, second, again)
-}
-
 /// A value.
 #[cycle(value)]
 #[tactic(auto, unfolding(crate::specs::Values::value))]
@@ -633,12 +571,42 @@ pub fn value(alloc: Global, scope: &Scope<'_>, start: usize, expr: &Expr) -> Res
             let one = value(alloc, scope, start, inner)?;
             signed(alloc, start, *sign, one)
         }
-        Expr::Choice(test, one, other) => choice(alloc, scope, start, test, one, other),
+        Expr::Choice(test, one, other) => {
+            let test = value(alloc, scope, start, test)?;
+            if !is_settled(scope, one) || !is_settled(scope, other) {
+                return Err(CFault::Outside(start, Reason::LeftOut));
+            }
+            let first = value(alloc, scope, start, one)?;
+            let second = value(alloc, scope, start, other)?;
+            let again = value(alloc, scope, start, other)?;
+            chosen(alloc, start, test, first, second, again)
+        }
         Expr::Call(call, one, two) => {
             let one = value(alloc, scope, start, one)?;
             let two = value(alloc, scope, start, two)?;
             Ok(word(form2(alloc, call_word(*call), one.value, two.value)?))
         }
-        Expr::Op(sign, one, two) => operation(alloc, scope, start, *sign, one, two),
+        Expr::Op(sign, one, two) => {
+            let by = constant(scope, two);
+            let all = both(*sign, constant(scope, one), by);
+            match way_of(*sign) {
+                Way::Known => known(start, all, Reason::Quotient),
+                Way::Rest => rest(alloc, start, value(alloc, scope, start, one)?, by, all),
+                Way::Shift => shifted(alloc, start, value(alloc, scope, start, one)?, by, all),
+                Way::Lazy(basic) => {
+                    let left = value(alloc, scope, start, one)?;
+                    if !is_settled(scope, two) {
+                        return Err(CFault::Outside(start, Reason::LeftOut));
+                    }
+                    let right = value(alloc, scope, start, two)?;
+                    lazily(alloc, start, basic, left, right)
+                }
+                Way::Plain(manner, basic) => {
+                    let left = value(alloc, scope, start, one)?;
+                    let right = value(alloc, scope, start, two)?;
+                    meant(alloc, start, manner, basic, left, right)
+                }
+            }
+        }
     }
 }
