@@ -22,16 +22,11 @@ fn is_of(array: usize, cells: Option<(u64, u64)>, own: Own) -> bool
     points_into(array, cells, Some(own.cell))
 }
 
+/// How many of them the task folds into by pointers.
 fn count_of(array: usize, cells: Option<(u64, u64)>, own: &[Own]) -> usize
     ensures { result ≡ count_by (meant.is_of array cells) own.now }
 {
-    let mut count = 0;
-    for one in own {
-        if is_of(array, cells, *one) {
-            count += 1;
-        }
-    }
-    count
+    own.iter().filter(|one| is_of(array, cells, **one)).count()
 }
 
 /// How many of these cells of an array the task folds into by pointers.
