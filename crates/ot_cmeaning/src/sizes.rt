@@ -94,7 +94,10 @@ pub fn size(
         }
         Expr::Op(sign, one, two) => {
             let Some(word) = size_word(*sign) else {
-                return known(start, both(*sign, constant(scope, one), constant(scope, two)));
+                return known(
+                    start,
+                    both(*sign, constant(scope, one), constant(scope, two)),
+                );
             };
             let (one, one_kind) = size(alloc, scope, start, one)?;
             let (two, two_kind) = size(alloc, scope, start, two)?;
