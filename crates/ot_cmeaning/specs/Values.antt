@@ -319,6 +319,10 @@ by_way at ways.Known one two by all settled = known at all why.Quotient
 abbrev pub choice_of : ℕ → Valued → Valued → Valued → Bool → Valued
 choice_of at test one other settled = test >>= λ t. if settled then (one >>= λ x. other >>= λ y. chosen at t x y y) else Err (at, why.LeftOut)
 
+-- what a function says of two values
+abbrev pub called : Call → Valued → Valued → Valued
+called f one two = one >>= λ v. two >>= λ w. Ok (word (form (call_word f) (v.text ∷ w.text ∷ [])))
+
 unfoldable mutual
   pub value : Around → ℕ → E → Valued
   value a at (Literal n k) = Ok (whole (nat n) k)
@@ -327,7 +331,7 @@ unfoldable mutual
   value a at (Unsigned e) = value a at e >>= λ x. Ok (word x.text)
   value a at (Signed sign e) = value a at e >>= λ x. signed at sign x
   value a at (Choose t x y) = choice_of at (value a at t) (value a at x) (value a at y) (is_settled a x && is_settled a y)
-  value a at (Called f x y) = value a at x >>= λ v. value a at y >>= λ w. Ok (word (form (call_word f) (v.text ∷ w.text ∷ [])))
+  value a at (Called f x y) = called f (value a at x) (value a at y)
   value a at (Apply sign x y) = by_way at (way_of sign) (value a at x) (value a at y) (constant a y) (both sign (constant a x) (constant a y)) (is_settled a y)
 
   -- a place in an array: a value `%` a size, alone or behind a size and `+`; or a size

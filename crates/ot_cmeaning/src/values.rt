@@ -1,9 +1,9 @@
 //! Values: numbers that a program computes.
-ghost use Rattle.std.specs.Prelude.{◌≡◌};
+ghost use Rattle.std.specs.Prelude.{◌≡◌, ◌&&◌, true, false};
 ghost use Rattle.serde_json.specs.View.{view};
 ghost use Rattle.ot_cread.specs.Tree.{expr_of};
 ghost use Rattle.ot_cmeaning.specs.Results.{Gives};
-ghost use Rattle.ot_cmeaning.specs.Values.{worth_of};
+ghost use Rattle.ot_cmeaning.specs.Values.{Valued, worth_of};
 ghost use Rattle.ot_cmeaning.specs.Values as values;
 
 use crate::constants::{both, constant, power};
@@ -553,6 +553,79 @@ fn indexed(
     }
 }
 
+/// Whether each of two values reads no cell, and makes no choice.
+fn are_settled(scope: &Scope<'_>, one: &Expr, other: &Expr) -> bool
+    ensures { result ≡ (values.is_settled scope.now (expr_of one.now) && values.is_settled scope.now (expr_of other.now)) }
+{
+    is_settled(scope, one) && is_settled(scope, other)
+}
+
+/// A choice by a test, where what C leaves out may not be computed.
+fn left_out(start: usize, test: Result<Worth, CFault>) -> Result<Worth, CFault>
+    ensures { (t r s : Valued) → Gives worth_of test t
+        → Gives worth_of result (values.choice_of start t r s false) }
+{
+    test?;
+    Err(CFault::Outside(start, Reason::LeftOut))
+}
+
+/// A choice by a test, where both may be computed. `other` and `again` are the same.
+fn choice(
+    alloc: Global,
+    start: usize,
+    test: Result<Worth, CFault>,
+    one: Result<Worth, CFault>,
+    other: Result<Worth, CFault>,
+    again: Result<Worth, CFault>,
+) -> Result<Worth, CFault>
+    ensures { (t r s : Valued) → Gives worth_of test t → Gives worth_of one r → Gives worth_of other s
+        → Gives worth_of again s → Gives worth_of result (values.choice_of start t r s true) }
+{
+    chosen(alloc, start, test?, one?, other?, again?)
+}
+
+/// What a function says of two values.
+fn called(
+    alloc: Global,
+    call: Call,
+    one: Result<Worth, CFault>,
+    two: Result<Worth, CFault>,
+) -> Result<Worth, CFault>
+    ensures { (r s : Valued) → Gives worth_of one r → Gives worth_of two s
+        → Gives worth_of result (values.called call r s) }
+{
+    Ok(word(form2(alloc, call_word(call), one?.value, two?.value)?))
+}
+
+/// Two values by a way. The second may be a constant, or both; it may be left out if it is settled.
+fn by_way(
+    alloc: Global,
+    start: usize,
+    way: Way,
+    one: Result<Worth, CFault>,
+    two: Result<Worth, CFault>,
+    by: Option<(u64, IntegerType)>,
+    all: Option<(u64, IntegerType)>,
+    settled: bool,
+) -> Result<Worth, CFault>
+    ensures { (r s : Valued) → Gives worth_of one r → Gives worth_of two s
+        → Gives worth_of result (values.by_way start way r s by all settled) }
+{
+    match way {
+        Way::Known => known(start, all, Reason::Quotient),
+        Way::Rest => rest(alloc, start, one?, by, all),
+        Way::Shift => shifted(alloc, start, one?, by, all),
+        Way::Lazy(basic) => {
+            let one = one?;
+            if !settled {
+                return Err(CFault::Outside(start, Reason::LeftOut));
+            }
+            lazily(alloc, start, basic, one, two?)
+        }
+        Way::Plain(manner, basic) => meant(alloc, start, manner, basic, one?, two?),
+    }
+}
+
 /// A value.
 #[cycle(value)]
 #[tactic(auto, unfolding(crate::specs::Values::value))]
@@ -567,46 +640,29 @@ pub fn value(alloc: Global, scope: &Scope<'_>, start: usize, expr: &Expr) -> Res
             indexed(alloc, scope, start, *array, index)
         }
         Expr::Cast(inner) => Ok(word(value(alloc, scope, start, inner)?.value)),
-        Expr::Unary(sign, inner) => {
-            let one = value(alloc, scope, start, inner)?;
-            signed(alloc, start, *sign, one)
-        }
+        Expr::Unary(sign, inner) => signed(alloc, start, *sign, value(alloc, scope, start, inner)?),
         Expr::Choice(test, one, other) => {
-            let test = value(alloc, scope, start, test)?;
-            if !is_settled(scope, one) || !is_settled(scope, other) {
-                return Err(CFault::Outside(start, Reason::LeftOut));
+            let test = value(alloc, scope, start, test);
+            if !are_settled(scope, one, other) {
+                return left_out(start, test);
             }
-            let first = value(alloc, scope, start, one)?;
-            let second = value(alloc, scope, start, other)?;
-            let again = value(alloc, scope, start, other)?;
-            chosen(alloc, start, test, first, second, again)
+            let one = value(alloc, scope, start, one);
+            let first = value(alloc, scope, start, other);
+            let again = value(alloc, scope, start, other);
+            choice(alloc, start, test, one, first, again)
         }
         Expr::Call(call, one, two) => {
-            let one = value(alloc, scope, start, one)?;
-            let two = value(alloc, scope, start, two)?;
-            Ok(word(form2(alloc, call_word(*call), one.value, two.value)?))
+            let one = value(alloc, scope, start, one);
+            let two = value(alloc, scope, start, two);
+            called(alloc, *call, one, two)
         }
         Expr::Op(sign, one, two) => {
             let by = constant(scope, two);
             let all = both(*sign, constant(scope, one), by);
-            match way_of(*sign) {
-                Way::Known => known(start, all, Reason::Quotient),
-                Way::Rest => rest(alloc, start, value(alloc, scope, start, one)?, by, all),
-                Way::Shift => shifted(alloc, start, value(alloc, scope, start, one)?, by, all),
-                Way::Lazy(basic) => {
-                    let left = value(alloc, scope, start, one)?;
-                    if !is_settled(scope, two) {
-                        return Err(CFault::Outside(start, Reason::LeftOut));
-                    }
-                    let right = value(alloc, scope, start, two)?;
-                    lazily(alloc, start, basic, left, right)
-                }
-                Way::Plain(manner, basic) => {
-                    let left = value(alloc, scope, start, one)?;
-                    let right = value(alloc, scope, start, two)?;
-                    meant(alloc, start, manner, basic, left, right)
-                }
-            }
+            let settled = is_settled(scope, two);
+            let one = value(alloc, scope, start, one);
+            let two = value(alloc, scope, start, two);
+            by_way(alloc, start, way_of(*sign), one, two, by, all, settled)
         }
     }
 }
