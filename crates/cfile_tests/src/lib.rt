@@ -21,3 +21,5 @@ mod programs;
 mod statements;
 #[cfg(test)]
 mod telling;
+#[cfg(test)]
+mod values;

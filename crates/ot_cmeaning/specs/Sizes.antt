@@ -11,6 +11,8 @@ use Rattle.ot_cmeaning.specs.declared.reason.Reason.{Reason}
 use Rattle.ot_cmeaning.specs.declared.reason.Reason.TheVariants as why
 use Rattle.ot_cmeaning.specs.declared.scope.Sense.{Sense}
 use Rattle.ot_cmeaning.specs.declared.scope.Sense.TheVariants as s
+use Rattle.ot_cmeaning.specs.Constants.{Typed, constant}
+use Rattle.ot_cmeaning.specs.Constants as constants
 use Rattle.ot_cmeaning.specs.Forms.{nat, form}
 use Rattle.ot_cmeaning.specs.Kinds.{joined}
 use Rattle.ot_cmeaning.specs.Results.{Refusal, ◌>>=◌}
@@ -67,11 +69,16 @@ size_word o.ShiftLeft = None
 size_word o.ShiftRight = None
 size_word o.Over = None
 
-abbrev pub both : ℕ → Option (List ℕ) → Sized → Sized → Sized
-both at None one two = Err (at, why.NoSize)
-both at (Some word) one two = one >>= λ x. two >>= λ y. Ok (form word (x.0 ∷ y.0 ∷ []), joined x.1 y.1)
+abbrev pub known : ℕ → Option Typed → Sized
+known at None = Err (at, why.NoSize)
+known at (Some x) = Ok (nat x.0, x.1)
 
--- numbers and loop variables, and + - * of these
+-- two sizes with a sign between, or the constant that the two are
+abbrev pub both : ℕ → Option (List ℕ) → Sized → Sized → Option Typed → Sized
+both at None one two constant = known at constant
+both at (Some word) one two constant = one >>= λ x. two >>= λ y. Ok (form word (x.0 ∷ y.0 ∷ []), joined x.1 y.1)
+
+-- numbers and loop variables, + - * of these, and / % << >> of numbers
 unfoldable pub size : Around → ℕ → E → Sized
 size a at (Literal n k) = Ok (nat n, k)
 size a at (Variable x) = named a at x
@@ -80,4 +87,4 @@ size a at (Unsigned e) = size a at e >>= λ x. Ok (x.0, UnsignedLong)
 size a at (Called c x y) = Err (at, why.NoSize)
 size a at (Signed sign e) = Err (at, why.NoSize)
 size a at (Choose t x y) = Err (at, why.NoSize)
-size a at (Apply sign x y) = both at (size_word sign) (size a at x) (size a at y)
+size a at (Apply sign x y) = both at (size_word sign) (size a at x) (size a at y) (constants.both sign (constant a x) (constant a y))

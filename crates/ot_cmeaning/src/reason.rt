@@ -35,8 +35,12 @@ pub enum Reason {
     Signed,
     /// A rest by another number than a power of two.
     Rest,
-    /// A sign that the language has no operation for.
-    Sign,
+    /// A shift to the left of what is no `uint64_t` and isn't known, or by what isn't known, or by too much.
+    Shift,
+    /// A quotient, or a shift to the right, that isn't known.
+    Quotient,
+    /// What C may leave out, and reads a cell or chooses itself.
+    LeftOut,
     /// A name over which an open group combines, and of which the task has no copy of its own.
     Combined,
     /// A task's own copy that isn't folded into by its operation.
@@ -91,7 +95,9 @@ impl Reason {
             Reason::Wraps => "numbers of type unsigned may wrap here",
             Reason::Signed => "numbers that may be negative are compared here",
             Reason::Rest => "% is by a power of two, or in an array's index",
-            Reason::Sign => "no operation is like this sign",
+            Reason::Shift => "<< is of a uint64_t, by a known number below 64, or of known numbers",
+            Reason::Quotient => "/ and >> are of numbers that are known",
+            Reason::LeftOut => "what && || ?: may leave out here reads no cell and has no ?:",
             _ => self.text_of_directive(),
         }
     }

@@ -5,6 +5,7 @@ ghost use Rattle.ot_cread.specs.Tree.{expr_of};
 ghost use Rattle.ot_cmeaning.specs.Results.{Gives};
 ghost use Rattle.ot_cmeaning.specs.Sizes as sizes;
 
+use crate::constants::{both, constant};
 use crate::fault::CFault;
 use crate::json::form2;
 use crate::kind::joined;
@@ -59,6 +60,16 @@ fn size_word(sign: Sign) -> Option<&'static str>
     }
 }
 
+/// The number of a constant.
+fn known(start: usize, number: Option<(u64, IntegerType)>) -> Result<(Value, IntegerType), CFault>
+    ensures { Gives (λ x. (view x.0, x.1)) result (sizes.known start number) }
+{
+    match number {
+        Some((number, kind)) => Ok((Value::from(number), kind)),
+        None => Err(CFault::Outside(start, Reason::NoSize)),
+    }
+}
+
 /// A size, with the type that it has in C. In the language each part of it is exact, so where it is none in C that its
 /// type holds it is refused there.
 #[tactic(auto, unfolding(crate::specs::Sizes::size))]
@@ -83,7 +94,10 @@ pub fn size(
         }
         Expr::Op(sign, one, two) => {
             let Some(word) = size_word(*sign) else {
-                return Err(CFault::Outside(start, Reason::NoSize));
+                return known(
+                    start,
+                    both(*sign, constant(scope, one), constant(scope, two)),
+                );
             };
             let (one, one_kind) = size(alloc, scope, start, one)?;
             let (two, two_kind) = size(alloc, scope, start, two)?;
