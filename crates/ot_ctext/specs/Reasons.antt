@@ -82,7 +82,9 @@ use_reason why.Constant = codes "a constant is read only, and no cell"
 use_reason why.Wraps = codes "numbers of type unsigned may wrap here"
 use_reason why.Signed = codes "numbers that may be negative are compared here"
 use_reason why.Rest = codes "% is by a power of two, or in an array's index"
-use_reason why.Sign = codes "no operation is like this sign"
+use_reason why.Shift = codes "<< is of a uint64_t, by a known number below 64, or of known numbers"
+use_reason why.Quotient = codes "/ and >> are of numbers that are known"
+use_reason why.LeftOut = codes "what && || ?: may leave out here reads no cell and has no ?:"
 use_reason other = directive_reason other
 
 -- why a file has no program

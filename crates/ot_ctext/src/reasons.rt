@@ -102,7 +102,9 @@ fn use_reason(reason: Reason) -> &'static str
         Reason::Wraps => "numbers of type unsigned may wrap here",
         Reason::Signed => "numbers that may be negative are compared here",
         Reason::Rest => "% is by a power of two, or in an array's index",
-        Reason::Sign => "no operation is like this sign",
+        Reason::Shift => "<< is of a uint64_t, by a known number below 64, or of known numbers",
+        Reason::Quotient => "/ and >> are of numbers that are known",
+        Reason::LeftOut => "what && || ?: may leave out here reads no cell and has no ?:",
         _ => directive_reason(reason),
     }
 }
