@@ -107,8 +107,8 @@ fn function_body(
 
 /// How many statements a function has.
 fn length(became: &Became) -> usize
-    ensures { result ≡ meant.length_of (became_of became.now) }
-    ensures { result < 2 ^ 63 }
+    ensures counts { result ≡ meant.length_of (became_of became.now) }
+    ensures bounded { result < 2 ^ 63 }
 {
     match became {
         Became::Lines(lines) => lines.places.len(),
