@@ -342,18 +342,16 @@ fn shows(alloc: Global, arrays: &[CArray]) -> Result<Vec<Value>, CFault>
 pub fn lower(alloc: Global, words: &Words, file: &File) -> Result<Lowered, CFault>
     ensures { Gives lowered_of result (meant.lowered words.now.names.keys words.now.starts.items (file_of file.now)) }
 {
-    let before = tops(alloc, words, &file.tops)?;
+    let Before {
+        declared,
+        functions,
+        ..
+    } = tops(alloc, words, &file.tops)?;
     let source = Source {
         starts: &words.starts,
-        functions: &before.functions,
+        functions: &functions,
     };
-    let Progress { declared, lines } = main_body(
-        alloc,
-        words,
-        &source,
-        before.declared,
-        &file.main,
-    )?;
+    let Progress { declared, lines } = main_body(alloc, words, &source, declared, &file.main)?;
     let shows = json::list(shows(alloc, &declared.arrays)?);
     let list = json::list(lines.statements);
     let program = json::form2(alloc, "program2", shows, list)?;
