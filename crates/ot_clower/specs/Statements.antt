@@ -71,9 +71,15 @@ print a at es = each (read_step a at) none es
 abbrev pub region_at : Around → ℕ → Result (Unit {0}) Refusal
 region_at a at = if a.inside then Ok tt else Err (at, why.NoRegion)
 
+abbrev pub wait_for_all : ℕ → Lowered
+wait_for_all at = Ok (one at (form (codes "wait") []) [])
+
+abbrev pub wait_for : Around → ℕ → List Claim → Lowered
+wait_for a at cs = heading at a cs >>= λ h. Ok (one at (form (codes "wait") (listed h.clauses ∷ [])) [])
+
 abbrev pub waits : Around → ℕ → List Claim → Lowered
-waits a at [] = Ok (one at (form (codes "wait") []) [])
-waits a at (c ∷ cs) = heading at a (c ∷ cs) >>= λ h. Ok (one at (form (codes "wait") (listed h.clauses ∷ [])) [])
+waits a at [] = wait_for_all at
+waits a at (c ∷ cs) = wait_for a at (c ∷ cs)
 
 -- a wait, with clauses or without (OpenMP API 5.2, section 15.5)
 abbrev pub wait : Around → ℕ → List Claim → Lowered

@@ -83,18 +83,42 @@ fn wait(alloc: Global, scope: &Scope<'_>, start: usize, clauses: &[Clause]) -> R
     ensures { Gives lines_of result (meant.wait scope.now start (clauses_of clauses.now)) }
 {
     region_at(scope, start)?;
+    waits(alloc, scope, start, clauses)
+}
+
+/// The same, wherever it stands.
+fn waits(
+    alloc: Global,
+    scope: &Scope<'_>,
+    start: usize,
+    clauses: &[Clause],
+) -> Result<Lines, CFault>
+    ensures { Gives lines_of result (meant.waits scope.now start (clauses_of clauses.now)) }
+{
     match clauses {
-        [] => {
-            let statement = json::form0(alloc, "wait")?;
-            Ok(one_line(alloc, start, statement, Vec::new(alloc))?)
-        }
-        _ => {
-            let heading = headed(alloc, start, scope.again(alloc)?, clauses)?;
-            let clauses = json::list(heading.clauses);
-            let statement = json::form1(alloc, "wait", clauses)?;
-            Ok(one_line(alloc, start, statement, Vec::new(alloc))?)
-        }
+        [] => wait_for_all(alloc, start),
+        _ => wait_for(alloc, scope, start, clauses),
     }
+}
+
+fn wait_for_all(alloc: Global, start: usize) -> Result<Lines, CFault>
+    ensures { Gives lines_of result (meant.wait_for_all start) }
+{
+    let statement = json::form0(alloc, "wait")?;
+    Ok(one_line(alloc, start, statement, Vec::new(alloc))?)
+}
+
+fn wait_for(
+    alloc: Global,
+    scope: &Scope<'_>,
+    start: usize,
+    clauses: &[Clause],
+) -> Result<Lines, CFault>
+    ensures { Gives lines_of result (meant.wait_for scope.now start (clauses_of clauses.now)) }
+{
+    let heading = headed(alloc, start, scope.again(alloc)?, clauses)?;
+    let statement = json::form1(alloc, "wait", json::list(heading.clauses))?;
+    Ok(one_line(alloc, start, statement, Vec::new(alloc))?)
 }
 
 /// Tasks, waits and groups stand in a parallel region.
