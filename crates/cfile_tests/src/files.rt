@@ -3,7 +3,7 @@ use crate::telling::{Told, told_file};
 use std::alloc::Global;
 use std::test::Fail;
 
-const FILES: [(&str, Told); 24] = [
+const FILES: [(&str, Told); 30] = [
     (
         "int main(void) {\n#pragma omp parallel\n#pragma omp single\n{ }\n}",
         Told::Read,
@@ -31,6 +31,30 @@ const FILES: [(&str, Told); 24] = [
     (
         "int main(void) {\n#pragma omp parallel default(none)\n#pragma omp single\n{ }\n#pragma omp parallel\n#pragma omp single\n{ }\n}",
         Told::Read,
+    ),
+    (
+        "static uint64_t min(uint64_t one, uint64_t two)\n{\n    return one < two ? one : two;\n}\n\nuint64_t max(unsigned long x, size_t y) { return x < y ? y : x; }\nint main(void) {\n#pragma omp parallel\n#pragma omp single\n{ }\n}",
+        Told::Read,
+    ),
+    (
+        "static void show(const uint64_t *cells, size_t count)\n{\n    for (size_t i = 0; i < count; i++)\n        printf(\"%c%\" PRIu64, i == 0 ? '[' : ',', cells[i]);\n    printf(\"]\");\n}\nint main(void) {\n#pragma omp parallel\n#pragma omp single\n{ }\n}",
+        Told::Read,
+    ),
+    (
+        "static uint64_t min(uint64_t one, uint64_t two)\n{\n    return one < two ? two : one;\n}",
+        Told::Refused("name", 3, 24),
+    ),
+    (
+        "uint64_t max(uint64_t x, uint64_t x) { return x < x ? x : x; }",
+        Told::Refused("name", 1, 40),
+    ),
+    (
+        "uint64_t max(int x, uint64_t y) { return x < y ? y : x; }",
+        Told::Refused("type", 1, 14),
+    ),
+    (
+        "static void show(const uint64_t *cells, size_t count)\n{\n    x = 1;\n}",
+        Told::Refused("mark", 3, 5),
     ),
     ("", Told::Refused("long", 1, 1)),
     ("int x", Told::Refused("mark", 1, 6)),

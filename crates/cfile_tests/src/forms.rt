@@ -100,7 +100,7 @@ const TAKEN: [(&str, &str); 27] = [
 ];
 
 /// What stands in the region, from the first column of line 7 on, and why and where it is refused.
-const REFUSED: [(&str, Reason, usize, usize); 40] = [
+const REFUSED: [(&str, Reason, usize, usize); 39] = [
     ("y = 1;", Reason::Unknown, 7, 1),
     ("x = 1; x = y;", Reason::Unknown, 7, 8),
     ("a = 1;", Reason::WholeArray, 7, 1),
@@ -144,7 +144,6 @@ const REFUSED: [(&str, Reason, usize, usize); 40] = [
         29,
     ),
     ("f();", Reason::Function, 7, 1),
-    ("uint64_t *p = &a[0];", Reason::Pointer, 7, 1),
     ("show(&a[0], 2);", Reason::Function, 7, 1),
     ("x = f;", Reason::Unknown, 7, 1),
     (
@@ -322,14 +321,15 @@ const FILES: [(&str, Reason, usize, usize); 14] = [
 ];
 
 /// The file with these statements in its region.
-fn file_with(alloc: Global, inner: &str) -> Result<String, AllocError> {
+pub fn file_with(alloc: Global, inner: &str) -> Result<String, AllocError> {
     let mut text = String::from_str(alloc, BEFORE)?;
     text.push_str(inner)?;
     text.push_str(BEHIND)?;
     Ok(text)
 }
 
-fn becomes(alloc: Global, inner: &str, wanted: &str) -> Option<bool> {
+/// Whether the statements become these.
+pub fn becomes(alloc: Global, inner: &str, wanted: &str) -> Option<bool> {
     let file = file_with(alloc, inner).ok()?;
     let mut program = String::from_str(alloc, OPENED).ok()?;
     program.push_str(wanted).ok()?;
@@ -349,7 +349,8 @@ fn other_form(alloc: Global) -> Option<&'static str> {
     None
 }
 
-fn is_outside(alloc: Global, text: &str, reason: Reason, line: usize, column: usize) -> bool {
+/// Whether a file is refused, why and where.
+pub fn is_outside(alloc: Global, text: &str, reason: Reason, line: usize, column: usize) -> bool {
     match became(alloc, text) {
         Outcome::Outside(why, l, c) => why == reason && l == line && c == column,
         _ => false,

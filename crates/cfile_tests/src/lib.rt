@@ -2,6 +2,8 @@
 #![tactic(auto)]
 
 #[cfg(test)]
+mod calls;
+#[cfg(test)]
 mod files;
 #[cfg(test)]
 mod forms;
@@ -10,8 +12,14 @@ mod kernels;
 #[cfg(test)]
 mod lowered;
 #[cfg(test)]
+mod pointers;
+#[cfg(test)]
+mod printed;
+#[cfg(test)]
 mod programs;
 #[cfg(test)]
 mod statements;
 #[cfg(test)]
 mod telling;
+#[cfg(test)]
+mod values;

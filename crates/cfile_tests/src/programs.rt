@@ -53,7 +53,7 @@ const OUTSIDE: [(&str, Reason, usize, usize); 6] = [
 ];
 
 /// Whether a text becomes this program, with these cells, at these lines.
-fn becomes(
+pub fn becomes(
     alloc: Global,
     text: &str,
     program: &str,

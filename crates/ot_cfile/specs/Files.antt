@@ -10,10 +10,12 @@ use Rattle.ot_cread.specs.Tree.{E, Literal, Variable}
 use Rattle.ot_cstatement.specs.declared.fault.Fault.{Fault}
 use Rattle.ot_cstatement.specs.declared.fault.Fault.TheVariants.{NoConstant, NoRegion, More}
 use Rattle.ot_cstatement.specs.Tree.{body_of}
-use Rattle.ot_cfile.specs.Program.{Entry, Constant, Global, Function, Whole}
+use Rattle.ot_cfile.specs.Program.{Entry, Constant, Global, Function as FunctionAt, Whole}
 use Rattle.ot_cstatement.specs.Reading.{◌>>=◌, steps, Behind, open_at, close_at, open_block_at, end_at, name_at, value}
 use Rattle.ot_cstatement.specs.Statements.{statement_at, stmts_at}
 use Rattle.ot_cfile.specs.Declarations.{static_end, declaration_at}
+use Rattle.ot_cfile.specs.declared.known.Function.{Function}
+use Rattle.ot_cfile.specs.Known.{known_begin, known_end}
 use Rattle.ot_cfile.specs.Main.{has_region, main_at}
 
 abbrev pub OneTop : Type 0
@@ -71,7 +73,7 @@ function_at left ws = do
   a ← parameters_at name.1
   b ← open_block_at a
   body ← stmts_at (statement_at 48) b
-  Ok (Function left name.0 (body_of body.0), body.1)
+  Ok (FunctionAt left name.0 (body_of body.0), body.1)
 
 abbrev pub function_or_global : List Word → Option (List Word) → OneTop
 function_or_global ws (Some rest) = function_at (length ws) rest
@@ -104,11 +106,15 @@ unfoldable pub include_end : List Word → Option (List Word)
 include_end (w.Include ∷ w.End ∷ ws) = Some ws
 include_end _ = None
 
+abbrev pub known_or_top : List Entry → List Word → Option (Function × List Word) → Result (List Entry × Bool × List Word) Fault
+known_or_top front ws (Some x) = known_end x.0 x.1 >>= λ rest. Ok (front, true, rest)
+known_or_top front ws None = top_at ws >>= λ x. Ok (front ++ x.0 ∷ [], true, x.1)
+
 abbrev pub include_or_top : List Entry → List Word → Option (List Word) → Result (List Entry × Bool × List Word) Fault
 include_or_top front ws (Some rest) = Ok (front, true, rest)
-include_or_top front ws None = top_at ws >>= λ x. Ok (front ++ x.0 ∷ [], true, x.1)
+include_or_top front ws None = known_or_top front ws (known_begin ws)
 
--- what stands next, behind others; `#include` says nothing
+-- what stands next, behind others; `#include` and functions that are known say nothing
 unfoldable pub next_top : List Entry → List Word → Result (List Entry × Bool × List Word) Fault
 next_top front ws = include_or_top front ws (include_end ws)
 

@@ -1,5 +1,5 @@
 -- What `main` does, from left to right.
-use Rattle.std.specs.Prelude.{ℕ, Bool, true, false, ◌==◌, ◌&&◌, ◌||◌, List, [], ◌∷◌, ◌++◌, length, Option, Some, None, Result, Ok, Err, if◌then◌else◌}
+use Rattle.std.specs.Prelude.{Bool, true, false, ◌==◌, ◌&&◌, ◌||◌, List, [], ◌∷◌, ◌++◌, length, Option, Some, None, Result, Ok, if◌then◌else◌}
 use Rattle.ot_words.specs.declared.known.Known.TheVariants as k
 use Rattle.ot_words.specs.declared.mark.Mark.TheVariants as m
 use Rattle.ot_words.specs.declared.word.Name.{Name}

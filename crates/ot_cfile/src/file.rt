@@ -7,6 +7,7 @@ ghost use Rattle.ot_cfile.specs.Program.{top_of, tops_of, file_of};
 ghost use Rattle.ot_cfile.specs.Files as read;
 
 use crate::declaration::{declaration, static_end};
+use crate::known::{known_begin, known_end};
 use crate::main_body::{has_region, main_body};
 use crate::program::{File, Top};
 use ot_cread::Expr;
@@ -175,7 +176,7 @@ fn include_end(words: &[Word]) -> Option<&[Word]>
     }
 }
 
-/// What stands next before `main`, behind what was found; `#include` says nothing.
+/// What stands next before `main`, behind what was found; `#include` and functions that are known say nothing.
 #[tactic(auto, unfolding(crate::specs::Files::next_top))]
 fn next_top(
     alloc: Global,
@@ -185,6 +186,10 @@ fn next_top(
     ensures { Gives (λ x. (tops_of x.0.items, x.1, x.2.now)) result (read.next_top (tops_of found.items) words.now) }
 {
     if let Some(rest) = include_end(words) {
+        return Ok((found, true, rest));
+    }
+    if let Some((function, rest)) = known_begin(words) {
+        let rest = known_end(function, rest)?;
         return Ok((found, true, rest));
     }
     let (top, rest) = top(alloc, words)?;

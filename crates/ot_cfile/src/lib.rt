@@ -3,6 +3,8 @@
 
 mod declaration;
 mod file;
+mod fixed;
+mod known;
 mod main_body;
 mod program;
 mod region;

@@ -17,6 +17,8 @@ use Rattle.ot_program.specs.Programs.{program_of}
 use Rattle.ot_program.specs.declared.fault.Refusal.{Refusal}
 use Rattle.ot_program.specs.declared.fault.Refusal.TheVariants.{Form, Size, UnknownArray, OutOfRange, EmptySection, TooLarge, TooManyTasks, MixedReduction}
 use Rattle.ot_race.specs.declared.race.Race.{Race}
+use Rattle.ot_overlap.specs.Items.{items_of}
+use Rattle.ot_overlap.specs.Overlaps.{IsFirst}
 use Rattle.ot_cjudge.specs.Start.{named, shape_of, cells_of}
 use Rattle.ot_cjudge.specs.Sites.{Source, Site, site_of, entry_site}
 use Rattle.ot_cjudge.specs.Lines.{place_text, turns_text, cell_text}
@@ -107,6 +109,9 @@ reason_of TooLarge = codes "the program is too large or too deep"
 reason_of TooManyTasks = codes "the program has too many tasks"
 reason_of MixedReduction = codes "a cell is in a reduction and in a clause beside it"
 
+abbrev pub overlaps : List ℕ
+overlaps = codes "an item of a depend clause overlaps in part with another one of this task or of a sibling"
+
 -- `NAME:LINE:COLUMN: error: REASON [outside]`
 abbrev pub outside_line : List ℕ → Position → List ℕ → List ℕ
 outside_line name p reason = place_text name p ++ (codes ": error: " ++ (reason ++ codes " [outside]\n"))
@@ -124,9 +129,18 @@ ReportsFinding s body OnlyRun verdict text = (verdict ≡ v.Clean) × (warning :
 abbrev pub ReportsRun : Source → List (List ℕ) → Body → Verdict → List ℕ → Type 0
 ReportsRun s cells body verdict text = (finding : Finding) × Finds body cells finding × ReportsFinding s body finding verdict text
 
+-- of one of which an item of a `depend` clause overlaps in part with one that writes, or none does
+abbrev pub ReportsItems : Source → List (List ℕ) → Body → Option ℕ → Verdict → List ℕ → Type 0
+ReportsItems s cells body (Some entry) verdict text = (verdict ≡ v.Outside) × (text ≡ outside_line s.name (entry_site s entry).position overlaps)
+ReportsItems s cells body None verdict text = ReportsRun s cells body verdict text
+
+abbrev pub ReportsProgram : Source → List (List ℕ) → Body → Verdict → List ℕ → Type 0
+ReportsProgram s cells body verdict text =
+    (first : Option ℕ) × IsFirst (items_of s.arrays s.request) first × ReportsItems s cells body first verdict text
+
 -- of a program that was read, or wasn't: then it is told at one of its entries
 abbrev pub ReportsRead : Source → List (List ℕ) → Result Expanded Refusal → Verdict → List ℕ → Type 0
-ReportsRead s cells (Ok program) verdict text = ReportsRun s cells program.body verdict text
+ReportsRead s cells (Ok program) verdict text = ReportsProgram s cells program.body verdict text
 ReportsRead s cells (Err refusal) verdict text =
     (verdict ≡ v.Outside) × (index : ℕ) × (text ≡ outside_line s.name (entry_site s index).position (reason_of refusal))
 

@@ -14,7 +14,7 @@ ghost use Rattle.ot_cjudge.specs.SiteView.{source_by};
 ghost use Rattle.ot_cjudge.specs.Fits.{Fits};
 ghost use Rattle.ot_cjudge.specs.Lacks.{lacks};
 ghost use Rattle.ot_cjudge.specs.Faults.{Says};
-ghost use Rattle.ot_cjudge.specs.Reports.{Reports, ReportsRead, ReportsRun, ReportsFinding, Warns, race_text, warning_text, only_run_line, outside_line, reason_of, run_of};
+ghost use Rattle.ot_cjudge.specs.Reports.{Reports, ReportsRead, ReportsProgram, ReportsRun, ReportsFinding, Warns, race_text, warning_text, only_run_line, outside_line, overlaps, reason_of, run_of};
 
 use crate::finding::{Finding, find_race};
 use crate::found::find_in;
@@ -30,6 +30,7 @@ use crate::telling::{
 use ot_check::{CheckFault, Offence, check};
 use ot_fault::first_fault;
 use ot_model::{Cells, Program, Shape, Use};
+use ot_overlap::first_overlap;
 use ot_program::{ProgramFault, Refusal, read_program};
 use ot_race::Race;
 use serde_json::Value;
@@ -80,7 +81,7 @@ fn report_read(
     ensures { (program : Result Expanded Refusal) → Gives expanded_of read program → IfOk result (λ report. ReportsRead (source_by source.now) cells program report.verdict report.text.items) }
 {
     match read {
-        Ok(program) => report_run(alloc, source, shape, &program, cells),
+        Ok(program) => report_program(alloc, source, shape, &program, cells),
         Err(fault) => report_unread(alloc, source, fault),
     }
 }
@@ -108,6 +109,44 @@ fn run_of(alloc: Global, program: Value) -> Result<Value, AllocError>
 }
 
 /// What is written of a program over these arrays that begins with these cells.
+fn report_program(
+    alloc: Global,
+    source: &Source<'_>,
+    shape: &Shape,
+    program: &Program,
+    cells: Cells,
+) -> Result<Report, AllocError>
+    requires named { IsNamedIn (array_lengths shape.now) (expanded_of program.now) }
+    requires cells { lengths cells ≡ array_lengths shape.now }
+    ensures { IfOk result (λ report. ReportsProgram (source_by source.now) cells (stmts_of program.now.body.items) report.verdict report.text.items) }
+{
+    match first_overlap(alloc, source.request, source.arrays)? {
+        Some(entry) => report_overlap(alloc, source, entry),
+        None => report_run(alloc, source, shape, program, cells),
+    }
+}
+
+/// What is written of a program of which this entry has an item that overlaps in part with one that writes.
+fn report_overlap(alloc: Global, source: &Source<'_>, entry: u32) -> Result<Report, AllocError>
+    ensures verdict { IfOk result (λ report. report.verdict ≡ Verdict.Outside) }
+    ensures text { IfOk result (λ report. report.text.items ≡ outside_line source.now.name.now (entry_site (source_by source.now) entry).position overlaps) }
+{
+    let site = source.entry_site(alloc, entry)?;
+    let mut text = Vec::new(alloc);
+    put_outside(
+        alloc,
+        source.name,
+        site.position,
+        "an item of a depend clause overlaps in part with another one of this task or of a sibling",
+        &mut text,
+    )?;
+    Ok(Report {
+        verdict: Verdict::Outside,
+        text,
+    })
+}
+
+/// What is written of a program in which no items of which one writes overlap in part.
 fn report_run(
     alloc: Global,
     source: &Source<'_>,

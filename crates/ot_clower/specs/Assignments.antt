@@ -1,22 +1,24 @@
 -- Assignments. Where a task takes part in a reduction it only folds into its own copy, by the operation (OpenMP API 5.2,
 -- section 5.5.3).
-use Rattle.std.specs.Prelude.{ℕ, ◌==◌, Bool, true, false, [], ◌∷◌, Option, Some, None, Result, Ok, Err, codes, if◌then◌else◌}
+use Rattle.std.specs.Prelude.{ℕ, ◌==◌, Bool, true, false, ◌&&◌, [], ◌∷◌, Option, Some, None, Result, Ok, Err, codes, if◌then◌else◌}
 use Rattle.serde_json.specs.Data.{Data, string}
 use Rattle.ot_words.specs.declared.word.Name.{Name}
 use Rattle.ot_words.specs.declared.word.Name.TheVariants as n
 use Rattle.ot_cread.specs.declared.sign.Sign.{Sign}
 use Rattle.ot_cread.specs.declared.tree.Operation.{Operation}
-use Rattle.ot_cread.specs.Tree.{E, Literal, Variable, CellAt, Unsigned, Called, Apply}
+use Rattle.ot_cread.specs.Tree.{E, Literal, Variable, CellAt, Unsigned, Signed, Called, Apply, Choose}
 use Rattle.ot_cstatement.specs.Tree.{Aim}
 use Rattle.ot_cmeaning.specs.declared.reason.Reason.TheVariants as why
+use Rattle.ot_cmeaning.specs.declared.scope.Pointee.{Pointee}
 use Rattle.ot_cmeaning.specs.declared.scope.Sense.{Sense}
 use Rattle.ot_cmeaning.specs.declared.scope.Sense.TheVariants as s
 use Rattle.ot_cmeaning.specs.Forms.{nat, form}
 use Rattle.ot_cmeaning.specs.Results.{Refusal, ◌>>=◌}
-use Rattle.ot_cmeaning.specs.Scopes.{Around, sense, name_text}
+use Rattle.ot_cmeaning.specs.Scopes.{Around, sense, name_text, text_of}
 use Rattle.ot_cmeaning.specs.Sizes.{size}
-use Rattle.ot_cmeaning.specs.Values.{value}
-use Rattle.ot_clower.specs.Operations.{operation_word, fold_of, is_minus, call_fold, is_same}
+use Rattle.ot_cmeaning.specs.Values.{value, untouched}
+use Rattle.ot_clower.specs.declared.assignment.Placed.{Placed}
+use Rattle.ot_cclause.specs.Operations.{operation_word, fold_of, is_minus, call_fold, is_same}
 
 abbrev pub Stated : Type 0
 Stated = Result Data Refusal
@@ -30,15 +32,46 @@ cell_of a at x (Some n) (Some i) = size a at i >>= λ p. Ok (form (codes "c") (s
 cell_of a at x None (Some i) = Err (at, why.NoArray)
 cell_of a at x (Some n) None = Err (at, why.WholeArray)
 
--- how many cells it has, and by which operation the task folds into its own copy of it, if it has one
-abbrev pub aimed : ℕ → Sense → Result (Option ℕ × Option Operation) Refusal
-aimed at (s.Cells length) = Ok (length, None)
-aimed at (s.Combined c length) = if c.own then Ok (length, Some c.operation) else Err (at, why.Combined)
+-- the cell itself that a pointer points to
+unfoldable pub is_start : Option E → Bool
+is_start (Some (Literal n k)) = n == 0
+is_start i = false
+
+abbrev pub pointed_cell : Around → ℕ → Pointee → Option E → Stated
+pointed_cell a at p index = if is_start index then Ok (form (codes "c") (string (text_of a.names p.array) ∷ nat p.place ∷ [])) else Err (at, why.Pointee)
+
+-- what is assigned to: a pointer's cell or how many cells there are, and by which operation the task folds into its own
+-- copy of it, if it has one
+pub record Place : Type 0 where
+  pub pointee : Option Pointee
+  pub length : Option ℕ
+  pub own : Option Operation
+
+abbrev pub place_of : Placed → Place
+place_of p = record { pointee = p.pointee; length = p.length; own = p.own }
+
+abbrev pub aimed : ℕ → Sense → Result Place Refusal
+aimed at (s.Cells length) = Ok (record { pointee = None; length = length; own = None })
+aimed at (s.Combined c length) = if c.own then Ok (record { pointee = c.pointee; length = length; own = Some c.operation }) else Err (at, why.Combined)
 aimed at s.Nothing = Err (at, why.Unknown)
 aimed at (s.Constant n k) = Err (at, why.Constant)
 aimed at (s.Turn k) = Err (at, why.LoopVariable)
 aimed at s.Begins = Err (at, why.LoopVariable)
-aimed at s.Function = Err (at, why.Function)
+aimed at (s.Pointer x p) = Err (at, why.Pointer)
+aimed at (s.Function i) = Err (at, why.Function)
+
+-- no open group combines by a pointer over an array's cell that is assigned to
+abbrev pub free : Around → ℕ → Name → Option E → Result (Unit {0}) Refusal
+free a at x None = Ok tt
+free a at x (Some i) = untouched a at x i
+
+abbrev pub cell_at : Around → ℕ → Name → Place → Option E → Option Pointee → Stated
+cell_at a at x p index None = free a at x index >>= λ u. cell_of a at x p.length index
+cell_at a at x p index (Some cell) = pointed_cell a at cell index
+
+-- the cell that is assigned to
+abbrev pub cell_aimed : Around → ℕ → Aim → Place → Stated
+cell_aimed a at t p = cell_at a at t.array p t.index p.pointee
 
 -- ---- folds
 
@@ -66,28 +99,40 @@ change_by a at own cell (Some op) minus e = if may_fold own op then (value a at 
 abbrev pub change : Around → ℕ → Option Operation → Data → Folds → E → Stated
 change a at own cell folds e = change_by a at own cell folds.0 folds.1 e
 
--- whether a value is a variable
-unfoldable pub is_variable : Name → E → Bool
-is_variable (n.Other i) (Variable (n.Other j)) = i == j
-is_variable x e = false
+-- whether two places are the same number, or the same name
+unfoldable pub same_place : E → E → Bool
+same_place (Literal i j) (Literal l m) = i == l
+same_place (Variable (n.Other i)) (Variable (n.Other j)) = i == j
+same_place e f = false
+
+unfoldable pub is_target_by : Name → Option E → E → Bool
+is_target_by (n.Other i) None (Variable (n.Other j)) = i == j
+is_target_by (n.Other i) (Some p) (CellAt (n.Other j) q) = i == j && same_place p q
+is_target_by x index e = false
+
+-- whether a value is what is assigned to
+abbrev pub is_target : Aim → E → Bool
+is_target t e = is_target_by t.array t.index e
 
 -- `x = x op e`, `x = min(x, e)` or `x = max(x, e)`, where a task has a copy of x of its own
-abbrev pub own_set : Around → ℕ → Operation → Data → Name → E → Stated
-own_set a at own cell x (Apply sign e f) = if is_variable x e then change a at (Some own) cell (fold_of sign, is_minus sign) f else Err (at, why.OwnCopy)
-own_set a at own cell x (Called call e f) = if is_variable x e then change a at (Some own) cell (Some (call_fold call), false) f else Err (at, why.OwnCopy)
-own_set a at own cell x (Literal n k) = Err (at, why.OwnCopy)
-own_set a at own cell x (Variable y) = Err (at, why.OwnCopy)
-own_set a at own cell x (CellAt y i) = Err (at, why.OwnCopy)
-own_set a at own cell x (Unsigned e) = Err (at, why.OwnCopy)
+abbrev pub own_set : Around → ℕ → Operation → Data → Aim → E → Stated
+own_set a at own cell t (Apply sign e f) = if is_target t e then change a at (Some own) cell (fold_of sign, is_minus sign) f else Err (at, why.OwnCopy)
+own_set a at own cell t (Called call e f) = if is_target t e then change a at (Some own) cell (Some (call_fold call), false) f else Err (at, why.OwnCopy)
+own_set a at own cell t (Literal n k) = Err (at, why.OwnCopy)
+own_set a at own cell t (Variable y) = Err (at, why.OwnCopy)
+own_set a at own cell t (CellAt y i) = Err (at, why.OwnCopy)
+own_set a at own cell t (Unsigned e) = Err (at, why.OwnCopy)
+own_set a at own cell t (Signed sign e) = Err (at, why.OwnCopy)
+own_set a at own cell t (Choose t0 e f) = Err (at, why.OwnCopy)
 
 abbrev pub set : Around → ℕ → Data → E → Stated
 set a at cell e = value a at e >>= λ v. Ok (form (codes "set") (cell ∷ v.text ∷ []))
 
-abbrev pub assigned : Around → ℕ → Option Operation → Data → Name → Option Sign → E → Stated
-assigned a at own cell x (Some sign) e = change a at own cell (fold_of sign, is_minus sign) e
-assigned a at None cell x None e = set a at cell e
-assigned a at (Some own) cell x None e = own_set a at own cell x e
+abbrev pub assigned : Around → ℕ → Option Operation → Data → Aim → Option Sign → E → Stated
+assigned a at own cell t (Some sign) e = change a at own cell (fold_of sign, is_minus sign) e
+assigned a at None cell t None e = set a at cell e
+assigned a at (Some own) cell t None e = own_set a at own cell t e
 
 -- an assignment
 abbrev pub assignment : Around → ℕ → Aim → Option Sign → E → Stated
-assignment a at t sign e = aimed at (sense a t.array) >>= λ x. cell_of a at t.array x.0 t.index >>= λ cell. assigned a at x.1 cell t.array sign e
+assignment a at t sign e = aimed at (sense a t.array) >>= λ p. cell_aimed a at t p >>= λ cell. assigned a at p.own cell t sign e

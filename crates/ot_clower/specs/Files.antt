@@ -1,9 +1,9 @@
 -- A file whole.
-use Rattle.std.specs.Prelude.{ℕ, true, false, List, [], ◌∷◌, length, map, replicate, Option, Some, None, Result, Ok, Err, String, codes}
+use Rattle.std.specs.Prelude.{ℕ, ◌+◌, nat_lt, Bool, true, false, List, [], ◌∷◌, ◌++◌, length, map, replicate, Option, Some, None, Result, Ok, Err, String, codes, if◌then◌else◌}
 use Rattle.std.specs.declared.alloc.Global.{Global}
 use Rattle.serde_json.specs.Data.{Data, string, Items}
 use Rattle.serde_json.specs.View.{view, items_of}
-use Rattle.ot_cread.specs.declared.tree.Operation.TheVariants as o
+use Rattle.ot_cread.specs.declared.tree.Operation.TheVariants as op
 use Rattle.ot_cread.specs.Tree.{E, Claim}
 use Rattle.ot_cstatement.specs.Tree.{S, Body}
 use Rattle.ot_cfile.specs.Program.{Entry, Constant, Global as Global', Function, Act, Local, Region, Does, Whole}
@@ -13,13 +13,17 @@ use Rattle.ot_cmeaning.specs.declared.scope.Meaning.TheVariants as m
 use Rattle.ot_cmeaning.specs.Constants.{Typed, constant}
 use Rattle.ot_cmeaning.specs.Forms.{nat, form, listed}
 use Rattle.ot_cmeaning.specs.Results.{Refusal, ◌>>=◌}
+use Rattle.ot_words.specs.declared.word.Name.{Name}
+use Rattle.ot_cdeclare.specs.Places.{byte_of}
+use Rattle.ot_cdeclare.specs.Pointers.{pointers_from}
+use Rattle.ot_clower.specs.declared.lowered.Before.{Before}
 use Rattle.ot_clower.specs.declared.lowered.Lowered.{Lowered}
 use Rattle.ot_clower.specs.declared.lowered.Progress.{Progress}
-use Rattle.ot_clower.specs.Clauses.{heading}
-use Rattle.ot_clower.specs.Arrays.{D, declared_of, Arr, array_of, named, number_of, outside, declaration}
-use Rattle.ot_clower.specs.Each.{each}
+use Rattle.ot_cclause.specs.Clauses.{heading}
+use Rattle.ot_cdeclare.specs.Arrays.{D, declared_of, Arr, array_of, named, number_of, outside, declaration}
+use Rattle.ot_cdeclare.specs.Each.{each}
 use Rattle.ot_clower.specs.Lines.{L, lines_of, none, joined}
-use Rattle.ot_clower.specs.Statements.{byte_of, statement, body, group}
+use Rattle.ot_clower.specs.Statements.{Twice, called_of, Origin, statement, body, group}
 
 abbrev pub Names : Type 0
 Names = List (String Global)
@@ -34,30 +38,66 @@ define_by at d x (Some v) = named at d x (m.Constant v.0 v.1)
 abbrev pub define : Names → ℕ → D → ℕ → E → Result D Refusal
 define names at d x e = define_by at d x (constant (outside names d.meanings false) e)
 
-abbrev pub top_step : Names → List ℕ → D → Entry → Result D Refusal
-top_step names starts d (Constant left x e) = define names (byte_of starts left) d x e
-top_step names starts d (Global' given) = declaration names (byte_of starts given.left) d given
-top_step names starts d (Function left f b) = number_of (byte_of starts left) f >>= λ i. named (byte_of starts left) d i m.Function
+-- what stands before `main`, so far: what it declares, what functions are, and how many statements they have together
+pub record B : Type 0 where
+  pub declared : D
+  pub functions : List Twice
+  pub count : ℕ
 
-abbrev pub nothing : Names → D
-nothing names = record { meanings = replicate (length names) m.Nothing; arrays = [] }
+abbrev pub before_of : Before → B
+before_of b = record { declared = declared_of b.declared; functions = map called_of b.functions.items; count = b.count }
 
-abbrev pub tops : Names → List ℕ → List Entry → Result D Refusal
+-- what becomes of a function's body where it is called, in regions or outside of them
+abbrev pub function_body : Names → List ℕ → B → Bool → Body → Result L Refusal
+function_body names starts b inside stmts = body (record { starts = starts; functions = b.functions }) (outside names b.declared.meanings inside) stmts
+
+abbrev pub length_of : Result L Refusal → ℕ
+length_of (Ok l) = length l.places
+length_of (Err e) = 0
+
+abbrev pub counted : ℕ → ℕ → Twice → Result ℕ Refusal
+counted at n c = if nat_lt 20000 (n + (length_of c.inside + length_of c.outside)) then Err (at, why.TooMany) else Ok (n + (length_of c.inside + length_of c.outside))
+
+abbrev pub with_function : ℕ → B → ℕ → Twice → Result B Refusal
+with_function at b x c =
+    counted at b.count c >>= λ n.
+    named at b.declared x (m.Function (length b.functions)) >>= λ d.
+    Ok (record { declared = d; functions = b.functions ++ c ∷ []; count = n })
+
+abbrev pub both_bodies : Names → List ℕ → B → Body → Twice
+both_bodies names starts b stmts = record { inside = function_body names starts b true stmts; outside = function_body names starts b false stmts }
+
+-- `void f(void)`, which calls none but those before it
+abbrev pub function : Names → List ℕ → ℕ → B → Name → Body → Result B Refusal
+function names starts at b f stmts =
+    number_of at f >>= λ i.
+    pointers_from names starts b.declared stmts >>= λ d.
+    with_function at (record b { declared = d }) i (both_bodies names starts (record b { declared = d }) stmts)
+
+abbrev pub top_step : Names → List ℕ → B → Entry → Result B Refusal
+top_step names starts b (Constant left x e) = define names (byte_of starts left) b.declared x e >>= λ d. Ok (record b { declared = d })
+top_step names starts b (Global' given) = declaration names (byte_of starts given.left) b.declared given >>= λ d. Ok (record b { declared = d })
+top_step names starts b (Function left f stmts) = function names starts (byte_of starts left) b f stmts
+
+abbrev pub nothing : Names → B
+nothing names = record { declared = record { meanings = replicate (length names) m.Nothing; arrays = [] }; functions = []; count = 0 }
+
+abbrev pub tops : Names → List ℕ → List Entry → Result B Refusal
 tops names starts ts = each (top_step names starts) (nothing names) ts
 
 -- ---- what `main` does
 
 -- A parallel region of which one thread does these statements: a group over nothing, since all tasks have ended at its
 -- end (OpenMP API 5.2, section 15.3.2).
-abbrev pub region : Names → List ℕ → List Meaning → ℕ → List Claim → Body → Result L Refusal
-region names starts meanings at cs b =
+abbrev pub region : Names → Origin → List Meaning → ℕ → List Claim → Body → Result L Refusal
+region names o meanings at cs b =
     heading at (outside names meanings true) cs >>= λ h.
-    body starts h.around b >>= λ x.
-    Ok (group at o.Plus [] x)
+    body o h.around b >>= λ x.
+    Ok (group at op.Plus [] x)
 
 -- a statement outside of regions
-abbrev pub alone : Names → List ℕ → List Meaning → S → Result L Refusal
-alone names starts meanings s = statement starts (outside names meanings false) s
+abbrev pub alone : Names → Origin → List Meaning → S → Result L Refusal
+alone names o meanings s = statement o (outside names meanings false) s
 
 -- what a file declared and does so far
 pub record P : Type 0 where
@@ -67,16 +107,19 @@ pub record P : Type 0 where
 abbrev pub progress_of : Progress → P
 progress_of p = record { declared = declared_of p.declared; lines = lines_of p.lines }
 
-abbrev pub put : P → L → P
-put p l = record p { lines = joined p.lines l }
+abbrev pub put : D → L → L → Result P Refusal
+put d lines more = joined lines more >>= λ l. Ok (record { declared = d; lines = l })
 
-abbrev pub main_step : Names → List ℕ → P → Act → Result P Refusal
-main_step names starts p (Local given) = declaration names (byte_of starts given.left) p.declared given >>= λ d. Ok (record p { declared = d })
-main_step names starts p (Region left cs b) = region names starts p.declared.meanings (byte_of starts left) cs b >>= λ l. Ok (put p l)
-main_step names starts p (Does s) = alone names starts p.declared.meanings s >>= λ l. Ok (put p l)
+abbrev pub main_step : Names → List ℕ → Origin → P → Act → Result P Refusal
+main_step names starts o p (Local given) = declaration names (byte_of starts given.left) p.declared given >>= λ d. Ok (record p { declared = d })
+main_step names starts o p (Region left cs b) =
+    pointers_from names starts p.declared b >>= λ d.
+    region names o d.meanings (byte_of starts left) cs b >>= λ l.
+    put d p.lines l
+main_step names starts o p (Does s) = alone names o p.declared.meanings s >>= λ l. put p.declared p.lines l
 
-abbrev pub main_body : Names → List ℕ → D → List Act → Result P Refusal
-main_body names starts d acts = each (main_step names starts) (record { declared = d; lines = none }) acts
+abbrev pub main_body : Names → List ℕ → Origin → D → List Act → Result P Refusal
+main_body names starts o d acts = each (main_step names starts o) (record { declared = d; lines = none }) acts
 
 -- ---- the whole
 
@@ -102,4 +145,7 @@ whole p = record { arrays = p.declared.arrays; program = form (codes "program2")
 
 -- the program of a file
 abbrev pub lowered : Names → List ℕ → Whole → Result Program Refusal
-lowered names starts file = tops names starts file.tops >>= λ d. main_body names starts d file.main >>= λ p. Ok (whole p)
+lowered names starts file =
+    tops names starts file.tops >>= λ b.
+    main_body names starts (record { starts = starts; functions = b.functions }) b.declared file.main >>= λ p.
+    Ok (whole p)

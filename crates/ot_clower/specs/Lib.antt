@@ -1,9 +1,4 @@
-pub mod Each
 pub mod Lines
-pub mod Operations
-pub mod Sections
-pub mod Clauses
 pub mod Assignments
 pub mod Statements
-pub mod Arrays
 pub mod Files

@@ -1,37 +1,58 @@
 -- Statements.
-use Rattle.std.specs.Prelude.{ℕ, ◌-◌, Bool, true, false, List, [], ◌∷◌, ◌++◌, length, Option, Result, Ok, Err, slice_get, unwrap_or, codes, if◌then◌else◌}
+use Rattle.std.specs.Prelude.{ℕ, Bool, true, false, List, [], ◌∷◌, ◌++◌, map, Option, Some, None, Result, Ok, Err, slice_get, codes, if◌then◌else◌}
 use Rattle.serde_json.specs.Data.{Data, string}
 use Rattle.serde_json.specs.View.{view}
 use Rattle.ot_words.specs.declared.word.IntegerType.{IntegerType}
 use Rattle.ot_words.specs.declared.word.IntegerType.TheVariants.{Int, Unsigned, Long, UnsignedLong}
+use Rattle.ot_words.specs.declared.word.Name.{Name}
 use Rattle.ot_program.specs.Names.{is_name}
 use Rattle.ot_cread.specs.declared.sign.Sign.{Sign}
 use Rattle.ot_cread.specs.declared.tree.Operation.{Operation}
 use Rattle.ot_cread.specs.Tree.{E, Claim}
 use Rattle.ot_cstatement.specs.Tree.{Aim, Course, S, Block, Assign, If, For, Task, Wait, Group, Yield, Call, Print, Show, Point, Body, End, Next}
 use Rattle.ot_cmeaning.specs.declared.reason.Reason.TheVariants as why
+use Rattle.ot_cmeaning.specs.declared.scope.Sense.{Sense}
+use Rattle.ot_cmeaning.specs.declared.scope.Sense.TheVariants as means
 use Rattle.ot_cmeaning.specs.declared.scope.Turn.{Turn}
 use Rattle.ot_cmeaning.specs.Forms.{nat, form, listed}
 use Rattle.ot_cmeaning.specs.Results.{Refusal, ◌>>=◌}
-use Rattle.ot_cmeaning.specs.Scopes.{Around, text_of, with_turn, within_task}
+use Rattle.ot_cmeaning.specs.Scopes.{Around, text_of, sense, combines, with_turn, within_task}
 use Rattle.ot_cmeaning.specs.Sizes.{size}
 use Rattle.ot_cmeaning.specs.Values.{value}
 use Rattle.ot_clower.specs.declared.statements.Bounds.{Bounds}
+use Rattle.ot_clower.specs.declared.statements.Became.{Became}
+use Rattle.ot_clower.specs.declared.statements.Became.TheVariants as got
+use Rattle.ot_clower.specs.declared.statements.Called.{Called}
+use Rattle.ot_clower.specs.declared.statements.Source.{Source}
+use Rattle.ot_cdeclare.specs.Places.{byte_of}
 use Rattle.ot_clower.specs.Assignments.{assignment}
-use Rattle.ot_clower.specs.Clauses.{Head, heading, group_operation}
-use Rattle.ot_clower.specs.Each.{each}
-use Rattle.ot_clower.specs.Lines.{L, none, one, joined}
-use Rattle.ot_clower.specs.Operations.{operation_word}
+use Rattle.ot_cclause.specs.Clauses.{Head, heading, group_operation}
+use Rattle.ot_cdeclare.specs.Each.{each}
+use Rattle.ot_clower.specs.Lines.{L, Lowered, lines_of, none, one, joined}
+use Rattle.ot_cclause.specs.Operations.{operation_word}
 
-abbrev pub Lowered : Type 0
-Lowered = Result L Refusal
+abbrev pub became_of : Became → Lowered
+became_of (got.Lines lines) = Ok (lines_of lines)
+became_of (got.Outside at reason) = Err (at, reason)
 
--- the byte at which begins what so many words are left from
-abbrev pub byte_of : List ℕ → ℕ → ℕ
-byte_of starts left = unwrap_or (slice_get starts (length starts - left)) 0
+-- what becomes of a function where it is called, in regions and outside of them
+pub record Twice : Type 0 where
+  pub inside : Lowered
+  pub outside : Lowered
+
+abbrev pub called_of : Called → Twice
+called_of c = record { inside = became_of c.inside; outside = became_of c.outside }
+
+-- where words begin, and what functions are, by their numbers
+pub record Origin : Type 0 where
+  pub starts : List ℕ
+  pub functions : List Twice
+
+abbrev pub source_of : Source → Origin
+source_of x = record { starts = x.starts.now; functions = map called_of x.functions.now }
 
 abbrev pub behind : L → Lowered → Lowered
-behind lines more = more >>= λ l. Ok (joined lines l)
+behind lines more = more >>= λ l. joined lines l
 
 -- ---- statements without a body
 
@@ -50,9 +71,15 @@ print a at es = each (read_step a at) none es
 abbrev pub region_at : Around → ℕ → Result (Unit {0}) Refusal
 region_at a at = if a.inside then Ok tt else Err (at, why.NoRegion)
 
+abbrev pub wait_for_all : ℕ → Lowered
+wait_for_all at = Ok (one at (form (codes "wait") []) [])
+
+abbrev pub wait_for : Around → ℕ → List Claim → Lowered
+wait_for a at cs = heading at a cs >>= λ h. Ok (one at (form (codes "wait") (listed h.clauses ∷ [])) [])
+
 abbrev pub waits : Around → ℕ → List Claim → Lowered
-waits a at [] = Ok (one at (form (codes "wait") []) [])
-waits a at (c ∷ cs) = heading at a (c ∷ cs) >>= λ h. Ok (one at (form (codes "wait") (listed h.clauses ∷ [])) [])
+waits a at [] = wait_for_all at
+waits a at (c ∷ cs) = wait_for a at (c ∷ cs)
 
 -- a wait, with clauses or without (OpenMP API 5.2, section 15.5)
 abbrev pub wait : Around → ℕ → List Claim → Lowered
@@ -61,6 +88,32 @@ wait a at cs = region_at a at >>= λ x. waits a at cs
 -- cells that are shown outside of regions: all are, whatever is called for
 abbrev pub show : Around → ℕ → Lowered
 show a at = if a.inside then Err (at, why.Function) else Ok none
+
+-- ---- calls
+
+abbrev pub function_by : ℕ → Sense → Result ℕ Refusal
+function_by at (means.Function i) = Ok i
+function_by at means.Nothing = Err (at, why.Function)
+function_by at (means.Constant n k) = Err (at, why.Function)
+function_by at (means.Turn k) = Err (at, why.Function)
+function_by at means.Begins = Err (at, why.Function)
+function_by at (means.Cells length) = Err (at, why.Function)
+function_by at (means.Combined o length) = Err (at, why.Function)
+function_by at (means.Pointer x p) = Err (at, why.Function)
+
+-- Which function a name is that is called with these values. It touches what names mean where it stands: while a group
+-- combines over a name, the name is a task's own copy where it is called, and the array itself in the function.
+abbrev pub function_at : Around → ℕ → Name → List E → Result ℕ Refusal
+function_at a at f [] = if combines a.opened then Err (at, why.CallInGroup) else function_by at (sense a f)
+function_at a at f (e ∷ es) = Err (at, why.Function)
+
+abbrev pub called : Around → ℕ → Option Twice → Lowered
+called a at None = Err (at, why.Function)
+called a at (Some c) = if a.inside then c.inside else c.outside
+
+-- a call: the statements of the function, in which names mean what they do where it stands
+abbrev pub call : List Twice → Around → ℕ → Name → List E → Lowered
+call functions a at f es = function_at a at f es >>= λ i. called a at (slice_get functions i)
 
 -- ---- loops
 
@@ -127,24 +180,24 @@ assigned a at t sign e = assignment a at t sign e >>= λ d. Ok (one at d [])
 -- ---- statements
 
 unfoldable mutual
-  pub statement : List ℕ → Around → S → Lowered
-  statement starts a (Block left b) = body_from starts a none b
-  statement starts a (Assign left t sign e) = assigned a (byte_of starts left) t sign e
-  statement starts a (If left test b c) = value a (byte_of starts left) test >>= λ v. body_from starts a none b >>= λ x. body_from starts a none c >>= λ y. Ok (branch (byte_of starts left) v.text x y)
-  statement starts a (For left c b) = bounds a (byte_of starts left) c >>= λ r. body_from starts (with_turn a (turn c true)) none b >>= λ x. Ok (repeated (byte_of starts left) r x)
-  statement starts a (Task left cs b) = task_head a (byte_of starts left) cs >>= λ h. body_from starts h.around none b >>= λ x. Ok (task (byte_of starts left) h.clauses x)
-  statement starts a (Wait left cs) = wait a (byte_of starts left) cs
-  statement starts a (Group left cs b) = group_head a (byte_of starts left) cs >>= λ g. body_from starts g.1.around none b >>= λ x. Ok (group (byte_of starts left) g.0 g.1.clauses x)
-  statement starts a (Yield left) = Ok none
-  statement starts a (Call left f es) = Err (byte_of starts left, why.Function)
-  statement starts a (Print left es) = print a (byte_of starts left) es
-  statement starts a (Show left x i n) = show a (byte_of starts left)
-  statement starts a (Point left p x i) = Err (byte_of starts left, why.Pointer)
+  pub statement : Origin → Around → S → Lowered
+  statement o a (Block left b) = body_from o a none b
+  statement o a (Assign left t sign e) = assigned a (byte_of o.starts left) t sign e
+  statement o a (If left test b c) = value a (byte_of o.starts left) test >>= λ v. body_from o a none b >>= λ x. body_from o a none c >>= λ y. Ok (branch (byte_of o.starts left) v.text x y)
+  statement o a (For left c b) = bounds a (byte_of o.starts left) c >>= λ r. body_from o (with_turn a (turn c true)) none b >>= λ x. Ok (repeated (byte_of o.starts left) r x)
+  statement o a (Task left cs b) = task_head a (byte_of o.starts left) cs >>= λ h. body_from o h.around none b >>= λ x. Ok (task (byte_of o.starts left) h.clauses x)
+  statement o a (Wait left cs) = wait a (byte_of o.starts left) cs
+  statement o a (Group left cs b) = group_head a (byte_of o.starts left) cs >>= λ g. body_from o g.1.around none b >>= λ x. Ok (group (byte_of o.starts left) g.0 g.1.clauses x)
+  statement o a (Yield left) = Ok none
+  statement o a (Call left f es) = call o.functions a (byte_of o.starts left) f es
+  statement o a (Print left es) = print a (byte_of o.starts left) es
+  statement o a (Show left x i n) = show a (byte_of o.starts left)
+  statement o a (Point left p x i) = Ok none
 
   -- statements behind others
-  pub body_from : List ℕ → Around → L → Body → Lowered
-  body_from starts a lines End = Ok lines
-  body_from starts a lines (Next s rest) = behind lines (statement starts a s) >>= λ l. body_from starts a l rest
+  pub body_from : Origin → Around → L → Body → Lowered
+  body_from o a lines End = Ok lines
+  body_from o a lines (Next s rest) = behind lines (statement o a s) >>= λ l. body_from o a l rest
 
-abbrev pub body : List ℕ → Around → Body → Lowered
-body starts a b = body_from starts a none b
+abbrev pub body : Origin → Around → Body → Lowered
+body o a b = body_from o a none b

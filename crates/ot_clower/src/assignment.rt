@@ -4,11 +4,11 @@ ghost use Rattle.serde_json.specs.View.{view};
 ghost use Rattle.ot_cread.specs.Tree.{expr_of};
 ghost use Rattle.ot_cstatement.specs.Tree.{aim_of, index_of};
 ghost use Rattle.ot_cmeaning.specs.Results.{Gives};
+ghost use Rattle.ot_clower.specs.Assignments.{place_of};
 ghost use Rattle.ot_clower.specs.Assignments as meant;
 
-use crate::section::no_cells;
-use crate::words::{call_fold, fold_of, is_minus, is_same, operation_word};
-use ot_cmeaning::{CFault, Reason, Scope, Sense, json, size, value};
+use ot_cclause::{call_fold, fold_of, is_minus, is_same, no_cells, operation_word};
+use ot_cmeaning::{CFault, Pointee, Reason, Scope, Sense, json, size, untouched, value};
 use ot_cread::{Expr, Operation, Sign};
 use ot_cstatement::Target;
 use ot_words::Name;
@@ -38,20 +38,95 @@ fn cell_of(
     }
 }
 
-/// How many cells has what is assigned to, and by which operation the task folds into its own copy of it, if it has one.
-fn aimed(start: usize, sense: Sense) -> Result<(Option<usize>, Option<Operation>), CFault>
-    ensures { Gives (λ x. x) result (meant.aimed start sense) }
+/// Whether it is the cell itself that a pointer points to.
+#[tactic(auto, unfolding(crate::specs::Assignments::is_start))]
+fn is_start(index: &Option<Expr>) -> bool
+    ensures { result ≡ meant.is_start (index_of index.now) }
+{
+    match index {
+        Some(Expr::Number(number, _)) => *number == 0,
+        _ => false,
+    }
+}
+
+fn pointed_cell(
+    alloc: Global,
+    scope: &Scope<'_>,
+    start: usize,
+    cell: Pointee,
+    index: &Option<Expr>,
+) -> Result<Value, CFault>
+    ensures { Gives (λ v. view v) result (meant.pointed_cell scope.now start cell (index_of index.now)) }
+{
+    if !is_start(index) {
+        return Err(CFault::Outside(start, Reason::Pointee));
+    }
+    let name = json::text(alloc, scope.text(cell.array))?;
+    Ok(json::form2(alloc, "c", name, Value::from(cell.place))?)
+}
+
+/// What is assigned to: a pointer's cell or how many cells there are, and by which operation the task folds into its own
+/// copy of it, if it has one.
+#[derive(Clone, Copy)]
+struct Placed {
+    pointee: Option<Pointee>,
+    length: Option<usize>,
+    own: Option<Operation>,
+}
+
+fn aimed(start: usize, sense: Sense) -> Result<Placed, CFault>
+    ensures { Gives place_of result (meant.aimed start sense) }
 {
     match sense {
-        Sense::Cells(length) => Ok((length, None)),
+        Sense::Cells(length) => {
+            Ok(Placed {
+                pointee: None,
+                length,
+                own: None,
+            })
+        }
         Sense::Combined(opening, length) => {
             if opening.own {
-                Ok((length, Some(opening.operation)))
+                Ok(Placed {
+                    pointee: opening.pointee,
+                    length,
+                    own: Some(opening.operation),
+                })
             } else {
                 Err(CFault::Outside(start, Reason::Combined))
             }
         }
         other => Err(CFault::Outside(start, no_cells(other))),
+    }
+}
+
+/// No open group combines by a pointer over an array's cell that is assigned to.
+fn free(scope: &Scope<'_>, start: usize, array: Name, index: &Option<Expr>) -> Result<(), CFault>
+    ensures { Gives (λ x. x) result (meant.free scope.now start array (index_of index.now)) }
+{
+    match index {
+        Some(index) => untouched(scope, start, array, index),
+        None => Ok(()),
+    }
+}
+
+/// The cell that is assigned to.
+fn cell_aimed(
+    alloc: Global,
+    scope: &Scope<'_>,
+    start: usize,
+    target: &Target,
+    placed: Placed,
+) -> Result<Value, CFault>
+    ensures { Gives (λ v. view v) result (meant.cell_aimed scope.now start (aim_of target.now) (place_of placed)) }
+{
+    match placed.pointee {
+        None => {
+            free(scope, start, target.array, &target.index)?;
+            let length = placed.length;
+            cell_of(alloc, scope, start, target.array, length, &target.index)
+        }
+        Some(cell) => pointed_cell(alloc, scope, start, cell, &target.index),
     }
 }
 
@@ -107,40 +182,61 @@ fn change(
     fold(alloc, operation, cell, value)
 }
 
-/// Whether a value is this variable.
-#[tactic(auto, unfolding(crate::specs::Assignments::is_variable))]
-fn is_variable(array: Name, expr: &Expr) -> bool
-    ensures { result ≡ meant.is_variable array (expr_of expr.now) }
+/// Whether two places are the same number, or the same name.
+#[tactic(auto, unfolding(crate::specs::Assignments::same_place))]
+fn same_place(one: &Expr, two: &Expr) -> bool
+    ensures { result ≡ meant.same_place (expr_of one.now) (expr_of two.now) }
 {
-    match (array, expr) {
-        (Name::Other(one), Expr::Variable(Name::Other(two))) => one == *two,
+    match (one, two) {
+        (Expr::Number(one, _), Expr::Number(two, _)) => *one == *two,
+        (Expr::Variable(Name::Other(one)), Expr::Variable(Name::Other(two))) => *one == *two,
         _ => false,
     }
 }
 
-/// `x = x op e`, `x = min(x, e)` or `x = max(x, e)`, where a task has a copy of the variable of its own.
+#[tactic(auto, unfolding(crate::specs::Assignments::is_target_by))]
+fn is_target_by(array: Name, index: &Option<Expr>, expr: &Expr) -> bool
+    ensures { result ≡ meant.is_target_by array (index_of index.now) (expr_of expr.now) }
+{
+    match (array, index, expr) {
+        (Name::Other(one), None, Expr::Variable(Name::Other(two))) => one == *two,
+        (Name::Other(one), Some(place), Expr::Cell(Name::Other(two), other)) => {
+            one == *two && same_place(place, other)
+        }
+        _ => false,
+    }
+}
+
+/// Whether a value is what is assigned to.
+fn is_target(target: &Target, expr: &Expr) -> bool
+    ensures { result ≡ meant.is_target (aim_of target.now) (expr_of expr.now) }
+{
+    is_target_by(target.array, &target.index, expr)
+}
+
+/// `x = x op e`, `x = min(x, e)` or `x = max(x, e)`, where a task has a copy of x of its own.
 fn own_set(
     alloc: Global,
     scope: &Scope<'_>,
     start: usize,
     own: Operation,
     cell: Value,
-    array: Name,
+    target: &Target,
     expr: &Expr,
 ) -> Result<Value, CFault>
-    ensures { Gives (λ v. view v) result (meant.own_set scope.now start own (view cell) array (expr_of expr.now)) }
+    ensures { Gives (λ v. view v) result (meant.own_set scope.now start own (view cell) (aim_of target.now) (expr_of expr.now)) }
 {
     let own = Some(own);
     match expr {
         Expr::Op(sign, one, two) => {
-            if !is_variable(array, one) {
+            if !is_target(target, one) {
                 return Err(CFault::Outside(start, Reason::OwnCopy));
             }
             let folds = (fold_of(*sign), is_minus(*sign));
             change(alloc, scope, start, own, cell, folds, two)
         }
         Expr::Call(call, one, two) => {
-            if !is_variable(array, one) {
+            if !is_target(target, one) {
                 return Err(CFault::Outside(start, Reason::OwnCopy));
             }
             let folds = (Some(call_fold(*call)), false);
@@ -149,6 +245,7 @@ fn own_set(
         Expr::Number(_, _) | Expr::Variable(_) | Expr::Cell(_, _) | Expr::Cast(_) => {
             Err(CFault::Outside(start, Reason::OwnCopy))
         }
+        Expr::Unary(_, _) | Expr::Choice(_, _, _) => Err(CFault::Outside(start, Reason::OwnCopy)),
     }
 }
 
@@ -177,14 +274,14 @@ pub(crate) fn assignment(
 ) -> Result<Value, CFault>
     ensures { Gives (λ v. view v) result (meant.assignment scope.now start (aim_of target.now) sign (expr_of expr.now)) }
 {
-    let (length, own) = aimed(start, scope.sense(target.array))?;
-    let cell = cell_of(alloc, scope, start, target.array, length, &target.index)?;
-    match (sign, own) {
-        (Some(sign), _) => {
+    let placed = aimed(start, scope.sense(target.array))?;
+    let cell = cell_aimed(alloc, scope, start, target, placed)?;
+    match (sign, placed.own) {
+        (Some(sign), own) => {
             let folds = (fold_of(sign), is_minus(sign));
             change(alloc, scope, start, own, cell, folds, expr)
         }
         (None, None) => set(alloc, scope, start, cell, expr),
-        (None, Some(own)) => own_set(alloc, scope, start, own, cell, target.array, expr),
+        (None, Some(own)) => own_set(alloc, scope, start, own, cell, target, expr),
     }
 }

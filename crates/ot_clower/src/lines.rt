@@ -1,15 +1,17 @@
 //! Statements of the language, and where they stand in the text.
-ghost use Rattle.std.specs.Prelude.{◌≡◌, IfOk};
+ghost use Rattle.std.specs.Prelude.{◌≡◌, IfOk, map};
 ghost use Rattle.serde_json.specs.View.{view};
+ghost use Rattle.ot_cmeaning.specs.Results.{Gives};
 ghost use Rattle.ot_clower.specs.Lines.{lines_of};
 ghost use Rattle.ot_clower.specs.Lines as meant;
 
+use ot_cmeaning::{CFault, Reason};
 use serde_json::Value;
 use std::alloc::{AllocError, Global};
 
 /// Statements, each whole, and the byte at which each of them and of those in their bodies begins, a statement before
 /// those in its bodies.
-#[derive(Drop)]
+#[derive(Debug, Drop)]
 pub(crate) struct Lines {
     pub(crate) statements: Vec<Value>,
     pub(crate) places: Vec<usize>,
@@ -43,15 +45,51 @@ pub(crate) fn one_line(
     Ok(Lines { statements, places })
 }
 
-/// The second behind the first.
-pub(crate) fn joined(one: Lines, two: Lines) -> Result<Lines, AllocError>
-    ensures { IfOk result (λ l. lines_of l ≡ meant.joined (lines_of one) (lines_of two)) }
+/// How many statements a program has at most.
+const MAX_STATEMENTS: usize = 20_000;
+
+/// Where the first of some statements begins.
+fn first_place(lines: &Lines) -> usize
+    ensures { result ≡ meant.first_place (lines_of lines.now) }
 {
+    match lines.places.get(0) {
+        Some(place) => *place,
+        None => 0,
+    }
+}
+
+/// The second behind the first, unless there are too many.
+pub(crate) fn joined(one: Lines, two: Lines) -> Result<Lines, CFault>
+    ensures { Gives lines_of result (meant.joined (lines_of one) (lines_of two)) }
+{
+    if one.places.len() + two.places.len() > MAX_STATEMENTS {
+        return Err(CFault::Outside(first_place(&two), Reason::TooMany));
+    }
     let mut statements = one.statements;
     let mut more = two.statements;
     statements.append(&mut more)?;
     let mut places = one.places;
     let mut further = two.places;
     places.append(&mut further)?;
+    Ok(Lines { statements, places })
+}
+
+fn copies(alloc: Global, values: &[Value]) -> Result<Vec<Value>, AllocError>
+    ensures { IfOk result (λ v. map view v.items ≡ map view values.now) }
+{
+    let mut copies = Vec::new(alloc);
+    for value in values {
+        copies.push(value.clone()?)?;
+    }
+    Ok(copies)
+}
+
+/// The same statements once more.
+pub(crate) fn copy(alloc: Global, lines: &Lines) -> Result<Lines, AllocError>
+    ensures { IfOk result (λ l. lines_of l ≡ lines_of lines.now) }
+{
+    let statements = copies(alloc, &lines.statements)?;
+    let mut places = Vec::new(alloc);
+    places.extend_from_slice(&lines.places)?;
     Ok(Lines { statements, places })
 }

@@ -1,27 +1,31 @@
 //! A file whole.
-ghost use Rattle.std.specs.Prelude.{◌≡◌, false, map};
+ghost use Rattle.std.specs.Prelude.{◌≡◌, ◌<◌, ◌^◌, false, map, Ok};
 ghost use Rattle.serde_json.specs.View.{view, items_view};
 ghost use Rattle.ot_cread.specs.Tree.{expr_of, clauses_of};
 ghost use Rattle.ot_cstatement.specs.Tree.{list_of, body_of, stmt_of};
 ghost use Rattle.ot_cfile.specs.Program.{top_of, tops_of, step_of, main_of, file_of};
 ghost use Rattle.ot_cmeaning.specs.Results.{Gives};
 ghost use Rattle.ot_cmeaning.specs.Constants as constants;
-ghost use Rattle.ot_clower.specs.Arrays.{declared_of, array_of, outside};
+ghost use Rattle.ot_cdeclare.specs.Arrays.{declared_of, array_of, outside};
 ghost use Rattle.ot_clower.specs.Lines.{lines_of};
-ghost use Rattle.ot_clower.specs.Files.{progress_of, lowered_of};
+ghost use Rattle.ot_clower.specs.Statements.{became_of, called_of, source_of};
+ghost use Rattle.ot_clower.specs.Files.{before_of, progress_of, lowered_of};
 ghost use Rattle.ot_clower.specs.Files as meant;
 
-use crate::arrays::{CArray, Declared, declaration, named, number_of};
-use crate::clause::headed;
 use crate::lines::{Lines, joined, no_lines};
-use crate::statements::{body, byte_of, group, statement};
+use crate::statements::{Became, Called, Source, body, group, statement};
+use ot_cclause::headed;
+use ot_cdeclare::{CArray, Declared, byte_of, declaration, named, number_of, pointers};
 use ot_cfile::{File, Step, Top};
 use ot_cmeaning::{CFault, Meaning, Reason, Scope, constant, json};
 use ot_cread::{Clause, Expr, Operation};
 use ot_cstatement::Stmt;
-use ot_words::{IntegerType, Words};
+use ot_words::{IntegerType, Name, Words};
 use serde_json::Value;
 use std::alloc::Global;
+
+/// How many statements the functions of a file have together at most.
+const MAX_TOGETHER: usize = 20_000;
 
 /// A program of the language.
 #[derive(Drop)]
@@ -32,6 +36,14 @@ pub struct Lowered {
     pub program: Value,
     /// For each statement of the body, a statement before those in its bodies, the byte at which that of the file begins.
     pub places: Vec<usize>,
+}
+
+/// What stands before `main`, so far: also how many statements functions have together.
+#[derive(Drop)]
+struct Before {
+    declared: Declared,
+    functions: Vec<Called>,
+    count: usize,
 }
 
 /// What a file declared and does so far.
@@ -71,78 +83,180 @@ fn define(
     named(start, declared, name, Meaning::Constant(number, kind))
 }
 
+/// What becomes of a function's body where names mean this, in regions or outside of them.
+fn function_body(
+    alloc: Global,
+    words: &Words,
+    before: &Before,
+    inside: bool,
+    stmts: &[Stmt],
+) -> Result<Became, CFault>
+    ensures { Gives (λ b. became_of b) result (Ok (meant.function_body words.now.names.keys words.now.starts.items (before_of before.now) inside (body_of (list_of stmts.now)))) }
+{
+    let source = Source {
+        starts: &words.starts,
+        functions: &before.functions,
+    };
+    let scope = Scope::new(alloc, &words.names, &before.declared.meanings, inside);
+    match body(alloc, &source, &scope, stmts) {
+        Ok(lines) => Ok(Became::Lines(lines)),
+        Err(CFault::Outside(start, reason)) => Ok(Became::Outside(start, reason)),
+        Err(CFault::Memory) => Err(CFault::Memory),
+    }
+}
+
+/// How many statements a function has.
+fn length(became: &Became) -> usize
+    ensures counts { result ≡ meant.length_of (became_of became.now) }
+    ensures bounded { result < 2 ^ 63 }
+{
+    match became {
+        Became::Lines(lines) => lines.places.len(),
+        Became::Outside(_, _) => 0,
+    }
+}
+
+/// How many statements functions have with one more, both in regions and outside of them.
+fn counted(start: usize, count: usize, called: &Called) -> Result<usize, CFault>
+    ensures { Gives (λ n. n) result (meant.counted start count (called_of called.now)) }
+{
+    let more = length(&called.inside) + length(&called.outside);
+    if count > MAX_TOGETHER || more > MAX_TOGETHER || count + more > MAX_TOGETHER {
+        Err(CFault::Outside(start, Reason::TooMany))
+    } else {
+        Ok(count + more)
+    }
+}
+
+/// A function, behind others.
+fn with_function(
+    start: usize,
+    before: Before,
+    name: usize,
+    called: Called,
+) -> Result<Before, CFault>
+    ensures { Gives before_of result (meant.with_function start (before_of before) name (called_of called)) }
+{
+    let count = counted(start, before.count, &called)?;
+    let meaning = Meaning::Function(before.functions.len());
+    let declared = named(start, before.declared, name, meaning)?;
+    let mut functions = before.functions;
+    functions.push(called)?;
+    Ok(Before {
+        declared,
+        functions,
+        count,
+    })
+}
+
+/// `void f(void)`, which calls none but those before it.
+fn function(
+    alloc: Global,
+    words: &Words,
+    start: usize,
+    before: Before,
+    name: Name,
+    stmts: &[Stmt],
+) -> Result<Before, CFault>
+    ensures { Gives before_of result (meant.function words.now.names.keys words.now.starts.items start (before_of before) name (body_of (list_of stmts.now))) }
+{
+    let number = number_of(start, name)?;
+    let before = Before {
+        declared: pointers(alloc, words, before.declared, stmts)?,
+        functions: before.functions,
+        count: before.count,
+    };
+    let inside = function_body(alloc, words, &before, true, stmts)?;
+    let outside = function_body(alloc, words, &before, false, stmts)?;
+    with_function(start, before, number, Called { inside, outside })
+}
+
 /// What stands before `main`, behind others.
-fn top_step(alloc: Global, words: &Words, declared: Declared, top: &Top) -> Result<Declared, CFault>
-    ensures { Gives declared_of result (meant.top_step words.now.names.keys words.now.starts.items (declared_of declared) (top_of top.now)) }
+fn top_step(alloc: Global, words: &Words, before: Before, top: &Top) -> Result<Before, CFault>
+    ensures { Gives before_of result (meant.top_step words.now.names.keys words.now.starts.items (before_of before) (top_of top.now)) }
 {
     match top {
         Top::Constant(left, name, expr) => {
-            define(
-                alloc,
-                words,
-                byte_of(&words.starts, *left),
+            let start = byte_of(&words.starts, *left);
+            let declared = define(alloc, words, start, before.declared, *name, expr)?;
+            Ok(Before {
                 declared,
-                *name,
-                expr,
-            )
+                functions: before.functions,
+                count: before.count,
+            })
         }
         Top::Declares(given) => {
             let start = byte_of(&words.starts, given.left);
-            declaration(alloc, &words.names, start, declared, given)
+            let declared = declaration(alloc, &words.names, start, before.declared, given)?;
+            Ok(Before {
+                declared,
+                functions: before.functions,
+                count: before.count,
+            })
         }
-        Top::Function(left, name, _) => {
+        Top::Function(left, name, stmts) => {
             let start = byte_of(&words.starts, *left);
-            let number = number_of(start, *name)?;
-            named(start, declared, number, Meaning::Function)
+            function(alloc, words, start, before, *name, stmts)
         }
     }
 }
 
-fn tops(alloc: Global, words: &Words, tops: &[Top]) -> Result<Declared, CFault>
-    ensures { Gives declared_of result (meant.tops words.now.names.keys words.now.starts.items (tops_of tops.now)) }
+fn tops(alloc: Global, words: &Words, tops: &[Top]) -> Result<Before, CFault>
+    ensures { Gives before_of result (meant.tops words.now.names.keys words.now.starts.items (tops_of tops.now)) }
 {
-    let mut declared = Declared {
-        meanings: vec![in alloc; Meaning::Nothing; words.names.len()]?,
-        arrays: Vec::new(alloc),
+    let mut before = Before {
+        declared: Declared {
+            meanings: vec![in alloc; Meaning::Nothing; words.names.len()]?,
+            arrays: Vec::new(alloc),
+        },
+        functions: Vec::new(alloc),
+        count: 0,
     };
     for top in tops {
-        declared = top_step(alloc, words, declared, top)?;
+        before = top_step(alloc, words, before, top)?;
     }
-    Ok(declared)
+    Ok(before)
 }
 
 /// A parallel region: a group over nothing, since all tasks have ended at its end.
 fn region(
     alloc: Global,
     words: &Words,
+    source: &Source<'_>,
     meanings: &[Meaning],
     start: usize,
     clauses: &[Clause],
     stmts: &[Stmt],
 ) -> Result<Lines, CFault>
-    ensures { Gives lines_of result (meant.region words.now.names.keys words.now.starts.items meanings.now start (clauses_of clauses.now) (body_of (list_of stmts.now))) }
+    ensures { Gives lines_of result (meant.region words.now.names.keys (source_of source.now) meanings.now start (clauses_of clauses.now) (body_of (list_of stmts.now))) }
 {
     let scope = Scope::new(alloc, &words.names, meanings, true);
     let heading = headed(alloc, start, scope, clauses)?;
-    let inner = body(alloc, &words.starts, &heading.scope, stmts)?;
+    let inner = body(alloc, source, &heading.scope, stmts)?;
     group(alloc, start, Operation::Plus, Vec::new(alloc), inner)
 }
 
 /// A statement of `main` outside of regions.
-fn alone(alloc: Global, words: &Words, meanings: &[Meaning], stmt: &Stmt) -> Result<Lines, CFault>
-    ensures { Gives lines_of result (meant.alone words.now.names.keys words.now.starts.items meanings.now (stmt_of stmt.now)) }
+fn alone(
+    alloc: Global,
+    words: &Words,
+    source: &Source<'_>,
+    meanings: &[Meaning],
+    stmt: &Stmt,
+) -> Result<Lines, CFault>
+    ensures { Gives lines_of result (meant.alone words.now.names.keys (source_of source.now) meanings.now (stmt_of stmt.now)) }
 {
     let scope = Scope::new(alloc, &words.names, meanings, false);
-    statement(alloc, &words.starts, &scope, stmt)
+    statement(alloc, source, &scope, stmt)
 }
 
 /// Statements behind others.
-fn behind(progress: Progress, lines: Lines) -> Result<Progress, CFault>
-    ensures { Gives progress_of result (Ok (meant.put (progress_of progress) (lines_of lines))) }
+fn behind(declared: Declared, lines: Lines, more: Lines) -> Result<Progress, CFault>
+    ensures { Gives progress_of result (meant.put (declared_of declared) (lines_of lines) (lines_of more)) }
 {
     Ok(Progress {
-        declared: progress.declared,
-        lines: joined(progress.lines, lines)?,
+        declared,
+        lines: joined(lines, more)?,
     })
 }
 
@@ -150,10 +264,11 @@ fn behind(progress: Progress, lines: Lines) -> Result<Progress, CFault>
 fn main_step(
     alloc: Global,
     words: &Words,
+    source: &Source<'_>,
     progress: Progress,
     step: &Step,
 ) -> Result<Progress, CFault>
-    ensures { Gives progress_of result (meant.main_step words.now.names.keys words.now.starts.items (progress_of progress) (step_of step.now)) }
+    ensures { Gives progress_of result (meant.main_step words.now.names.keys words.now.starts.items (source_of source.now) (progress_of progress) (step_of step.now)) }
 {
     match step {
         Step::Declares(given) => {
@@ -166,13 +281,21 @@ fn main_step(
         }
         Step::Region(left, clauses, stmts) => {
             let start = byte_of(&words.starts, *left);
-            let meanings = &progress.declared.meanings;
-            let lines = region(alloc, words, meanings, start, clauses, stmts)?;
-            behind(progress, lines)
+            let declared = pointers(alloc, words, progress.declared, stmts)?;
+            let lines = region(
+                alloc,
+                words,
+                source,
+                &declared.meanings,
+                start,
+                clauses,
+                stmts,
+            )?;
+            behind(declared, progress.lines, lines)
         }
         Step::Does(stmt) => {
-            let lines = alone(alloc, words, &progress.declared.meanings, stmt)?;
-            behind(progress, lines)
+            let lines = alone(alloc, words, source, &progress.declared.meanings, stmt)?;
+            behind(progress.declared, progress.lines, lines)
         }
     }
 }
@@ -180,17 +303,18 @@ fn main_step(
 fn main_body(
     alloc: Global,
     words: &Words,
+    source: &Source<'_>,
     declared: Declared,
     steps: &[Step],
 ) -> Result<Progress, CFault>
-    ensures { Gives progress_of result (meant.main_body words.now.names.keys words.now.starts.items (declared_of declared) (main_of steps.now)) }
+    ensures { Gives progress_of result (meant.main_body words.now.names.keys words.now.starts.items (source_of source.now) (declared_of declared) (main_of steps.now)) }
 {
     let mut progress = Progress {
         declared,
         lines: no_lines(alloc),
     };
     for step in steps {
-        progress = main_step(alloc, words, progress, step)?;
+        progress = main_step(alloc, words, source, progress, step)?;
     }
     Ok(progress)
 }
@@ -218,8 +342,16 @@ fn shows(alloc: Global, arrays: &[CArray]) -> Result<Vec<Value>, CFault>
 pub fn lower(alloc: Global, words: &Words, file: &File) -> Result<Lowered, CFault>
     ensures { Gives lowered_of result (meant.lowered words.now.names.keys words.now.starts.items (file_of file.now)) }
 {
-    let declared = tops(alloc, words, &file.tops)?;
-    let Progress { declared, lines } = main_body(alloc, words, declared, &file.main)?;
+    let Before {
+        declared,
+        functions,
+        ..
+    } = tops(alloc, words, &file.tops)?;
+    let source = Source {
+        starts: &words.starts,
+        functions: &functions,
+    };
+    let Progress { declared, lines } = main_body(alloc, words, &source, declared, &file.main)?;
     let shows = json::list(shows(alloc, &declared.arrays)?);
     let list = json::list(lines.statements);
     let program = json::form2(alloc, "program2", shows, list)?;

@@ -4,16 +4,16 @@ ghost use Rattle.serde_json.specs.View.{view};
 ghost use Rattle.ot_cread.specs.Tree.{expr_of, clauses_of};
 ghost use Rattle.ot_cstatement.specs.Tree.{aim_of, course_of, exprs_of, stmt_of, list_of, body_of};
 ghost use Rattle.ot_cmeaning.specs.Results.{Gives};
-ghost use Rattle.ot_clower.specs.Clauses.{head_of};
+ghost use Rattle.ot_cclause.specs.Clauses.{head_of};
 ghost use Rattle.ot_clower.specs.Lines.{lines_of};
-ghost use Rattle.ot_clower.specs.Statements.{bounds_of};
+ghost use Rattle.ot_clower.specs.Statements.{bounds_of, called_of, source_of};
 ghost use Rattle.ot_clower.specs.Statements as meant;
 
 use crate::assignment::assignment;
-use crate::clause::{Heading, group_operation, headed};
-use crate::lines::{Lines, joined, no_lines, one_line};
-use crate::words::operation_word;
-use ot_cmeaning::{CFault, Reason, Scope, Turn, json, size, value};
+use crate::lines::{Lines, copy, joined, no_lines, one_line};
+use ot_cclause::{Heading, group_operation, headed, operation_word};
+use ot_cdeclare::byte_of;
+use ot_cmeaning::{CFault, Reason, Scope, Sense, Turn, json, size, value};
 use ot_cread::{Clause, Expr, Operation, Sign};
 use ot_cstatement::{Stmt, Target, Turns};
 use ot_program::is_name;
@@ -21,14 +21,25 @@ use ot_words::{IntegerType, Name};
 use serde_json::Value;
 use std::alloc::Global;
 
-/// The byte at which begins what so many words are left from.
-pub(crate) fn byte_of(starts: &[usize], left: usize) -> usize
-    ensures { result ≡ meant.byte_of starts.now left }
-{
-    match starts.get(starts.len().saturating_sub(left)) {
-        Some(byte) => *byte,
-        None => 0,
-    }
+/// What becomes of a function's body.
+#[derive(Debug, Drop)]
+pub(crate) enum Became {
+    Lines(Lines),
+    Outside(usize, Reason),
+}
+
+/// What becomes of a function where it is called, in regions and outside of them.
+#[derive(Debug, Drop)]
+pub(crate) struct Called {
+    pub(crate) inside: Became,
+    pub(crate) outside: Became,
+}
+
+/// Where words begin, and what functions are, by their numbers.
+#[derive(Clone, Copy)]
+pub(crate) struct Source<'a> {
+    pub(crate) starts: &'a [usize],
+    pub(crate) functions: &'a [Called],
 }
 
 /// A value is read: `["if", value, [], []]`.
@@ -53,7 +64,7 @@ fn read_step(
     ensures { Gives lines_of result (meant.read_step scope.now start (lines_of lines) (expr_of expr.now)) }
 {
     let more = read(alloc, scope, start, expr)?;
-    Ok(joined(lines, more)?)
+    joined(lines, more)
 }
 
 /// Values that are printed are read.
@@ -72,18 +83,42 @@ fn wait(alloc: Global, scope: &Scope<'_>, start: usize, clauses: &[Clause]) -> R
     ensures { Gives lines_of result (meant.wait scope.now start (clauses_of clauses.now)) }
 {
     region_at(scope, start)?;
+    waits(alloc, scope, start, clauses)
+}
+
+/// The same, wherever it stands.
+fn waits(
+    alloc: Global,
+    scope: &Scope<'_>,
+    start: usize,
+    clauses: &[Clause],
+) -> Result<Lines, CFault>
+    ensures { Gives lines_of result (meant.waits scope.now start (clauses_of clauses.now)) }
+{
     match clauses {
-        [] => {
-            let statement = json::form0(alloc, "wait")?;
-            Ok(one_line(alloc, start, statement, Vec::new(alloc))?)
-        }
-        _ => {
-            let heading = headed(alloc, start, scope.again(alloc)?, clauses)?;
-            let clauses = json::list(heading.clauses);
-            let statement = json::form1(alloc, "wait", clauses)?;
-            Ok(one_line(alloc, start, statement, Vec::new(alloc))?)
-        }
+        [] => wait_for_all(alloc, start),
+        _ => wait_for(alloc, scope, start, clauses),
     }
+}
+
+fn wait_for_all(alloc: Global, start: usize) -> Result<Lines, CFault>
+    ensures { Gives lines_of result (meant.wait_for_all start) }
+{
+    let statement = json::form0(alloc, "wait")?;
+    Ok(one_line(alloc, start, statement, Vec::new(alloc))?)
+}
+
+fn wait_for(
+    alloc: Global,
+    scope: &Scope<'_>,
+    start: usize,
+    clauses: &[Clause],
+) -> Result<Lines, CFault>
+    ensures { Gives lines_of result (meant.wait_for scope.now start (clauses_of clauses.now)) }
+{
+    let heading = headed(alloc, start, scope.again(alloc)?, clauses)?;
+    let statement = json::form1(alloc, "wait", json::list(heading.clauses))?;
+    Ok(one_line(alloc, start, statement, Vec::new(alloc))?)
 }
 
 /// Tasks, waits and groups stand in a parallel region.
@@ -242,6 +277,66 @@ fn show(alloc: Global, scope: &Scope<'_>, start: usize) -> Result<Lines, CFault>
     }
 }
 
+/// The statements of a function, wherever it is called.
+fn once_more(alloc: Global, became: &Became) -> Result<Lines, CFault>
+    ensures { Gives lines_of result (meant.became_of became.now) }
+{
+    match became {
+        Became::Lines(lines) => Ok(copy(alloc, lines)?),
+        Became::Outside(start, reason) => Err(CFault::Outside(*start, *reason)),
+    }
+}
+
+/// Which function it is, if it is one.
+fn function_by(start: usize, sense: Sense) -> Result<usize, CFault>
+    ensures { Gives (λ n. n) result (meant.function_by start sense) }
+{
+    match sense {
+        Sense::Function(number) => Ok(number),
+        _ => Err(CFault::Outside(start, Reason::Function)),
+    }
+}
+
+/// Which function a name is that is called here.
+fn function_at(scope: &Scope<'_>, start: usize, name: Name, exprs: &[Expr]) -> Result<usize, CFault>
+    ensures { Gives (λ n. n) result (meant.function_at scope.now start name (exprs_of exprs.now)) }
+{
+    match exprs {
+        [] => {
+            if scope.combines() {
+                Err(CFault::Outside(start, Reason::CallInGroup))
+            } else {
+                function_by(start, scope.sense(name))
+            }
+        }
+        _ => Err(CFault::Outside(start, Reason::Function)),
+    }
+}
+
+/// A call: the statements of the function, in which names mean what they do where it stands.
+fn call(
+    alloc: Global,
+    functions: &[Called],
+    scope: &Scope<'_>,
+    start: usize,
+    name: Name,
+    exprs: &[Expr],
+) -> Result<Lines, CFault>
+    ensures { Gives lines_of result (meant.call (map called_of functions.now) scope.now start name (exprs_of exprs.now)) }
+{
+    let number = function_at(scope, start, name, exprs)?;
+    match functions.get(number) {
+        None => Err(CFault::Outside(start, Reason::Function)),
+        Some(called) => {
+            if scope.inside() {
+                once_more(alloc, &called.inside)
+            } else {
+                once_more(alloc, &called.outside)
+            }
+        }
+    }
+}
+
 /// An assignment.
 fn assigned(
     alloc: Global,
@@ -262,49 +357,58 @@ fn assigned(
 #[tactic(auto, unfolding(crate::specs::Statements::statement))]
 pub(crate) fn statement(
     alloc: Global,
-    starts: &[usize],
+    source: &Source<'_>,
     scope: &Scope<'_>,
     stmt: &Stmt,
 ) -> Result<Lines, CFault>
-    ensures { Gives lines_of result (meant.statement starts.now scope.now (stmt_of stmt.now)) }
+    ensures { Gives lines_of result (meant.statement (source_of source.now) scope.now (stmt_of stmt.now)) }
 {
     match stmt {
-        Stmt::Block(_, inner) => body(alloc, starts, scope, inner),
+        Stmt::Block(_, inner) => body(alloc, source, scope, inner),
         Stmt::Assign(left, target, sign, expr) => {
-            assigned(alloc, scope, byte_of(starts, *left), target, *sign, expr)
+            assigned(
+                alloc,
+                scope,
+                byte_of(source.starts, *left),
+                target,
+                *sign,
+                expr,
+            )
         }
         Stmt::If(left, test, one, two) => {
-            let start = byte_of(starts, *left);
+            let start = byte_of(source.starts, *left);
             let test = value(alloc, scope, start, test)?;
-            let one = body(alloc, starts, scope, one)?;
-            let two = body(alloc, starts, scope, two)?;
+            let one = body(alloc, source, scope, one)?;
+            let two = body(alloc, source, scope, two)?;
             branch(alloc, start, test.value, one, two)
         }
         Stmt::For(left, turns, inner) => {
-            let start = byte_of(starts, *left);
+            let start = byte_of(source.starts, *left);
             let bounds = bounded(alloc, scope, start, turns)?;
             let around = scope.with_turn(alloc, turn_of(turns, true))?;
-            let inner = body(alloc, starts, &around, inner)?;
+            let inner = body(alloc, source, &around, inner)?;
             repeated(alloc, start, bounds, inner)
         }
         Stmt::Task(left, clauses, inner) => {
-            let start = byte_of(starts, *left);
+            let start = byte_of(source.starts, *left);
             let heading = task_heading(alloc, scope, start, clauses)?;
-            let inner = body(alloc, starts, &heading.scope, inner)?;
+            let inner = body(alloc, source, &heading.scope, inner)?;
             task(alloc, start, heading.clauses, inner)
         }
-        Stmt::Wait(left, clauses) => wait(alloc, scope, byte_of(starts, *left), clauses),
+        Stmt::Wait(left, clauses) => wait(alloc, scope, byte_of(source.starts, *left), clauses),
         Stmt::Group(left, clauses, inner) => {
-            let start = byte_of(starts, *left);
+            let start = byte_of(source.starts, *left);
             let (operation, heading) = group_heading(alloc, scope, start, clauses)?;
-            let inner = body(alloc, starts, &heading.scope, inner)?;
+            let inner = body(alloc, source, &heading.scope, inner)?;
             group(alloc, start, operation, heading.clauses, inner)
         }
-        Stmt::Yield(_) => Ok(no_lines(alloc)),
-        Stmt::Call(left, _, _) => Err(CFault::Outside(byte_of(starts, *left), Reason::Function)),
-        Stmt::Print(left, exprs) => print(alloc, scope, byte_of(starts, *left), exprs),
-        Stmt::Show(left, _, _, _) => show(alloc, scope, byte_of(starts, *left)),
-        Stmt::Point(left, _, _, _) => Err(CFault::Outside(byte_of(starts, *left), Reason::Pointer)),
+        Stmt::Yield(_) | Stmt::Point(_, _, _, _) => Ok(no_lines(alloc)),
+        Stmt::Call(left, name, exprs) => {
+            let start = byte_of(source.starts, *left);
+            call(alloc, source.functions, scope, start, *name, exprs)
+        }
+        Stmt::Print(left, exprs) => print(alloc, scope, byte_of(source.starts, *left), exprs),
+        Stmt::Show(left, _, _, _) => show(alloc, scope, byte_of(source.starts, *left)),
     }
 }
 
@@ -312,30 +416,30 @@ pub(crate) fn statement(
 #[cycle(statement)]
 fn body_step(
     alloc: Global,
-    starts: &[usize],
+    source: &Source<'_>,
     scope: &Scope<'_>,
     lines: Lines,
     stmt: &Stmt,
 ) -> Result<Lines, CFault>
-    ensures { Gives lines_of result (meant.behind (lines_of lines) (meant.statement starts.now scope.now (stmt_of stmt.now))) }
+    ensures { Gives lines_of result (meant.behind (lines_of lines) (meant.statement (source_of source.now) scope.now (stmt_of stmt.now))) }
 {
-    let more = statement(alloc, starts, scope, stmt)?;
-    Ok(joined(lines, more)?)
+    let more = statement(alloc, source, scope, stmt)?;
+    joined(lines, more)
 }
 
 /// Statements.
 #[cycle(statement)]
 pub(crate) fn body(
     alloc: Global,
-    starts: &[usize],
+    source: &Source<'_>,
     scope: &Scope<'_>,
     stmts: &[Stmt],
 ) -> Result<Lines, CFault>
-    ensures { Gives lines_of result (meant.body starts.now scope.now (body_of (list_of stmts.now))) }
+    ensures { Gives lines_of result (meant.body (source_of source.now) scope.now (body_of (list_of stmts.now))) }
 {
     let mut lines = no_lines(alloc);
     for stmt in stmts {
-        lines = body_step(alloc, starts, scope, lines, stmt)?;
+        lines = body_step(alloc, source, scope, lines, stmt)?;
     }
     Ok(lines)
 }

@@ -33,3 +33,10 @@ is_narrow Unsigned = true
 is_narrow Int = false
 is_narrow Long = false
 is_narrow UnsignedLong = false
+
+-- how many bits a type has
+abbrev pub width : IntegerType → ℕ
+width Int = 32
+width Unsigned = 32
+width Long = 64
+width UnsignedLong = 64

@@ -1,10 +1,12 @@
 -- What names mean at a place of the text.
-use Rattle.std.specs.Prelude.{ℕ, ◌==◌, Bool, false, List, ◌∷◌, map, find, Option, Some, None, option_map, unwrap_or, slice_get, String, string_bytes, if◌then◌else◌, []}
+use Rattle.std.specs.Prelude.{ℕ, ◌==◌, ◌-◌, nat_le, nat_lt, Bool, true, false, ◌&&◌, List, ◌∷◌, map, find, Option, Some, None, option_map, unwrap_or, slice_get, String, string_bytes, if◌then◌else◌, []}
+use Rattle.std.specs.List.{list_any}
 use Rattle.std.specs.declared.alloc.Global.{Global}
 use Rattle.ot_words.specs.declared.word.Name.{Name}
 use Rattle.ot_words.specs.declared.word.Name.TheVariants as n
 use Rattle.ot_cmeaning.specs.declared.scope.Meaning.{Meaning}
 use Rattle.ot_cmeaning.specs.declared.scope.Meaning.TheVariants as m
+use Rattle.ot_cmeaning.specs.declared.scope.Pointee.{Pointee}
 use Rattle.ot_cmeaning.specs.declared.scope.Turn.{Turn}
 use Rattle.ot_cmeaning.specs.declared.scope.Opening.{Opening}
 use Rattle.ot_cmeaning.specs.declared.scope.Sense.{Sense}
@@ -48,17 +50,48 @@ abbrev pub opened_or : Option Opening → Option ℕ → Sense
 opened_or None length = s.Cells length
 opened_or (Some o) length = s.Combined o length
 
+-- what a pointer is, if an open group combines over its cell by it or not
+abbrev pub pointed_or : Option Opening → ℕ → ℕ → Sense
+pointed_or None x p = s.Pointer x p
+pointed_or (Some o) x p = s.Combined o None
+
 -- a constant stands for its number wherever its name stands (C17, section 6.10.3)
 abbrev pub sense_by : Meaning → Option Turn → Option Opening → Sense
 sense_by (m.Constant n k) turn opening = s.Constant n k
 sense_by m.Nothing turn opening = turn_or turn s.Nothing
-sense_by m.Function turn opening = turn_or turn s.Function
+sense_by (m.Function i) turn opening = turn_or turn (s.Function i)
 sense_by (m.Cells length) turn opening = turn_or turn (opened_or opening length)
+sense_by (m.Pointer x p) turn opening = turn_or turn (pointed_or opening x p)
 
 -- what a name means
 abbrev pub sense : Around → Name → Sense
 sense a (n.Known k) = s.Nothing
 sense a (n.Other i) = sense_by (meaning_of a i) (turn_of a i) (opening_of a i)
+
+-- whether there are open groups that combine
+abbrev pub combines : List Opening → Bool
+combines [] = false
+combines (o ∷ os) = true
+
+-- ---- cells that pointers name
+
+-- cells of an array: so many from a place on; or any
+abbrev pub Run : Type 0
+Run = Option (ℕ × ℕ)
+
+abbrev pub is_among : Run → ℕ → Bool
+is_among None p = true
+is_among (Some r) p = nat_le r.0 p && nat_lt (p - r.0) r.1
+
+-- whether it is one of these cells of an array
+abbrev pub points_into : ℕ → Run → Option Pointee → Bool
+points_into x cells None = false
+points_into x cells (Some p) = p.array == x && is_among cells p.place
+
+-- whether an open group combines, by a pointer, over one of these cells of an array
+abbrev pub is_pointed : Around → Name → Run → Bool
+is_pointed a (n.Known k) cells = false
+is_pointed a (n.Other x) cells = list_any (λ o. points_into x cells o.pointee) a.opened
 
 -- ---- inner places
 

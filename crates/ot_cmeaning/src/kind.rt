@@ -47,3 +47,13 @@ pub(crate) fn is_narrow(kind: IntegerType) -> bool
 {
     matches!(kind, IntegerType::Unsigned)
 }
+
+/// How many bits a type has.
+pub(crate) fn width(kind: IntegerType) -> u64
+    ensures { result ≡ kinds.width kind }
+{
+    match kind {
+        IntegerType::Int | IntegerType::Unsigned => 32,
+        IntegerType::Long | IntegerType::UnsignedLong => 64,
+    }
+}

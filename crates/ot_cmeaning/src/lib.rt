@@ -13,6 +13,6 @@ mod values;
 pub use constants::constant;
 pub use fault::CFault;
 pub use reason::Reason;
-pub use scope::{Meaning, Opening, Scope, Sense, Turn};
+pub use scope::{Meaning, Opening, Pointee, Scope, Sense, Turn, points_into};
 pub use sizes::size;
-pub use values::{Worth, cell, value};
+pub use values::{Worth, cell, run_by, untouched, value};

@@ -35,6 +35,12 @@ pub enum Reason {
     Signed,
     /// A rest by another number than a power of two.
     Rest,
+    /// A shift to the left of what is no `uint64_t` and isn't known, or by what isn't known, or by too much.
+    Shift,
+    /// A quotient, or a shift to the right, that isn't known.
+    Quotient,
+    /// What C may leave out, and reads a cell or chooses itself.
+    LeftOut,
     /// A name over which an open group combines, and of which the task has no copy of its own.
     Combined,
     /// A task's own copy that isn't folded into by its operation.
@@ -49,10 +55,18 @@ pub enum Reason {
     Iterator,
     /// A task, a wait or a group outside of a parallel region.
     NoRegion,
-    /// A pointer.
+    /// A pointer by which no open group combines.
     Pointer,
+    /// A pointer to what isn't one cell at a constant place, or to different cells in one file.
+    Pointee,
+    /// A task takes part in a reduction by a pointer, and its cell isn't under `depend(in: ..)`.
+    NoDependence,
     /// A function.
     Function,
+    /// A function that is called while a group combines, whose cells it may touch.
+    CallInGroup,
+    /// More statements than a program may have, those of functions at each of their calls.
+    TooMany,
 }
 
 impl Reason {
@@ -81,6 +95,9 @@ impl Reason {
             Reason::Wraps => "numbers of type unsigned may wrap here",
             Reason::Signed => "numbers that may be negative are compared here",
             Reason::Rest => "% is by a power of two, or in an array's index",
+            Reason::Shift => "<< is of a uint64_t, by a known number below 64, or of known numbers",
+            Reason::Quotient => "/ and >> are of numbers that are known",
+            Reason::LeftOut => "what && || ?: may leave out here reads no cell and has no ?:",
             _ => self.text_of_directive(),
         }
     }
@@ -94,8 +111,18 @@ impl Reason {
             Reason::Private => "only a loop's variable is firstprivate",
             Reason::Iterator => "an iterator counts single cells, as in a[i]",
             Reason::NoRegion => "tasks, waits and groups stand in a parallel region",
-            Reason::Pointer => "pointers aren't judged",
-            _ => "functions aren't judged",
+            _ => self.text_of_names(),
+        }
+    }
+
+    fn text_of_names(self) -> &'static str {
+        match self {
+            Reason::Pointer => "a pointer only stands for a cell that a reduction names by it",
+            Reason::Pointee => "a pointer points to one cell, at a number, wherever it is declared",
+            Reason::NoDependence => "in_reduction by a pointer wants its cell under depend(in: ..)",
+            Reason::CallInGroup => "a function is called here while a group combines",
+            Reason::TooMany => "a program has at most 20000 statements",
+            _ => "this function isn't judged here",
         }
     }
 }

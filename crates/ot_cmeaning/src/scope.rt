@@ -1,5 +1,6 @@
 //! What names mean at a place of the text.
 ghost use Rattle.std.specs.Prelude.{◌≡◌, ◌==◌, find, IfOk, [], ◌∷◌, map};
+ghost use Rattle.std.specs.List.{list_any};
 ghost use Rattle.serde_json.specs.Data.{string};
 ghost use Rattle.serde_json.specs.View.{view};
 ghost use Rattle.ot_cmeaning.specs.Scopes as around;
@@ -13,6 +14,14 @@ use serde_json::Value;
 use std::alloc::{AllocError, Global};
 use std::marker::Model;
 
+/// A cell that a pointer points to.
+#[derive(Clone, Copy, Debug, PartialEq, Eq)]
+pub struct Pointee {
+    /// Among the names of the text.
+    pub array: usize,
+    pub place: u64,
+}
+
 /// What a name means in the whole file, loops apart.
 #[derive(Clone, Copy, Debug, PartialEq, Eq)]
 pub enum Meaning {
@@ -21,7 +30,10 @@ pub enum Meaning {
     Constant(u64, IntegerType),
     /// An array of so many cells, or a variable, which is an array of one.
     Cells(Option<usize>),
-    Function,
+    /// A pointer to a cell: the number of its array among the names of the text, and its place.
+    Pointer(usize, u64),
+    /// A function, by its number among those of the file.
+    Function(usize),
 }
 
 /// A loop around a place.
@@ -37,11 +49,13 @@ pub struct Turn {
 /// Cells over which an open group combines.
 #[derive(Clone, Copy, Debug, PartialEq, Eq)]
 pub struct Opening {
-    /// Among the names of the text.
+    /// An array or a pointer, among the names of the text.
     pub array: usize,
     pub operation: Operation,
     /// Whether the task around the place has copies of its own.
     pub own: bool,
+    /// The cell, where a pointer names it.
+    pub pointee: Option<Pointee>,
 }
 
 /// What a name means at a place.
@@ -56,7 +70,11 @@ pub enum Sense {
     Cells(Option<usize>),
     /// Cells over which an open group combines.
     Combined(Opening, Option<usize>),
-    Function,
+    /// A pointer to a cell over which no open group combines by it: the number of its array among the names of the
+    /// text, and its place.
+    Pointer(usize, u64),
+    /// A function, by its number among those of the file.
+    Function(usize),
 }
 
 /// What names mean at a place: in the whole file, in the loops around, the innermost first, and in the open groups,
@@ -104,6 +122,16 @@ impl<'a> Scope<'a> {
         self.inside
     }
 
+    /// Whether the place is in an open group that combines.
+    pub fn combines(&self) -> bool
+        ensures { result ≡ around.combines self.now.opened }
+    {
+        match &self.opened[..] {
+            [] => false,
+            _ => true,
+        }
+    }
+
     fn meaning(&self, name: usize) -> Meaning
         ensures { result ≡ meaning_of self.now name }
     {
@@ -113,21 +141,33 @@ impl<'a> Scope<'a> {
         }
     }
 
-    /// What a name among those of the text means, if it isn't a constant.
+    /// The innermost loop of this variable.
+    fn turn(&self, name: usize) -> Option<Turn>
+        ensures { result ≡ turn_of self.now name }
+    {
+        turn_among(&self.turns, name)
+    }
+
+    /// The innermost group that combines over this array, or by this pointer.
+    fn opening(&self, name: usize) -> Option<Opening>
+        ensures { result ≡ opening_of self.now name }
+    {
+        opening_among(&self.opened, name)
+    }
+
+    /// What a name among those of the text means.
     fn sense_of(&self, name: usize, meaning: Meaning) -> Sense
         ensures { result ≡ around.sense_by meaning (turn_of self.now name) (opening_of self.now name) }
     {
-        match meaning {
-            Meaning::Constant(number, kind) => Sense::Constant(number, kind),
-            Meaning::Nothing => sense_of_turn(turn_among(&self.turns, name), Sense::Nothing),
-            Meaning::Function => sense_of_turn(turn_among(&self.turns, name), Sense::Function),
-            Meaning::Cells(length) => {
-                sense_of_turn(
-                    turn_among(&self.turns, name),
-                    sense_of_cells(opening_among(&self.opened, name), length),
-                )
-            }
-        }
+        let opening = self.opening(name);
+        let inner = match meaning {
+            Meaning::Constant(number, kind) => return Sense::Constant(number, kind),
+            Meaning::Nothing => Sense::Nothing,
+            Meaning::Function(index) => Sense::Function(index),
+            Meaning::Cells(length) => sense_of_cells(opening, length),
+            Meaning::Pointer(array, place) => sense_of_pointer(opening, array, place),
+        };
+        sense_of_turn(self.turn(name), inner)
     }
 
     /// What a name means here.
@@ -137,6 +177,17 @@ impl<'a> Scope<'a> {
         match name {
             Name::Known(_) => Sense::Nothing,
             Name::Other(number) => self.sense_of(number, self.meaning(number)),
+        }
+    }
+
+    /// Whether an open group combines, by a pointer, over one of these cells of an array: so many from a place on, or
+    /// any.
+    pub fn is_pointed(&self, array: Name, cells: Option<(u64, u64)>) -> bool
+        ensures { result ≡ around.is_pointed self.now array cells }
+    {
+        match array {
+            Name::Known(_) => false,
+            Name::Other(number) => any_points_into(&self.opened, number, cells),
         }
     }
 
@@ -243,6 +294,36 @@ fn opening_among(opened: &[Opening], name: usize) -> Option<Opening>
     None
 }
 
+fn is_among(cells: Option<(u64, u64)>, place: u64) -> bool
+    ensures { result ≡ around.is_among cells place }
+{
+    match cells {
+        Some((first, count)) => first <= place && place - first < count,
+        None => true,
+    }
+}
+
+/// Whether it is one of these cells of an array.
+pub fn points_into(array: usize, cells: Option<(u64, u64)>, pointee: Option<Pointee>) -> bool
+    ensures { result ≡ around.points_into array cells pointee }
+{
+    match pointee {
+        Some(pointee) => pointee.array == array && is_among(cells, pointee.place),
+        None => false,
+    }
+}
+
+fn any_points_into(opened: &[Opening], array: usize, cells: Option<(u64, u64)>) -> bool
+    ensures { result ≡ list_any (λ o. around.points_into array cells o.pointee) opened.now }
+{
+    for opening in opened {
+        if points_into(array, cells, opening.pointee) {
+            return true;
+        }
+    }
+    false
+}
+
 fn copy_of<T: Copy>(alloc: Global, items: &[T]) -> Result<Vec<T>, AllocError>
     ensures { IfOk result (λ v. v.items ≡ items.now) }
 {
@@ -268,6 +349,7 @@ fn not_own(opening: Opening) -> Opening
         array: opening.array,
         operation: opening.operation,
         own: false,
+        pointee: opening.pointee,
     }
 }
 
@@ -292,5 +374,14 @@ fn sense_of_cells(opening: Option<Opening>, length: Option<usize>) -> Sense
     match opening {
         Some(opening) => Sense::Combined(opening, length),
         None => Sense::Cells(length),
+    }
+}
+
+fn sense_of_pointer(opening: Option<Opening>, array: usize, place: u64) -> Sense
+    ensures { result ≡ around.pointed_or opening array place }
+{
+    match opening {
+        Some(opening) => Sense::Combined(opening, None),
+        None => Sense::Pointer(array, place),
     }
 }

@@ -5,6 +5,7 @@ ghost use Rattle.ot_cread.specs.Tree.{expr_of};
 ghost use Rattle.ot_cmeaning.specs.Results.{Gives};
 ghost use Rattle.ot_cmeaning.specs.Sizes as sizes;
 
+use crate::constants::{both, constant};
 use crate::fault::CFault;
 use crate::json::form2;
 use crate::kind::joined;
@@ -25,7 +26,8 @@ pub(crate) fn no_number(sense: Sense) -> Reason
         Sense::Cells(Some(_)) => Reason::WholeArray,
         Sense::Cells(None) => Reason::NoSize,
         Sense::Combined(_, _) => Reason::Combined,
-        Sense::Function => Reason::Function,
+        Sense::Pointer(_, _) => Reason::Pointer,
+        Sense::Function(_) => Reason::Function,
     }
 }
 
@@ -53,6 +55,18 @@ fn size_word(sign: Sign) -> Option<&'static str>
         Sign::Minus => Some("-"),
         Sign::Times => Some("*"),
         Sign::Or | Sign::Xor | Sign::And | Sign::Equal | Sign::Less | Sign::Rest => None,
+        Sign::Either | Sign::Both | Sign::Unequal | Sign::More | Sign::AtMost => None,
+        Sign::AtLeast | Sign::ShiftLeft | Sign::ShiftRight | Sign::Over => None,
+    }
+}
+
+/// The number of a constant.
+fn known(start: usize, number: Option<(u64, IntegerType)>) -> Result<(Value, IntegerType), CFault>
+    ensures { Gives (λ x. (view x.0, x.1)) result (sizes.known start number) }
+{
+    match number {
+        Some((number, kind)) => Ok((Value::from(number), kind)),
+        None => Err(CFault::Outside(start, Reason::NoSize)),
     }
 }
 
@@ -75,10 +89,15 @@ pub fn size(
             let (value, _) = size(alloc, scope, start, value)?;
             Ok((value, IntegerType::UnsignedLong))
         }
-        Expr::Call(_, _, _) => Err(CFault::Outside(start, Reason::NoSize)),
+        Expr::Unary(_, _) | Expr::Call(_, _, _) | Expr::Choice(_, _, _) => {
+            Err(CFault::Outside(start, Reason::NoSize))
+        }
         Expr::Op(sign, one, two) => {
             let Some(word) = size_word(*sign) else {
-                return Err(CFault::Outside(start, Reason::NoSize));
+                return known(
+                    start,
+                    both(*sign, constant(scope, one), constant(scope, two)),
+                );
             };
             let (one, one_kind) = size(alloc, scope, start, one)?;
             let (two, two_kind) = size(alloc, scope, start, two)?;

@@ -1,19 +1,19 @@
 //! Values: numbers that a program computes.
-ghost use Rattle.std.specs.Prelude.{◌≡◌};
+ghost use Rattle.std.specs.Prelude.{◌≡◌, ◌&&◌, true, false};
 ghost use Rattle.serde_json.specs.View.{view};
 ghost use Rattle.ot_cread.specs.Tree.{expr_of};
 ghost use Rattle.ot_cmeaning.specs.Results.{Gives};
-ghost use Rattle.ot_cmeaning.specs.Values.{worth_of};
+ghost use Rattle.ot_cmeaning.specs.Values.{Valued, worth_of};
 ghost use Rattle.ot_cmeaning.specs.Values as values;
 
-use crate::constants::constant;
+use crate::constants::{both, constant, power};
 use crate::fault::CFault;
 use crate::json::{form2, three};
 use crate::kind::{is_narrow, is_word, joined};
 use crate::reason::Reason;
 use crate::scope::{Scope, Sense};
 use crate::sizes::{no_number, size};
-use ot_cread::{Call, Expr, Sign};
+use ot_cread::{Call, Expr, Sign, Unary};
 use ot_words::{IntegerType, Name};
 use serde_json::Value;
 use std::alloc::Global;
@@ -49,6 +49,48 @@ fn whole(value: Value, kind: IntegerType) -> Worth
     }
 }
 
+/// So many cells from a place on, where both are known.
+pub fn run_by(
+    first: Option<(u64, IntegerType)>,
+    count: Option<(u64, IntegerType)>,
+) -> Option<(u64, u64)>
+    ensures { result ≡ values.run_by first count }
+{
+    let (first, _) = first?;
+    let (count, _) = count?;
+    Some((first, count))
+}
+
+/// Which cells of an array an index may name: one, or those of which one is picked.
+#[tactic(auto, unfolding(crate::specs::Values::run))]
+fn run(scope: &Scope<'_>, index: &Expr) -> Option<(u64, u64)>
+    ensures { result ≡ values.run scope.now (expr_of index.now) }
+{
+    match index {
+        Expr::Op(Sign::Rest, _, count) => {
+            run_by(Some((0, IntegerType::Int)), constant(scope, count))
+        }
+        Expr::Op(Sign::Plus, first, more) => match &**more {
+            Expr::Op(Sign::Rest, _, count) => {
+                run_by(constant(scope, first), constant(scope, count))
+            }
+            _ => run_by(constant(scope, index), Some((1, IntegerType::Int))),
+        },
+        _ => run_by(constant(scope, index), Some((1, IntegerType::Int))),
+    }
+}
+
+/// No open group combines, by a pointer, over a cell of an array that an index may name.
+pub fn untouched(scope: &Scope<'_>, start: usize, array: Name, index: &Expr) -> Result<(), CFault>
+    ensures { Gives (λ x. x) result (values.untouched scope.now start array (expr_of index.now)) }
+{
+    if scope.is_pointed(array, run(scope, index)) {
+        Err(CFault::Outside(start, Reason::Combined))
+    } else {
+        Ok(())
+    }
+}
+
 /// The name of an array, a cell of which is wanted.
 fn array_name(alloc: Global, scope: &Scope<'_>, start: usize, array: Name) -> Result<Value, CFault>
     ensures { Gives (λ v. view v) result (values.array_name scope.now start array) }
@@ -66,8 +108,9 @@ fn no_array(sense: Sense) -> Reason
     match sense {
         Sense::Nothing => Reason::Unknown,
         Sense::Combined(_, _) => Reason::Combined,
+        Sense::Pointer(_, _) => Reason::Pointer,
         Sense::Constant(_, _) | Sense::Turn(_) | Sense::Begins => Reason::NoArray,
-        Sense::Cells(_) | Sense::Function => Reason::NoArray,
+        Sense::Cells(_) | Sense::Function(_) => Reason::NoArray,
     }
 }
 
@@ -100,20 +143,80 @@ fn named(alloc: Global, scope: &Scope<'_>, start: usize, name: Name) -> Result<W
     }
 }
 
-/// The word of an operation of values; a rest has none.
-fn sign_word(sign: Sign) -> &'static str
-    ensures { result.now ≡ values.sign_word sign }
+/// An operation that the language has as C has it.
+#[derive(Clone, Copy)]
+pub(crate) enum Basic {
+    Or,
+    Xor,
+    And,
+    Equal,
+    Less,
+    Plus,
+    Minus,
+    Times,
+}
+
+/// How an operation of two values is meant.
+#[derive(Clone, Copy)]
+pub(crate) enum Manner {
+    /// As it stands.
+    Is,
+    /// Of the second one and the first.
+    Turned,
+    /// Whether it gives 0.
+    Not,
+    /// Whether it gives 0 of the second one and the first.
+    TurnedNot,
+}
+
+/// What two values with a sign between become.
+#[derive(Clone, Copy)]
+pub(crate) enum Way {
+    Plain(Manner, Basic),
+    /// An operation of whether both aren't 0, of which C may leave out the second.
+    Lazy(Basic),
+    Shift,
+    Rest,
+    /// A number that is known.
+    Known,
+}
+
+fn way_of(sign: Sign) -> Way
+    ensures { result ≡ values.way_of sign }
 {
     match sign {
-        Sign::Or => "|",
-        Sign::Xor => "^",
-        Sign::And => "&",
-        Sign::Equal => "=",
-        Sign::Less => "<",
-        Sign::Plus => "+",
-        Sign::Minus => "-",
-        Sign::Times => "*",
-        Sign::Rest => "",
+        Sign::Or => Way::Plain(Manner::Is, Basic::Or),
+        Sign::Xor => Way::Plain(Manner::Is, Basic::Xor),
+        Sign::And => Way::Plain(Manner::Is, Basic::And),
+        Sign::Equal => Way::Plain(Manner::Is, Basic::Equal),
+        Sign::Unequal => Way::Plain(Manner::Not, Basic::Equal),
+        Sign::Less => Way::Plain(Manner::Is, Basic::Less),
+        Sign::More => Way::Plain(Manner::Turned, Basic::Less),
+        Sign::AtMost => Way::Plain(Manner::TurnedNot, Basic::Less),
+        Sign::AtLeast => Way::Plain(Manner::Not, Basic::Less),
+        Sign::Plus => Way::Plain(Manner::Is, Basic::Plus),
+        Sign::Minus => Way::Plain(Manner::Is, Basic::Minus),
+        Sign::Times => Way::Plain(Manner::Is, Basic::Times),
+        Sign::Both => Way::Lazy(Basic::And),
+        Sign::Either => Way::Lazy(Basic::Or),
+        Sign::ShiftLeft => Way::Shift,
+        Sign::Rest => Way::Rest,
+        Sign::Over | Sign::ShiftRight => Way::Known,
+    }
+}
+
+fn basic_word(basic: Basic) -> &'static str
+    ensures { result.now ≡ values.basic_word basic }
+{
+    match basic {
+        Basic::Or => "|",
+        Basic::Xor => "^",
+        Basic::And => "&",
+        Basic::Equal => "=",
+        Basic::Less => "<",
+        Basic::Plus => "+",
+        Basic::Minus => "-",
+        Basic::Times => "*",
     }
 }
 
@@ -127,72 +230,224 @@ fn call_word(call: Call) -> &'static str
 }
 
 /// Whether the language computes in numbers of 64 bits what C does in this type, of numbers that aren't negative or may be.
-fn agrees(sign: Sign, kind: IntegerType, whole: bool) -> bool
-    ensures { result ≡ values.agrees sign kind whole }
+fn agrees(basic: Basic, kind: IntegerType, whole: bool) -> bool
+    ensures { result ≡ values.agrees basic kind whole }
 {
-    match sign {
-        Sign::Plus | Sign::Minus | Sign::Times => !is_narrow(kind),
-        Sign::Or | Sign::Xor | Sign::And | Sign::Equal => whole || !is_narrow(kind),
-        Sign::Less => whole || is_word(kind),
-        Sign::Rest => false,
+    match basic {
+        Basic::Plus | Basic::Minus | Basic::Times => !is_narrow(kind),
+        Basic::Or | Basic::Xor | Basic::And | Basic::Equal => whole || !is_narrow(kind),
+        Basic::Less => whole || is_word(kind),
     }
 }
 
 /// Why it doesn't.
-fn disagrees(sign: Sign) -> Reason
-    ensures { result ≡ values.disagrees sign }
+fn disagrees(basic: Basic) -> Reason
+    ensures { result ≡ values.disagrees basic }
 {
-    match sign {
-        Sign::Plus | Sign::Minus | Sign::Times => Reason::Wraps,
-        Sign::Or | Sign::Xor | Sign::And | Sign::Equal => Reason::Wraps,
-        Sign::Less => Reason::Signed,
-        Sign::Rest => Reason::Rest,
+    match basic {
+        Basic::Plus | Basic::Minus | Basic::Times => Reason::Wraps,
+        Basic::Or | Basic::Xor | Basic::And | Basic::Equal => Reason::Wraps,
+        Basic::Less => Reason::Signed,
     }
 }
 
 /// The type of a result.
-fn result_kind(sign: Sign, kind: IntegerType) -> IntegerType
-    ensures { result ≡ values.result_kind sign kind }
+fn result_kind(basic: Basic, kind: IntegerType) -> IntegerType
+    ensures { result ≡ values.result_kind basic kind }
 {
-    match sign {
-        Sign::Equal | Sign::Less => IntegerType::Int,
-        Sign::Plus | Sign::Minus | Sign::Times => kind,
-        Sign::Or | Sign::Xor | Sign::And | Sign::Rest => kind,
+    match basic {
+        Basic::Equal | Basic::Less => IntegerType::Int,
+        Basic::Plus | Basic::Minus | Basic::Times => kind,
+        Basic::Or | Basic::Xor | Basic::And => kind,
     }
 }
 
 /// Whether a result isn't negative.
-fn result_whole(sign: Sign, kind: IntegerType, whole: bool) -> bool
-    ensures { result ≡ values.result_whole sign kind whole }
+fn result_whole(basic: Basic, kind: IntegerType, whole: bool) -> bool
+    ensures { result ≡ values.result_whole basic kind whole }
 {
-    match sign {
-        Sign::Equal | Sign::Less => true,
-        Sign::Minus => is_word(kind),
-        Sign::Plus | Sign::Times => whole || is_word(kind),
-        Sign::Or | Sign::Xor | Sign::And | Sign::Rest => whole || is_word(kind),
+    match basic {
+        Basic::Equal | Basic::Less => true,
+        Basic::Minus => is_word(kind),
+        Basic::Plus | Basic::Times => whole || is_word(kind),
+        Basic::Or | Basic::Xor | Basic::And => whole || is_word(kind),
     }
 }
 
-fn is_rest(sign: Sign) -> bool
-    ensures { result ≡ values.is_rest sign }
-{
-    matches!(sign, Sign::Rest)
-}
-
-/// Two values with a sign between, which isn't `%`.
-fn applied(alloc: Global, start: usize, sign: Sign, one: Worth, two: Worth) -> Result<Worth, CFault>
-    ensures { Gives worth_of result (values.applied start sign (worth_of one) (worth_of two)) }
+/// A basic operation of two values.
+fn applied(
+    alloc: Global,
+    start: usize,
+    basic: Basic,
+    one: Worth,
+    two: Worth,
+) -> Result<Worth, CFault>
+    ensures { Gives worth_of result (values.applied start basic (worth_of one) (worth_of two)) }
 {
     let kind = joined(one.kind, two.kind);
     let both = one.whole && two.whole;
-    if !agrees(sign, kind, both) {
-        return Err(CFault::Outside(start, disagrees(sign)));
+    if !agrees(basic, kind, both) {
+        return Err(CFault::Outside(start, disagrees(basic)));
     }
     Ok(Worth {
-        value: form2(alloc, sign_word(sign), one.value, two.value)?,
-        kind: result_kind(sign, kind),
-        whole: result_whole(sign, kind, both),
+        value: form2(alloc, basic_word(basic), one.value, two.value)?,
+        kind: result_kind(basic, kind),
+        whole: result_whole(basic, kind, both),
     })
+}
+
+/// A number of type `int`.
+fn int(number: u64) -> Worth
+    ensures { worth_of result ≡ values.int number }
+{
+    whole(Value::from(number), IntegerType::Int)
+}
+
+/// Whether a value is 0.
+fn denied(alloc: Global, start: usize, one: Worth) -> Result<Worth, CFault>
+    ensures { Gives worth_of result (values.denied start (worth_of one)) }
+{
+    applied(alloc, start, Basic::Equal, one, int(0))
+}
+
+/// Whether a value isn't 0.
+fn truth(alloc: Global, start: usize, one: Worth) -> Result<Worth, CFault>
+    ensures { Gives worth_of result (values.truth start (worth_of one)) }
+{
+    let none = denied(alloc, start, one)?;
+    denied(alloc, start, none)
+}
+
+/// An operation of two values, as it is meant.
+fn meant(
+    alloc: Global,
+    start: usize,
+    manner: Manner,
+    basic: Basic,
+    one: Worth,
+    two: Worth,
+) -> Result<Worth, CFault>
+    ensures { Gives worth_of result (values.meant start manner basic (worth_of one) (worth_of two)) }
+{
+    match manner {
+        Manner::Is => applied(alloc, start, basic, one, two),
+        Manner::Turned => applied(alloc, start, basic, two, one),
+        Manner::Not => {
+            let result = applied(alloc, start, basic, one, two)?;
+            denied(alloc, start, result)
+        }
+        Manner::TurnedNot => {
+            let result = applied(alloc, start, basic, two, one)?;
+            denied(alloc, start, result)
+        }
+    }
+}
+
+/// A value with a sign before it.
+fn signed(alloc: Global, start: usize, sign: Unary, one: Worth) -> Result<Worth, CFault>
+    ensures { Gives worth_of result (values.signed start sign (worth_of one)) }
+{
+    match sign {
+        Unary::Plus => Ok(one),
+        Unary::Minus => applied(alloc, start, Basic::Minus, int(0), one),
+        Unary::Not => denied(alloc, start, one),
+        Unary::Invert => {
+            let below = applied(alloc, start, Basic::Minus, int(0), int(1))?;
+            applied(alloc, start, Basic::Minus, below, one)
+        }
+    }
+}
+
+/// Two values, of which C may leave out the second.
+fn lazily(
+    alloc: Global,
+    start: usize,
+    basic: Basic,
+    one: Worth,
+    two: Worth,
+) -> Result<Worth, CFault>
+    ensures { Gives worth_of result (values.lazily start basic (worth_of one) (worth_of two)) }
+{
+    let one = truth(alloc, start, one)?;
+    let two = truth(alloc, start, two)?;
+    applied(alloc, start, basic, one, two)
+}
+
+/// One of two values by a test, of which C leaves out one. `other` and `again` are the same.
+fn chosen(
+    alloc: Global,
+    start: usize,
+    test: Worth,
+    one: Worth,
+    other: Worth,
+    again: Worth,
+) -> Result<Worth, CFault>
+    ensures { Gives worth_of result (values.chosen start (worth_of test) (worth_of one) (worth_of other) (worth_of again)) }
+{
+    let test = truth(alloc, start, test)?;
+    let more = applied(alloc, start, Basic::Minus, one, other)?;
+    let more = applied(alloc, start, Basic::Times, test, more)?;
+    applied(alloc, start, Basic::Plus, again, more)
+}
+
+/// A number that is known.
+fn known(start: usize, number: Option<(u64, IntegerType)>, why: Reason) -> Result<Worth, CFault>
+    ensures { Gives worth_of result (values.known start number why) }
+{
+    match number {
+        Some((number, kind)) => Ok(whole(Value::from(number), kind)),
+        None => Err(CFault::Outside(start, why)),
+    }
+}
+
+/// 2 to a number that is known, where that is below 2^64.
+fn power_of(by: Option<(u64, IntegerType)>) -> Option<u64>
+    ensures { result ≡ values.power_of by }
+{
+    let (count, _) = by?;
+    power(count)
+}
+
+/// A value shifted to the left by a number that is known, or a number that is known.
+fn shifted(
+    alloc: Global,
+    start: usize,
+    one: Worth,
+    by: Option<(u64, IntegerType)>,
+    all: Option<(u64, IntegerType)>,
+) -> Result<Worth, CFault>
+    ensures { Gives worth_of result (values.shifted start (worth_of one) by all) }
+{
+    if !is_word(one.kind) {
+        return known(start, all, Reason::Shift);
+    }
+    match power_of(by) {
+        Some(number) => applied(alloc, start, Basic::Times, one, word(Value::from(number))),
+        None => Err(CFault::Outside(start, Reason::Shift)),
+    }
+}
+
+/// Whether a name is no cell.
+fn is_no_cell(sense: Sense) -> bool
+    ensures { result ≡ values.is_no_cell sense }
+{
+    !matches!(sense, Sense::Cells(_))
+}
+
+/// Whether a value reads no cell, and makes no choice.
+#[tactic(auto, unfolding(crate::specs::Values::is_settled))]
+fn is_settled(scope: &Scope<'_>, expr: &Expr) -> bool
+    ensures { result ≡ values.is_settled scope.now (expr_of expr.now) }
+{
+    match expr {
+        Expr::Number(_, _) => true,
+        Expr::Variable(name) => is_no_cell(scope.sense(*name)),
+        Expr::Cell(_, _) | Expr::Choice(_, _, _) => false,
+        Expr::Cast(one) | Expr::Unary(_, one) => is_settled(scope, one),
+        Expr::Call(_, one, two) | Expr::Op(_, one, two) => {
+            is_settled(scope, one) && is_settled(scope, two)
+        }
+    }
 }
 
 /// Whether `%` of a value by a number of this type is a rest of the number that the value is modulo 2^64.
@@ -208,20 +463,21 @@ fn is_power(number: u64) -> bool
     number > 0 && number & (number - 1) == 0
 }
 
-/// A value `%` a power of two.
+/// A value `%` a power of two, or a number that is known.
 fn rest(
     alloc: Global,
     start: usize,
     one: Worth,
     by: Option<(u64, IntegerType)>,
+    all: Option<(u64, IntegerType)>,
 ) -> Result<Worth, CFault>
-    ensures { Gives worth_of result (values.rest start (worth_of one) by) }
+    ensures { Gives worth_of result (values.rest start (worth_of one) by all) }
 {
     let Some((number, kind)) = by else {
         return Err(CFault::Outside(start, Reason::Rest));
     };
     if !is_power(number) || !has_rest(&one, kind) {
-        return Err(CFault::Outside(start, Reason::Rest));
+        return known(start, all, Reason::Rest);
     }
     let joined = joined(one.kind, kind);
     let value = form2(alloc, "&", one.value, Value::from(number - 1))?;
@@ -297,6 +553,79 @@ fn indexed(
     }
 }
 
+/// Whether each of two values reads no cell, and makes no choice.
+fn are_settled(scope: &Scope<'_>, one: &Expr, other: &Expr) -> bool
+    ensures { result ≡ (values.is_settled scope.now (expr_of one.now) && values.is_settled scope.now (expr_of other.now)) }
+{
+    is_settled(scope, one) && is_settled(scope, other)
+}
+
+/// A choice by a test, where what C leaves out may not be computed.
+fn left_out(start: usize, test: Result<Worth, CFault>) -> Result<Worth, CFault>
+    ensures { (t r s : Valued) → Gives worth_of test t
+        → Gives worth_of result (values.choice_of start t r s false) }
+{
+    test?;
+    Err(CFault::Outside(start, Reason::LeftOut))
+}
+
+/// A choice by a test, where both may be computed. `other` and `again` are the same.
+fn choice(
+    alloc: Global,
+    start: usize,
+    test: Result<Worth, CFault>,
+    one: Result<Worth, CFault>,
+    other: Result<Worth, CFault>,
+    again: Result<Worth, CFault>,
+) -> Result<Worth, CFault>
+    ensures { (t r s : Valued) → Gives worth_of test t → Gives worth_of one r → Gives worth_of other s
+        → Gives worth_of again s → Gives worth_of result (values.choice_of start t r s true) }
+{
+    chosen(alloc, start, test?, one?, other?, again?)
+}
+
+/// What a function says of two values.
+fn called(
+    alloc: Global,
+    call: Call,
+    one: Result<Worth, CFault>,
+    two: Result<Worth, CFault>,
+) -> Result<Worth, CFault>
+    ensures { (r s : Valued) → Gives worth_of one r → Gives worth_of two s
+        → Gives worth_of result (values.called call r s) }
+{
+    Ok(word(form2(alloc, call_word(call), one?.value, two?.value)?))
+}
+
+/// Two values by a way. The second may be a constant, or both; it may be left out if it is settled.
+fn by_way(
+    alloc: Global,
+    start: usize,
+    way: Way,
+    one: Result<Worth, CFault>,
+    two: Result<Worth, CFault>,
+    by: Option<(u64, IntegerType)>,
+    all: Option<(u64, IntegerType)>,
+    settled: bool,
+) -> Result<Worth, CFault>
+    ensures { (r s : Valued) → Gives worth_of one r → Gives worth_of two s
+        → Gives worth_of result (values.by_way start way r s by all settled) }
+{
+    match way {
+        Way::Known => known(start, all, Reason::Quotient),
+        Way::Rest => rest(alloc, start, one?, by, all),
+        Way::Shift => shifted(alloc, start, one?, by, all),
+        Way::Lazy(basic) => {
+            let one = one?;
+            if !settled {
+                return Err(CFault::Outside(start, Reason::LeftOut));
+            }
+            lazily(alloc, start, basic, one, two?)
+        }
+        Way::Plain(manner, basic) => meant(alloc, start, manner, basic, one?, two?),
+    }
+}
+
 /// A value.
 #[cycle(value)]
 #[tactic(auto, unfolding(crate::specs::Values::value))]
@@ -306,20 +635,34 @@ pub fn value(alloc: Global, scope: &Scope<'_>, start: usize, expr: &Expr) -> Res
     match expr {
         Expr::Number(number, kind) => Ok(whole(Value::from(*number), *kind)),
         Expr::Variable(name) => named(alloc, scope, start, *name),
-        Expr::Cell(array, index) => indexed(alloc, scope, start, *array, index),
+        Expr::Cell(array, index) => {
+            untouched(scope, start, *array, index)?;
+            indexed(alloc, scope, start, *array, index)
+        }
         Expr::Cast(inner) => Ok(word(value(alloc, scope, start, inner)?.value)),
+        Expr::Unary(sign, inner) => signed(alloc, start, *sign, value(alloc, scope, start, inner)?),
+        Expr::Choice(test, one, other) => {
+            let test = value(alloc, scope, start, test);
+            if !are_settled(scope, one, other) {
+                return left_out(start, test);
+            }
+            let one = value(alloc, scope, start, one);
+            let first = value(alloc, scope, start, other);
+            let again = value(alloc, scope, start, other);
+            choice(alloc, start, test, one, first, again)
+        }
         Expr::Call(call, one, two) => {
-            let one = value(alloc, scope, start, one)?;
-            let two = value(alloc, scope, start, two)?;
-            Ok(word(form2(alloc, call_word(*call), one.value, two.value)?))
+            let one = value(alloc, scope, start, one);
+            let two = value(alloc, scope, start, two);
+            called(alloc, *call, one, two)
         }
         Expr::Op(sign, one, two) => {
-            let one = value(alloc, scope, start, one)?;
-            if is_rest(*sign) {
-                return rest(alloc, start, one, constant(scope, two));
-            }
-            let two = value(alloc, scope, start, two)?;
-            applied(alloc, start, *sign, one, two)
+            let by = constant(scope, two);
+            let all = both(*sign, constant(scope, one), by);
+            let settled = is_settled(scope, two);
+            let one = value(alloc, scope, start, one);
+            let two = value(alloc, scope, start, two);
+            by_way(alloc, start, way_of(*sign), one, two, by, all, settled)
         }
     }
 }

@@ -2,3 +2,5 @@ pub mod Signs
 pub mod Tree
 pub mod Reading
 pub mod Clauses
+pub mod Spelling
+pub mod Laws

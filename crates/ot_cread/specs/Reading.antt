@@ -1,5 +1,5 @@
 -- Reading values from left to right, with the first fault that is met.
-use Rattle.std.specs.Prelude.{◌≡◌, ℕ, zero, suc, ◌+◌, Bool, true, false, List, ◌∷◌, length, Option, Some, None, Result, Ok, Err, if◌then◌else◌}
+use Rattle.std.specs.Prelude.{◌≡◌, ℕ, zero, suc, ◌+◌, nat_le, Bool, true, false, List, ◌∷◌, length, Option, Some, None, Result, Ok, Err, if◌then◌else◌}
 use Rattle.ot_words.specs.declared.known.Known.TheVariants as k
 use Rattle.ot_words.specs.declared.mark.Mark.TheVariants as m
 use Rattle.ot_words.specs.declared.word.Name.{Name}
@@ -10,11 +10,14 @@ use Rattle.ot_cread.specs.declared.fault.Fault.{Fault}
 use Rattle.ot_cread.specs.declared.fault.Fault.TheVariants.{NoValue, NoMark, NoName, TooDeep}
 use Rattle.ot_cread.specs.declared.fault.ReadError.{ReadError}
 use Rattle.ot_cread.specs.declared.fault.ReadError.TheVariants as errors
+use Rattle.ot_cread.specs.declared.sign.Begin.{Begin}
+use Rattle.ot_cread.specs.declared.sign.Begin.TheVariants as begins
 use Rattle.ot_cread.specs.declared.sign.Sign.{Sign}
+use Rattle.ot_cread.specs.declared.sign.Unary.{Unary}
 use Rattle.ot_cread.specs.declared.tree.Call.{Call}
 use Rattle.ot_cread.specs.declared.tree.Call.TheVariants as c
-use Rattle.ot_cread.specs.Signs.{binds, front_sign}
-use Rattle.ot_cread.specs.Tree.{E, Literal, Variable, CellAt, Unsigned, Called, Apply}
+use Rattle.ot_cread.specs.Signs.{binds, begin_of, front_sign}
+use Rattle.ot_cread.specs.Tree.{E, Literal, Variable, CellAt, Unsigned, Signed, Called, Apply, Choose}
 
 infixl 10 ◌>>=◌
 abbrev pub ◌>>=◌ : {A B : Type 0} → Result A Fault → (A → Result B Fault) → Result B Fault
@@ -78,9 +81,9 @@ unfoldable pub is_unsigned : Name → Bool
 is_unsigned (n.Known k.Word64) = true
 is_unsigned _ = false
 
--- behind `uint64_t ) (`
+-- behind `uint64_t )`
 unfoldable pub cast_end : List Word → Option (List Word)
-cast_end (w.Name n ∷ w.Mark m.Close ∷ w.Mark m.Open ∷ ws) = if is_unsigned n then Some ws else None
+cast_end (w.Name n ∷ w.Mark m.Close ∷ ws) = if is_unsigned n then Some ws else None
 cast_end _ = None
 
 unfoldable pub indexed_at : (ℕ → List Word → Read) → Name → List Word → Read
@@ -103,20 +106,31 @@ abbrev pub name_or_call : (ℕ → List Word → Read) → Option Call → Name 
 name_or_call inner (Some call) n ws = called_at inner call ws
 name_or_call inner None n ws = named_at inner n ws
 
+-- more tightly than any sign between two values binds one before a value, and a type in brackets
+abbrev pub tightest : ℕ
+tightest = 12
+
+abbrev pub cast_or_closed : (ℕ → List Word → Read) → List Word → Option (List Word) → Read
+cast_or_closed inner ws (Some rest) = inner tightest rest >>= λ x. Ok (Unsigned x.0, x.1)
+cast_or_closed inner ws None = inner 1 ws >>= λ x. close_at x.1 >>= λ rest. Ok (x.0, rest)
+
+-- behind a bracket: a type and a value, or a value and the bracket's end
 unfoldable pub bracket_at : (ℕ → List Word → Read) → List Word → Read
-bracket_at inner ws = inner 1 ws >>= λ x. close_at x.1 >>= λ rest. Ok (x.0, rest)
+bracket_at inner ws = cast_or_closed inner ws (cast_end ws)
 
-unfoldable pub cast_at : (ℕ → List Word → Read) → List Word → Read
-cast_at inner ws = inner 1 ws >>= λ x. close_at x.1 >>= λ rest. Ok (Unsigned x.0, rest)
+-- behind a sign before a value
+unfoldable pub prefixed_at : (ℕ → List Word → Read) → Unary → List Word → Read
+prefixed_at inner sign ws = inner tightest ws >>= λ x. Ok (Signed sign x.0, x.1)
 
-abbrev pub bracket_or_cast : (ℕ → List Word → Read) → Option (List Word) → List Word → Read
-bracket_or_cast inner (Some rest) ws = cast_at inner rest
-bracket_or_cast inner None ws = bracket_at inner ws
+abbrev pub marked_at : (ℕ → List Word → Read) → Option Begin → List Word → List Word → Read
+marked_at inner (Some begins.Bracket) ws rest = bracket_at inner rest
+marked_at inner (Some (begins.Sign sign)) ws rest = prefixed_at inner sign rest
+marked_at inner None ws rest = Err (NoValue (length ws))
 
 unfoldable pub operand_at : (ℕ → List Word → Read) → List Word → Read
 operand_at inner (w.Number n t ∷ ws) = Ok (Literal n t, ws)
 operand_at inner (w.Name n ∷ ws) = name_or_call inner (call_of n) n ws
-operand_at inner (w.Mark m.Open ∷ ws) = bracket_or_cast inner (cast_end ws) ws
+operand_at inner (w.Mark mark ∷ ws) = marked_at inner (begin_of mark) (w.Mark mark ∷ ws) ws
 operand_at inner ws = Err (NoValue (length ws))
 
 -- ---- values
@@ -134,6 +148,23 @@ unfoldable pub more_at : (ℕ → List Word → Read) → ℕ → ℕ → E → 
 more_at inner zero least left ws = too_long left ws (front_sign least ws)
 more_at inner (suc t) least left ws = go_on inner (more_at inner t least) left ws (front_sign least ws)
 
+-- behind `?`, where a choice may stand
+unfoldable pub question_at : ℕ → List Word → Option (List Word)
+question_at least (w.Mark m.Question ∷ ws) = if nat_le least 1 then Some ws else None
+question_at least ws = None
+
+abbrev pub chosen : (ℕ → List Word → Read) → E → List Word → Option (List Word) → Read
+chosen inner test ws None = Ok (test, ws)
+chosen inner test ws (Some rest) = do
+  one ← inner 1 rest
+  behind ← colon_at one.1
+  other ← inner 1 behind
+  Ok (Choose test one.0 other.0, other.1)
+
+-- a choice that a test begins, or the test alone
+unfoldable pub choice_at : (ℕ → List Word → Read) → ℕ → E → List Word → Read
+choice_at inner least test ws = chosen inner test ws (question_at least ws)
+
 unfoldable pub value_at : ℕ → ℕ → List Word → Read
 value_at zero least ws = Err (TooDeep (length ws))
-value_at (suc d) least ws = operand_at (value_at d) ws >>= λ x. more_at (value_at d) 24 least x.0 x.1
+value_at (suc d) least ws = operand_at (value_at d) ws >>= λ x. more_at (value_at d) 24 least x.0 x.1 >>= λ y. choice_at (value_at d) least y.0 y.1

@@ -3,6 +3,7 @@ use Rattle.std.specs.Prelude.{ℕ, List, map, Option, Some, None}
 use Rattle.ot_words.specs.declared.word.IntegerType.{IntegerType}
 use Rattle.ot_words.specs.declared.word.Name.{Name}
 use Rattle.ot_cread.specs.declared.sign.Sign.{Sign}
+use Rattle.ot_cread.specs.declared.sign.Unary.{Unary}
 use Rattle.ot_cread.specs.declared.tree.Call.{Call}
 use Rattle.ot_cread.specs.declared.tree.Expr.{Expr}
 use Rattle.ot_cread.specs.declared.tree.Expr.TheVariants as v
@@ -18,16 +19,20 @@ pub data E : Type 0 where
   Variable : Name → E
   CellAt : Name → E → E
   Unsigned : E → E
+  Signed : Unary → E → E
   Called : Call → E → E → E
   Apply : Sign → E → E → E
+  Choose : E → E → E → E
 
 abbrev pub expr_of : Expr → E
 expr_of (v.Number n t) = Literal n t
 expr_of (v.Variable x) = Variable x
 expr_of (v.Cell' a p i) = CellAt a (expr_of i)
 expr_of (v.Cast' p e) = Unsigned (expr_of e)
+expr_of (v.Unary' u p e) = Signed u (expr_of e)
 expr_of (v.Call' c p a q b) = Called c (expr_of a) (expr_of b)
 expr_of (v.Op' o p a q b) = Apply o (expr_of a) (expr_of b)
+expr_of (v.Choice' p t q a r b) = Choose (expr_of t) (expr_of a) (expr_of b)
 
 -- ---- clauses
 

@@ -3,6 +3,7 @@
 
 mod clause;
 mod fault;
+pub mod laws;
 mod marks;
 mod sign;
 mod tree;
@@ -10,6 +11,6 @@ mod value;
 
 pub use clause::read_clauses;
 pub use fault::{Fault, ReadError};
-pub use sign::Sign;
+pub use sign::{Sign, Unary};
 pub use tree::{Call, Clause, Expr, Item, Operation, Place, Range, Role};
 pub use value::read_value;

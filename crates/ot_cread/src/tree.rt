@@ -1,5 +1,5 @@
 //! What words say.
-use crate::sign::Sign;
+use crate::sign::{Sign, Unary};
 use ot_words::{IntegerType, Name};
 
 /// A function that a value calls.
@@ -17,10 +17,13 @@ pub enum Expr {
     Variable(Name),
     /// A cell of an array: any value may stand for its place.
     Cell(Name, Box<Expr>),
-    /// `(uint64_t)(..)`
+    /// `(uint64_t)` before a value
     Cast(Box<Expr>),
+    Unary(Unary, Box<Expr>),
     Call(Call, Box<Expr>, Box<Expr>),
     Op(Sign, Box<Expr>, Box<Expr>),
+    /// `test ? one : other`
+    Choice(Box<Expr>, Box<Expr>, Box<Expr>),
 }
 
 /// What a reduction combines by (OpenMP API 5.2, section 5.5.5).

@@ -2,12 +2,12 @@
 ghost use Rattle.std.specs.Prelude.{◌≡◌, ◌≤◌};
 ghost use Rattle.ot_cread.specs.Signs.{found};
 ghost use Rattle.ot_cread.specs.Tree.{expr_of};
-ghost use Rattle.ot_cread.specs.Reading.{Gives, operand_at, indexed_at, named_at, called_at, bracket_at, cast_at, more_at, value_at};
+ghost use Rattle.ot_cread.specs.Reading.{Gives, operand_at, named_at, called_at, bracket_at, prefixed_at, more_at, choice_at, value_at};
 ghost use Rattle.ot_cread.specs.Reading as read;
 
 use crate::fault::{Fault, ReadError};
-use crate::marks::{close, close_index, comma, open_bracket};
-use crate::sign::{binds, front_sign};
+use crate::marks::{close, close_index, colon, comma, open_bracket};
+use crate::sign::{Begin, Unary, begin_of, binds, front_sign};
 use crate::tree::{Call, Expr};
 use ot_words::{Known, Mark, Name, Word};
 use std::alloc::Global;
@@ -17,6 +17,9 @@ const MAX_DEPTH: u32 = 48;
 
 /// How many signs stand in a row.
 const MAX_SIGNS: u32 = 24;
+
+/// More tightly than any sign between two values binds one before a value.
+const TIGHTEST: u32 = 12;
 
 #[tactic(auto, unfolding(crate::specs::Reading::call_of))]
 fn call_of(name: Name) -> Option<Call>
@@ -36,18 +39,15 @@ fn is_unsigned(name: Name) -> bool
     matches!(name, Name::Known(Known::Word64))
 }
 
-/// Behind `uint64_t ) (`.
+/// Behind `uint64_t )`.
 #[tactic(auto, unfolding(crate::specs::Reading::cast_end))]
 fn cast_end(words: &[Word]) -> Option<&[Word]>
     ensures { found (λ x. x.now) result ≡ read.cast_end words.now }
 {
     match words {
-        [
-            Word::Name(name),
-            Word::Mark(Mark::Close),
-            Word::Mark(Mark::Open),
-            rest @ ..,
-        ] => { if is_unsigned(*name) { Some(rest) } else { None } }
+        [Word::Name(name), Word::Mark(Mark::Close), rest @ ..] => {
+            if is_unsigned(*name) { Some(rest) } else { None }
+        }
         _ => None,
     }
 }
@@ -95,28 +95,40 @@ fn called(
     Ok((expr, rest))
 }
 
-/// Behind a bracket.
+/// Behind a bracket: a type and a value, or a value and the bracket's end.
 #[cycle(value)]
 #[tactic(auto, unfolding(crate::specs::Reading::bracket_at))]
 fn bracket(alloc: Global, depth: u32, words: &[Word]) -> Result<(Expr, &[Word]), ReadError>
     requires { depth ≤ 48 }
     ensures { Gives (λ x. (expr_of x.0, x.1.now)) result (bracket_at (value_at depth) words.now) }
 {
-    let (expr, rest) = value(alloc, depth, 1, words)?;
-    let rest = close(rest)?;
-    Ok((expr, rest))
+    match cast_end(words) {
+        Some(rest) => {
+            let (expr, rest) = value(alloc, depth, TIGHTEST, rest)?;
+            Ok((Expr::Cast(Box::new(alloc, expr)?), rest))
+        }
+        None => {
+            let (expr, rest) = value(alloc, depth, 1, words)?;
+            let rest = close(rest)?;
+            Ok((expr, rest))
+        }
+    }
 }
 
-/// Behind `(uint64_t)(`.
+/// Behind a sign before a value.
 #[cycle(value)]
-#[tactic(auto, unfolding(crate::specs::Reading::cast_at))]
-fn cast(alloc: Global, depth: u32, words: &[Word]) -> Result<(Expr, &[Word]), ReadError>
+#[tactic(auto, unfolding(crate::specs::Reading::prefixed_at))]
+fn prefixed(
+    alloc: Global,
+    depth: u32,
+    sign: Unary,
+    words: &[Word],
+) -> Result<(Expr, &[Word]), ReadError>
     requires { depth ≤ 48 }
-    ensures { Gives (λ x. (expr_of x.0, x.1.now)) result (cast_at (value_at depth) words.now) }
+    ensures { Gives (λ x. (expr_of x.0, x.1.now)) result (prefixed_at (value_at depth) sign words.now) }
 {
-    let (expr, rest) = value(alloc, depth, 1, words)?;
-    let rest = close(rest)?;
-    Ok((Expr::Cast(Box::new(alloc, expr)?), rest))
+    let (expr, rest) = value(alloc, depth, TIGHTEST, words)?;
+    Ok((Expr::Unary(sign, Box::new(alloc, expr)?), rest))
 }
 
 #[cycle(value)]
@@ -131,9 +143,10 @@ fn operand(alloc: Global, depth: u32, words: &[Word]) -> Result<(Expr, &[Word]),
             Some(call) => called(alloc, depth, call, rest),
             None => named(alloc, depth, *name, rest),
         },
-        [Word::Mark(Mark::Open), rest @ ..] => match cast_end(rest) {
-            Some(rest) => cast(alloc, depth, rest),
-            None => bracket(alloc, depth, rest),
+        [Word::Mark(mark), rest @ ..] => match begin_of(*mark) {
+            Some(Begin::Bracket) => bracket(alloc, depth, rest),
+            Some(Begin::Sign(sign)) => prefixed(alloc, depth, sign, rest),
+            None => Err(ReadError::Fault(Fault::NoValue(words.len()))),
         },
         _ => Err(ReadError::Fault(Fault::NoValue(words.len()))),
     }
@@ -165,6 +178,44 @@ fn more(
     more(alloc, depth, turns - 1, least, both, rest)
 }
 
+/// What stands behind `?`, where such a choice may stand.
+#[tactic(auto, unfolding(crate::specs::Reading::question_at))]
+fn question(least: u32, words: &[Word]) -> Option<&[Word]>
+    ensures { found (λ x. x.now) result ≡ read.question_at least words.now }
+{
+    match words {
+        [Word::Mark(Mark::Question), rest @ ..] => { if least <= 1 { Some(rest) } else { None } }
+        _ => None,
+    }
+}
+
+/// A choice that a test begins, or the test alone.
+#[cycle(value)]
+#[tactic(auto, unfolding(crate::specs::Reading::choice_at))]
+fn choice(
+    alloc: Global,
+    depth: u32,
+    least: u32,
+    test: Expr,
+    words: &[Word],
+) -> Result<(Expr, &[Word]), ReadError>
+    requires { depth ≤ 48 }
+    ensures { Gives (λ x. (expr_of x.0, x.1.now)) result (choice_at (value_at depth) least (expr_of test) words.now) }
+{
+    let Some(rest) = question(least, words) else {
+        return Ok((test, words));
+    };
+    let (one, rest) = value(alloc, depth, 1, rest)?;
+    let rest = colon(rest)?;
+    let (other, rest) = value(alloc, depth, 1, rest)?;
+    let expr = Expr::Choice(
+        Box::new(alloc, test)?,
+        Box::new(alloc, one)?,
+        Box::new(alloc, other)?,
+    );
+    Ok((expr, rest))
+}
+
 #[cycle(value)]
 #[tactic(auto, unfolding(crate::specs::Reading::value_at))]
 fn value(
@@ -180,7 +231,8 @@ fn value(
         return Err(ReadError::Fault(Fault::TooDeep(words.len())));
     }
     let (first, rest) = operand(alloc, depth - 1, words)?;
-    more(alloc, depth - 1, MAX_SIGNS, least, first, rest)
+    let (expr, rest) = more(alloc, depth - 1, MAX_SIGNS, least, first, rest)?;
+    choice(alloc, depth - 1, least, expr, rest)
 }
 
 /// The value at the front, and the words behind it.

@@ -53,7 +53,16 @@ file_reason (f.OtherVariable n) = codes "a loop tests and steps the variable tha
 file_reason (f.OtherStep n) = codes "a loop goes on by one"
 file_reason other = statement_reason other
 
--- why a directive has no form in the language, or what stands for a function or a pointer
+-- why a pointer or a function has no form in the language
+abbrev pub name_reason : Reason → List ℕ
+name_reason why.Pointer = codes "a pointer only stands for a cell that a reduction names by it"
+name_reason why.Pointee = codes "a pointer points to one cell, at a number, wherever it is declared"
+name_reason why.NoDependence = codes "in_reduction by a pointer wants its cell under depend(in: ..)"
+name_reason why.CallInGroup = codes "a function is called here while a group combines"
+name_reason why.TooMany = codes "a program has at most 20000 statements"
+name_reason _ = codes "this function isn't judged here"
+
+-- why a directive has none
 abbrev pub directive_reason : Reason → List ℕ
 directive_reason why.Combined = codes "an open group combines over this, and the task has no copy of it"
 directive_reason why.OwnCopy = codes "a task's copy is only folded into, by its operation"
@@ -62,8 +71,7 @@ directive_reason why.Operations = codes "a group combines by one operation"
 directive_reason why.Private = codes "only a loop's variable is firstprivate"
 directive_reason why.Iterator = codes "an iterator counts single cells, as in a[i]"
 directive_reason why.NoRegion = codes "tasks, waits and groups stand in a parallel region"
-directive_reason why.Pointer = codes "pointers aren't judged"
-directive_reason _ = codes "functions aren't judged"
+directive_reason other = name_reason other
 
 -- why what is named has none
 abbrev pub use_reason : Reason → List ℕ
@@ -74,6 +82,9 @@ use_reason why.Constant = codes "a constant is read only, and no cell"
 use_reason why.Wraps = codes "numbers of type unsigned may wrap here"
 use_reason why.Signed = codes "numbers that may be negative are compared here"
 use_reason why.Rest = codes "% is by a power of two, or in an array's index"
+use_reason why.Shift = codes "<< is of a uint64_t, by a known number below 64, or of known numbers"
+use_reason why.Quotient = codes "/ and >> are of numbers that are known"
+use_reason why.LeftOut = codes "what && || ?: may leave out here reads no cell and has no ?:"
 use_reason other = directive_reason other
 
 -- why a file has no program

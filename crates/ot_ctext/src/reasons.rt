@@ -102,6 +102,9 @@ fn use_reason(reason: Reason) -> &'static str
         Reason::Wraps => "numbers of type unsigned may wrap here",
         Reason::Signed => "numbers that may be negative are compared here",
         Reason::Rest => "% is by a power of two, or in an array's index",
+        Reason::Shift => "<< is of a uint64_t, by a known number below 64, or of known numbers",
+        Reason::Quotient => "/ and >> are of numbers that are known",
+        Reason::LeftOut => "what && || ?: may leave out here reads no cell and has no ?:",
         _ => directive_reason(reason),
     }
 }
@@ -117,7 +120,19 @@ fn directive_reason(reason: Reason) -> &'static str
         Reason::Private => "only a loop's variable is firstprivate",
         Reason::Iterator => "an iterator counts single cells, as in a[i]",
         Reason::NoRegion => "tasks, waits and groups stand in a parallel region",
-        Reason::Pointer => "pointers aren't judged",
-        _ => "functions aren't judged",
+        _ => name_reason(reason),
+    }
+}
+
+fn name_reason(reason: Reason) -> &'static str
+    ensures { result.now ≡ meant.name_reason reason }
+{
+    match reason {
+        Reason::Pointer => "a pointer only stands for a cell that a reduction names by it",
+        Reason::Pointee => "a pointer points to one cell, at a number, wherever it is declared",
+        Reason::NoDependence => "in_reduction by a pointer wants its cell under depend(in: ..)",
+        Reason::CallInGroup => "a function is called here while a group combines",
+        Reason::TooMany => "a program has at most 20000 statements",
+        _ => "this function isn't judged here",
     }
 }

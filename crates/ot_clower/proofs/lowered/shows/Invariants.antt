@@ -1,6 +1,6 @@
 use Rattle.std.proofs.Common.{◌≡◌, ◌++◌, drop, map}
 use Rattle.serde_json.specs.View.{view}
-use Rattle.ot_clower.specs.Arrays.{array_of}
+use Rattle.ot_cdeclare.specs.Arrays.{array_of}
 use Rattle.ot_clower.specs.Files.{shown}
 use Rattle.ot_clower.proofs.lowered.shows.Given as goal
 

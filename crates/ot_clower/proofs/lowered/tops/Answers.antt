@@ -1,25 +1,24 @@
 use Rattle.std.proofs.lemmas.Result.{err_from_is_err_and}
 use Rattle.ot_cfile.specs.Program.{top_of, tops_of}
-use Rattle.ot_clower.specs.Arrays.{declared_of}
-use Rattle.ot_clower.specs.Files.{top_step, tops}
-use Rattle.ot_clower.proofs.EachLemmas.{each_more, each_fails, each_last}
+use Rattle.ot_clower.specs.Files.{before_of, top_step, tops}
+use Rattle.ot_cdeclare.proofs.EachLemmas.{each_more, each_fails, each_last}
 use Rattle.ot_clower.proofs.lowered.tops.Goals as goal
 
-pub returns-in_err-declared : goal.returns-in_err-declared
-returns-in_err-declared c =
+pub returns-in_err-before : goal.returns-in_err-before
+returns-in_err-before c =
     let l = c.loop-top in
     let w = c.args.words.now in
-    let p = err_from_is_err_and c.from_residual-in_err-declared.result c.from_residual-in_err-declared.ensures.1 in
-    rw (p.1, p.2) (each_fails (top_step w.names.keys w.starts.items) top_of c.args.tops.now l.top-index c.top-item.result (declared_of l.declared) (tops w.names.keys w.starts.items (tops_of c.args.tops.now)) c.in_err-declared.field-0.0 c.loop-top-test.true c.top-item.is l.invariant c.in_err-declared.ensures)
+    let p = err_from_is_err_and c.from_residual-in_err-before.result c.from_residual-in_err-before.ensures.1 in
+    rw (p.1, p.2) (each_fails (top_step w.names.keys w.starts.items) top_of c.args.tops.now l.top-index c.top-item.result (before_of l.before) (tops w.names.keys w.starts.items (tops_of c.args.tops.now)) c.in_err-before.field-0.0 c.loop-top-test.true c.top-item.is l.invariant c.in_err-before.ensures)
 
 pub loop-top-preserved : goal.loop-top-preserved
 loop-top-preserved c =
     let l = c.loop-top in
     let w = c.args.words.now in
-    each_more (top_step w.names.keys w.starts.items) top_of c.args.tops.now l.top-index c.top-item.result (declared_of l.declared) (declared_of c.in_ok-declared.declared) (tops w.names.keys w.starts.items (tops_of c.args.tops.now)) c.loop-top-test.true c.top-item.is l.invariant c.in_ok-declared.ensures
+    each_more (top_step w.names.keys w.starts.items) top_of c.args.tops.now l.top-index c.top-item.result (before_of l.before) (before_of c.in_ok-before.before) (tops w.names.keys w.starts.items (tops_of c.args.tops.now)) c.loop-top-test.true c.top-item.is l.invariant c.in_ok-before.ensures
 
 pub returns : goal.returns
 returns c =
     let l = c.loop-top in
     let w = c.args.words.now in
-    each_last (top_step w.names.keys w.starts.items) top_of c.args.tops.now l.top-index (declared_of l.declared) (tops w.names.keys w.starts.items (tops_of c.args.tops.now)) c.loop-top-test.false l.invariant
+    each_last (top_step w.names.keys w.starts.items) top_of c.args.tops.now l.top-index (before_of l.before) (tops w.names.keys w.starts.items (tops_of c.args.tops.now)) c.loop-top-test.false l.invariant

@@ -3,7 +3,7 @@ use Rattle.ot_cread.specs.Tree.{expr_of}
 use Rattle.ot_cstatement.specs.Tree.{exprs_of}
 use Rattle.ot_clower.specs.Lines.{lines_of}
 use Rattle.ot_clower.specs.Statements.{read_step, print}
-use Rattle.ot_clower.proofs.EachLemmas.{each_more, each_fails, each_last}
+use Rattle.ot_cdeclare.proofs.EachLemmas.{each_more, each_fails, each_last}
 use Rattle.ot_clower.proofs.statements.print.Goals as goal
 
 pub returns-in_err-lines : goal.returns-in_err-lines

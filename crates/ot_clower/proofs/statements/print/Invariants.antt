@@ -1,6 +1,6 @@
 use Rattle.std.proofs.Common.{◌≡◌, drop}
 use Rattle.ot_cstatement.specs.Tree.{exprs_of}
-use Rattle.ot_clower.specs.Each.{each}
+use Rattle.ot_cdeclare.specs.Each.{each}
 use Rattle.ot_clower.specs.Lines.{lines_of}
 use Rattle.ot_clower.specs.Statements.{read_step, print}
 use Rattle.ot_clower.proofs.statements.print.Given as goal

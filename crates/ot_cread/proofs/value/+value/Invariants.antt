@@ -13,8 +13,11 @@ decreases-called l = 32 * l.depth + 1
 abbrev pub decreases-bracket : goal.decreases-bracket
 decreases-bracket l = 32 * l.depth + 1
 
-abbrev pub decreases-cast : goal.decreases-cast
-decreases-cast l = 32 * l.depth + 1
+abbrev pub decreases-prefixed : goal.decreases-prefixed
+decreases-prefixed l = 32 * l.depth + 1
+
+abbrev pub decreases-choice : goal.decreases-choice
+decreases-choice l = 32 * l.depth + 1
 
 abbrev pub decreases-operand : goal.decreases-operand
 decreases-operand l = 32 * l.depth + 2

@@ -1,0 +1,163 @@
+//! Programs, and the lines about the texts that they stand for.
+use ot_cjudge::{CArray, Lowered, Report, Verdict, report_c};
+use serde_json::Value;
+use std::alloc::{AllocError, Global};
+use std::test::Fail;
+
+/// Statements stand at the bytes from 0 on.
+const TEXT: &str = "1234567890123456789012345678901234567890";
+
+/// What is ordered by `red` alone, in this order: a sibling behind in the group; one before the group, with and without a wait;
+/// a wait for the cell alone; folds beside one another.
+const REDUCTIONS: &str =
+    r#"[["group","+",[["x",0,1]],[["task",[["red","+",["x",0,1]]],[["fold","+",["c","x",0],1]]],["task",[["out",["x",0,1]]],[["set",["c","x",0],5]]]]]]|5 x 3
+[["task",[["out",["x",0,1]]],[["set",["c","x",0],5]]],["group","+",[["x",0,1]],[["task",[["red","+",["x",0,1]]],[["fold","+",["c","x",0],1]]]]]]|5 x 2
+[["task",[["out",["x",0,1]]],[["set",["c","x",0],5]]],["wait"],["group","+",[["x",0,1]],[["task",[["red","+",["x",0,1]]],[["fold","+",["c","x",0],1]]]]],["set",["c","a",0],["c","x",0]]]|
+[["group","+",[["x",0,1]],[["task",[["red","+",["x",0,1]],["out",["a",0,1]]],[["fold","+",["c","x",0],1],["set",["c","a",0],1]]],["wait",[["out",["x",0,1]]]],["set",["c","a",1],["c","a",0]]]]]|6 a[0] 4
+[["group","+",[["x",0,1]],[["for","i",0,4,[["task",[["red","+",["x",0,1]],["in",["a","i",1]]],[["fold","+",["c","x",0],["c","a","i"]]]]]]]],["set",["c","a",0],["c","x",0]]]|
+"#;
+
+/// What only another way has, in this order: a task in a body that the run leaves out; the same with a wait.
+const WAYS: &str =
+    r#"[["if",["c","x",0],[["task",[["out",["a",0,1]]],[["set",["c","a",0],7]]]],[]],["set",["c","a",0],5]]|4 a[0] 3
+[["if",["c","x",0],[["task",[["out",["a",0,1]]],[["set",["c","a",0],7]]],["wait"]],[]],["set",["c","a",0],5]]|
+"#;
+
+/// More ways than are judged, and more statements on them.
+const MANY: &str = r#"[["for","i",0,11,[["if",["c","x",0],[["set",["c","a",1],"i"]],[]]]]]
+[["for","i",0,10,[["if",["c","x",0],[["set",["c","a",1],"i"]],[]]]],["for","i",0,2000,[["set",["c","a",1],"i"]]]]
+"#;
+
+/// Items that overlap, with the column of the statement that is told: of siblings, of one task, in two turns, of a wait, one that
+/// reads before one that writes, two that write behind one that reads. Behind them items that don't, or of which none writes: of a
+/// child and its parent, the same ones, one that only folds, two that read.
+const ITEMS: &str =
+    r#"[["task",[["out",["a",0,2]]],[["set",["c","a",0],1]]],["task",[["in",["a",1,2]]],[]]]|3
+[["task",[["in",["a",0,2]],["inout",["a",1,2]]],[]]]|1
+[["for","i",0,2,[["task",[["out",["a","i",2]]],[["set",["c","a","i"],1]]]]]]|2
+[["task",[["out",["a",0,2]]],[["set",["c","a",0],1]]],["wait",[["in",["a",1,1]]]]]|3
+[["task",[["in",["a",0,2]]],[]],["task",[["out",["a",1,1]]],[["set",["c","a",1],1]]]]|1
+[["task",[["in",["a",0,3]]],[]],["task",[["out",["a",0,2]]],[["set",["c","a",0],1]]],["task",[["out",["a",1,1]]],[]]]|4
+[["task",[["out",["a",0,4]]],[["task",[["out",["a",0,1]]],[["set",["c","a",0],1]]],["wait"]]]]|
+[["task",[["out",["a",0,2]]],[["set",["c","a",0],1]]],["task",[["out",["a",0,2]]],[["set",["c","a",0],1]]],["task",[["out",["a",2,2]]],[]]]|
+[["group","+",[["a",0,4]],[["task",[["red","+",["a",0,2]]],[["fold","+",["c","a",0],1]]],["task",[["red","+",["a",1,2]]],[["fold","+",["c","a",1],1]]]]]]|
+[["task",[["in",["a",0,4]],["out",["x",0,1]]],[["set",["c","x",0],["c","a",0]]]],["task",[["in",["a",0,1]]],[]]]|
+"#;
+
+/// What is written about a text that this body stands for. It is None where the body can't be read.
+fn report_of(alloc: Global, body: &str) -> Result<Option<Report>, AllocError> {
+    let text = format!(in alloc; "[\"program2\",[[\"a\",0,4],[\"x\",0,1]],{body}]")?;
+    let Ok(program) = Value::from_str(alloc, text.as_str()) else {
+        return Ok(None);
+    };
+    let mut places = Vec::new(alloc);
+    for place in 0..40usize {
+        places.push(place)?;
+    }
+    let a = CArray {
+        name: String::from_str(alloc, "a")?,
+        cells: vec![in alloc; 1u64, 2, 3, 4]?,
+    };
+    let x = CArray {
+        name: String::from_str(alloc, "x")?,
+        cells: vec![in alloc; 0u64]?,
+    };
+    let lowered = Lowered {
+        arrays: vec![in alloc; a, x]?,
+        program,
+        places,
+    };
+    let report = report_c(alloc, "k.c", TEXT.as_bytes(), lowered)?;
+    Ok(Some(report))
+}
+
+/// Whether these lines are written of a body, with this verdict.
+fn tells(alloc: Global, body: &str, wanted: Verdict, lines: &str) -> Result<bool, AllocError> {
+    match report_of(alloc, body)? {
+        Some(report) => Ok(report.verdict == wanted && report.text.as_slice() == lines.as_bytes()),
+        None => Ok(false),
+    }
+}
+
+/// Whether a race of this cell is told, by the columns of both touches; or nothing where there is none.
+fn tells_race(alloc: Global, body: &str, row: &str, known: &str) -> Result<bool, AllocError> {
+    let Some((later, rest)) = row.split_once(" ") else {
+        return tells(alloc, body, Verdict::Clean, "");
+    };
+    let Some((cell, place)) = rest.split_once(" ") else {
+        return Ok(false);
+    };
+    let lines = format!(in alloc;
+        "k.c:1:{later}: error: {cell} is touched here while it may be touched at k.c:1:{place} [race]\nk.c:1:{place}: note: the other touch; {known}\n"
+    )?;
+    tells(alloc, body, Verdict::Races, lines.as_str())
+}
+
+#[test]
+fn reductions(rt: HostRuntime) -> Result<(), Fail> {
+    let alloc = rt.alloc();
+    let mut rows = 0u32;
+    for line in REDUCTIONS.lines() {
+        if let Some((body, row)) = line.split_once("|") {
+            let told = tells_race(
+                alloc,
+                body,
+                row,
+                "with these numbers nothing orders the two",
+            )?;
+            assert!(rt; told, "{line}");
+            rows = rows.wrapping_add(1);
+        }
+    }
+    assert!(rt; rows == 5);
+    Ok(())
+}
+
+#[test]
+fn ways(rt: HostRuntime) -> Result<(), Fail> {
+    let alloc = rt.alloc();
+    let mut rows = 0u32;
+    for line in WAYS.lines() {
+        if let Some((body, row)) = line.split_once("|") {
+            let told = tells_race(alloc, body, row, "some path has both")?;
+            assert!(rt; told, "{line}");
+            rows = rows.wrapping_add(1);
+        }
+    }
+    assert!(rt; rows == 2);
+    Ok(())
+}
+
+#[test]
+fn many_ways(rt: HostRuntime) -> Result<(), Fail> {
+    let alloc = rt.alloc();
+    let wanted =
+        "k.c: note: only the run with these numbers was judged: there are too many paths\n";
+    for body in MANY.lines() {
+        let told = tells(alloc, body, Verdict::Clean, wanted)?;
+        assert!(rt; told, "{body}");
+    }
+    Ok(())
+}
+
+#[test]
+fn items(rt: HostRuntime) -> Result<(), Fail> {
+    let alloc = rt.alloc();
+    let mut rows = 0u32;
+    for line in ITEMS.lines() {
+        if let Some((body, column)) = line.split_once("|") {
+            let told = if column.is_empty() {
+                tells(alloc, body, Verdict::Clean, "")?
+            } else {
+                let lines = format!(in alloc;
+                    "k.c:1:{column}: error: an item of a depend clause overlaps in part with another one of this task or of a sibling [outside]\n"
+                )?;
+                tells(alloc, body, Verdict::Outside, lines.as_str())?
+            };
+            assert!(rt; told, "{line}");
+            rows = rows.wrapping_add(1);
+        }
+    }
+    assert!(rt; rows == 10);
+    Ok(())
+}

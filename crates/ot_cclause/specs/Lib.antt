@@ -1,0 +1,4 @@
+pub mod Operations
+pub mod Sections
+pub mod Owns
+pub mod Clauses

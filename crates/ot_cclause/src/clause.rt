@@ -1,0 +1,438 @@
+//! Clauses of tasks, waits and groups.
+ghost use Rattle.std.specs.Prelude.{◌≡◌, ◌++◌, IfOk, map};
+ghost use Rattle.serde_json.specs.View.{view};
+ghost use Rattle.ot_cread.specs.Tree.{item_of, items_of, over_of, part_of, clause_of, clauses_of};
+ghost use Rattle.ot_cmeaning.specs.Results.{Gives};
+ghost use Rattle.ot_cclause.specs.Clauses.{Head, head_of};
+ghost use Rattle.ot_cdeclare.specs.Each.{each};
+ghost use Rattle.ot_cclause.specs.Clauses as meant;
+
+use crate::own::{Own, are_named, is_run, name_all, own_count};
+use crate::section::{cells_named, no_cells, part, pointed, section};
+use crate::words::{is_same, operation_word};
+use ot_cmeaning::{CFault, Opening, Pointee, Reason, Scope, Sense, json};
+use ot_cread::{Clause, Item, Operation, Range, Role};
+use ot_words::Name;
+use serde_json::Value;
+use std::alloc::{AllocError, Global};
+
+/// What clauses say: clauses of the language, or a group's sections; what names mean behind them; and the cells that the
+/// task folds into by pointers.
+#[derive(Drop)]
+pub struct Heading<'a> {
+    pub clauses: Vec<Value>,
+    pub scope: Scope<'a>,
+    own: Vec<Own>,
+}
+
+fn is_in(role: Role) -> bool
+    ensures { result ≡ meant.is_in role }
+{
+    matches!(role, Role::In)
+}
+
+/// An item under `in`, `out` or `inout`. Where the task folds into its cells by pointers, `red` says all that `in` does.
+fn depends<'a>(
+    alloc: Global,
+    start: usize,
+    mut heading: Heading<'a>,
+    role: Role,
+    word: &str,
+    over: &Option<Range>,
+    item: &Item,
+) -> Result<Heading<'a>, CFault>
+    ensures { Gives head_of result (meant.depends start (head_of heading.entry) role word.now (over_of over.now) (item_of item.now)) }
+{
+    let cells = cells_named(&heading.scope, over, item);
+    let count = own_count(item.array, cells, &heading.own);
+    if count == 0 {
+        let section = section(alloc, &heading.scope, start, over, item)?;
+        heading.clauses.push(json::form1(alloc, word, section)?)?;
+        return Ok(heading);
+    }
+    if !is_in(role) || !is_run(cells, count) {
+        return Err(CFault::Outside(start, Reason::Combined));
+    }
+    Ok(Heading {
+        clauses: heading.clauses,
+        scope: heading.scope,
+        own: name_all(alloc, item.array, cells, heading.own)?,
+    })
+}
+
+/// The name of an item, where it is one among those of the text.
+fn number_of(name: Name) -> usize
+    ensures { result ≡ meant.number_of name }
+{
+    match name {
+        Name::Other(number) => number,
+        Name::Known(_) => 0,
+    }
+}
+
+/// What an open group combines over, an array or a pointer's cell, where a task may take part in it by this operation.
+fn may_join(sense: Sense, operation: Operation) -> Option<(Option<Pointee>, Option<usize>)>
+    ensures { result ≡ meant.may_join sense operation }
+{
+    match sense {
+        Sense::Combined(opening, length) => {
+            if !opening.own && is_same(opening.operation, operation) {
+                Some((opening.pointee, length))
+            } else {
+                None
+            }
+        }
+        Sense::Nothing | Sense::Constant(_, _) | Sense::Turn(_) | Sense::Begins => None,
+        Sense::Cells(_) | Sense::Pointer(_, _) | Sense::Function(_) => None,
+    }
+}
+
+/// What an item opens.
+fn opening(array: Name, operation: Operation, own: bool, pointee: Option<Pointee>) -> Opening
+    ensures { result ≡ meant.opening array operation own pointee }
+{
+    Opening {
+        array: number_of(array),
+        operation,
+        own,
+        pointee,
+    }
+}
+
+/// A part of an array, or a pointer's cell.
+fn part_or_cell(
+    alloc: Global,
+    scope: &Scope<'_>,
+    start: usize,
+    found: (Option<Pointee>, Option<usize>),
+    item: &Item,
+) -> Result<Value, CFault>
+    ensures { Gives (λ v. view v) result (meant.part_or_cell scope.now start item.now.array found.0 found.1 (part_of item.now.place)) }
+{
+    match found.0 {
+        None => part(alloc, scope, start, item.array, found.1, &item.place),
+        Some(cell) => pointed(alloc, scope, start, cell, &item.place),
+    }
+}
+
+/// A cell behind those that the task folds into by pointers.
+fn with_own(mut own: Vec<Own>, pointee: Option<Pointee>) -> Result<Vec<Own>, AllocError>
+    ensures { IfOk result (λ v. v.items ≡ own.items ++ meant.own_of pointee) }
+{
+    if let Some(cell) = pointee {
+        own.push(Own { cell, named: false })?;
+    }
+    Ok(own)
+}
+
+/// An item under `in_reduction`: the task has a copy of its own.
+fn takes_part<'a>(
+    alloc: Global,
+    start: usize,
+    operation: Operation,
+    mut heading: Heading<'a>,
+    item: &Item,
+) -> Result<Heading<'a>, CFault>
+    ensures { Gives head_of result (meant.takes_part start operation (head_of heading.entry) (item_of item.now)) }
+{
+    let Some(found) = may_join(heading.scope.sense(item.array), operation) else {
+        return Err(CFault::Outside(start, Reason::NoGroup));
+    };
+    let section = part_or_cell(alloc, &heading.scope, start, found, item)?;
+    let word = json::text(alloc, operation_word(operation))?;
+    heading
+        .clauses
+        .push(json::form2(alloc, "red", word, section)?)?;
+    let opening = opening(item.array, operation, true, found.0);
+    let scope = heading.scope.with_opening(alloc, opening)?;
+    Ok(Heading {
+        clauses: heading.clauses,
+        scope,
+        own: with_own(heading.own, found.0)?,
+    })
+}
+
+/// No open group combines over these cells of an array.
+fn apart(
+    scope: &Scope<'_>,
+    start: usize,
+    array: usize,
+    cells: Option<(u64, u64)>,
+) -> Result<(), CFault>
+    ensures { Gives (λ x. x) result (meant.apart scope.now start array cells) }
+{
+    match scope.sense(Name::Other(array)) {
+        Sense::Cells(_) => {
+            if scope.is_pointed(Name::Other(array), cells) {
+                Err(CFault::Outside(start, Reason::Combined))
+            } else {
+                Ok(())
+            }
+        }
+        other => Err(CFault::Outside(start, no_cells(other))),
+    }
+}
+
+fn pointer_in(sense: Sense) -> Option<Pointee>
+    ensures { result ≡ meant.pointer_in sense }
+{
+    match sense {
+        Sense::Pointer(array, place) => Some(Pointee { array, place }),
+        Sense::Nothing | Sense::Constant(_, _) | Sense::Turn(_) | Sense::Begins => None,
+        Sense::Cells(_) | Sense::Combined(_, _) | Sense::Function(_) => None,
+    }
+}
+
+/// The section that a group combines over.
+fn combined_over(
+    alloc: Global,
+    scope: &Scope<'_>,
+    start: usize,
+    item: &Item,
+    pointer: Option<Pointee>,
+) -> Result<Value, CFault>
+    ensures { Gives (λ v. view v) result (meant.combined_over scope.now start (item_of item.now) pointer) }
+{
+    match pointer {
+        None => {
+            let section = section(alloc, scope, start, &None, item)?;
+            let cells = cells_named(scope, &None, item);
+            apart(scope, start, number_of(item.array), cells)?;
+            Ok(section)
+        }
+        Some(cell) => {
+            apart(scope, start, cell.array, Some((cell.place, 1)))?;
+            pointed(alloc, scope, start, cell, &item.place)
+        }
+    }
+}
+
+/// An item under `task_reduction`: a section of the group.
+fn combines<'a>(
+    alloc: Global,
+    start: usize,
+    mut heading: Heading<'a>,
+    operation: Operation,
+    item: &Item,
+) -> Result<Heading<'a>, CFault>
+    ensures { Gives head_of result (meant.combines start (head_of heading.entry) operation (item_of item.now)) }
+{
+    let pointer = pointer_in(heading.scope.sense(item.array));
+    let section = combined_over(alloc, &heading.scope, start, item, pointer)?;
+    heading.clauses.push(section)?;
+    let opening = opening(item.array, operation, false, pointer);
+    let scope = heading.scope.with_opening(alloc, opening)?;
+    Ok(Heading {
+        clauses: heading.clauses,
+        scope,
+        own: heading.own,
+    })
+}
+
+/// An item under `shared`, which says what is so anyway: arrays are shared.
+fn shared(start: usize, sense: Sense) -> Result<(), CFault>
+    ensures { Gives (λ x. x) result (meant.shared start sense) }
+{
+    match sense {
+        Sense::Cells(_) => Ok(()),
+        other => Err(CFault::Outside(start, no_cells(other))),
+    }
+}
+
+/// An item under `firstprivate`, which says what is so anyway: each task has a copy of a loop's variable.
+fn private(start: usize, sense: Sense) -> Result<(), CFault>
+    ensures { Gives (λ x. x) result (meant.private start sense) }
+{
+    match sense {
+        Sense::Turn(_) => Ok(()),
+        _ => Err(CFault::Outside(start, Reason::Private)),
+    }
+}
+
+/// An item of a clause, behind others.
+fn item_step<'a>(
+    alloc: Global,
+    start: usize,
+    heading: Heading<'a>,
+    role: Role,
+    over: &Option<Range>,
+    item: &Item,
+) -> Result<Heading<'a>, CFault>
+    ensures { Gives head_of result (meant.item_step start role (over_of over.now) (head_of heading.entry) (item_of item.now)) }
+{
+    match role {
+        Role::In => depends(alloc, start, heading, role, "in", over, item),
+        Role::Out => depends(alloc, start, heading, role, "out", over, item),
+        Role::Inout => depends(alloc, start, heading, role, "inout", over, item),
+        Role::Reduces(_) => Ok(heading),
+        Role::Combines(operation) => combines(alloc, start, heading, operation, item),
+        Role::Shared => {
+            shared(start, heading.scope.sense(item.array))?;
+            Ok(heading)
+        }
+        Role::Firstprivate => {
+            private(start, heading.scope.sense(item.array))?;
+            Ok(heading)
+        }
+        Role::Default | Role::NumThreads => Ok(heading),
+        Role::Priority | Role::Untied | Role::Mergeable => Ok(heading),
+    }
+}
+
+/// Items of a clause, behind others.
+fn items<'a>(
+    alloc: Global,
+    start: usize,
+    heading: Heading<'a>,
+    role: Role,
+    over: &Option<Range>,
+    items: &[Item],
+) -> Result<Heading<'a>, CFault>
+    ensures { Gives head_of result (each (meant.item_step start role (over_of over.now)) (head_of heading.entry) (items_of items.now)) }
+{
+    let mut heading = heading;
+    for item in items {
+        heading = item_step(alloc, start, heading, role, over, item)?;
+    }
+    Ok(heading)
+}
+
+/// A clause, behind others.
+fn clause_step<'a>(
+    alloc: Global,
+    start: usize,
+    heading: Heading<'a>,
+    clause: &Clause,
+) -> Result<Heading<'a>, CFault>
+    ensures { Gives head_of result (meant.clause_step start (head_of heading.entry) (clause_of clause.now)) }
+{
+    items(
+        alloc,
+        start,
+        heading,
+        clause.role,
+        &clause.over,
+        &clause.items,
+    )
+}
+
+/// By what a task takes part in reductions.
+fn reduced_by(role: Role) -> Option<Operation>
+    ensures { result ≡ meant.reduced_by role }
+{
+    match role {
+        Role::Reduces(operation) => Some(operation),
+        Role::In | Role::Out | Role::Inout | Role::Combines(_) => None,
+        Role::Shared | Role::Firstprivate | Role::Default => None,
+        Role::NumThreads | Role::Priority | Role::Untied | Role::Mergeable => None,
+    }
+}
+
+/// Items under `in_reduction`, behind others.
+fn joining<'a>(
+    alloc: Global,
+    start: usize,
+    operation: Operation,
+    heading: Heading<'a>,
+    items: &[Item],
+) -> Result<Heading<'a>, CFault>
+    ensures { Gives head_of result (each (meant.takes_part start operation) (head_of heading.entry) (items_of items.now)) }
+{
+    let mut heading = heading;
+    for item in items {
+        heading = takes_part(alloc, start, operation, heading, item)?;
+    }
+    Ok(heading)
+}
+
+/// What a clause says of reductions, behind others.
+fn joining_step<'a>(
+    alloc: Global,
+    start: usize,
+    heading: Heading<'a>,
+    clause: &Clause,
+) -> Result<Heading<'a>, CFault>
+    ensures { Gives head_of result (meant.joining_step start (head_of heading.entry) (clause_of clause.now)) }
+{
+    match reduced_by(clause.role) {
+        Some(operation) => joining(alloc, start, operation, heading, &clause.items),
+        None => Ok(heading),
+    }
+}
+
+/// What clauses say of reductions.
+fn all_joining<'a>(
+    alloc: Global,
+    start: usize,
+    scope: Scope<'a>,
+    clauses: &[Clause],
+) -> Result<Heading<'a>, CFault>
+    ensures { Gives head_of result (meant.all_joining start scope.entry (clauses_of clauses.now)) }
+{
+    let mut heading = Heading {
+        clauses: Vec::new(alloc),
+        scope,
+        own: Vec::new(alloc),
+    };
+    for clause in clauses {
+        heading = joining_step(alloc, start, heading, clause)?;
+    }
+    Ok(heading)
+}
+
+/// What clauses say apart from that, behind it.
+fn others<'a>(
+    alloc: Global,
+    start: usize,
+    heading: Heading<'a>,
+    clauses: &[Clause],
+) -> Result<Heading<'a>, CFault>
+    ensures { Gives head_of result (each (meant.clause_step start) (head_of heading.entry) (clauses_of clauses.now)) }
+{
+    let mut heading = heading;
+    for clause in clauses {
+        heading = clause_step(alloc, start, heading, clause)?;
+    }
+    Ok(heading)
+}
+
+/// Clauses of a directive that begins at this byte, in this scope.
+pub fn headed<'a>(
+    alloc: Global,
+    start: usize,
+    scope: Scope<'a>,
+    clauses: &[Clause],
+) -> Result<Heading<'a>, CFault>
+    ensures { Gives head_of result (meant.heading start scope.entry (clauses_of clauses.now)) }
+{
+    let heading = all_joining(alloc, start, scope, clauses)?;
+    let heading = others(alloc, start, heading, clauses)?;
+    if are_named(&heading.own) {
+        Ok(heading)
+    } else {
+        Err(CFault::Outside(start, Reason::NoDependence))
+    }
+}
+
+/// By what a clause of a group combines.
+fn combined_by(role: Role) -> Operation
+    ensures { result ≡ meant.combined_by role }
+{
+    match role {
+        Role::Combines(operation) => operation,
+        Role::In | Role::Out | Role::Inout | Role::Reduces(_) => Operation::Plus,
+        Role::Shared | Role::Firstprivate | Role::Default => Operation::Plus,
+        Role::NumThreads | Role::Priority | Role::Untied | Role::Mergeable => Operation::Plus,
+    }
+}
+
+/// The operation of a group.
+pub fn group_operation(start: usize, clauses: &[Clause]) -> Result<Operation, CFault>
+    ensures { Gives (λ o. o) result (meant.group_operation start (clauses_of clauses.now)) }
+{
+    match clauses {
+        [] => Ok(Operation::Plus),
+        [clause] => Ok(combined_by(clause.role)),
+        _ => Err(CFault::Outside(start, Reason::Operations)),
+    }
+}

@@ -1,0 +1,11 @@
+//! Clauses of directives of OpenMP become clauses of the language, and say what names mean behind them.
+#![tactic(auto)]
+
+mod clause;
+mod own;
+mod section;
+mod words;
+
+pub use clause::{Heading, group_operation, headed};
+pub use section::no_cells;
+pub use words::{call_fold, fold_of, is_minus, is_same, operation_word};

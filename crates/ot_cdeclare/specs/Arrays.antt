@@ -1,0 +1,121 @@
+-- What a file declares: `uint64_t a[N]` is an array, `uint64_t x` an array of one cell.
+use Rattle.std.specs.Prelude.{ℕ, ◌-◌, ◌==◌, nat_lt, Bool, false, ◌||◌, List, [], ◌∷◌, ◌++◌, length as count_in, map, replicate, slice_get, slice_set, Option, Some, None, Result, Ok, Err, String, string_bytes, if◌then◌else◌}
+use Rattle.std.specs.declared.alloc.Global.{Global}
+use Rattle.ot_words.specs.declared.word.Name.{Name}
+use Rattle.ot_words.specs.declared.word.Name.TheVariants as n
+use Rattle.ot_program.specs.Names.{is_name}
+use Rattle.ot_cread.specs.Tree.{E}
+use Rattle.ot_cfile.specs.Program.{Start, Unset, One, Many, Cells, Declared as Declaration}
+use Rattle.ot_cmeaning.specs.declared.reason.Reason.TheVariants as why
+use Rattle.ot_cmeaning.specs.declared.scope.Meaning.{Meaning}
+use Rattle.ot_cmeaning.specs.declared.scope.Meaning.TheVariants as m
+use Rattle.ot_cmeaning.specs.Constants.{Typed, constant}
+use Rattle.ot_cmeaning.specs.Kinds.{is_word}
+use Rattle.ot_cmeaning.specs.Results.{Refusal, ◌>>=◌}
+use Rattle.ot_cmeaning.specs.Scopes.{Around}
+use Rattle.ot_cdeclare.specs.declared.arrays.CArray.{CArray}
+use Rattle.ot_cdeclare.specs.declared.arrays.Declared.{Declared}
+use Rattle.ot_cdeclare.specs.Each.{each}
+
+-- an array of the program, with its cells as it begins
+pub record Arr : Type 0 where
+  pub name : List ℕ
+  pub cells : List ℕ
+
+abbrev pub array_of : CArray → Arr
+array_of a = record { name = string_bytes a.name; cells = a.cells.items }
+
+-- what names mean, and the arrays in their order
+pub record D : Type 0 where
+  pub meanings : List Meaning
+  pub arrays : List Arr
+
+abbrev pub declared_of : Declared → D
+declared_of d = record { meanings = d.meanings.items; arrays = map array_of d.arrays.items }
+
+abbrev pub named_over : ℕ → D → ℕ → Meaning → Option Meaning → Result D Refusal
+named_over at d x new None = Err (at, why.NoName)
+named_over at d x new (Some m.Nothing) = Ok (record d { meanings = slice_set d.meanings x new })
+named_over at d x new (Some (m.Constant n k)) = Err (at, why.Twice)
+named_over at d x new (Some (m.Cells length)) = Err (at, why.Twice)
+named_over at d x new (Some (m.Pointer y p)) = Err (at, why.Twice)
+named_over at d x new (Some (m.Function i)) = Err (at, why.Twice)
+
+-- a name that means nothing yet comes to mean this
+abbrev pub named : ℕ → D → ℕ → Meaning → Result D Refusal
+named at d x new = named_over at d x new (slice_get d.meanings x)
+
+-- ---- numbers
+
+abbrev pub number_by : ℕ → Option Typed → Result ℕ Refusal
+number_by at None = Err (at, why.NoConstant)
+number_by at (Some x) = Ok x.0
+
+abbrev pub number : Around → ℕ → E → Result ℕ Refusal
+number a at e = number_by at (constant a e)
+
+abbrev pub counted : ℕ → ℕ → Result (Option ℕ) Refusal
+counted at n = if n == 0 || nat_lt 65536 n then Err (at, why.NoLength) else Ok (Some n)
+
+-- how many cells an array has, if it is one
+abbrev pub length : Around → ℕ → Option E → Result (Option ℕ) Refusal
+length a at None = Ok None
+length a at (Some e) = number a at e >>= λ n. counted at n
+
+abbrev pub number_step : Around → ℕ → List ℕ → E → Result (List ℕ) Refusal
+number_step a at cells e = number a at e >>= λ n. Ok (cells ++ n ∷ [])
+
+abbrev pub numbers : Around → ℕ → List E → Result (List ℕ) Refusal
+numbers a at es = each (number_step a at) [] es
+
+-- the first cells of an array, and zeros behind them (C17, section 6.7.9)
+abbrev pub filled : ℕ → List ℕ → ℕ → Result (List ℕ) Refusal
+filled at cells n = if nat_lt n (count_in cells) then Err (at, why.NoLength) else Ok (cells ++ replicate (n - count_in cells) 0)
+
+-- the cells of a variable or an array as it begins
+abbrev pub begun : Around → ℕ → Option ℕ → Start → Result (List ℕ) Refusal
+begun a at None Unset = filled at [] 1
+begun a at (Some n) Unset = filled at [] n
+begun a at None (One e) = number_step a at [] e
+begun a at (Some n) (Many es) = numbers a at es >>= λ cells. filled at cells n
+begun a at None (Many es) = Err (at, why.NoConstant)
+begun a at (Some n) (One e) = Err (at, why.NoConstant)
+
+-- ---- declarations
+
+-- outside of loops and groups
+abbrev pub outside : List (String Global) → List Meaning → Bool → Around
+outside names meanings inside = record { names = names; meanings = meanings; turns = []; opened = []; inside = inside }
+
+abbrev pub cells_in : Around → ℕ → Cells → Result (Option ℕ × List ℕ) Refusal
+cells_in a at v = length a at v.length >>= λ n. begun a at n v.initial >>= λ cells. Ok (n, cells)
+
+abbrev pub cells_of : List (String Global) → List Meaning → ℕ → Cells → Result (Option ℕ × List ℕ) Refusal
+cells_of names meanings at v = cells_in (outside names meanings false) at v
+
+abbrev pub number_of : ℕ → Name → Result ℕ Refusal
+number_of at (n.Other i) = Ok i
+number_of at (n.Known k) = Err (at, why.NoName)
+
+abbrev pub name_by : ℕ → Option (String Global) → Result (List ℕ) Refusal
+name_by at None = Err (at, why.NoName)
+name_by at (Some s) = if is_name (string_bytes s) then Ok (string_bytes s) else Err (at, why.NoName)
+
+-- the text of a name that the language has
+abbrev pub name_of : List (String Global) → ℕ → ℕ → Result (List ℕ) Refusal
+name_of names at i = name_by at (slice_get names i)
+
+abbrev pub with_array : D → List ℕ → List ℕ → D
+with_array d name cells = record d { arrays = d.arrays ++ (record { name = name; cells = cells }) ∷ [] }
+
+abbrev pub variable_step : List (String Global) → ℕ → D → Cells → Result D Refusal
+variable_step names at d v =
+    number_of at v.name >>= λ i.
+    name_of names at i >>= λ name.
+    cells_of names d.meanings at v >>= λ cells.
+    named at d i (m.Cells cells.0) >>= λ e.
+    Ok (with_array e name cells.1)
+
+-- variables of type `uint64_t`, one after another
+abbrev pub declaration : List (String Global) → ℕ → D → Declaration → Result D Refusal
+declaration names at d given = if is_word given.kind then each (variable_step names at) d given.variables else Err (at, why.OtherType)

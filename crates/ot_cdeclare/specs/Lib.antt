@@ -1,0 +1,4 @@
+pub mod Each
+pub mod Arrays
+pub mod Places
+pub mod Pointers

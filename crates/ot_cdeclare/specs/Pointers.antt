@@ -1,0 +1,79 @@
+-- Pointers to cells of arrays. Wherever a file declares a name as a pointer, it points to the same cell.
+use Rattle.std.specs.Prelude.{ℕ, ◌==◌, nat_lt, Bool, false, ◌&&◌, List, slice_get, slice_set, Option, Some, None, Result, Ok, Err, String, if◌then◌else◌}
+use Rattle.std.specs.declared.alloc.Global.{Global}
+use Rattle.ot_words.specs.declared.word.Name.{Name}
+use Rattle.ot_cread.specs.Tree.{E}
+use Rattle.ot_cstatement.specs.Tree.{S, Block, Assign, If, For, Task, Wait, Group, Yield, Call, Print, Show, Point, Body, End, Next}
+use Rattle.ot_cmeaning.specs.declared.reason.Reason.TheVariants as why
+use Rattle.ot_cmeaning.specs.declared.scope.Meaning.{Meaning}
+use Rattle.ot_cmeaning.specs.declared.scope.Meaning.TheVariants as m
+use Rattle.ot_cmeaning.specs.declared.scope.Pointee.{Pointee}
+use Rattle.ot_cmeaning.specs.Constants.{Typed, constant}
+use Rattle.ot_cmeaning.specs.Results.{Refusal, ◌>>=◌}
+use Rattle.ot_cdeclare.specs.Arrays.{D, number_of, outside}
+use Rattle.ot_cdeclare.specs.Places.{byte_of}
+
+abbrev pub Names : Type 0
+Names = List (String Global)
+
+-- a place in an array of so many cells
+abbrev pub place_in : ℕ → ℕ → Option Typed → Result ℕ Refusal
+place_in at count None = Err (at, why.Pointee)
+place_in at count (Some n) = if nat_lt n.0 count then Ok n.0 else Err (at, why.Pointee)
+
+-- how many cells an array has
+abbrev pub count_by : ℕ → Option Meaning → Result ℕ Refusal
+count_by at (Some (m.Cells (Some n))) = Ok n
+count_by at (Some (m.Cells None)) = Err (at, why.Pointee)
+count_by at (Some m.Nothing) = Err (at, why.Pointee)
+count_by at (Some (m.Constant n k)) = Err (at, why.Pointee)
+count_by at (Some (m.Pointer x p)) = Err (at, why.Pointee)
+count_by at (Some (m.Function i)) = Err (at, why.Pointee)
+count_by at None = Err (at, why.Pointee)
+
+-- the cell of an array at a place that is a constant
+abbrev pub pointee : Names → ℕ → D → Name → E → Result Pointee Refusal
+pointee names at d x i =
+    number_of at x >>= λ array.
+    count_by at (slice_get d.meanings array) >>= λ count.
+    place_in at count (constant (outside names d.meanings false) i) >>= λ place.
+    Ok (record { array = array; place = place })
+
+abbrev pub is_same : ℕ → ℕ → Pointee → Bool
+is_same x i p = x == p.array && i == p.place
+
+abbrev pub pointing_over : ℕ → D → ℕ → Pointee → Option Meaning → Result D Refusal
+pointing_over at d p cell None = Err (at, why.NoName)
+pointing_over at d p cell (Some m.Nothing) = Ok (record d { meanings = slice_set d.meanings p (m.Pointer cell.array cell.place) })
+pointing_over at d p cell (Some (m.Pointer x i)) = if is_same x i cell then Ok d else Err (at, why.Pointee)
+pointing_over at d p cell (Some (m.Constant n k)) = Err (at, why.Twice)
+pointing_over at d p cell (Some (m.Cells length)) = Err (at, why.Twice)
+pointing_over at d p cell (Some (m.Function i)) = Err (at, why.Twice)
+
+-- a name that means nothing yet, or points there already, points to a cell
+abbrev pub pointing : ℕ → D → ℕ → Pointee → Result D Refusal
+pointing at d p cell = pointing_over at d p cell (slice_get d.meanings p)
+
+-- `uint64_t *p = &x[i];`
+abbrev pub point : Names → ℕ → D → Name → Name → E → Result D Refusal
+point names at d p x i = pointee names at d x i >>= λ cell. number_of at p >>= λ n. pointing at d n cell
+
+-- the pointers that statements declare
+unfoldable mutual
+  pub pointers_in : Names → List ℕ → D → S → Result D Refusal
+  pointers_in names starts d (Block left b) = pointers_from names starts d b
+  pointers_in names starts d (Assign left t sign e) = Ok d
+  pointers_in names starts d (If left e b c) = pointers_from names starts d b >>= λ o. pointers_from names starts o c
+  pointers_in names starts d (For left c b) = pointers_from names starts d b
+  pointers_in names starts d (Task left cs b) = pointers_from names starts d b
+  pointers_in names starts d (Wait left cs) = Ok d
+  pointers_in names starts d (Group left cs b) = pointers_from names starts d b
+  pointers_in names starts d (Yield left) = Ok d
+  pointers_in names starts d (Call left f es) = Ok d
+  pointers_in names starts d (Print left es) = Ok d
+  pointers_in names starts d (Show left x i n) = Ok d
+  pointers_in names starts d (Point left p x i) = point names (byte_of starts left) d p x i
+
+  pub pointers_from : Names → List ℕ → D → Body → Result D Refusal
+  pointers_from names starts d End = Ok d
+  pointers_from names starts d (Next s rest) = pointers_in names starts d s >>= λ o. pointers_from names starts o rest

@@ -1,0 +1,245 @@
+//! What a file declares.
+ghost use Rattle.std.specs.Prelude.{◌≡◌, string_bytes};
+ghost use Rattle.ot_cmeaning.specs.Kinds.{is_word};
+ghost use Rattle.ot_cread.specs.Tree.{expr_of};
+ghost use Rattle.ot_cstatement.specs.Tree.{exprs_of, index_of};
+ghost use Rattle.ot_cfile.specs.Program.{initial_of, variable_of, variables_of, declaration_of};
+ghost use Rattle.ot_cmeaning.specs.Results.{Gives};
+ghost use Rattle.ot_cdeclare.specs.Arrays.{declared_of};
+ghost use Rattle.ot_cdeclare.specs.Arrays as meant;
+ghost use Rattle.ot_cdeclare.specs.Each.{each};
+
+use indexmap::IndexSet;
+use ot_cfile::{Declaration, Initial, Variable};
+use ot_cmeaning::{CFault, Meaning, Reason, Scope, constant};
+use ot_cread::Expr;
+use ot_program::is_name;
+use ot_words::{IntegerType, Name};
+use std::alloc::Global;
+
+const MAX_CELLS: u64 = 65_536;
+
+/// An array of the program, with its cells as it begins.
+#[derive(Debug, Drop)]
+pub struct CArray {
+    pub name: String,
+    pub cells: Vec<u64>,
+}
+
+/// What a file has declared so far: what its names mean, and its arrays in their order.
+#[derive(Debug, Drop)]
+pub struct Declared {
+    pub meanings: Vec<Meaning>,
+    pub arrays: Vec<CArray>,
+}
+
+/// A name that means nothing yet comes to mean this.
+pub fn named(
+    start: usize,
+    mut declared: Declared,
+    name: usize,
+    meaning: Meaning,
+) -> Result<Declared, CFault>
+    ensures { Gives declared_of result (meant.named start (declared_of declared) name meaning) }
+{
+    match declared.meanings.get(name) {
+        None => return Err(CFault::Outside(start, Reason::NoName)),
+        Some(Meaning::Nothing) => {}
+        Some(_) => return Err(CFault::Outside(start, Reason::Twice)),
+    }
+    declared.meanings[name] = meaning;
+    Ok(declared)
+}
+
+/// The number that a value is wherever it is computed.
+fn number(scope: &Scope<'_>, start: usize, expr: &Expr) -> Result<u64, CFault>
+    ensures { Gives (λ n. n) result (meant.number scope.now start (expr_of expr.now)) }
+{
+    match constant(scope, expr) {
+        Some((number, _)) => Ok(number),
+        None => Err(CFault::Outside(start, Reason::NoConstant)),
+    }
+}
+
+/// How many cells an array has, if it is one.
+fn length(scope: &Scope<'_>, start: usize, length: &Option<Expr>) -> Result<Option<usize>, CFault>
+    ensures { Gives (λ n. n) result (meant.length scope.now start (index_of length.now)) }
+{
+    let Some(length) = length else {
+        return Ok(None);
+    };
+    let count = number(scope, start, length)?;
+    if count == 0 || count > MAX_CELLS {
+        return Err(CFault::Outside(start, Reason::NoLength));
+    }
+    Ok(Some(count as usize))
+}
+
+/// A cell behind others.
+fn number_step(
+    scope: &Scope<'_>,
+    start: usize,
+    mut cells: Vec<u64>,
+    expr: &Expr,
+) -> Result<Vec<u64>, CFault>
+    ensures { Gives (λ v. v.items) result (meant.number_step scope.now start cells.items (expr_of expr.now)) }
+{
+    let cell = number(scope, start, expr)?;
+    cells.push(cell)?;
+    Ok(cells)
+}
+
+fn numbers(
+    alloc: Global,
+    scope: &Scope<'_>,
+    start: usize,
+    exprs: &[Expr],
+) -> Result<Vec<u64>, CFault>
+    ensures { Gives (λ v. v.items) result (meant.numbers scope.now start (exprs_of exprs.now)) }
+{
+    let mut cells = Vec::new(alloc);
+    for expr in exprs {
+        cells = number_step(scope, start, cells, expr)?;
+    }
+    Ok(cells)
+}
+
+/// The first cells of an array, and zeros behind them.
+fn filled(
+    alloc: Global,
+    start: usize,
+    mut cells: Vec<u64>,
+    count: usize,
+) -> Result<Vec<u64>, CFault>
+    ensures { Gives (λ v. v.items) result (meant.filled start cells.items count) }
+{
+    if cells.len() > count {
+        return Err(CFault::Outside(start, Reason::NoLength));
+    }
+    let zeros = vec![in alloc; 0u64; count - cells.len()]?;
+    cells.extend_from_slice(&zeros)?;
+    Ok(cells)
+}
+
+/// The cells of a variable or an array as it begins.
+fn begun(
+    alloc: Global,
+    scope: &Scope<'_>,
+    start: usize,
+    length: Option<usize>,
+    initial: &Initial,
+) -> Result<Vec<u64>, CFault>
+    ensures { Gives (λ v. v.items) result (meant.begun scope.now start length (initial_of initial.now)) }
+{
+    match (length, initial) {
+        (None, Initial::Nothing) => filled(alloc, start, Vec::new(alloc), 1),
+        (Some(count), Initial::Nothing) => filled(alloc, start, Vec::new(alloc), count),
+        (None, Initial::Value(expr)) => number_step(scope, start, Vec::new(alloc), expr),
+        (Some(count), Initial::Values(exprs)) => {
+            let cells = numbers(alloc, scope, start, exprs)?;
+            filled(alloc, start, cells, count)
+        }
+        (None, Initial::Values(_)) | (Some(_), Initial::Value(_)) => {
+            Err(CFault::Outside(start, Reason::NoConstant))
+        }
+    }
+}
+
+/// How many cells a variable has, and these.
+fn cells_of(
+    alloc: Global,
+    names: &IndexSet<String>,
+    meanings: &[Meaning],
+    start: usize,
+    variable: &Variable,
+) -> Result<(Option<usize>, Vec<u64>), CFault>
+    ensures { Gives (λ x. (x.0, x.1.items)) result (meant.cells_of names.now.keys meanings.now start (variable_of variable.now)) }
+{
+    let scope = Scope::new(alloc, names, meanings, false);
+    let length = length(&scope, start, &variable.length)?;
+    let cells = begun(alloc, &scope, start, length, &variable.initial)?;
+    Ok((length, cells))
+}
+
+/// The number of a name among those of the text.
+pub fn number_of(start: usize, name: Name) -> Result<usize, CFault>
+    ensures { Gives (λ n. n) result (meant.number_of start name) }
+{
+    match name {
+        Name::Other(number) => Ok(number),
+        Name::Known(_) => Err(CFault::Outside(start, Reason::NoName)),
+    }
+}
+
+/// The text of a name that the language has.
+fn name_of(
+    alloc: Global,
+    names: &IndexSet<String>,
+    start: usize,
+    number: usize,
+) -> Result<String, CFault>
+    ensures { Gives (λ s. string_bytes s) result (meant.name_of names.now.keys start number) }
+{
+    match names.get_index(number) {
+        Some(name) if is_name(name.as_str()) => Ok(name.clone()?),
+        _ => Err(CFault::Outside(start, Reason::NoName)),
+    }
+}
+
+/// A variable or an array behind others.
+fn variable_step(
+    alloc: Global,
+    names: &IndexSet<String>,
+    start: usize,
+    declared: Declared,
+    variable: &Variable,
+) -> Result<Declared, CFault>
+    ensures { Gives declared_of result (meant.variable_step names.now.keys start (declared_of declared) (variable_of variable.now)) }
+{
+    let number = number_of(start, variable.name)?;
+    let name = name_of(alloc, names, start, number)?;
+    let (length, cells) = cells_of(alloc, names, &declared.meanings, start, variable)?;
+    let mut declared = named(start, declared, number, Meaning::Cells(length))?;
+    declared.arrays.push(CArray { name, cells })?;
+    Ok(declared)
+}
+
+/// Whether numbers of a type are those of the language.
+fn is_word(kind: IntegerType) -> bool
+    ensures { result ≡ is_word kind }
+{
+    matches!(kind, IntegerType::UnsignedLong)
+}
+
+/// Variables and arrays behind others.
+fn variables(
+    alloc: Global,
+    names: &IndexSet<String>,
+    start: usize,
+    declared: Declared,
+    variables: &[Variable],
+) -> Result<Declared, CFault>
+    ensures { Gives declared_of result (each (meant.variable_step names.now.keys start) (declared_of declared) (variables_of variables.now)) }
+{
+    let mut declared = declared;
+    for variable in variables {
+        declared = variable_step(alloc, names, start, declared, variable)?;
+    }
+    Ok(declared)
+}
+
+/// What a declaration declares, behind others.
+pub fn declaration(
+    alloc: Global,
+    names: &IndexSet<String>,
+    start: usize,
+    declared: Declared,
+    declaration: &Declaration,
+) -> Result<Declared, CFault>
+    ensures { Gives declared_of result (meant.declaration names.now.keys start (declared_of declared) (declaration_of declaration.now)) }
+{
+    if !is_word(declaration.kind) {
+        return Err(CFault::Outside(start, Reason::OtherType));
+    }
+    variables(alloc, names, start, declared, &declaration.variables)
+}

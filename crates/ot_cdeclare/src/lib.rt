@@ -1,0 +1,10 @@
+//! What a file of C declares: its constants, its arrays, and its pointers to their cells.
+#![tactic(auto)]
+
+mod arrays;
+mod place;
+mod pointer;
+
+pub use arrays::{CArray, Declared, declaration, named, number_of};
+pub use place::byte_of;
+pub use pointer::pointers;

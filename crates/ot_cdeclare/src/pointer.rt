@@ -1,0 +1,156 @@
+//! Pointers to cells of arrays.
+ghost use Rattle.std.specs.Prelude.{◌≡◌, slice_get};
+ghost use Rattle.ot_cread.specs.Tree.{expr_of};
+ghost use Rattle.ot_cstatement.specs.Tree.{stmt_of, list_of, body_of};
+ghost use Rattle.ot_cmeaning.specs.Results.{Gives};
+ghost use Rattle.ot_cdeclare.specs.Arrays.{declared_of};
+ghost use Rattle.ot_cdeclare.specs.Pointers as meant;
+
+use crate::arrays::{Declared, number_of};
+use crate::place::byte_of;
+use indexmap::IndexSet;
+use ot_cmeaning::{CFault, Meaning, Pointee, Reason, Scope, constant};
+use ot_cread::Expr;
+use ot_cstatement::Stmt;
+use ot_words::{Name, Words};
+use std::alloc::Global;
+
+/// How many cells an array has.
+fn count_by(start: usize, meaning: Option<Meaning>) -> Result<usize, CFault>
+    ensures { Gives (λ n. n) result (meant.count_by start meaning) }
+{
+    match meaning {
+        Some(Meaning::Cells(Some(count))) => Ok(count),
+        _ => Err(CFault::Outside(start, Reason::Pointee)),
+    }
+}
+
+/// What a name means in the whole file.
+fn meaning_of(meanings: &[Meaning], number: usize) -> Option<Meaning>
+    ensures { result ≡ slice_get meanings.now number }
+{
+    match meanings.get(number) {
+        Some(meaning) => Some(*meaning),
+        None => None,
+    }
+}
+
+/// The cell of an array at a place that is a constant.
+fn pointee(
+    alloc: Global,
+    names: &IndexSet<String>,
+    start: usize,
+    declared: &Declared,
+    array: Name,
+    place: &Expr,
+) -> Result<Pointee, CFault>
+    ensures { Gives (λ p. p) result (meant.pointee names.now.keys start (declared_of declared.now) array (expr_of place.now)) }
+{
+    let array = number_of(start, array)?;
+    let count = count_by(start, meaning_of(&declared.meanings, array))?;
+    let scope = Scope::new(alloc, names, &declared.meanings, false);
+    match constant(&scope, place) {
+        Some((place, _)) => {
+            if place < count as u64 {
+                Ok(Pointee { array, place })
+            } else {
+                Err(CFault::Outside(start, Reason::Pointee))
+            }
+        }
+        None => Err(CFault::Outside(start, Reason::Pointee)),
+    }
+}
+
+/// Whether it is the cell of this array at this place.
+fn is_same(array: usize, place: u64, cell: Pointee) -> bool
+    ensures { result ≡ meant.is_same array place cell }
+{
+    array == cell.array && place == cell.place
+}
+
+/// A name that means nothing yet, or points there already, points to a cell.
+fn pointing(
+    start: usize,
+    mut declared: Declared,
+    name: usize,
+    cell: Pointee,
+) -> Result<Declared, CFault>
+    ensures { Gives declared_of result (meant.pointing start (declared_of declared) name cell) }
+{
+    match declared.meanings.get(name) {
+        None => return Err(CFault::Outside(start, Reason::NoName)),
+        Some(Meaning::Nothing) => {}
+        Some(Meaning::Pointer(array, place)) => {
+            if is_same(*array, *place, cell) {
+                return Ok(declared);
+            }
+            return Err(CFault::Outside(start, Reason::Pointee));
+        }
+        Some(_) => return Err(CFault::Outside(start, Reason::Twice)),
+    }
+    declared.meanings[name] = Meaning::Pointer(cell.array, cell.place);
+    Ok(declared)
+}
+
+/// `uint64_t *p = &x[i];`
+fn point(
+    alloc: Global,
+    words: &Words,
+    start: usize,
+    declared: Declared,
+    pointer: Name,
+    array: Name,
+    place: &Expr,
+) -> Result<Declared, CFault>
+    ensures { Gives declared_of result (meant.point words.now.names.keys start (declared_of declared) pointer array (expr_of place.now)) }
+{
+    let cell = pointee(alloc, &words.names, start, &declared, array, place)?;
+    let number = number_of(start, pointer)?;
+    pointing(start, declared, number, cell)
+}
+
+/// The pointers that a statement declares.
+#[cycle(pointers)]
+#[tactic(auto, unfolding(crate::specs::Pointers::pointers_in))]
+fn pointers_in(
+    alloc: Global,
+    words: &Words,
+    declared: Declared,
+    stmt: &Stmt,
+) -> Result<Declared, CFault>
+    ensures { Gives declared_of result (meant.pointers_in words.now.names.keys words.now.starts.items (declared_of declared) (stmt_of stmt.now)) }
+{
+    match stmt {
+        Stmt::Block(_, inner) | Stmt::For(_, _, inner) => pointers(alloc, words, declared, inner),
+        Stmt::Task(_, _, inner) | Stmt::Group(_, _, inner) => {
+            pointers(alloc, words, declared, inner)
+        }
+        Stmt::If(_, _, one, two) => {
+            let declared = pointers(alloc, words, declared, one)?;
+            pointers(alloc, words, declared, two)
+        }
+        Stmt::Point(left, pointer, array, place) => {
+            let start = byte_of(&words.starts, *left);
+            point(alloc, words, start, declared, *pointer, *array, place)
+        }
+        Stmt::Assign(_, _, _, _) | Stmt::Wait(_, _) | Stmt::Yield(_) => Ok(declared),
+        Stmt::Call(_, _, _) | Stmt::Print(_, _) | Stmt::Show(_, _, _, _) => Ok(declared),
+    }
+}
+
+/// The pointers that statements declare.
+#[cycle(pointers)]
+pub fn pointers(
+    alloc: Global,
+    words: &Words,
+    declared: Declared,
+    stmts: &[Stmt],
+) -> Result<Declared, CFault>
+    ensures { Gives declared_of result (meant.pointers_from words.now.names.keys words.now.starts.items (declared_of declared) (body_of (list_of stmts.now))) }
+{
+    let mut declared = declared;
+    for stmt in stmts {
+        declared = pointers_in(alloc, words, declared, stmt)?;
+    }
+    Ok(declared)
+}

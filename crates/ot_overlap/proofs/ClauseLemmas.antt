@@ -1,0 +1,74 @@
+-- Clauses and sections by their length.
+use Rattle.std.proofs.Common.{◌≡◌, ◌≢◌, ℕ, ◌+◌, ◌<◌, ◌≤◌, true, false, List, [], ◌∷◌, length, get_or, drop, codes, refl, sym, add-one, arith}
+use Rattle.std.specs.Prelude.{if◌then◌else◌, not, Some, None, bytes_eq, string_bytes}
+use Rattle.std.specs.List.{position_or_len}
+use Rattle.std.proofs.Math.Seq.{drop-cons}
+use Rattle.std.proofs.lemmas.List.{drop_all}
+use Rattle.ot_model.specs.ShapeView.{arrays_of}
+use Rattle.ot_model.specs.declared.shape.ArrayShape.{ArrayShape}
+use Rattle.serde_json.specs.Data.{array}
+use Rattle.serde_json.specs.View.{view, items_view}
+use Rattle.serde_json.specs.declared.value.Value.{Value}
+use Rattle.ot_model.specs.Shapes.{Arrays}
+use Rattle.ot_program.specs.Meanings.{Bindings, position_of, size, section}
+use Rattle.ot_program.specs.Names.{is_word}
+use Rattle.ot_overlap.specs.Items.{depends, writes}
+
+pub no_clause : (vs : List Value) → length vs ≢ 2 → depends (array (items_view vs)) ≡ None
+no_clause (a ∷ b ∷ []) other = absurd (other refl)
+no_clause _ other = refl
+
+pub a_clause : (vs : List Value) (t a : Value) → length vs ≡ 2 → t ≡ get_or vs 0 t → a ≡ get_or vs 1 a
+    → depends (array (items_view vs)) ≡ (if is_word (view t) (codes "red") then None else Some (view a))
+a_clause (x ∷ y ∷ []) t a two p q = rw (sym p, sym q) refl
+a_clause _ t a two p q = absurd (omega arith)
+
+pub ruleset clauses = (no_clause, a_clause)
+
+pub no_word : (vs : List Value) → length vs ≢ 2 → writes (array (items_view vs)) ≡ false
+no_word (a ∷ b ∷ []) other = absurd (other refl)
+no_word _ other = refl
+
+pub a_word : (vs : List Value) (t : Value) → length vs ≡ 2 → t ≡ get_or vs 0 t → writes (array (items_view vs)) ≡ not (is_word (view t) (codes "in"))
+a_word (x ∷ y ∷ []) t two p = rw (sym p) refl
+a_word _ t two p = absurd (omega arith)
+
+pub ruleset words = (no_word, a_word)
+
+pub no_section : (shape : Arrays) (variables : Bindings) (vs : List Value) → length vs ≢ 3
+    → section shape variables (array (items_view vs)) ≡ record { array = 0; start = 0; len = 0 }
+no_section shape variables (a ∷ b ∷ c ∷ []) other = absurd (other refl)
+no_section shape variables _ other = refl
+
+pub a_section : (shape : Arrays) (variables : Bindings) (vs : List Value) (n a b : Value) → length vs ≡ 3 → n ≡ get_or vs 0 n → a ≡ get_or vs 1 a → b ≡ get_or vs 2 b
+    → section shape variables (array (items_view vs)) ≡ record { array = position_of shape (view n); start = size variables (view a); len = size variables (view b) }
+a_section shape variables (x ∷ y ∷ z ∷ []) n a b three p q r = rw (sym p, sym q, sym r) refl
+a_section shape variables _ n a b three p q r = absurd (omega arith)
+
+pub ruleset sections = (no_section, a_section)
+
+-- ---- the position of an array
+
+pub position_here : (name : List ℕ) (arrays : List ArrayShape) (i : ℕ) (a : ArrayShape) → i < length arrays → a ≡ get_or arrays i a
+    → bytes_eq (string_bytes a.name) name ≡ true
+    → i + position_or_len (λ a. bytes_eq a.0 name) (arrays_of (drop i arrays)) ≡ position_or_len (λ a. bytes_eq a.0 name) (arrays_of arrays)
+    → i ≡ position_or_len (λ a. bytes_eq a.0 name) (arrays_of arrays)
+position_here name arrays i a within is eq sum =
+    let first : position_or_len (λ a. bytes_eq a.0 name) (arrays_of (drop i arrays)) ≡ 0 = rw (drop-cons arrays i a within, ← is, eq) refl in
+    omega (arith, first, sum)
+
+pub position_next : (name : List ℕ) (arrays : List ArrayShape) (i : ℕ) (a : ArrayShape) → i < length arrays → a ≡ get_or arrays i a
+    → bytes_eq (string_bytes a.name) name ≡ false
+    → i + position_or_len (λ a. bytes_eq a.0 name) (arrays_of (drop i arrays)) ≡ position_or_len (λ a. bytes_eq a.0 name) (arrays_of arrays)
+    → i + 1 + position_or_len (λ a. bytes_eq a.0 name) (arrays_of (drop (i + 1) arrays)) ≡ position_or_len (λ a. bytes_eq a.0 name) (arrays_of arrays)
+position_next name arrays i a within is eq sum =
+    let step : position_or_len (λ a. bytes_eq a.0 name) (arrays_of (drop i arrays)) ≡ 1 + position_or_len (λ a. bytes_eq a.0 name) (arrays_of (drop (i + 1) arrays)) =
+    rw (drop-cons arrays i a within, ← is, eq, add-one) refl in
+    omega (arith, step, sum)
+
+pub position_end : (name : List ℕ) (arrays : List ArrayShape) (i : ℕ) → length arrays ≤ i → i ≤ length arrays
+    → i + position_or_len (λ a. bytes_eq a.0 name) (arrays_of (drop i arrays)) ≡ position_or_len (λ a. bytes_eq a.0 name) (arrays_of arrays)
+    → length arrays ≡ position_or_len (λ a. bytes_eq a.0 name) (arrays_of arrays)
+position_end name arrays i past within sum =
+    let none : position_or_len (λ a. bytes_eq a.0 name) (arrays_of (drop i arrays)) ≡ 0 = rw (drop_all i arrays past) refl in
+    omega (arith, none, sum)

@@ -1,0 +1,4 @@
+pub mod ClauseLemmas
+pub mod RequestLemmas
+pub mod WalkLemmas
+pub mod ClaimLemmas

@@ -1,0 +1,97 @@
+-- The items of a program's `depend` clauses, each with the entry that has it and with the task in whose body that entry is.
+use Rattle.std.specs.Prelude.{ℕ, Bool, false, not, ◌+◌, ◌++◌, if◌then◌else◌, List, [], ◌∷◌, map, flat_map, Option, Some, None, option_map, unwrap_or, codes}
+use Rattle.serde_json.specs.Data.{Data, array, no_items, item}
+use Rattle.ot_model.specs.Shapes.{Arrays}
+use Rattle.ot_model.specs.declared.expr.Section.{Section}
+use Rattle.ot_program.specs.Copies.{Text, TaskText, WaitForText, Placed, Copy, At, Copies, Done, Then}
+use Rattle.ot_program.specs.Meanings.{items, Bindings, section}
+use Rattle.ot_program.specs.Names.{is_word}
+use Rattle.ot_program.specs.Profiles.{profile_of}
+use Rattle.ot_program.specs.Programs.{program_copy}
+use Rattle.ot_overlap.specs.declared.item.Item.{Item}
+
+-- what a clause names: whether it writes there, and the section
+abbrev pub Named : Type 0
+Named = Bool × Section
+
+abbrev pub item_of : ℕ → ℕ → Named → Item
+item_of parent entry named = record { parent = parent; entry = entry; writes = named.0; section = named.1 }
+
+-- ---- the clauses of a statement
+
+-- the section of a `depend` clause, `[word, section]`: `red` stands for in_reduction
+abbrev pub depends : Data → Option Data
+depends (array (item t (item a no_items))) = if is_word t (codes "red") then None else Some a
+depends _ = None
+
+-- `in` alone doesn't write
+abbrev pub writes : Data → Bool
+writes (array (item t (item a no_items))) = not (is_word t (codes "in"))
+writes _ = false
+
+-- arrays of these names and lengths
+abbrev pub over : List (List ℕ × ℕ) → Arrays
+over arrays = record { arrays = arrays; tasks = 0 }
+
+abbrev pub section_by : List (List ℕ × ℕ) → Bindings → Bool → Option Data → List Named
+section_by arrays variables writing None = []
+section_by arrays variables writing (Some named) = (writing, section (over arrays) variables named) ∷ []
+
+abbrev pub section_as : List (List ℕ × ℕ) → Bindings → Data → List Named
+section_as arrays variables clause = section_by arrays variables (writes clause) (depends clause)
+
+abbrev pub sections_among : List (List ℕ × ℕ) → Bindings → List Data → List Named
+sections_among arrays variables clauses = flat_map (section_as arrays variables) clauses
+
+abbrev pub sections_in : List (List ℕ × ℕ) → Bindings → Data → List Named
+sections_in arrays variables clauses = sections_among arrays variables (items clauses)
+
+-- A wait with clauses waits as an empty task that has them (OpenMP API 5.2, section 15.5).
+abbrev pub sections_at : List (List ℕ × ℕ) → Bindings → Text → List Named
+sections_at arrays variables (TaskText profile clauses body) = sections_in arrays variables clauses
+sections_at arrays variables (WaitForText clauses) = sections_in arrays variables clauses
+sections_at arrays variables text = []
+
+-- ---- the entries of a program: itself, its statements, its loops with each of their turns
+
+-- what was met so far: so many entries, and these items
+pub record Met : Type 0 where
+  pub entries : ℕ
+  pub items : List Item
+
+-- an entry in the body of the task of the entry `parent`, or of the program itself, which is entry 0
+abbrev pub met_at : List (List ℕ × ℕ) → ℕ → Placed → Met → Met
+met_at arrays parent p m =
+    record { entries = m.entries + 1; items = m.items ++ map (item_of parent m.entries) (sections_at arrays p.variables p.text) }
+
+-- the entry of the task in whose body the bodies of an entry are
+abbrev pub task_of : ℕ → ℕ → Text → ℕ
+task_of parent entry (TaskText profile clauses body) = entry
+task_of parent entry text = parent
+
+abbrev mutual
+  -- a statement, then those in its bodies
+  pub met_one : List (List ℕ × ℕ) → ℕ → Copy → Met → Met
+  met_one arrays parent (At p one two) m =
+      met_in arrays (task_of parent m.entries p.text) two (met_in arrays (task_of parent m.entries p.text) one (met_at arrays parent p m))
+
+  pub met_in : List (List ℕ × ℕ) → ℕ → Copies → Met → Met
+  met_in arrays parent Done m = m
+  met_in arrays parent (Then c rest) m = met_in arrays parent rest (met_one arrays parent c m)
+
+abbrev pub none_met : Met
+none_met = record { entries = 0; items = [] }
+
+-- of a program, of the profile that its first word names, over arrays of these names and lengths
+abbrev pub program_items : List (List ℕ × ℕ) → Data → Data → Data → List Item
+program_items arrays word shows body =
+    unwrap_or (option_map (λ profile. (met_one arrays 0 (program_copy profile shows body) none_met).items) (profile_of word)) []
+
+abbrev pub text_items : List (List ℕ × ℕ) → Data → List Item
+text_items arrays (array (item t (item a (item b no_items)))) = program_items arrays t a b
+text_items arrays _ = []
+
+-- of the program that a request runs
+abbrev pub items_of : List (List ℕ × ℕ) → Data → List Item
+items_of arrays (array (item t (item program no_items))) = text_items arrays program
+items_of arrays _ = []

@@ -1,0 +1,4 @@
+pub mod Items
+pub mod Overlaps
+pub mod View
+pub mod Claims

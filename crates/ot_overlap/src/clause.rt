@@ -1,0 +1,136 @@
+//! The sections of `depend` clauses.
+ghost use Rattle.std.specs.Prelude.{◌≡◌, option_map, IfOk};
+ghost use Rattle.serde_json.specs.Data.{array};
+ghost use Rattle.serde_json.specs.View.{view, items_view};
+ghost use Rattle.ot_overlap.specs.Items.{depends};
+
+use ot_model::{ArrayShape, Section};
+use ot_place::{Trail, letters, size_of};
+use ot_program::is_word;
+use serde_json::Value;
+use std::alloc::AllocError;
+
+/// The section of a `depend` clause.
+pub(crate) fn depends(clause: &Value) -> Option<&Value>
+    ensures { option_map (λ section. view section.now) result ≡ depends (view clause.now) }
+{
+    match clause {
+        Value::Array(items) => depends_in(items),
+        _ => None,
+    }
+}
+
+#[tactic(auto, using(crate::proofs::ClauseLemmas::clauses))]
+fn depends_in(items: &[Value]) -> Option<&Value>
+    ensures { option_map (λ section. view section.now) result ≡ depends (array (items_view items.now)) }
+{
+    if items.len() != 2 {
+        return None;
+    }
+    match items {
+        [tag, section] => {
+            if is_word(tag, "red") {
+                None
+            } else {
+                Some(section)
+            }
+        }
+        _ => unreachable!(),
+    }
+}
+
+ghost use Rattle.ot_overlap.specs.Items.{writes};
+
+/// Whether a clause writes.
+pub(crate) fn writes(clause: &Value) -> bool
+    ensures { result ≡ writes (view clause.now) }
+{
+    match clause {
+        Value::Array(items) => writes_in(items),
+        _ => false,
+    }
+}
+
+#[tactic(auto, using(crate::proofs::ClauseLemmas::words))]
+fn writes_in(items: &[Value]) -> bool
+    ensures { result ≡ writes (array (items_view items.now)) }
+{
+    if items.len() != 2 {
+        return false;
+    }
+    match items {
+        [tag, _] => !is_word(tag, "in"),
+        _ => unreachable!(),
+    }
+}
+
+ghost use Rattle.ot_model.specs.ShapeView.{arrays_of};
+ghost use Rattle.ot_place.specs.Seeking.{bindings_of};
+ghost use Rattle.ot_program.specs.Meanings.{section};
+ghost use Rattle.ot_overlap.specs.Items.{over};
+
+/// What a section denotes over these arrays, in these turns.
+pub(crate) fn section_of(
+    arrays: &[ArrayShape],
+    part: &Value,
+    trail: &Trail<'_, '_>,
+) -> Result<Section, AllocError>
+    ensures { IfOk result (λ denoted. denoted ≡ section (over (arrays_of arrays.now)) (bindings_of trail.now) (view part.now)) }
+{
+    match part {
+        Value::Array(items) => section_in(arrays, items, trail),
+        _ => Ok(NOWHERE),
+    }
+}
+
+const NOWHERE: Section = Section {
+    array: 0,
+    start: 0,
+    len: 0,
+};
+
+#[tactic(auto, using(crate::proofs::ClauseLemmas::sections))]
+fn section_in(
+    arrays: &[ArrayShape],
+    items: &[Value],
+    trail: &Trail<'_, '_>,
+) -> Result<Section, AllocError>
+    ensures { IfOk result (λ denoted. denoted ≡ section (over (arrays_of arrays.now)) (bindings_of trail.now) (array (items_view items.now))) }
+{
+    if items.len() != 3 {
+        return Ok(NOWHERE);
+    }
+    match items {
+        [name, start, len] => Ok(Section {
+            array: position_of(arrays, letters(name))?,
+            start: short(size_of(start, trail))?,
+            len: short(size_of(len, trail))?,
+        }),
+        _ => unreachable!(),
+    }
+}
+
+ghost use Rattle.std.specs.Prelude.{bytes_eq};
+ghost use Rattle.std.specs.List.{position_or_len};
+
+/// The position of the array of this name, or behind all.
+fn position_of(arrays: &[ArrayShape], name: &str) -> Result<u32, AllocError>
+    ensures { IfOk result (λ position. position ≡ position_or_len (λ a. bytes_eq a.0 name.now) (arrays_of arrays.now)) }
+{
+    for (position, array) in arrays.iter().enumerate() {
+        if array.name.as_str() == name {
+            return short(position as u64);
+        }
+    }
+    short(arrays.len() as u64)
+}
+
+/// A number of 32 bits. Programs that were read have no others.
+fn short(number: u64) -> Result<u32, AllocError>
+    ensures { IfOk result (λ same. same ≡ number) }
+{
+    match u32::try_from(number) {
+        Ok(same) => Ok(same),
+        Err(_) => Err(AllocError),
+    }
+}

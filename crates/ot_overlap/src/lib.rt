@@ -1,0 +1,12 @@
+//! Items of `depend` clauses that overlap in part.
+#![tactic(auto)]
+
+mod claims;
+mod clause;
+mod first;
+mod item;
+mod order;
+mod request;
+mod walk;
+
+pub use request::first_overlap;

@@ -1,0 +1,296 @@
+//! A walk through the entries of a text, which notes the items of their `depend` clauses.
+ghost use Rattle.std.specs.Prelude.{◌≡◌, ℕ, ◌+◌, ◌-◌, ◌∷◌, OnOk};
+ghost use Rattle.serde_json.specs.View.{view, items_view};
+ghost use Rattle.ot_program.specs.Copies.{copies, copies_of, copy, turns as each_turn, at, Done, Turn as OneTurn};
+ghost use Rattle.ot_program.specs.Programs.{program_copy};
+ghost use Rattle.ot_place.specs.Texts.{Profile as Defined, Stands, text_by, first_copies, second_copies};
+ghost use Rattle.ot_place.specs.Seeking.{bindings_of};
+ghost use Rattle.ot_overlap.specs.Items.{met_at, met_one, met_in, task_of};
+ghost use Rattle.ot_overlap.specs.View.{met_by, arrays_by};
+
+use crate::clause::{depends, section_of, writes};
+use crate::item::Item;
+use ot_model::ArrayShape;
+use ot_place::{Profile, Text, Trail, Turn, letters, size_of, text_of};
+use serde_json::Value;
+use std::alloc::AllocError;
+
+/// What was met so far: so many entries, and these items.
+#[derive(Debug, Drop)]
+pub(crate) struct Met {
+    pub(crate) entries: u32,
+    pub(crate) items: Vec<Item>,
+}
+
+/// A walk through a program over these arrays.
+#[derive(Clone, Copy)]
+pub(crate) struct Walk<'s> {
+    pub(crate) profile: Profile,
+    pub(crate) arrays: &'s [ArrayShape],
+}
+
+/// The turns of a loop.
+#[derive(Clone, Copy)]
+struct Turns<'a> {
+    variable: &'a str,
+    first: u64,
+    behind: u64,
+}
+
+impl Walk<'_> {
+    /// A program with these shows and this body.
+    pub(crate) fn program<'a>(
+        &self,
+        shows: &'a Value,
+        body: &'a Value,
+        met: &mut Met,
+    ) -> Result<(), AllocError>
+        ensures { (defined : Defined) → Stands self.now.profile defined → OnOk result (met_by met.new
+            ≡ met_one (arrays_by self.now) 0 (program_copy defined (view shows.now) (view body.now)) (met_by met.old)) }
+    {
+        let root = Trail::Root;
+        self.enter(&Text::Program(shows, body), &root, 0, met)?;
+        self.body(body, &root, 0, met)
+    }
+
+    /// A body, in the task of this entry.
+    #[cycle(walk)]
+    fn body<'a>(
+        &self,
+        body: &'a Value,
+        trail: &Trail<'_, 'a>,
+        parent: u32,
+        met: &mut Met,
+    ) -> Result<(), AllocError>
+        ensures { (defined : Defined) (level : ℕ) → Stands self.now.profile defined → OnOk result (met_by met.new
+            ≡ met_in (arrays_by self.now) parent (copies defined level (view body.now) (bindings_of trail.now)) (met_by met.old)) }
+    {
+        match body {
+            Value::Array(items) => self.items(items, &*trail, parent, met),
+            _ => self.enter(&Text::None, trail, parent, met),
+        }
+    }
+
+    #[cycle(walk)]
+    fn items<'a>(
+        &self,
+        items: &'a [Value],
+        trail: &Trail<'_, 'a>,
+        parent: u32,
+        met: &mut Met,
+    ) -> Result<(), AllocError>
+        ensures { (defined : Defined) (level : ℕ) → Stands self.now.profile defined → OnOk result (met_by met.new
+            ≡ met_in (arrays_by self.now) parent (copies_of defined level (items_view items.now) (bindings_of trail.now)) (met_by met.old)) }
+    {
+        for item in items {
+            self.statement(item, &*trail, parent, met)?;
+        }
+        Ok(())
+    }
+
+    /// A statement with its bodies.
+    #[cycle(walk)]
+    fn statement<'a>(
+        &self,
+        statement: &'a Value,
+        trail: &Trail<'_, 'a>,
+        parent: u32,
+        met: &mut Met,
+    ) -> Result<(), AllocError>
+        ensures { (defined : Defined) (level : ℕ) → Stands self.now.profile defined → OnOk result (met_by met.new
+            ≡ met_one (arrays_by self.now) parent (copy defined level (view statement.now) (bindings_of trail.now)) (met_by met.old)) }
+    {
+        let text = text_of(self.profile, statement);
+        let task = task_of(parent, met.entries, &text);
+        self.enter(&text, trail, parent, met)?;
+        self.bodies(text, &*trail, task, met)
+    }
+
+    /// The bodies of a statement, in the task of this entry.
+    #[cycle(walk)]
+    fn bodies<'a>(
+        &self,
+        text: Text<'a>,
+        trail: &Trail<'_, 'a>,
+        task: u32,
+        met: &mut Met,
+    ) -> Result<(), AllocError>
+        ensures { (defined : Defined) (level : ℕ) → Stands self.now.profile defined → OnOk result (met_by met.new
+            ≡ met_in (arrays_by self.now) task (second_copies defined level (bindings_of trail.now) (text_by defined text.entry))
+            (met_in (arrays_by self.now) task (first_copies defined level (bindings_of trail.now) (text_by defined text.entry)) (met_by met.old))) }
+    {
+        match text {
+            Text::If(_, one, two) => {
+                self.body(one, &*trail, task, met)?;
+                self.body(two, &*trail, task, met)
+            }
+            Text::For(variable, first, behind, body) => {
+                let turns = Turns {
+                    variable: letters(variable),
+                    first: size_of(first, trail),
+                    behind: size_of(behind, trail),
+                };
+                self.turns(turns, body, &*trail, task, met)
+            }
+            Text::Task(_, body) => self.body(body, &*trail, task, met),
+            Text::Group(_, body) => self.body(body, &*trail, task, met),
+            Text::GroupBy(_, _, body) => self.body(body, &*trail, task, met),
+            _ => Ok(()),
+        }
+    }
+
+    #[cycle(walk)]
+    fn turns<'a>(
+        &self,
+        turns: Turns<'a>,
+        body: &'a Value,
+        trail: &Trail<'_, 'a>,
+        parent: u32,
+        met: &mut Met,
+    ) -> Result<(), AllocError>
+        ensures { (defined : Defined) (level : ℕ) → Stands self.now.profile defined → OnOk result (met_by met.new
+            ≡ met_in (arrays_by self.now) parent (each_turn level (bindings_of trail.now)
+            (λ n. copies defined (level + 1) (view body.now) ((turns.entry.variable.now, n) ∷ bindings_of trail.now))
+            turns.entry.first (turns.entry.behind - turns.entry.first)) (met_by met.old)) }
+    {
+        for number in turns.first..turns.behind {
+            let turn = Turn {
+                name: turns.variable,
+                number,
+            };
+            self.turn(turn, body, &*trail, parent, met)?;
+        }
+        Ok(())
+    }
+
+    #[cycle(walk)]
+    fn turn<'a>(
+        &self,
+        turn: Turn<'a>,
+        body: &'a Value,
+        trail: &Trail<'_, 'a>,
+        parent: u32,
+        met: &mut Met,
+    ) -> Result<(), AllocError>
+        ensures { (defined : Defined) (level : ℕ) → Stands self.now.profile defined → OnOk result (met_by met.new
+            ≡ met_one (arrays_by self.now) parent (at level (bindings_of trail.now) OneTurn
+            (copies defined (level + 1) (view body.now) ((turn.entry.name.now, turn.entry.number) ∷ bindings_of trail.now)) Done) (met_by met.old)) }
+    {
+        self.enter(&Text::Turn, trail, parent, met)?;
+        let inner = Trail::Turn(turn, &*trail);
+        self.body(body, &inner, parent, met)
+    }
+
+    /// What stands at a place, without bodies.
+    fn enter(
+        &self,
+        text: &Text<'_>,
+        trail: &Trail<'_, '_>,
+        parent: u32,
+        met: &mut Met,
+    ) -> Result<(), AllocError>
+        ensures { (defined : Defined) (level : ℕ) → OnOk result (met_by met.new
+            ≡ met_at (arrays_by self.now) parent (record { level = level; variables = bindings_of trail.now; text = text_by defined text.now }) (met_by met.old)) }
+    {
+        let entry = met.entries;
+        let Some(next) = entry.checked_add(1) else {
+            return Err(AllocError);
+        };
+        self.note(text, trail, parent, entry, &mut met.items)?;
+        met.entries = next;
+        Ok(())
+    }
+}
+
+/// The entry of the task in whose body the bodies of a statement are.
+fn task_of(parent: u32, entry: u32, text: &Text<'_>) -> u32
+    ensures { (defined : Defined) → result ≡ task_of parent entry (text_by defined text.now) }
+{
+    match text {
+        Text::Task(_, _) => entry,
+        _ => parent,
+    }
+}
+
+ghost use Rattle.std.specs.Prelude.{◌++◌, map};
+ghost use Rattle.ot_program.specs.Meanings.{each};
+ghost use Rattle.ot_overlap.specs.Items.{item_of, sections_at, sections_in, sections_among, section_as};
+
+impl Walk<'_> {
+    /// The items of a statement's own clauses.
+    fn note(
+        &self,
+        text: &Text<'_>,
+        trail: &Trail<'_, '_>,
+        parent: u32,
+        entry: u32,
+        noted: &mut Vec<Item>,
+    ) -> Result<(), AllocError>
+        ensures { (defined : Defined) → OnOk result (noted.new.items
+            ≡ noted.old.items ++ map (item_of parent entry) (sections_at (arrays_by self.now) (bindings_of trail.now) (text_by defined text.now))) }
+    {
+        match text {
+            Text::Task(clauses, _) => self.note_clauses(clauses, trail, parent, entry, noted),
+            Text::WaitFor(clauses) => self.note_clauses(clauses, trail, parent, entry, noted),
+            _ => Ok(()),
+        }
+    }
+
+    fn note_clauses(
+        &self,
+        clauses: &Value,
+        trail: &Trail<'_, '_>,
+        parent: u32,
+        entry: u32,
+        noted: &mut Vec<Item>,
+    ) -> Result<(), AllocError>
+        ensures { OnOk result (noted.new.items
+            ≡ noted.old.items ++ map (item_of parent entry) (sections_in (arrays_by self.now) (bindings_of trail.now) (view clauses.now))) }
+    {
+        match clauses {
+            Value::Array(items) => self.note_each(items, trail, parent, entry, noted),
+            _ => Ok(()),
+        }
+    }
+
+    fn note_each(
+        &self,
+        clauses: &[Value],
+        trail: &Trail<'_, '_>,
+        parent: u32,
+        entry: u32,
+        noted: &mut Vec<Item>,
+    ) -> Result<(), AllocError>
+        ensures { OnOk result (noted.new.items
+            ≡ noted.old.items ++ map (item_of parent entry) (sections_among (arrays_by self.now) (bindings_of trail.now) (each (items_view clauses.now)))) }
+    {
+        for clause in clauses {
+            self.note_clause(clause, trail, parent, entry, noted)?;
+        }
+        Ok(())
+    }
+
+    fn note_clause(
+        &self,
+        clause: &Value,
+        trail: &Trail<'_, '_>,
+        parent: u32,
+        entry: u32,
+        noted: &mut Vec<Item>,
+    ) -> Result<(), AllocError>
+        ensures { OnOk result (noted.new.items
+            ≡ noted.old.items ++ map (item_of parent entry) (section_as (arrays_by self.now) (bindings_of trail.now) (view clause.now))) }
+    {
+        let Some(named) = depends(clause) else {
+            return Ok(());
+        };
+        let section = section_of(self.arrays, named, trail)?;
+        noted.push(Item {
+            parent,
+            entry,
+            writes: writes(clause),
+            section,
+        })?;
+        Ok(())
+    }
+}
