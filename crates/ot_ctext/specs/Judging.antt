@@ -7,7 +7,7 @@ use Rattle.ot_cjudge.specs.declared.lowered.CArray.{CArray}
 use Rattle.ot_cjudge.specs.declared.lowered.Lowered.{Lowered}
 use Rattle.ot_cjudge.specs.declared.report.Verdict.{Verdict}
 use Rattle.ot_cjudge.specs.declared.report.Verdict.TheVariants as v
-use Rattle.ot_clower.specs.Arrays.{Arr}
+use Rattle.ot_cdeclare.specs.Arrays.{Arr}
 use Rattle.ot_clower.specs.Files.{Program}
 use Rattle.ot_ctext.specs.Reading.{Meant, Means}
 

@@ -3,7 +3,7 @@ use Rattle.std.specs.Prelude.{ℕ, zero, suc, ◌+◌, ◌-◌, ◌/◌, ◌==�
 use Rattle.std.specs.List.{list_all}
 use Rattle.serde_json.specs.Data.{Data, string}
 use Rattle.ot_cmeaning.specs.Forms.{form, listed, nat}
-use Rattle.ot_clower.specs.Arrays.{Arr}
+use Rattle.ot_cdeclare.specs.Arrays.{Arr}
 use Rattle.ot_clower.specs.Files.{Program}
 
 -- `["new",NAME,LEN]`

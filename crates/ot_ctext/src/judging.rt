@@ -1,7 +1,7 @@
 //! A text, judged.
 ghost use Rattle.std.specs.Prelude.{◌≡◌, map, IfOk};
 ghost use Rattle.ot_clower.specs.Files.{lowered_of};
-ghost use Rattle.ot_clower.specs.Arrays.{array_of};
+ghost use Rattle.ot_cdeclare.specs.Arrays.{array_of};
 ghost use Rattle.ot_ctext.specs.Judging.{Judges, judged_of, judged_array};
 
 use crate::reading::{Meaning, meaning_of};

@@ -1,7 +1,7 @@
 //! The requests that make arrays and run a program.
 ghost use Rattle.std.specs.Prelude.{◌≡◌, ◌≤◌, ◌==◌, ◌++◌, length, map, drop, take, IfOk};
 ghost use Rattle.serde_json.specs.View.{view};
-ghost use Rattle.ot_clower.specs.Arrays.{array_of};
+ghost use Rattle.ot_cdeclare.specs.Arrays.{array_of};
 ghost use Rattle.ot_clower.specs.Files.{lowered_of};
 ghost use Rattle.ot_ctext.specs.Requests as meant;
 

@@ -1,5 +1,5 @@
 use Rattle.std.proofs.Common.{◌≡◌, ◌++◌, drop, map}
-use Rattle.ot_clower.specs.Arrays.{array_of}
+use Rattle.ot_cdeclare.specs.Arrays.{array_of}
 use Rattle.ot_ctext.specs.Judging.{judged_array}
 use Rattle.ot_ctext.proofs.judging.judged_arrays.Given as goal
 

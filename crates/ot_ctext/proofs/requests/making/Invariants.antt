@@ -1,6 +1,6 @@
 use Rattle.std.proofs.Common.{◌≡◌, ◌++◌, drop, map}
 use Rattle.serde_json.specs.View.{view}
-use Rattle.ot_clower.specs.Arrays.{array_of}
+use Rattle.ot_cdeclare.specs.Arrays.{array_of}
 use Rattle.ot_ctext.specs.Requests as meant
 use Rattle.ot_ctext.proofs.requests.making.Given as goal
 
