@@ -11,7 +11,7 @@ use Rattle.ot_check.specs.walk.Rows.{awaited_as, is_awaited_by, users_below, use
 use Rattle.ot_check.specs.declared.block.Block.{Block}
 use Rattle.ot_check.proofs.Bits.{and_left, and_right, and_true}
 use Rattle.ot_check.proofs.SameLemmas.{eq_itself}
-use Rattle.ot_check.proofs.NumberLemmas.{or-one}
+use Rattle.ot_sets.proofs.Cited.{or-one}
 use Rattle.ot_check.proofs.BlockLemmas.{any-three, below-found, below-has, both_same, is_one, one_is}
 
 -- ---- which bits a wait takes out

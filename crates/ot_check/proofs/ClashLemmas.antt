@@ -1,24 +1,21 @@
 -- Blocks of users: whose bits an `and` finds.
-use Rattle.std.proofs.Common.{◌≡◌, ◌≢◌, ◌==◌, ℕ, zero, suc, ◌+◌, ◌*◌, ◌/◌, ◌%◌, ◌^◌, ◌<◌, ◌++◌, min, Bool, true, false, not, ◌&&◌, ◌||◌, List, [], ◌∷◌, set, get_or, refl, sym, ap, ◌∙◌, inl, inr, arith, w64}
+use Rattle.std.proofs.Common.{◌≡◌, ◌==◌, ℕ, zero, suc, ◌+◌, ◌*◌, ◌^◌, ◌<◌, ◌++◌, Bool, true, false, not, ◌&&◌, ◌||◌, List, [], ◌∷◌, set, get_or, refl, sym, ap, ◌∙◌, inl, inr}
 use Rattle.std.specs.Prelude.{bit_and, bit_or, flat_map, Some, slice_get}
-use Rattle.std.specs.Int.{bit_at, trailing_zeros}
+use Rattle.std.specs.Int.{bit_at}
 use Rattle.std.specs.List.{list_any}
 use Rattle.std.proofs.lemmas.List.Concat.{flat_map-cons}
 use Rattle.std.proofs.lemmas.List.Folds.{list_any-append}
-use Rattle.std.proofs.lemmas.Nat.{and_le_r}
-use Rattle.std.proofs.lemmas.Nat.Bits.{bit_at_and, bit_at-zero, bit_at-lt, bit_at-trailing_zeros}
 use Rattle.ot_model.specs.Uses.{conflicts, same_fold}
 use Rattle.ot_model.specs.declared.fold.Fold.{Fold as Operation}
 use Rattle.ot_model.specs.declared.stmt.Mode.{Mode}
 use Rattle.ot_model.specs.declared.stmt.Mode.TheVariants.{Reads, Writes, Folds}
-use Rattle.ot_check.specs.walk.Bits.{bit_in}
+use Rattle.ot_sets.specs.Sets.{bit_in}
 use Rattle.ot_check.specs.walk.Rows.{users_below, users_of_block, users_of_row, is_against}
 use Rattle.ot_check.specs.declared.block.Block.{Block}
 use Rattle.ot_check.specs.declared.users.User.{User}
 use Rattle.ot_check.specs.declared.users.Row.{Row}
 use Rattle.ot_check.proofs.Bits.{or_assoc, or_more, or_true, true_or, or_right, and_left, and_right, and_true}
-use Rattle.ot_check.proofs.SameLemmas.{eq_apart}
-use Rattle.ot_check.proofs.NumberLemmas.{or-one}
+use Rattle.ot_sets.proofs.Cited.{or-one, bit_here, common-at, common-found}
 use Rattle.ot_check.proofs.BlockLemmas.{both_same, is_one, one_is, below-has, below-found, any-three}
 
 -- ---- whose declarations conflict with a mode
@@ -63,32 +60,7 @@ module _ (block : Block) (j : ℕ) where
       against-writes
       ∙ ap (λ s. ((bit_at block.reads j == 1) && true) || (((bit_at block.writes j == 1) && true) || ((bit_at block.folds j == 1) && not s))) (sym is)
 
--- ---- bits in common
-
-bit_here : (words : List ℕ) (place j : ℕ) → j < 64 → bit_in words (place * 64 + j) ≡ (bit_at (get_or words place 0) j == 1)
-bit_here words place j l =
-    let d : (place * 64 + j) / 64 ≡ place = omega arith in
-    let r : (place * 64 + j) % 64 ≡ j = omega arith in
-    ap (λ i. bit_at (get_or words i 0) ((place * 64 + j) % 64) == 1) d ∙ ap (λ i. bit_at (get_or words place 0) i == 1) r
-
--- a bit of both words is one that both have in common
-common-at : (a b j : ℕ) → bit_at a j ≡ 1 → bit_at b j ≡ 1 → not (bit_and a b == 0) ≡ true
-common-at a b j here there =
-    let one : bit_at (bit_and a b) j ≡ 1 = bit_at_and a b j ∙ ap (λ x. min x (bit_at b j)) here ∙ ap (min 1) there in
-    let apart : bit_and a b ≢ 0 = λ e. let o : zero ≡ 1 = sym (bit_at-zero j) ∙ ap (λ n. bit_at n j) (sym e) ∙ one in absurd (omega (arith, o)) in
-    ap not (eq_apart (bit_and a b) 0 apart)
-
-min_one : (x y : ℕ) → min x y ≡ 1 → x < 2 → y < 2 → (x ≡ 1) × (y ≡ 1)
-min_one x y h l m = (omega (arith, h, l, m), omega (arith, h, l, m))
-
-common-found : (a b : ℕ) → b < 2 ^ 64 → not (bit_and a b == 0) ≡ true → (j : ℕ) × (j < 64) × (bit_at a j ≡ 1) × (bit_at b j ≡ 1)
-common-found a b l h =
-    let n : ℕ = bit_and a b in
-    let apart : n ≢ 0 = λ e. let f : false ≡ true = sym (ap not (ap (λ n. n == 0) e)) ∙ h in cc in
-    let t = bit_at-trailing_zeros w64 n (omega (arith, apart)) (omega (arith, l, and_le_r a b)) in
-    let j : ℕ = trailing_zeros w64 n in
-    let both = min_one (bit_at a j) (bit_at b j) (sym (bit_at_and a b j) ∙ t.1) (bit_at-lt a j) (bit_at-lt b j) in
-    (j, t.0, both.0, both.1)
+-- ---- whose bits an `and` finds
 
 -- among the tasks of these words, in conflict with this mode
 abbrev pub clashing : List ℕ → Mode → User → Bool

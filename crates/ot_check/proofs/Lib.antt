@@ -8,8 +8,6 @@ pub mod OpeningLemmas
 pub mod SameLemmas
 pub mod EqualLemmas
 pub mod GridLemmas
-pub mod NumberLemmas
-pub mod WordLemmas
 pub mod DeclaredLemmas
 pub mod BlockLemmas
 pub mod ClashLemmas

@@ -1,11 +1,11 @@
 -- Cells that open groups name, whatever the operations of the groups.
-use Rattle.std.proofs.Common.{◌≡◌, ◌++◌, Bool, true, false, List, [], ◌∷◌, refl, sym, ◌∙◌, true≢false}
+use Rattle.std.proofs.Common.{◌≡◌, ◌++◌, Bool, true, false, List, [], ◌∷◌, refl, sym, ap, ◌∙◌, true≢false}
 use Rattle.std.specs.List.{list_any}
 use Rattle.ot_model.specs.declared.expr.Cell.{Cell}
 use Rattle.ot_model.specs.declared.fold.Fold.{Fold as Operation}
 use Rattle.ot_model.specs.declared.fold.Fold.TheVariants.{Plus, Times, And, Or, Xor, Min, Max}
 use Rattle.ot_check.specs.Offences.{Openings, opened_by_any}
-use Rattle.ot_check.proofs.Bits.{any-same, true_or, or_right}
+use Rattle.ot_check.proofs.Bits.{true_or, or_right}
 
 -- ---- the seven operations
 
@@ -32,9 +32,12 @@ any-every test Max h = any-there test (Plus ∷ Times ∷ And ∷ Or ∷ Xor ∷
 -- ---- cells
 
 -- the same groups
+-- openings that are the same everywhere are one
+pub openings-same : (one other : Openings) → ((o : Operation) (c : Cell) → one o c ≡ other o c) → one ≡ other
+openings-same one other same = λ i o c. same o c i
+
 pub opened-same : (one other : Openings) → ((o : Operation) (c : Cell) → one o c ≡ other o c) → (c : Cell) → opened_by_any one c ≡ opened_by_any other c
-opened-same one other same c =
-    any-told one c ∙ any-same (λ o. one o c) (λ o. other o c) every (λ o. same o c) ∙ sym (any-told other c)
+opened-same one other same c = ap (λ opened. opened_by_any opened c) (openings-same one other same)
 
 -- a group by this operation names it
 pub opened-by : (opened : Openings) (o : Operation) (c : Cell) → opened o c ≡ true → opened_by_any opened c ≡ true

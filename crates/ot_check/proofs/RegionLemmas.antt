@@ -10,42 +10,41 @@ use Rattle.ot_model.specs.declared.fold.Fold.{Fold as Operation}
 use Rattle.ot_model.specs.declared.stmt.Use.{Use}
 use Rattle.ot_check.specs.Offences.{Declared, Openings, awaits, clashes, has_cell}
 use Rattle.ot_check.specs.Discipline.{Children, anyone, behind_one, nobody, nothing_open, with_group}
-use Rattle.ot_check.specs.walk.Bits.{has}
-use Rattle.ot_check.specs.walk.States.{is_open, met, AreOf, Stands, IsBehind, Leads, Represents, among, one_more, of_both, with_children, with_others}
-use Rattle.ot_check.specs.declared.numbers.Numbers.{Numbers}
+use Rattle.ot_sets.specs.Sets.{has}
+use Rattle.ot_check.specs.walk.States.{is_open, met, AreOf, IsBegun, Stands, IsBehind, Leads, Represents, among, one_more, of_both, with_children, with_others}
+use Rattle.ot_sets.specs.declared.numbers.Numbers.{Numbers}
 use Rattle.ot_check.specs.declared.standing.Region.{Region}
 use Rattle.ot_check.specs.declared.standing.Standing.{Standing}
 use Rattle.ot_check.specs.declared.tasks.Tasks.{Tasks}
 use Rattle.ot_check.proofs.Bits.{and_one, or_none, or_yes}
 use Rattle.ot_check.proofs.SameLemmas.{eq_itself, eq_apart}
 use Rattle.ot_check.proofs.SetLemmas.{slice_get-more, some-append, some-both, some-earlier, some-none, some-same, some-there}
-use Rattle.ot_check.proofs.TaskLemmas.{AreEntered, met-told, tells-added}
+use Rattle.ot_check.proofs.TaskLemmas.{longer_by_one, met-told}
 
 -- ---- where nothing is passed
 
 -- a body's beginning
-pub stands-first : (own : Declared) (decls : List (List Use)) (region : Region) (tasks : Tasks) → AreOf decls tasks → region.own ≡ own
-    → ((o : Operation) (c : Cell) → is_open region.opened o c ≡ false) → ((k : ℕ) → has region.unawaited k ≡ false)
-    → Stands own nothing_open nobody decls region tasks
-stands-first own decls region tasks are declares closed none = record {
-  declares = declares;
-  grouped = closed;
-  those = λ test. sym (some-none (λ k d. has region.unawaited k && test d) 0 decls (λ i d. ap (λ b. b && test d) (none (0 + i))));
-  passed = λ k l. none k;
-  known = are;
+pub stands-first : (own : Declared) (decls : List (List Use)) (new : Standing) (tasks : Tasks) → IsBegun own new.region → new.tasks ≡ tasks → AreOf decls tasks
+    → Represents own nothing_open nobody decls new
+stands-first own decls new tasks begun same are = record {
+  declares = begun.declares;
+  grouped = begun.closed;
+  those = λ test. sym (some-none (λ k d. has new.region.unawaited k && test d) 0 decls (λ i d. ap (λ b. b && test d) (begun.none (0 + i))));
+  passed = λ k l. begun.none k;
+  known = subst (AreOf decls) (sym same) are;
 }
 
 -- a group's cells
-pub stands-grouped : (own : Declared) (opened : Openings) (children : Children) (decls : List (List Use)) (by : Operation) (cells : List Cell) (region new : Region) (tasks : Tasks)
-    → Stands own opened children decls region tasks → new.own ≡ region.own → new.unawaited ≡ region.unawaited
-    → ((o : Operation) (c : Cell) → is_open new.opened o c ≡ (is_open region.opened o c || (same_fold by o && has_cell cells c)))
-    → Stands own (with_group opened by cells) children decls new tasks
-stands-grouped own opened children decls by cells region new tasks h declares same entered = record {
+pub stands-grouped : (own : Declared) (opened : Openings) (children : Children) (decls : List (List Use)) (by : Operation) (cells : List Cell) (old new : Standing)
+    → Represents own opened children decls old → new.region.own ≡ old.region.own → new.region.unawaited ≡ old.region.unawaited → new.tasks ≡ old.tasks
+    → ((o : Operation) (c : Cell) → is_open new.region.opened o c ≡ with_group (is_open old.region.opened) by cells o c)
+    → Represents own (with_group opened by cells) children decls new
+stands-grouped own opened children decls by cells old new h declares same are entered = record {
   declares = declares ∙ h.declares;
   grouped = λ o c. entered o c ∙ ap (λ b. b || (same_fold by o && has_cell cells c)) (h.grouped o c);
   those = λ test. h.those test ∙ ap (λ n. among n decls test) (sym same);
   passed = λ k l. ap (λ n. has n k) same ∙ h.passed k l;
-  known = h.known;
+  known = subst (AreOf decls) (sym are) h.known;
 }
 
 -- ---- what the children are asked
@@ -209,9 +208,12 @@ behind-same own opened children others was keep too decls new same kept h = reco
 }
 
 -- one child more
-module _ (own : Declared) (opened : Openings) (children : Children) (decls : List (List Use)) (uses : List Use) (region : Region) (more : Numbers) (old new : Tasks)
-    (h : Stands own opened children decls region old) (passed : new.passed ≡ old.passed + 1) (entered : AreEntered old.users new.users old.passed uses)
-    (inserted : (k : ℕ) → has more k ≡ (has region.unawaited k || (k == old.passed))) where
+module _ (own : Declared) (opened : Openings) (children : Children) (decls : List (List Use)) (uses : List Use) (region : Region) (old : Tasks) (new : Standing)
+    (h : Stands own opened children decls region old) (declares : new.region.own ≡ region.own) (shut : new.region.opened ≡ region.opened)
+    (inserted : (k : ℕ) → has new.region.unawaited k ≡ (has region.unawaited k || (k == old.passed))) (known : AreOf (decls ++ uses ∷ []) new.tasks) where
+  abbrev more : Numbers
+  more = new.region.unawaited
+
   before : (k : ℕ) → k < length decls → has more k ≡ has region.unawaited k
   before k l =
       inserted k ∙ ap (λ b. has region.unawaited k || b) (eq_apart k old.passed (λ e. absurd (omega (arith, e, l, h.known.counted)))) ∙ or_none (has region.unawaited k)
@@ -222,16 +224,12 @@ module _ (own : Declared) (opened : Openings) (children : Children) (decls : Lis
       inserted (0 + length decls) ∙ ap (λ b. has region.unawaited (0 + length decls) || b) (ap (λ n. n == old.passed) at ∙ eq_itself old.passed)
       ∙ or_yes (has region.unawaited (0 + length decls))
 
-  longer_by_one : (xs : List (List Use)) (x : List Use) → length (xs ++ x ∷ []) ≡ length xs + 1
-  longer_by_one [] x = refl
-  longer_by_one (y ∷ xs) x = let l = longer_by_one xs x in omega (arith, l)
-
-  pub behind-child : IsBehind own opened (one_more children uses) (λ k d. has region.unawaited k) decls (record { region = with_children region more; tasks = new })
+  pub behind-child : IsBehind own opened (one_more children uses) (λ k d. has region.unawaited k) decls new
   behind-child = record {
     later = uses ∷ [];
     stands = record {
-      declares = h.declares;
-      grouped = h.grouped;
+      declares = declares ∙ h.declares;
+      grouped = λ o c. ap (λ opened. is_open opened o c) shut ∙ h.grouped o c;
       those = λ test.
           ap (λ b. b || test uses) (h.those test ∙ some-same _ (λ k d. has more k && test d) 0 decls (λ i d is.
           let l = slice_get_within decls i d is in ap (λ b. b && test d) (sym (before (0 + i) (omega (arith, l))))))
@@ -241,10 +239,7 @@ module _ (own : Declared) (opened : Openings) (children : Children) (decls : Lis
           let long = longer_by_one decls uses in
           inserted k ∙ both_false (has region.unawaited k) (k == old.passed) (h.passed k (omega (arith, l, long)))
           (eq_apart k old.passed (λ e. absurd (omega (arith, e, l, long, h.known.counted))));
-      known = record {
-        told = tells-added old.users new.users decls old.passed uses h.known.told h.known.counted entered;
-        counted = let long = longer_by_one decls uses in omega (arith, long, passed, h.known.counted);
-      };
+      known = known;
     };
     stays = λ k d is. before k (slice_get_within decls k d is);
   }

@@ -9,10 +9,10 @@ use Rattle.ot_model.specs.declared.expr.Cell.{Cell}
 use Rattle.ot_model.specs.declared.fold.Fold.{Fold as Operation}
 use Rattle.ot_check.specs.walk.Grids.{found_at, filled, widths}
 use Rattle.ot_check.specs.walk.Rows.{users_of, users_of_row, users_in, HaveRows}
-use Rattle.ot_check.specs.walk.Bits.{bit_in, has}
+use Rattle.ot_sets.specs.Sets.{bit_in, has, words_of}
 use Rattle.ot_check.specs.walk.States.{holds, row_has, rows_of, set_has, users_at}
 use Rattle.ot_check.specs.declared.cell_set.CellSet.{CellSet}
-use Rattle.ot_check.specs.declared.numbers.Numbers.{Numbers}
+use Rattle.ot_sets.specs.declared.numbers.Numbers.{Numbers}
 use Rattle.ot_check.specs.declared.users.Row.{Row}
 use Rattle.ot_check.proofs.SameLemmas.{eq_itself, eq_apart, cells_equal}
 use Rattle.ot_check.proofs.GridLemmas.{found_at-filled, slice_get-set_same, slice_get-set_other}
@@ -161,7 +161,7 @@ module _ (rows : List Row) (places : List (List ℕ)) (have : HaveRows rows plac
 
 -- an empty row more
 pub opened-pushed : (rows : List Numbers) (row : Numbers) (a i : ℕ) → ((k : ℕ) → has row k ≡ false)
-    → row_has (slice_get (map (λ row. row.words.items) (rows ++ row ∷ [])) a) i ≡ row_has (slice_get (map (λ row. row.words.items) rows) a) i
+    → row_has (slice_get (map words_of (rows ++ row ∷ [])) a) i ≡ row_has (slice_get (map words_of rows) a) i
 opened-pushed [] row zero i none = none i
 opened-pushed [] row (suc a) i none = refl
 opened-pushed (r ∷ rows) row zero i none = refl

@@ -10,10 +10,11 @@ use Rattle.ot_model.specs.declared.stmt.Mode.{Mode}
 use Rattle.ot_model.specs.declared.stmt.Use.{Use}
 use Rattle.ot_check.specs.Offences.{clashes}
 use Rattle.ot_check.specs.walk.Grids.{found_at, filled}
-use Rattle.ot_check.specs.walk.Bits.{has}
+use Rattle.ot_sets.specs.Sets.{has}
 use Rattle.ot_check.specs.walk.Rows.{awaited_as}
-use Rattle.ot_check.specs.walk.States.{Tells, among, met, some_task, user_has, users_at}
-use Rattle.ot_check.specs.declared.numbers.Numbers.{Numbers}
+use Rattle.ot_check.specs.walk.States.{AreOf, Tells, among, met, some_task, user_has, users_at}
+use Rattle.ot_sets.specs.declared.numbers.Numbers.{Numbers}
+use Rattle.ot_check.specs.declared.tasks.Tasks.{Tasks}
 use Rattle.ot_check.specs.declared.users.User.{User}
 use Rattle.ot_check.proofs.GridLemmas.{found_at-filled}
 use Rattle.ot_check.proofs.Bits.{or_assoc, or_none, any-same}
@@ -38,6 +39,10 @@ entered-at old new cell v entered others test c =
 
 -- ---- one more task
 
+pub longer_by_one : (xs : List (List Use)) (x : List Use) → length (xs ++ x ∷ []) ≡ length xs + 1
+longer_by_one [] x = refl
+longer_by_one (y ∷ xs) x = let l = longer_by_one xs x in omega (arith, l)
+
 -- the first uses of a task's declaration
 abbrev pub AreEntered : List (List (List User)) → List (List (List User)) → ℕ → List Use → Type 0
 AreEntered old new task uses =
@@ -57,7 +62,7 @@ one-entered old now new task list i d v l so_far is entered test c =
     ∙ or_assoc (list_any test (users_at old c)) (list_any (user_has test c task) (take i list)) (user_has test c task (get_or list i d))
     ∙ ap (λ b. list_any test (users_at old c) || b) (sym (list_any_more (user_has test c task) list i d l))
 
-pub tells-added : (old new : List (List (List User))) (decls : List (List Use)) (task : ℕ) (uses : List Use) → Tells old decls → length decls ≡ task
+tells-added : (old new : List (List (List User))) (decls : List (List Use)) (task : ℕ) (uses : List Use) → Tells old decls → length decls ≡ task
     → AreEntered old new task uses → Tells new (decls ++ uses ∷ [])
 tells-added old new decls task uses told counted entered test c =
     let at : 0 + length decls ≡ task = omega (arith, counted) in
@@ -65,6 +70,13 @@ tells-added old new decls task uses told counted entered test c =
     ∙ ap (λ b. some_task (λ k d. list_any (user_has test c k) d) 0 decls || b)
     (sym (or_none (list_any (user_has test c (0 + length decls)) uses) ∙ ap (λ n. list_any (user_has test c n) uses) at))
     ∙ sym (some-append (λ k d. list_any (user_has test c k) d) 0 decls (uses ∷ []))
+
+pub are-added : (old new : Tasks) (decls : List (List Use)) (uses : List Use) → AreOf decls old → new.passed ≡ old.passed + 1
+    → AreEntered old.users new.users old.passed uses → AreOf (decls ++ uses ∷ []) new
+are-added old new decls uses are passed entered = record {
+  told = tells-added old.users new.users decls old.passed uses are.told are.counted entered;
+  counted = let long = longer_by_one decls uses in omega (arith, long, passed, are.counted);
+}
 
 -- ---- whom a use meets, and whom a wait awaits
 

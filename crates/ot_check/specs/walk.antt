@@ -2,6 +2,5 @@
 -- it to the paths.
 pub mod Walk
 pub mod Grids
-pub mod Bits
 pub mod Rows
 pub mod States

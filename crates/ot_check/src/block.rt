@@ -3,13 +3,13 @@ ghost use Rattle.std.specs.Int.{bit_at};
 ghost use Rattle.std.specs.List.{list_any};
 ghost use Rattle.ot_model.specs.Uses.{conflicts};
 ghost use Rattle.ot_check.specs.declared.users.User.{User};
-ghost use Rattle.ot_check.specs.walk.Bits.{has};
+ghost use Rattle.ot_sets.specs.Sets.{has};
 ghost use Rattle.ot_check.specs.walk.Rows.{awaited_as, is_against, is_awaited_by, is_by, users_of_block};
 
 use crate::modes::is_by;
-use crate::numbers::Numbers;
 use crate::users::User;
 use ot_model::{Fold, Mode};
+use ot_sets::Numbers;
 
 /// Those of 64 tasks that declare a cell, by their modes: the task `64 * place + j` is the bit `j`.
 /// Those that fold do so by one operation.
@@ -99,7 +99,7 @@ impl Block {
     pub(crate) fn take_awaited(&self, tasks: &mut Numbers, mode: Mode)
         ensures { (k : ℕ) → has tasks.new k ≡ (has tasks.old k && not (list_any (awaited_as mode k) (users_of_block self.now))) }
     {
-        tasks.take_out(self.place, self.awaited(mode));
+        tasks.take_bits(self.place as usize, self.awaited(mode));
     }
 }
 

@@ -4,8 +4,8 @@ ghost use Rattle.ot_check.specs.Offences.{has_cell};
 ghost use Rattle.ot_model.specs.Cells.{same_cell};
 ghost use Rattle.ot_model.specs.declared.expr.Cell.{Cell};
 
-use crate::numbers::Numbers;
 use ot_model::Cell;
+use ot_sets::Numbers;
 use std::alloc::{AllocError, Global};
 
 /// A set of cells.
@@ -30,7 +30,7 @@ impl CellSet {
         ensures { result ≡ holds self.now cell }
     {
         match self.rows.get(cell.array as usize) {
-            Some(row) => row.has(cell.index),
+            Some(row) => row.has(cell.index as usize),
             None => false,
         }
     }
@@ -40,7 +40,7 @@ impl CellSet {
         ensures { OnOk result ((c : Cell) → holds self.new c ≡ (holds self.old c || same_cell cell c)) }
     {
         self.reach(alloc, cell.array)?;
-        self.rows[cell.array as usize].insert(cell.index)
+        self.rows[cell.array as usize].insert(cell.index as usize)
     }
 
     /// Makes a row for the array.

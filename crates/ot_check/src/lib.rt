@@ -9,7 +9,6 @@ mod fault;
 mod job;
 pub mod laws;
 mod modes;
-mod numbers;
 mod opened;
 mod standing;
 mod statement;

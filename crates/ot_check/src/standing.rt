@@ -1,9 +1,9 @@
 use crate::fault::Offence;
 use crate::modes::{covers, folds_by};
-use crate::numbers::Numbers;
 use crate::opened::Opened;
 use crate::tasks::Tasks;
 use ot_model::{Cell, Decl, Fold, Mode, Shape, Use};
+use ot_sets::Numbers;
 use std::alloc::{AllocError, Global};
 use std::mem;
 
@@ -35,7 +35,9 @@ pub(crate) struct Standing {
 
 impl Region {
     ghost use Rattle.std.specs.Prelude.{◌≡◌};
-    ghost use Rattle.ot_check.specs.Offences.{allows, folds_to};
+    ghost use Rattle.std.specs.List.{list_any};
+    ghost use Rattle.ot_check.specs.Offences.{allows, exceeds, folds_to, misfits};
+    ghost use Rattle.ot_check.specs.walk.States.{is_open};
 
     /// Whether the body may use a cell so.
     fn allows(&self, used: Use) -> bool
@@ -62,11 +64,51 @@ impl Region {
             },
         }
     }
+
+    /// Whether a child's use goes beyond what the body declares.
+    fn use_exceeds(&self, used: Use) -> bool
+        ensures { result ≡ exceeds self.now.own used }
+    {
+        !matches!(used.mode, Mode::Folds(_)) && !self.allows(used)
+    }
+
+    /// Whether a child's declaration goes beyond the body's.
+    pub(crate) fn exceeds(&self, decl: &Decl) -> bool
+        ensures { result ≡ list_any (exceeds self.now.own) decl.now }
+    {
+        for used in decl.uses() {
+            if self.use_exceeds(*used) {
+                return true;
+            }
+        }
+        false
+    }
+
+    /// Whether a child's use doesn't fit the reductions that are open in the body.
+    fn use_misfits(&self, used: Use) -> bool
+        ensures { result ≡ misfits self.now.own (is_open self.now.opened) used }
+    {
+        match used.mode {
+            Mode::Folds(op) => { !self.folds_to(op, used.cell) && !self.opened.has(op, used.cell) }
+            Mode::Reads | Mode::Writes => self.opened.has_any(used.cell),
+        }
+    }
+
+    /// Whether a child's declaration doesn't fit the reductions that are open in the body.
+    pub(crate) fn misfits(&self, decl: &Decl) -> bool
+        ensures { result ≡ list_any (misfits self.now.own (is_open self.now.opened)) decl.now }
+    {
+        for used in decl.uses() {
+            if self.use_misfits(*used) {
+                return true;
+            }
+        }
+        false
+    }
 }
 
 impl Standing {
-    ghost use Rattle.std.specs.Prelude.{◌≡◌, ◌+◌, ◌<◌, ◌≤◌, ◌^◌, ◌||◌, ◌∷◌, List, ℕ, [], IfOk, OnOk, None, Some, false, true, not};
-    ghost use Rattle.std.specs.List.{list_any};
+    ghost use Rattle.std.specs.Prelude.{◌≡◌, ◌+◌, ◌<◌, ◌≤◌, ◌^◌, ◌||◌, ◌==◌, ◌∷◌, ◌++◌, List, ℕ, [], IfOk, OnOk, None, Some, false, true, not};
     ghost use Rattle.ot_model.specs.Shapes.{array_lengths};
     ghost use Rattle.ot_model.specs.Names.{IsInShape, OneNamedIn, AreInShape, AreDeclaredIn};
     ghost use Rattle.ot_check.specs.Paths.{Touch, Enter};
@@ -74,14 +116,15 @@ impl Standing {
     ghost use Rattle.ot_model.specs.declared.expr.Cell.{Cell};
     ghost use Rattle.ot_model.specs.declared.fold.Fold.{Fold as Operation};
     ghost use Rattle.ot_model.specs.declared.stmt.Use.{Use};
-    ghost use Rattle.ot_check.specs.Offences.{Declared, Openings, awaits, exceeds, misfits};
-    ghost use Rattle.ot_check.specs.Discipline.{Children, anyone, behind_one, nobody, nothing_open, with_group, may_break};
-    ghost use Rattle.ot_check.specs.walk.Bits.{has};
-    ghost use Rattle.ot_check.specs.walk.States.{Represents, Stands, IsBehind, Leads, Whatever, is_open, lens_of, one_more, with_others};
+    ghost use Rattle.ot_check.specs.Offences.{awaits};
+    ghost use Rattle.ot_check.specs.Discipline.{anyone, behind_one, with_group, may_break};
+    ghost use Rattle.ot_sets.specs.Sets.{has};
+    ghost use Rattle.ot_check.specs.walk.States.{AreOf, IsBegun, Leads, Whatever, is_open, lens_of, with_others};
 
     /// What stands at the beginning of a program: its body may use each cell.
     pub(crate) fn of_root(alloc: Global, shape: &Shape) -> Result<Standing, AllocError>
-        ensures stands { IfOk result (λ s. Represents None nothing_open nobody [] s) }
+        ensures begun { IfOk result (λ s. IsBegun None s.region) }
+        ensures none { IfOk result (λ s. AreOf [] s.tasks) }
         ensures lens { IfOk result (λ s. lens_of s ≡ array_lengths shape.now) }
         ensures passed { IfOk result (λ s. s.tasks.passed ≡ 0) }
     {
@@ -96,8 +139,7 @@ impl Standing {
 
     /// Goes into the body of a task. What stood before it is the answer.
     pub(crate) fn begin_task(&mut self, alloc: Global, decl: &Decl) -> Result<Region, AllocError>
-        ensures stands { IfOk result (λ _. (own : Declared) (opened : Openings) (children : Children) (decls : List (List Use))
-            → Represents own opened children decls self.old → Represents (Some decl.now) nothing_open nobody decls self.new) }
+        ensures begun { IfOk result (λ _. IsBegun (Some decl.now) self.new.region) }
         ensures outer { IfOk result (λ outer. outer ≡ self.old.region) }
         ensures tasks { self.new.tasks ≡ self.old.tasks }
     {
@@ -118,14 +160,16 @@ impl Standing {
     ) -> Result<(), AllocError>
         requires declared { AreDeclaredIn (lens_of self.old) decl.now }
         requires short { self.old.tasks.passed + 1 < 2 ^ 32 }
-        ensures behind { OnOk result ((own : Declared) (opened : Openings) (children : Children) (decls : List (List Use))
-            → Stands own opened children decls outer self.old.tasks → IsBehind own opened (one_more children decl.now) (λ k d. has outer.unawaited k) decls self.new) }
+        ensures own { self.new.region.own ≡ outer.own }
+        ensures opened { self.new.region.opened ≡ outer.opened }
+        ensures child { OnOk result ((k : ℕ) → has self.new.region.unawaited k ≡ (has outer.unawaited k || (k == self.old.tasks.passed))) }
+        ensures known { OnOk result ((decls : List (List Use)) → AreOf decls self.old.tasks → AreOf (decls ++ decl.now ∷ []) self.new.tasks) }
         ensures passed { OnOk result (self.new.tasks.passed ≡ self.old.tasks.passed + 1) }
         ensures lens { OnOk result (lens_of self.new ≡ lens_of self.old) }
     {
         self.region = outer;
         let number = self.tasks.add(alloc, decl)?;
-        self.region.unawaited.insert(number)
+        self.region.unawaited.insert(number as usize)
     }
 
     /// Goes into a group by this operation that names these cells. What stood before it is the answer.
@@ -135,8 +179,8 @@ impl Standing {
         op: Fold,
         cells: &[Cell],
     ) -> Result<Outside, AllocError>
-        ensures stands { IfOk result (λ _. (own : Declared) (opened : Openings) (children : Children) (decls : List (List Use))
-            → Represents own opened children decls self.old → Represents own (with_group opened op cells.now) children decls self.new) }
+        ensures own { IfOk result (λ _. self.new.region.own ≡ self.old.region.own) }
+        ensures entered { IfOk result (λ _. (o : Operation) (c : Cell) → is_open self.new.region.opened o c ≡ with_group (is_open self.old.region.opened) op cells.now o c) }
         ensures opened { IfOk result (λ outside. (o : Operation) (c : Cell) → is_open outside.opened o c ≡ is_open self.old.region.opened o c) }
         ensures passed { IfOk result (λ outside. outside.passed ≡ self.old.tasks.passed) }
         ensures same { IfOk result (λ _. self.new.region.unawaited ≡ self.old.region.unawaited) }
@@ -160,7 +204,7 @@ impl Standing {
         ensures tasks { self.new.tasks ≡ self.old.tasks }
     {
         self.region.opened = outside.opened;
-        self.region.unawaited.truncate(outside.passed);
+        self.region.unawaited.truncate(outside.passed as usize);
     }
 
     /// Comes to a wait, which awaits all children, or where it declares cells those on which an empty
@@ -213,49 +257,6 @@ impl Standing {
             Offence::ConflictsWithChild => self.tasks.clash(&self.region.unawaited, used),
             Offence::ChildBeyond | Offence::EndsWithChildren => false,
         }
-    }
-
-    /// Whether a child's use goes beyond what the body declares.
-    fn use_exceeds(&self, used: Use) -> bool
-        ensures { Whatever self.now (λ own opened children. result ≡ exceeds own used) }
-    {
-        !matches!(used.mode, Mode::Folds(_)) && !self.region.allows(used)
-    }
-
-    /// Whether a child's declaration goes beyond the body's.
-    pub(crate) fn exceeds(&self, decl: &Decl) -> bool
-        ensures { Whatever self.now (λ own opened children. result ≡ list_any (exceeds own) decl.now) }
-    {
-        for used in decl.uses() {
-            if self.use_exceeds(*used) {
-                return true;
-            }
-        }
-        false
-    }
-
-    /// Whether a child's use doesn't fit the reductions that are open in the body.
-    fn use_misfits(&self, used: Use) -> bool
-        ensures { Whatever self.now (λ own opened children. result ≡ misfits own opened used) }
-    {
-        match used.mode {
-            Mode::Folds(op) => {
-                !self.region.folds_to(op, used.cell) && !self.region.opened.has(op, used.cell)
-            }
-            Mode::Reads | Mode::Writes => self.region.opened.has_any(used.cell),
-        }
-    }
-
-    /// Whether a child's declaration doesn't fit the reductions that are open in the body.
-    pub(crate) fn misfits(&self, decl: &Decl) -> bool
-        ensures { Whatever self.now (λ own opened children. result ≡ list_any (misfits own opened) decl.now) }
-    {
-        for used in decl.uses() {
-            if self.use_misfits(*used) {
-                return true;
-            }
-        }
-        false
     }
 
     /// Whether a group that names the cell is this offence here, whatever its operation.

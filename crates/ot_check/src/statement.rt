@@ -52,8 +52,8 @@ fn is_offence(stmt: &Stmt, standing: &Standing, offence: Offence) -> bool
         }
         Stmt::If(expr, _, _) => value_breaks(expr, standing, offence),
         Stmt::Task(decl, _) => match offence {
-            Offence::ChildBeyond => standing.exceeds(decl),
-            Offence::ReductionMisuse => standing.misfits(decl),
+            Offence::ChildBeyond => standing.region.exceeds(decl),
+            Offence::ReductionMisuse => standing.region.misfits(decl),
             Offence::NotDeclared | Offence::ConflictsWithChild | Offence::EndsWithChildren => false,
         },
         Stmt::Wait(_) => false,

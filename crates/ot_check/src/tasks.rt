@@ -4,14 +4,14 @@ ghost use Rattle.ot_model.specs.Shapes.{array_lengths};
 ghost use Rattle.ot_model.specs.Names.{IsInShape, AreDeclaredIn};
 ghost use Rattle.ot_model.specs.declared.expr.Cell.{Cell};
 ghost use Rattle.ot_check.specs.walk.Grids.{widths};
-ghost use Rattle.ot_check.specs.walk.Bits.{has};
+ghost use Rattle.ot_sets.specs.Sets.{has};
 ghost use Rattle.ot_check.specs.walk.Rows.{awaited_as};
 ghost use Rattle.ot_check.specs.walk.States.{Tells, met, user_has, users_at};
 ghost use Rattle.ot_check.specs.declared.users.User.{User};
 
-use crate::numbers::Numbers;
 use crate::users::{User, Users};
 use ot_model::{Decl, Shape, Use};
+use ot_sets::Numbers;
 use std::alloc::{AllocError, Global};
 
 /// The tasks that a walk has passed. They have numbers from 0 on.

@@ -4,9 +4,9 @@ ghost use Rattle.ot_check.specs.declared.users.User.{User};
 ghost use Rattle.ot_check.specs.walk.Grids.{found_at, filled, widths};
 
 use crate::block::Block;
-use crate::numbers::Numbers;
 use crate::table::Table;
 use ot_model::{ArrayShape, Cell, Mode, Use};
+use ot_sets::Numbers;
 use std::alloc::{AllocError, Global};
 use std::marker::Model;
 
@@ -30,7 +30,7 @@ pub(crate) struct Row {
 impl Row {
     ghost use Rattle.std.specs.Prelude.{◌&&◌, ℕ, not, IfSome, slice_get};
     ghost use Rattle.ot_model.specs.Uses.{conflicts};
-    ghost use Rattle.ot_check.specs.walk.Bits.{has};
+    ghost use Rattle.ot_sets.specs.Sets.{has};
     ghost use Rattle.ot_check.specs.walk.Rows.{awaited_as, users_of_row, IsRoom};
 
     /// One task alone. It takes no memory.
@@ -133,7 +133,7 @@ impl Users {
     ghost use Rattle.std.specs.Prelude.{◌≢◌, ◌&&◌, ℕ, [], IsSome, map, not};
     ghost use Rattle.ot_model.specs.ShapeView.{arrays_of};
     ghost use Rattle.ot_model.specs.declared.expr.Cell.{Cell};
-    ghost use Rattle.ot_check.specs.walk.Bits.{has};
+    ghost use Rattle.ot_sets.specs.Sets.{has};
     ghost use Rattle.ot_check.specs.walk.Rows.{awaited_as};
     ghost use Rattle.ot_check.specs.walk.States.{met, users_at};
 

@@ -46,7 +46,7 @@ max_one (suc zero) (suc (suc y)) l m = absurd (omega (arith, m))
 max_one (suc (suc x)) y l m = absurd (omega (arith, l))
 
 -- the bits of both
-or-one : (a b j : ℕ) → (bit_at (bit_or a b) j == 1) ≡ ((bit_at a j == 1) || (bit_at b j == 1))
+pub or-one : (a b j : ℕ) → (bit_at (bit_or a b) j == 1) ≡ ((bit_at a j == 1) || (bit_at b j == 1))
 or-one a b j =
     let one : ℕ = bit_at a j in
     let other : ℕ = bit_at b j in

@@ -1,3 +1,5 @@
 pub mod Equal
 pub mod Joining
 pub mod Taking
+pub mod Words
+pub mod Cited

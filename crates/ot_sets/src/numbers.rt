@@ -1,5 +1,5 @@
 //! Sets of numbers, as bits.
-ghost use Rattle.std.specs.Prelude.{◌≡◌, ◌==◌, ◌&&◌, ◌||◌, ◌<◌, ◌≤◌, ◌/◌, ◌%◌, ℕ, IfOk, OnOk, OnErr, [], false, not, length, get_or};
+ghost use Rattle.std.specs.Prelude.{◌≡◌, ◌==◌, ◌&&◌, ◌||◌, ◌<◌, ◌≤◌, ◌/◌, ◌%◌, ℕ, IfOk, OnOk, OnErr, [], true, false, not, length, get_or};
 ghost use Rattle.std.specs.Int.{bit_at};
 ghost use Rattle.ot_sets.specs.Sets.{has, words_of};
 
@@ -15,7 +15,8 @@ pub struct Numbers {
 impl Numbers {
     /// No number at all. It takes no memory.
     pub fn new(alloc: Global) -> Numbers
-        ensures { words_of result ≡ [] }
+        ensures none { (k : ℕ) → has result k ≡ false }
+        ensures words { words_of result ≡ [] }
     {
         Numbers {
             words: Vec::new(alloc),
@@ -30,6 +31,29 @@ impl Numbers {
             Some(word) => (*word >> (number % 64)) & 1 == 1,
             None => false,
         }
+    }
+
+    /// The numbers from 64 times this place on, as the bits of a word: the first of them is the lowest bit.
+    pub fn word(&self, place: usize) -> u64
+        ensures { result ≡ get_or (words_of self.now) place 0 }
+    {
+        match self.words.get(place) {
+            Some(word) => *word,
+            None => 0,
+        }
+    }
+
+    /// Whether there is none among them.
+    pub fn is_empty(&self) -> bool
+        ensures none { result ≡ true → (k : ℕ) → has self.now k ≡ false }
+        ensures some { result ≡ false → (k : ℕ) × (has self.now k ≡ true) }
+    {
+        for place in 0..self.words.len() {
+            if self.word(place) != 0 {
+                return false;
+            }
+        }
+        true
     }
 
     /// Puts a number among them.
@@ -75,8 +99,9 @@ impl Numbers {
         }
     }
 
-    /// Takes out those of the numbers from 64 times this place on whose bits are set here.
-    fn take_bits(&mut self, place: usize, bits: u64)
+    /// Takes out those of the numbers from 64 times this place on whose bits are set here. It takes no
+    /// memory.
+    pub fn take_bits(&mut self, place: usize, bits: u64)
         ensures { (k : ℕ) → has self.new k ≡ (has self.old k && not ((k / 64 == place) && (bit_at bits (k % 64) == 1))) }
     {
         if place < self.words.len() {
@@ -98,7 +123,8 @@ impl Numbers {
 
     /// Takes out all. It takes no memory.
     pub fn clear(&mut self)
-        ensures { words_of self.new ≡ [] }
+        ensures none { (k : ℕ) → has self.new k ≡ false }
+        ensures words { words_of self.new ≡ [] }
     {
         self.words.clear();
     }

@@ -9,8 +9,8 @@ use Rattle.ot_model.specs.declared.stmt.Use.{Use}
 use Rattle.ot_check.specs.Offences.{Declared, Openings}
 use Rattle.ot_check.specs.Discipline.{Children}
 use Rattle.ot_check.specs.walk.Grids.{found_at, widths}
-use Rattle.ot_check.specs.walk.Bits.{bit_in, has}
-use Rattle.ot_check.specs.declared.numbers.Numbers.{Numbers}
+use Rattle.ot_sets.specs.Sets.{bit_in, has, words_of}
+use Rattle.ot_sets.specs.declared.numbers.Numbers.{Numbers}
 use Rattle.ot_check.specs.declared.cell_set.CellSet.{CellSet}
 use Rattle.ot_check.specs.declared.opened.Opened.{Opened}
 use Rattle.ot_check.specs.declared.users.User.{User}
@@ -22,7 +22,7 @@ use Rattle.ot_check.specs.declared.standing.Standing.{Standing}
 
 -- the words of each array
 abbrev pub rows_of : CellSet → List (List ℕ)
-rows_of set = map (λ row. row.words.items) set.rows.items
+rows_of set = map words_of set.rows.items
 
 -- whether an index is in the row of its array
 abbrev pub row_has : Option (List ℕ) → ℕ → Bool
@@ -78,6 +78,12 @@ abbrev pub among : Numbers → List (List Use) → Children
 among numbers decls test = some_task (λ k d. has numbers k && test d) 0 decls
 
 -- ---- what stands at a place
+
+-- the region of a body that declares this, before its first statement
+pub record IsBegun (own : Declared) (region : Region) : Type 0 where
+  pub declares : region.own ≡ own
+  pub closed : (o : Operation) (c : Cell) → is_open region.opened o c ≡ false
+  pub none : (k : ℕ) → has region.unawaited k ≡ false
 
 -- the region is that of a body that declares this, where these groups are open and these children may be unawaited; the
 -- tasks that were passed declare these

@@ -1,12 +1,16 @@
 use Rattle.std.proofs.Common.{rules, ◌≡◌, ap, sym, ◌∙◌}
+use Rattle.std.specs.List.{list_any}
 use Rattle.ot_model.specs.Tree.{Set, Fold, If, Task}
 use Rattle.ot_model.specs.View.{stmt_of, stmts_of, expr_of}
 use Rattle.ot_model.specs.declared.stmt.Stmt.{the_lemmas}
 use Rattle.ot_model.specs.declared.stmt.Mode.TheVariants.{Writes, Folds}
 use Rattle.ot_check.specs.Paths.{Touch, use_as}
+use Rattle.ot_check.specs.Offences.{exceeds, misfits}
 use Rattle.ot_model.specs.Value.{cells_named}
 use Rattle.ot_check.specs.Discipline.{may_break, is_marked}
+use Rattle.ot_check.specs.walk.States.{is_open}
 use Rattle.ot_check.specs.declared.fault.Offence.TheVariants.{ChildBeyond, ReductionMisuse}
+use Rattle.ot_check.proofs.OpeningLemmas.{openings-same}
 use Rattle.ot_check.proofs.OffenceLemmas.{reading, either_met, either_other, is_marked-Set, is_marked-Fold, is_marked-If, is_marked-ChildBeyond, is_marked-ReductionMisuse}
 use Rattle.ot_check.proofs.statement.is_offence.Goals as goal
 
@@ -47,13 +51,14 @@ returns-in-If c = λ own opened children decls h.
 pub returns-in-ChildBeyond : goal.returns-in-ChildBeyond
 returns-in-ChildBeyond c = λ own opened children decls h.
     let is : stmt_of c.args.stmt.now ≡ Task c.in-Task.decl (stmts_of c.in-Task.field-1.items) = search (rules, the_lemmas) in
-    c.exceeds.ensures own opened children decls h
+    c.exceeds.ensures ∙ ap (λ own. list_any (exceeds own) c.in-Task.decl) h.declares
     ∙ sym (ap (λ o. is_marked own opened children (stmt_of c.args.stmt.now) o) c.in-ChildBeyond.is ∙ ap (λ x. is_marked own opened children x ChildBeyond) is
     ∙ is_marked-ChildBeyond own opened children c.in-Task.decl (stmts_of c.in-Task.field-1.items))
 
 pub returns-in-ReductionMisuse : goal.returns-in-ReductionMisuse
 returns-in-ReductionMisuse c = λ own opened children decls h.
     let is : stmt_of c.args.stmt.now ≡ Task c.in-Task.decl (stmts_of c.in-Task.field-1.items) = search (rules, the_lemmas) in
-    c.misfits.ensures own opened children decls h
+    c.misfits.ensures ∙ ap (λ own. list_any (misfits own (is_open c.args.standing.now.region.opened)) c.in-Task.decl) h.declares
+    ∙ ap (λ opened. list_any (misfits own opened) c.in-Task.decl) (openings-same (is_open c.args.standing.now.region.opened) opened h.grouped)
     ∙ sym (ap (λ o. is_marked own opened children (stmt_of c.args.stmt.now) o) c.in-ReductionMisuse.is ∙ ap (λ x. is_marked own opened children x ReductionMisuse) is
     ∙ is_marked-ReductionMisuse own opened children c.in-Task.decl (stmts_of c.in-Task.field-1.items))

@@ -6,11 +6,11 @@ use Rattle.ot_model.specs.Counts.{size, size_one}
 use Rattle.ot_model.specs.Names.{NamedIn}
 use Rattle.ot_check.specs.Discipline.{anyone, behind, behind_one, is_marked, nobody, nothing_open, through, through_one, with_group}
 use Rattle.ot_check.specs.walk.Walk.{ended, first, first_one, first_within, leading, placed}
-use Rattle.ot_check.specs.walk.Bits.{bit_in, has}
+use Rattle.ot_sets.specs.Sets.{bit_in, has}
 use Rattle.ot_check.specs.walk.States.{IsBehind, Leads, is_open, lens_of}
 use Rattle.ot_check.proofs.TellingLemmas.{first_one-parts, or-assoc, or-none}
 use Rattle.ot_check.proofs.WalkLemmas.{stmt_of-Set, stmt_of-Fold, stmt_of-If, stmt_of-Task, stmt_of-Wait, stmt_of-Group, leads-as, within-as, rest_is, rest_none}
-use Rattle.ot_check.proofs.RegionLemmas.{and_bits, begun-again, behind-here, behind-then, behind-if, behind-task, behind-group, behind-same, leads-none}
+use Rattle.ot_check.proofs.RegionLemmas.{and_bits, begun-again, behind-here, behind-then, behind-if, behind-child, behind-task, behind-group, behind-same, leads-none, stands-first, stands-grouped}
 use Rattle.ot_check.proofs.Bits.{and_one}
 use Rattle.ot_check.proofs.walk.+walk.Goals as goal
 
@@ -77,13 +77,17 @@ walk-returns-clause-behind t c = λ own opened children decls h.
 
 pub walk_group-returns-clause-told : goal.walk_group-returns-clause-told
 walk_group-returns-clause-told t c = λ own opened children decls h.
-    c.in_ok-walked.ensures.told own (with_group opened c.args.op c.args.cells.now) children decls (c.in_ok-outside.ensures.stands own opened children decls h)
+    c.in_ok-walked.ensures.told own (with_group opened c.args.op c.args.cells.now) children decls
+    (stands-grouped own opened children decls c.args.op c.args.cells.now c.args.standing.now c.begin_group.new.self h
+    c.in_ok-outside.ensures.own c.in_ok-outside.ensures.same c.in_ok-outside.ensures.tasks c.in_ok-outside.ensures.entered)
 
 pub walk_group-returns-clause-behind : goal.walk_group-returns-clause-behind
 walk_group-returns-clause-behind t c = λ own opened children decls h.
     let b = stmts_of c.args.body.now.items in
     let grouped = with_group opened c.args.op c.args.cells.now in
-    let body = c.in_ok-walked.ensures.behind own grouped children decls (c.in_ok-outside.ensures.stands own opened children decls h) in
+    let body = c.in_ok-walked.ensures.behind own grouped children decls
+    (stands-grouped own opened children decls c.args.op c.args.cells.now c.args.standing.now c.begin_group.new.self h
+    c.in_ok-outside.ensures.own c.in_ok-outside.ensures.same c.in_ok-outside.ensures.tasks c.in_ok-outside.ensures.entered) in
     behind-group own opened grouped children (behind children b) (λ d. through d b) decls c.args.standing.now c.walk.new.standing c.end_group.new.self
     c.in_ok-outside.outside.passed c.in_ok-outside.ensures.passed h
     (subst (λ n. IsBehind own grouped (behind children b) (λ k d. has n k && through d b) decls c.walk.new.standing) c.in_ok-outside.ensures.same body)
@@ -101,7 +105,7 @@ walk_one-returns-clause-told t c = λ own opened children decls h.
 pub walk_task-returns-clause-told : goal.walk_task-returns-clause-told
 walk_task-returns-clause-told t c = λ own opened children decls h.
     let b = stmts_of c.args.body.now.items in
-    let begun = c.in_ok-outer.ensures.stands own opened children decls h in
+    let begun = stands-first (Some c.args.decl.now) decls c.begin_task.new.self c.args.standing.now.tasks c.in_ok-outer.ensures.begun c.begin_task.ensures.tasks h.known in
     let body = c.in_ok-walked.ensures.behind (Some c.args.decl.now) nothing_open nobody decls begun in
     c.earlier.ensures
     ∙ ap (λ o. option_or o c.in_ok-walked.walked.first) (c.at.ensures ∙ ap (placed c.args.place) (c.ended.ensures
@@ -113,8 +117,11 @@ pub walk_task-returns-clause-behind : goal.walk_task-returns-clause-behind
 walk_task-returns-clause-behind t c = λ own opened children decls h.
     behind-task own _ opened nothing_open children (behind nobody (stmts_of c.args.body.now.items)) _ c.args.decl.now decls
     c.args.standing.now c.walk.new.standing c.end_task.new.self c.in_ok-outer.outer h
-    (c.in_ok-walked.ensures.behind _ nothing_open nobody decls (c.in_ok-outer.ensures.stands own opened children decls h)) c.in_ok-outer.ensures.outer
-    (λ decls. c.in_ok-end_task.ensures.behind own opened children decls)
+    (c.in_ok-walked.ensures.behind _ nothing_open nobody decls
+    (stands-first (Some c.args.decl.now) decls c.begin_task.new.self c.args.standing.now.tasks c.in_ok-outer.ensures.begun c.begin_task.ensures.tasks h.known))
+    c.in_ok-outer.ensures.outer
+    (λ decls h. behind-child own opened children decls c.args.decl.now c.in_ok-outer.outer c.walk.new.standing.tasks c.end_task.new.self h
+    c.end_task.ensures.own c.end_task.ensures.opened c.in_ok-end_task.ensures.child (c.in_ok-end_task.ensures.known decls h.known))
 
 pub walk_within-returns-in_ok-end_other-in-If-clause-told : goal.walk_within-returns-in_ok-end_other-in-If-clause-told
 walk_within-returns-in_ok-end_other-in-If-clause-told t c = λ own opened children decls h.

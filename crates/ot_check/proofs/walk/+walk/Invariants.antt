@@ -5,7 +5,7 @@ use Rattle.ot_model.specs.Counts.{size}
 use Rattle.ot_model.specs.Names.{NamedIn}
 use Rattle.ot_model.specs.declared.stmt.Use.{Use}
 use Rattle.ot_check.specs.Offences.{Declared, Openings}
-use Rattle.ot_check.specs.walk.Bits.{has}
+use Rattle.ot_sets.specs.Sets.{has}
 use Rattle.ot_check.specs.Discipline.{Children, behind, through}
 use Rattle.ot_check.specs.walk.Walk.{first}
 use Rattle.ot_check.specs.walk.States.{Represents, IsBehind, lens_of}

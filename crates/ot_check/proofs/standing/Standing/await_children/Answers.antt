@@ -1,7 +1,7 @@
 use Rattle.std.proofs.Common.{◌&&◌, not, sym, ap, ◌∙◌}
 use Rattle.std.specs.List.{list_any}
 use Rattle.ot_check.specs.Offences.{awaits}
-use Rattle.ot_check.specs.walk.Bits.{has}
+use Rattle.ot_sets.specs.Sets.{has}
 use Rattle.ot_check.specs.walk.Rows.{awaited_as}
 use Rattle.ot_check.specs.walk.States.{users_at}
 use Rattle.ot_check.proofs.Bits.{and_false}
@@ -13,8 +13,8 @@ pub returns-in-None-clause-behind : goal.returns-in-None-clause-behind
 returns-in-None-clause-behind c = λ own opened children decls h.
     let region = c.args.self.now.region in
     behind-wait own opened children decls c.args.self.now c.args.wait.now c.clear.new.self h
-    (λ k d is. c.clear.ensures k ∙ sym (ap (λ w. has region.unawaited k && not (awaits w d)) c.in-None.is ∙ and_false (has region.unawaited k)))
-    (λ k l. c.clear.ensures k)
+    (λ k d is. c.clear.ensures.none k ∙ sym (ap (λ w. has region.unawaited k && not (awaits w d)) c.in-None.is ∙ and_false (has region.unawaited k)))
+    (λ k l. c.clear.ensures.none k)
 
 pub returns-in-Some-clause-behind : goal.returns-in-Some-clause-behind
 returns-in-Some-clause-behind c = λ own opened children decls h.

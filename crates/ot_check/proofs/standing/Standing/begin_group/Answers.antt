@@ -1,13 +1,8 @@
-use Rattle.std.proofs.Common.{refl, ap}
+use Rattle.std.proofs.Common.{ap}
 use Rattle.std.specs.Prelude.{slice_get}
 use Rattle.ot_model.specs.Uses.{number_of}
 use Rattle.ot_check.specs.walk.States.{set_has}
-use Rattle.ot_check.proofs.RegionLemmas.{stands-grouped}
 use Rattle.ot_check.proofs.standing.Standing.begin_group.Goals as goal
-
-pub returns-clause-stands : goal.returns-clause-stands
-returns-clause-stands c = λ own opened children decls h.
-    stands-grouped own opened children decls c.args.op c.args.cells.now c.args.self.now.region _ c.args.self.now.tasks h refl refl c.in_ok-enter.ensures
 
 pub returns-clause-opened : goal.returns-clause-opened
 returns-clause-opened c = λ o cell. ap (λ sets. set_has (slice_get sets (number_of o)) cell) c.in_ok-opened.ensures

@@ -1,7 +1,8 @@
-use Rattle.std.proofs.Common.{refl, sym, None, []}
-use Rattle.ot_check.proofs.RegionLemmas.{stands-first}
+use Rattle.std.proofs.Common.{refl, sym}
 use Rattle.ot_check.proofs.standing.Standing.of_root.Goals as goal
 
-pub returns-clause-stands : goal.returns-clause-stands
-returns-clause-stands c =
-    stands-first None [] _ c.in_ok-tasks.tasks (record { told = c.in_ok-tasks.ensures.none; counted = sym c.in_ok-tasks.ensures.passed }) refl c.new-2.ensures c.new-3.ensures
+pub returns-clause-begun : goal.returns-clause-begun
+returns-clause-begun c = record { declares = refl; closed = c.new-2.ensures; none = c.new-3.ensures.none }
+
+pub returns-clause-none : goal.returns-clause-none
+returns-clause-none c = record { told = c.in_ok-tasks.ensures.none; counted = sym c.in_ok-tasks.ensures.passed }

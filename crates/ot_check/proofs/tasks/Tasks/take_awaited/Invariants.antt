@@ -1,6 +1,6 @@
 use Rattle.std.proofs.Common.{◌≡◌, ◌&&◌, ℕ, not, take}
 use Rattle.std.specs.List.{list_any}
-use Rattle.ot_check.specs.walk.Bits.{has}
+use Rattle.ot_sets.specs.Sets.{has}
 use Rattle.ot_check.specs.walk.Rows.{awaited_as}
 use Rattle.ot_check.specs.walk.States.{users_at}
 use Rattle.ot_check.proofs.tasks.Tasks.take_awaited.Given as goal

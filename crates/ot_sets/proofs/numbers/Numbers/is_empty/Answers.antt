@@ -1,6 +1,6 @@
 use Rattle.std.proofs.Common.{arith}
-use Rattle.ot_check.proofs.WordLemmas.{bit-there}
-use Rattle.ot_check.proofs.numbers.Numbers.is_empty.Goals as goal
+use Rattle.ot_sets.proofs.Words.{bit-there}
+use Rattle.ot_sets.proofs.numbers.Numbers.is_empty.Goals as goal
 
 pub returns-then-word-ne0-clause-some : goal.returns-then-word-ne0-clause-some
 returns-then-word-ne0-clause-some c = λ e.
