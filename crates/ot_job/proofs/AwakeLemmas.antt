@@ -1,21 +1,14 @@
 -- A task goes on where neither a wait nor a group's end holds it.
-use Rattle.std.proofs.Common.{◌≡◌, ℕ, ◌+◌, ◌<◌, Bool, true, false, cond, not, ◌&&◌, ◌||◌, List, [], ◌∷◌, length, refl, sym, ap, subst, ◌∙◌, arith, true≢false, None, Some, slice_get, count_by, ◌==◌}
-use Rattle.ot_job.proofs.Common.{list_any, nat_tests, sum_by-cons, Body, End, Next, updated, Sibling, is_unfinished, is_unfinished_in, is_in, and_left, and_right, Open, IsFineAt, AwaitsAll, unawaited, Region, at, IsBegun, IsPlaced, IsSound, passed, awake, is_held, is_let_go, end_lets_go}
+use Rattle.std.proofs.Common.{◌≡◌, ℕ, ◌<◌, Bool, true, false, not, ◌&&◌, ◌||◌, List, [], ◌∷◌, length, refl, sym, ap, subst, ◌∙◌, arith, true≢false, None, Some, slice_get, count_by, ◌==◌}
+use Rattle.ot_job.proofs.Common.{list_any, nat_tests, Body, End, Next, updated, Sibling, is_unfinished, is_unfinished_in, is_in, and_left, and_right, Open, IsFineAt, AwaitsAll, unawaited, Region, at, IsBegun, IsPlaced, IsSound, passed, awake, is_held, is_let_go, end_lets_go}
+use Rattle.ot_job.proofs.CountingLemmas.{any-counted}
 use Rattle.ot_job.proofs.PlaceLemmas.{at-fewer, at-leave, placed-leave, kid-none}
 use Rattle.ot_job.proofs.AwaitsLemmas.{awaits-fewer, awaits-leave, let-go}
 use Rattle.ot_job.proofs.ChangedLemmas.{sound-changed, placed-as}
 
 -- none passes where none is counted
 pub none-counted : (p : Sibling → Bool) (kids : List Sibling) → count_by p kids ≡ 0 → list_any p kids ≡ false
-none-counted p [] h = refl
-none-counted p (x ∷ kids) h = by (none-counted p kids) (p x) refl
-  where
-    sum : cond (p x) 1 0 + count_by p kids ≡ 0
-    sum = sym (sum_by-cons (λ s. cond (p s) 1 0) x kids) ∙ h
-
-    by : (count_by p kids ≡ 0 → list_any p kids ≡ false) → (b : Bool) → p x ≡ b → list_any p (x ∷ kids) ≡ false
-    by more true e = absurd (let one : 1 + count_by p kids ≡ 0 = (rw e at sum) in omega (arith, one))
-    by more false e = rw e (more (let rest : 0 + count_by p kids ≡ 0 = (rw e at sum) in omega (arith, rest)))
+none-counted p kids h = sym (any-counted p kids) ∙ ap (λ n. not (n == 0)) h
 
 pub is-zero : (n : ℕ) → (n == 0) ≡ true → n ≡ 0
 is-zero n h = grind (arith, nat_tests)

@@ -1,10 +1,11 @@
 -- Who is claimable, as the code finds it, and whose claimability a change leaves.
-use Rattle.std.proofs.Common.{◌≡◌, ◌≢◌, ◌<◌, ℕ, zero, suc, Bool, true, false, not, ◌||◌, ◌&&◌, ◌==◌, List, [], ◌∷◌, ◌++◌, length, take, refl, sym, ap, ◌∙◌, inl, inr, arith, Option, is_some, slice_get, option_map, unwrap_or, ◌+◌, cond, get_or, subst, true≢false, ◌%◌, Some, None, filter}
-use Rattle.ot_job.proofs.Common.{list_all, cases_eq, updated, length-updated, Use, Sibling, is_ready, with_finished, depends_on, Region, with_child, without, at, is_claimable, is_let_go, slice_get-push, range_with_len, same_Some, nat_tests, IsReady, claimable_of, picked}
+use Rattle.std.proofs.Common.{◌≡◌, ◌≢◌, ◌<◌, ℕ, zero, suc, Bool, true, false, not, ◌||◌, ◌&&◌, ◌==◌, List, [], ◌∷◌, ◌++◌, length, take, refl, sym, ap, ◌∙◌, inl, inr, arith, Option, is_some, slice_get, option_map, unwrap_or, get_or, subst, true≢false, ◌%◌, Some, None}
+use Rattle.ot_job.proofs.Common.{list_all, cases_eq, updated, length-updated, Use, Sibling, is_ready, with_finished, depends_on, Region, with_child, without, at, is_claimable, is_let_go, slice_get-push, nat_tests, IsReady, claimable_of, picked}
 use Rattle.std.proofs.lemmas.List.{take-append-le}
 use Rattle.ot_depend.proofs.ReadyLemmas.{depends_on-from_DependsOn}
 use Rattle.ot_depend.proofs.SiblingsLemmas.{IsReady-from_All}
 use Rattle.std.proofs.lemmas.List.Sums.{AllPass-from_list_all}
+use Rattle.ot_roster.proofs.ListedLemmas.{passing-found}
 use Rattle.ot_job.proofs.KeptLemmas.{at-updated, at-updated-other, at-more}
 use Rattle.ot_job.proofs.EachLemmas.{field-kept, field-more}
 
@@ -146,23 +147,9 @@ other-or i b h = let none : (i == 0) ≡ false = grind (arith, nat_tests) in ap 
 
 -- ---- who is picked is claimable
 
-found-among : (test : ℕ → Bool) (a n k i : ℕ) → slice_get (filter test (range_with_len a n)) k ≡ Some i → (i < a + n) × (test i ≡ true)
-found-among test a zero k i h = cc
-found-among test a (suc n) k i h = by (λ k h. found-among test (a + 1) n k i h) (test a) refl k h
-  where
-    by : ((k : ℕ) → slice_get (filter test (range_with_len (a + 1) n)) k ≡ Some i → (i < a + 1 + n) × (test i ≡ true))
-        → (b : Bool) → test a ≡ b → (k : ℕ) → slice_get (cond (test a) (a ∷ filter test (range_with_len (a + 1) n)) (filter test (range_with_len (a + 1) n))) k ≡ Some i → (i < a + suc n) × (test i ≡ true)
-    by later true e zero h =
-        let is : a ≡ i = same_Some a i (rw e at h) in
-        (omega (arith, is), subst (λ x. test x ≡ true) is e)
-    by later true e (suc k) h = let r = later k (rw e at h) in (omega (arith, r.0), r.1)
-    by later false e k h = let r = later k (rw e at h) in (omega (arith, r.0), r.1)
-
 pub picked-claimable : (rs : List Region) (pick i : ℕ) → picked (claimable_of rs) pick ≡ Some i → (i < length rs) × (is_claimable rs i ≡ true)
 picked-claimable rs pick i h = by (claimable_of rs) refl h
   where
     by : (xs : List ℕ) → claimable_of rs ≡ xs → picked xs pick ≡ Some i → (i < length rs) × (is_claimable rs i ≡ true)
     by [] e h = cc
-    by (x ∷ xs) e h =
-        let r = found-among (is_claimable rs) 0 (length rs) (pick % length (x ∷ xs)) i (ap (λ l. slice_get l (pick % length (x ∷ xs))) e ∙ h) in
-        (omega (arith, r.0), r.1)
+    by (x ∷ xs) e h = passing-found (is_claimable rs) (length rs) (pick % length (x ∷ xs)) i (ap (λ l. slice_get l (pick % length (x ∷ xs))) e ∙ h)

@@ -1,16 +1,14 @@
 -- The names that most proofs of this crate cite, passed on from one place. Declares nothing.
 pub use Rattle.std.specs.List.{list_all, list_any, range_with_len}
-pub use Rattle.std.proofs.Math.ListN.{get_or-map}
 pub use Rattle.std.proofs.lemmas.Bool.{cases_Bool, cases_eq, cases_lt, eq-eqb, eqb-true, false_from_ne_true}
 pub use Rattle.std.proofs.lemmas.Bool.Decides.{nat_tests}
 pub use Rattle.std.proofs.lemmas.Iterator.Adapters.{option_map_id}
-pub use Rattle.std.proofs.lemmas.List.{get_or-set_same, get_or_default, length-append, length-map, length-set, map-append}
+pub use Rattle.std.proofs.lemmas.List.{get_or_default, length-append, length-map, map-append}
 pub use Rattle.std.proofs.lemmas.List.Elements.{All-cons, All-contains, All-head, All-nil, All-tail, All-weaker}
 pub use Rattle.std.proofs.lemmas.List.Folds.{Any-from_list_any, list_any-from_Any}
 pub use Rattle.std.proofs.lemmas.List.FromFn.{length-range_with_len}
 pub use Rattle.std.proofs.lemmas.List.Sorted.{All-permutation, Contains-permutation, IsPermutation-cons, IsPermutation-refl, IsPermutation-swap, IsPermutation-sym, IsPermutation-trans}
 pub use Rattle.std.proofs.lemmas.List.Sums.{count_by-le-length, length-filter, sum_by-cons}
-pub use Rattle.std.proofs.lemmas.Nat.Bits.{bit_at_clear_other, bit_at_clear_same}
 pub use Rattle.std.proofs.lemmas.Option.{none-some, same_Some, slice_get-get_or, slice_get_within}
 pub use Rattle.std.proofs.lemmas.Result.{IfOk-from_err, IfOk-weaker}
 pub use Rattle.ot_model.specs.Cells.{cell_of, lengths, same_cell, updated}
@@ -49,6 +47,8 @@ pub use Rattle.ot_owner.specs.declared.lent.LentCell.{LentCell}
 pub use Rattle.ot_owner.proofs.LentLemmas.{found-lent}
 pub use Rattle.ot_owner.proofs.OutLemmas.{permutation_rest}
 pub use Rattle.ot_owner.proofs.WorthLemmas.{cell_of-worths, worths-same}
+pub use Rattle.ot_roster.specs.Members.{Kept, Tells, put, with_kid, with_member}
+pub use Rattle.ot_roster.proofs.TellsLemmas.{put-here, put-other, tells-same}
 pub use Rattle.ot_check.specs.Discipline.{AreAssigns, Children, IsClean, IsFine, IsHarmless, behind_one}
 pub use Rattle.ot_check.specs.Offences.{Declared, Openings, allows, awaits, clashes, covers, folds_by, folds_to, has_cell, opened_by_any}
 pub use Rattle.ot_check.specs.Paths.{touches, use_as}
@@ -68,15 +68,14 @@ pub use Rattle.ot_task.specs.Weighing.{region_weight, weight_left, weight_of}
 pub use Rattle.ot_task.proofs.CellLemmas.{same_self}
 pub use Rattle.ot_task.proofs.HeldLemmas.{reads-append}
 pub use Rattle.ot_job.specs.Awaiting.{AwaitsAll, IsFineAt, Kids, children_of, kids_behind, opened, unawaited}
-pub use Rattle.ot_job.specs.Calls.{AreRefreshed, HasPiece, IsBack, IsListFor, IsRefreshed}
+pub use Rattle.ot_job.specs.Calls.{HasPiece, IsBack}
 pub use Rattle.ot_job.specs.Claiming.{claimable_of, is_claimable, picked}
 pub use Rattle.ot_job.specs.Claims.{Claims, ahead}
-pub use Rattle.ot_job.specs.Counting.{AreCounted, out_in}
+pub use Rattle.ot_job.specs.Counting.{out_in}
 pub use Rattle.ot_job.specs.Holding.{Holds, touches_out}
 pub use Rattle.ot_job.specs.JobView.{live_of}
 pub use Rattle.ot_job.specs.Left.{children_left, left}
-pub use Rattle.ot_job.specs.Listed.{Numbers, has_number, numbers_in}
-pub use Rattle.ot_job.specs.Listing.{AreKept, IsListBelow, IsNumbered, TellsOf, numbers_of}
+pub use Rattle.ot_job.specs.Listing.{AreKept, IsRefreshed, member, members}
 pub use Rattle.ot_job.specs.Live.{Live}
 pub use Rattle.ot_job.specs.Numbered.{at, ended_at, gone, left_of, parent_of, parents, todo_at}
 pub use Rattle.ot_job.specs.Opened.{AreOpen, IsRoomFor}

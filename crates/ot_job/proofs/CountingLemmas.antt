@@ -1,12 +1,11 @@
 -- What a job counts: through each change of the regions, and at its end.
-use Rattle.std.proofs.Common.{◌≡◌, ℕ, ◌+◌, ◌≤◌, Bool, true, false, List, [], ◌∷◌, None, refl, ap, ◌∙◌, arith, ◌==◌, if◌then◌else◌, ◌<◌, ◌-◌, zero, suc, cond, not, ◌||◌, ◌++◌, length, sym, is_some, count_by}
-use Rattle.ot_job.proofs.Common.{Set, Fold, If, Task, Wait, Group, Body, End, Next, val, cell_of, lengths, size, tasks_in, join_by, State, bump, change, either, serial, serial_run, state_of, AreAssigns, left, children_left, leading_len, counted, counts_after, list_any, nat_tests, sum_by-cons, Use, updated, Lease, Region, with_child, stepped, stopped, over, without, begun, at, any_out, out_in, AreCounted}
+use Rattle.std.proofs.Common.{◌≡◌, ℕ, ◌+◌, ◌≤◌, Bool, true, false, ◌&&◌, filter, List, [], ◌∷◌, None, refl, ap, ◌∙◌, arith, ◌==◌, if◌then◌else◌, ◌<◌, ◌-◌, zero, suc, cond, not, ◌||◌, length, sym, is_some, count_by}
+use Rattle.ot_job.proofs.Common.{Set, Fold, If, Task, Wait, Group, Body, End, Next, val, cell_of, lengths, size, tasks_in, join_by, State, bump, change, either, serial, serial_run, state_of, AreAssigns, left, children_left, leading_len, counted, counts_after, list_any, nat_tests, range_with_len, sum_by-cons, updated, Region, at, all_ended, any_out, out_in}
 use Rattle.ot_model.proofs.CellsLemmas.{lengths-with_cell}
 use Rattle.ot_model.specs.declared.plain.Counts.{Counts}
 use Rattle.ot_model.proofs.SerialLemmas.{serial-from, either-both}
-use Rattle.std.proofs.lemmas.List.Sums.{sum_by_push}
-use Rattle.ot_job.specs.Counting.{unended_in}
-use Rattle.ot_job.proofs.StepLemmas.{stepped-field}
+use Rattle.ot_roster.specs.Members.{passing}
+use Rattle.ot_roster.proofs.ListedLemmas.{passing-behind}
 
 -- ---- what a job counts, now and at its end
 
@@ -127,13 +126,10 @@ settled-state piece rest cells counts only =
 abbrev pub one : Bool → ℕ
 one b = cond b 1 0
 
-pub count-cons : (p : Region → Bool) (r : Region) (rs : List Region) → count_by p (r ∷ rs) ≡ one (p r) + count_by p rs
+pub count-cons : {A : Type 0} (p : A → Bool) (r : A) (rs : List A) → count_by p (r ∷ rs) ≡ one (p r) + count_by p rs
 count-cons p r rs = sum_by-cons (λ x. cond {A = ℕ} (p x) 1 0) r rs
 
-count-push : (p : Region → Bool) (rs : List Region) (r : Region) → count_by p (rs ++ r ∷ []) ≡ count_by p rs + one (p r)
-count-push p rs r = sum_by_push (λ x. cond {A = ℕ} (p x) 1 0) rs r
-
-any-counted : (p : Region → Bool) (rs : List Region) → not (count_by p rs == 0) ≡ list_any p rs
+pub any-counted : {A : Type 0} (p : A → Bool) (rs : List A) → not (count_by p rs == 0) ≡ list_any p rs
 any-counted p [] = refl
 any-counted p (r ∷ rs) = by (any-counted p rs) (p r) refl
   where
@@ -151,6 +147,31 @@ any-counted p (r ∷ rs) = by (any-counted p rs) (p r) refl
 pub out-any : (rs : List Region) → not (out_in rs == 0) ≡ any_out rs
 out-any rs = any-counted (λ r. is_some r.running) rs
 
+pub all-counted : (rs : List Region) → (count_by (λ r. not r.ended) rs == 0) ≡ all_ended rs
+all-counted [] = refl
+all-counted (r ∷ rs) = by (all-counted rs) r.ended refl
+  where
+    by : (count_by (λ r. not r.ended) rs == 0) ≡ all_ended rs → (b : Bool) → r.ended ≡ b → (count_by (λ r. not r.ended) (r ∷ rs) == 0) ≡ (r.ended && all_ended rs)
+    by later true e =
+        let same : count_by (λ r. not r.ended) (r ∷ rs) ≡ count_by (λ r. not r.ended) rs = omega (arith, count-cons (λ r. not r.ended) r rs, ap (λ b. one (not b)) e) in
+        ap (λ n. n == 0) same ∙ later ∙ sym (ap (λ b. b && all_ended rs) e)
+    by later false e =
+        let more : count_by (λ r. not r.ended) (r ∷ rs) ≡ 1 + count_by (λ r. not r.ended) rs = omega (arith, count-cons (λ r. not r.ended) r rs, ap (λ b. one (not b)) e) in
+        let some : (count_by (λ r. not r.ended) (r ∷ rs) == 0) ≡ false = grind (arith, nat_tests, more) in
+        some ∙ sym (ap (λ b. b && all_ended rs) e)
+
+-- so many stand at the numbers that pass
+pub passing-counted : (p : Region → Bool) (rs : List Region) → length (passing (λ k. p (at rs k)) (length rs)) ≡ count_by p rs
+passing-counted p [] = refl
+passing-counted p (r ∷ rs) = by (p r) (passing-behind (λ k. p (at (r ∷ rs) k)) (length rs) ∙ passing-counted p rs) ∙ sym (count-cons p r rs)
+  where
+    others : List ℕ
+    others = filter (λ k. p (at (r ∷ rs) k)) (range_with_len 1 (length rs))
+
+    by : (b : Bool) → length others ≡ count_by p rs → length (cond b (0 ∷ others) others) ≡ one b + count_by p rs
+    by true rest = omega (arith, rest)
+    by false rest = omega (arith, rest)
+
 -- ---- one region changes
 
 pub count-updated : (p : Region → Bool) (f : Region → Region) (rs : List Region) (i : ℕ) → i < length rs
@@ -159,88 +180,3 @@ count-updated p f [] i h = absurd (omega (arith, h))
 count-updated p f (r ∷ rs) zero h = omega (arith, count-cons p r rs, count-cons p (f r) rs)
 count-updated p f (r ∷ rs) (suc i) h =
     omega (arith, count-cons p r rs, count-cons p r (updated rs i f), count-updated p f rs i (omega (arith, h)))
-
-count-kept : (p : Region → Bool) (f : Region → Region) → ((r : Region) → p (f r) ≡ p r) → (rs : List Region) (i : ℕ) → count_by p (updated rs i f) ≡ count_by p rs
-count-kept p f same [] i = refl
-count-kept p f same (r ∷ rs) zero =
-    count-cons p (f r) rs ∙ ap (λ b. one b + count_by p rs) (same r) ∙ sym (count-cons p r rs)
-count-kept p f same (r ∷ rs) (suc i) =
-    count-cons p r (updated rs i f) ∙ ap (λ n. one (p r) + n) (count-kept p f same rs i) ∙ sym (count-cons p r rs)
-
-abbrev runs : Region → Bool
-runs r = is_some r.running
-
-abbrev goes : Region → Bool
-goes r = not r.ended
-
--- ---- a piece goes out and comes back
-
-pub counted-begun : (worker : ℕ) (lease : Lease) (rs : List Region) (i out unended : ℕ) → i < length rs → (at rs i).running ≡ None → AreCounted rs out unended
-    → AreCounted (updated rs i (begun worker lease)) (out + 1) unended
-counted-begun worker lease rs i out unended h idle c =
-    let u = count-updated runs (begun worker lease) rs i h in
-    let was : one (runs (at rs i)) ≡ 0 = ap (λ o. one (is_some o)) idle in
-    record {
-      out = omega (arith, u, was, c.out);
-      unended = c.unended ∙ sym (count-kept goes (begun worker lease) (λ r. refl) rs i);
-    }
-
-pub one-is-out : (rs : List Region) (i : ℕ) → i < length rs → is_some (at rs i).running ≡ true → 1 ≤ out_in rs
-one-is-out rs i h out =
-    let u = count-updated runs stopped rs i h in
-    let was : one (runs (at rs i)) ≡ 1 = ap one out in
-    omega (arith, u, was)
-
-pub counted-stopped : (rs : List Region) (i out unended : ℕ) → i < length rs → is_some (at rs i).running ≡ true → AreCounted rs out unended
-    → AreCounted (updated rs i stopped) (out - 1) unended
-counted-stopped rs i out unended h goes-out c =
-    let u = count-updated runs stopped rs i h in
-    let was : one (runs (at rs i)) ≡ 1 = ap one goes-out in
-    record {
-      out = omega (arith, u, was, c.out);
-      unended = c.unended ∙ sym (count-kept goes stopped (λ r. refl) rs i);
-    }
-
--- ---- a task ends its body, and its parent is told
-
-pub one-goes : (rs : List Region) (i : ℕ) → i < length rs → (at rs i).ended ≡ false → 1 ≤ unended_in rs
-one-goes rs i h alive =
-    let u = count-updated goes over rs i h in
-    let was : one (goes (at rs i)) ≡ 1 = ap (λ b. one (not b)) alive in
-    omega (arith, u, was)
-
-pub counted-over : (rs : List Region) (i out unended : ℕ) → i < length rs → (at rs i).ended ≡ false → AreCounted rs out unended
-    → AreCounted (updated rs i over) out (unended - 1)
-counted-over rs i out unended h alive c =
-    let u = count-updated goes over rs i h in
-    let was : one (goes (at rs i)) ≡ 1 = ap (λ b. one (not b)) alive in
-    record {
-      out = c.out ∙ sym (count-kept runs over (λ r. refl) rs i);
-      unended = omega (arith, u, was, c.unended);
-    }
-
-pub counted-told : (rs : List Region) (p child out unended : ℕ) → AreCounted rs out unended → AreCounted (updated rs p (without child)) out unended
-counted-told rs p child out unended c = record {
-  out = c.out ∙ sym (count-kept runs (without child) (λ r. refl) rs p);
-  unended = c.unended ∙ sym (count-kept goes (without child) (λ r. refl) rs p);
-}
-
--- ---- a task executes a control statement
-
-pub counted-stepped : (taken : Bool) (g : ℕ) (rs : List Region) (i out unended : ℕ) → AreCounted rs out unended → AreCounted (updated rs i (stepped taken g)) out unended
-counted-stepped taken g rs i out unended c = record {
-  out = c.out ∙ sym (count-kept runs (stepped taken g) (stepped-field runs (λ r rest groups waiting. refl) taken g) rs i);
-  unended = c.unended ∙ sym (count-kept goes (stepped taken g) (stepped-field goes (λ r rest groups waiting. refl) taken g) rs i);
-}
-
--- a task that is created has not ended, and no piece of it is out
-pub counted-created : (rs : List Region) (i out unended : ℕ) (uses : List Use) (new : Region) → new.running ≡ None → new.ended ≡ false → AreCounted rs out unended
-    → AreCounted (updated rs i (with_child uses) ++ new ∷ []) out (unended + 1)
-counted-created rs i out unended uses new idle alive c =
-    let now = updated rs i (with_child uses) in
-    let none : one (runs new) ≡ 0 = ap (λ o. one (is_some o)) idle in
-    let more : one (goes new) ≡ 1 = ap (λ b. one (not b)) alive in
-    record {
-      out = omega (arith, c.out, count-push runs now new, count-kept runs (with_child uses) (λ r. refl) rs i, none);
-      unended = omega (arith, c.unended, count-push goes now new, count-kept goes (with_child uses) (λ r. refl) rs i, more);
-    }

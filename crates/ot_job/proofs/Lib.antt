@@ -36,8 +36,6 @@ pub mod StuckLemmas
 pub mod WeighingLemmas
 pub mod DealingsLemmas
 pub mod CountingLemmas
-pub mod ListedLemmas
 pub mod ClaimableLemmas
-pub mod NumberedLemmas
 pub mod KeepingLemmas
 pub mod StepLemmas

@@ -1,9 +1,7 @@
 -- Copies are kept of the cells of the open groups and of no others, as tasks go on and as pieces come back.
-use Rattle.std.proofs.Common.{◌≡◌, ◌≢◌, ◌<◌, ◌+◌, ◌↔◌, ◌⊎◌, ℕ, zero, suc, Bool, true, false, ◌&&◌, true≢false, cond, List, [], ◌∷◌, ◌++◌, map, length, get_or, refl, sym, ap, subst, ◌∙◌, inl, inr, arith, Contains, IsPermutation, Option, Some, None, IsSome, is_some, option_map, unwrap_or, replicate, nat_lt, if◌then◌else◌, ◌==◌, All, Any}
+use Rattle.std.proofs.Common.{◌≡◌, ◌≢◌, ◌<◌, ◌+◌, ◌↔◌, ◌⊎◌, ℕ, zero, suc, Bool, true, false, ◌&&◌, true≢false, List, [], ◌∷◌, ◌++◌, map, length, get_or, refl, sym, ap, subst, ◌∙◌, inl, inr, arith, Contains, IsPermutation, Option, Some, None, IsSome, is_some, option_map, unwrap_or, replicate, nat_lt, if◌then◌else◌, ◌==◌, All, Any}
 use Rattle.ot_job.proofs.Common.{cases_eq, eqb-true, eq-eqb, option_map_id, map-append, get_or_default, All-contains, Any-from_list_any, list_any-from_Any, Contains-permutation, IsPermutation-refl, IsPermutation-sym, IsPermutation-trans, IsPermutation-cons, same_Some, none-some, cell_of, same_cell, updated, Set, Fold, If, Task, Wait, Group, Body, End, Next, Conflict, is_fold, mode_in, first_of, same_fold, Cell, Operation, Mode, Reads, Writes, Folds, Use, has_cell, true_or, or_right, and_true, all_back, copy_of, lent_from, Loan, Owned, IsFreeFor, Summed, IsNamed, IsSummed, IsSummedBy, begun_for, worth_over, worth, worths, LentCell, permutation_rest, cell_of-worths, passed, awake, group_passed, Open, Region, group_next, with_child, new_region, with_created, stepped, stepped_from, executed, next_task, rest_at, children_at, over, stopped, opened, at, parent_of, AreOpen, left_open, Opens, told_parent, closed, moved_on, settled}
 use Rattle.ot_depend.proofs.ReadyLemmas.{same_answer}
-use Rattle.std.specs.List.{position_from}
-use Rattle.std.proofs.lemmas.Iterator.Adapters.{position_from-zero}
 use Rattle.std.proofs.lemmas.List.Elements.{Contains-get_or, Contains-append_left, Contains-append_right, Contains-append_cases, Contains-push_cases}
 use Rattle.std.proofs.lemmas.List.Quantifiers.{position-Some}
 use Rattle.std.proofs.lemmas.List.Sorted.{IsPermutation-middle, IsPermutation-to_front, IsPermutation-append_right}
@@ -11,6 +9,7 @@ use Rattle.ot_model.proofs.EqualLemmas.{cell-decides}
 use Rattle.ot_owner.specs.Back.{taken_back}
 use Rattle.ot_owner.specs.Rows.{is_of, place_in, names, folds_in, folded_in, folded, begun_in, without as without_group}
 use Rattle.ot_owner.specs.Worth.{IsCombined}
+use Rattle.ot_owner.proofs.NameLemmas.{place-named as place-of}
 use Rattle.ot_owner.proofs.OpenLemmas.{same_worth, worth-unsummed as over-unsummed}
 use Rattle.ot_task.specs.Pieces.{ended_group}
 use Rattle.ot_job.specs.Opened.{numbers_in}
@@ -52,22 +51,6 @@ all-of : {A : Type 0} (P : A → Type 0) (xs : List A) → ((x : A) → Contains
 all-of P xs each k d within = each (get_or xs k d) (Contains-get_or xs k d within)
 
 -- ---- which cells are named
-
-place-named : (c : Cell) (k : ℕ) (uses : List Use) → IsNamed uses c → is_some (position_from (is_of c) k uses) ≡ true
-place-named c k [] (j, u, within, is, same) = absurd (omega (arith, within))
-place-named c k (v ∷ uses) named = by (is_of c v) refl (λ earlier. place-named c (k + 1) uses earlier)
-  where
-    behind : is_of c v ≡ false → IsNamed (v ∷ uses) c → IsNamed uses c
-    behind other (zero, u, within, is, same) = absurd (true≢false (sym ((cell-decides v.cell c).1 (ap (λ (u : Use). u.cell) is ∙ same)) ∙ other))
-    behind other (suc j, u, within, is, same) = (j, u, omega (arith, within), is, same)
-
-    by : (b : Bool) → is_of c v ≡ b → (IsNamed uses c → is_some (position_from (is_of c) (k + 1) uses) ≡ true) → is_some (position_from (is_of c) k (v ∷ uses)) ≡ true
-    by true e rest = ap (λ b. is_some (cond b (Some k) (position_from (is_of c) (k + 1) uses))) e
-    by false e rest = ap (λ b. is_some (cond b (Some k) (position_from (is_of c) (k + 1) uses))) e ∙ rest (behind e named)
-
--- a group names the cells of its uses
-place-of : (uses : List Use) (c : Cell) → IsNamed uses c → is_some (place_in uses c) ≡ true
-place-of uses c named = ap is_some (position_from-zero (is_of c) uses) ∙ place-named c 0 uses named
 
 nothing : Use
 nothing = record { cell = record { array = 0; index = 0 }; mode = Reads }

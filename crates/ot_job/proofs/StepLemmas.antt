@@ -28,12 +28,6 @@ stepped-field g same taken number r = by r.rest
     by (Next (Wait w) rest) = same r rest r.groups (Some w)
     by (Next (Group op cs b) rest) = same r b (record { group = number; op = op; cells = cs; behind = rest } ∷ r.groups) r.waiting
 
-pub stepped-parent : (taken : Bool) (number : ℕ) (r : Region) → (stepped taken number r).parent ≡ r.parent
-stepped-parent = stepped-field (λ r. r.parent) (λ r rest groups waiting. refl)
-
-pub stepped-child : (taken : Bool) (number : ℕ) (r : Region) → (stepped taken number r).child ≡ r.child
-stepped-child = stepped-field (λ r. r.child) (λ r rest groups waiting. refl)
-
 pub stepped-children : (taken : Bool) (number : ℕ) (r : Region) → (stepped taken number r).children ≡ r.children
 stepped-children = stepped-field (λ r. r.children) (λ r rest groups waiting. refl)
 

@@ -1,8 +1,9 @@
 -- A job that hasn't ended, and of which no piece is out, has a task that may be claimed.
-use Rattle.std.proofs.Common.{◌≡◌, ℕ, zero, suc, ◌+◌, ◌<◌, ◌≤◌, true, false, List, [], ◌∷◌, length, refl, sym, ap, subst, ◌∙◌, ◌⊎◌, inl, inr, arith, true≢false, Some, slice_get, Bool, cond, not, ◌&&◌, ◌||◌, get_or, ◌==◌, None, is_some, filter, count_by, IsTrue, if◌then◌else◌, All}
-use Rattle.ot_job.proofs.Common.{cases_Bool, Sibling, IsReady, Region, at, parent_of, ended_at, IsBegun, IsKin, IsSound, range_with_len, nat_tests, length-map, Body, End, Next, is_ready, is_unfinished, is_unfinished_in, and_true, or_false_left, or_false_right, Open, whole, wholes, is_claimable, claimable_of, is_held, is_let_go, end_lets_go, Live, IsWell, any_out, all_ended, state_in, Working, Failing, Ended, Failed}
+use Rattle.std.proofs.Common.{◌≡◌, ℕ, zero, suc, ◌+◌, ◌<◌, ◌≤◌, true, false, List, [], ◌∷◌, length, refl, sym, ap, subst, ◌∙◌, ◌⊎◌, inl, inr, arith, true≢false, Some, slice_get, Bool, not, ◌&&◌, ◌||◌, get_or, ◌==◌, None, is_some, count_by, IsTrue, if◌then◌else◌, All}
+use Rattle.ot_job.proofs.Common.{cases_Bool, Sibling, IsReady, Region, at, parent_of, ended_at, IsBegun, IsKin, IsSound, nat_tests, length-map, Body, End, Next, is_ready, is_unfinished, is_unfinished_in, and_true, or_false_left, or_false_right, Open, whole, wholes, is_claimable, claimable_of, is_held, is_let_go, end_lets_go, Live, IsWell, any_out, all_ended, state_in, Working, Failing, Ended, Failed}
 use Rattle.ot_depend.proofs.CountLemmas.{none_unfinished, none_unfinished_in}
 use Rattle.ot_depend.proofs.ReadyLemmas.{is_ready-told}
+use Rattle.ot_roster.proofs.ListedLemmas.{passing-some}
 use Rattle.ot_job.proofs.AwaitsLemmas.{held-unfinished}
 use Rattle.ot_job.proofs.AwakeLemmas.{none-counted}
 use Rattle.ot_job.proofs.RightsLemmas.{at-whole}
@@ -160,29 +161,12 @@ module _ (rs : List Region) (out : any_out rs ≡ false) (i : ℕ) (f : Free (wh
           by true h = refl
           by false h = h
 
--- one that passes a test is among those that do
-some-pass : (test : ℕ → Bool) (a n k : ℕ) → k < n → test (a + k) ≡ true → 0 < length (filter test (range_with_len a n))
-some-pass test a zero k below passes = absurd (omega (arith, below))
-some-pass test a (suc n) zero below passes =
-    let e : a + 0 ≡ a = omega arith in
-    let here : test a ≡ true = ap test (sym e) ∙ passes in
-    rw here (omega arith)
-some-pass test a (suc n) (suc k) below passes =
-    let e : a + 1 + k ≡ a + suc k = omega arith in
-    by (test a) (some-pass test (a + 1) n k (omega (arith, below)) (ap test e ∙ passes))
-  where
-    by : (b : Bool) → 0 < length (filter test (range_with_len (a + 1) n)) → 0 < length (cond b (a ∷ filter test (range_with_len (a + 1) n)) (filter test (range_with_len (a + 1) n)))
-    by true h = omega arith
-    by false h = h
-
 pub has-claimable : (j : Live) → IsWell j → j.failing ≡ false → all_ended j.regions ≡ false → any_out j.regions ≡ false → 0 < length (claimable_of j.regions)
 has-claimable j w working left out =
     let o = w.course working in
     let one = one-left j.regions left in
     let f = never_stuck (wholes j.regions) o.sound one.0 (omega (arith, one.1, length-map j.regions whole)) (ap (λ (x : Region). x.ended) (at-whole j.regions one.0) ∙ one.2) in
-    let e : 0 + f.0 ≡ f.0 = omega arith in
-    some-pass (is_claimable j.regions) 0 (length j.regions) f.0 (omega (arith, f.1.within, length-map j.regions whole))
-    (ap (is_claimable j.regions) e ∙ free-claimable j.regions out f.0 f.1)
+    passing-some (is_claimable j.regions) (length j.regions) f.0 (omega (arith, f.1.within, length-map j.regions whole)) (free-claimable j.regions out f.0 f.1)
 
 pub state-working : (j : Live) → state_in j ≡ Working → (j.failing ≡ false) × (all_ended j.regions ≡ false)
 state-working j h = by j.failing (any_out j.regions) (all_ended j.regions) h

@@ -1,18 +1,7 @@
 -- What the code does to its lists, told of the regions and numbers in them.
-use Rattle.std.proofs.Common.{◌≡◌, ℕ, zero, suc, List, [], ◌∷◌, map, get_or, set, refl, sym, ◌∙◌, ap, Result, Ok, Err, OnErr, OnOk}
-use Rattle.ot_job.proofs.Common.{get_or-map, updated, Region}
-use Rattle.std.proofs.lemmas.List.{map-set}
+use Rattle.std.proofs.Common.{◌≡◌, ℕ, List, [], get_or, set, ◌∙◌, ap, Result, Ok, Err, OnErr, OnOk}
+use Rattle.ot_job.proofs.Common.{updated, Region}
 use Rattle.ot_model.proofs.CellsLemmas.{set-updated}
-
-pub set-same : {A : Type 0} (xs : List A) (i : ℕ) (x : A) → x ≡ get_or xs i x → set xs i x ≡ xs
-set-same [] i x is = refl
-set-same (y ∷ xs) zero x is = ap (λ z. z ∷ xs) is
-set-same (y ∷ xs) (suc i) x is = ap (λ zs. y ∷ zs) (set-same xs i x is)
-
--- a record is replaced by one that stands for the same region
-pub map-kept : {A B : Type 0} (g : A → B) (xs : List A) (i : ℕ) (x y : A) → x ≡ get_or xs i x → g y ≡ g x → map g (set xs i y) ≡ map g xs
-map-kept g xs i x y is same =
-    map-set g xs i y ∙ ap (set (map g xs) i) same ∙ set-same (map g xs) i (g x) (ap g is ∙ sym (get_or-map g xs i x))
 
 -- one region is replaced by what it changes to
 pub set-changed : (rs : List Region) (i : ℕ) (x y : Region) (f : Region → Region) → x ≡ get_or rs i x → y ≡ f x → set rs i y ≡ updated rs i f

@@ -1,11 +1,10 @@
 -- What the job's parts ask of each other, and what they tell.
-use Rattle.std.specs.Prelude.{◌≡◌, ◌<◌, ◌≤◌, ℕ, List, ◌∷◌, ◌++◌, slice_index_or, Option, option_map, length, true, false, is_some, All, Any, Contains, IsSome, IfSome, IsPermutation}
+use Rattle.std.specs.Prelude.{◌≡◌, ◌<◌, ℕ, List, ◌∷◌, ◌++◌, Option, option_map, length, true, false, is_some, All, Any, Contains, IsSome, IfSome, IsPermutation}
 use Rattle.ot_model.specs.Cells.{cell_of, lengths}
 use Rattle.ot_model.specs.declared.expr.Cell.{Cell}
 use Rattle.ot_model.specs.declared.fold.Fold.{Fold as Operation}
 use Rattle.ot_model.specs.declared.stmt.Mode.TheVariants.{Writes, Folds}
 use Rattle.ot_model.specs.declared.stmt.Use.{Use}
-use Rattle.ot_depend.specs.Kept.{has}
 use Rattle.ot_depend.specs.Siblings.{IsReady, IsUnfinished}
 use Rattle.ot_owner.specs.Keeping.{Keeping, Prepared, IsLast, IsOpenable}
 use Rattle.ot_owner.specs.Back.{AreStored, all_back}
@@ -15,8 +14,6 @@ use Rattle.ot_owner.specs.Rows.{IsSummed, IsSummedBy, begun_for}
 use Rattle.ot_owner.specs.Worth.{worth, AreJoined, AreWorthSame}
 use Rattle.ot_owner.specs.declared.lent.LentCell.{LentCell}
 use Rattle.ot_task.specs.Regions.{Region}
-use Rattle.ot_job.specs.Listed.{Numbers}
-use Rattle.ot_job.specs.Listing.{IsListBelow, TellsOf}
 use Rattle.ot_job.specs.Numbered.{at, parent_of}
 use Rattle.ot_job.specs.Opened.{opened_under}
 use Rattle.ot_job.specs.Opening.{MayOpen, left_open, passed_over}
@@ -76,26 +73,3 @@ pub record MayEnd (rs : List Region) (i : ℕ) : Type 0 where
   pub piece : HasPiece rs i
   pub alive : (at rs i).ended ≡ false
   pub finish : 0 < i → MayFinish rs i
-
--- the list has numbers of so many tasks, in their order, and room for all
-pub record IsListFor (count : ℕ) (list : Numbers) : Type 0 where
-  pub ordered : IsListBelow count list.listed
-  pub room : count ≤ list.room
-
--- each task that the one list tells of rightly, the other does
-abbrev pub TellsToo : List Region → (old new : Numbers) → Type 0
-TellsToo tasks old new = (k : ℕ) → TellsOf tasks old.listed k → TellsOf tasks new.listed k
-
--- the list is right about the task, and about each that it was right about, and has no less room
-pub record IsRefreshed (tasks : List Region) (old new : Numbers) (i : ℕ) : Type 0 where
-  pub list : IsListFor (length tasks) new
-  pub told : TellsOf tasks new.listed i
-  pub others : TellsToo tasks old new
-  pub room : old.room ≤ new.room
-
--- the same of some children, by the numbers of the tasks
-pub record AreRefreshed (tasks : List Region) (old new : Numbers) (numbers children : List ℕ) : Type 0 where
-  pub list : IsListFor (length tasks) new
-  pub told : (c : ℕ) → has c children ≡ true → TellsOf tasks new.listed (slice_index_or numbers c 0)
-  pub others : TellsToo tasks old new
-  pub room : old.room ≤ new.room

@@ -23,5 +23,4 @@ pub mod Opened
 pub mod Calls
 pub mod Well
 pub mod Rights
-pub mod Listed
 pub mod Listing

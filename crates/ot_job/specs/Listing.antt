@@ -1,34 +1,24 @@
--- Tasks that are listed in order of their numbers.
-use Rattle.std.specs.Prelude.{◌≡◌, ◌<◌, ◌≤◌, ℕ, List, [], map, length, get_or, filter, slice_get, Some}
-use Rattle.std.specs.List.{range_with_len}
+-- The tasks as members of their roster.
+use Rattle.std.specs.Prelude.{◌≡◌, ◌<◌, ℕ, Bool, true, List, length, is_some}
 use Rattle.ot_depend.specs.Kept.{has}
+use Rattle.ot_roster.specs.Members.{Member, Kept, Tells}
 use Rattle.ot_task.specs.Regions.{Region}
 use Rattle.ot_job.specs.Numbered.{at}
-use Rattle.ot_job.specs.Claiming.{is_claimable, claimable_of}
-use Rattle.ot_job.specs.Counting.{AreCounted}
-use Rattle.std.specs.declared.vec.Vec.{Vec}
+use Rattle.ot_job.specs.Claiming.{is_claimable}
 
--- the list has numbers below this one, each once, in their order
-abbrev pub IsListBelow : ℕ → List ℕ → Type 0
-IsListBelow count list = list ≡ filter (λ i. has i list) (range_with_len 0 count)
+abbrev pub member : Region → Member
+member r = record { parent = r.parent; child = r.child; kids = length r.children; out = is_some r.running; ended = r.ended }
 
--- the task is in the list exactly where it is claimable
-abbrev pub TellsOf : List Region → List ℕ → ℕ → Type 0
-TellsOf rs list i = has i list ≡ is_claimable rs i
+abbrev pub members : List Region → ℕ → Member
+members rs k = member (at rs k)
 
--- of each task, the numbers of its children's tasks, in order of their creation
-pub record IsNumbered (rs : List Region) (numbers : List (List ℕ)) : Type 0 where
-  pub long : length numbers ≡ length rs
-  pub each : (p : ℕ) → length (get_or numbers p []) ≡ length (at rs p).children
-  pub known : (p c i : ℕ) → slice_get (get_or numbers p []) c ≡ Some i → i < length rs
-  pub tasks : (i : ℕ) → 0 < i → i < length rs → slice_get (get_or numbers (at rs i).parent []) (at rs i).child ≡ Some i
+-- the roster tells of the tasks rightly, and which are claimable
+abbrev pub AreKept : List Region → Kept → Type 0
+AreKept rs r = Tells (length rs) (members rs) (is_claimable rs) r
 
--- what is kept beside the tasks: their children's numbers, those that are claimable with room for all, and the counters
-pub record AreKept (rs : List Region) (numbers : List (List ℕ)) (list : List ℕ) (places runs goes : ℕ) : Type 0 where
-  pub counted : AreCounted rs runs goes
-  pub numbered : IsNumbered rs numbers
-  pub claimable : list ≡ claimable_of rs
-  pub room : length rs ≤ places
-
-abbrev pub numbers_of : {Z : Type 0} → List (Vec ℕ Z) → List (List ℕ)
-numbers_of lists = map (λ v. v.items) lists
+-- these children of the task are free now exactly where they are claimable, and so is each of whom it was right before
+pub record IsRefreshed (rs : List Region) (parent : ℕ) (children : List ℕ) (old : ℕ → Bool) (r : Kept) : Type 0 where
+  pub test : ℕ → Bool
+  pub tells : Tells (length rs) (members rs) test r
+  pub told : (k : ℕ) → 0 < k → k < length rs → (at rs k).parent ≡ parent → has (at rs k).child children ≡ true → test k ≡ is_claimable rs k
+  pub others : (k : ℕ) → old k ≡ is_claimable rs k → test k ≡ is_claimable rs k

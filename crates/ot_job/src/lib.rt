@@ -10,7 +10,6 @@
 mod arena;
 mod job;
 mod lending;
-mod listed;
 mod listing;
 mod pick;
 mod piece;

@@ -1,33 +1,21 @@
-//! The list of the claimable tasks, in order of their numbers.
-ghost use Rattle.std.specs.Prelude.{◌<◌, All, length};
-ghost use Rattle.ot_job.specs.Calls.{AreRefreshed, IsListFor, IsRefreshed};
+//! Which of the tasks are claimable, as the roster tells.
+ghost use Rattle.std.specs.Prelude.{◌<◌, ℕ, Bool, All, length};
+ghost use Rattle.ot_roster.specs.Members.{Tells};
+ghost use Rattle.ot_job.specs.Listing.{IsRefreshed, members};
+ghost use Rattle.ot_job.specs.Numbered.{at};
 
-use crate::listed::Listed;
 use crate::pick::is_claimable;
+use ot_roster::Roster;
 use ot_task::Task;
 
-/// Looks whether a task is claimable now. It takes no memory.
-pub fn refresh(list: &mut Listed, tasks: &[Task], i: usize)
-    requires known { i < length tasks.now }
-    requires list { IsListFor (length tasks.now) list.old }
-    ensures { IsRefreshed tasks.now list.old list.new i }
-{
-    if is_claimable(tasks, i) {
-        list.insert(i);
-    } else {
-        list.remove(i);
-    }
-}
-
-/// Looks which of some children of one task, whose numbers these are, are claimable now. It takes no
-/// memory.
-pub fn refresh_children(list: &mut Listed, tasks: &[Task], numbers: &[usize], children: &[usize])
-    requires children { All (λ c. c < length numbers.now) children.now }
-    requires numbers { All (λ i. i < length tasks.now) numbers.now }
-    requires list { IsListFor (length tasks.now) list.old }
-    ensures { AreRefreshed tasks.now list.old list.new numbers.now children.now }
+/// Looks which of some children of a task are claimable now. It takes no memory.
+pub fn refresh_children(roster: &mut Roster, tasks: &[Task], parent: usize, children: &[usize])
+    requires told { (test : ℕ → Bool) × Tells (length tasks.now) (members tasks.now) test roster.old }
+    requires children { All (λ c. c < length (at tasks.now parent).children) children.now }
+    ensures { (old : ℕ → Bool) → Tells (length tasks.now) (members tasks.now) old roster.old → IsRefreshed tasks.now parent children.now old roster.new }
 {
     for child in children {
-        refresh(list, tasks, numbers[*child]);
+        let number = roster.child(parent, *child);
+        roster.mark(number, is_claimable(tasks, number));
     }
 }

@@ -1,7 +1,8 @@
 use crate::arena::execute;
-use crate::listed::Listed;
-use crate::listing::{refresh, refresh_children};
+use crate::listing::refresh_children;
+use crate::pick::is_claimable;
 use ot_parts::Part;
+use ot_roster::Roster;
 use ot_task::{Running, Task};
 use std::alloc::{AllocError, Global};
 use std::marker::Model;
@@ -11,14 +12,8 @@ use std::sync::Arc;
 #[derive(Debug, Drop)]
 pub struct Tasks {
     tasks: Vec<Task>,
-    /// Of each task, the numbers of its children's tasks, in order of their creation.
-    children: Vec<Vec<usize>>,
-    /// Those that are claimable, in order of their numbers. It has room for all.
-    claimable: Listed,
-    /// How many have a piece out.
-    out: usize,
-    /// How many have not ended their body.
-    unended: usize,
+    /// Whose children they are, which are claimable, and how many have a piece out and have not ended.
+    roster: Roster,
 }
 
 impl Model for Tasks {
@@ -31,11 +26,11 @@ impl Model for Tasks {
 
     ghost coded = { Prim.hlevel (codes, body_code) };
 
-    ghost use Rattle.ot_job.specs.Listing.{AreKept, numbers_of};
+    ghost use Rattle.ot_job.specs.Listing.{AreKept};
 
     ghost view = { λ t. t.tasks.items };
 
-    ghost invariant = { λ t. AreKept t.tasks.items (numbers_of t.children.items) t.claimable.listed t.claimable.room t.out t.unended };
+    ghost invariant = { λ t. AreKept t.tasks.items t.roster };
 }
 
 impl Tasks {
@@ -58,19 +53,9 @@ impl Tasks {
         ensures { IfOk result (λ tasks. tasks ≡ root_region (parts_of (arc_value body).items) ∷ []) }
     {
         let mut tasks = Vec::with_capacity(alloc, 1)?;
-        let mut children = Vec::with_capacity(alloc, 1)?;
-        let mut claimable = Listed::new(alloc);
-        claimable.make_room_for(0)?;
+        let roster = Roster::alone(alloc)?;
         tasks.push_reserved(Task::root(alloc, body));
-        children.push_reserved(Vec::new(alloc));
-        claimable.insert(0);
-        Ok(Tasks {
-            tasks,
-            children,
-            claimable,
-            out: 0,
-            unended: 1,
-        })
+        Ok(Tasks { tasks, roster })
     }
 
     /// All of them.
@@ -92,32 +77,32 @@ impl Tasks {
     pub fn any_out(&self) -> bool
         ensures { result ≡ any_out self.now }
     {
-        self.out != 0
+        self.roster.any_out()
     }
 
     /// Whether each task has ended its body.
     pub fn all_ended(&self) -> bool
         ensures { result ≡ all_ended self.now }
     {
-        self.unended == 0
+        self.roster.all_ended()
     }
 
     /// How many are claimable.
     pub fn claimable(&self) -> usize
         ensures { result ≡ length (claimable_of self.now) }
     {
-        self.claimable.count()
+        self.roster.count()
     }
 
     /// The claimable task at `pick` modulo their count.
     pub fn pick(&self, pick: usize) -> Option<usize>
         ensures { result ≡ picked (claimable_of self.now) pick }
     {
-        let count = self.claimable.count();
+        let count = self.roster.count();
         if count == 0 {
             return None;
         }
-        self.claimable.at(pick % count)
+        self.roster.at(pick % count)
     }
 
     /// A task goes on with a piece that is out from now on, of which it keeps this. It takes no memory.
@@ -128,8 +113,7 @@ impl Tasks {
         ensures { self.new ≡ updated self.old i (begun running.worker running.lease) }
     {
         self.tasks[i].begin(running);
-        self.out += 1;
-        self.claimable.remove(i);
+        self.roster.begin(i);
     }
 
     /// The piece of a task is not out any more. It takes no memory.
@@ -138,8 +122,7 @@ impl Tasks {
         ensures { self.new ≡ updated self.old i stopped }
     {
         self.tasks[i].stop();
-        self.out -= 1;
-        refresh(&mut self.claimable, &self.tasks, i);
+        self.roster.stop(i, is_claimable(&self.tasks, i));
     }
 
     /// Settles a task's piece: the task ends its body where it has reached its end, and else executes
@@ -204,13 +187,8 @@ impl Tasks {
     {
         let (parent, child) = self.tasks[i].place_among();
         let waiters = self.tasks[parent].release_child(child);
-        refresh(&mut self.claimable, &self.tasks, parent);
-        refresh_children(
-            &mut self.claimable,
-            &self.tasks,
-            &self.children[parent],
-            &waiters,
-        );
+        self.roster.mark(parent, is_claimable(&self.tasks, parent));
+        refresh_children(&mut self.roster, &self.tasks, parent, &waiters);
     }
 
     /// A task has ended its body. It takes no memory.
@@ -220,7 +198,7 @@ impl Tasks {
         ensures { self.new ≡ updated self.old i over }
     {
         self.tasks[i].end();
-        self.unended -= 1;
+        self.roster.end();
     }
 
     /// A task executes the control statement that comes next, if one does, which is not a task. Where
@@ -250,14 +228,10 @@ impl Tasks {
         ensures refused { OnErr result (self.new ≡ self.old) }
     {
         let number = self.tasks.len();
-        self.children[i].reserve(1)?;
-        self.children.reserve(1)?;
-        self.claimable.make_room_for(number)?;
+        self.roster.make_room(i)?;
         execute(&mut self.tasks, alloc, i, taken, group)?;
-        self.children[i].push_reserved(number);
-        self.children.push_reserved(Vec::new(alloc));
-        self.unended += 1;
-        refresh(&mut self.claimable, &self.tasks, number);
+        let claimable = is_claimable(&self.tasks, number);
+        self.roster.add(alloc, i, claimable);
         Ok(())
     }
 }

@@ -1,7 +1,6 @@
-use Rattle.std.proofs.Common.{◌≡◌, ◌∙◌, ap, sym, subst, arith, ◌-◌, List, length}
-use Rattle.ot_job.proofs.Common.{updated, Region, stopped, HasPiece, numbers_of, AreKept}
-use Rattle.ot_job.proofs.CountingLemmas.{one-is-out, counted-stopped}
-use Rattle.ot_job.proofs.KeepingLemmas.{long-stopped, listed-stopped, kept-stopped}
+use Rattle.std.proofs.Common.{◌≡◌, ◌∙◌, refl, ap, sym, subst, arith, List, length}
+use Rattle.ot_job.proofs.Common.{updated, length-updated, Region, stopped, HasPiece, is_claimable, members, AreKept}
+use Rattle.ot_job.proofs.KeepingLemmas.{kept-updated}
 use Rattle.ot_job.proofs.ViewLemmas.{set-changed}
 use Rattle.ot_job.proofs.tasks.Tasks.stop.Goals.{After-stop, After-deref}
 use Rattle.ot_job.proofs.tasks.Tasks.stop.Goals as goal
@@ -15,29 +14,23 @@ now c = c.deref.ensures.value ∙ set-changed c.self.inside.tasks.items c.args.i
 pub index_mut-requires : goal.index_mut-requires
 index_mut-requires c = omega (arith, c.requires.known, ap length c.self.view_is, c.self.inside.tasks.ok.0)
 
-pub overflow_sub-self : goal.overflow_sub-self
-overflow_sub-self c =
-    let p = piece (goal.at.overflow_sub-self c).After-stop in
-    omega (arith, one-is-out c.self.inside.tasks.items c.args.i p.known p.out, c.self.invariant.counted.out)
+pub is_claimable-requires : goal.is_claimable-requires
+is_claimable-requires c =
+    omega (arith, (piece (goal.at.is_claimable-requires c).After-stop).known, ap length (now (goal.at.is_claimable-requires c).After-deref), length-updated c.self.inside.tasks.items c.args.i stopped)
 
-pub refresh-requires : goal.refresh-requires
-refresh-requires c =
-    let is = now (goal.at.refresh-requires c).After-deref in
-    let p = piece (goal.at.refresh-requires c).After-stop in
-    let numbers = numbers_of c.self.inside.children.items in
-    record {
-      known = omega (arith, p.known, long-stopped c.self.inside.tasks.items c.args.i numbers c.self.inside.claimable _ _ c.self.invariant c.deref.result.now is);
-      list = listed-stopped c.self.inside.tasks.items c.args.i numbers c.self.inside.claimable _ _ c.self.invariant c.deref.result.now is;
-    }
+pub stop-requires-2 : goal.stop-requires-2
+stop-requires-2 c =
+    let p = piece (goal.at.stop-requires-2 c).After-stop in
+    record { count = _; members = _; test = _; tells = c.self.invariant; known = p.known; holds = p.out }
 
 pub invariant_of-self : goal.invariant_of-self
 invariant_of-self c =
     let rs = c.self.inside.tasks.items in
     let p = piece (goal.at.invariant_of-self c).After-stop in
-    let numbers = numbers_of c.self.inside.children.items in
-    subst (λ (l : List Region). AreKept l numbers c.refresh.new.list.listed c.refresh.new.list.room (c.self.inside.out - 1) c.self.inside.unended) c.deref.ensures.value
-    (kept-stopped rs c.args.i numbers c.self.inside.claimable c.self.inside.out c.self.inside.unended c.self.invariant c.deref.result.now (now (goal.at.invariant_of-self c).After-deref) c.refresh.new.list (c.self.inside.out - 1)
-    (counted-stopped rs c.args.i c.self.inside.out c.self.inside.unended p.known p.out c.self.invariant.counted) c.refresh.ensures)
+    let is = now (goal.at.invariant_of-self c).After-deref in
+    subst (λ (l : List Region). AreKept l c.stop-2.new.self) (sym is ∙ c.deref.ensures.value)
+    (kept-updated stopped (λ r. refl) rs c.args.i p.known c.stop-2.new.self c.is_claimable.result (c.is_claimable.ensures ∙ ap (λ (l : List Region). is_claimable l c.args.i) is)
+    (c.stop-2.ensures (length rs) (members rs) (is_claimable rs) c.self.invariant p.out))
 
 pub returns : goal.returns
 returns c = sym c.deref.ensures.value ∙ now (goal.at.returns c).After-deref ∙ ap (λ (l : List Region). updated l c.args.i stopped) c.self.view_is

@@ -1,0 +1,5 @@
+-- what callers read
+pub mod Members
+-- what only this crate knows
+pub mod Listed
+pub mod RosterView
