@@ -8,7 +8,7 @@ use Rattle.std.specs.declared.cmp.Ordering.TheVariants.{Less, Equal, Greater}
 use Rattle.std.proofs.lemmas.Bool.{cases_eq, cases_lt}
 use Rattle.std.proofs.lemmas.Bool.Decides.{nat_tests}
 use Rattle.ot_model.specs.declared.expr.Section.{Section}
-use Rattle.ot_overlap.specs.Claims.{Key, key_cmp, claimed, Clashes, is_here, is_taken, AreClaims}
+use Rattle.ot_overlap.specs.Claims.{Key, key_cmp, claimed, Clashes, AreWhole, is_here, is_taken, AreClaims}
 use Rattle.ot_overlap.specs.Overlaps.{Covers, IsOverlap, IsFirstIn}
 use Rattle.ot_overlap.specs.declared.claims.Claims.{Claims}
 use Rattle.ot_overlap.specs.declared.item.Item.{Item}
@@ -159,6 +159,30 @@ sections_equal s t =
 
 some_same : {A : Type 0} (x y : A) → Some x ≡ Some y → x ≡ y
 some_same x y h = cc
+
+-- where a section claims a cell of an item that has it, it claims all of them
+pub are_whole : (items : List Item) (n : ℕ) (claims : Claims) → AreClaims items n claims → AreWhole claims
+are_whole items n claims are parent array index s claim k covers =
+    let found = are.sound parent array index s claim in
+    let it = found.1 in
+    let all = are.complete found.0 it found.2 found.3 found.8 k (subst (λ (t : Section). Covers t k) (sym found.6) covers) in
+    ap (λ p. claimed claims p array k) (sym found.4) ∙ ap (λ a. claimed claims it.parent a k) (sym found.5) ∙ all ∙ ap Some found.6
+
+pub whole_here : (it : Item) (claims : Claims) → AreWhole claims → claimed claims it.parent it.section.array it.section.start ≡ Some it.section
+    → (parent array index : ℕ) → claimed claims parent array index ≡ cond (is_here it parent array index) (Some it.section) (claimed claims parent array index)
+whole_here it claims whole first parent array index =
+    elim (true_or_false (is_here it parent array index)) [
+      | inl here ↦
+          let is = here_is it parent array index here in
+          ap (λ p. claimed claims p array index) (sym is.0) ∙ ap (λ a. claimed claims it.parent a index) (sym is.1)
+          ∙ whole it.parent it.section.array it.section.start it.section first index is.2
+          ∙ sym (ap (λ b. cond b (Some it.section) (claimed claims parent array index)) here)
+      | inr away ↦ sym (ap (λ b. cond b (Some it.section) (claimed claims parent array index)) away)
+    ]
+
+pub whole_free : (it : Item) (claims : Claims) → AreWhole claims → claimed claims it.parent it.section.array it.section.start ≡ Some it.section → Clashes claims it → ⊥
+whole_free it claims whole first clash =
+    clash.2.2 (some_same clash.2.0 it.section (sym clash.2.1 ∙ whole it.parent it.section.array it.section.start it.section first clash.0 clash.1))
 
 abbrev Entered : Claims → Item → Claims → Type 0
 Entered old it new = (parent array index : ℕ) → claimed new parent array index ≡ cond (is_taken it parent array index) (Some it.section) (claimed old parent array index)

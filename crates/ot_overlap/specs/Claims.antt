@@ -27,6 +27,10 @@ DiffersAt claims it index = (other : Section) × (claimed claims it.parent it.se
 abbrev pub Clashes : Claims → Item → Type 0
 Clashes claims it = (index : ℕ) × Covers it.section index × DiffersAt claims it index
 
+-- a section that claims a cell claims each of its cells
+abbrev pub AreWhole : Claims → Type 0
+AreWhole claims = (parent array index : ℕ) (s : Section) → claimed claims parent array index ≡ Some s → (k : ℕ) → Covers s k → claimed claims parent array k ≡ Some s
+
 -- whether the cell is one of the item's, and the task its parent
 abbrev pub is_here : Item → ℕ → ℕ → ℕ → Bool
 is_here it parent array index =

@@ -1,6 +1,6 @@
 //! Which items claim which cells.
 ghost use Rattle.std.specs.Prelude.{◌≡◌, ℕ, OnOk, true, false, if◌then◌else◌, Some, None};
-ghost use Rattle.ot_overlap.specs.Claims.{claimed, Clashes, DiffersAt, is_here, is_taken};
+ghost use Rattle.ot_overlap.specs.Claims.{claimed, Clashes, DiffersAt, AreWhole, is_here, is_taken};
 
 use crate::item::Item;
 use ot_model::Section;
@@ -23,11 +23,26 @@ impl Claims {
         }
     }
 
-    /// Whether a cell of an item is claimed by another section.
+    /// Whether the section of an item claims its first cell, and so each of its cells.
+    fn has_claimed(&self, item: &Item) -> bool
+        ensures { result ≡ true → claimed self.now item.now.parent item.now.section.array item.now.section.start ≡ Some item.now.section }
+    {
+        let start = u64::from(item.section.start);
+        match self.sections.get(&(item.parent, item.section.array, start)) {
+            Some(section) => are_same(*section, item.section),
+            None => false,
+        }
+    }
+
+    /// Whether a cell of an item is claimed by another section. It looks at one cell where the item's own section claims it.
     pub(crate) fn clashes(&self, item: &Item) -> bool
+        requires { AreWhole self.now }
         ensures some { result ≡ true → Clashes self.now item.now }
         ensures none { result ≡ false → Clashes self.now item.now → ⊥ }
     {
+        if self.has_claimed(item) {
+            return false;
+        }
         let start = u64::from(item.section.start);
         let len = u64::from(item.section.len);
         for index in start..start + len {
@@ -51,14 +66,27 @@ impl Claims {
 
     /// An item that writes claims its cells.
     pub(crate) fn take(&mut self, item: &Item) -> Result<(), AllocError>
+        requires { AreWhole self.old }
         ensures { OnOk result ((parent array index : ℕ) → claimed self.new parent array index
             ≡ (if is_taken item.now parent array index then Some item.now.section else claimed self.old parent array index)) }
     {
         if item.writes {
-            self.enter(item)
+            self.claim(item)
         } else {
             Ok(())
         }
+    }
+
+    /// An item claims its cells, where its section doesn't yet.
+    fn claim(&mut self, item: &Item) -> Result<(), AllocError>
+        requires { AreWhole self.old }
+        ensures { OnOk result ((parent array index : ℕ) → claimed self.new parent array index
+            ≡ (if is_here item.now parent array index then Some item.now.section else claimed self.old parent array index)) }
+    {
+        if self.has_claimed(item) {
+            return Ok(());
+        }
+        self.enter(item)
     }
 
     /// An item claims its cells.

@@ -1,5 +1,5 @@
 -- Rows of children.
-use Rattle.std.proofs.Common.{◌≡◌, ◌∙◌, ℕ, ◌≤◌, Bool, true, false, List, [], ◌∷◌, ◌++◌, refl, sym, ap, subst, inl, inr, arith, is_eq, append-nil, append_assoc}
+use Rattle.std.proofs.Common.{◌≡◌, ◌∙◌, ℕ, ◌≤◌, Bool, true, false, List, [], ◌∷◌, ◌++◌, refl, sym, ap, subst, inl, inr, arith, append-nil, append_assoc}
 use Rattle.std.specs.Prelude.{◌⊎◌, Contains, cond, nat_lt, if◌then◌else◌}
 use Rattle.std.proofs.lemmas.Bool.{cases_eq}
 use Rattle.std.proofs.lemmas.Bool.Decides.{nat_tests}
@@ -9,14 +9,9 @@ use Rattle.ot_model.specs.declared.expr.Cell.{Cell}
 use Rattle.ot_model.specs.declared.stmt.Mode.{Mode}
 use Rattle.ot_model.specs.declared.stmt.Mode.TheVariants.{Reads, Writes, Folds}
 use Rattle.ot_model.specs.declared.stmt.Use.{Use}
-use Rattle.std.specs.Ordering.{nat_cmp, ordering_then}
-use Rattle.std.specs.declared.cmp.Ordering.{Ordering}
-use Rattle.std.specs.declared.cmp.Ordering.TheVariants.{Less, Equal, Greater}
-use Rattle.std.proofs.lemmas.Map.Lookups.{exact_unsigned}
-use Rattle.ot_model.proofs.CellsLemmas as cells
 use Rattle.ot_check.proofs.Cited.{cells_equal}
 use Rattle.ot_race.specs.Ends.{end_of, goes_on, going_on}
-use Rattle.ot_race.specs.Siblings.{is_write, seen_in, seen, seen_by_all, IsLedTo, IsSeenBy, IsElsewhere, HaveEntered, HavePassed, key_of, key_cmp}
+use Rattle.ot_race.specs.Siblings.{is_write, seen_in, seen, seen_by_all, IsLedTo, IsSeenBy, IsElsewhere, HaveEntered, HavePassed}
 use Rattle.ot_race.specs.declared.siblings.Row.{Row}
 use Rattle.ot_race.specs.declared.siblings.Siblings.{Siblings}
 
@@ -246,39 +241,6 @@ pub record RowPut (parent : ℕ) (cell : Cell) (old new : Siblings) (before behi
   pub others : (p : ℕ) (u : Use) → IsElsewhere parent cell p u → seen new p u ≡ seen old p u
   pub was : (u : Use) → u.cell ≡ cell → seen old parent u ≡ seen_in before u.mode
   pub is : (u : Use) → u.cell ≡ cell → seen new parent u ≡ seen_in behind u.mode
-
--- keys that are told apart
-is_equal : (o : Ordering) → is_eq o ≡ true → o ≡ Equal
-is_equal Equal h = refl
-is_equal Less h = cc
-is_equal Greater h = cc
-
-then_first : (a b : Ordering) → ordering_then a b ≡ Equal → a ≡ Equal
-then_first Equal b h = refl
-then_first Less b h = cc
-then_first Greater b h = cc
-
-then_second : (a b : Ordering) → ordering_then a b ≡ Equal → b ≡ Equal
-then_second Equal b h = h
-then_second Less b h = cc
-then_second Greater b h = cc
-
-pub apart_keys : (parent p : ℕ) (cell : Cell) (u : Use) → IsElsewhere parent cell p u → is_eq (key_cmp (key_of parent cell) (key_of p u.cell)) ≡ false
-apart_keys parent p cell u away =
-    elim (true_or_false (is_eq (key_cmp (key_of parent cell) (key_of p u.cell)))) [
-      | inl same ↦
-          let arrays = ordering_then (nat_cmp parent p) (nat_cmp cell.array u.cell.array) in
-          let h = is_equal (key_cmp (key_of parent cell) (key_of p u.cell)) same in
-          let first = then_first arrays (nat_cmp cell.index u.cell.index) h in
-          elim away [
-            | inl other ↦ absurd (other (sym (exact_unsigned parent p (then_first (nat_cmp parent p) (nat_cmp cell.array u.cell.array) first))))
-            | inr other ↦
-                let array = exact_unsigned cell.array u.cell.array (then_second (nat_cmp parent p) (nat_cmp cell.array u.cell.array) first) in
-                let index = exact_unsigned cell.index u.cell.index (then_second arrays (nat_cmp cell.index u.cell.index) h) in
-                absurd (other (cells.same_cell u.cell cell (sym array) (sym index)))
-          ]
-      | inr apart ↦ apart
-    ]
 
 elsewhere : (parent p : ℕ) (cell : Cell) (u : Use) → ((p ≡ parent) × (u.cell ≡ cell)) ⊎ IsElsewhere parent cell p u
 elsewhere parent p cell u =

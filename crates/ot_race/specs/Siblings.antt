@@ -1,7 +1,6 @@
 -- What a judge keeps of tasks by the cells that they declare, while it goes along a list of events.
-use Rattle.std.specs.Prelude.{◌≡◌, ◌≢◌, ◌<◌, ◌⊎◌, ℕ, Bool, true, false, if◌then◌else◌, List, [], ◌∷◌, ◌++◌, Contains, Option, Some, None}
-use Rattle.std.specs.Ordering.{nat_cmp, ordering_then}
-use Rattle.std.specs.declared.cmp.Ordering.{Ordering}
+use Rattle.std.specs.Prelude.{◌≡◌, ◌≢◌, ◌<◌, ◌⊎◌, ◌==◌, ℕ, Bool, true, false, if◌then◌else◌, List, [], ◌∷◌, ◌++◌, Contains, Option, Some, None, slice_get}
+use Rattle.std.specs.Ordering.{nat_cmp}
 use Rattle.std.specs.BTreeMap.{get}
 use Rattle.ot_model.specs.Uses.{one_writes}
 use Rattle.ot_model.specs.declared.expr.Cell.{Cell}
@@ -12,21 +11,13 @@ use Rattle.ot_race.specs.Ends.{HasEnded, goes_on}
 use Rattle.ot_race.specs.Events.{Event, Begins}
 use Rattle.ot_race.specs.Order.{Does}
 use Rattle.ot_race.specs.Standings.{IsWithin}
+use Rattle.ot_race.specs.declared.lanes.Lane.{Lane}
+use Rattle.ot_race.specs.declared.lanes.Shelf.{Shelf}
 use Rattle.ot_race.specs.declared.siblings.Row.{Row}
 use Rattle.ot_race.specs.declared.siblings.Siblings.{Siblings}
 use Rattle.ot_race.specs.declared.standing.Standing.{Standing}
 
 -- ---- rows
-
--- a row stands where its parent, array and index say
-abbrev pub Key : Type 0
-Key = ℕ × ℕ × ℕ
-
-abbrev pub key_of : ℕ → Cell → Key
-key_of parent c = (parent, c.array, c.index)
-
-abbrev pub key_cmp : Key → Key → Ordering
-key_cmp x y = ordering_then (ordering_then (nat_cmp x.0 y.0) (nat_cmp x.1 y.1)) (nat_cmp x.2 y.2)
 
 -- those of a row for whom one that uses the cell in this mode waits: the writers, and where it writes all
 abbrev pub is_write : Mode → Bool
@@ -40,9 +31,24 @@ abbrev pub seen_of : Option Row → Mode → List ℕ
 seen_of None mode = []
 seen_of (Some row) mode = seen_in row mode
 
+-- the same of a cell: it has a row for each parent
+abbrev pub seen_lane : Lane → ℕ → Mode → List ℕ
+seen_lane lane parent mode = if lane.parent == parent then seen_in lane.row mode else seen_of (get nat_cmp lane.others parent) mode
+
+abbrev pub seen_of_lane : Option Lane → ℕ → Mode → List ℕ
+seen_of_lane None parent mode = []
+seen_of_lane (Some lane) parent mode = seen_lane lane parent mode
+
+abbrev pub seen_at : Shelf → ℕ → ℕ → Mode → List ℕ
+seen_at shelf index parent mode = seen_of_lane (slice_get shelf.lanes.items index) parent mode
+
+abbrev pub seen_of_shelf : Option Shelf → ℕ → ℕ → Mode → List ℕ
+seen_of_shelf None index parent mode = []
+seen_of_shelf (Some shelf) index parent mode = seen_at shelf index parent mode
+
 -- those whom a use sees in a child of this parent
 abbrev pub seen : Siblings → ℕ → Use → List ℕ
-seen s parent u = seen_of (get key_cmp s.rows (key_of parent u.cell)) u.mode
+seen s parent u = seen_of_shelf (slice_get s.shelves.items u.cell.array) u.cell.index parent u.mode
 
 abbrev pub seen_by_all : Siblings → ℕ → List Use → List ℕ
 seen_by_all s parent [] = []

@@ -1,5 +1,5 @@
 //! Where tasks end.
-ghost use Rattle.std.specs.Prelude.{◌≡◌, ◌≢◌, ◌<◌, ◌+◌, ◌^◌, ℕ, IfOk, OnOk, length};
+ghost use Rattle.std.specs.Prelude.{◌≡◌, ◌≢◌, ◌<◌, ◌+◌, ◌^◌, ℕ, IfOk, OnOk, false, [], length};
 ghost use Rattle.ot_race.specs.Ends.{AreEnds, end_of, goes_on, going_on};
 ghost use Rattle.ot_race.specs.View.{events_in};
 
@@ -38,6 +38,35 @@ fn goes_on(ends: &[u32], number: u32, task: u32) -> bool
         Some(end) => number < *end,
         None => false,
     }
+}
+
+/// Whether one of these tasks has.
+fn some_go_on(ends: &[u32], number: u32, tasks: &[u32]) -> bool
+    ensures { result ≡ false → going_on ends.now number tasks.now ≡ [] }
+{
+    for task in tasks {
+        if goes_on(ends, number, *task) {
+            return true;
+        }
+    }
+    false
+}
+
+/// Takes those out that haven't.
+pub(crate) fn keep_going_on(
+    alloc: Global,
+    ends: &[u32],
+    number: u32,
+    tasks: &mut Vec<u32>,
+) -> Result<(), AllocError>
+    ensures { OnOk result (tasks.new.items ≡ going_on ends.now number tasks.old.items) }
+{
+    if some_go_on(ends, number, tasks.as_slice()) {
+        *tasks = going_on(alloc, ends, number, tasks.as_slice())?;
+    } else {
+        tasks.clear();
+    }
+    Ok(())
 }
 
 /// Those of these tasks that have.

@@ -8,6 +8,7 @@ mod first_race;
 mod histories;
 mod history;
 mod judging;
+mod lanes;
 pub mod laws;
 mod order;
 mod race;

@@ -1,5 +1,5 @@
 //! What a judge keeps of tasks by the cells that they declare, as `ot_depend` keeps a body's children.
-ghost use Rattle.std.specs.Prelude.{◌≡◌, ◌⊎◌, ◌++◌, ℕ, IfOk, OnOk, false, true, [], ◌∷◌, Contains};
+ghost use Rattle.std.specs.Prelude.{◌≡◌, ◌<◌, ◌⊎◌, ◌++◌, ℕ, IfOk, OnOk, false, true, [], ◌∷◌, Contains, length};
 ghost use Rattle.ot_model.specs.Uses.{one_writes};
 ghost use Rattle.ot_model.specs.declared.expr.Cell.{Cell};
 ghost use Rattle.ot_model.specs.declared.stmt.Mode.{Mode};
@@ -7,10 +7,10 @@ ghost use Rattle.ot_model.specs.declared.stmt.Use.{Use};
 ghost use Rattle.ot_race.specs.Ends.{goes_on};
 ghost use Rattle.ot_race.specs.Siblings.{is_write, seen_in, seen, seen_by_all, IsElsewhere, IsPut, HaveEntered, HavePassed};
 
-use crate::ends::going_on;
+use crate::ends::keep_going_on;
+use crate::lanes::Shelf;
 use ot_model::{Cell, Mode, Use};
 use std::alloc::{AllocError, Global};
-use std::collections::BTreeMap;
 
 /// The children of one task that declare a cell.
 #[derive(Debug, Drop)]
@@ -21,10 +21,10 @@ pub(crate) struct Row {
     users: Vec<u32>,
 }
 
-/// The rows of all tasks' children, by parent, array and index.
+/// The rows of all tasks' children, by array.
 #[derive(Debug, Drop)]
 pub(crate) struct Siblings {
-    rows: BTreeMap<(u32, u32, u32), Row>,
+    shelves: Vec<Shelf>,
 }
 
 /// An event, and where each task ends.
@@ -42,7 +42,7 @@ fn is_write(mode: Mode) -> bool
 
 impl Row {
     /// No child. It takes no memory.
-    fn new(alloc: Global) -> Row
+    pub(crate) fn new(alloc: Global) -> Row
         ensures { (m : Mode) → seen_in result m ≡ [] }
     {
         Row {
@@ -52,7 +52,7 @@ impl Row {
     }
 
     /// Puts those behind the list on which one depends that uses the cell in this mode.
-    fn list(&self, mode: Mode, listed: &mut Vec<u32>) -> Result<(), AllocError>
+    pub(crate) fn list(&self, mode: Mode, listed: &mut Vec<u32>) -> Result<(), AllocError>
         ensures { OnOk result (listed.new.items ≡ listed.old.items ++ seen_in self.now mode) }
     {
         listed.extend_from_slice(&self.writers)?;
@@ -68,9 +68,9 @@ impl Row {
         ensures kept { OnOk result ((m : Mode) (c : ℕ) → Contains (seen_in self.old m) c → Contains (seen_in self.new m) c
             ⊎ ((goes_on at.entry.ends.now at.entry.number c ≡ false) × Contains (seen_in self.old mode) c)) }
     {
-        self.writers = going_on(alloc, at.ends, at.number, &self.writers)?;
+        keep_going_on(alloc, at.ends, at.number, &mut self.writers)?;
         if is_write(mode) {
-            self.users = going_on(alloc, at.ends, at.number, &self.users)?;
+            keep_going_on(alloc, at.ends, at.number, &mut self.users)?;
         }
         Ok(())
     }
@@ -105,7 +105,7 @@ impl Siblings {
         ensures { (parent : ℕ) (u : Use) → seen result parent u ≡ [] }
     {
         Siblings {
-            rows: BTreeMap::new(alloc),
+            shelves: Vec::new(alloc),
         }
     }
 
@@ -129,8 +129,8 @@ impl Siblings {
     fn list_one(&self, parent: u32, used: Use, listed: &mut Vec<u32>) -> Result<(), AllocError>
         ensures { OnOk result (listed.new.items ≡ listed.old.items ++ seen self.now parent used) }
     {
-        match self.rows.get(&(parent, used.cell.array, used.cell.index)) {
-            Some(row) => row.list(used.mode, listed),
+        match self.shelves.get(used.cell.array as usize) {
+            Some(shelf) => shelf.list(used.cell.index, parent, used.mode, listed),
             None => Ok(()),
         }
     }
@@ -162,27 +162,36 @@ impl Siblings {
     ) -> Result<(), AllocError>
         ensures { OnOk result (HaveEntered at.entry.ends.now at.entry.number parent child (used ∷ []) self.old self.new) }
     {
-        let mut row = self.take(alloc, parent, used.cell);
+        let mut row = self.take(alloc, parent, used.cell)?;
         row.enter(alloc, child, used.mode, at)?;
-        self.put(parent, used.cell, row)
+        self.put(alloc, parent, used.cell, row)
     }
 
     /// Takes a row out.
-    fn take(&mut self, alloc: Global, parent: u32, cell: Cell) -> Row
-        ensures was { (u : Use) → u.cell ≡ cell → seen self.old parent u ≡ seen_in result u.mode }
-        ensures others { (p : ℕ) (u : Use) → IsElsewhere parent cell p u → seen self.new p u ≡ seen self.old p u }
+    fn take(&mut self, alloc: Global, parent: u32, cell: Cell) -> Result<Row, AllocError>
+        ensures was { IfOk result (λ row. (u : Use) → u.cell ≡ cell → seen self.old parent u ≡ seen_in row u.mode) }
+        ensures others { OnOk result ((p : ℕ) (u : Use) → IsElsewhere parent cell p u → seen self.new p u ≡ seen self.old p u) }
     {
-        match self.rows.remove(&(parent, cell.array, cell.index)) {
-            Some(row) => row,
-            None => Row::new(alloc),
-        }
+        self.reach(alloc, cell.array)?;
+        self.shelves[cell.array as usize].take(alloc, cell.index, parent)
     }
 
     /// Puts a row in.
-    fn put(&mut self, parent: u32, cell: Cell, row: Row) -> Result<(), AllocError>
+    fn put(&mut self, alloc: Global, parent: u32, cell: Cell, row: Row) -> Result<(), AllocError>
         ensures { OnOk result (IsPut parent cell row self.old self.new) }
     {
-        self.rows.insert((parent, cell.array, cell.index), row)?;
+        self.reach(alloc, cell.array)?;
+        self.shelves[cell.array as usize].put(alloc, cell.index, parent, row)
+    }
+
+    /// Makes a shelf for the array.
+    fn reach(&mut self, alloc: Global, array: u32) -> Result<(), AllocError>
+        ensures same { (p : ℕ) (u : Use) → seen self.new p u ≡ seen self.old p u }
+        ensures there { OnOk result (array < length self.new.shelves.items) }
+    {
+        for _ in self.shelves.len()..array as usize + 1 {
+            self.shelves.push(Shelf::new(alloc))?;
+        }
         Ok(())
     }
 
@@ -211,12 +220,18 @@ impl Siblings {
     ) -> Result<(), AllocError>
         ensures { OnOk result (HavePassed at.entry.ends.now at.entry.number parent (used ∷ []) self.old self.new) }
     {
-        let key = (parent, used.cell.array, used.cell.index);
-        if !self.rows.contains_key(&key) {
+        if !self.has(used.cell) {
             return Ok(());
         }
-        let mut row = self.take(alloc, parent, used.cell);
+        let mut row = self.take(alloc, parent, used.cell)?;
         row.pass(alloc, used.mode, at)?;
-        self.put(parent, used.cell, row)
+        self.put(alloc, parent, used.cell, row)
+    }
+    /// Whether the cell has rows.
+    fn has(&self, cell: Cell) -> bool {
+        match self.shelves.get(cell.array as usize) {
+            Some(shelf) => shelf.has(cell.index),
+            None => false,
+        }
     }
 }

@@ -62,7 +62,7 @@ pub fn fold_as(own: Option<&Decl>, op: Fold, cell: Cell) -> Mode
 {
     match own {
         Some(decl) => {
-            if folds_to(decl.uses(), op, cell) {
+            if folds_to(decl, op, cell) {
                 Mode::Folds(op)
             } else {
                 Mode::Writes
@@ -73,25 +73,16 @@ pub fn fold_as(own: Option<&Decl>, op: Fold, cell: Cell) -> Mode
 }
 
 ghost use Rattle.std.specs.Prelude.{Some};
-ghost use Rattle.ot_model.specs.Cells.{same_cell};
 ghost use Rattle.ot_check.specs.Offences.{folds_to, folds_by};
 
 /// Whether the cell is declared as `red` by the operation.
-fn folds_to(uses: &[Use], op: Fold, cell: Cell) -> bool
-    ensures { result ≡ folds_to (Some uses.now) op cell }
+fn folds_to(decl: &Decl, op: Fold, cell: Cell) -> bool
+    ensures { result ≡ folds_to (Some decl.now) op cell }
 {
-    for used in uses {
-        if same_cell(used.cell, cell) && folds_by(op, used.mode) {
-            return true;
-        }
+    match decl.mode(cell) {
+        Some(mode) => folds_by(op, mode),
+        None => false,
     }
-    false
-}
-
-fn same_cell(one: Cell, other: Cell) -> bool
-    ensures { result ≡ same_cell one other }
-{
-    one.array == other.array && one.index == other.index
 }
 
 fn folds_by(op: Fold, mode: Mode) -> bool

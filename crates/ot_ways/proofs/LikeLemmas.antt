@@ -1,9 +1,12 @@
 -- Lists of events that are alike but for what more one of them uses: what races in the one races in the other.
-use Rattle.std.proofs.Common.{◌≡◌, ℕ, zero, suc, List, [], ◌∷◌, ◌++◌, length, refl, ap, subst, ◌∙◌}
+use Rattle.std.proofs.Common.{◌≡◌, ℕ, zero, suc, List, [], ◌∷◌, ◌++◌, length, map, refl, ap, subst, ◌∙◌}
 use Rattle.std.specs.Prelude.{Bool, true, false, if◌then◌else◌, Some, None, Contains, slice_get}
 use Rattle.ot_model.specs.declared.expr.Cell.{Cell}
 use Rattle.ot_model.specs.declared.stmt.Mode.{Mode}
 use Rattle.ot_model.specs.declared.stmt.Use.{Use}
+use Rattle.ot_corder.specs.Orders.{event_in_c, deed_in_c, ordered_by}
+use Rattle.ot_corder.specs.declared.order.Order.{Order}
+use Rattle.ot_corder.specs.declared.order.Order.TheVariants.{OfLanguage, OfC}
 use Rattle.ot_race.specs.Events.{Event, Deed}
 use Rattle.ot_race.specs.Order.{IsBy, Does, Leads, InTurn, ByCreation, ByDependence, ByWait, ByEnd, IsBefore, Once, Then}
 use Rattle.ot_race.specs.Races.{IsUsed, IsRace}
@@ -38,6 +41,19 @@ like_length (e ∷ es) (f ∷ fs) l = ap suc (like_length es fs l.1)
 pub like_if : (b : Bool) (es fs gs hs : List Event) → AreLike es gs → AreLike fs hs → AreLike (if b then es else fs) (if b then gs else hs)
 like_if true es fs gs hs l m = l
 like_if false es fs gs hs l m = m
+
+-- ---- as tasks are ordered
+
+like_in_c : (es fs : List Event) → AreLike es fs → AreLike (map event_in_c es) (map event_in_c fs)
+like_in_c [] [] l = tt
+like_in_c [] (f ∷ fs) l = absurd l
+like_in_c (e ∷ es) [] l = absurd l
+like_in_c (e ∷ es) (f ∷ fs) l =
+    (record { task_same = l.0.task_same; deed_same = ap deed_in_c l.0.deed_same; within = l.0.within }, like_in_c es fs l.1)
+
+pub like_ordered : (order : Order) (es fs : List Event) → AreLike es fs → AreLike (ordered_by order es) (ordered_by order fs)
+like_ordered OfLanguage es fs l = l
+like_ordered OfC es fs l = like_in_c es fs l
 
 -- ---- the event at a place
 

@@ -5,12 +5,15 @@ use Rattle.ot_model.specs.Cells.{cell_of, lengths}
 use Rattle.ot_model.specs.Names.{NamedIn}
 use Rattle.ot_model.specs.Value.{val}
 use Rattle.ot_model.specs.declared.expr.Cell.{Cell}
+use Rattle.ot_corder.specs.Orders.{ordered_by}
+use Rattle.ot_corder.specs.declared.order.Order.{Order}
 use Rattle.ot_race.specs.Events.{events_of, this_way}
 use Rattle.ot_race.specs.Races.{IsRace}
 use Rattle.ot_ways.specs.Ways.{way_by}
 
--- what races in a run races on the way whose conditions have the values of that run
+-- what races in a run races on the way whose conditions have the values of that run, whatever orders tasks
 abbrev pub RunsAreWays : Type 0
 RunsAreWays =
-    (body : Body) (cells : List (List ℕ)) → NamedIn (lengths cells) body → (cell : Cell) (i j : ℕ)
-    → IsRace (events_of this_way body cells) cell i j → IsRace (events_of (way_by (λ s e. val (cell_of s.cells) e)) body cells) cell i j
+    (order : Order) (body : Body) (cells : List (List ℕ)) → NamedIn (lengths cells) body → (cell : Cell) (i j : ℕ)
+    → IsRace (ordered_by order (events_of this_way body cells)) cell i j
+    → IsRace (ordered_by order (events_of (way_by (λ s e. val (cell_of s.cells) e)) body cells)) cell i j

@@ -1,9 +1,15 @@
 use Rattle.std.proofs.Common.{slice_index_or, arith}
-use Rattle.ot_overlap.proofs.ClaimLemmas.{nowhere, overlaps, are_next, are_none, stands_at, stands_within}
+use Rattle.ot_overlap.proofs.ClaimLemmas.{nowhere, overlaps, are_whole, are_next, are_none, stands_at, stands_within}
 use Rattle.ot_overlap.proofs.first.first_of.Goals as goal
 
 pub loop-item-init : goal.loop-item-init
 loop-item-init c = are_none c.args.items.now c.new-claims.result c.new-claims.ensures
+
+pub clashes-requires : goal.clashes-requires
+clashes-requires c = are_whole c.args.items.now c.loop-item.item-index c.loop-item.claims c.loop-item.invariant
+
+pub take-requires : goal.take-requires
+take-requires c = are_whole c.args.items.now c.loop-item.item-index c.loop-item.claims c.loop-item.invariant
 
 pub returns-then-clashes : goal.returns-then-clashes
 returns-then-clashes c =

@@ -8,7 +8,7 @@ pub loop-preserved : goal.loop-preserved
 loop-preserved c =
     let st : Standing = record { known = c.new.result; last = 0; pending = c.new-in-loop.result } in
     let empty : kept_of st ≡ nothing =
-    ap (λ ws. let k : Kept = record { known = ws; last = 0; pending = c.new-in-loop.result.items } in k) c.new.ensures
+    ap (λ ws. let k : Kept = record { known = ws; last = 0; pending = c.new-in-loop.result.items } in k) c.new.ensures.words
     ∙ ap (λ cs. let k : Kept = record { known = nothing.known; last = 0; pending = cs } in k) c.new-in-loop.ensures.items in (
       omega (arith, c.loop.invariant.0, c.in_ok-push.ensures.len, c.push.new.self.ok.0, c.loop.tasks.ok.0),
       λ t.

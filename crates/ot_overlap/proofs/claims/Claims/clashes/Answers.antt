@@ -1,7 +1,11 @@
 use Rattle.std.proofs.Common.{subst, inl, inr, arith}
 use Rattle.std.proofs.lemmas.Bool.{cases_eq}
 use Rattle.ot_overlap.specs.Claims.{DiffersAt}
+use Rattle.ot_overlap.proofs.ClaimLemmas.{whole_free}
 use Rattle.ot_overlap.proofs.claims.Claims.clashes.Goals as goal
+
+pub returns-then-has_claimed-clause-none : goal.returns-then-has_claimed-clause-none
+returns-then-has_claimed-clause-none c = λ same. whole_free c.args.item.now c.args.self.now c.requires (c.has_claimed.ensures c.if-has_claimed.true)
 
 pub loop-index-preserved : goal.loop-index-preserved
 loop-index-preserved c = (
