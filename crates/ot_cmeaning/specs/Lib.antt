@@ -1,7 +1,3 @@
-pub mod Kinds
-pub mod Forms
-pub mod Results
-pub mod Scopes
-pub mod Constants
-pub mod Sizes
+pub mod Arithmetic
 pub mod Values
+pub mod Stores

@@ -133,7 +133,7 @@ pointer_at left ws = do
   rest ← semicolon_at cell.2
   Ok (Point left pointer.0 cell.0 cell.1, rest)
 
--- behind a type in a block: a pointer to a cell, and nothing else
+-- behind `uint64_t` or `size_t` in a block: a pointer to a cell, and nothing else
 unfoldable pub local_at : ℕ → List Word → One
 local_at left (w.Mark m.Times ∷ ws) = pointer_at left ws
 local_at left ws = Err (Declared left)

@@ -7,7 +7,7 @@ use Rattle.ot_words.specs.declared.word.Name.TheVariants as n
 use Rattle.ot_words.specs.declared.word.Word.{Word}
 use Rattle.ot_words.specs.declared.word.Word.TheVariants as w
 use Rattle.ot_cstatement.specs.declared.fault.Fault.{Fault}
-use Rattle.ot_cstatement.specs.declared.fault.Fault.TheVariants.{NoStatement, NoDirective, TooDeep}
+use Rattle.ot_cstatement.specs.declared.fault.Fault.TheVariants.{NoStatement, NoDirective, TooDeep, Declared}
 use Rattle.ot_cstatement.specs.declared.directive.Directive.{Directive}
 use Rattle.ot_cstatement.specs.declared.directive.Directive.TheVariants as d
 use Rattle.ot_cstatement.specs.declared.statement.Opening.{Opening}
@@ -33,8 +33,8 @@ opening_of (n.Known k.Show) = o.Show
 opening_of (n.Known k.Int) = o.Declares
 opening_of (n.Known k.Unsigned) = o.Declares
 opening_of (n.Known k.Long) = o.Declares
-opening_of (n.Known k.Word64) = o.Declares
-opening_of (n.Known k.Size) = o.Declares
+opening_of (n.Known k.Word64) = o.Points
+opening_of (n.Known k.Size) = o.Points
 opening_of (n.Known k.Static) = o.Nothing
 opening_of (n.Known k.Const) = o.Nothing
 opening_of (n.Known k.Void) = o.Nothing
@@ -143,7 +143,8 @@ module _ (one : List Word → One) where
   opened_by left n o.For ws = loop_at one left ws
   opened_by left n o.Print ws = print_at left ws
   opened_by left n o.Show ws = show_at left ws
-  opened_by left n o.Declares ws = local_at left ws
+  opened_by left n o.Points ws = local_at left ws
+  opened_by left n o.Declares ws = Err (Declared left)
   opened_by left n o.Nothing ws = Err (NoStatement left)
   opened_by left n o.Names ws = named_at left n ws
 

@@ -244,7 +244,7 @@ fn pointer(alloc: Global, left: usize, words: &[Word]) -> Result<(Stmt, &[Word])
     Ok((Stmt::Point(left, pointer, array, index), rest))
 }
 
-/// Behind a type in a block: a pointer to a cell, and nothing else.
+/// Behind `uint64_t` or `size_t` in a block: a pointer to a cell, and nothing else.
 #[tactic(auto, unfolding(crate::specs::Simple::local_at))]
 pub(crate) fn local(
     alloc: Global,

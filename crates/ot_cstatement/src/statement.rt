@@ -26,7 +26,9 @@ pub(crate) enum Opening {
     For,
     Print,
     Show,
-    /// A type.
+    /// The type of what pointers point to.
+    Points,
+    /// Another type.
     Declares,
     /// A word of C that begins no statement here.
     Nothing,
@@ -46,8 +48,8 @@ fn opening_of(name: Name) -> Opening
         Name::Known(Known::Int) => Opening::Declares,
         Name::Known(Known::Unsigned) => Opening::Declares,
         Name::Known(Known::Long) => Opening::Declares,
-        Name::Known(Known::Word64) => Opening::Declares,
-        Name::Known(Known::Size) => Opening::Declares,
+        Name::Known(Known::Word64) => Opening::Points,
+        Name::Known(Known::Size) => Opening::Points,
         Name::Known(Known::Static) => Opening::Nothing,
         Name::Known(Known::Const) => Opening::Nothing,
         Name::Known(Known::Void) => Opening::Nothing,
@@ -247,7 +249,8 @@ fn opened(
         Opening::For => repeated(alloc, depth, left, words),
         Opening::Print => print(alloc, left, words),
         Opening::Show => show(alloc, left, words),
-        Opening::Declares => local(alloc, left, words),
+        Opening::Points => local(alloc, left, words),
+        Opening::Declares => Err(ReadError::Fault(Fault::Declared(left))),
         Opening::Nothing => Err(ReadError::Fault(Fault::NoStatement(left))),
         Opening::Names => named(alloc, left, name, words),
     }

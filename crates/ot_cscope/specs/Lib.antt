@@ -1,0 +1,7 @@
+pub mod Kinds
+pub mod Forms
+pub mod Results
+pub mod Scopes
+pub mod Constants
+pub mod Sizes
+pub mod Runs

@@ -1,0 +1,111 @@
+-- What names mean at a place of the text.
+use Rattle.std.specs.Prelude.{ℕ, ◌==◌, ◌-◌, nat_le, nat_lt, Bool, true, false, ◌&&◌, List, ◌∷◌, map, find, Option, Some, None, option_map, unwrap_or, slice_get, String, string_bytes, if◌then◌else◌, []}
+use Rattle.std.specs.List.{list_any}
+use Rattle.std.specs.declared.alloc.Global.{Global}
+use Rattle.ot_words.specs.declared.word.IntegerType.{IntegerType}
+use Rattle.ot_words.specs.declared.word.IntegerType.TheVariants.{UnsignedLong}
+use Rattle.ot_words.specs.declared.word.Name.{Name}
+use Rattle.ot_words.specs.declared.word.Name.TheVariants as n
+use Rattle.ot_cscope.specs.declared.scope.Meaning.{Meaning}
+use Rattle.ot_cscope.specs.declared.scope.Meaning.TheVariants as m
+use Rattle.ot_cscope.specs.declared.scope.Pointee.{Pointee}
+use Rattle.ot_cscope.specs.declared.scope.Turn.{Turn}
+use Rattle.ot_cscope.specs.declared.scope.Opening.{Opening}
+use Rattle.ot_cscope.specs.declared.scope.Sense.{Sense}
+use Rattle.ot_cscope.specs.declared.scope.Sense.TheVariants as s
+
+-- what names mean at a place: in the whole file, by their numbers; in the loops around, the innermost first; in the
+-- open groups, the innermost first
+pub record Around : Type 0 where
+  pub names : List (String Global)
+  pub meanings : List Meaning
+  pub turns : List Turn
+  pub opened : List Opening
+  -- whether the place is in a parallel region
+  pub inside : Bool
+
+-- the text of a name that means nothing by itself
+abbrev pub text_of : List (String Global) → ℕ → List ℕ
+text_of names i = unwrap_or (option_map (λ x. string_bytes x) (slice_get names i)) []
+
+abbrev pub name_text : Around → Name → List ℕ
+name_text a (n.Known k) = []
+name_text a (n.Other i) = text_of a.names i
+
+abbrev pub meaning_of : Around → ℕ → Meaning
+meaning_of a i = unwrap_or (slice_get a.meanings i) m.Nothing
+
+-- the innermost loop of this variable
+abbrev pub turn_of : Around → ℕ → Option Turn
+turn_of a i = find (λ t. t.variable == i) a.turns
+
+-- the innermost group that combines over this array
+abbrev pub opening_of : Around → ℕ → Option Opening
+opening_of a i = find (λ o. o.array == i) a.opened
+
+-- a loop's variable hides what else its name means
+abbrev pub turn_or : Option Turn → Sense → Sense
+turn_or None other = other
+turn_or (Some t) other = if t.begun then s.Turn t.kind else s.Begins
+
+abbrev pub opened_or : Option Opening → IntegerType → Option ℕ → Sense
+opened_or None k length = s.Cells k length
+opened_or (Some o) k length = s.Combined o k length
+
+-- what a pointer is, which is to a `uint64_t`, if an open group combines over its cell by it or not
+abbrev pub pointed_or : Option Opening → ℕ → ℕ → Sense
+pointed_or None x p = s.Pointer x p
+pointed_or (Some o) x p = s.Combined o UnsignedLong None
+
+-- a constant stands for its number wherever its name stands (C17, section 6.10.3)
+abbrev pub sense_by : Meaning → Option Turn → Option Opening → Sense
+sense_by (m.Constant n k) turn opening = s.Constant n k
+sense_by m.Nothing turn opening = turn_or turn s.Nothing
+sense_by (m.Function i) turn opening = turn_or turn (s.Function i)
+sense_by (m.Cells k length) turn opening = turn_or turn (opened_or opening k length)
+sense_by (m.Pointer x p) turn opening = turn_or turn (pointed_or opening x p)
+
+-- what a name means
+abbrev pub sense : Around → Name → Sense
+sense a (n.Known k) = s.Nothing
+sense a (n.Other i) = sense_by (meaning_of a i) (turn_of a i) (opening_of a i)
+
+-- whether there are open groups that combine
+abbrev pub combines : List Opening → Bool
+combines [] = false
+combines (o ∷ os) = true
+
+-- ---- cells that pointers name
+
+-- cells of an array: so many from a place on; or any
+abbrev pub Run : Type 0
+Run = Option (ℕ × ℕ)
+
+abbrev pub is_among : Run → ℕ → Bool
+is_among None p = true
+is_among (Some r) p = nat_le r.0 p && nat_lt (p - r.0) r.1
+
+-- whether it is one of these cells of an array
+abbrev pub points_into : ℕ → Run → Option Pointee → Bool
+points_into x cells None = false
+points_into x cells (Some p) = p.array == x && is_among cells p.place
+
+-- whether an open group combines, by a pointer, over one of these cells of an array
+abbrev pub is_pointed : Around → Name → Run → Bool
+is_pointed a (n.Known k) cells = false
+is_pointed a (n.Other x) cells = list_any (λ o. points_into x cells o.pointee) a.opened
+
+-- ---- inner places
+
+abbrev pub with_turn : Around → Turn → Around
+with_turn a t = record a { turns = t ∷ a.turns }
+
+abbrev pub with_opening : Around → Opening → Around
+with_opening a o = record a { opened = o ∷ a.opened }
+
+abbrev pub not_own : Opening → Opening
+not_own o = record o { own = false }
+
+-- in a task, before it takes part in a reduction: no copy is its own
+abbrev pub within_task : Around → Around
+within_task a = record a { opened = map not_own a.opened }
