@@ -10,30 +10,33 @@ use Rattle.ot_cread.specs.declared.tree.Operation.TheVariants as o
 use Rattle.ot_cread.specs.declared.tree.Role.{Role}
 use Rattle.ot_cread.specs.declared.tree.Role.TheVariants as r
 use Rattle.ot_cread.specs.Tree.{Part, Entry, Span, Claim}
-use Rattle.ot_cmeaning.specs.declared.reason.Reason.TheVariants as why
-use Rattle.ot_cmeaning.specs.declared.scope.Opening.{Opening}
-use Rattle.ot_cmeaning.specs.declared.scope.Pointee.{Pointee}
-use Rattle.ot_cmeaning.specs.declared.scope.Sense.{Sense}
-use Rattle.ot_cmeaning.specs.declared.scope.Sense.TheVariants as s
-use Rattle.ot_cmeaning.specs.Forms.{form}
-use Rattle.ot_cmeaning.specs.Results.{Refusal, ◌>>=◌}
-use Rattle.ot_cmeaning.specs.Scopes.{Around, Run, sense, is_pointed, with_opening}
+use Rattle.ot_cscope.specs.declared.reason.Reason.TheVariants as why
+use Rattle.ot_cscope.specs.declared.scope.Opening.{Opening}
+use Rattle.ot_cscope.specs.declared.scope.Pointee.{Pointee}
+use Rattle.ot_cscope.specs.declared.scope.Sense.{Sense}
+use Rattle.ot_cscope.specs.declared.scope.Sense.TheVariants as s
+use Rattle.ot_cscope.specs.Forms.{form}
+use Rattle.ot_cscope.specs.Kinds.{is_signed}
+use Rattle.ot_cscope.specs.Results.{Refusal, ◌>>=◌}
+use Rattle.ot_cscope.specs.Scopes.{Around, Run, sense, is_pointed, with_opening}
 use Rattle.ot_cclause.specs.declared.clause.Heading.{Heading}
 use Rattle.ot_cclause.specs.declared.own.Own.{Own}
+use Rattle.ot_cclause.specs.declared.own.Taking.{Taking}
 use Rattle.ot_cdeclare.specs.Each.{each}
-use Rattle.ot_cclause.specs.Operations.{operation_word, is_same}
-use Rattle.ot_cclause.specs.Owns.{own_count, name_all, is_run}
+use Rattle.ot_cclause.specs.Operations.{operation_word, is_same, is_extreme}
+use Rattle.ot_cclause.specs.Owns.{own_count, name_all, is_run, taking_of}
 use Rattle.ot_cclause.specs.Sections.{Sectioned, part, pointed, section, cells_named}
 
--- clauses of the language, or a group's sections; what names mean behind them; and the cells that the task folds into by
--- pointers
+-- clauses of the language, or a group's sections; what names mean behind them; the cells that the task folds into by pointers;
+-- and how it takes part in each reduction that it takes part in
 pub record Head : Type 0 where
   pub clauses : List Data
   pub around : Around
   pub own : List Own
+  pub taking : List Taking
 
 abbrev pub head_of : Heading → Head
-head_of h = record { clauses = map view h.clauses.items; around = h.scope; own = h.own.items }
+head_of h = record { clauses = map view h.clauses.items; around = h.scope; own = h.own.items; taking = h.taking.items }
 
 abbrev pub Headed : Type 0
 Headed = Result Head Refusal
@@ -73,12 +76,12 @@ number_of (n.Known k) = 0
 
 -- over so many cells of an array, or a pointer's, an open group combines by an operation, and the task has no copy of them yet
 abbrev pub may_join : Sense → Operation → Option (Option Pointee × Option ℕ)
-may_join (s.Combined c length) op = if not c.own && is_same c.operation op then Some (c.pointee, length) else None
+may_join (s.Combined c k length) op = if not c.own && is_same c.operation op then Some (c.pointee, length) else None
 may_join s.Nothing op = None
 may_join (s.Constant n k) op = None
 may_join (s.Turn k) op = None
 may_join s.Begins op = None
-may_join (s.Cells length) op = None
+may_join (s.Cells k length) op = None
 may_join (s.Pointer x p) op = None
 may_join (s.Function i) op = None
 
@@ -97,7 +100,7 @@ abbrev pub joined_by : ℕ → Head → Operation → Entry → Option (Option P
 joined_by at h op item None = Err (at, why.NoGroup)
 joined_by at h op item (Some found) =
     part_or_cell h.around at item.array found.0 found.1 item.part >>= λ d.
-    Ok (record { clauses = h.clauses ++ form (codes "red") (string (operation_word op) ∷ d ∷ []) ∷ []; around = with_opening h.around (opening item.array op true found.0); own = h.own ++ own_of found.0 })
+    Ok (record { clauses = h.clauses ++ form (codes "red") (string (operation_word op) ∷ d ∷ []) ∷ []; around = with_opening h.around (opening item.array op true found.0); own = h.own ++ own_of found.0; taking = h.taking ++ taking_of found.0 ∷ [] })
 
 -- under `in_reduction`: the task has a copy of its own
 abbrev pub takes_part : ℕ → Operation → Head → Entry → Headed
@@ -105,12 +108,12 @@ takes_part at op h item = joined_by at h op item (may_join (sense h.around item.
 
 -- no open group combines over these cells of an array
 abbrev pub apart_by : Around → ℕ → ℕ → Run → Sense → Result (Unit {0}) Refusal
-apart_by a at x cells (s.Cells length) = if is_pointed a (n.Other x) cells then Err (at, why.Combined) else Ok tt
+apart_by a at x cells (s.Cells k length) = if is_pointed a (n.Other x) cells then Err (at, why.Combined) else Ok tt
 apart_by a at x cells s.Nothing = Err (at, why.Unknown)
 apart_by a at x cells (s.Constant n k) = Err (at, why.Constant)
 apart_by a at x cells (s.Turn k) = Err (at, why.LoopVariable)
 apart_by a at x cells s.Begins = Err (at, why.LoopVariable)
-apart_by a at x cells (s.Combined o length) = Err (at, why.Combined)
+apart_by a at x cells (s.Combined o k length) = Err (at, why.Combined)
 apart_by a at x cells (s.Pointer y p) = Err (at, why.Pointer)
 apart_by a at x cells (s.Function i) = Err (at, why.Function)
 
@@ -123,28 +126,40 @@ pointer_in s.Nothing = None
 pointer_in (s.Constant n k) = None
 pointer_in (s.Turn k) = None
 pointer_in s.Begins = None
-pointer_in (s.Cells length) = None
-pointer_in (s.Combined o length) = None
+pointer_in (s.Cells k length) = None
+pointer_in (s.Combined o k length) = None
 pointer_in (s.Function i) = None
 
 abbrev pub combined_over : Around → ℕ → Entry → Option Pointee → Sectioned
 combined_over a at item None = section a at None item >>= λ d. apart a at (number_of item.array) (cells_named a None item) >>= λ u. Ok d
 combined_over a at item (Some cell) = apart a at cell.array (Some (cell.place, 1)) >>= λ u. pointed a at cell item.part
 
+-- of numbers that may be negative the language has no `min` and `max`
+abbrev pub ordered : ℕ → Operation → Sense → Result (Unit {0}) Refusal
+ordered at op (s.Cells k length) = if is_extreme op && is_signed k then Err (at, why.Signed) else Ok tt
+ordered at op s.Nothing = Ok tt
+ordered at op (s.Constant n k) = Ok tt
+ordered at op (s.Turn k) = Ok tt
+ordered at op s.Begins = Ok tt
+ordered at op (s.Combined c k length) = Ok tt
+ordered at op (s.Pointer x p) = Ok tt
+ordered at op (s.Function i) = Ok tt
+
 -- under `task_reduction`: a section of the group
 abbrev pub combines : ℕ → Head → Operation → Entry → Headed
 combines at h op item =
     combined_over h.around at item (pointer_in (sense h.around item.array)) >>= λ d.
+    ordered at op (sense h.around item.array) >>= λ u.
     Ok (record h { clauses = h.clauses ++ d ∷ []; around = with_opening h.around (opening item.array op false (pointer_in (sense h.around item.array))) })
 
 -- under `shared`: what is so anyway
 abbrev pub shared : ℕ → Sense → Result (Unit {0}) Refusal
-shared at (s.Cells length) = Ok tt
+shared at (s.Cells k length) = Ok tt
 shared at s.Nothing = Err (at, why.Unknown)
 shared at (s.Constant n k) = Err (at, why.Constant)
 shared at (s.Turn k) = Err (at, why.LoopVariable)
 shared at s.Begins = Err (at, why.LoopVariable)
-shared at (s.Combined c length) = Err (at, why.Combined)
+shared at (s.Combined c k length) = Err (at, why.Combined)
 shared at (s.Pointer x p) = Err (at, why.Pointer)
 shared at (s.Function i) = Err (at, why.Function)
 
@@ -154,8 +169,8 @@ private at (s.Turn k) = Ok tt
 private at s.Nothing = Err (at, why.Private)
 private at (s.Constant n k) = Err (at, why.Private)
 private at s.Begins = Err (at, why.Private)
-private at (s.Cells length) = Err (at, why.Private)
-private at (s.Combined c length) = Err (at, why.Private)
+private at (s.Cells k length) = Err (at, why.Private)
+private at (s.Combined c k length) = Err (at, why.Private)
 private at (s.Pointer x p) = Err (at, why.Private)
 private at (s.Function i) = Err (at, why.Private)
 
@@ -205,7 +220,7 @@ abbrev pub all_named : ℕ → Head → Headed
 all_named at h = if list_all (λ o. o.named) h.own then Ok h else Err (at, why.NoDependence)
 
 abbrev pub all_joining : ℕ → Around → List Claim → Headed
-all_joining at a cs = each (joining_step at) (record { clauses = []; around = a; own = [] }) cs
+all_joining at a cs = each (joining_step at) (record { clauses = []; around = a; own = []; taking = [] }) cs
 
 -- reductions first, since they say what the others name
 abbrev pub heading : ℕ → Around → List Claim → Headed

@@ -61,6 +61,16 @@ abbrev pub call_fold : Call → Operation
 call_fold c.Min = o.Min
 call_fold c.Max = o.Max
 
+-- whether it is by which number is greater
+abbrev pub is_extreme : Operation → Bool
+is_extreme o.Min = true
+is_extreme o.Max = true
+is_extreme o.Plus = false
+is_extreme o.Times = false
+is_extreme o.And = false
+is_extreme o.Or = false
+is_extreme o.Xor = false
+
 abbrev pub rank : Operation → ℕ
 rank o.Plus = 0
 rank o.Times = 1

@@ -1,10 +1,18 @@
--- The cells that a task folds into by pointers.
+-- How a task takes part in reductions, and the cells that it folds into by pointers.
 use Rattle.std.specs.Prelude.{ℕ, ◌==◌, Bool, false, ◌||◌, List, map, Option, Some, None}
 use Rattle.std.specs.List.{count_by}
 use Rattle.ot_words.specs.declared.word.Name.{Name}
 use Rattle.ot_words.specs.declared.word.Name.TheVariants as n
-use Rattle.ot_cmeaning.specs.Scopes.{Run, points_into}
+use Rattle.ot_cscope.specs.declared.scope.Pointee.{Pointee}
+use Rattle.ot_cscope.specs.Scopes.{Run, points_into}
 use Rattle.ot_cclause.specs.declared.own.Own.{Own}
+use Rattle.ot_cclause.specs.declared.own.Taking.{Taking}
+use Rattle.ot_cclause.specs.declared.own.Taking.TheVariants.{ByName, ByPointer}
+
+-- how a task takes part, by the cell that a pointer names, if one does
+abbrev pub taking_of : Option Pointee → Taking
+taking_of None = ByName
+taking_of (Some cell) = ByPointer
 
 -- whether it is one of these cells of an array
 abbrev pub is_of : ℕ → Run → Own → Bool

@@ -4,17 +4,17 @@ use Rattle.serde_json.specs.Data.{Data, string}
 use Rattle.ot_words.specs.declared.word.Name.{Name}
 use Rattle.ot_words.specs.declared.word.Name.TheVariants as n
 use Rattle.ot_cread.specs.Tree.{Literal, Variable, Part, Whole, Cells, Entry, Span}
-use Rattle.ot_cmeaning.specs.declared.reason.Reason.{Reason}
-use Rattle.ot_cmeaning.specs.declared.reason.Reason.TheVariants as why
-use Rattle.ot_cmeaning.specs.declared.scope.Pointee.{Pointee}
-use Rattle.ot_cmeaning.specs.declared.scope.Sense.{Sense}
-use Rattle.ot_cmeaning.specs.declared.scope.Sense.TheVariants as s
-use Rattle.ot_cmeaning.specs.Constants.{Typed, constant}
-use Rattle.ot_cmeaning.specs.Forms.{nat, form, listed}
-use Rattle.ot_cmeaning.specs.Results.{Refusal, ◌>>=◌}
-use Rattle.ot_cmeaning.specs.Scopes.{Around, Run, sense, name_text, text_of}
-use Rattle.ot_cmeaning.specs.Sizes.{size}
-use Rattle.ot_cmeaning.specs.Values.{run_by}
+use Rattle.ot_cscope.specs.declared.reason.Reason.{Reason}
+use Rattle.ot_cscope.specs.declared.reason.Reason.TheVariants as why
+use Rattle.ot_cscope.specs.declared.scope.Pointee.{Pointee}
+use Rattle.ot_cscope.specs.declared.scope.Sense.{Sense}
+use Rattle.ot_cscope.specs.declared.scope.Sense.TheVariants as s
+use Rattle.ot_cscope.specs.Constants.{Typed, constant}
+use Rattle.ot_cscope.specs.Forms.{nat, form, listed}
+use Rattle.ot_cscope.specs.Results.{Refusal, ◌>>=◌}
+use Rattle.ot_cscope.specs.Scopes.{Around, Run, sense, name_text, text_of}
+use Rattle.ot_cscope.specs.Sizes.{size}
+use Rattle.ot_cscope.specs.Runs.{run_by}
 
 abbrev pub Sectioned : Type 0
 Sectioned = Result Data Refusal
@@ -25,8 +25,8 @@ no_cells s.Nothing = why.Unknown
 no_cells (s.Constant n k) = why.Constant
 no_cells (s.Turn k) = why.LoopVariable
 no_cells s.Begins = why.LoopVariable
-no_cells (s.Cells length) = why.Combined
-no_cells (s.Combined o length) = why.Combined
+no_cells (s.Cells k length) = why.Combined
+no_cells (s.Combined o k length) = why.Combined
 no_cells (s.Pointer x p) = why.Pointer
 no_cells (s.Function i) = why.Function
 
@@ -77,12 +77,12 @@ part_over a at None x length p = part a at x length p
 part_over a at (Some over) x length p = counted a at over x length p
 
 abbrev pub section_by : Around → ℕ → Option Span → Entry → Sense → Sectioned
-section_by a at over item (s.Cells length) = part_over a at over item.array length item.part
+section_by a at over item (s.Cells k length) = part_over a at over item.array length item.part
 section_by a at over item s.Nothing = Err (at, why.Unknown)
 section_by a at over item (s.Constant n k) = Err (at, why.Constant)
 section_by a at over item (s.Turn k) = Err (at, why.LoopVariable)
 section_by a at over item s.Begins = Err (at, why.LoopVariable)
-section_by a at over item (s.Combined o length) = Err (at, why.Combined)
+section_by a at over item (s.Combined o k length) = Err (at, why.Combined)
 section_by a at over item (s.Pointer x p) = Err (at, why.Pointer)
 section_by a at over item (s.Function i) = Err (at, why.Function)
 
@@ -107,12 +107,12 @@ run_over a None length p = run_of a length p
 run_over a (Some over) length p = run_between (constant a over.start) (constant a over.end)
 
 abbrev pub length_of : Sense → Option ℕ
-length_of (s.Cells length) = length
+length_of (s.Cells k length) = length
 length_of s.Nothing = None
 length_of (s.Constant n k) = None
 length_of (s.Turn k) = None
 length_of s.Begins = None
-length_of (s.Combined o length) = None
+length_of (s.Combined o k length) = None
 length_of (s.Pointer x p) = None
 length_of (s.Function i) = None
 

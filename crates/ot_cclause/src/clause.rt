@@ -2,27 +2,29 @@
 ghost use Rattle.std.specs.Prelude.{◌≡◌, ◌++◌, IfOk, map};
 ghost use Rattle.serde_json.specs.View.{view};
 ghost use Rattle.ot_cread.specs.Tree.{item_of, items_of, over_of, part_of, clause_of, clauses_of};
-ghost use Rattle.ot_cmeaning.specs.Results.{Gives};
+ghost use Rattle.ot_cscope.specs.Results.{Gives};
 ghost use Rattle.ot_cclause.specs.Clauses.{Head, head_of};
 ghost use Rattle.ot_cdeclare.specs.Each.{each};
 ghost use Rattle.ot_cclause.specs.Clauses as meant;
 
-use crate::own::{Own, are_named, is_run, name_all, own_count};
+use crate::own::{Own, Taking, are_named, is_run, name_all, own_count, taking_of};
 use crate::section::{cells_named, no_cells, part, pointed, section};
-use crate::words::{is_same, operation_word};
-use ot_cmeaning::{CFault, Opening, Pointee, Reason, Scope, Sense, json};
+use crate::words::{is_extreme, is_same, operation_word};
 use ot_cread::{Clause, Item, Operation, Range, Role};
+use ot_cscope::kind::is_signed;
+use ot_cscope::{CFault, Opening, Pointee, Reason, Scope, Sense, json};
 use ot_words::Name;
 use serde_json::Value;
 use std::alloc::{AllocError, Global};
 
-/// What clauses say: clauses of the language, or a group's sections; what names mean behind them; and the cells that the
-/// task folds into by pointers.
+/// What clauses say: clauses of the language, or a group's sections; what names mean behind them; the cells that the task
+/// folds into by pointers; and how it takes part in each reduction that it takes part in.
 #[derive(Drop)]
 pub struct Heading<'a> {
     pub clauses: Vec<Value>,
     pub scope: Scope<'a>,
     own: Vec<Own>,
+    pub taking: Vec<Taking>,
 }
 
 fn is_in(role: Role) -> bool
@@ -57,6 +59,7 @@ fn depends<'a>(
         clauses: heading.clauses,
         scope: heading.scope,
         own: name_all(alloc, item.array, cells, heading.own)?,
+        taking: heading.taking,
     })
 }
 
@@ -75,7 +78,7 @@ fn may_join(sense: Sense, operation: Operation) -> Option<(Option<Pointee>, Opti
     ensures { result ≡ meant.may_join sense operation }
 {
     match sense {
-        Sense::Combined(opening, length) => {
+        Sense::Combined(opening, _, length) => {
             if !opening.own && is_same(opening.operation, operation) {
                 Some((opening.pointee, length))
             } else {
@@ -83,7 +86,7 @@ fn may_join(sense: Sense, operation: Operation) -> Option<(Option<Pointee>, Opti
             }
         }
         Sense::Nothing | Sense::Constant(_, _) | Sense::Turn(_) | Sense::Begins => None,
-        Sense::Cells(_) | Sense::Pointer(_, _) | Sense::Function(_) => None,
+        Sense::Cells(_, _) | Sense::Pointer(_, _) | Sense::Function(_) => None,
     }
 }
 
@@ -143,12 +146,14 @@ fn takes_part<'a>(
     heading
         .clauses
         .push(json::form2(alloc, "red", word, section)?)?;
+    heading.taking.push(taking_of(found.0))?;
     let opening = opening(item.array, operation, true, found.0);
     let scope = heading.scope.with_opening(alloc, opening)?;
     Ok(Heading {
         clauses: heading.clauses,
         scope,
         own: with_own(heading.own, found.0)?,
+        taking: heading.taking,
     })
 }
 
@@ -162,7 +167,7 @@ fn apart(
     ensures { Gives (λ x. x) result (meant.apart scope.now start array cells) }
 {
     match scope.sense(Name::Other(array)) {
-        Sense::Cells(_) => {
+        Sense::Cells(_, _) => {
             if scope.is_pointed(Name::Other(array), cells) {
                 Err(CFault::Outside(start, Reason::Combined))
             } else {
@@ -179,7 +184,7 @@ fn pointer_in(sense: Sense) -> Option<Pointee>
     match sense {
         Sense::Pointer(array, place) => Some(Pointee { array, place }),
         Sense::Nothing | Sense::Constant(_, _) | Sense::Turn(_) | Sense::Begins => None,
-        Sense::Cells(_) | Sense::Combined(_, _) | Sense::Function(_) => None,
+        Sense::Cells(_, _) | Sense::Combined(_, _, _) | Sense::Function(_) => None,
     }
 }
 
@@ -207,6 +212,18 @@ fn combined_over(
     }
 }
 
+/// Of numbers that may be negative the language has no `min` and `max`.
+fn ordered(start: usize, operation: Operation, sense: Sense) -> Result<(), CFault>
+    ensures { Gives (λ x. x) result (meant.ordered start operation sense) }
+{
+    match sense {
+        Sense::Cells(kind, _) if is_extreme(operation) && is_signed(kind) => {
+            Err(CFault::Outside(start, Reason::Signed))
+        }
+        _ => Ok(()),
+    }
+}
+
 /// An item under `task_reduction`: a section of the group.
 fn combines<'a>(
     alloc: Global,
@@ -219,6 +236,7 @@ fn combines<'a>(
 {
     let pointer = pointer_in(heading.scope.sense(item.array));
     let section = combined_over(alloc, &heading.scope, start, item, pointer)?;
+    ordered(start, operation, heading.scope.sense(item.array))?;
     heading.clauses.push(section)?;
     let opening = opening(item.array, operation, false, pointer);
     let scope = heading.scope.with_opening(alloc, opening)?;
@@ -226,6 +244,7 @@ fn combines<'a>(
         clauses: heading.clauses,
         scope,
         own: heading.own,
+        taking: heading.taking,
     })
 }
 
@@ -234,7 +253,7 @@ fn shared(start: usize, sense: Sense) -> Result<(), CFault>
     ensures { Gives (λ x. x) result (meant.shared start sense) }
 {
     match sense {
-        Sense::Cells(_) => Ok(()),
+        Sense::Cells(_, _) => Ok(()),
         other => Err(CFault::Outside(start, no_cells(other))),
     }
 }
@@ -373,6 +392,7 @@ fn all_joining<'a>(
         clauses: Vec::new(alloc),
         scope,
         own: Vec::new(alloc),
+        taking: Vec::new(alloc),
     };
     for clause in clauses {
         heading = joining_step(alloc, start, heading, clause)?;

@@ -7,5 +7,6 @@ mod section;
 mod words;
 
 pub use clause::{Heading, group_operation, headed};
+pub use own::Taking;
 pub use section::no_cells;
 pub use words::{call_fold, fold_of, is_minus, is_same, operation_word};

@@ -1,11 +1,30 @@
-//! The cells that a task folds into by pointers.
+//! How a task takes part in reductions, and the cells that it folds into by pointers.
 ghost use Rattle.std.specs.Prelude.{◌≡◌, IfOk, map};
 ghost use Rattle.std.specs.List.{count_by, list_all};
 ghost use Rattle.ot_cclause.specs.Owns as meant;
 
-use ot_cmeaning::{Pointee, points_into};
+use ot_cscope::{Pointee, points_into};
 use ot_words::Name;
 use std::alloc::{AllocError, Global};
+
+/// How a task takes part in a reduction.
+#[derive(Clone, Copy, Debug, PartialEq, Eq)]
+pub enum Taking {
+    /// By an array or a variable, as in `in_reduction(+: x)`: that makes no dependence.
+    ByName,
+    /// By a pointer to a cell, which stands under `depend(in: ..)` too.
+    ByPointer,
+}
+
+/// How a task takes part, by the cell that a pointer names, if one does.
+pub(crate) fn taking_of(pointee: Option<Pointee>) -> Taking
+    ensures { result ≡ meant.taking_of pointee }
+{
+    match pointee {
+        None => Taking::ByName,
+        Some(_) => Taking::ByPointer,
+    }
+}
 
 /// A cell that a task folds into by a pointer.
 #[derive(Clone, Copy, Debug, PartialEq, Eq)]

@@ -2,11 +2,11 @@
 ghost use Rattle.std.specs.Prelude.{◌≡◌};
 ghost use Rattle.serde_json.specs.View.{view};
 ghost use Rattle.ot_cread.specs.Tree.{item_of, over_of, part_of, range_of};
-ghost use Rattle.ot_cmeaning.specs.Results.{Gives};
+ghost use Rattle.ot_cscope.specs.Results.{Gives};
 ghost use Rattle.ot_cclause.specs.Sections as meant;
 
-use ot_cmeaning::{CFault, Pointee, Reason, Scope, Sense, constant, json, run_by, size};
 use ot_cread::{Expr, Item, Place, Range};
+use ot_cscope::{CFault, Pointee, Reason, Scope, Sense, constant, json, run_by, size};
 use ot_words::{IntegerType, Name};
 use serde_json::Value;
 use std::alloc::Global;
@@ -19,7 +19,7 @@ pub fn no_cells(sense: Sense) -> Reason
         Sense::Nothing => Reason::Unknown,
         Sense::Constant(_, _) => Reason::Constant,
         Sense::Turn(_) | Sense::Begins => Reason::LoopVariable,
-        Sense::Cells(_) | Sense::Combined(_, _) => Reason::Combined,
+        Sense::Cells(_, _) | Sense::Combined(_, _, _) => Reason::Combined,
         Sense::Pointer(_, _) => Reason::Pointer,
         Sense::Function(_) => Reason::Function,
     }
@@ -147,7 +147,7 @@ pub(crate) fn section(
     ensures { Gives (λ v. view v) result (meant.section scope.now start (over_of over.now) (item_of item.now)) }
 {
     match scope.sense(item.array) {
-        Sense::Cells(length) => match over {
+        Sense::Cells(_, length) => match over {
             None => part(alloc, scope, start, item.array, length, &item.place),
             Some(over) => counted(alloc, scope, start, over, item.array, length, &item.place),
         },
@@ -180,9 +180,9 @@ fn length_of(sense: Sense) -> Option<usize>
     ensures { result ≡ meant.length_of sense }
 {
     match sense {
-        Sense::Cells(length) => length,
+        Sense::Cells(_, length) => length,
         Sense::Nothing | Sense::Constant(_, _) | Sense::Turn(_) | Sense::Begins => None,
-        Sense::Combined(_, _) | Sense::Pointer(_, _) | Sense::Function(_) => None,
+        Sense::Combined(_, _, _) | Sense::Pointer(_, _) | Sense::Function(_) => None,
     }
 }
 

@@ -49,6 +49,13 @@ pub fn call_fold(call: Call) -> Operation
     }
 }
 
+/// Whether it is by which number is greater.
+pub(crate) fn is_extreme(operation: Operation) -> bool
+    ensures { result ≡ meant.is_extreme operation }
+{
+    matches!(operation, Operation::Min | Operation::Max)
+}
+
 fn rank(operation: Operation) -> u32
     ensures { result ≡ meant.rank operation }
 {

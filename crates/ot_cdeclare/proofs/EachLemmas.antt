@@ -1,9 +1,9 @@
 -- One after another: a loop by its index.
 use Rattle.std.proofs.Common.{◌≡◌, ℕ, suc, ◌+◌, ◌<◌, ◌≤◌, List, [], ◌∷◌, length, map, drop, drop-cons, get_or, Result, Ok, Err, refl, sym, ap, ◌∙◌, arith}
 use Rattle.std.proofs.lemmas.List.{drop_all}
-use Rattle.ot_cmeaning.specs.declared.fault.CFault.{CFault}
-use Rattle.ot_cmeaning.specs.declared.fault.CFault.TheVariants as errors
-use Rattle.ot_cmeaning.specs.Results.{Refusal, Fails}
+use Rattle.ot_cscope.specs.declared.fault.CFault.{CFault}
+use Rattle.ot_cscope.specs.declared.fault.CFault.TheVariants as errors
+use Rattle.ot_cscope.specs.Results.{Refusal, Fails}
 use Rattle.ot_cdeclare.specs.Each.{each}
 
 -- those behind one of a list

@@ -3,9 +3,9 @@ use Rattle.std.proofs.Common.{◌≡◌, ℕ, ◌+◌, ◌<◌, ◌≤◌, List,
 use Rattle.std.proofs.lemmas.List.{drop_all}
 use Rattle.ot_cstatement.specs.declared.tree.Stmt.{Stmt}
 use Rattle.ot_cstatement.specs.Tree.{S, Body, End, Next, stmt_of, list_of, body_of}
-use Rattle.ot_cmeaning.specs.declared.fault.CFault.{CFault}
-use Rattle.ot_cmeaning.specs.declared.fault.CFault.TheVariants as errors
-use Rattle.ot_cmeaning.specs.Results.{Refusal, Fails}
+use Rattle.ot_cscope.specs.declared.fault.CFault.{CFault}
+use Rattle.ot_cscope.specs.declared.fault.CFault.TheVariants as errors
+use Rattle.ot_cscope.specs.Results.{Refusal, Fails}
 use Rattle.ot_cdeclare.specs.Arrays.{D}
 use Rattle.ot_cdeclare.specs.Pointers.{Names, pointers_in, pointers_from}
 use Rattle.ot_cdeclare.proofs.EachLemmas.{front}

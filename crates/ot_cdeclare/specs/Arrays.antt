@@ -1,18 +1,20 @@
--- What a file declares: `uint64_t a[N]` is an array, `uint64_t x` an array of one cell.
-use Rattle.std.specs.Prelude.{ℕ, ◌-◌, ◌==◌, nat_lt, Bool, false, ◌||◌, List, [], ◌∷◌, ◌++◌, length as count_in, map, replicate, slice_get, slice_set, Option, Some, None, Result, Ok, Err, String, string_bytes, if◌then◌else◌}
+-- What a file declares: `T a[N]` is an array, `T x` an array of one cell. Numbers below zero stand modulo 2^64.
+use Rattle.std.specs.Prelude.{ℕ, ◌-◌, ◌%◌, ◌^◌, ◌==◌, nat_lt, Bool, false, ◌&&◌, ◌||◌, List, [], ◌∷◌, ◌++◌, length as count_in, map, replicate, slice_get, slice_set, Option, Some, None, Result, Ok, Err, String, string_bytes, if◌then◌else◌}
 use Rattle.std.specs.declared.alloc.Global.{Global}
+use Rattle.ot_words.specs.declared.word.IntegerType.{IntegerType}
 use Rattle.ot_words.specs.declared.word.Name.{Name}
 use Rattle.ot_words.specs.declared.word.Name.TheVariants as n
 use Rattle.ot_program.specs.Names.{is_name}
-use Rattle.ot_cread.specs.Tree.{E}
+use Rattle.ot_cread.specs.declared.sign.Unary.TheVariants as u
+use Rattle.ot_cread.specs.Tree.{E, Signed}
 use Rattle.ot_cfile.specs.Program.{Start, Unset, One, Many, Cells, Declared as Declaration}
-use Rattle.ot_cmeaning.specs.declared.reason.Reason.TheVariants as why
-use Rattle.ot_cmeaning.specs.declared.scope.Meaning.{Meaning}
-use Rattle.ot_cmeaning.specs.declared.scope.Meaning.TheVariants as m
-use Rattle.ot_cmeaning.specs.Constants.{Typed, constant}
-use Rattle.ot_cmeaning.specs.Kinds.{is_word}
-use Rattle.ot_cmeaning.specs.Results.{Refusal, ◌>>=◌}
-use Rattle.ot_cmeaning.specs.Scopes.{Around}
+use Rattle.ot_cscope.specs.declared.reason.Reason.TheVariants as why
+use Rattle.ot_cscope.specs.declared.scope.Meaning.{Meaning}
+use Rattle.ot_cscope.specs.declared.scope.Meaning.TheVariants as m
+use Rattle.ot_cscope.specs.Constants.{Typed, constant}
+use Rattle.ot_cscope.specs.Kinds.{holds, holds_below, is_signed}
+use Rattle.ot_cscope.specs.Results.{Refusal, ◌>>=◌}
+use Rattle.ot_cscope.specs.Scopes.{Around}
 use Rattle.ot_cdeclare.specs.declared.arrays.CArray.{CArray}
 use Rattle.ot_cdeclare.specs.declared.arrays.Declared.{Declared}
 use Rattle.ot_cdeclare.specs.Each.{each}
@@ -37,7 +39,7 @@ abbrev pub named_over : ℕ → D → ℕ → Meaning → Option Meaning → Res
 named_over at d x new None = Err (at, why.NoName)
 named_over at d x new (Some m.Nothing) = Ok (record d { meanings = slice_set d.meanings x new })
 named_over at d x new (Some (m.Constant n k)) = Err (at, why.Twice)
-named_over at d x new (Some (m.Cells length)) = Err (at, why.Twice)
+named_over at d x new (Some (m.Cells k length)) = Err (at, why.Twice)
 named_over at d x new (Some (m.Pointer y p)) = Err (at, why.Twice)
 named_over at d x new (Some (m.Function i)) = Err (at, why.Twice)
 
@@ -62,24 +64,39 @@ abbrev pub length : Around → ℕ → Option E → Result (Option ℕ) Refusal
 length a at None = Ok None
 length a at (Some e) = number a at e >>= λ n. counted at n
 
-abbrev pub number_step : Around → ℕ → List ℕ → E → Result (List ℕ) Refusal
-number_step a at cells e = number a at e >>= λ n. Ok (cells ++ n ∷ [])
+-- a number that a type holds
+abbrev pub held : ℕ → IntegerType → Option Typed → Result ℕ Refusal
+held at k None = Err (at, why.NoConstant)
+held at k (Some x) = if holds k x.0 then Ok x.0 else Err (at, why.NoConstant)
 
-abbrev pub numbers : Around → ℕ → List E → Result (List ℕ) Refusal
-numbers a at es = each (number_step a at) [] es
+-- -n, where both its type and another hold it
+abbrev pub below : ℕ → IntegerType → Option Typed → Result ℕ Refusal
+below at k None = Err (at, why.NoConstant)
+below at k (Some x) = if is_signed x.1 && holds_below k x.0 then Ok ((2 ^ 64 - x.0) % 2 ^ 64) else Err (at, why.NoConstant)
+
+-- what a cell of type k begins with
+unfoldable pub first : Around → ℕ → IntegerType → E → Result ℕ Refusal
+first a at k (Signed u.Minus e) = below at k (constant a e)
+first a at k e = held at k (constant a e)
+
+abbrev pub number_step : Around → ℕ → IntegerType → List ℕ → E → Result (List ℕ) Refusal
+number_step a at k cells e = first a at k e >>= λ n. Ok (cells ++ n ∷ [])
+
+abbrev pub numbers : Around → ℕ → IntegerType → List E → Result (List ℕ) Refusal
+numbers a at k es = each (number_step a at k) [] es
 
 -- the first cells of an array, and zeros behind them (C17, section 6.7.9)
 abbrev pub filled : ℕ → List ℕ → ℕ → Result (List ℕ) Refusal
 filled at cells n = if nat_lt n (count_in cells) then Err (at, why.NoLength) else Ok (cells ++ replicate (n - count_in cells) 0)
 
--- the cells of a variable or an array as it begins
-abbrev pub begun : Around → ℕ → Option ℕ → Start → Result (List ℕ) Refusal
-begun a at None Unset = filled at [] 1
-begun a at (Some n) Unset = filled at [] n
-begun a at None (One e) = number_step a at [] e
-begun a at (Some n) (Many es) = numbers a at es >>= λ cells. filled at cells n
-begun a at None (Many es) = Err (at, why.NoConstant)
-begun a at (Some n) (One e) = Err (at, why.NoConstant)
+-- the cells of a variable or an array of a type as it begins
+abbrev pub begun : Around → ℕ → IntegerType → Option ℕ → Start → Result (List ℕ) Refusal
+begun a at k None Unset = filled at [] 1
+begun a at k (Some n) Unset = filled at [] n
+begun a at k None (One e) = number_step a at k [] e
+begun a at k (Some n) (Many es) = numbers a at k es >>= λ cells. filled at cells n
+begun a at k None (Many es) = Err (at, why.NoConstant)
+begun a at k (Some n) (One e) = Err (at, why.NoConstant)
 
 -- ---- declarations
 
@@ -87,11 +104,11 @@ begun a at (Some n) (One e) = Err (at, why.NoConstant)
 abbrev pub outside : List (String Global) → List Meaning → Bool → Around
 outside names meanings inside = record { names = names; meanings = meanings; turns = []; opened = []; inside = inside }
 
-abbrev pub cells_in : Around → ℕ → Cells → Result (Option ℕ × List ℕ) Refusal
-cells_in a at v = length a at v.length >>= λ n. begun a at n v.initial >>= λ cells. Ok (n, cells)
+abbrev pub cells_in : Around → ℕ → IntegerType → Cells → Result (Option ℕ × List ℕ) Refusal
+cells_in a at k v = length a at v.length >>= λ n. begun a at k n v.initial >>= λ cells. Ok (n, cells)
 
-abbrev pub cells_of : List (String Global) → List Meaning → ℕ → Cells → Result (Option ℕ × List ℕ) Refusal
-cells_of names meanings at v = cells_in (outside names meanings false) at v
+abbrev pub cells_of : List (String Global) → List Meaning → ℕ → IntegerType → Cells → Result (Option ℕ × List ℕ) Refusal
+cells_of names meanings at k v = cells_in (outside names meanings false) at k v
 
 abbrev pub number_of : ℕ → Name → Result ℕ Refusal
 number_of at (n.Other i) = Ok i
@@ -108,14 +125,14 @@ name_of names at i = name_by at (slice_get names i)
 abbrev pub with_array : D → List ℕ → List ℕ → D
 with_array d name cells = record d { arrays = d.arrays ++ (record { name = name; cells = cells }) ∷ [] }
 
-abbrev pub variable_step : List (String Global) → ℕ → D → Cells → Result D Refusal
-variable_step names at d v =
+abbrev pub variable_step : List (String Global) → ℕ → IntegerType → D → Cells → Result D Refusal
+variable_step names at k d v =
     number_of at v.name >>= λ i.
     name_of names at i >>= λ name.
-    cells_of names d.meanings at v >>= λ cells.
-    named at d i (m.Cells cells.0) >>= λ e.
+    cells_of names d.meanings at k v >>= λ cells.
+    named at d i (m.Cells k cells.0) >>= λ e.
     Ok (with_array e name cells.1)
 
--- variables of type `uint64_t`, one after another
+-- variables of a type, one after another
 abbrev pub declaration : List (String Global) → ℕ → D → Declaration → Result D Refusal
-declaration names at d given = if is_word given.kind then each (variable_step names at) d given.variables else Err (at, why.OtherType)
+declaration names at d given = each (variable_step names at given.kind) d given.variables

@@ -1,6 +1,6 @@
 -- One after another, up to the first that is refused.
 use Rattle.std.specs.Prelude.{List, [], ◌∷◌, Result, Ok}
-use Rattle.ot_cmeaning.specs.Results.{Refusal, ◌>>=◌}
+use Rattle.ot_cscope.specs.Results.{Refusal, ◌>>=◌}
 
 unfoldable pub each : {A B : Type 0} → (A → B → Result A Refusal) → A → List B → Result A Refusal
 each step a [] = Ok a

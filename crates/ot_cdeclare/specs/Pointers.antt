@@ -1,15 +1,17 @@
 -- Pointers to cells of arrays. Wherever a file declares a name as a pointer, it points to the same cell.
 use Rattle.std.specs.Prelude.{ℕ, ◌==◌, nat_lt, Bool, false, ◌&&◌, List, slice_get, slice_set, Option, Some, None, Result, Ok, Err, String, if◌then◌else◌}
 use Rattle.std.specs.declared.alloc.Global.{Global}
+use Rattle.ot_words.specs.declared.word.IntegerType.{IntegerType}
 use Rattle.ot_words.specs.declared.word.Name.{Name}
 use Rattle.ot_cread.specs.Tree.{E}
 use Rattle.ot_cstatement.specs.Tree.{S, Block, Assign, If, For, Task, Wait, Group, Yield, Call, Print, Show, Point, Body, End, Next}
-use Rattle.ot_cmeaning.specs.declared.reason.Reason.TheVariants as why
-use Rattle.ot_cmeaning.specs.declared.scope.Meaning.{Meaning}
-use Rattle.ot_cmeaning.specs.declared.scope.Meaning.TheVariants as m
-use Rattle.ot_cmeaning.specs.declared.scope.Pointee.{Pointee}
-use Rattle.ot_cmeaning.specs.Constants.{Typed, constant}
-use Rattle.ot_cmeaning.specs.Results.{Refusal, ◌>>=◌}
+use Rattle.ot_cscope.specs.declared.reason.Reason.TheVariants as why
+use Rattle.ot_cscope.specs.declared.scope.Meaning.{Meaning}
+use Rattle.ot_cscope.specs.declared.scope.Meaning.TheVariants as m
+use Rattle.ot_cscope.specs.declared.scope.Pointee.{Pointee}
+use Rattle.ot_cscope.specs.Constants.{Typed, constant}
+use Rattle.ot_cscope.specs.Kinds.{is_word}
+use Rattle.ot_cscope.specs.Results.{Refusal, ◌>>=◌}
 use Rattle.ot_cdeclare.specs.Arrays.{D, number_of, outside}
 use Rattle.ot_cdeclare.specs.Places.{byte_of}
 
@@ -21,10 +23,14 @@ abbrev pub place_in : ℕ → ℕ → Option Typed → Result ℕ Refusal
 place_in at count None = Err (at, why.Pointee)
 place_in at count (Some n) = if nat_lt n.0 count then Ok n.0 else Err (at, why.Pointee)
 
+-- so many cells, where they are of type `uint64_t`, to which pointers point
+abbrev pub counted : ℕ → IntegerType → ℕ → Result ℕ Refusal
+counted at k n = if is_word k then Ok n else Err (at, why.OtherType)
+
 -- how many cells an array has
 abbrev pub count_by : ℕ → Option Meaning → Result ℕ Refusal
-count_by at (Some (m.Cells (Some n))) = Ok n
-count_by at (Some (m.Cells None)) = Err (at, why.Pointee)
+count_by at (Some (m.Cells k (Some n))) = counted at k n
+count_by at (Some (m.Cells k None)) = Err (at, why.Pointee)
 count_by at (Some m.Nothing) = Err (at, why.Pointee)
 count_by at (Some (m.Constant n k)) = Err (at, why.Pointee)
 count_by at (Some (m.Pointer x p)) = Err (at, why.Pointee)
@@ -47,7 +53,7 @@ pointing_over at d p cell None = Err (at, why.NoName)
 pointing_over at d p cell (Some m.Nothing) = Ok (record d { meanings = slice_set d.meanings p (m.Pointer cell.array cell.place) })
 pointing_over at d p cell (Some (m.Pointer x i)) = if is_same x i cell then Ok d else Err (at, why.Pointee)
 pointing_over at d p cell (Some (m.Constant n k)) = Err (at, why.Twice)
-pointing_over at d p cell (Some (m.Cells length)) = Err (at, why.Twice)
+pointing_over at d p cell (Some (m.Cells k length)) = Err (at, why.Twice)
 pointing_over at d p cell (Some (m.Function i)) = Err (at, why.Twice)
 
 -- a name that means nothing yet, or points there already, points to a cell

@@ -1,25 +1,25 @@
 //! What a file declares.
 ghost use Rattle.std.specs.Prelude.{◌≡◌, string_bytes};
-ghost use Rattle.ot_cmeaning.specs.Kinds.{is_word};
 ghost use Rattle.ot_cread.specs.Tree.{expr_of};
 ghost use Rattle.ot_cstatement.specs.Tree.{exprs_of, index_of};
 ghost use Rattle.ot_cfile.specs.Program.{initial_of, variable_of, variables_of, declaration_of};
-ghost use Rattle.ot_cmeaning.specs.Results.{Gives};
+ghost use Rattle.ot_cscope.specs.Results.{Gives};
 ghost use Rattle.ot_cdeclare.specs.Arrays.{declared_of};
 ghost use Rattle.ot_cdeclare.specs.Arrays as meant;
 ghost use Rattle.ot_cdeclare.specs.Each.{each};
 
 use indexmap::IndexSet;
 use ot_cfile::{Declaration, Initial, Variable};
-use ot_cmeaning::{CFault, Meaning, Reason, Scope, constant};
-use ot_cread::Expr;
+use ot_cread::{Expr, Unary};
+use ot_cscope::kind::{holds, holds_below, is_signed};
+use ot_cscope::{CFault, Meaning, Reason, Scope, constant};
 use ot_program::is_name;
 use ot_words::{IntegerType, Name};
 use std::alloc::Global;
 
 const MAX_CELLS: u64 = 65_536;
 
-/// An array of the program, with its cells as it begins.
+/// An array of the program, with its cells as it begins; numbers below zero stand modulo 2^64.
 #[derive(Debug, Drop)]
 pub struct CArray {
     pub name: String,
@@ -75,16 +75,50 @@ fn length(scope: &Scope<'_>, start: usize, length: &Option<Expr>) -> Result<Opti
     Ok(Some(count as usize))
 }
 
+/// A number that a type holds.
+fn held(start: usize, kind: IntegerType, known: Option<(u64, IntegerType)>) -> Result<u64, CFault>
+    ensures { Gives (λ n. n) result (meant.held start kind known) }
+{
+    match known {
+        Some((number, _)) if holds(kind, number) => Ok(number),
+        _ => Err(CFault::Outside(start, Reason::NoConstant)),
+    }
+}
+
+/// The number that is so much below zero, modulo 2^64, where both its type and the cell's hold it.
+fn below(start: usize, kind: IntegerType, known: Option<(u64, IntegerType)>) -> Result<u64, CFault>
+    ensures { Gives (λ n. n) result (meant.below start kind known) }
+{
+    match known {
+        Some((number, by)) if is_signed(by) && holds_below(kind, number) => {
+            Ok(0u64.wrapping_sub(number))
+        }
+        _ => Err(CFault::Outside(start, Reason::NoConstant)),
+    }
+}
+
+/// What a cell of a type begins with.
+#[tactic(auto, unfolding(crate::specs::Arrays::first))]
+fn first(scope: &Scope<'_>, start: usize, kind: IntegerType, expr: &Expr) -> Result<u64, CFault>
+    ensures { Gives (λ n. n) result (meant.first scope.now start kind (expr_of expr.now)) }
+{
+    match expr {
+        Expr::Unary(Unary::Minus, expr) => below(start, kind, constant(scope, expr)),
+        _ => held(start, kind, constant(scope, expr)),
+    }
+}
+
 /// A cell behind others.
 fn number_step(
     scope: &Scope<'_>,
     start: usize,
+    kind: IntegerType,
     mut cells: Vec<u64>,
     expr: &Expr,
 ) -> Result<Vec<u64>, CFault>
-    ensures { Gives (λ v. v.items) result (meant.number_step scope.now start cells.items (expr_of expr.now)) }
+    ensures { Gives (λ v. v.items) result (meant.number_step scope.now start kind cells.items (expr_of expr.now)) }
 {
-    let cell = number(scope, start, expr)?;
+    let cell = first(scope, start, kind, expr)?;
     cells.push(cell)?;
     Ok(cells)
 }
@@ -93,13 +127,14 @@ fn numbers(
     alloc: Global,
     scope: &Scope<'_>,
     start: usize,
+    kind: IntegerType,
     exprs: &[Expr],
 ) -> Result<Vec<u64>, CFault>
-    ensures { Gives (λ v. v.items) result (meant.numbers scope.now start (exprs_of exprs.now)) }
+    ensures { Gives (λ v. v.items) result (meant.numbers scope.now start kind (exprs_of exprs.now)) }
 {
     let mut cells = Vec::new(alloc);
     for expr in exprs {
-        cells = number_step(scope, start, cells, expr)?;
+        cells = number_step(scope, start, kind, cells, expr)?;
     }
     Ok(cells)
 }
@@ -126,17 +161,18 @@ fn begun(
     alloc: Global,
     scope: &Scope<'_>,
     start: usize,
+    kind: IntegerType,
     length: Option<usize>,
     initial: &Initial,
 ) -> Result<Vec<u64>, CFault>
-    ensures { Gives (λ v. v.items) result (meant.begun scope.now start length (initial_of initial.now)) }
+    ensures { Gives (λ v. v.items) result (meant.begun scope.now start kind length (initial_of initial.now)) }
 {
     match (length, initial) {
         (None, Initial::Nothing) => filled(alloc, start, Vec::new(alloc), 1),
         (Some(count), Initial::Nothing) => filled(alloc, start, Vec::new(alloc), count),
-        (None, Initial::Value(expr)) => number_step(scope, start, Vec::new(alloc), expr),
+        (None, Initial::Value(expr)) => number_step(scope, start, kind, Vec::new(alloc), expr),
         (Some(count), Initial::Values(exprs)) => {
-            let cells = numbers(alloc, scope, start, exprs)?;
+            let cells = numbers(alloc, scope, start, kind, exprs)?;
             filled(alloc, start, cells, count)
         }
         (None, Initial::Values(_)) | (Some(_), Initial::Value(_)) => {
@@ -151,13 +187,14 @@ fn cells_of(
     names: &IndexSet<String>,
     meanings: &[Meaning],
     start: usize,
+    kind: IntegerType,
     variable: &Variable,
 ) -> Result<(Option<usize>, Vec<u64>), CFault>
-    ensures { Gives (λ x. (x.0, x.1.items)) result (meant.cells_of names.now.keys meanings.now start (variable_of variable.now)) }
+    ensures { Gives (λ x. (x.0, x.1.items)) result (meant.cells_of names.now.keys meanings.now start kind (variable_of variable.now)) }
 {
     let scope = Scope::new(alloc, names, meanings, false);
     let length = length(&scope, start, &variable.length)?;
-    let cells = begun(alloc, &scope, start, length, &variable.initial)?;
+    let cells = begun(alloc, &scope, start, kind, length, &variable.initial)?;
     Ok((length, cells))
 }
 
@@ -191,39 +228,34 @@ fn variable_step(
     alloc: Global,
     names: &IndexSet<String>,
     start: usize,
+    kind: IntegerType,
     declared: Declared,
     variable: &Variable,
 ) -> Result<Declared, CFault>
-    ensures { Gives declared_of result (meant.variable_step names.now.keys start (declared_of declared) (variable_of variable.now)) }
+    ensures { Gives declared_of result (meant.variable_step names.now.keys start kind (declared_of declared) (variable_of variable.now)) }
 {
     let number = number_of(start, variable.name)?;
     let name = name_of(alloc, names, start, number)?;
-    let (length, cells) = cells_of(alloc, names, &declared.meanings, start, variable)?;
-    let mut declared = named(start, declared, number, Meaning::Cells(length))?;
+    let (length, cells) = cells_of(alloc, names, &declared.meanings, start, kind, variable)?;
+    let mut declared = named(start, declared, number, Meaning::Cells(kind, length))?;
     declared.arrays.push(CArray { name, cells })?;
     Ok(declared)
 }
 
-/// Whether numbers of a type are those of the language.
-fn is_word(kind: IntegerType) -> bool
-    ensures { result ≡ is_word kind }
-{
-    matches!(kind, IntegerType::UnsignedLong)
-}
-
-/// Variables and arrays behind others.
+/// Variables and arrays of a type behind others.
 fn variables(
     alloc: Global,
     names: &IndexSet<String>,
     start: usize,
+    kind: IntegerType,
     declared: Declared,
     variables: &[Variable],
 ) -> Result<Declared, CFault>
-    ensures { Gives declared_of result (each (meant.variable_step names.now.keys start) (declared_of declared) (variables_of variables.now)) }
+    ensures { Gives declared_of result (each (meant.variable_step names.now.keys start kind) (declared_of declared) (variables_of variables.now)) }
 {
     let mut declared = declared;
     for variable in variables {
-        declared = variable_step(alloc, names, start, declared, variable)?;
+        declared = variable_step(alloc, names, start, kind, declared, variable)?;
     }
     Ok(declared)
 }
@@ -238,8 +270,6 @@ pub fn declaration(
 ) -> Result<Declared, CFault>
     ensures { Gives declared_of result (meant.declaration names.now.keys start (declared_of declared) (declaration_of declaration.now)) }
 {
-    if !is_word(declaration.kind) {
-        return Err(CFault::Outside(start, Reason::OtherType));
-    }
-    variables(alloc, names, start, declared, &declaration.variables)
+    let kind = declaration.kind;
+    variables(alloc, names, start, kind, declared, &declaration.variables)
 }

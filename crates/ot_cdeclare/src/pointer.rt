@@ -2,25 +2,37 @@
 ghost use Rattle.std.specs.Prelude.{◌≡◌, slice_get};
 ghost use Rattle.ot_cread.specs.Tree.{expr_of};
 ghost use Rattle.ot_cstatement.specs.Tree.{stmt_of, list_of, body_of};
-ghost use Rattle.ot_cmeaning.specs.Results.{Gives};
+ghost use Rattle.ot_cscope.specs.Results.{Gives};
 ghost use Rattle.ot_cdeclare.specs.Arrays.{declared_of};
 ghost use Rattle.ot_cdeclare.specs.Pointers as meant;
 
 use crate::arrays::{Declared, number_of};
 use crate::place::byte_of;
 use indexmap::IndexSet;
-use ot_cmeaning::{CFault, Meaning, Pointee, Reason, Scope, constant};
 use ot_cread::Expr;
+use ot_cscope::kind::is_word;
+use ot_cscope::{CFault, Meaning, Pointee, Reason, Scope, constant};
 use ot_cstatement::Stmt;
-use ot_words::{Name, Words};
+use ot_words::{IntegerType, Name, Words};
 use std::alloc::Global;
+
+/// So many cells, where they are of the type to which pointers point.
+fn counted(start: usize, kind: IntegerType, count: usize) -> Result<usize, CFault>
+    ensures { Gives (λ n. n) result (meant.counted start kind count) }
+{
+    if is_word(kind) {
+        Ok(count)
+    } else {
+        Err(CFault::Outside(start, Reason::OtherType))
+    }
+}
 
 /// How many cells an array has.
 fn count_by(start: usize, meaning: Option<Meaning>) -> Result<usize, CFault>
     ensures { Gives (λ n. n) result (meant.count_by start meaning) }
 {
     match meaning {
-        Some(Meaning::Cells(Some(count))) => Ok(count),
+        Some(Meaning::Cells(kind, Some(count))) => counted(start, kind, count),
         _ => Err(CFault::Outside(start, Reason::Pointee)),
     }
 }

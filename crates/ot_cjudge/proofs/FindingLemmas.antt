@@ -1,14 +1,21 @@
--- What is found where the run doesn't race.
-use Rattle.std.proofs.Common.{ℕ, List}
+-- What is found where no way races.
+use Rattle.std.proofs.Common.{◌≡◌, refl, ℕ, List, true, false}
+use Rattle.std.proofs.lemmas.Bool.{both_ways}
 use Rattle.ot_model.specs.Tree.{Body}
-use Rattle.ot_race.specs.Races.{NothingRaces}
-use Rattle.ot_corder.specs.declared.order.Order.TheVariants.{OfC}
+use Rattle.ot_model.specs.Cells.{cell_of, lengths}
+use Rattle.ot_model.specs.Names.{NamedIn}
+use Rattle.ot_model.specs.Value.{val}
+use Rattle.ot_corder.specs.declared.order.Order.{Order}
+use Rattle.ot_ways.specs.Laws.{RunsAreWays}
 use Rattle.ot_ways.specs.Verdicts.{Tells}
 use Rattle.ot_ways.specs.declared.verdict.Verdict.{Verdict}
 use Rattle.ot_ways.specs.declared.verdict.Verdict.TheVariants.{RacesOnNoWay, RacesOnWay, TooManyWays}
-use Rattle.ot_cjudge.specs.Findings.{events_in_c, Finds, finding_of}
+use Rattle.ot_cjudge.specs.declared.finding.Finding.TheVariants.{Nowhere}
+use Rattle.ot_cjudge.specs.Findings.{Finds, is_clean}
 
-pub finds_by : (body : Body) (cells : List (List ℕ)) (told : Verdict) → NothingRaces (events_in_c body cells) → Tells OfC body told → Finds body cells (finding_of told)
-finds_by body cells RacesOnNoWay none tells = (none, tells.0, tells.1)
-finds_by body cells (RacesOnWay taken race) none tells = (none, tells.0, taken.items, tells.1)
-finds_by body cells TooManyWays none tells = (none, tells)
+-- where no way races, neither does the run, which goes one
+pub finds_nowhere : (order : Order) (body : Body) (cells : List (List ℕ)) (told : Verdict) → RunsAreWays → NamedIn (lengths cells) body → Tells order body told → is_clean told ≡ true → Finds order body cells Nowhere
+finds_nowhere order body cells RacesOnNoWay laws named tells is =
+    (λ cell i j race. tells.1 (λ s e. val (cell_of s.cells) e) cells cell i j (laws order body cells named cell i j race), tells.0, tells.1)
+finds_nowhere order body cells (RacesOnWay taken race) laws named tells is = absurd (both_ways false refl is)
+finds_nowhere order body cells TooManyWays laws named tells is = absurd (both_ways false refl is)

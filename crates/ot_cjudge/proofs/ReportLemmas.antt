@@ -11,6 +11,7 @@ use Rattle.ot_check.specs.declared.fault.CheckFault.{CheckFault}
 use Rattle.ot_check.specs.declared.fault.CheckFault.TheVariants as fault
 use Rattle.ot_check.specs.declared.fault.Offence.{Offence}
 use Rattle.ot_check.specs.declared.fault.Offence.TheVariants.{NotDeclared, ChildBeyond, ReductionMisuse, ConflictsWithChild, EndsWithChildren}
+use Rattle.ot_corder.specs.declared.order.Order.{Order}
 use Rattle.ot_program.specs.declared.fault.Refusal.{Refusal}
 use Rattle.ot_cjudge.specs.Start.{shape_of, cells_of}
 use Rattle.ot_cjudge.specs.Sites.{Source, Site}
@@ -43,11 +44,11 @@ none_lacks ReductionMisuse = refl
 none_lacks ConflictsWithChild = refl
 none_lacks EndsWithChildren = refl
 
-abbrev pub source : List ℕ → List ℕ → Data → List (List ℕ × ℕ) → List ℕ → Source
-source name text request arrays bytes = record { name = name; text = text; request = request; arrays = arrays; bytes = bytes }
+abbrev pub source : List ℕ → List ℕ → Order → Data → List (List ℕ × ℕ) → List ℕ → Source
+source name text order request arrays bytes = record { name = name; text = text; request = request; arrays = arrays; bytes = bytes; order = order }
 
-pub same_source : (name text : List ℕ) (d e : Data) (a b : List (List ℕ × ℕ)) (m n : List ℕ) → d ≡ e → a ≡ b → m ≡ n → source name text d a m ≡ source name text e b n
-same_source name text d e a b m n p q r = ap (λ x. source name text x a m) p ∙ ap (λ x. source name text e x m) q ∙ ap (λ x. source name text e b x) r
+pub same_source : (name text : List ℕ) (o : Order) (d e : Data) (a b : List (List ℕ × ℕ)) (m n : List ℕ) → d ≡ e → a ≡ b → m ≡ n → source name text o d a m ≡ source name text o e b n
+same_source name text o d e a b m n p q r = ap (λ x. source name text o x a m) p ∙ ap (λ x. source name text o e x m) q ∙ ap (λ x. source name text o e b x) r
 
 pub same_reports : (s z : Source) (cells start : List (List ℕ)) (r q : Result Expanded Refusal) (told : Verdict) (t : List ℕ) → s ≡ z → cells ≡ start → r ≡ q
     → ReportsRead s cells r told t → ReportsRead z start q told t

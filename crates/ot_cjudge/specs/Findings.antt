@@ -1,10 +1,10 @@
 -- Which races are looked for in what stands for a C text: in its run, and then on all ways through its branches.
-use Rattle.std.specs.Prelude.{List, ℕ}
+use Rattle.std.specs.Prelude.{List, ℕ, Bool, true, false}
 use Rattle.ot_model.specs.Tree.{Body}
 use Rattle.ot_race.specs.Events.{Event, this_way, events_of}
 use Rattle.ot_race.specs.Races.{NothingRaces, IsFirstRace}
 use Rattle.ot_corder.specs.Orders.{ordered_by}
-use Rattle.ot_corder.specs.declared.order.Order.TheVariants.{OfC}
+use Rattle.ot_corder.specs.declared.order.Order.{Order}
 use Rattle.ot_ways.specs.Verdicts.{AreFew, NoWayRaces, IsRaceOn}
 use Rattle.ot_ways.specs.declared.verdict.Turn.{Turn}
 use Rattle.ot_ways.specs.declared.verdict.Verdict.{Verdict}
@@ -12,18 +12,24 @@ use Rattle.ot_ways.specs.declared.verdict.Verdict.TheVariants.{RacesOnNoWay, Rac
 use Rattle.ot_cjudge.specs.declared.finding.Finding.{Finding}
 use Rattle.ot_cjudge.specs.declared.finding.Finding.TheVariants.{InRun, OnWay, Nowhere, OnlyRun}
 
--- the events of the run that begins with these cells, as C orders them
-abbrev pub events_in_c : Body → List (List ℕ) → List Event
-events_in_c body cells = ordered_by OfC (events_of this_way body cells)
+-- the events of the run that begins with these cells, where this orders its tasks
+abbrev pub events_by : Order → Body → List (List ℕ) → List Event
+events_by order body cells = ordered_by order (events_of this_way body cells)
 
 -- the first race of the run; where nothing races in it, the first race of a way, from any cells; or that no way races, or that
 -- there are too many ways
-abbrev pub Finds : Body → List (List ℕ) → Finding → Type 0
-Finds body cells (InRun race) = IsFirstRace (events_in_c body cells) race.cell race.place race.later
-Finds body cells (OnWay race) =
-    NothingRaces (events_in_c body cells) × AreFew body × (taken : List Turn) × ((from : List (List ℕ)) → IsRaceOn OfC body taken race from)
-Finds body cells Nowhere = NothingRaces (events_in_c body cells) × AreFew body × NoWayRaces OfC body
-Finds body cells OnlyRun = NothingRaces (events_in_c body cells) × (AreFew body → ⊥)
+abbrev pub Finds : Order → Body → List (List ℕ) → Finding → Type 0
+Finds order body cells (InRun race) = IsFirstRace (events_by order body cells) race.cell race.place race.later
+Finds order body cells (OnWay race) =
+    NothingRaces (events_by order body cells) × AreFew body × (taken : List Turn) × ((from : List (List ℕ)) → IsRaceOn order body taken race from)
+Finds order body cells Nowhere = NothingRaces (events_by order body cells) × AreFew body × NoWayRaces order body
+Finds order body cells OnlyRun = NothingRaces (events_by order body cells) × (AreFew body → ⊥)
+
+-- that no way races
+abbrev pub is_clean : Verdict → Bool
+is_clean RacesOnNoWay = true
+is_clean (RacesOnWay taken race) = false
+is_clean TooManyWays = false
 
 -- what the ways tell
 abbrev pub finding_of : Verdict → Finding

@@ -1,5 +1,5 @@
 -- What is written of a C text, from the first byte to the last.
-use Rattle.std.specs.Prelude.{◌≡◌, ℕ, List, [], ◌++◌, codes, Option, Some, None, Result, Ok, Err}
+use Rattle.std.specs.Prelude.{◌≡◌, ℕ, List, [], ◌++◌, codes, Option, Some, None, option_map, unwrap_or, Result, Ok, Err}
 use Rattle.std.specs.Fmt.{decimal}
 use Rattle.serde_json.specs.Data.{Data, string, array, no_items, item}
 use Rattle.serde_json.specs.View.{view}
@@ -12,6 +12,7 @@ use Rattle.ot_check.specs.Codes.{code_of}
 use Rattle.ot_check.specs.Offences.{Offends, IsFirstOf}
 use Rattle.ot_check.specs.declared.fault.Offence.{Offence}
 use Rattle.ot_check.specs.declared.fault.Offence.TheVariants.{NotDeclared, ChildBeyond, ReductionMisuse, ConflictsWithChild, EndsWithChildren}
+use Rattle.ot_fault.specs.Entries.{first_fault}
 use Rattle.ot_file.specs.declared.position.Position.{Position}
 use Rattle.ot_program.specs.Programs.{program_of}
 use Rattle.ot_program.specs.declared.fault.Refusal.{Refusal}
@@ -19,7 +20,7 @@ use Rattle.ot_program.specs.declared.fault.Refusal.TheVariants.{Form, Size, Unkn
 use Rattle.ot_race.specs.declared.race.Race.{Race}
 use Rattle.ot_overlap.specs.Items.{items_of}
 use Rattle.ot_overlap.specs.Overlaps.{IsFirst}
-use Rattle.ot_cjudge.specs.Start.{named, shape_of, cells_of}
+use Rattle.ot_cjudge.specs.Start.{named, shape_by, shape_of, cells_of}
 use Rattle.ot_cjudge.specs.Sites.{Source, Site, site_of, entry_site}
 use Rattle.ot_cjudge.specs.Lines.{place_text, turns_text, cell_text}
 use Rattle.ot_cjudge.specs.Lacks.{lacks}
@@ -127,7 +128,7 @@ ReportsFinding s body OnlyRun verdict text = (verdict ≡ v.Clean) × (warning :
 
 -- of a program that begins with these cells
 abbrev pub ReportsRun : Source → List (List ℕ) → Body → Verdict → List ℕ → Type 0
-ReportsRun s cells body verdict text = (finding : Finding) × Finds body cells finding × ReportsFinding s body finding verdict text
+ReportsRun s cells body verdict text = (finding : Finding) × Finds s.order body cells finding × ReportsFinding s body finding verdict text
 
 -- of one of which an item of a `depend` clause overlaps in part with one that writes, or none does
 abbrev pub ReportsItems : Source → List (List ℕ) → Body → Option ℕ → Verdict → List ℕ → Type 0
@@ -138,11 +139,15 @@ abbrev pub ReportsProgram : Source → List (List ℕ) → Body → Verdict → 
 ReportsProgram s cells body verdict text =
     (first : Option ℕ) × IsFirst (items_of s.arrays s.request) first × ReportsItems s cells body first verdict text
 
--- of a program that was read, or wasn't: then it is told at one of its entries
+-- which entry of a program that isn't read is told: the first one that has a fault
+unfoldable pub faulty : Source → ℕ
+faulty s = unwrap_or (option_map (λ found. found.0) (first_fault (shape_by s.arrays) s.request)) 0
+
+-- of a program that was read, or wasn't
 abbrev pub ReportsRead : Source → List (List ℕ) → Result Expanded Refusal → Verdict → List ℕ → Type 0
 ReportsRead s cells (Ok program) verdict text = ReportsProgram s cells program.body verdict text
 ReportsRead s cells (Err refusal) verdict text =
-    (verdict ≡ v.Outside) × (index : ℕ) × (text ≡ outside_line s.name (entry_site s index).position (reason_of refusal))
+    (verdict ≡ v.Outside) × (text ≡ outside_line s.name (entry_site s (faulty s)).position (reason_of refusal))
 
 -- the request that runs a program
 abbrev pub run_of : Data → Data
@@ -150,7 +155,7 @@ run_of program = array (item (string (codes "run")) (item program no_items))
 
 abbrev pub source_of : List ℕ → List ℕ → Lowered → Source
 source_of name text lowered =
-    record { name = name; text = text; request = run_of (view lowered.program); arrays = named lowered.arrays.items; bytes = lowered.places.items }
+    record { name = name; text = text; request = run_of (view lowered.program); arrays = named lowered.arrays.items; bytes = lowered.places.items; order = lowered.order }
 
 -- of what stands for a C text
 abbrev pub Reports : List ℕ → List ℕ → Lowered → Verdict → List ℕ → Type 0

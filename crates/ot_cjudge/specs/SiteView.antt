@@ -9,7 +9,7 @@ use Rattle.ot_cjudge.specs.declared.source.Site.{Site}
 
 abbrev pub source_by : Source → s.Source
 source_by source =
-    record { name = source.name.now; text = source.text.now; request = view source.request.now; arrays = arrays_of source.arrays.now; bytes = source.places.now }
+    record { name = source.name.now; text = source.text.now; request = view source.request.now; arrays = arrays_of source.arrays.now; bytes = source.places.now; order = source.order }
 
 abbrev pub site_by : Site → s.Site
 site_by site = record { position = site.position; turns = map turn_by site.turns.items }

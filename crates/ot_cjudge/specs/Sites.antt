@@ -1,6 +1,7 @@
 -- Where in a C text its statements stand.
 use Rattle.std.specs.Prelude.{ℕ, List, [], slice_get, Option, Some, None, option_map, unwrap_or}
 use Rattle.serde_json.specs.Data.{Data}
+use Rattle.ot_corder.specs.declared.order.Order.{Order}
 use Rattle.ot_file.specs.Positions.{position_of}
 use Rattle.ot_file.specs.declared.position.Position.{Position}
 use Rattle.ot_program.specs.Meanings.{Bindings}
@@ -8,13 +9,15 @@ use Rattle.ot_place.specs.Spots.{Path, place_at, spots_of, statements_of, number
 use Rattle.ot_cjudge.specs.TextOrder.{told_of}
 
 -- A C text, its name, and what stands for it: a request that runs a program over arrays with these names and lengths. For each
--- statement of the program, in the order of its text, the byte is told at which the C statement begins.
+-- statement of the program, in the order of its text, the byte is told at which the C statement begins. And what orders the
+-- program's tasks as C orders those of the text.
 pub record Source : Type 0 where
   pub name : List ℕ
   pub text : List ℕ
   pub request : Data
   pub arrays : List (List ℕ × ℕ)
   pub bytes : List ℕ
+  pub order : Order
 
 -- a place in the text, and the turns of the loops around it, the innermost first
 pub record Site : Type 0 where

@@ -7,9 +7,12 @@ use Rattle.ot_cjudge.specs.declared.lowered.CArray.{CArray}
 abbrev pub named : List CArray → List (List ℕ × ℕ)
 named arrays = map (λ a. (string_bytes a.name, length a.cells.items)) arrays
 
--- what its program may name; of tasks it may have as many as it may have statements
+-- what its program may name, by names and lengths; of tasks it may have as many as it may have statements
+abbrev pub shape_by : List (List ℕ × ℕ) → Arrays
+shape_by arrays = record { arrays = arrays; tasks = 20000 }
+
 abbrev pub shape_of : List CArray → Arrays
-shape_of arrays = record { arrays = named arrays; tasks = 20000 }
+shape_of arrays = shape_by (named arrays)
 
 -- the numbers at the start
 abbrev pub cells_of : List CArray → List (List ℕ)

@@ -1,4 +1,4 @@
-//! Races of what stands for a C text, as C orders its tasks.
+//! Races of what stands for a C text, where its tasks are ordered as in C.
 ghost use Rattle.std.specs.Prelude.{IfOk};
 ghost use Rattle.ot_model.specs.View.{stmts_of};
 ghost use Rattle.ot_model.specs.Cells.{lengths};
@@ -8,6 +8,7 @@ ghost use Rattle.ot_cjudge.specs.Findings.{Finds};
 use ot_corder::{Order, judge_by};
 use ot_model::{Cells, Program};
 use ot_race::{Race, run_events};
+use ot_ways::laws::runs_are_ways;
 use ot_ways::{Verdict as WaysVerdict, any_way};
 use std::alloc::{AllocError, Global};
 
@@ -24,33 +25,51 @@ pub(crate) enum Finding {
     OnlyRun,
 }
 
-/// Looks for a race in the run of a program that begins with these cells, and then on all ways.
+/// Looks for a race in the run of a program that begins with these cells, and then on all ways, where this orders tasks. The run goes
+/// a way itself: where no way races it isn't judged.
 pub(crate) fn find_race(
     alloc: Global,
+    order: Order,
     program: &Program,
     cells: Cells,
 ) -> Result<Finding, AllocError>
     requires { NamedIn (lengths cells) (stmts_of program.now.body.items) }
-    ensures { IfOk result (Finds (stmts_of program.now.body.items) cells) }
+    ensures { IfOk result (Finds order (stmts_of program.now.body.items) cells) }
 {
-    match race_in_run(alloc, program, cells)? {
+    runs_are_ways();
+    let told = any_way(alloc, order, program)?;
+    if is_clean(&told) {
+        return Ok(Finding::Nowhere);
+    }
+    match race_in_run(alloc, order, program, cells)? {
         Some(race) => Ok(Finding::InRun(race)),
-        None => {
-            let told = any_way(alloc, Order::OfC, program)?;
-            Ok(finding_of(told))
-        }
+        None => Ok(finding_of(told)),
     }
 }
 
-ghost use Rattle.ot_race.specs.Races.{TellsFirst};
-ghost use Rattle.ot_cjudge.specs.Findings.{events_in_c};
+ghost use Rattle.ot_cjudge.specs.Findings.{is_clean};
 
-fn race_in_run(alloc: Global, program: &Program, cells: Cells) -> Result<Option<Race>, AllocError>
+/// Whether the ways tell that none of them races.
+fn is_clean(told: &WaysVerdict) -> bool
+    ensures { result ≡ is_clean told.now }
+{
+    matches!(told, WaysVerdict::RacesOnNoWay)
+}
+
+ghost use Rattle.ot_race.specs.Races.{TellsFirst};
+ghost use Rattle.ot_cjudge.specs.Findings.{events_by};
+
+fn race_in_run(
+    alloc: Global,
+    order: Order,
+    program: &Program,
+    cells: Cells,
+) -> Result<Option<Race>, AllocError>
     requires { NamedIn (lengths cells) (stmts_of program.now.body.items) }
-    ensures { IfOk result (TellsFirst (events_in_c (stmts_of program.now.body.items) cells)) }
+    ensures { IfOk result (TellsFirst (events_by order (stmts_of program.now.body.items) cells)) }
 {
     let events = run_events(alloc, program, cells)?;
-    judge_by(alloc, Order::OfC, &events)
+    judge_by(alloc, order, &events)
 }
 
 ghost use Rattle.std.specs.Prelude.{◌≡◌};

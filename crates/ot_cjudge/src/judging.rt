@@ -14,7 +14,7 @@ ghost use Rattle.ot_cjudge.specs.SiteView.{source_by};
 ghost use Rattle.ot_cjudge.specs.Fits.{Fits};
 ghost use Rattle.ot_cjudge.specs.Lacks.{lacks};
 ghost use Rattle.ot_cjudge.specs.Faults.{Says};
-ghost use Rattle.ot_cjudge.specs.Reports.{Reports, ReportsRead, ReportsProgram, ReportsRun, ReportsFinding, Warns, race_text, warning_text, only_run_line, outside_line, overlaps, reason_of, run_of};
+ghost use Rattle.ot_cjudge.specs.Reports.{Reports, ReportsRead, ReportsProgram, ReportsRun, ReportsFinding, Warns, race_text, warning_text, only_run_line, faulty, outside_line, overlaps, reason_of, run_of};
 
 use crate::finding::{Finding, find_race};
 use crate::found::find_in;
@@ -50,6 +50,7 @@ pub fn report_c(
         arrays,
         program,
         places,
+        order,
     } = lowered;
     let given = arrays.as_slice();
     let shape = shape_of(alloc, given)?;
@@ -64,6 +65,7 @@ pub fn report_c(
         request: &request,
         arrays: names,
         places: bytes,
+        order,
     };
     report_read(alloc, &source, &shape, cells, read)
 }
@@ -158,7 +160,7 @@ fn report_run(
     requires cells { lengths cells ≡ array_lengths shape.now }
     ensures { IfOk result (λ report. ReportsRun (source_by source.now) cells (stmts_of program.now.body.items) report.verdict report.text.items) }
 {
-    let finding = find_race(alloc, program, cells)?;
+    let finding = find_race(alloc, source.order, program, cells)?;
     report_finding(alloc, source, shape, program, finding)
 }
 
@@ -330,7 +332,7 @@ fn report_refused(
     refusal: Refusal,
 ) -> Result<Report, AllocError>
     ensures verdict { IfOk result (λ report. report.verdict ≡ Verdict.Outside) }
-    ensures text { IfOk result (λ report. (index : ℕ) × (report.text.items ≡ outside_line source.now.name.now (entry_site (source_by source.now) index).position (reason_of refusal))) }
+    ensures text { IfOk result (λ report. report.text.items ≡ outside_line source.now.name.now (entry_site (source_by source.now) (faulty (source_by source.now))).position (reason_of refusal)) }
 {
     let index = faulty_entry(alloc, source)?;
     let site = source.entry_site(alloc, index)?;
@@ -349,7 +351,9 @@ fn report_refused(
 }
 
 /// The first entry with a fault.
-fn faulty_entry(alloc: Global, source: &Source<'_>) -> Result<u32, AllocError> {
+fn faulty_entry(alloc: Global, source: &Source<'_>) -> Result<u32, AllocError>
+    ensures { IfOk result (λ index. index ≡ faulty (source_by source.now)) }
+{
     match first_fault(alloc, source.request, source.arrays, MAX_TASKS)? {
         Some(found) => Ok(found.index),
         None => Ok(0),

@@ -15,4 +15,5 @@ mod text_order;
 
 pub use judging::{report_c, report_outside};
 pub use lowered::{CArray, Lowered};
+pub use ot_corder::Order;
 pub use report::{Report, Verdict};

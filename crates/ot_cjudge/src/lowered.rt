@@ -1,4 +1,5 @@
 //! C programs as programs of the language.
+use ot_corder::Order;
 use serde_json::Value;
 
 /// An array of a C program, and its numbers at the start.
@@ -17,4 +18,6 @@ pub struct Lowered {
     pub program: Value,
     /// For each statement of that text, in its order, the byte at which the C statement begins.
     pub places: Vec<usize>,
+    /// What orders its tasks as C orders those of the text.
+    pub order: Order,
 }

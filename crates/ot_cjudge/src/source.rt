@@ -3,6 +3,7 @@ ghost use Rattle.std.specs.Prelude.{◌≡◌};
 ghost use Rattle.ot_file.specs.Positions.{position_of};
 
 use crate::text_order::told_of;
+use ot_corder::Order;
 use ot_file::{Position, position_of};
 use ot_model::ArrayShape;
 use ot_place::{Place, Turn, entry_of, place_of};
@@ -19,6 +20,8 @@ pub(crate) struct Source<'a> {
     pub(crate) arrays: &'a [ArrayShape],
     /// For each statement of the program, in the order of its text, the byte at which the C statement begins.
     pub(crate) places: &'a [usize],
+    /// What orders the program's tasks as C orders those of the text.
+    pub(crate) order: Order,
 }
 
 /// A place in the text, and the turns of the loops around it, the innermost first.

@@ -2,21 +2,23 @@
 -- section 5.5.3).
 use Rattle.std.specs.Prelude.{ℕ, ◌==◌, Bool, true, false, ◌&&◌, [], ◌∷◌, Option, Some, None, Result, Ok, Err, codes, if◌then◌else◌}
 use Rattle.serde_json.specs.Data.{Data, string}
+use Rattle.ot_words.specs.declared.word.IntegerType.{IntegerType}
 use Rattle.ot_words.specs.declared.word.Name.{Name}
 use Rattle.ot_words.specs.declared.word.Name.TheVariants as n
 use Rattle.ot_cread.specs.declared.sign.Sign.{Sign}
 use Rattle.ot_cread.specs.declared.tree.Operation.{Operation}
 use Rattle.ot_cread.specs.Tree.{E, Literal, Variable, CellAt, Unsigned, Signed, Called, Apply, Choose}
 use Rattle.ot_cstatement.specs.Tree.{Aim}
-use Rattle.ot_cmeaning.specs.declared.reason.Reason.TheVariants as why
-use Rattle.ot_cmeaning.specs.declared.scope.Pointee.{Pointee}
-use Rattle.ot_cmeaning.specs.declared.scope.Sense.{Sense}
-use Rattle.ot_cmeaning.specs.declared.scope.Sense.TheVariants as s
-use Rattle.ot_cmeaning.specs.Forms.{nat, form}
-use Rattle.ot_cmeaning.specs.Results.{Refusal, ◌>>=◌}
-use Rattle.ot_cmeaning.specs.Scopes.{Around, sense, name_text, text_of}
-use Rattle.ot_cmeaning.specs.Sizes.{size}
-use Rattle.ot_cmeaning.specs.Values.{value, untouched}
+use Rattle.ot_cscope.specs.declared.reason.Reason.TheVariants as why
+use Rattle.ot_cscope.specs.declared.scope.Pointee.{Pointee}
+use Rattle.ot_cscope.specs.declared.scope.Sense.{Sense}
+use Rattle.ot_cscope.specs.declared.scope.Sense.TheVariants as s
+use Rattle.ot_cscope.specs.Forms.{nat, form}
+use Rattle.ot_cscope.specs.Results.{Refusal, ◌>>=◌}
+use Rattle.ot_cscope.specs.Scopes.{Around, sense, name_text, text_of}
+use Rattle.ot_cscope.specs.Sizes.{size}
+use Rattle.ot_cmeaning.specs.Stores.{assigned, changed}
+use Rattle.ot_cscope.specs.Runs.{untouched}
 use Rattle.ot_clower.specs.declared.assignment.Placed.{Placed}
 use Rattle.ot_cclause.specs.Operations.{operation_word, fold_of, is_minus, call_fold, is_same}
 
@@ -40,19 +42,20 @@ is_start i = false
 abbrev pub pointed_cell : Around → ℕ → Pointee → Option E → Stated
 pointed_cell a at p index = if is_start index then Ok (form (codes "c") (string (text_of a.names p.array) ∷ nat p.place ∷ [])) else Err (at, why.Pointee)
 
--- what is assigned to: a pointer's cell or how many cells there are, and by which operation the task folds into its own
--- copy of it, if it has one
+-- what is assigned to: a pointer's cell or how many cells there are; their type; and by which operation the task folds into
+-- its own copy of it, if it has one
 pub record Place : Type 0 where
   pub pointee : Option Pointee
+  pub kind : IntegerType
   pub length : Option ℕ
   pub own : Option Operation
 
 abbrev pub place_of : Placed → Place
-place_of p = record { pointee = p.pointee; length = p.length; own = p.own }
+place_of p = record { pointee = p.pointee; kind = p.kind; length = p.length; own = p.own }
 
 abbrev pub aimed : ℕ → Sense → Result Place Refusal
-aimed at (s.Cells length) = Ok (record { pointee = None; length = length; own = None })
-aimed at (s.Combined c length) = if c.own then Ok (record { pointee = c.pointee; length = length; own = Some c.operation }) else Err (at, why.Combined)
+aimed at (s.Cells k length) = Ok (record { pointee = None; kind = k; length = length; own = None })
+aimed at (s.Combined c k length) = if c.own then Ok (record { pointee = c.pointee; kind = k; length = length; own = Some c.operation }) else Err (at, why.Combined)
 aimed at s.Nothing = Err (at, why.Unknown)
 aimed at (s.Constant n k) = Err (at, why.Constant)
 aimed at (s.Turn k) = Err (at, why.LoopVariable)
@@ -91,13 +94,13 @@ may_fold (Some own) op = is_same own op
 abbrev pub Folds : Type 0
 Folds = Option Operation × Bool
 
-abbrev pub change_by : Around → ℕ → Option Operation → Data → Option Operation → Bool → E → Stated
-change_by a at own cell None minus e = Err (at, why.OwnCopy)
-change_by a at own cell (Some op) minus e = if may_fold own op then (value a at e >>= λ v. Ok (fold op cell (taken minus v.text))) else Err (at, why.OwnCopy)
+abbrev pub change_by : Around → ℕ → Option Operation → IntegerType → Data → Option Operation → Bool → E → Stated
+change_by a at own k cell None minus e = Err (at, why.OwnCopy)
+change_by a at own k cell (Some op) minus e = if may_fold own op then (changed a at k op minus e >>= λ d. Ok (fold op cell (taken minus d))) else Err (at, why.OwnCopy)
 
--- `cell op= value`
-abbrev pub change : Around → ℕ → Option Operation → Data → Folds → E → Stated
-change a at own cell folds e = change_by a at own cell folds.0 folds.1 e
+-- `cell op= value`, of a cell of type k
+abbrev pub change : Around → ℕ → Option Operation → IntegerType → Data → Folds → E → Stated
+change a at own k cell folds e = change_by a at own k cell folds.0 folds.1 e
 
 -- whether two places are the same number, or the same name
 unfoldable pub same_place : E → E → Bool
@@ -115,24 +118,24 @@ abbrev pub is_target : Aim → E → Bool
 is_target t e = is_target_by t.array t.index e
 
 -- `x = x op e`, `x = min(x, e)` or `x = max(x, e)`, where a task has a copy of x of its own
-abbrev pub own_set : Around → ℕ → Operation → Data → Aim → E → Stated
-own_set a at own cell t (Apply sign e f) = if is_target t e then change a at (Some own) cell (fold_of sign, is_minus sign) f else Err (at, why.OwnCopy)
-own_set a at own cell t (Called call e f) = if is_target t e then change a at (Some own) cell (Some (call_fold call), false) f else Err (at, why.OwnCopy)
-own_set a at own cell t (Literal n k) = Err (at, why.OwnCopy)
-own_set a at own cell t (Variable y) = Err (at, why.OwnCopy)
-own_set a at own cell t (CellAt y i) = Err (at, why.OwnCopy)
-own_set a at own cell t (Unsigned e) = Err (at, why.OwnCopy)
-own_set a at own cell t (Signed sign e) = Err (at, why.OwnCopy)
-own_set a at own cell t (Choose t0 e f) = Err (at, why.OwnCopy)
+abbrev pub own_set : Around → ℕ → Operation → IntegerType → Data → Aim → E → Stated
+own_set a at own k cell t (Apply sign e f) = if is_target t e then change a at (Some own) k cell (fold_of sign, is_minus sign) f else Err (at, why.OwnCopy)
+own_set a at own k cell t (Called call e f) = if is_target t e then change a at (Some own) k cell (Some (call_fold call), false) f else Err (at, why.OwnCopy)
+own_set a at own k cell t (Literal n j) = Err (at, why.OwnCopy)
+own_set a at own k cell t (Variable y) = Err (at, why.OwnCopy)
+own_set a at own k cell t (CellAt y i) = Err (at, why.OwnCopy)
+own_set a at own k cell t (Unsigned e) = Err (at, why.OwnCopy)
+own_set a at own k cell t (Signed sign e) = Err (at, why.OwnCopy)
+own_set a at own k cell t (Choose t0 e f) = Err (at, why.OwnCopy)
 
-abbrev pub set : Around → ℕ → Data → E → Stated
-set a at cell e = value a at e >>= λ v. Ok (form (codes "set") (cell ∷ v.text ∷ []))
+abbrev pub set : Around → ℕ → IntegerType → Data → E → Stated
+set a at k cell e = assigned a at k e >>= λ d. Ok (form (codes "set") (cell ∷ d ∷ []))
 
-abbrev pub assigned : Around → ℕ → Option Operation → Data → Aim → Option Sign → E → Stated
-assigned a at own cell t (Some sign) e = change a at own cell (fold_of sign, is_minus sign) e
-assigned a at None cell t None e = set a at cell e
-assigned a at (Some own) cell t None e = own_set a at own cell t e
+abbrev pub assignment_by : Around → ℕ → Option Operation → IntegerType → Data → Aim → Option Sign → E → Stated
+assignment_by a at own k cell t (Some sign) e = change a at own k cell (fold_of sign, is_minus sign) e
+assignment_by a at None k cell t None e = set a at k cell e
+assignment_by a at (Some own) k cell t None e = own_set a at own k cell t e
 
 -- an assignment
 abbrev pub assignment : Around → ℕ → Aim → Option Sign → E → Stated
-assignment a at t sign e = aimed at (sense a t.array) >>= λ p. cell_aimed a at t p >>= λ cell. assigned a at p.own cell t sign e
+assignment a at t sign e = aimed at (sense a t.array) >>= λ p. cell_aimed a at t p >>= λ cell. assignment_by a at p.own p.kind cell t sign e

@@ -1,5 +1,5 @@
 -- A file whole.
-use Rattle.std.specs.Prelude.{ℕ, ◌+◌, nat_lt, Bool, true, false, List, [], ◌∷◌, ◌++◌, length, map, replicate, Option, Some, None, Result, Ok, Err, String, codes, if◌then◌else◌}
+use Rattle.std.specs.Prelude.{ℕ, ◌+◌, nat_lt, Bool, true, false, List, [], ◌∷◌, ◌++◌, length, map, replicate, find, Option, Some, None, Result, Ok, Err, String, codes, if◌then◌else◌}
 use Rattle.std.specs.declared.alloc.Global.{Global}
 use Rattle.serde_json.specs.Data.{Data, string, Items}
 use Rattle.serde_json.specs.View.{view, items_of}
@@ -7,22 +7,26 @@ use Rattle.ot_cread.specs.declared.tree.Operation.TheVariants as op
 use Rattle.ot_cread.specs.Tree.{E, Claim}
 use Rattle.ot_cstatement.specs.Tree.{S, Body}
 use Rattle.ot_cfile.specs.Program.{Entry, Constant, Global as Global', Function, Act, Local, Region, Does, Whole}
-use Rattle.ot_cmeaning.specs.declared.reason.Reason.TheVariants as why
-use Rattle.ot_cmeaning.specs.declared.scope.Meaning.{Meaning}
-use Rattle.ot_cmeaning.specs.declared.scope.Meaning.TheVariants as m
-use Rattle.ot_cmeaning.specs.Constants.{Typed, constant}
-use Rattle.ot_cmeaning.specs.Forms.{nat, form, listed}
-use Rattle.ot_cmeaning.specs.Results.{Refusal, ◌>>=◌}
+use Rattle.ot_cscope.specs.declared.reason.Reason.TheVariants as why
+use Rattle.ot_cscope.specs.declared.scope.Meaning.{Meaning}
+use Rattle.ot_cscope.specs.declared.scope.Meaning.TheVariants as m
+use Rattle.ot_cscope.specs.Constants.{Typed, constant}
+use Rattle.ot_cscope.specs.Forms.{nat, form, listed}
+use Rattle.ot_cscope.specs.Results.{Refusal, ◌>>=◌}
 use Rattle.ot_words.specs.declared.word.Name.{Name}
 use Rattle.ot_cdeclare.specs.Places.{byte_of}
 use Rattle.ot_cdeclare.specs.Pointers.{pointers_from}
 use Rattle.ot_clower.specs.declared.lowered.Before.{Before}
 use Rattle.ot_clower.specs.declared.lowered.Lowered.{Lowered}
 use Rattle.ot_clower.specs.declared.lowered.Progress.{Progress}
+use Rattle.ot_clower.specs.declared.lowered.Reductions.{Reductions}
+use Rattle.ot_clower.specs.declared.lowered.Reductions.TheVariants as r
 use Rattle.ot_cclause.specs.Clauses.{heading}
+use Rattle.ot_cclause.specs.declared.own.Taking.{Taking}
+use Rattle.ot_cclause.specs.declared.own.Taking.TheVariants.{ByName, ByPointer}
 use Rattle.ot_cdeclare.specs.Arrays.{D, declared_of, Arr, array_of, named, number_of, outside, declaration}
 use Rattle.ot_cdeclare.specs.Each.{each}
-use Rattle.ot_clower.specs.Lines.{L, lines_of, none, joined}
+use Rattle.ot_clower.specs.Lines.{L, Took, lines_of, none, joined}
 use Rattle.ot_clower.specs.Statements.{Twice, called_of, Origin, statement, body, group}
 
 abbrev pub Names : Type 0
@@ -130,18 +134,39 @@ shown a = listed (string a.name ∷ nat 0 ∷ nat (length a.cells) ∷ [])
 abbrev pub shows : List Arr → Result Items Refusal
 shows arrays = Ok (items_of (map shown arrays))
 
--- a program, its arrays, and where its statements stand in the file
+-- a program, its arrays, where its statements stand in the file, and how its tasks take part in reductions
 pub record Program : Type 0 where
   pub arrays : List Arr
   pub program : Data
   pub places : List ℕ
+  pub reductions : Reductions
 
 abbrev pub lowered_of : Lowered → Program
-lowered_of l = record { arrays = map array_of l.arrays.items; program = view l.program; places = l.places.items }
+lowered_of l = record { arrays = map array_of l.arrays.items; program = view l.program; places = l.places.items; reductions = l.reductions }
+
+abbrev pub differs : Taking → Taking → Bool
+differs ByName ByName = false
+differs ByName ByPointer = true
+differs ByPointer ByName = true
+differs ByPointer ByPointer = false
+
+abbrev pub all_by : Taking → Reductions
+all_by ByName = r.ByNames
+all_by ByPointer = r.ByPointers
+
+abbrev pub unless_other : Taking → Option Took → Reductions
+unless_other way None = all_by way
+unless_other way (Some other) = r.Mixed other.0
+
+-- how tasks take part in reductions: all as the first one does, or by names where none does; or where the first one begins that
+-- takes part otherwise
+abbrev pub reductions_of : List Took → Reductions
+reductions_of [] = r.ByNames
+reductions_of (t ∷ ts) = unless_other t.1 (find (λ other. differs t.1 other.1) ts)
 
 -- `["program2", shows, body]`, which shows all arrays
 abbrev pub whole : P → Program
-whole p = record { arrays = p.declared.arrays; program = form (codes "program2") (listed (map shown p.declared.arrays) ∷ listed p.lines.texts ∷ []); places = p.lines.places }
+whole p = record { arrays = p.declared.arrays; program = form (codes "program2") (listed (map shown p.declared.arrays) ∷ listed p.lines.texts ∷ []); places = p.lines.places; reductions = reductions_of p.lines.taking }
 
 -- the program of a file
 abbrev pub lowered : Names → List ℕ → Whole → Result Program Refusal

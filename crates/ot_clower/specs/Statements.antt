@@ -10,14 +10,14 @@ use Rattle.ot_cread.specs.declared.sign.Sign.{Sign}
 use Rattle.ot_cread.specs.declared.tree.Operation.{Operation}
 use Rattle.ot_cread.specs.Tree.{E, Claim}
 use Rattle.ot_cstatement.specs.Tree.{Aim, Course, S, Block, Assign, If, For, Task, Wait, Group, Yield, Call, Print, Show, Point, Body, End, Next}
-use Rattle.ot_cmeaning.specs.declared.reason.Reason.TheVariants as why
-use Rattle.ot_cmeaning.specs.declared.scope.Sense.{Sense}
-use Rattle.ot_cmeaning.specs.declared.scope.Sense.TheVariants as means
-use Rattle.ot_cmeaning.specs.declared.scope.Turn.{Turn}
-use Rattle.ot_cmeaning.specs.Forms.{nat, form, listed}
-use Rattle.ot_cmeaning.specs.Results.{Refusal, ◌>>=◌}
-use Rattle.ot_cmeaning.specs.Scopes.{Around, text_of, sense, combines, with_turn, within_task}
-use Rattle.ot_cmeaning.specs.Sizes.{size}
+use Rattle.ot_cscope.specs.declared.reason.Reason.TheVariants as why
+use Rattle.ot_cscope.specs.declared.scope.Sense.{Sense}
+use Rattle.ot_cscope.specs.declared.scope.Sense.TheVariants as means
+use Rattle.ot_cscope.specs.declared.scope.Turn.{Turn}
+use Rattle.ot_cscope.specs.Forms.{nat, form, listed}
+use Rattle.ot_cscope.specs.Results.{Refusal, ◌>>=◌}
+use Rattle.ot_cscope.specs.Scopes.{Around, text_of, sense, combines, with_turn, within_task}
+use Rattle.ot_cscope.specs.Sizes.{size}
 use Rattle.ot_cmeaning.specs.Values.{value}
 use Rattle.ot_clower.specs.declared.statements.Bounds.{Bounds}
 use Rattle.ot_clower.specs.declared.statements.Became.{Became}
@@ -27,8 +27,9 @@ use Rattle.ot_clower.specs.declared.statements.Source.{Source}
 use Rattle.ot_cdeclare.specs.Places.{byte_of}
 use Rattle.ot_clower.specs.Assignments.{assignment}
 use Rattle.ot_cclause.specs.Clauses.{Head, heading, group_operation}
+use Rattle.ot_cclause.specs.declared.own.Taking.{Taking}
 use Rattle.ot_cdeclare.specs.Each.{each}
-use Rattle.ot_clower.specs.Lines.{L, Lowered, lines_of, none, one, joined}
+use Rattle.ot_clower.specs.Lines.{L, Lowered, lines_of, none, one, one_with, joined}
 use Rattle.ot_cclause.specs.Operations.{operation_word}
 
 abbrev pub became_of : Became → Lowered
@@ -97,8 +98,8 @@ function_by at means.Nothing = Err (at, why.Function)
 function_by at (means.Constant n k) = Err (at, why.Function)
 function_by at (means.Turn k) = Err (at, why.Function)
 function_by at means.Begins = Err (at, why.Function)
-function_by at (means.Cells length) = Err (at, why.Function)
-function_by at (means.Combined o length) = Err (at, why.Function)
+function_by at (means.Cells k length) = Err (at, why.Function)
+function_by at (means.Combined o k length) = Err (at, why.Function)
 function_by at (means.Pointer x p) = Err (at, why.Function)
 
 -- Which function a name is that is called with these values. It touches what names mean where it stands: while a group
@@ -155,24 +156,25 @@ bounds a at c = if is_name (text_of a.names c.variable) then sizes a (with_turn 
 -- ---- statements with bodies
 
 abbrev pub branch : ℕ → Data → L → L → L
-branch at test x y = one at (form (codes "if") (test ∷ listed x.texts ∷ listed y.texts ∷ [])) (x.places ++ y.places)
+branch at test x y = one_with at (form (codes "if") (test ∷ listed x.texts ∷ listed y.texts ∷ [])) (x.places ++ y.places) (x.taking ++ y.taking)
 
 abbrev pub repeated : ℕ → Range → L → L
-repeated at r x = one at (form (codes "for") (r.name ∷ r.first ∷ r.end ∷ listed x.texts ∷ [])) x.places
+repeated at r x = one_with at (form (codes "for") (r.name ∷ r.first ∷ r.end ∷ listed x.texts ∷ [])) x.places x.taking
 
 -- what the clauses of a task say (OpenMP API 5.2, section 12.5)
 abbrev pub task_head : Around → ℕ → List Claim → Result Head Refusal
 task_head a at cs = region_at a at >>= λ u. heading at (within_task a) cs
 
-abbrev pub task : ℕ → List Data → L → L
-task at clauses x = one at (form (codes "task") (listed clauses ∷ listed x.texts ∷ [])) x.places
+-- a task that takes part in reductions so
+abbrev pub task : ℕ → List Data → List Taking → L → L
+task at clauses taking x = one_with at (form (codes "task") (listed clauses ∷ listed x.texts ∷ [])) x.places (map (λ t. (at, t)) taking ++ x.taking)
 
 -- by which operation a group combines, and what its clauses say (OpenMP API 5.2, section 15.4)
 abbrev pub group_head : Around → ℕ → List Claim → Result (Operation × Head) Refusal
 group_head a at cs = region_at a at >>= λ u. group_operation at cs >>= λ op. heading at a cs >>= λ h. Ok (op, h)
 
 abbrev pub group : ℕ → Operation → List Data → L → L
-group at op sections x = one at (form (codes "group") (string (operation_word op) ∷ listed sections ∷ listed x.texts ∷ [])) x.places
+group at op sections x = one_with at (form (codes "group") (string (operation_word op) ∷ listed sections ∷ listed x.texts ∷ [])) x.places x.taking
 
 abbrev pub assigned : Around → ℕ → Aim → Option Sign → E → Lowered
 assigned a at t sign e = assignment a at t sign e >>= λ d. Ok (one at d [])
@@ -185,7 +187,7 @@ unfoldable mutual
   statement o a (Assign left t sign e) = assigned a (byte_of o.starts left) t sign e
   statement o a (If left test b c) = value a (byte_of o.starts left) test >>= λ v. body_from o a none b >>= λ x. body_from o a none c >>= λ y. Ok (branch (byte_of o.starts left) v.text x y)
   statement o a (For left c b) = bounds a (byte_of o.starts left) c >>= λ r. body_from o (with_turn a (turn c true)) none b >>= λ x. Ok (repeated (byte_of o.starts left) r x)
-  statement o a (Task left cs b) = task_head a (byte_of o.starts left) cs >>= λ h. body_from o h.around none b >>= λ x. Ok (task (byte_of o.starts left) h.clauses x)
+  statement o a (Task left cs b) = task_head a (byte_of o.starts left) cs >>= λ h. body_from o h.around none b >>= λ x. Ok (task (byte_of o.starts left) h.clauses h.taking x)
   statement o a (Wait left cs) = wait a (byte_of o.starts left) cs
   statement o a (Group left cs b) = group_head a (byte_of o.starts left) cs >>= λ g. body_from o g.1.around none b >>= λ x. Ok (group (byte_of o.starts left) g.0 g.1.clauses x)
   statement o a (Yield left) = Ok none

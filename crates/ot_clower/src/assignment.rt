@@ -3,15 +3,16 @@ ghost use Rattle.std.specs.Prelude.{◌≡◌};
 ghost use Rattle.serde_json.specs.View.{view};
 ghost use Rattle.ot_cread.specs.Tree.{expr_of};
 ghost use Rattle.ot_cstatement.specs.Tree.{aim_of, index_of};
-ghost use Rattle.ot_cmeaning.specs.Results.{Gives};
+ghost use Rattle.ot_cscope.specs.Results.{Gives};
 ghost use Rattle.ot_clower.specs.Assignments.{place_of};
 ghost use Rattle.ot_clower.specs.Assignments as meant;
 
 use ot_cclause::{call_fold, fold_of, is_minus, is_same, no_cells, operation_word};
-use ot_cmeaning::{CFault, Pointee, Reason, Scope, Sense, json, size, untouched, value};
+use ot_cmeaning::{assigned, changed};
 use ot_cread::{Expr, Operation, Sign};
+use ot_cscope::{CFault, Pointee, Reason, Scope, Sense, json, size, untouched};
 use ot_cstatement::Target;
-use ot_words::Name;
+use ot_words::{IntegerType, Name};
 use serde_json::Value;
 use std::alloc::Global;
 
@@ -65,11 +66,12 @@ fn pointed_cell(
     Ok(json::form2(alloc, "c", name, Value::from(cell.place))?)
 }
 
-/// What is assigned to: a pointer's cell or how many cells there are, and by which operation the task folds into its own
-/// copy of it, if it has one.
+/// What is assigned to: a pointer's cell or how many cells there are; their type; and by which operation the task folds into
+/// its own copy of it, if it has one.
 #[derive(Clone, Copy)]
 struct Placed {
     pointee: Option<Pointee>,
+    kind: IntegerType,
     length: Option<usize>,
     own: Option<Operation>,
 }
@@ -78,17 +80,19 @@ fn aimed(start: usize, sense: Sense) -> Result<Placed, CFault>
     ensures { Gives place_of result (meant.aimed start sense) }
 {
     match sense {
-        Sense::Cells(length) => {
+        Sense::Cells(kind, length) => {
             Ok(Placed {
                 pointee: None,
+                kind,
                 length,
                 own: None,
             })
         }
-        Sense::Combined(opening, length) => {
+        Sense::Combined(opening, kind, length) => {
             if opening.own {
                 Ok(Placed {
                     pointee: opening.pointee,
+                    kind,
                     length,
                     own: Some(opening.operation),
                 })
@@ -159,17 +163,18 @@ fn may_fold(own: Option<Operation>, operation: Operation) -> bool
     }
 }
 
-/// A fold: `cell op= expr`.
+/// A fold: `cell op= expr`, of a cell of a type.
 fn change(
     alloc: Global,
     scope: &Scope<'_>,
     start: usize,
     own: Option<Operation>,
+    kind: IntegerType,
     cell: Value,
     folds: (Option<Operation>, bool),
     expr: &Expr,
 ) -> Result<Value, CFault>
-    ensures { Gives (λ v. view v) result (meant.change scope.now start own (view cell) folds (expr_of expr.now)) }
+    ensures { Gives (λ v. view v) result (meant.change scope.now start own kind (view cell) folds (expr_of expr.now)) }
 {
     let (Some(operation), minus) = folds else {
         return Err(CFault::Outside(start, Reason::OwnCopy));
@@ -177,8 +182,8 @@ fn change(
     if !may_fold(own, operation) {
         return Err(CFault::Outside(start, Reason::OwnCopy));
     }
-    let worth = value(alloc, scope, start, expr)?;
-    let value = taken(alloc, minus, worth.value)?;
+    let value = changed(alloc, scope, start, kind, operation, minus, expr)?;
+    let value = taken(alloc, minus, value)?;
     fold(alloc, operation, cell, value)
 }
 
@@ -220,11 +225,12 @@ fn own_set(
     scope: &Scope<'_>,
     start: usize,
     own: Operation,
+    kind: IntegerType,
     cell: Value,
     target: &Target,
     expr: &Expr,
 ) -> Result<Value, CFault>
-    ensures { Gives (λ v. view v) result (meant.own_set scope.now start own (view cell) (aim_of target.now) (expr_of expr.now)) }
+    ensures { Gives (λ v. view v) result (meant.own_set scope.now start own kind (view cell) (aim_of target.now) (expr_of expr.now)) }
 {
     let own = Some(own);
     match expr {
@@ -233,14 +239,14 @@ fn own_set(
                 return Err(CFault::Outside(start, Reason::OwnCopy));
             }
             let folds = (fold_of(*sign), is_minus(*sign));
-            change(alloc, scope, start, own, cell, folds, two)
+            change(alloc, scope, start, own, kind, cell, folds, two)
         }
         Expr::Call(call, one, two) => {
             if !is_target(target, one) {
                 return Err(CFault::Outside(start, Reason::OwnCopy));
             }
             let folds = (Some(call_fold(*call)), false);
-            change(alloc, scope, start, own, cell, folds, two)
+            change(alloc, scope, start, own, kind, cell, folds, two)
         }
         Expr::Number(_, _) | Expr::Variable(_) | Expr::Cell(_, _) | Expr::Cast(_) => {
             Err(CFault::Outside(start, Reason::OwnCopy))
@@ -249,18 +255,19 @@ fn own_set(
     }
 }
 
-/// `cell = expr`
+/// `cell = expr`, of a cell of a type.
 fn set(
     alloc: Global,
     scope: &Scope<'_>,
     start: usize,
+    kind: IntegerType,
     cell: Value,
     expr: &Expr,
 ) -> Result<Value, CFault>
-    ensures { Gives (λ v. view v) result (meant.set scope.now start (view cell) (expr_of expr.now)) }
+    ensures { Gives (λ v. view v) result (meant.set scope.now start kind (view cell) (expr_of expr.now)) }
 {
-    let worth = value(alloc, scope, start, expr)?;
-    Ok(json::form2(alloc, "set", cell, worth.value)?)
+    let value = assigned(alloc, scope, start, kind, expr)?;
+    Ok(json::form2(alloc, "set", cell, value)?)
 }
 
 /// An assignment.
@@ -276,12 +283,13 @@ pub(crate) fn assignment(
 {
     let placed = aimed(start, scope.sense(target.array))?;
     let cell = cell_aimed(alloc, scope, start, target, placed)?;
+    let kind = placed.kind;
     match (sign, placed.own) {
         (Some(sign), own) => {
             let folds = (fold_of(sign), is_minus(sign));
-            change(alloc, scope, start, own, cell, folds, expr)
+            change(alloc, scope, start, own, kind, cell, folds, expr)
         }
-        (None, None) => set(alloc, scope, start, cell, expr),
-        (None, Some(own)) => own_set(alloc, scope, start, own, cell, target, expr),
+        (None, None) => set(alloc, scope, start, kind, cell, expr),
+        (None, Some(own)) => own_set(alloc, scope, start, own, kind, cell, target, expr),
     }
 }

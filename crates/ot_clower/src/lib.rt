@@ -6,6 +6,6 @@ mod lines;
 mod lowered;
 mod statements;
 
-pub use lowered::{Lowered, lower};
+pub use lowered::{Lowered, Reductions, lower};
 pub use ot_cdeclare::CArray;
-pub use ot_cmeaning::{CFault, Reason};
+pub use ot_cscope::{CFault, Reason};

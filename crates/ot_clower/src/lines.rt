@@ -1,20 +1,23 @@
 //! Statements of the language, and where they stand in the text.
 ghost use Rattle.std.specs.Prelude.{◌≡◌, IfOk, map};
 ghost use Rattle.serde_json.specs.View.{view};
-ghost use Rattle.ot_cmeaning.specs.Results.{Gives};
+ghost use Rattle.ot_cscope.specs.Results.{Gives};
 ghost use Rattle.ot_clower.specs.Lines.{lines_of};
 ghost use Rattle.ot_clower.specs.Lines as meant;
 
-use ot_cmeaning::{CFault, Reason};
+use ot_cclause::Taking;
+use ot_cscope::{CFault, Reason};
 use serde_json::Value;
 use std::alloc::{AllocError, Global};
 
 /// Statements, each whole, and the byte at which each of them and of those in their bodies begins, a statement before
-/// those in its bodies.
+/// those in its bodies; and how the tasks among them take part in reductions, one by one, each with the byte at which
+/// the task begins.
 #[derive(Debug, Drop)]
 pub(crate) struct Lines {
     pub(crate) statements: Vec<Value>,
     pub(crate) places: Vec<usize>,
+    pub(crate) taking: Vec<(usize, Taking)>,
 }
 
 /// No statement.
@@ -24,6 +27,7 @@ pub(crate) fn no_lines(alloc: Global) -> Lines
     Lines {
         statements: Vec::new(alloc),
         places: Vec::new(alloc),
+        taking: Vec::new(alloc),
     }
 }
 
@@ -36,13 +40,30 @@ pub(crate) fn one_line(
 ) -> Result<Lines, AllocError>
     ensures { IfOk result (λ l. lines_of l ≡ meant.one start (view statement) within.items) }
 {
+    one_line_with(alloc, start, statement, within, Vec::new(alloc))
+}
+
+/// The same, of which tasks take part in reductions so.
+pub(crate) fn one_line_with(
+    alloc: Global,
+    start: usize,
+    statement: Value,
+    within: Vec<usize>,
+    taking: Vec<(usize, Taking)>,
+) -> Result<Lines, AllocError>
+    ensures { IfOk result (λ l. lines_of l ≡ meant.one_with start (view statement) within.items taking.items) }
+{
     let mut statements = Vec::new(alloc);
     statements.push(statement)?;
     let mut places = Vec::new(alloc);
     places.push(start)?;
     let mut within = within;
     places.append(&mut within)?;
-    Ok(Lines { statements, places })
+    Ok(Lines {
+        statements,
+        places,
+        taking,
+    })
 }
 
 /// How many statements a program has at most.
@@ -71,7 +92,14 @@ pub(crate) fn joined(one: Lines, two: Lines) -> Result<Lines, CFault>
     let mut places = one.places;
     let mut further = two.places;
     places.append(&mut further)?;
-    Ok(Lines { statements, places })
+    let mut taking = one.taking;
+    let mut others = two.taking;
+    taking.append(&mut others)?;
+    Ok(Lines {
+        statements,
+        places,
+        taking,
+    })
 }
 
 fn copies(alloc: Global, values: &[Value]) -> Result<Vec<Value>, AllocError>
@@ -91,5 +119,11 @@ pub(crate) fn copy(alloc: Global, lines: &Lines) -> Result<Lines, AllocError>
     let statements = copies(alloc, &lines.statements)?;
     let mut places = Vec::new(alloc);
     places.extend_from_slice(&lines.places)?;
-    Ok(Lines { statements, places })
+    let mut taking = Vec::new(alloc);
+    taking.extend_from_slice(&lines.taking)?;
+    Ok(Lines {
+        statements,
+        places,
+        taking,
+    })
 }

@@ -1,11 +1,11 @@
 //! A file whole.
-ghost use Rattle.std.specs.Prelude.{◌≡◌, ◌<◌, ◌^◌, false, map, Ok};
+ghost use Rattle.std.specs.Prelude.{◌≡◌, ◌<◌, ◌^◌, false, find, map, Ok};
 ghost use Rattle.serde_json.specs.View.{view, items_view};
 ghost use Rattle.ot_cread.specs.Tree.{expr_of, clauses_of};
 ghost use Rattle.ot_cstatement.specs.Tree.{list_of, body_of, stmt_of};
 ghost use Rattle.ot_cfile.specs.Program.{top_of, tops_of, step_of, main_of, file_of};
-ghost use Rattle.ot_cmeaning.specs.Results.{Gives};
-ghost use Rattle.ot_cmeaning.specs.Constants as constants;
+ghost use Rattle.ot_cscope.specs.Results.{Gives};
+ghost use Rattle.ot_cscope.specs.Constants as constants;
 ghost use Rattle.ot_cdeclare.specs.Arrays.{declared_of, array_of, outside};
 ghost use Rattle.ot_clower.specs.Lines.{lines_of};
 ghost use Rattle.ot_clower.specs.Statements.{became_of, called_of, source_of};
@@ -14,11 +14,11 @@ ghost use Rattle.ot_clower.specs.Files as meant;
 
 use crate::lines::{Lines, joined, no_lines};
 use crate::statements::{Became, Called, Source, body, group, statement};
-use ot_cclause::headed;
+use ot_cclause::{Taking, headed};
 use ot_cdeclare::{CArray, Declared, byte_of, declaration, named, number_of, pointers};
 use ot_cfile::{File, Step, Top};
-use ot_cmeaning::{CFault, Meaning, Reason, Scope, constant, json};
 use ot_cread::{Clause, Expr, Operation};
+use ot_cscope::{CFault, Meaning, Reason, Scope, constant, json};
 use ot_cstatement::Stmt;
 use ot_words::{IntegerType, Name, Words};
 use serde_json::Value;
@@ -26,6 +26,17 @@ use std::alloc::Global;
 
 /// How many statements the functions of a file have together at most.
 const MAX_TOGETHER: usize = 20_000;
+
+/// How the tasks of a file take part in reductions.
+#[derive(Clone, Copy, Debug, PartialEq, Eq)]
+pub enum Reductions {
+    /// All by names, or none does: so their `red` stands for what makes no dependence in C.
+    ByNames,
+    /// All by pointers: so their `red` stands for `depend(in: ..)` too.
+    ByPointers,
+    /// Some by names and some by pointers. It has the byte at which the first task begins that takes part otherwise than the first.
+    Mixed(usize),
+}
 
 /// A program of the language.
 #[derive(Drop)]
@@ -36,6 +47,7 @@ pub struct Lowered {
     pub program: Value,
     /// For each statement of the body, a statement before those in its bodies, the byte at which that of the file begins.
     pub places: Vec<usize>,
+    pub reductions: Reductions,
 }
 
 /// What stands before `main`, so far: also how many statements functions have together.
@@ -338,6 +350,49 @@ fn shows(alloc: Global, arrays: &[CArray]) -> Result<Vec<Value>, CFault>
     Ok(shows)
 }
 
+fn differs(one: Taking, two: Taking) -> bool
+    ensures { result ≡ meant.differs one two }
+{
+    match one {
+        Taking::ByName => matches!(two, Taking::ByPointer),
+        Taking::ByPointer => matches!(two, Taking::ByName),
+    }
+}
+
+/// The first task that takes part otherwise.
+fn other(way: Taking, taking: &[(usize, Taking)]) -> Option<(usize, Taking)>
+    ensures { result ≡ find (λ other. meant.differs way other.1) taking.now }
+{
+    for one in taking {
+        if differs(way, one.1) {
+            return Some(*one);
+        }
+    }
+    None
+}
+
+fn all_by(way: Taking) -> Reductions
+    ensures { result ≡ meant.all_by way }
+{
+    match way {
+        Taking::ByName => Reductions::ByNames,
+        Taking::ByPointer => Reductions::ByPointers,
+    }
+}
+
+/// How tasks take part in reductions, each with the byte at which it begins.
+fn reductions_of(taking: &[(usize, Taking)]) -> Reductions
+    ensures { result ≡ meant.reductions_of taking.now }
+{
+    match taking {
+        [] => Reductions::ByNames,
+        [(_, way), rest @ ..] => match other(*way, rest) {
+            None => all_by(*way),
+            Some((start, _)) => Reductions::Mixed(start),
+        },
+    }
+}
+
 /// The program of a file that these words say.
 pub fn lower(alloc: Global, words: &Words, file: &File) -> Result<Lowered, CFault>
     ensures { Gives lowered_of result (meant.lowered words.now.names.keys words.now.starts.items (file_of file.now)) }
@@ -352,6 +407,7 @@ pub fn lower(alloc: Global, words: &Words, file: &File) -> Result<Lowered, CFaul
         functions: &functions,
     };
     let Progress { declared, lines } = main_body(alloc, words, &source, declared, &file.main)?;
+    let reductions = reductions_of(&lines.taking);
     let shows = json::list(shows(alloc, &declared.arrays)?);
     let list = json::list(lines.statements);
     let program = json::form2(alloc, "program2", shows, list)?;
@@ -359,5 +415,6 @@ pub fn lower(alloc: Global, words: &Words, file: &File) -> Result<Lowered, CFaul
         arrays: declared.arrays,
         program,
         places: lines.places,
+        reductions,
     })
 }

@@ -1,25 +1,26 @@
 //! Statements.
-ghost use Rattle.std.specs.Prelude.{◌≡◌, map};
+ghost use Rattle.std.specs.Prelude.{◌≡◌, ◌++◌, map, IfOk};
 ghost use Rattle.serde_json.specs.View.{view};
 ghost use Rattle.ot_cread.specs.Tree.{expr_of, clauses_of};
 ghost use Rattle.ot_cstatement.specs.Tree.{aim_of, course_of, exprs_of, stmt_of, list_of, body_of};
-ghost use Rattle.ot_cmeaning.specs.Results.{Gives};
+ghost use Rattle.ot_cscope.specs.Results.{Gives};
 ghost use Rattle.ot_cclause.specs.Clauses.{head_of};
 ghost use Rattle.ot_clower.specs.Lines.{lines_of};
 ghost use Rattle.ot_clower.specs.Statements.{bounds_of, called_of, source_of};
 ghost use Rattle.ot_clower.specs.Statements as meant;
 
 use crate::assignment::assignment;
-use crate::lines::{Lines, copy, joined, no_lines, one_line};
-use ot_cclause::{Heading, group_operation, headed, operation_word};
+use crate::lines::{Lines, copy, joined, no_lines, one_line, one_line_with};
+use ot_cclause::{Heading, Taking, group_operation, headed, operation_word};
 use ot_cdeclare::byte_of;
-use ot_cmeaning::{CFault, Reason, Scope, Sense, Turn, json, size, value};
+use ot_cmeaning::value;
 use ot_cread::{Clause, Expr, Operation, Sign};
+use ot_cscope::{CFault, Reason, Scope, Sense, Turn, json, size};
 use ot_cstatement::{Stmt, Target, Turns};
 use ot_program::is_name;
 use ot_words::{IntegerType, Name};
 use serde_json::Value;
-use std::alloc::Global;
+use std::alloc::{AllocError, Global};
 
 /// What becomes of a function's body.
 #[derive(Debug, Drop)]
@@ -199,7 +200,10 @@ fn branch(alloc: Global, start: usize, test: Value, one: Lines, two: Lines) -> R
     let mut places = one.places;
     let mut more = two.places;
     places.append(&mut more)?;
-    Ok(one_line(alloc, start, statement, places)?)
+    let mut taking = one.taking;
+    let mut others = two.taking;
+    taking.append(&mut others)?;
+    Ok(one_line_with(alloc, start, statement, places, taking)?)
 }
 
 /// `for`
@@ -208,7 +212,7 @@ fn repeated(alloc: Global, start: usize, bounds: Bounds, inner: Lines) -> Result
 {
     let list = json::list(inner.statements);
     let statement = json::form4(alloc, "for", bounds.name, bounds.first, bounds.end, list)?;
-    Ok(one_line(alloc, start, statement, inner.places)?)
+    Ok(one_line_with(alloc, start, statement, inner.places, inner.taking)?)
 }
 
 /// What the clauses of a task say, in whose body the scope is that of the task.
@@ -224,14 +228,39 @@ fn task_heading<'a>(
     headed(alloc, start, scope.within_task(alloc)?, clauses)
 }
 
-/// A task.
-fn task(alloc: Global, start: usize, clauses: Vec<Value>, inner: Lines) -> Result<Lines, CFault>
-    ensures { Gives lines_of result (Ok (meant.task start (map view clauses.items) (lines_of inner))) }
+/// How a task that begins at this byte takes part in reductions, before those in it.
+fn taking_of(
+    alloc: Global,
+    start: usize,
+    own: &[Taking],
+    within: Vec<(usize, Taking)>,
+) -> Result<Vec<(usize, Taking)>, AllocError>
+    ensures { IfOk result (λ v. v.items ≡ map (λ t. (start, t)) own.now ++ within.items) }
+{
+    let mut taking = Vec::new(alloc);
+    for way in own {
+        taking.push((start, *way))?;
+    }
+    let mut others = within;
+    taking.append(&mut others)?;
+    Ok(taking)
+}
+
+/// A task that takes part in reductions so.
+fn task(
+    alloc: Global,
+    start: usize,
+    clauses: Vec<Value>,
+    taking: &[Taking],
+    inner: Lines,
+) -> Result<Lines, CFault>
+    ensures { Gives lines_of result (Ok (meant.task start (map view clauses.items) taking.now (lines_of inner))) }
 {
     let clauses = json::list(clauses);
     let list = json::list(inner.statements);
     let statement = json::form2(alloc, "task", clauses, list)?;
-    Ok(one_line(alloc, start, statement, inner.places)?)
+    let taking = taking_of(alloc, start, taking, inner.taking)?;
+    Ok(one_line_with(alloc, start, statement, inner.places, taking)?)
 }
 
 /// By which operation a group combines, and what its clauses say.
@@ -263,7 +292,7 @@ pub(crate) fn group(
     let sections = json::list(sections);
     let list = json::list(inner.statements);
     let statement = json::form3(alloc, "group", word, sections, list)?;
-    Ok(one_line(alloc, start, statement, inner.places)?)
+    Ok(one_line_with(alloc, start, statement, inner.places, inner.taking)?)
 }
 
 /// Cells that are shown outside of regions: all are, whatever is called for.
@@ -393,7 +422,7 @@ pub(crate) fn statement(
             let start = byte_of(source.starts, *left);
             let heading = task_heading(alloc, scope, start, clauses)?;
             let inner = body(alloc, source, &heading.scope, inner)?;
-            task(alloc, start, heading.clauses, inner)
+            task(alloc, start, heading.clauses, &heading.taking, inner)
         }
         Stmt::Wait(left, clauses) => wait(alloc, scope, byte_of(source.starts, *left), clauses),
         Stmt::Group(left, clauses, inner) => {

@@ -2,6 +2,8 @@
 use Rattle.std.specs.Prelude.{◌≡◌, ℕ, List, map, Ok, Err, string_bytes}
 use Rattle.serde_json.specs.View.{view}
 use Rattle.ot_file.specs.Positions.{position_of}
+use Rattle.ot_corder.specs.declared.order.Order.{Order}
+use Rattle.ot_corder.specs.declared.order.Order.TheVariants.{OfC, OfLanguage}
 use Rattle.ot_cjudge.specs.Reports.{Reports, outside_line}
 use Rattle.ot_cjudge.specs.declared.lowered.CArray.{CArray}
 use Rattle.ot_cjudge.specs.declared.lowered.Lowered.{Lowered}
@@ -9,19 +11,38 @@ use Rattle.ot_cjudge.specs.declared.report.Verdict.{Verdict}
 use Rattle.ot_cjudge.specs.declared.report.Verdict.TheVariants as v
 use Rattle.ot_cdeclare.specs.Arrays.{Arr}
 use Rattle.ot_clower.specs.Files.{Program}
+use Rattle.ot_clower.specs.declared.lowered.Reductions.{Reductions}
+use Rattle.ot_clower.specs.declared.lowered.Reductions.TheVariants as r
 use Rattle.ot_ctext.specs.Reading.{Meant, Means}
+use Rattle.ot_ctext.specs.Reasons.{mixed_reason}
 
 abbrev pub judged_array : CArray → Arr
 judged_array a = record { name = string_bytes a.name; cells = a.cells.items }
 
--- the program that is judged
-abbrev pub judged_of : Lowered → Program
-judged_of l = record { arrays = map judged_array l.arrays.items; program = view l.program; places = l.places.items }
+-- this program is judged, where this orders its tasks
+pub record IsJudged (by : Order) (p : Program) (l : Lowered) : Type 0 where
+  pub arrays : map judged_array l.arrays.items ≡ p.arrays
+  pub program : view l.program ≡ p.program
+  pub places : l.places.items ≡ p.places
+  pub order : l.order ≡ by
+
+abbrev pub JudgesBy : Order → List ℕ → List ℕ → Program → Verdict → List ℕ → Type 0
+JudgesBy order name text program verdict out = (l : Lowered) × IsJudged order program l × Reports name text l verdict out
+
+abbrev pub Outside : List ℕ → List ℕ → ℕ → List ℕ → Verdict → List ℕ → Type 0
+Outside name text byte reason verdict out = (verdict ≡ v.Outside) × (out ≡ outside_line name (position_of text byte) reason)
+
+-- Of a program whose tasks take part in reductions so. By names that makes no dependence in C, where `red` makes one in the language.
+-- By pointers there is the one of `depend(in: ..)`, which `red` stands for. Where some do so and some so neither order is C's.
+abbrev pub JudgesProgram : List ℕ → List ℕ → Program → Reductions → Verdict → List ℕ → Type 0
+JudgesProgram name text program r.ByNames verdict out = JudgesBy OfC name text program verdict out
+JudgesProgram name text program r.ByPointers verdict out = JudgesBy OfLanguage name text program verdict out
+JudgesProgram name text program (r.Mixed byte) verdict out = Outside name text byte mixed_reason verdict out
 
 -- of what a text of this name means
 abbrev pub JudgesMeant : List ℕ → List ℕ → Meant → Verdict → List ℕ → Type 0
-JudgesMeant name text (Ok program) verdict out = (l : Lowered) × (judged_of l ≡ program) × Reports name text l verdict out
-JudgesMeant name text (Err fault) verdict out = (verdict ≡ v.Outside) × (out ≡ outside_line name (position_of text fault.0) fault.1)
+JudgesMeant name text (Ok program) verdict out = JudgesProgram name text program program.reductions verdict out
+JudgesMeant name text (Err fault) verdict out = Outside name text fault.0 fault.1 verdict out
 
 -- of a text of this name
 abbrev pub Judges : List ℕ → List ℕ → Verdict → List ℕ → Type 0

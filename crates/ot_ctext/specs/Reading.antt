@@ -7,7 +7,7 @@ use Rattle.ot_cstatement.specs.Faults.{words_left}
 use Rattle.ot_cstatement.specs.declared.fault.Fault.{Fault}
 use Rattle.ot_cfile.specs.Files.{file_at}
 use Rattle.ot_cfile.specs.Program.{Whole}
-use Rattle.ot_cmeaning.specs.Results.{Refusal}
+use Rattle.ot_cscope.specs.Results.{Refusal}
 use Rattle.ot_clower.specs.Files.{Program, lowered, lowered_of}
 use Rattle.ot_ctext.specs.Reasons.{file_reason, program_reason, word_reason}
 use Rattle.ot_ctext.specs.declared.reading.Meaning.{Meaning}

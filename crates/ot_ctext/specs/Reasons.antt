@@ -6,8 +6,8 @@ use Rattle.ot_cread.specs.declared.fault.Fault as part
 use Rattle.ot_cread.specs.declared.fault.Fault.TheVariants as p
 use Rattle.ot_cstatement.specs.declared.fault.Fault.{Fault}
 use Rattle.ot_cstatement.specs.declared.fault.Fault.TheVariants as f
-use Rattle.ot_cmeaning.specs.declared.reason.Reason.{Reason}
-use Rattle.ot_cmeaning.specs.declared.reason.Reason.TheVariants as why
+use Rattle.ot_cscope.specs.declared.reason.Reason.{Reason}
+use Rattle.ot_cscope.specs.declared.reason.Reason.TheVariants as why
 
 -- why a text has no words
 abbrev pub word_reason : Wrong → List ℕ
@@ -80,19 +80,24 @@ use_reason why.NoArray = codes "this names a cell of what is no array"
 use_reason why.LoopVariable = codes "a loop's variable is read only, and each task has a copy"
 use_reason why.Constant = codes "a constant is read only, and no cell"
 use_reason why.Wraps = codes "numbers of type unsigned may wrap here"
-use_reason why.Signed = codes "numbers that may be negative are compared here"
+use_reason why.Signed = codes "a number that may be negative is compared or divided as an unsigned one"
 use_reason why.Rest = codes "% is by a power of two, or in an array's index"
 use_reason why.Shift = codes "<< is of a uint64_t, by a known number below 64, or of known numbers"
 use_reason why.Quotient = codes "/ and >> are of numbers that are known"
 use_reason why.LeftOut = codes "what && || ?: may leave out here reads no cell and has no ?:"
 use_reason other = directive_reason other
 
+-- why a file that has one isn't judged
+abbrev pub mixed_reason : List ℕ
+mixed_reason = codes "all reductions of a text are by names, or all are by pointers"
+
 -- why a file has no program
 abbrev pub program_reason : Reason → List ℕ
 program_reason why.Unknown = codes "this names what isn't declared"
 program_reason why.NoName = codes "a name here has 1 to 16 of a to z, 0 to 9 and _, a letter first"
 program_reason why.Twice = codes "this declares a name that means something already"
-program_reason why.OtherType = codes "only loops have variables of another type than uint64_t"
+program_reason why.OtherType = codes "a pointer points to a cell of type uint64_t"
+program_reason why.Conversion = codes "the type of what is assigned to may not hold this number"
 program_reason why.NoConstant = codes "this wants a constant number that its type holds"
 program_reason why.NoLength = codes "an array has 1 to 65536 cells, and no more values than cells"
 program_reason why.NoSize = codes "a place and a bound are made of numbers and loop variables by + - *"

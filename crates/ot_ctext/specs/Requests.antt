@@ -2,7 +2,7 @@
 use Rattle.std.specs.Prelude.{ℕ, zero, suc, ◌+◌, ◌-◌, ◌/◌, ◌==◌, nat_lt, Bool, List, [], ◌∷◌, ◌++◌, length, map, take, drop, codes, if◌then◌else◌}
 use Rattle.std.specs.List.{list_all}
 use Rattle.serde_json.specs.Data.{Data, string}
-use Rattle.ot_cmeaning.specs.Forms.{form, listed, nat}
+use Rattle.ot_cscope.specs.Forms.{form, listed, nat}
 use Rattle.ot_cdeclare.specs.Arrays.{Arr}
 use Rattle.ot_clower.specs.Files.{Program}
 

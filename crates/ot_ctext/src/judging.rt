@@ -2,10 +2,11 @@
 ghost use Rattle.std.specs.Prelude.{◌≡◌, map, IfOk};
 ghost use Rattle.ot_clower.specs.Files.{lowered_of};
 ghost use Rattle.ot_cdeclare.specs.Arrays.{array_of};
-ghost use Rattle.ot_ctext.specs.Judging.{Judges, judged_of, judged_array};
+ghost use Rattle.ot_ctext.specs.Judging.{Judges, JudgesProgram, JudgesBy, IsJudged, judged_array};
 
 use crate::reading::{Meaning, meaning_of};
-use ot_cjudge::{Report, report_c, report_outside};
+use ot_cjudge::{Order, Report, report_c, report_outside};
+use ot_clower::Reductions;
 use std::alloc::{AllocError, Global};
 
 /// Judges a text of this name, and writes what is found.
@@ -13,20 +14,61 @@ pub fn judge_text(alloc: Global, name: &str, text: &[u8]) -> Result<Report, Allo
     ensures { IfOk result (λ report. Judges name.now text.now report.verdict report.text.items) }
 {
     match meaning_of(alloc, text)? {
-        Meaning::Program(lowered) => report_c(alloc, name, text, judged(alloc, lowered)?),
+        Meaning::Program(lowered) => judge_program(alloc, name, text, lowered),
         Meaning::Outside(byte, reason) => report_outside(alloc, name, text, byte, reason),
     }
 }
 
-/// A program as it is judged.
-fn judged(alloc: Global, lowered: ot_clower::Lowered) -> Result<ot_cjudge::Lowered, AllocError>
-    ensures { IfOk result (λ l. judged_of l ≡ lowered_of lowered) }
+/// Judges a program by what orders its tasks in C: there a task that takes part in a reduction by a name has no dependence by
+/// that, and one that does by a pointer has the one of an `in`.
+fn judge_program(
+    alloc: Global,
+    name: &str,
+    text: &[u8],
+    lowered: ot_clower::Lowered,
+) -> Result<Report, AllocError>
+    ensures { IfOk result (λ report. JudgesProgram name.now text.now (lowered_of lowered) lowered.reductions report.verdict report.text.items) }
+{
+    match lowered.reductions {
+        Reductions::ByNames => judge_by(alloc, name, text, Order::OfC, lowered),
+        Reductions::ByPointers => judge_by(alloc, name, text, Order::OfLanguage, lowered),
+        Reductions::Mixed(byte) => report_outside(
+            alloc,
+            name,
+            text,
+            byte,
+            "all reductions of a text are by names, or all are by pointers",
+        ),
+    }
+}
+
+fn judge_by(
+    alloc: Global,
+    name: &str,
+    text: &[u8],
+    order: Order,
+    lowered: ot_clower::Lowered,
+) -> Result<Report, AllocError>
+    ensures { IfOk result (λ report. JudgesBy order name.now text.now (lowered_of lowered) report.verdict report.text.items) }
+{
+    let judged = judged(alloc, order, lowered)?;
+    report_c(alloc, name, text, judged)
+}
+
+/// A program as it is judged, where this orders its tasks.
+fn judged(
+    alloc: Global,
+    order: Order,
+    lowered: ot_clower::Lowered,
+) -> Result<ot_cjudge::Lowered, AllocError>
+    ensures { IfOk result (IsJudged order (lowered_of lowered)) }
 {
     let arrays = judged_arrays(alloc, &lowered.arrays)?;
     Ok(ot_cjudge::Lowered {
         arrays,
         program: lowered.program,
         places: lowered.places,
+        order,
     })
 }
 

@@ -6,7 +6,7 @@ ghost use Rattle.ot_clower.specs.Files.{lowered_of};
 ghost use Rattle.ot_ctext.specs.Requests as meant;
 
 use ot_clower::{CArray, Lowered};
-use ot_cmeaning::json;
+use ot_cscope::json;
 use serde_json::Value;
 use std::alloc::{AllocError, Global};
 

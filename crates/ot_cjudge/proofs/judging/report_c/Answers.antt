@@ -19,7 +19,7 @@ returns c =
     let l = c.args.lowered in
     let given = c.as_slice-given.ensures.value in
     let shape = c.in_ok-shape.ensures ∙ ap shape_of given in
-    let same = same_source c.args.name.now c.args.text.now (view c.in_ok-request.request) (run_of (view l.program)) (arrays_of c.arrays-names.result.now) (named l.arrays.items)
+    let same = same_source c.args.name.now c.args.text.now l.order (view c.in_ok-request.request) (run_of (view l.program)) (arrays_of c.arrays-names.result.now) (named l.arrays.items)
     c.as_slice-bytes.result.now l.places.items c.in_ok-request.ensures (c.arrays-names.ensures.arrays ∙ ap (λ (s : Arrays). s.arrays) shape) c.as_slice-bytes.ensures.value in
     if_ok c.report_read.result _ _
     (λ report h. same_reports _ (source_of c.args.name.now c.args.text.now l) _ _ _ _ report.verdict report.text.items same

@@ -10,5 +10,5 @@ pub returns-in-Refused : goal.returns-in-Refused
 returns-in-Refused c = λ cells program fails.
     let s = source_by c.args.source.now in
     if_both c.report_refused.result _ _ (λ report. ReportsRead s cells program report.verdict report.text.items)
-    (λ report v t. subst (λ r. ReportsRead s cells r report.verdict report.text.items) (sym (subst (λ (f : ProgramFault). Fails f program) c.in-Refused.is fails)) (v, t.0, t.1))
+    (λ report v t. subst (λ r. ReportsRead s cells r report.verdict report.text.items) (sym (subst (λ (f : ProgramFault). Fails f program) c.in-Refused.is fails)) (v, t))
     c.report_refused.ensures.verdict c.report_refused.ensures.text
