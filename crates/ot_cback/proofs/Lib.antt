@@ -1,0 +1,10 @@
+mod RowLemmas
+mod PartLemmas
+mod ValueLemmas
+mod NameLemmas
+mod NumberingLemmas
+mod AssignmentLemmas
+mod ClauseLemmas
+mod WaitLemmas
+mod BodyLemmas
+mod DepthLemmas

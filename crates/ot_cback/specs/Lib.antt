@@ -1,0 +1,7 @@
+pub mod Numbering
+pub mod Values
+pub mod Assignments
+pub mod Clauses
+pub mod Waits
+pub mod Bodies
+pub mod Laws
