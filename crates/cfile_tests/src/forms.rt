@@ -114,7 +114,7 @@ const REFUSED: [(&str, Reason, usize, usize); 39] = [
     ("a[x % 2] = 1;", Reason::NoSize, 7, 1),
     ("x = x % 3;", Reason::Rest, 7, 1),
     ("x = x % a[0];", Reason::Rest, 7, 1),
-    ("x = 1 - 2 < 1;", Reason::Signed, 7, 1),
+    ("x = 1 - 2 < 1u;", Reason::Signed, 7, 1),
     ("x = 1u + 1u;", Reason::Wraps, 7, 1),
     ("x = a[(1 - 2) % 3];", Reason::Signed, 7, 1),
     (
@@ -235,10 +235,10 @@ const REFUSED: [(&str, Reason, usize, usize); 39] = [
 /// Files whole, and why and where they are refused.
 const FILES: [(&str, Reason, usize, usize); 14] = [
     (
-        "int x;\nint main(void) {\n#pragma omp parallel\n#pragma omp single\n{ }\n}",
+        "int a[2];\nint main(void) {\n#pragma omp parallel\n#pragma omp single\n{ uint64_t *p = &a[0]; }\n}",
         Reason::OtherType,
-        1,
-        1,
+        5,
+        3,
     ),
     (
         "uint64_t A;\nint main(void) {\n#pragma omp parallel\n#pragma omp single\n{ }\n}",

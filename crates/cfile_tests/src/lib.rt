@@ -8,6 +8,8 @@ mod files;
 #[cfg(test)]
 mod forms;
 #[cfg(test)]
+mod integers;
+#[cfg(test)]
 mod kernels;
 #[cfg(test)]
 mod lowered;
@@ -23,3 +25,5 @@ mod statements;
 mod telling;
 #[cfg(test)]
 mod values;
+#[cfg(test)]
+mod wholes;

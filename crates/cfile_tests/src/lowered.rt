@@ -1,6 +1,6 @@
 //! Files as programs of the language, or where they stand outside of it.
 use ot_cfile::read_file;
-use ot_clower::{CFault, Reason, lower};
+use ot_clower::{CFault, Reason, Reductions, lower};
 use ot_words::{Words, position_of, words_of};
 use serde_json::Value;
 use std::alloc::Global;
@@ -53,6 +53,26 @@ fn lowered(alloc: Global, text: &str, words: &Words) -> Option<Outcome> {
         }
         Err(CFault::Memory) => Some(Outcome::Memory),
     }
+}
+
+/// How the tasks of a text take part in reductions, where it becomes a program.
+pub fn reductions_of(alloc: Global, text: &str) -> Option<Reductions> {
+    let words = words_of(alloc, text.as_bytes()).ok()?;
+    let file = read_file(alloc, &words.words).ok()?;
+    let made = lower(alloc, &words, &file).ok()?;
+    Some(made.reductions)
+}
+
+/// The line and the column at which the first task begins that takes part otherwise than the first one.
+pub fn other_taking(alloc: Global, text: &str) -> Option<(usize, usize)> {
+    let Some(Reductions::Mixed(start)) = reductions_of(alloc, text) else {
+        return None;
+    };
+    if start > text.len() {
+        return None;
+    }
+    let place = position_of(text.as_bytes(), start);
+    Some((place.line, place.column))
 }
 
 /// What becomes of a text.

@@ -1,6 +1,7 @@
 //! Pointers to cells that groups combine over.
 use crate::forms::{becomes, file_with, is_outside};
-use ot_clower::Reason;
+use crate::lowered::{other_taking, reductions_of};
+use ot_clower::{Reason, Reductions};
 use std::alloc::Global;
 use std::test::Fail;
 
@@ -134,6 +135,55 @@ const REFUSED: [(&str, Reason, usize, usize); 23] = [
     ),
 ];
 
+/// How the tasks of these statements take part in reductions.
+const REDUCTIONS: [(&str, Reductions); 6] = [
+    ("x = 1;", Reductions::ByNames),
+    (
+        "#pragma omp taskgroup task_reduction(+: x)\n#pragma omp task in_reduction(+: x)\nx++;",
+        Reductions::ByNames,
+    ),
+    (
+        "uint64_t *p = &a[0];\n#pragma omp taskgroup task_reduction(+: p[0:1])\n#pragma omp task depend(in: a[0]) in_reduction(+: p[0:1])\np[0]++;",
+        Reductions::ByPointers,
+    ),
+    (
+        "uint64_t *p = &a[0];\n#pragma omp taskgroup task_reduction(+: x)\n{\n#pragma omp taskgroup task_reduction(+: p[0:1])\nfor (int i = 0; i < 2; i++) if (b[0]) {\n#pragma omp task depend(in: a[0]) in_reduction(+: p[0:1])\np[0]++;\n}\n}",
+        Reductions::ByPointers,
+    ),
+    (
+        "uint64_t *p = &a[0];\n#pragma omp taskgroup task_reduction(+: p[0:1])\n{\n#pragma omp taskgroup task_reduction(+: x)\nif (b[0]) { } else {\n#pragma omp task in_reduction(+: x)\nx++;\n}\n}",
+        Reductions::ByNames,
+    ),
+    (
+        "uint64_t *p = &a[0]; uint64_t *q = &b[1];\n#pragma omp taskgroup task_reduction(+: p[0:1], q[0:1])\n#pragma omp task depend(in: a[0], b[1]) in_reduction(+: p[0:1], q[0:1])\n{ p[0]++; q[0]++; }",
+        Reductions::ByPointers,
+    ),
+];
+
+/// What stands in the region, and where the first task begins that takes part otherwise than the first one.
+const MIXED: [(&str, usize, usize); 4] = [
+    (
+        "uint64_t *p = &a[0];\n#pragma omp taskgroup task_reduction(+: x)\n#pragma omp task in_reduction(+: x)\nx++;\n#pragma omp taskgroup task_reduction(+: p[0:1])\n#pragma omp task depend(in: a[0]) in_reduction(+: p[0:1])\np[0]++;",
+        12,
+        1,
+    ),
+    (
+        "uint64_t *p = &a[0];\n#pragma omp taskgroup task_reduction(+: p[0:1])\n#pragma omp task depend(in: a[0]) in_reduction(+: p[0:1])\np[0]++;\n#pragma omp taskgroup task_reduction(+: x)\n{\n#pragma omp task\ns = 1;\n#pragma omp task in_reduction(+: x)\nx++;\n}",
+        15,
+        1,
+    ),
+    (
+        "uint64_t *p = &a[0];\n#pragma omp taskgroup task_reduction(+: x, p[0:1])\n#pragma omp task depend(in: a[0]) in_reduction(+: x, p[0:1])\n{ x++; p[0]++; }",
+        9,
+        1,
+    ),
+    (
+        "uint64_t *p = &a[0];\n#pragma omp taskgroup task_reduction(+: x, p[0:1])\n#pragma omp task in_reduction(+: x)\n{\n#pragma omp task depend(in: a[0]) in_reduction(+: p[0:1])\np[0]++;\n}",
+        11,
+        1,
+    ),
+];
+
 fn other_form(alloc: Global) -> Option<&'static str> {
     for (inner, wanted) in &TAKEN {
         if becomes(alloc, inner, wanted) != Some(true) {
@@ -153,6 +203,43 @@ fn other_refusal(alloc: Global) -> Option<&'static str> {
         }
     }
     None
+}
+
+fn other_reductions(alloc: Global) -> Option<&'static str> {
+    for (inner, wanted) in &REDUCTIONS {
+        let Ok(file) = file_with(alloc, inner) else {
+            return Some("no memory");
+        };
+        if reductions_of(alloc, file.as_str()) != Some(*wanted) {
+            return Some(*inner);
+        }
+    }
+    None
+}
+
+fn other_mixture(alloc: Global) -> Option<&'static str> {
+    for (inner, line, column) in &MIXED {
+        let Ok(file) = file_with(alloc, inner) else {
+            return Some("no memory");
+        };
+        if other_taking(alloc, file.as_str()) != Some((*line, *column)) {
+            return Some(*inner);
+        }
+    }
+    None
+}
+
+/// By names, or by pointers; it is by names where no task takes part.
+#[test]
+fn reductions_are_so(rt: HostRuntime) -> Result<(), Fail> {
+    assert_eq!(rt; other_reductions(rt.alloc()), None);
+    Ok(())
+}
+
+#[test]
+fn reductions_are_mixed(rt: HostRuntime) -> Result<(), Fail> {
+    assert_eq!(rt; other_mixture(rt.alloc()), None);
+    Ok(())
 }
 
 #[test]

@@ -10,7 +10,31 @@ use std::alloc::{AllocError, Global};
 use std::test::Fail;
 
 /// Of each its text, its program, the cells of its arrays, and the lines of its statements.
-const PROGRAMS: [(&str, &str, &str, &str); 5] = [
+const PROGRAMS: [(&str, &str, &str, &str); 9] = [
+    (
+        DEPEND_MISSING,
+        r#"["program2",[["i",0,1]],[["group","+",[],[["task",[],[["set",["c","i",0],1]]],["task",[],[["set",["c","i",0],2]]]]],["if",["c","i",0],[],[]]]]"#,
+        "[[0]]",
+        "[5, 8, 9, 10, 11, 13]",
+    ),
+    (
+        DEPEND_IN_WRITES,
+        r#"["program2",[["i",0,1]],[["group","+",[],[["task",[["out",["i",0,1]]],[["set",["c","i",0],1]]],["task",[["in",["i",0,1]]],[["set",["c","i",0],2]]]]],["if",["c","i",0],[],[]]]]"#,
+        "[[0]]",
+        "[5, 8, 9, 10, 11, 13]",
+    ),
+    (
+        TWO_READERS,
+        r#"["program2",[["i",0,1],["j",0,1],["k",0,1]],[["group","+",[],[["task",[["out",["i",0,1]]],[["set",["c","i",0],1]]],["task",[["in",["i",0,1]]],[["set",["c","j",0],["c","i",0]]]],["task",[["in",["i",0,1]]],[["set",["c","k",0],["c","i",0]]]]]],["if",["c","j",0],[],[]],["if",["c","k",0],[],[]]]]"#,
+        "[[0], [0], [0]]",
+        "[5, 8, 9, 10, 11, 12, 13, 15, 15]",
+    ),
+    (
+        WAIT_ONLY_CHILD,
+        r#"["program2",[["a",0,4],["psum",0,2],["sum",0,1]],[["group","+",[],[["task",[],[["task",[],[["set",["c","psum",1],["c","a",2]]]],["set",["c","psum",0],["c","a",0]]]],["wait"],["set",["c","sum",0],["c","psum",1]]]],["if",["c","sum",0],[],[]]]]"#,
+        "[[1, 2, 3, 4], [0, 0], [0]]",
+        "[7, 10, 12, 13, 14, 16, 17, 19]",
+    ),
     (
         WAIT_FOR_ONE_MISSING,
         r#"["program2",[["x",0,1],["y",0,1]],[["group","+",[],[["task",[["inout",["x",0,1]]],[["fold","+",["c","x",0],1]]],["task",[],[["fold","+",["c","y",0],["-",0,1]]]],["wait",[["in",["x",0,1]]]],["if",["c","x",0],[],[]],["if",["c","y",0],[],[]],["wait"]]]]]"#,
@@ -43,12 +67,8 @@ const PROGRAMS: [(&str, &str, &str, &str); 5] = [
     ),
 ];
 
-const OUTSIDE: [(&str, Reason, usize, usize); 6] = [
-    (DEPEND_MISSING, Reason::OtherType, 4, 5),
-    (DEPEND_IN_WRITES, Reason::OtherType, 4, 5),
-    (OUT_AFTER_OUT, Reason::OtherType, 5, 5),
-    (TWO_READERS, Reason::OtherType, 4, 5),
-    (WAIT_ONLY_CHILD, Reason::OtherType, 4, 5),
+const OUTSIDE: [(&str, Reason, usize, usize); 2] = [
+    (OUT_AFTER_OUT, Reason::Function, 11, 13),
     (SHARED_LOOP_VARIABLE, Reason::LoopVariable, 9, 9),
 ];
 

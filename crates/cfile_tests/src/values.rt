@@ -5,7 +5,11 @@ use std::alloc::Global;
 use std::test::Fail;
 
 /// What a variable is set to.
-const TAKEN: [(&str, &str); 24] = [
+const TAKEN: [(&str, &str); 25] = [
+    (
+        "x = -1 > 0;",
+        r#"["<",["+",0,9223372036854775808],["+",["-",0,1],9223372036854775808]]"#,
+    ),
     ("x = a[0] > a[1];", r#"["<",["c","a",1],["c","a",0]]"#),
     (
         "x = a[0] <= a[1];",
@@ -61,8 +65,8 @@ const REFUSED: [(&str, Reason); 22] = [
     ("x = s / 2;", Reason::Quotient),
     ("x = s >> 1;", Reason::Quotient),
     ("x = 1 / 0;", Reason::Quotient),
-    ("x = -1 > 0;", Reason::Signed),
-    ("x = -1 >= 0;", Reason::Signed),
+    ("x = -1 > 0u;", Reason::Signed),
+    ("x = -1 >= 0u;", Reason::Signed),
     ("x = -1 % 4;", Reason::Rest),
     ("x = s % 0;", Reason::Rest),
     ("x = -1u;", Reason::Wraps),

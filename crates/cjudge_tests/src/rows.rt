@@ -1,5 +1,5 @@
 //! Programs, and the lines about the texts that they stand for.
-use ot_cjudge::{CArray, Lowered, Report, Verdict, report_c};
+use ot_cjudge::{CArray, Lowered, Order, Report, Verdict, report_c};
 use serde_json::Value;
 use std::alloc::{AllocError, Global};
 use std::test::Fail;
@@ -7,7 +7,7 @@ use std::test::Fail;
 /// Statements stand at the bytes from 0 on.
 const TEXT: &str = "1234567890123456789012345678901234567890";
 
-/// What is ordered by `red` alone, in this order: a sibling behind in the group; one before the group, with and without a wait;
+/// What is ordered by `red` alone, as reductions are by names, in this order: a sibling behind in the group; one before the group, with and without a wait;
 /// a wait for the cell alone; folds beside one another.
 const REDUCTIONS: &str =
     r#"[["group","+",[["x",0,1]],[["task",[["red","+",["x",0,1]]],[["fold","+",["c","x",0],1]]],["task",[["out",["x",0,1]]],[["set",["c","x",0],5]]]]]]|5 x 3
@@ -17,10 +17,23 @@ const REDUCTIONS: &str =
 [["group","+",[["x",0,1]],[["for","i",0,4,[["task",[["red","+",["x",0,1]],["in",["a","i",1]]],[["fold","+",["c","x",0],["c","a","i"]]]]]]]],["set",["c","a",0],["c","x",0]]]|
 "#;
 
-/// What only another way has, in this order: a task in a body that the run leaves out; the same with a wait.
+/// The same as reductions are by pointers, whose `red` stands for an `in` too, in this order: a task before the group that
+/// declares the cell, one that declares another cell, and one whose other cell is read behind it; a wait for the cell alone; on
+/// another way alone a task before the group. Where there is no race, a server wants a wait before the group, in these columns.
+const POINTERS: &str =
+    r#"[["task",[["out",["x",0,1]]],[["set",["c","x",0],5]]],["group","+",[["x",0,1]],[["task",[["red","+",["x",0,1]]],[["fold","+",["c","x",0],1]]]]]]|3
+[["task",[["out",["a",0,1]]],[["set",["c","x",0],5]]],["group","+",[["x",0,1]],[["task",[["red","+",["x",0,1]]],[["fold","+",["c","x",0],1]]]]]]|5 x 2
+[["task",[["out",["x",0,1]],["out",["a",0,1]]],[["set",["c","a",0],5]]],["group","+",[["x",0,1]],[["task",[["red","+",["x",0,1]]],[["fold","+",["c","x",0],["c","a",0]]]]]]]|3
+[["group","+",[["x",0,1]],[["task",[["red","+",["x",0,1]],["out",["a",0,1]]],[["fold","+",["c","x",0],1],["set",["c","a",0],1]]],["wait",[["out",["x",0,1]]]],["set",["c","a",1],["c","a",0]]]]]|
+[["if",["c","x",0],[["task",[["out",["x",0,1]]],[["set",["c","x",0],5]]]],[]],["group","+",[["x",0,1]],[["task",[["red","+",["x",0,1]]],[["fold","+",["c","x",0],1]]]]]]|4
+"#;
+
+/// What only another way has, in this order: a task in a body that the run leaves out; the same with a wait; the same before a
+/// group that combines over its cell.
 const WAYS: &str =
     r#"[["if",["c","x",0],[["task",[["out",["a",0,1]]],[["set",["c","a",0],7]]]],[]],["set",["c","a",0],5]]|4 a[0] 3
 [["if",["c","x",0],[["task",[["out",["a",0,1]]],[["set",["c","a",0],7]]],["wait"]],[]],["set",["c","a",0],5]]|
+[["if",["c","x",0],[["task",[["out",["x",0,1]]],[["set",["c","x",0],5]]]],[]],["group","+",[["x",0,1]],[["task",[["red","+",["x",0,1]]],[["fold","+",["c","x",0],1]]]]]]|6 x 3
 "#;
 
 /// More ways than are judged, and more statements on them.
@@ -44,8 +57,8 @@ const ITEMS: &str =
 [["task",[["in",["a",0,4]],["out",["x",0,1]]],[["set",["c","x",0],["c","a",0]]]],["task",[["in",["a",0,1]]],[]]]|
 "#;
 
-/// What is written about a text that this body stands for. It is None where the body can't be read.
-fn report_of(alloc: Global, body: &str) -> Result<Option<Report>, AllocError> {
+/// What is written about a text that this body stands for, where this orders its tasks. It is None where the body can't be read.
+fn report_of(alloc: Global, order: Order, body: &str) -> Result<Option<Report>, AllocError> {
     let text = format!(in alloc; "[\"program2\",[[\"a\",0,4],[\"x\",0,1]],{body}]")?;
     let Ok(program) = Value::from_str(alloc, text.as_str()) else {
         return Ok(None);
@@ -66,23 +79,52 @@ fn report_of(alloc: Global, body: &str) -> Result<Option<Report>, AllocError> {
         arrays: vec![in alloc; a, x]?,
         program,
         places,
+        order,
     };
     let report = report_c(alloc, "k.c", TEXT.as_bytes(), lowered)?;
     Ok(Some(report))
 }
 
 /// Whether these lines are written of a body, with this verdict.
-fn tells(alloc: Global, body: &str, wanted: Verdict, lines: &str) -> Result<bool, AllocError> {
-    match report_of(alloc, body)? {
+fn tells(
+    alloc: Global,
+    order: Order,
+    body: &str,
+    wanted: Verdict,
+    lines: &str,
+) -> Result<bool, AllocError> {
+    match report_of(alloc, order, body)? {
         Some(report) => Ok(report.verdict == wanted && report.text.as_slice() == lines.as_bytes()),
         None => Ok(false),
     }
 }
 
-/// Whether a race of this cell is told, by the columns of both touches; or nothing where there is none.
-fn tells_race(alloc: Global, body: &str, row: &str, known: &str) -> Result<bool, AllocError> {
+/// Whether it is told that a wait is missing at this column, or nothing where there is none.
+fn tells_missing(
+    alloc: Global,
+    order: Order,
+    body: &str,
+    column: &str,
+) -> Result<bool, AllocError> {
+    if column.is_empty() {
+        return tells(alloc, order, body, Verdict::Clean, "");
+    }
+    let line = format!(in alloc;
+        "k.c:1:{column}: warning: no race, but omptaskd refuses it: a taskwait is missing before this, for a child that may use the same [427]\n"
+    )?;
+    tells(alloc, order, body, Verdict::Clean, line.as_str())
+}
+
+/// Whether a race of this cell is told, by the columns of both touches; or where there is none a wait that is missing, or nothing.
+fn tells_race(
+    alloc: Global,
+    order: Order,
+    body: &str,
+    row: &str,
+    known: &str,
+) -> Result<bool, AllocError> {
     let Some((later, rest)) = row.split_once(" ") else {
-        return tells(alloc, body, Verdict::Clean, "");
+        return tells_missing(alloc, order, body, row);
     };
     let Some((cell, place)) = rest.split_once(" ") else {
         return Ok(false);
@@ -90,26 +132,40 @@ fn tells_race(alloc: Global, body: &str, row: &str, known: &str) -> Result<bool,
     let lines = format!(in alloc;
         "k.c:1:{later}: error: {cell} is touched here while it may be touched at k.c:1:{place} [race]\nk.c:1:{place}: note: the other touch; {known}\n"
     )?;
-    tells(alloc, body, Verdict::Races, lines.as_str())
+    tells(alloc, order, body, Verdict::Races, lines.as_str())
+}
+
+/// How many of these rows are told as they say, where this orders tasks, or the first that isn't.
+fn told_rows(
+    alloc: Global,
+    order: Order,
+    rows: &'static str,
+) -> Result<(u32, &'static str), AllocError> {
+    let mut told = 0u32;
+    for line in rows.lines() {
+        if let Some((body, row)) = line.split_once("|") {
+            let known = "with these numbers nothing orders the two";
+            if !tells_race(alloc, order, body, row, known)? {
+                return Ok((told, line));
+            }
+            told = told.wrapping_add(1);
+        }
+    }
+    Ok((told, ""))
 }
 
 #[test]
-fn reductions(rt: HostRuntime) -> Result<(), Fail> {
-    let alloc = rt.alloc();
-    let mut rows = 0u32;
-    for line in REDUCTIONS.lines() {
-        if let Some((body, row)) = line.split_once("|") {
-            let told = tells_race(
-                alloc,
-                body,
-                row,
-                "with these numbers nothing orders the two",
-            )?;
-            assert!(rt; told, "{line}");
-            rows = rows.wrapping_add(1);
-        }
-    }
-    assert!(rt; rows == 5);
+fn reductions_by_names(rt: HostRuntime) -> Result<(), Fail> {
+    assert_eq!(rt; told_rows(rt.alloc(), Order::OfC, REDUCTIONS)?, (5, ""));
+    Ok(())
+}
+
+#[test]
+fn reductions_by_pointers(rt: HostRuntime) -> Result<(), Fail> {
+    assert_eq!(rt;
+        told_rows(rt.alloc(), Order::OfLanguage, POINTERS)?,
+        (5, "")
+    );
     Ok(())
 }
 
@@ -119,12 +175,12 @@ fn ways(rt: HostRuntime) -> Result<(), Fail> {
     let mut rows = 0u32;
     for line in WAYS.lines() {
         if let Some((body, row)) = line.split_once("|") {
-            let told = tells_race(alloc, body, row, "some path has both")?;
+            let told = tells_race(alloc, Order::OfC, body, row, "some path has both")?;
             assert!(rt; told, "{line}");
             rows = rows.wrapping_add(1);
         }
     }
-    assert!(rt; rows == 2);
+    assert!(rt; rows == 3);
     Ok(())
 }
 
@@ -134,7 +190,7 @@ fn many_ways(rt: HostRuntime) -> Result<(), Fail> {
     let wanted =
         "k.c: note: only the run with these numbers was judged: there are too many paths\n";
     for body in MANY.lines() {
-        let told = tells(alloc, body, Verdict::Clean, wanted)?;
+        let told = tells(alloc, Order::OfC, body, Verdict::Clean, wanted)?;
         assert!(rt; told, "{body}");
     }
     Ok(())
@@ -147,12 +203,12 @@ fn items(rt: HostRuntime) -> Result<(), Fail> {
     for line in ITEMS.lines() {
         if let Some((body, column)) = line.split_once("|") {
             let told = if column.is_empty() {
-                tells(alloc, body, Verdict::Clean, "")?
+                tells(alloc, Order::OfC, body, Verdict::Clean, "")?
             } else {
                 let lines = format!(in alloc;
                     "k.c:1:{column}: error: an item of a depend clause overlaps in part with another one of this task or of a sibling [outside]\n"
                 )?;
-                tells(alloc, body, Verdict::Outside, lines.as_str())?
+                tells(alloc, Order::OfC, body, Verdict::Outside, lines.as_str())?
             };
             assert!(rt; told, "{line}");
             rows = rows.wrapping_add(1);

@@ -1,0 +1,21 @@
+/* The second task isn't awaited where y is read: a race. */
+#include <stdio.h>
+int x = 0, y = 2;
+void foo(void)
+{
+    #pragma omp task depend(inout: x) shared(x)
+    x++;
+    #pragma omp task depend(in: x) depend(inout: y) shared(x, y)
+    y -= x;
+    #pragma omp taskwait depend(in: x)
+    printf("x=%d\n", x);
+    printf("y=%d\n", y);
+    #pragma omp taskwait
+}
+int main(void)
+{
+    #pragma omp parallel
+    #pragma omp single
+    foo();
+    return 0;
+}
