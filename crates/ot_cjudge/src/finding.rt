@@ -69,7 +69,7 @@ fn race_in_run(
     ensures { IfOk result (TellsFirst (events_by order (stmts_of program.now.body.items) cells)) }
 {
     let events = run_events(alloc, program, cells)?;
-    judge_by(alloc, order, &events)
+    judge_by(alloc, order, events)
 }
 
 ghost use Rattle.std.specs.Prelude.{◌≡◌};
