@@ -1,21 +1,16 @@
 -- What is written, put together of its parts.
-use Rattle.std.proofs.Common.{◌≡◌, ℕ, List, [], ◌∷◌, ◌++◌, length, refl, sym, ap, ◌∙◌, subst}
-use Rattle.std.specs.Prelude.{Option, None, Result, Ok, Err, IfOk}
+use Rattle.std.proofs.Common.{◌≡◌, ℕ, List, [], ◌∷◌, ◌++◌, length, refl, ap, ◌∙◌, subst}
+use Rattle.std.specs.Prelude.{None, Result, Ok, Err, IfOk}
 use Rattle.serde_json.specs.Data.{Data}
 use Rattle.ot_model.specs.Cells.{lengths}
 use Rattle.ot_model.specs.Programs.{Expanded}
 use Rattle.ot_model.specs.Shapes.{array_lengths}
-use Rattle.ot_check.specs.Codes.{TellsFirst}
-use Rattle.ot_check.specs.Offences.{IsFirstOf}
-use Rattle.ot_check.specs.declared.fault.CheckFault.{CheckFault}
-use Rattle.ot_check.specs.declared.fault.CheckFault.TheVariants as fault
 use Rattle.ot_check.specs.declared.fault.Offence.{Offence}
 use Rattle.ot_check.specs.declared.fault.Offence.TheVariants.{NotDeclared, ChildBeyond, ReductionMisuse, ConflictsWithChild, EndsWithChildren}
 use Rattle.ot_corder.specs.declared.order.Order.{Order}
 use Rattle.ot_program.specs.declared.fault.Refusal.{Refusal}
 use Rattle.ot_cjudge.specs.Start.{shape_of, cells_of}
 use Rattle.ot_cjudge.specs.Sites.{Source, Site}
-use Rattle.ot_cjudge.specs.Faults.{Says}
 use Rattle.ot_cjudge.specs.Lacks.{lacks_by}
 use Rattle.ot_cjudge.specs.Reports.{ReportsRead, here_line, other_line, warning_line, outside_line}
 use Rattle.ot_cjudge.specs.declared.lowered.CArray.{CArray}
@@ -28,14 +23,6 @@ if_both (Err e) P Q R f h k = h
 pub same_lengths : (arrays : List CArray) → lengths (cells_of arrays) ≡ array_lengths (shape_of arrays)
 same_lengths [] = refl
 same_lengths (a ∷ others) = ap (λ ls. length a.cells.items ∷ ls) (same_lengths others)
-
--- what a check tells
-pub first_none : {A : Type 0} (P : ℕ → Offence → Type 0) (r : Result A CheckFault) (x : A) → r ≡ Ok x → TellsFirst P r → IsFirstOf P None
-first_none P r x is h = subst (λ y. TellsFirst P y) is h
-
-pub first_told : {A : Type 0} (P : ℕ → Offence → Type 0) (r : Result A CheckFault) (f : CheckFault) (first : Option (ℕ × Offence)) → r ≡ Err f → TellsFirst P r → Says f first → IsFirstOf P first
-first_told P r (fault.Offence offence place) first is h says = subst (λ x. IsFirstOf P x) (sym says) (subst (λ y. TellsFirst P y) is h)
-first_told P r fault.Memory first is h says = absurd says
 
 pub none_lacks : (offence : Offence) → lacks_by offence None ≡ None
 none_lacks NotDeclared = refl

@@ -6,6 +6,5 @@ pub mod Lines
 pub mod Fits
 pub mod Lacks
 pub mod FoundView
-pub mod Faults
 pub mod Findings
 pub mod Reports

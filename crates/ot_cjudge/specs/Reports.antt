@@ -4,6 +4,7 @@ use Rattle.std.specs.Fmt.{decimal}
 use Rattle.serde_json.specs.Data.{Data, string, array, no_items, item}
 use Rattle.serde_json.specs.View.{view}
 use Rattle.ot_model.specs.Programs.{Expanded}
+use Rattle.ot_model.specs.Shapes.{Arrays}
 use Rattle.ot_model.specs.Tree.{Body}
 use Rattle.ot_model.specs.declared.stmt.Mode.{Mode}
 use Rattle.ot_model.specs.declared.stmt.Mode.TheVariants.{Reads, Writes, Folds}
@@ -139,6 +140,14 @@ abbrev pub ReportsProgram : Source → List (List ℕ) → Body → Verdict → 
 ReportsProgram s cells body verdict text =
     (first : Option ℕ) × IsFirst (items_of s.arrays s.request) first × ReportsItems s cells body first verdict text
 
+-- the request that runs a program
+abbrev pub run_of : Data → Data
+run_of program = array (item (string (codes "run")) (item program no_items))
+
+-- the request of a source runs a text that is this program over these arrays
+abbrev pub HasProgram : Source → Arrays → Expanded → Type 0
+HasProgram s shape program = (text : Data) × (s.request ≡ run_of text) × (program_of shape text ≡ Ok program)
+
 -- which entry of a program that isn't read is told: the first one that has a fault
 unfoldable pub faulty : Source → ℕ
 faulty s = unwrap_or (option_map (λ found. found.0) (first_fault (shape_by s.arrays) s.request)) 0
@@ -148,10 +157,6 @@ abbrev pub ReportsRead : Source → List (List ℕ) → Result Expanded Refusal 
 ReportsRead s cells (Ok program) verdict text = ReportsProgram s cells program.body verdict text
 ReportsRead s cells (Err refusal) verdict text =
     (verdict ≡ v.Outside) × (text ≡ outside_line s.name (entry_site s (faulty s)).position (reason_of refusal))
-
--- the request that runs a program
-abbrev pub run_of : Data → Data
-run_of program = array (item (string (codes "run")) (item program no_items))
 
 abbrev pub source_of : List ℕ → List ℕ → Lowered → Source
 source_of name text lowered =

@@ -5,11 +5,13 @@ ghost use Rattle.ot_model.specs.Cells.{lengths};
 ghost use Rattle.ot_model.specs.Names.{NamedIn};
 ghost use Rattle.ot_cjudge.specs.Findings.{Finds};
 
-use ot_corder::{Order, judge_by};
+use ot_check::Checked;
+use ot_corder::{Order, is_alike, judge_by};
 use ot_model::{Cells, Program};
 use ot_race::{Race, run_events};
+use ot_raceless::laws::checked_races_on_no_way_by;
 use ot_ways::laws::runs_are_ways;
-use ot_ways::{Verdict as WaysVerdict, any_way};
+use ot_ways::{Verdict as WaysVerdict, any_way, has_few_ways};
 use std::alloc::{AllocError, Global};
 
 /// What is found of a program that begins with the C's numbers.
@@ -23,6 +25,30 @@ pub(crate) enum Finding {
     Nowhere,
     /// Its run doesn't race, and there are too many ways.
     OnlyRun,
+}
+
+/// The same as `find_race` of a program that a check accepts. Where this orders its tasks as the language does it races on no way,
+/// and none is judged.
+pub(crate) fn find_in_checked(
+    alloc: Global,
+    order: Order,
+    checked: &Checked,
+    cells: Cells,
+) -> Result<Finding, AllocError>
+    requires { NamedIn (lengths cells) (stmts_of checked.now.program.body.items) }
+    ensures { IfOk result (Finds order (stmts_of checked.now.program.body.items) cells) }
+{
+    if is_alike(order, &checked.program.body) {
+        checked_races_on_no_way_by(order, checked);
+        runs_are_ways();
+        if has_few_ways(&checked.program) {
+            Ok(Finding::Nowhere)
+        } else {
+            Ok(Finding::OnlyRun)
+        }
+    } else {
+        find_race(alloc, order, &checked.program, cells)
+    }
 }
 
 /// Looks for a race in the run of a program that begins with these cells, and then on all ways, where this orders tasks. The run goes
@@ -69,7 +95,7 @@ fn race_in_run(
     ensures { IfOk result (TellsFirst (events_by order (stmts_of program.now.body.items) cells)) }
 {
     let events = run_events(alloc, program, cells)?;
-    judge_by(alloc, order, &events)
+    judge_by(alloc, order, events)
 }
 
 ghost use Rattle.std.specs.Prelude.{◌≡◌};

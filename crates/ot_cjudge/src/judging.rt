@@ -1,22 +1,24 @@
 //! A C text, judged over the program that stands for it.
-ghost use Rattle.std.specs.Prelude.{◌≡◌, ◌++◌, ℕ, List, IfOk, Option, Some, Result};
+ghost use Rattle.std.specs.Prelude.{◌≡◌, ◌++◌, ℕ, List, IfOk, Some, Ok, Result};
+ghost use Rattle.serde_json.specs.Data.{Data};
 ghost use Rattle.serde_json.specs.View.{view};
 ghost use Rattle.ot_model.specs.View.{stmts_of};
 ghost use Rattle.ot_model.specs.Cells.{lengths};
+ghost use Rattle.ot_model.specs.Names.{NamedIn};
 ghost use Rattle.ot_model.specs.Programs.{Expanded, IsNamedIn, expanded_of};
 ghost use Rattle.ot_model.specs.Shapes.{array_lengths};
 ghost use Rattle.ot_check.specs.Offences.{Offends, IsFirstOf};
 ghost use Rattle.ot_file.specs.Positions.{position_of};
+ghost use Rattle.ot_program.specs.Programs.{program_of};
 ghost use Rattle.ot_program.specs.Returned.{Fails, Gives};
 ghost use Rattle.ot_program.specs.declared.fault.Refusal.{Refusal};
 ghost use Rattle.ot_cjudge.specs.Sites.{entry_site};
 ghost use Rattle.ot_cjudge.specs.SiteView.{source_by};
 ghost use Rattle.ot_cjudge.specs.Fits.{Fits};
 ghost use Rattle.ot_cjudge.specs.Lacks.{lacks};
-ghost use Rattle.ot_cjudge.specs.Faults.{Says};
-ghost use Rattle.ot_cjudge.specs.Reports.{Reports, ReportsRead, ReportsProgram, ReportsRun, ReportsFinding, Warns, race_text, warning_text, only_run_line, faulty, outside_line, overlaps, reason_of, run_of};
+ghost use Rattle.ot_cjudge.specs.Reports.{HasProgram, Reports, ReportsRead, ReportsProgram, ReportsRun, ReportsFinding, race_text, warning_text, only_run_line, faulty, outside_line, overlaps, reason_of, run_of};
 
-use crate::finding::{Finding, find_race};
+use crate::finding::{Finding, find_in_checked, find_race};
 use crate::found::find_in;
 use crate::lacks::lacks_by;
 use crate::line::put_cell;
@@ -27,10 +29,11 @@ use crate::start::{MAX_TASKS, cells_of, shape_of};
 use crate::telling::{
     put_advice, put_here, put_only_run, put_other, put_outside, put_warning, reason_of,
 };
-use ot_check::{CheckFault, Offence, check};
+use ot_check::{CheckFault, Checked, Offence, check};
 use ot_fault::first_fault;
 use ot_model::{Cells, Program, Shape, Use};
 use ot_overlap::first_overlap;
+use ot_place::value_at;
 use ot_program::{ProgramFault, Refusal, read_program};
 use ot_race::Race;
 use serde_json::Value;
@@ -80,10 +83,11 @@ fn report_read(
 ) -> Result<Report, AllocError>
     requires named { IfOk read (λ program. IsNamedIn (array_lengths shape.now) (expanded_of program)) }
     requires cells { lengths cells ≡ array_lengths shape.now }
+    requires again { (text : Data) × (view source.now.request.now ≡ run_of text) × Gives expanded_of read (program_of shape.now text) }
     ensures { (program : Result Expanded Refusal) → Gives expanded_of read program → IfOk result (λ report. ReportsRead (source_by source.now) cells program report.verdict report.text.items) }
 {
     match read {
-        Ok(program) => report_program(alloc, source, shape, &program, cells),
+        Ok(program) => report_program(alloc, source, shape, program, cells),
         Err(fault) => report_unread(alloc, source, fault),
     }
 }
@@ -115,12 +119,13 @@ fn report_program(
     alloc: Global,
     source: &Source<'_>,
     shape: &Shape,
-    program: &Program,
+    program: Program,
     cells: Cells,
 ) -> Result<Report, AllocError>
-    requires named { IsNamedIn (array_lengths shape.now) (expanded_of program.now) }
+    requires named { IsNamedIn (array_lengths shape.now) (expanded_of program) }
     requires cells { lengths cells ≡ array_lengths shape.now }
-    ensures { IfOk result (λ report. ReportsProgram (source_by source.now) cells (stmts_of program.now.body.items) report.verdict report.text.items) }
+    requires again { HasProgram (source_by source.now) shape.now (expanded_of program) }
+    ensures { IfOk result (λ report. ReportsProgram (source_by source.now) cells (stmts_of program.body.items) report.verdict report.text.items) }
 {
     match first_overlap(alloc, source.request, source.arrays)? {
         Some(entry) => report_overlap(alloc, source, entry),
@@ -148,32 +153,93 @@ fn report_overlap(alloc: Global, source: &Source<'_>, entry: u32) -> Result<Repo
     })
 }
 
-/// What is written of a program in which no items of which one writes overlap in part.
+/// What is written of a program in which no items of which one writes overlap in part. What a server refuses is asked first: a
+/// program that isn't refused may race nowhere.
 fn report_run(
     alloc: Global,
     source: &Source<'_>,
     shape: &Shape,
-    program: &Program,
+    program: Program,
     cells: Cells,
 ) -> Result<Report, AllocError>
-    requires named { IsNamedIn (array_lengths shape.now) (expanded_of program.now) }
+    requires named { IsNamedIn (array_lengths shape.now) (expanded_of program) }
     requires cells { lengths cells ≡ array_lengths shape.now }
-    ensures { IfOk result (λ report. ReportsRun (source_by source.now) cells (stmts_of program.now.body.items) report.verdict report.text.items) }
+    requires again { HasProgram (source_by source.now) shape.now (expanded_of program) }
+    ensures { IfOk result (λ report. ReportsRun (source_by source.now) cells (stmts_of program.body.items) report.verdict report.text.items) }
 {
-    let finding = find_race(alloc, source.order, program, cells)?;
-    report_finding(alloc, source, shape, program, finding)
+    match check(alloc, program, shape) {
+        Ok(checked) => report_accepted(alloc, source, &checked, cells),
+        Err(CheckFault::Offence(offence, place)) => {
+            report_offending(alloc, source, shape, cells, (place, offence))
+        }
+        Err(CheckFault::Memory) => Err(AllocError),
+    }
 }
 
-/// What is written of what is found.
-fn report_finding(
+/// What is written of a program that a server accepts.
+fn report_accepted(
+    alloc: Global,
+    source: &Source<'_>,
+    checked: &Checked,
+    cells: Cells,
+) -> Result<Report, AllocError>
+    requires { NamedIn (lengths cells) (stmts_of checked.now.program.body.items) }
+    ensures { IfOk result (λ report. ReportsRun (source_by source.now) cells (stmts_of checked.now.program.body.items) report.verdict report.text.items) }
+{
+    let finding = find_in_checked(alloc, source.order, checked, cells)?;
+    report_finding(alloc, source, &checked.program, None, finding)
+}
+
+/// What is written of a program that a server refuses for this first offence, with its place. The program was given up, and is read
+/// again.
+fn report_offending(
     alloc: Global,
     source: &Source<'_>,
     shape: &Shape,
+    cells: Cells,
+    first: (u32, Offence),
+) -> Result<Report, AllocError>
+    requires { lengths cells ≡ array_lengths shape.now }
+    ensures { (program : Expanded) → HasProgram (source_by source.now) shape.now program → IsFirstOf (Offends program.body) (Some first)
+        → IfOk result (λ report. ReportsRun (source_by source.now) cells program.body report.verdict report.text.items) }
+{
+    let program = read_again(alloc, source, shape)?;
+    let finding = find_race(alloc, source.order, &program, cells)?;
+    report_finding(alloc, source, &program, Some(first), finding)
+}
+
+/// The program of a request that was read before: it is wanting only where memory is.
+fn read_again(alloc: Global, source: &Source<'_>, shape: &Shape) -> Result<Program, AllocError>
+    ensures named { IfOk result (λ again. IsNamedIn (array_lengths shape.now) (expanded_of again)) }
+    ensures same { (program : Expanded) → HasProgram (source_by source.now) shape.now program → IfOk result (λ again. expanded_of again ≡ program) }
+{
+    match value_at(source.request, &[1]) {
+        Some(text) => read_whole(alloc, text, shape),
+        None => Err(AllocError),
+    }
+}
+
+fn read_whole(alloc: Global, text: &Value, shape: &Shape) -> Result<Program, AllocError>
+    ensures named { IfOk result (λ again. IsNamedIn (array_lengths shape.now) (expanded_of again)) }
+    ensures same { (program : Expanded) → program_of shape.now (view text.now) ≡ Ok program → IfOk result (λ again. expanded_of again ≡ program) }
+{
+    match read_program(alloc, text, shape) {
+        Ok(program) => Ok(program),
+        Err(_) => Err(AllocError),
+    }
+}
+
+/// What is written of what is found, and of the first offence, with its place.
+fn report_finding(
+    alloc: Global,
+    source: &Source<'_>,
     program: &Program,
+    first: Option<(u32, Offence)>,
     finding: Finding,
 ) -> Result<Report, AllocError>
-    requires { IsNamedIn (array_lengths shape.now) (expanded_of program.now) }
-    ensures { IfOk result (λ report. ReportsFinding (source_by source.now) (stmts_of program.now.body.items) finding report.verdict report.text.items) }
+    requires { Fits (stmts_of program.now.body.items) }
+    ensures { IsFirstOf (Offends (stmts_of program.now.body.items)) first
+        → IfOk result (λ report. ReportsFinding (source_by source.now) (stmts_of program.now.body.items) finding report.verdict report.text.items) }
 {
     match finding {
         Finding::InRun(race) => report_race(
@@ -183,9 +249,9 @@ fn report_finding(
             race,
         ),
         Finding::OnWay(race) => report_race(alloc, source, "some path has both", race),
-        Finding::Nowhere => report_offence(alloc, source, shape, program),
+        Finding::Nowhere => report_offence(alloc, source, program, first),
         Finding::OnlyRun => {
-            let told = report_offence(alloc, source, shape, program)?;
+            let told = report_offence(alloc, source, program, first)?;
             with_only_run(source, told)
         }
     }
@@ -231,21 +297,19 @@ fn with_only_run(source: &Source<'_>, told: Report) -> Result<Report, AllocError
     Ok(Report { verdict, text })
 }
 
-/// What is written of a program in which nothing races: what a server refuses it for.
+/// What is written of a program in which nothing races: the first offence, with its place, where there is one.
 fn report_offence(
     alloc: Global,
     source: &Source<'_>,
-    shape: &Shape,
     program: &Program,
+    first: Option<(u32, Offence)>,
 ) -> Result<Report, AllocError>
-    requires { IsNamedIn (array_lengths shape.now) (expanded_of program.now) }
+    requires { Fits (stmts_of program.now.body.items) }
     ensures verdict { IfOk result (λ report. report.verdict ≡ Verdict.Clean) }
-    ensures text { IfOk result (λ report. Warns (source_by source.now) (stmts_of program.now.body.items) report.text.items) }
+    ensures text { IfOk result (λ report. report.text.items ≡ warning_text (source_by source.now) (stmts_of program.now.body.items) first) }
 {
-    let copied = program.copy(alloc)?;
-    let first = first_offence(alloc, copied, shape)?;
     match first {
-        Some(offends) => report_warning(alloc, source, program, offends.1, offends.0),
+        Some((place, offence)) => report_warning(alloc, source, program, offence, place),
         None => {
             let text = Vec::new(alloc);
             Ok(Report {
@@ -253,32 +317,6 @@ fn report_offence(
                 text,
             })
         }
-    }
-}
-
-/// The first offence of a program, with its place.
-fn first_offence(
-    alloc: Global,
-    program: Program,
-    shape: &Shape,
-) -> Result<Option<(u32, Offence)>, AllocError>
-    requires { IsNamedIn (array_lengths shape.now) (expanded_of program) }
-    ensures { IfOk result (IsFirstOf (Offends (stmts_of program.body.items))) }
-{
-    let checked = check(alloc, program, shape);
-    match checked {
-        Ok(_kept) => Ok(None),
-        Err(fault) => offence_of(fault),
-    }
-}
-
-/// The offence for which a program isn't checked, with its place.
-fn offence_of(fault: CheckFault) -> Result<Option<(u32, Offence)>, AllocError>
-    ensures { IfOk result (Says fault) }
-{
-    match fault {
-        CheckFault::Offence(offence, place) => Ok(Some((place, offence))),
-        CheckFault::Memory => Err(AllocError),
     }
 }
 

@@ -1,55 +1,82 @@
 -- Events one after the other, as C takes them.
-use Rattle.std.proofs.Common.{◌≡◌, ◌∙◌, ℕ, ◌+◌, ◌<◌, List, [], ◌∷◌, ◌++◌, length, map, take, get_or, refl, sym, ap}
-use Rattle.std.specs.Prelude.{Some, slice_get}
-use Rattle.std.proofs.lemmas.List.{length-map, map-append, take_more}
+use Rattle.std.proofs.Common.{◌≡◌, ◌∙◌, ℕ, zero, suc, ◌+◌, ◌<◌, List, [], ◌∷◌, ◌++◌, length, map, take, drop, set, get_or, refl, sym, ap, add-one}
+use Rattle.std.specs.Prelude.{Option, Some, None, slice_get}
+use Rattle.std.proofs.lemmas.List.{length-map, map-append, map-set, take_more}
 use Rattle.ot_model.specs.declared.stmt.Use.{Use}
+use Rattle.ot_race.specs.Events as s
 use Rattle.ot_race.specs.declared.event.Event.{Event}
 use Rattle.ot_race.specs.View.{deed_of, event_of}
 use Rattle.ot_race.proofs.PlaceLemmas.{place_read, place_map}
-use Rattle.ot_corder.specs.Orders.{declares, event_in_c}
-
--- one more of what is made of the elements of a list
-pub next_of : {A B C : Type 0} (f : A → C) (g : B → C) (xs : List A) (made : List B) (n : ℕ) (x : A) (y : B) (new : List B) → n < length xs → x ≡ get_or xs n x
-    → map g made ≡ map f (take n xs) → g y ≡ f x → new ≡ made ++ y ∷ [] → map g new ≡ map f (take (n + 1) xs)
-next_of f g xs made n x y new within is before one push =
-    ap (map g) push ∙ map-append g made (y ∷ []) ∙ ap (λ zs. zs ++ g y ∷ []) before ∙ ap (λ z. map f (take n xs) ++ z ∷ []) (one ∙ ap f is)
-    ∙ sym (map-append f (take n xs) (get_or xs n x ∷ [])) ∙ ap (map f) (sym (take_more xs n x within))
+use Rattle.ot_corder.specs.Orders.{event_in_c}
+use Rattle.ot_corder.specs.Instead.{instead}
 
 map_both : {A B C : Type 0} (f : B → C) (g : A → B) (xs : List A) → map (λ x. f (g x)) xs ≡ map f (map g xs)
 map_both f g [] = refl
 map_both f g (x ∷ xs) = ap (λ zs. f (g x) ∷ zs) (map_both f g xs)
 
-map_same : {A : Type 0} (xs : List A) → map (λ x. x) xs ≡ xs
-map_same [] = refl
-map_same (x ∷ xs) = ap (λ zs. x ∷ zs) (map_same xs)
+-- ---- what is declared
 
-pub taken_all : (events taken : List Event) → map event_of taken ≡ map (λ e. event_in_c (event_of e)) events → map event_of taken ≡ map event_in_c (map event_of events)
-taken_all events taken h = h ∙ map_both event_in_c event_of events
+-- what is declared so far
+pub declared_next : (events : List Event) (declared new : List (Option (List Use))) (n : ℕ) (e : Event) (own : Option (List Use)) → n < length events → e ≡ get_or events n e
+    → declared ≡ map (λ e. instead (deed_of e.deed)) (take n events) → own ≡ instead (deed_of e.deed) → new ≡ declared ++ own ∷ []
+    → new ≡ map (λ e. instead (deed_of e.deed)) (take (n + 1) events)
+declared_next events declared new n e own within is before one push =
+    let f = λ (x : Event). instead (deed_of x.deed) in
+    push ∙ ap (λ ds. ds ++ own ∷ []) before ∙ ap (λ d. map f (take n events) ++ d ∷ []) (one ∙ ap f is)
+    ∙ sym (map-append f (take n events) (get_or events n e ∷ [])) ∙ ap (map f) (sym (take_more events n e within))
 
-pub taken_few : (events taken : List Event) → map event_of taken ≡ map (λ e. event_in_c (event_of e)) events → length taken ≡ length events
-taken_few events taken h =
-    sym (length-map taken event_of) ∙ ap length h ∙ length-map events (λ e. event_in_c (event_of e))
+pub declared_all : (events : List Event) → map (λ (e : Event). instead (deed_of e.deed)) events ≡ map (λ e. instead e.deed) (map event_of events)
+declared_all events = map_both (λ e. instead e.deed) event_of events
 
--- what an event declares, as it was noted
+pub as_many : (events : List s.Event) (declared : List (Option (List Use))) → declared ≡ map (λ e. instead e.deed) events → length declared ≡ length events
+as_many events declared are = ap length are ∙ length-map events (λ x. instead x.deed)
+
+-- ---- events of which the first so many are as C takes them
+
+none_some : {A : Type 0} (x : A) → None ≡ Some x → ⊥
+none_some x h = cc
+
 some_same : {A : Type 0} (x y : A) → Some x ≡ Some y → x ≡ y
 some_same x y h = cc
 
-pub own_is : (events : List Event) (declared : List (List Use)) (n : ℕ) (e : Event) (own : List Use)
-    → declared ≡ map (λ x. declares x.deed) (map event_of events) → n < length events → e ≡ get_or events n e → n < length declared → own ≡ get_or declared n own
-    → own ≡ declares (deed_of e.deed)
-own_is events declared n e own are within is there own_at =
-    let h = place_map (λ x. declares x.deed) (map event_of events) n (event_of e) (place_map event_of events n e (place_read events n e within is)) in
-    some_same own (declares (deed_of e.deed)) (sym (place_read declared n own there own_at) ∙ ap (λ ds. slice_get ds n) are ∙ h)
+taken_length : (xs : List s.Event) (n : ℕ) → length (map event_in_c (take n xs) ++ drop n xs) ≡ length xs
+taken_length [] zero = refl
+taken_length [] (suc n) = refl
+taken_length (x ∷ xs) zero = refl
+taken_length (x ∷ xs) (suc n) = ap suc (taken_length xs n)
 
-pub as_many : (events : List Event) (declared : List (List Use)) → declared ≡ map (λ x. declares x.deed) (map event_of events) → length declared ≡ length events
-as_many events declared are = ap length are ∙ length-map (map event_of events) (λ x. declares x.deed) ∙ length-map events event_of
+pub taken_many : (now : List Event) (xs : List s.Event) (n : ℕ) → map event_of now ≡ map event_in_c (take n xs) ++ drop n xs → length now ≡ length xs
+taken_many now xs n h = sym (length-map now event_of) ∙ ap length h ∙ taken_length xs n
 
--- what is declared so far
-pub declared_next : (events : List Event) (declared new : List (List Use)) (n : ℕ) (e : Event) (own : List Use) → n < length events → e ≡ get_or events n e
-    → declared ≡ map (λ e. declares (deed_of e.deed)) (take n events) → own ≡ declares (deed_of e.deed) → new ≡ declared ++ own ∷ []
-    → new ≡ map (λ e. declares (deed_of e.deed)) (take (n + 1) events)
-declared_next events declared new n e own within is before one push =
-    sym (map_same new) ∙ next_of (λ (x : Event). declares (deed_of x.deed)) (λ (x : List Use). x) events declared n e own new within is (map_same declared ∙ before) one push
+taken_there : (xs : List s.Event) (n : ℕ) (x : s.Event) → slice_get (map event_in_c (take n xs) ++ drop n xs) n ≡ Some x → slice_get xs n ≡ Some x
+taken_there [] zero x h = h
+taken_there [] (suc n) x h = h
+taken_there (y ∷ ys) zero x h = h
+taken_there (y ∷ ys) (suc n) x h = taken_there ys n x h
 
-pub declared_all : (events : List Event) → map (λ (e : Event). declares (deed_of e.deed)) events ≡ map (λ e. declares e.deed) (map event_of events)
-declared_all events = map_both (λ e. declares e.deed) event_of events
+-- the one that is next
+next_is : (now : List Event) (xs : List s.Event) (n : ℕ) (e : Event) → map event_of now ≡ map event_in_c (take n xs) ++ drop n xs → n < length now → e ≡ get_or now n e
+    → slice_get xs n ≡ Some (event_of e)
+next_is now xs n e h within is =
+    taken_there xs n (event_of e) (sym (ap (λ zs. slice_get zs n) h) ∙ place_map event_of now n e (place_read now n e within is))
+
+-- what it declares, as it was noted
+pub own_is : (now : List Event) (xs : List s.Event) (declared : List (Option (List Use))) (n : ℕ) (e : Event) (own : Option (List Use))
+    → declared ≡ map (λ x. instead x.deed) xs → map event_of now ≡ map event_in_c (take n xs) ++ drop n xs → n < length now → e ≡ get_or now n e
+    → n < length declared → own ≡ get_or declared n own → own ≡ instead (deed_of e.deed)
+own_is now xs declared n e own are h within is there own_at =
+    let noted = place_map (λ (x : s.Event). instead x.deed) xs n (event_of e) (next_is now xs n e h within is) in
+    some_same own (instead (deed_of e.deed)) (sym (place_read declared n own there own_at) ∙ ap (λ ds. slice_get ds n) are ∙ noted)
+
+taken_one : (xs : List s.Event) (n : ℕ) (x : s.Event) → slice_get xs n ≡ Some x
+    → set (map event_in_c (take n xs) ++ drop n xs) n (event_in_c x) ≡ map event_in_c (take (suc n) xs) ++ drop (suc n) xs
+taken_one [] n x h = absurd (none_some x h)
+taken_one (y ∷ ys) zero x h = ap (λ z. event_in_c z ∷ ys) (sym (some_same y x h))
+taken_one (y ∷ ys) (suc n) x h = ap (λ zs. event_in_c y ∷ zs) (taken_one ys n x h)
+
+-- one more
+pub taken_next : (now : List Event) (xs : List s.Event) (n : ℕ) (e f : Event) → map event_of now ≡ map event_in_c (take n xs) ++ drop n xs → n < length now → e ≡ get_or now n e
+    → event_of f ≡ event_in_c (event_of e) → map event_of (set now n f) ≡ map event_in_c (take (n + 1) xs) ++ drop (n + 1) xs
+taken_next now xs n e f h within is taken =
+    map-set event_of now n f ∙ ap (λ x. set (map event_of now) n x) taken ∙ ap (λ zs. set zs n (event_in_c (event_of e))) h
+    ∙ taken_one xs n (event_of e) (next_is now xs n e h within is) ∙ ap (λ m. map event_in_c (take m xs) ++ drop m xs) (sym (add-one n))

@@ -1,2 +1,3 @@
 pub mod DependLemmas
 pub mod EventLemmas
+pub mod AlikeLemmas

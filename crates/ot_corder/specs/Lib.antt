@@ -1,1 +1,3 @@
 pub mod Orders
+pub mod Instead
+pub mod Laws

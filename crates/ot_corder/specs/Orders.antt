@@ -1,5 +1,7 @@
 -- What orders tasks: in the language all that they declare, in C their `depend` clauses alone.
-use Rattle.std.specs.Prelude.{List, [], map, filter, not, Some}
+use Rattle.std.specs.Prelude.{Bool, true, false, List, map, filter, not, ◌||◌}
+use Rattle.std.specs.List.{list_any}
+use Rattle.ot_model.specs.Tree.{S, Set, Fold, If, Task, Wait, Group, Body, End, Next}
 use Rattle.ot_model.specs.Uses.{is_fold}
 use Rattle.ot_model.specs.declared.stmt.Use.{Use}
 use Rattle.ot_race.specs.Events.{Deed, Touches, Begins, Awaits, Leaves, Event, event}
@@ -9,12 +11,6 @@ use Rattle.ot_corder.specs.declared.order.Order.TheVariants.{OfLanguage, OfC}
 -- what of a declaration makes dependences in C: `in_reduction` makes none (OpenMP API 5.2, sections 5.5.10 and 15.9.5)
 abbrev pub depend_of : List Use → List Use
 depend_of uses = filter (λ u. not (is_fold u.mode)) uses
-
--- what an event declares in C
-abbrev pub declares : Deed → List Use
-declares (Begins parent wants) = depend_of wants
-declares (Awaits (Some w)) = w
-declares deed = []
 
 -- an event as C takes it: a task declares what makes dependences, and uses cells as it does
 abbrev pub deed_in_c : Deed → Deed
@@ -30,3 +26,27 @@ event_in_c e = event e.task e.place (deed_in_c e.deed) e.uses
 abbrev pub ordered_by : Order → List Event → List Event
 ordered_by OfLanguage es = es
 ordered_by OfC es = map event_in_c es
+
+-- ---- where both order tasks alike
+
+abbrev pub has_fold : List Use → Bool
+has_fold uses = list_any (λ u. is_fold u.mode) uses
+
+-- whether a task of a statement, of a body, declares a fold
+abbrev mutual
+  pub folds_in_one : S → Bool
+  folds_in_one (Set c e) = false
+  folds_in_one (Fold o c e) = false
+  folds_in_one (If e a b) = folds_in a || folds_in b
+  folds_in_one (Task d b) = has_fold d || folds_in b
+  folds_in_one (Wait w) = false
+  folds_in_one (Group o cs b) = folds_in b
+
+  pub folds_in : Body → Bool
+  folds_in End = false
+  folds_in (Next x rest) = folds_in_one x || folds_in rest
+
+-- whether this orders the tasks of a body as the language does: where none declares a fold C does too
+abbrev pub is_alike : Order → Body → Bool
+is_alike OfLanguage body = true
+is_alike OfC body = not (folds_in body)

@@ -18,6 +18,15 @@ fn depend_of(alloc: Global, decl: &Decl) -> Result<Decl, AllocError>
     Ok(Decl::new(kept))
 }
 
+ghost use Rattle.ot_corder.specs.Orders.{has_fold};
+
+/// Whether a declaration has a fold.
+pub(crate) fn has_fold(decl: &Decl) -> bool
+    ensures { result ≡ has_fold decl.now }
+{
+    decl.uses().iter().any(|used| is_fold(used.mode))
+}
+
 ghost use Rattle.ot_model.specs.Uses.{is_fold};
 
 fn is_fold(mode: Mode) -> bool
@@ -27,37 +36,37 @@ fn is_fold(mode: Mode) -> bool
 }
 
 ghost use Rattle.std.specs.Prelude.{map};
-ghost use Rattle.ot_corder.specs.Orders.{declares};
+ghost use Rattle.ot_corder.specs.Instead.{instead};
 ghost use Rattle.ot_race.specs.View.{deed_of, events_in};
 
 use ot_race::{Deed, Event};
 
-/// What each event declares in C.
+/// What each event declares in C, where that isn't what it declares in the language.
 #[tactic(auto, using(crate::proofs::EventLemmas::declared_next))]
-pub(crate) fn declared_by(alloc: Global, events: &[Event<'_>]) -> Result<Vec<Decl>, AllocError>
-    ensures { IfOk result (λ declared. declared.items ≡ map (λ e. declares e.deed) (events_in events.now)) }
+pub(crate) fn declared_by(
+    alloc: Global,
+    events: &[Event<'_>],
+) -> Result<Vec<Option<Decl>>, AllocError>
+    ensures { IfOk result (λ declared. declared.items ≡ map (λ e. instead e.deed) (events_in events.now)) }
 {
     let mut declared = Vec::with_capacity(alloc, events.len())?;
     for event in events {
-        declared.push(declares(alloc, event.deed)?)?;
+        declared.push(instead_of(alloc, event.deed)?)?;
     }
     Ok(declared)
 }
 
-fn declares(alloc: Global, deed: Deed<'_>) -> Result<Decl, AllocError>
-    ensures { IfOk result (λ declared. declared ≡ declares (deed_of deed.entry)) }
+fn instead_of(alloc: Global, deed: Deed<'_>) -> Result<Option<Decl>, AllocError>
+    ensures { IfOk result (λ own. own ≡ instead (deed_of deed.entry)) }
 {
     match deed {
-        Deed::Begins(_, decl) => depend_of(alloc, decl),
-        Deed::Awaits(Some(decl)) => decl.copy(alloc),
-        Deed::Touches | Deed::Awaits(None) | Deed::Leaves(_) => nothing(alloc),
+        Deed::Begins(_, decl) => {
+            if has_fold(decl) {
+                Ok(Some(depend_of(alloc, decl)?))
+            } else {
+                Ok(None)
+            }
+        }
+        Deed::Touches | Deed::Awaits(_) | Deed::Leaves(_) => Ok(None),
     }
-}
-
-ghost use Rattle.std.specs.Prelude.{[]};
-
-fn nothing(alloc: Global) -> Result<Decl, AllocError>
-    ensures { IfOk result (λ declared. declared ≡ []) }
-{
-    Ok(Decl::new(Vec::new(alloc)))
 }

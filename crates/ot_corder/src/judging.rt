@@ -10,74 +10,67 @@ use ot_model::Decl;
 use ot_race::{Deed, Event, Race, judge};
 use std::alloc::{AllocError, Global};
 
-/// The first race of a list of events where this orders tasks, or that nothing races.
+/// The first race of a list of events where this orders tasks, or that nothing races. The list is given up.
 pub fn judge_by(
     alloc: Global,
     order: Order,
-    events: &[Event<'_>],
+    events: Vec<Event<'_>>,
 ) -> Result<Option<Race>, AllocError>
-    requires { length events.now < 2 ^ 32 }
-    ensures { IfOk result (TellsFirst (ordered_by order (events_in events.now))) }
+    requires { length events.items < 2 ^ 32 }
+    ensures { IfOk result (TellsFirst (ordered_by order (events_in events.entry.items))) }
 {
     match order {
-        Order::OfLanguage => judge(alloc, events),
+        Order::OfLanguage => judge(alloc, &events),
         Order::OfC => judge_in_c(alloc, events),
     }
 }
 
 ghost use Rattle.std.specs.Prelude.{◌≡◌, map};
-ghost use Rattle.ot_race.specs.View.{deed_of, event_of};
-ghost use Rattle.ot_corder.specs.Orders.{event_in_c, deed_in_c, declares};
+ghost use Rattle.ot_race.specs.View.{deed_of};
+ghost use Rattle.ot_corder.specs.Orders.{event_in_c, deed_in_c};
+ghost use Rattle.ot_corder.specs.Instead.{instead};
 
-fn judge_in_c(alloc: Global, events: &[Event<'_>]) -> Result<Option<Race>, AllocError>
-    requires { length events.now < 2 ^ 32 }
-    ensures { IfOk result (TellsFirst (map event_in_c (events_in events.now))) }
+fn judge_in_c(alloc: Global, events: Vec<Event<'_>>) -> Result<Option<Race>, AllocError>
+    requires { length events.items < 2 ^ 32 }
+    ensures { IfOk result (TellsFirst (map event_in_c (events_in events.entry.items))) }
 {
-    let declared = declared_by(alloc, events)?;
-    let taken = events_in_c(alloc, events, &declared)?;
+    let declared = declared_by(alloc, &events)?;
+    let taken = events_in_c(events, &declared);
     judge(alloc, &taken)
 }
 
-/// The events as C takes them, with what they declare there.
-fn events_in_c<'d>(
-    alloc: Global,
-    events: &[Event<'_>],
-    declared: &'d [Decl],
-) -> Result<Vec<Event<'d>>, AllocError>
-    requires { declared.now ≡ map (λ e. declares e.deed) (events_in events.now) }
-    ensures events { IfOk result (λ taken. events_in taken.items ≡ map event_in_c (events_in events.now)) }
-    ensures few { IfOk result (λ taken. length taken.items ≡ length events.now) }
+/// The events as C takes them, with what they declare there in place of what they declare in the language.
+fn events_in_c<'d>(mut events: Vec<Event<'d>>, declared: &'d [Option<Decl>]) -> Vec<Event<'d>>
+    requires { declared.now ≡ map (λ e. instead e.deed) (events_in events.items) }
+    ensures { events_in result.items ≡ map event_in_c (events_in events.entry.items) }
 {
-    let mut taken = Vec::with_capacity(alloc, events.len())?;
     for number in 0..events.len() {
-        let event = &events[number];
-        let own = &declared[number];
-        taken.push(event_in_c(alloc, event, own)?)?;
+        let event = &mut events[number];
+        event.deed = deed_in_c(event.deed, &declared[number]);
     }
-    Ok(taken)
+    events
 }
 
-fn event_in_c<'d>(alloc: Global, event: &Event<'_>, own: &'d Decl) -> Result<Event<'d>, AllocError>
-    requires { own.now ≡ declares (deed_of event.now.deed) }
-    ensures { IfOk result (λ taken. event_of taken ≡ event_in_c (event_of event.now)) }
-{
-    Ok(Event {
-        task: event.task,
-        place: event.place,
-        deed: deed_in_c(event.deed, own),
-        uses: Vec::from_slice(alloc, &event.uses)?,
-    })
-}
-
-fn deed_in_c<'d>(deed: Deed<'_>, own: &'d Decl) -> Deed<'d>
-    requires { own.now ≡ declares (deed_of deed) }
+fn deed_in_c<'d>(deed: Deed<'d>, own: &'d Option<Decl>) -> Deed<'d>
+    requires { own.now ≡ instead (deed_of deed) }
     ensures { deed_of result ≡ deed_in_c (deed_of deed.entry) }
 {
     match deed {
+        Deed::Begins(parent, decl) => Deed::Begins(parent, kept_of(decl, own)),
         Deed::Touches => Deed::Touches,
-        Deed::Begins(parent, _) => Deed::Begins(parent, own),
-        Deed::Awaits(None) => Deed::Awaits(None),
-        Deed::Awaits(Some(_)) => Deed::Awaits(Some(own)),
+        Deed::Awaits(wait) => Deed::Awaits(wait),
         Deed::Leaves(count) => Deed::Leaves(count),
+    }
+}
+
+ghost use Rattle.std.specs.Prelude.{unwrap_or};
+
+/// What stands for a declaration, or the declaration itself.
+fn kept_of<'d>(decl: &'d Decl, own: &'d Option<Decl>) -> &'d Decl
+    ensures { result.now ≡ unwrap_or own.now decl.now }
+{
+    match own {
+        Some(own) => own,
+        None => decl,
     }
 }

@@ -1,4 +1,5 @@
 pub mod Ways
+pub mod Naming
 pub mod Verdicts
 pub mod Numbered
 pub mod Laws

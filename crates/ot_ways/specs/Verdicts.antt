@@ -8,6 +8,7 @@ use Rattle.ot_corder.specs.declared.order.Order.{Order}
 use Rattle.ot_race.specs.Events.{events_of, beginning}
 use Rattle.ot_race.specs.Races.{NothingRaces, IsFirstRace}
 use Rattle.ot_race.specs.declared.race.Race.{Race}
+use Rattle.ot_ways.specs.Naming.{named_in}
 use Rattle.ot_ways.specs.Ways.{way_by, ways, turns}
 use Rattle.ot_ways.specs.declared.verdict.Turn.{Turn}
 use Rattle.ot_ways.specs.declared.verdict.Verdict.{Verdict}
@@ -24,15 +25,18 @@ pub record IsRaceOn (order : Order) (body : Body) (taken : List Turn) (race : Ra
   pub takes : turns (way_by condition) 1 body (beginning cells) ≡ taken
   pub first : IsFirstRace (ordered_by order (events_of (way_by condition) body cells)) race.cell race.place race.later
 
--- so many ways are judged, with so many statements on all of them together
+-- so many ways are judged, with so many statements on all of them together, which name so many cells
 abbrev pub most_ways : ℕ
 most_ways = 1024
 
 abbrev pub most_statements : ℕ
 most_statements = 2000000
 
+abbrev pub most_cells : ℕ
+most_cells = 20000000
+
 abbrev pub AreFew : Body → Type 0
-AreFew body = (ways body ≤ most_ways) × (ways body * size body ≤ most_statements)
+AreFew body = (ways body ≤ most_ways) × (ways body * size body ≤ most_statements) × (ways body * named_in body ≤ most_cells)
 
 -- what a judge of all ways tells: that it would be too many ways, that no way races, or the first race on one of them
 abbrev pub Tells : Order → Body → Verdict → Type 0

@@ -6,6 +6,7 @@ ghost use Rattle.ot_ways.specs.Verdicts.{Tells};
 
 use crate::extent::{MANY, extent_all};
 use crate::follow::{Owner, Trail, follow_all};
+use crate::naming::named_in;
 use crate::verdict::Verdict;
 use ot_corder::{Order, judge_by};
 use ot_model::{Program, Stmt};
@@ -14,8 +15,11 @@ use std::alloc::{AllocError, Global};
 /// So many statements on all ways together are judged.
 const MOST_STATEMENTS: u64 = 2_000_000;
 
+/// And these may name so many cells.
+const MOST_CELLS: u64 = 20_000_000;
+
 /// The first race on one of the ways through a program where this orders tasks, or that no way races. More than 1,024 ways are not
-/// judged, nor those that have more than 2,000,000 statements together.
+/// judged, nor those that have more than 2,000,000 statements together, or whose statements name more than 20,000,000 cells.
 pub fn any_way(alloc: Global, order: Order, program: &Program) -> Result<Verdict, AllocError>
     requires { (lens : List ℕ) × NamedIn lens (stmts_of program.now.body.items) }
     ensures { IfOk result (Tells order (stmts_of program.now.body.items)) }
@@ -26,10 +30,18 @@ pub fn any_way(alloc: Global, order: Order, program: &Program) -> Result<Verdict
     }
 }
 
-ghost use Rattle.std.specs.Prelude.{◌≡◌, ◌<◌, ◌*◌, ◌^◌, ◌&&◌, nat_lt, nat_le, MatchOption};
+ghost use Rattle.std.specs.Prelude.{◌≡◌, ◌<◌, ◌*◌, ◌^◌, ◌&&◌, true, false, nat_lt, nat_le, MatchOption};
 ghost use Rattle.ot_model.specs.Counts.{size};
 ghost use Rattle.ot_ways.specs.Ways.{ways};
 ghost use Rattle.ot_ways.specs.Verdicts.{AreFew};
+
+/// Whether the ways through a program are so few that they are judged.
+pub fn has_few_ways(program: &Program) -> bool
+    ensures few { result ≡ true → AreFew (stmts_of program.now.body.items) }
+    ensures many { result ≡ false → AreFew (stmts_of program.now.body.items) → ⊥ }
+{
+    few_ways(&program.body).is_some()
+}
 
 /// The number of ways through a body, where they are judged.
 fn few_ways(body: &Vec<Stmt>) -> Option<u32>
@@ -37,19 +49,27 @@ fn few_ways(body: &Vec<Stmt>) -> Option<u32>
     ensures { MatchOption result (AreFew (stmts_of body.now.items) → ⊥) (λ few. AreFew (stmts_of body.now.items) × (few ≡ ways (stmts_of body.now.items))) }
 {
     let extent = extent_all(body);
-    if are_few(extent.ways, extent.statements) {
+    let named = named_in(body);
+    if are_few(extent.ways, extent.statements, named) {
         Some(extent.ways)
     } else {
         None
     }
 }
 
-/// Whether so many ways through so many statements are judged.
-fn are_few(ways: u32, statements: u32) -> bool
-    ensures { result ≡ (nat_lt ways 1025 && nat_le (ways * statements) 2000000) }
+/// Whether so many ways through so many statements that name so many cells are judged.
+fn are_few(ways: u32, statements: u32, named: u32) -> bool
+    ensures { result ≡ (nat_lt ways 1025 && (nat_le (ways * statements) 2000000 && nat_le (ways * named) 20000000)) }
 {
-    match u64::from(ways).checked_mul(u64::from(statements)) {
-        Some(together) => ways < MANY && together <= MOST_STATEMENTS,
+    ways < MANY && at_most(ways, statements, MOST_STATEMENTS) && at_most(ways, named, MOST_CELLS)
+}
+
+/// Whether so many on each way are at most this on all ways.
+fn at_most(ways: u32, each: u32, most: u64) -> bool
+    ensures { result ≡ nat_le (ways * each) most }
+{
+    match u64::from(ways).checked_mul(u64::from(each)) {
+        Some(together) => together <= most,
         None => false,
     }
 }
@@ -67,9 +87,13 @@ fn judge_ways(
     ensures { IfOk result (Tells order (stmts_of program.now.body.items)) }
 {
     for way in 0..count {
-        let trail = follow(alloc, program, way)?;
-        if let Some(race) = judge_by(alloc, order, &trail.events)? {
-            return Ok(Verdict::RacesOnWay(trail.turns, race));
+        let Trail {
+            tasks: _,
+            turns,
+            events,
+        } = follow(alloc, program, way)?;
+        if let Some(race) = judge_by(alloc, order, events)? {
+            return Ok(Verdict::RacesOnWay(turns, race));
         }
     }
     Ok(Verdict::RacesOnNoWay)

@@ -5,8 +5,9 @@ mod extent;
 mod follow;
 mod judging;
 pub mod laws;
+mod naming;
 mod reads;
 mod verdict;
 
-pub use judging::any_way;
+pub use judging::{any_way, has_few_ways};
 pub use verdict::{Turn, Verdict};

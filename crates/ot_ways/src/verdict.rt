@@ -13,6 +13,7 @@ pub enum Verdict {
     RacesOnNoWay,
     /// The first race on the way that takes these turns.
     RacesOnWay(Vec<Turn>, Race),
-    /// It has more than 1,024 ways, or more than 2,000,000 statements on all of them together, and none was judged.
+    /// It has more than 1,024 ways, or more than 2,000,000 statements on all of them together, or these name more than 20,000,000
+    /// cells, and none was judged.
     TooManyWays,
 }

@@ -44,3 +44,24 @@ fn branches(rt: HostRuntime) -> Result<(), Fail> {
     assert!(rt; rows == 17);
     Ok(())
 }
+
+/// The same over 65,536 cells, of which tasks declare nearly all: 7 beside 10 `if`s, which is too much, and one beside one.
+const WIDE_BRANCHES: &str =
+    r#"many|[["for","i",0,10,[["if",["c","a",0],[],[]]]],["for","i",0,7,[["task",[["out",["a",0,65535]]],[]]]]]
+none|[["if",["c","a",0],[],[]],["task",[["out",["a",0,65535]]],[]]]
+"#;
+
+#[test]
+fn wide_branches(rt: HostRuntime) -> Result<(), Fail> {
+    let alloc = rt.alloc();
+    let mut rows = 0u32;
+    for line in WIDE_BRANCHES.lines() {
+        if let Some((row, body)) = line.split_once("|") {
+            let told = told_of_ways(alloc, 65536, body)?;
+            assert!(rt; told.as_str() == row, "{line} {told}");
+            rows = rows.wrapping_add(1);
+        }
+    }
+    assert!(rt; rows == 2);
+    Ok(())
+}

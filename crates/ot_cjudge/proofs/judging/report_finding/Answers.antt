@@ -6,7 +6,7 @@ use Rattle.ot_cjudge.proofs.ReportLemmas.{if_both}
 use Rattle.ot_cjudge.proofs.judging.report_finding.Goals as goal
 
 pub returns-in-InRun : goal.returns-in-InRun
-returns-in-InRun c =
+returns-in-InRun c = λ first.
     let s = source_by c.args.source.now in
     let body = stmts_of c.args.program.now.body.items in
     if_both c.report_race.result _ _ (λ report. ReportsFinding s body c.args.finding report.verdict report.text.items)
@@ -14,7 +14,7 @@ returns-in-InRun c =
     c.report_race.ensures.verdict c.report_race.ensures.text
 
 pub returns-in-OnWay : goal.returns-in-OnWay
-returns-in-OnWay c =
+returns-in-OnWay c = λ first.
     let s = source_by c.args.source.now in
     let body = stmts_of c.args.program.now.body.items in
     if_both c.report_race-in-OnWay.result _ _ (λ report. ReportsFinding s body c.args.finding report.verdict report.text.items)
@@ -22,18 +22,18 @@ returns-in-OnWay c =
     c.report_race-in-OnWay.ensures.verdict c.report_race-in-OnWay.ensures.text
 
 pub returns-in-Nowhere : goal.returns-in-Nowhere
-returns-in-Nowhere c =
+returns-in-Nowhere c = λ first.
     let s = source_by c.args.source.now in
     let body = stmts_of c.args.program.now.body.items in
     if_both c.report_offence.result _ _ (λ report. ReportsFinding s body c.args.finding report.verdict report.text.items)
-    (λ report v t. subst (λ f. ReportsFinding s body f report.verdict report.text.items) (sym c.in-Nowhere.is) (v, t))
+    (λ report v t. subst (λ f. ReportsFinding s body f report.verdict report.text.items) (sym c.in-Nowhere.is) (v, (c.args.first, first, t)))
     c.report_offence.ensures.verdict c.report_offence.ensures.text
 
 pub returns-in_ok-told-in-OnlyRun : goal.returns-in_ok-told-in-OnlyRun
-returns-in_ok-told-in-OnlyRun c =
+returns-in_ok-told-in-OnlyRun c = λ first.
     let s = source_by c.args.source.now in
     let body = stmts_of c.args.program.now.body.items in
     if_both c.with_only_run.result _ _ (λ report. ReportsFinding s body c.args.finding report.verdict report.text.items)
     (λ report v t. subst (λ f. ReportsFinding s body f report.verdict report.text.items) (sym c.in-OnlyRun.is)
-    (v ∙ c.in_ok-told-in-OnlyRun.ensures.verdict, c.in_ok-told-in-OnlyRun.told.text.items, c.in_ok-told-in-OnlyRun.ensures.text, t))
+    (v ∙ c.in_ok-told-in-OnlyRun.ensures.verdict, c.in_ok-told-in-OnlyRun.told.text.items, (c.args.first, first, c.in_ok-told-in-OnlyRun.ensures.text), t))
     c.with_only_run.ensures.verdict c.with_only_run.ensures.text

@@ -12,7 +12,7 @@ use Rattle.ot_cjudge.proofs.judging.report_program.Goals as goal
 pub returns-in-Some : goal.returns-in-Some
 returns-in-Some c =
     let s = source_by c.args.source.now in
-    let body = stmts_of c.args.program.now.body.items in
+    let body = stmts_of c.args.program.body.items in
     if_both c.report_overlap.result _ _ (λ report. ReportsProgram s c.args.cells body report.verdict report.text.items)
     (λ report v t. (Some c.in-Some.entry, subst (IsFirst (items_of s.arrays s.request)) c.in-Some.is c.in_ok-entry.ensures, (v, t)))
     c.report_overlap.ensures.verdict c.report_overlap.ensures.text
@@ -20,7 +20,7 @@ returns-in-Some c =
 pub returns-in-None : goal.returns-in-None
 returns-in-None c =
     let s = source_by c.args.source.now in
-    let body = stmts_of c.args.program.now.body.items in
+    let body = stmts_of c.args.program.body.items in
     if_ok c.report_run.result _ (λ report. ReportsProgram s c.args.cells body report.verdict report.text.items)
     (λ report h. (None, subst (IsFirst (items_of s.arrays s.request)) c.in-None.is c.in_ok-entry.ensures, h))
     c.report_run.ensures

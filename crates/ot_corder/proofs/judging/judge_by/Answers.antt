@@ -1,7 +1,13 @@
+use Rattle.std.proofs.Common.{List, subst}
+use Rattle.std.specs.Prelude.{IfOk}
+use Rattle.ot_race.specs.Races.{TellsFirst}
+use Rattle.ot_race.specs.View.{events_in}
+use Rattle.ot_race.specs.declared.event.Event.{Event}
 use Rattle.ot_corder.proofs.judging.judge_by.Goals as goal
 
 pub returns-in-OfLanguage : goal.returns-in-OfLanguage
-returns-in-OfLanguage c = rw c.in-OfLanguage.is c.judge.ensures
+returns-in-OfLanguage c =
+    rw c.in-OfLanguage.is (subst (λ (es : List Event). IfOk c.judge.result (TellsFirst (events_in es))) c.deref.ensures.value c.judge.ensures)
 
 pub returns-in-OfC : goal.returns-in-OfC
 returns-in-OfC c = rw c.in-OfC.is c.judge_in_c.ensures

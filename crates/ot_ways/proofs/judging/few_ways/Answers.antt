@@ -5,10 +5,10 @@ use Rattle.ot_ways.proofs.judging.few_ways.Goals as goal
 
 pub returns-then-are_few : goal.returns-then-are_few
 returns-then-are_few c =
-    few_ways c.extent_all-extent.result.ways c.extent_all-extent.result.statements (stmts_of c.args.body.now.items) c.extent_all-extent.ensures.ways
-    c.extent_all-extent.ensures.statements (sym c.are_few.ensures ∙ c.if-are_few.true)
+    few_ways c.extent_all-extent.result.ways c.extent_all-extent.result.statements c.named_in-named.result (stmts_of c.args.body.now.items)
+    c.extent_all-extent.ensures.ways c.extent_all-extent.ensures.statements c.named_in-named.ensures (sym c.are_few.ensures ∙ c.if-are_few.true)
 
 pub returns-else-are_few : goal.returns-else-are_few
 returns-else-are_few c =
-    many_ways c.extent_all-extent.result.ways c.extent_all-extent.result.statements (stmts_of c.args.body.now.items) c.extent_all-extent.ensures.ways
-    c.extent_all-extent.ensures.statements (sym c.are_few.ensures ∙ c.if-are_few.false)
+    many_ways c.extent_all-extent.result.ways c.extent_all-extent.result.statements c.named_in-named.result (stmts_of c.args.body.now.items)
+    c.extent_all-extent.ensures.ways c.extent_all-extent.ensures.statements c.named_in-named.ensures (sym c.are_few.ensures ∙ c.if-are_few.false)

@@ -12,12 +12,12 @@ use Rattle.ot_ways.proofs.judging.judge_ways.Goals as goal
 pub returns-in-Some : goal.returns-in-Some
 returns-in-Some c =
     let body = stmts_of c.args.program.now.body.items in
-    let es = events_in c.deref.result.now in
+    let es = events_in c.in_ok-turns.field-0.events.items in
     let race = c.in-Some.race in
     let first : IsFirstRace (ordered_by c.args.order es) race.cell race.place race.later = subst (TellsFirst (ordered_by c.args.order es)) c.in-Some.is c.in_ok-race.ensures in (
       c.requires.few,
-      tells_race c.args.order body c.loop-way.way es c.in_ok-trail.trail.turns.items race (ap events_in c.deref.ensures.value ∙ c.in_ok-trail.ensures.events)
-          c.in_ok-trail.ensures.turns first,
+      tells_race c.args.order body c.loop-way.way es c.in_ok-turns.field-0.turns.items race c.in_ok-turns.ensures.events
+          c.in_ok-turns.ensures.turns first,
     )
 
 pub loop-way-preserved : goal.loop-way-preserved
@@ -26,8 +26,8 @@ loop-way-preserved c =
     let way = c.loop-way.way in
     let order = c.args.order in
     let here : NothingRaces (ordered_by order (events_on way None 0 1 body 0)) =
-    subst (λ es. NothingRaces (ordered_by order es)) (ap events_in c.deref.ensures.value ∙ c.in_ok-trail.ensures.events)
-    (subst (TellsFirst (ordered_by order (events_in c.deref.result.now))) c.in_default.is c.in_ok-race.ensures) in
+    subst (λ es. NothingRaces (ordered_by order es)) c.in_ok-turns.ensures.events
+    (subst (TellsFirst (ordered_by order (events_in c.in_ok-turns.field-0.events.items))) c.in_default.is c.in_ok-race.ensures) in
     λ n l. elim (cases_eq n way) [
       | inl same ↦ subst (λ (m : ℕ). NothingRaces (ordered_by order (events_on m None 0 1 body 0))) (sym same) here
       | inr apart ↦ c.loop-way.invariant n (omega (arith, l, apart))
