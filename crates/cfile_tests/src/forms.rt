@@ -12,7 +12,7 @@ const BEHIND: &str = "\n}\n}\n";
 const OPENED: &str = r#"["program2",[["a",0,4],["b",0,3],["x",0,1],["s",0,1]],[["group","+",[],["#;
 
 /// What stands in the region, and what stands in the group.
-const TAKEN: [(&str, &str); 27] = [
+const TAKEN: [(&str, &str); 28] = [
     ("x = a[2];", r#"["set",["c","x",0],["c","a",2]]"#),
     ("a[N - 1] = N;", r#"["set",["c","a",["-",3,1]],3]"#),
     ("x *= 2;", r#"["fold","*",["c","x",0],2]"#),
@@ -80,6 +80,10 @@ const TAKEN: [(&str, &str); 27] = [
     (
         "\n#pragma omp task depend(iterator(i = 1:3), in: a[i])\nx = 1;",
         r#"["task",[["in",["a",1,["-",3,1]]]],[["set",["c","x",0],1]]]"#,
+    ),
+    (
+        "\n#pragma omp task depend(in: a[1:N - 1]) depend(inout: b[N - 3:N])\nx = 1;",
+        r#"["task",[["in",["a",1,["+",["-",3,1],0]]],["inout",["b",["-",3,3],3]]],[["set",["c","x",0],1]]]"#,
     ),
     (
         "\n#pragma omp taskgroup task_reduction(max: x, a)\n{\n#pragma omp task in_reduction(max: x)\nx = max(x, b[0]);\n}",
@@ -233,12 +237,36 @@ const REFUSED: [(&str, Reason, usize, usize); 39] = [
 ];
 
 /// Files whole, and why and where they are refused.
-const FILES: [(&str, Reason, usize, usize); 14] = [
+const FILES: [(&str, Reason, usize, usize); 18] = [
     (
         "int a[2];\nint main(void) {\n#pragma omp parallel\n#pragma omp single\n{ uint64_t *p = &a[0]; }\n}",
         Reason::OtherType,
         5,
         3,
+    ),
+    (
+        "int a[2];\nint main(void) {\n#pragma omp parallel\n#pragma omp single\n{ }\nshow(&a[0], 2);\n}",
+        Reason::OtherType,
+        6,
+        1,
+    ),
+    (
+        "uint64_t a;\nint main(void) {\n#pragma omp parallel\n#pragma omp single\n{ }\nshow(&a[0], 1);\n}",
+        Reason::NoArray,
+        6,
+        1,
+    ),
+    (
+        "int main(void) {\n#pragma omp parallel\n#pragma omp single\n{ }\nshow(&a[0], 1);\n}",
+        Reason::Unknown,
+        5,
+        1,
+    ),
+    (
+        "uint64_t a, in;\nint main(void) {\n#pragma omp parallel\n#pragma omp single\n{ }\n}",
+        Reason::Reserved,
+        1,
+        1,
     ),
     (
         "uint64_t A;\nint main(void) {\n#pragma omp parallel\n#pragma omp single\n{ }\n}",

@@ -44,6 +44,8 @@ const MANY: &str = r#"[["for","i",0,11,[["if",["c","x",0],[["set",["c","a",1],"i
 /// Items that overlap, with the column of the statement that is told: of siblings, of one task, in two turns, of a wait, one that
 /// reads before one that writes, two that write behind one that reads. Behind them items that don't, or of which none writes: of a
 /// child and its parent, the same ones, one that only folds, two that read.
+/// At last iterators, whose cells are items of their own: beside a section of two of them, and a wait for such a section; and beside
+/// one of the cells, beside other iterators over some, in turns that move, within one task.
 const ITEMS: &str =
     r#"[["task",[["out",["a",0,2]]],[["set",["c","a",0],1]]],["task",[["in",["a",1,2]]],[]]]|3
 [["task",[["in",["a",0,2]],["inout",["a",1,2]]],[]]]|1
@@ -55,6 +57,12 @@ const ITEMS: &str =
 [["task",[["out",["a",0,2]]],[["set",["c","a",0],1]]],["task",[["out",["a",0,2]]],[["set",["c","a",0],1]]],["task",[["out",["a",2,2]]],[]]]|
 [["group","+",[["a",0,4]],[["task",[["red","+",["a",0,2]]],[["fold","+",["c","a",0],1]]],["task",[["red","+",["a",1,2]]],[["fold","+",["c","a",1],1]]]]]]|
 [["task",[["in",["a",0,4]],["out",["x",0,1]]],[["set",["c","x",0],["c","a",0]]]],["task",[["in",["a",0,1]]],[]]]|
+[["task",[["out",["a",0,["-",4,0]]]],[["set",["c","a",0],1]]],["task",[["in",["a",1,2]]],[]]]|3
+[["task",[["out",["a",0,["-",4,1]]]],[["set",["c","a",0],1]]],["wait",[["in",["a",2,["+",["-",4,2],0]]]]]]|3
+[["task",[["out",["a",0,["-",4,0]]]],[["set",["c","a",0],1]]],["task",[["in",["a",3,1]]],[]]]|
+[["task",[["out",["a",0,["-",3,0]]]],[["set",["c","a",0],1]]],["task",[["inout",["a",1,["-",4,1]]]],[["set",["c","a",1],1]]]]|
+[["for","i",0,3,[["task",[["out",["a","i",["-",["+","i",2],"i"]]]],[["set",["c","a","i"],1]]]]]]|
+[["task",[["in",["a",0,["-",2,0]]],["inout",["a",1,1]]],[["set",["c","a",1],1]]]]|
 "#;
 
 /// What is written about a text that this body stands for, where this orders its tasks. It is None where the body can't be read.
@@ -214,6 +222,6 @@ fn items(rt: HostRuntime) -> Result<(), Fail> {
             rows = rows.wrapping_add(1);
         }
     }
-    assert!(rt; rows == 10);
+    assert!(rt; rows == 16);
     Ok(())
 }

@@ -1,6 +1,7 @@
 -- Items of clauses as sections of arrays (OpenMP API 5.2, sections 3.2.4 and 3.2.6).
 use Rattle.std.specs.Prelude.{ℕ, ◌==◌, ◌-◌, Bool, false, ◌&&◌, [], ◌∷◌, Option, Some, None, Result, Ok, Err, codes, if◌then◌else◌}
 use Rattle.serde_json.specs.Data.{Data, string}
+use Rattle.ot_overlap.specs.Items.{is_difference}
 use Rattle.ot_words.specs.declared.word.Name.{Name}
 use Rattle.ot_words.specs.declared.word.Name.TheVariants as n
 use Rattle.ot_cread.specs.Tree.{Literal, Variable, Part, Whole, Cells, Entry, Span}
@@ -48,11 +49,15 @@ is_only p = false
 abbrev pub pointed : Around → ℕ → Pointee → Part → Sectioned
 pointed a at cell p = if is_only p then Ok (listed (string (text_of a.names cell.array) ∷ nat cell.place ∷ nat 1 ∷ [])) else Err (at, why.Pointee)
 
+-- how many cells an item has that no iterator counts: never a difference, which says that one does (`Items.is_iterated` of `ot_overlap`)
+abbrev pub plain : Data → Data
+plain d = if is_difference d then form (codes "+") (d ∷ nat 0 ∷ []) else d
+
 -- a part of what has so many cells
 abbrev pub part : Around → ℕ → Name → Option ℕ → Part → Sectioned
 part a at x length Whole = Ok (row a x (nat 0) (nat (count_of length)))
 part a at x None (Cells first count) = Err (at, why.NoArray)
-part a at x (Some n) (Cells first count) = size a at first >>= λ f. size a at count >>= λ c. Ok (row a x f.0 c.0)
+part a at x (Some n) (Cells first count) = size a at first >>= λ f. size a at count >>= λ c. Ok (row a x f.0 (plain c.0))
 
 -- whether both are the same name, which means nothing by itself
 unfoldable pub is_name : Name → Name → Bool
@@ -64,7 +69,7 @@ unfoldable pub is_counted : Name → Part → Bool
 is_counted variable (Cells (Variable x) (Literal n k)) = n == 1 && is_name x variable
 is_counted variable p = false
 
--- the cells of an array that an iterator counts
+-- the cells of an array that an iterator counts, each of which is an item: from a number up to another
 abbrev pub counted : Around → ℕ → Span → Name → Option ℕ → Part → Sectioned
 counted a at over x None p = Err (at, why.Iterator)
 counted a at over x (Some n) p =

@@ -1,5 +1,5 @@
 //! Items of clauses as sections of arrays.
-ghost use Rattle.std.specs.Prelude.{◌≡◌};
+ghost use Rattle.std.specs.Prelude.{◌≡◌, IfOk};
 ghost use Rattle.serde_json.specs.View.{view};
 ghost use Rattle.ot_cread.specs.Tree.{item_of, over_of, part_of, range_of};
 ghost use Rattle.ot_cscope.specs.Results.{Gives};
@@ -7,9 +7,10 @@ ghost use Rattle.ot_cclause.specs.Sections as meant;
 
 use ot_cread::{Expr, Item, Place, Range};
 use ot_cscope::{CFault, Pointee, Reason, Scope, Sense, constant, json, run_by, size};
+use ot_overlap::is_difference;
 use ot_words::{IntegerType, Name};
 use serde_json::Value;
-use std::alloc::Global;
+use std::alloc::{AllocError, Global};
 
 /// Why a name has no cells that a clause names.
 pub fn no_cells(sense: Sense) -> Reason
@@ -64,6 +65,16 @@ pub(crate) fn pointed(
     Ok(json::three(alloc, name, first, Value::from(1u64))?)
 }
 
+/// How many cells an item has that no iterator counts. A difference would say that one does.
+fn plain(alloc: Global, count: Value) -> Result<Value, AllocError>
+    ensures { IfOk result (λ v. view v ≡ meant.plain (view count)) }
+{
+    if is_difference(&count) {
+        return json::form2(alloc, "+", count, Value::from(0u64));
+    }
+    Ok(count)
+}
+
 /// A part of what has so many cells.
 pub(crate) fn part(
     alloc: Global,
@@ -87,6 +98,7 @@ pub(crate) fn part(
             }
             let (first, _) = size(alloc, scope, start, first)?;
             let (count, _) = size(alloc, scope, start, count)?;
+            let count = plain(alloc, count)?;
             Ok(json::three(alloc, name, first, count)?)
         }
     }

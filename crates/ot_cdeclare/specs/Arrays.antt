@@ -112,7 +112,7 @@ cells_of names meanings at k v = cells_in (outside names meanings false) at k v
 
 abbrev pub number_of : ℕ → Name → Result ℕ Refusal
 number_of at (n.Other i) = Ok i
-number_of at (n.Known k) = Err (at, why.NoName)
+number_of at (n.Known k) = Err (at, why.Reserved)
 
 abbrev pub name_by : ℕ → Option (String Global) → Result (List ℕ) Refusal
 name_by at None = Err (at, why.NoName)

@@ -204,7 +204,7 @@ pub fn number_of(start: usize, name: Name) -> Result<usize, CFault>
 {
     match name {
         Name::Other(number) => Ok(number),
-        Name::Known(_) => Err(CFault::Outside(start, Reason::NoName)),
+        Name::Known(_) => Err(CFault::Outside(start, Reason::Reserved)),
     }
 }
 

@@ -15,6 +15,7 @@ use Rattle.ot_cscope.specs.declared.scope.Sense.{Sense}
 use Rattle.ot_cscope.specs.declared.scope.Sense.TheVariants as means
 use Rattle.ot_cscope.specs.declared.scope.Turn.{Turn}
 use Rattle.ot_cscope.specs.Forms.{nat, form, listed}
+use Rattle.ot_cscope.specs.Kinds.{is_word}
 use Rattle.ot_cscope.specs.Results.{Refusal, ◌>>=◌}
 use Rattle.ot_cscope.specs.Scopes.{Around, text_of, sense, combines, with_turn, within_task}
 use Rattle.ot_cscope.specs.Sizes.{size}
@@ -86,9 +87,21 @@ waits a at (c ∷ cs) = wait_for a at (c ∷ cs)
 abbrev pub wait : Around → ℕ → List Claim → Lowered
 wait a at cs = region_at a at >>= λ x. waits a at cs
 
+-- cells of an array, to which `show` has a pointer: they are of type `uint64_t`
+abbrev pub shown_by : ℕ → Sense → Lowered
+shown_by at (means.Cells k (Some n)) = if is_word k then Ok none else Err (at, why.OtherType)
+shown_by at (means.Cells k None) = Err (at, why.NoArray)
+shown_by at means.Nothing = Err (at, why.Unknown)
+shown_by at (means.Constant n k) = Err (at, why.Constant)
+shown_by at (means.Turn k) = Err (at, why.LoopVariable)
+shown_by at means.Begins = Err (at, why.LoopVariable)
+shown_by at (means.Combined o k length) = Err (at, why.Combined)
+shown_by at (means.Pointer x p) = Err (at, why.Pointer)
+shown_by at (means.Function i) = Err (at, why.Function)
+
 -- cells that are shown outside of regions: all are, whatever is called for
-abbrev pub show : Around → ℕ → Lowered
-show a at = if a.inside then Err (at, why.Function) else Ok none
+abbrev pub show : Around → ℕ → Name → Lowered
+show a at x = if a.inside then Err (at, why.Function) else shown_by at (sense a x)
 
 -- ---- calls
 
@@ -193,7 +206,7 @@ unfoldable mutual
   statement o a (Yield left) = Ok none
   statement o a (Call left f es) = call o.functions a (byte_of o.starts left) f es
   statement o a (Print left es) = print a (byte_of o.starts left) es
-  statement o a (Show left x i n) = show a (byte_of o.starts left)
+  statement o a (Show left x i n) = show a (byte_of o.starts left) x
   statement o a (Point left p x i) = Ok none
 
   -- statements behind others

@@ -11,10 +11,11 @@ ghost use Rattle.ot_clower.specs.Statements as meant;
 
 use crate::assignment::assignment;
 use crate::lines::{Lines, copy, joined, no_lines, one_line, one_line_with};
-use ot_cclause::{Heading, Taking, group_operation, headed, operation_word};
+use ot_cclause::{Heading, Taking, group_operation, headed, no_cells, operation_word};
 use ot_cdeclare::byte_of;
 use ot_cmeaning::value;
 use ot_cread::{Clause, Expr, Operation, Sign};
+use ot_cscope::kind::is_word;
 use ot_cscope::{CFault, Reason, Scope, Sense, Turn, json, size};
 use ot_cstatement::{Stmt, Target, Turns};
 use ot_program::is_name;
@@ -295,14 +296,31 @@ pub(crate) fn group(
     Ok(one_line_with(alloc, start, statement, inner.places, inner.taking)?)
 }
 
+/// Cells of an array, to which `show` has a pointer.
+fn shown_by(alloc: Global, start: usize, sense: Sense) -> Result<Lines, CFault>
+    ensures { Gives lines_of result (meant.shown_by start sense) }
+{
+    match sense {
+        Sense::Cells(_, None) => Err(CFault::Outside(start, Reason::NoArray)),
+        Sense::Cells(kind, Some(_)) => {
+            if is_word(kind) {
+                Ok(no_lines(alloc))
+            } else {
+                Err(CFault::Outside(start, Reason::OtherType))
+            }
+        }
+        other => Err(CFault::Outside(start, no_cells(other))),
+    }
+}
+
 /// Cells that are shown outside of regions: all are, whatever is called for.
-fn show(alloc: Global, scope: &Scope<'_>, start: usize) -> Result<Lines, CFault>
-    ensures { Gives lines_of result (meant.show scope.now start) }
+fn show(alloc: Global, scope: &Scope<'_>, start: usize, array: Name) -> Result<Lines, CFault>
+    ensures { Gives lines_of result (meant.show scope.now start array) }
 {
     if scope.inside() {
         Err(CFault::Outside(start, Reason::Function))
     } else {
-        Ok(no_lines(alloc))
+        shown_by(alloc, start, scope.sense(array))
     }
 }
 
@@ -437,7 +455,9 @@ pub(crate) fn statement(
             call(alloc, source.functions, scope, start, *name, exprs)
         }
         Stmt::Print(left, exprs) => print(alloc, scope, byte_of(source.starts, *left), exprs),
-        Stmt::Show(left, _, _, _) => show(alloc, scope, byte_of(source.starts, *left)),
+        Stmt::Show(left, array, _, _) => {
+            show(alloc, scope, byte_of(source.starts, *left), *array)
+        }
     }
 }
 

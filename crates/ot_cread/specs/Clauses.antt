@@ -28,12 +28,12 @@ steps step (suc t) a ws = step a ws >>= λ x. if x.1 then steps step t x.0 x.2 e
 
 -- `:3]`, or `]` alone, which is one cell
 unfoldable pub length_at : List Word → Read
-length_at (w.Mark m.Colon ∷ ws) = value_at 48 1 ws >>= λ x. close_index_at x.1 >>= λ rest. Ok (x.0, rest)
+length_at (w.Mark m.Colon ∷ ws) = value_at 72 1 ws >>= λ x. close_index_at x.1 >>= λ rest. Ok (x.0, rest)
 length_at ws = close_index_at ws >>= λ rest. Ok (Literal 1 t.Int, rest)
 
 -- `[2:3]`, or nothing, which is all of it
 unfoldable pub part_at : List Word → Result (Part × List Word) Fault
-part_at (w.Mark m.OpenIndex ∷ ws) = value_at 48 1 ws >>= λ x. length_at x.1 >>= λ y. Ok (Cells x.0 y.0, y.1)
+part_at (w.Mark m.OpenIndex ∷ ws) = value_at 72 1 ws >>= λ x. length_at x.1 >>= λ y. Ok (Cells x.0 y.0, y.1)
 part_at ws = Ok (Whole, ws)
 
 -- where a clause has parts of arrays, or else all
@@ -112,9 +112,9 @@ range_at ws = do
   a ← open_at ws
   variable ← name_at a
   b ← assign_at variable.1
-  start ← value_at 48 1 b
+  start ← value_at 72 1 b
   c ← colon_at start.1
-  end ← value_at 48 1 c
+  end ← value_at 72 1 c
   d ← close_at end.1
   rest ← comma_at d
   Ok (record { variable = variable.0; start = start.0; end = end.0 }, rest)

@@ -7,4 +7,4 @@ use Rattle.ot_cread.specs.Spelling.{spelled, depth, IsPlain, goes_on}
 
 -- what is spelled with the fewest brackets is read as the value that was spelled, whatever follows that doesn't go on with it
 abbrev pub SpelledReadsAsItself : Type 0
-SpelledReadsAsItself = (e : E) (rest : List Word) → IsPlain e → depth e ≤ 48 → goes_on rest ≡ false → value_at 48 1 (spelled e ++ rest) ≡ Ok (e, rest)
+SpelledReadsAsItself = (e : E) (rest : List Word) → IsPlain e → depth e ≤ 72 → goes_on rest ≡ false → value_at 72 1 (spelled e ++ rest) ≡ Ok (e, rest)

@@ -13,7 +13,7 @@ use ot_words::{Known, Mark, Name, Word};
 use std::alloc::Global;
 
 /// How deep values nest: a bracket and what stands in it are two.
-const MAX_DEPTH: u32 = 48;
+const MAX_DEPTH: u32 = 72;
 
 /// How many signs stand in a row.
 const MAX_SIGNS: u32 = 24;
@@ -61,7 +61,7 @@ fn named(
     name: Name,
     words: &[Word],
 ) -> Result<(Expr, &[Word]), ReadError>
-    requires { depth ≤ 48 }
+    requires { depth ≤ 72 }
     ensures { Gives (λ x. (expr_of x.0, x.1.now)) result (named_at (value_at depth) name words.now) }
 {
     match words {
@@ -83,7 +83,7 @@ fn called(
     call: Call,
     words: &[Word],
 ) -> Result<(Expr, &[Word]), ReadError>
-    requires { depth ≤ 48 }
+    requires { depth ≤ 72 }
     ensures { Gives (λ x. (expr_of x.0, x.1.now)) result (called_at (value_at depth) call words.now) }
 {
     let rest = open_bracket(words)?;
@@ -99,7 +99,7 @@ fn called(
 #[cycle(value)]
 #[tactic(auto, unfolding(crate::specs::Reading::bracket_at))]
 fn bracket(alloc: Global, depth: u32, words: &[Word]) -> Result<(Expr, &[Word]), ReadError>
-    requires { depth ≤ 48 }
+    requires { depth ≤ 72 }
     ensures { Gives (λ x. (expr_of x.0, x.1.now)) result (bracket_at (value_at depth) words.now) }
 {
     match cast_end(words) {
@@ -124,7 +124,7 @@ fn prefixed(
     sign: Unary,
     words: &[Word],
 ) -> Result<(Expr, &[Word]), ReadError>
-    requires { depth ≤ 48 }
+    requires { depth ≤ 72 }
     ensures { Gives (λ x. (expr_of x.0, x.1.now)) result (prefixed_at (value_at depth) sign words.now) }
 {
     let (expr, rest) = value(alloc, depth, TIGHTEST, words)?;
@@ -134,7 +134,7 @@ fn prefixed(
 #[cycle(value)]
 #[tactic(auto, unfolding(crate::specs::Reading::operand_at))]
 fn operand(alloc: Global, depth: u32, words: &[Word]) -> Result<(Expr, &[Word]), ReadError>
-    requires { depth ≤ 48 }
+    requires { depth ≤ 72 }
     ensures { Gives (λ x. (expr_of x.0, x.1.now)) result (operand_at (value_at depth) words.now) }
 {
     match words {
@@ -163,7 +163,7 @@ fn more(
     left: Expr,
     words: &[Word],
 ) -> Result<(Expr, &[Word]), ReadError>
-    requires depth { depth ≤ 48 }
+    requires depth { depth ≤ 72 }
     requires turns { turns ≤ 24 }
     ensures { Gives (λ x. (expr_of x.0, x.1.now)) result (more_at (value_at depth) turns least (expr_of left) words.now) }
 {
@@ -199,7 +199,7 @@ fn choice(
     test: Expr,
     words: &[Word],
 ) -> Result<(Expr, &[Word]), ReadError>
-    requires { depth ≤ 48 }
+    requires { depth ≤ 72 }
     ensures { Gives (λ x. (expr_of x.0, x.1.now)) result (choice_at (value_at depth) least (expr_of test) words.now) }
 {
     let Some(rest) = question(least, words) else {
@@ -224,7 +224,7 @@ fn value(
     least: u32,
     words: &[Word],
 ) -> Result<(Expr, &[Word]), ReadError>
-    requires { depth ≤ 48 }
+    requires { depth ≤ 72 }
     ensures { Gives (λ x. (expr_of x.0, x.1.now)) result (value_at depth least words.now) }
 {
     if depth == 0 {
@@ -237,7 +237,7 @@ fn value(
 
 /// The value at the front, and the words behind it.
 pub fn read_value(alloc: Global, words: &[Word]) -> Result<(Expr, &[Word]), ReadError>
-    ensures { Gives (λ x. (expr_of x.0, x.1.now)) result (value_at 48 1 words.now) }
+    ensures { Gives (λ x. (expr_of x.0, x.1.now)) result (value_at 72 1 words.now) }
 {
     value(alloc, MAX_DEPTH, 1, words)
 }

@@ -7,6 +7,8 @@ pub enum Reason {
     Unknown,
     /// A name that the language doesn't have.
     NoName,
+    /// A name that is a word of C or of OpenMP's directives.
+    Reserved,
     /// A name that means something already.
     Twice,
     /// A pointer to a cell of another type than `uint64_t`.

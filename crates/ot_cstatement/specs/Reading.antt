@@ -103,7 +103,7 @@ in_part (Ok y) = Ok y
 in_part (Err f) = Err (Part f)
 
 abbrev pub value : List Word → Result (E × List Word) Fault
-value ws = in_part (value_at 48 1 ws)
+value ws = in_part (value_at 72 1 ws)
 
 -- `[3]`, or nothing
 unfoldable pub index_at : List Word → Result (Option E × List Word) Fault

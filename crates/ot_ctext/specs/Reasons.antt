@@ -95,6 +95,7 @@ mixed_reason = codes "all reductions of a text are by names, or all are by point
 abbrev pub program_reason : Reason → List ℕ
 program_reason why.Unknown = codes "this names what isn't declared"
 program_reason why.NoName = codes "a name here has 1 to 16 of a to z, 0 to 9 and _, a letter first"
+program_reason why.Reserved = codes "this word means something in C or in a directive, and names nothing else here"
 program_reason why.Twice = codes "this declares a name that means something already"
 program_reason why.OtherType = codes "a pointer points to a cell of type uint64_t"
 program_reason why.Conversion = codes "the type of what is assigned to may not hold this number"

@@ -80,6 +80,8 @@ pub(crate) fn program_reason(reason: Reason) -> &'static str
     match reason {
         Reason::Unknown => "this names what isn't declared",
         Reason::NoName => "a name here has 1 to 16 of a to z, 0 to 9 and _, a letter first",
+        Reason::Reserved =>
+            "this word means something in C or in a directive, and names nothing else here",
         Reason::Twice => "this declares a name that means something already",
         Reason::OtherType => "a pointer points to a cell of type uint64_t",
         Reason::Conversion => "the type of what is assigned to may not hold this number",

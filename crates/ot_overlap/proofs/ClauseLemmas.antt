@@ -12,7 +12,7 @@ use Rattle.serde_json.specs.declared.value.Value.{Value}
 use Rattle.ot_model.specs.Shapes.{Arrays}
 use Rattle.ot_program.specs.Meanings.{Bindings, position_of, size, section}
 use Rattle.ot_program.specs.Names.{is_word}
-use Rattle.ot_overlap.specs.Items.{depends, writes}
+use Rattle.ot_overlap.specs.Items.{depends, writes, is_iterated, is_difference}
 
 pub no_clause : (vs : List Value) → length vs ≢ 2 → depends (array (items_view vs)) ≡ None
 no_clause (a ∷ b ∷ []) other = absurd (other refl)
@@ -46,6 +46,28 @@ a_section shape variables (x ∷ y ∷ z ∷ []) n a b three p q r = rw (sym p, 
 a_section shape variables _ n a b three p q r = absurd (omega arith)
 
 pub ruleset sections = (no_section, a_section)
+
+-- ---- sections of iterators
+
+pub no_iterated : (vs : List Value) → length vs ≢ 3 → is_iterated (array (items_view vs)) ≡ false
+no_iterated (a ∷ b ∷ c ∷ []) other = absurd (other refl)
+no_iterated _ other = refl
+
+pub an_iterated : (vs : List Value) (b : Value) → length vs ≡ 3 → b ≡ get_or vs 2 b → is_iterated (array (items_view vs)) ≡ is_difference (view b)
+an_iterated (x ∷ y ∷ z ∷ []) b three r = rw (sym r) refl
+an_iterated _ b three r = absurd (omega arith)
+
+pub ruleset iterated = (no_iterated, an_iterated)
+
+pub no_difference : (vs : List Value) → length vs ≢ 3 → is_difference (array (items_view vs)) ≡ false
+no_difference (a ∷ b ∷ c ∷ []) other = absurd (other refl)
+no_difference _ other = refl
+
+pub a_difference : (vs : List Value) (t : Value) → length vs ≡ 3 → t ≡ get_or vs 0 t → is_difference (array (items_view vs)) ≡ is_word (view t) (codes "-")
+a_difference (x ∷ y ∷ z ∷ []) t three p = rw (sym p) refl
+a_difference _ t three p = absurd (omega arith)
+
+pub ruleset differences = (no_difference, a_difference)
 
 -- ---- the position of an array
 

@@ -1,5 +1,5 @@
 -- What is met in bodies and turns, one after the other, and in the items of clauses.
-use Rattle.std.proofs.Common.{◌≡◌, ℕ, suc, ◌+◌, ◌-◌, ◌<◌, ◌≤◌, List, [], ◌∷◌, ◌++◌, map, length, get_or, drop, refl, sym, ap, ◌∙◌, add-one, append_assoc, append-nil, arith, Bor}
+use Rattle.std.proofs.Common.{◌≡◌, ℕ, suc, Bool, ◌+◌, ◌-◌, ◌<◌, ◌≤◌, List, [], ◌∷◌, ◌++◌, map, length, get_or, drop, refl, sym, ap, ◌∙◌, add-one, append_assoc, append-nil, arith, Bor}
 use Rattle.std.proofs.Math.Seq.{drop-cons}
 use Rattle.std.proofs.lemmas.List.{drop_all, map-append}
 use Rattle.serde_json.specs.Data.{Data}
@@ -11,7 +11,7 @@ use Rattle.ot_place.specs.Texts.{Profile, text_by, text_at, first_copies, second
 use Rattle.ot_place.specs.declared.text.Text.{Text as CodeText}
 use Rattle.ot_place.specs.declared.text.Text.TheVariants as t
 use Rattle.ot_place.proofs.CopyLemmas.{copy_is}
-use Rattle.ot_overlap.specs.Items.{Named, Met, met_at, met_one, met_in, task_of, section_as, sections_among}
+use Rattle.ot_overlap.specs.Items.{Named, Met, each_cell, met_at, met_one, met_in, task_of, section_as, sections_among}
 use Rattle.ot_overlap.specs.declared.item.Item.{Item}
 
 -- ---- the items of a body
@@ -74,6 +74,25 @@ pub clauses_end : (arrays : List (List ℕ × ℕ)) (variables : Bindings) (f : 
 clauses_end arrays variables f vs i now all past h =
     let none : sections_among arrays variables (each (items_view (drop i vs))) ≡ [] = rw (drop_all i vs past) refl in
     sym (append-nil now) ∙ ap (λ ss. now ++ map f ss) (sym none) ∙ h
+
+-- ---- cells one by one
+
+pub cells_next : (f : Named → Item) (writing : Bool) (a start index behind : ℕ) (before now all : List Item) → index < behind → start ≡ index
+    → now ≡ before ++ f (writing, record { array = a; start = start; len = 1 }) ∷ []
+    → before ++ map f (each_cell writing a index (behind - index)) ≡ all
+    → now ++ map f (each_cell writing a (index + 1) (behind - (index + 1))) ≡ all
+cells_next f writing a start index behind before now all below same noted h =
+    let left : behind - index ≡ suc (behind - (index + 1)) = omega arith in
+    let rest = map f (each_cell writing a (index + 1) (behind - (index + 1))) in
+    let at : ℕ → Item = λ k. f (writing, record { array = a; start = k; len = 1 }) in
+    ap (λ xs. xs ++ rest) noted ∙ append_assoc before (at start ∷ []) rest ∙ ap (λ k. before ++ (at k ∷ rest)) same
+    ∙ ap (λ n. before ++ map f (each_cell writing a index n)) (sym left) ∙ h
+
+pub cells_end : (f : Named → Item) (writing : Bool) (a index behind : ℕ) (now all : List Item) → behind ≤ index
+    → now ++ map f (each_cell writing a index (behind - index)) ≡ all → now ≡ all
+cells_end f writing a index behind now all past h =
+    let none : behind - index ≡ 0 = omega arith in
+    sym (append-nil now) ∙ ap (λ n. now ++ map f (each_cell writing a index n)) (sym none) ∙ h
 
 -- ---- what is met, put together
 

@@ -1,5 +1,5 @@
 -- The items of a program's `depend` clauses, each with the entry that has it and with the task in whose body that entry is.
-use Rattle.std.specs.Prelude.{ℕ, Bool, false, not, ◌+◌, ◌++◌, if◌then◌else◌, List, [], ◌∷◌, map, flat_map, Option, Some, None, option_map, unwrap_or, codes}
+use Rattle.std.specs.Prelude.{ℕ, zero, suc, Bool, true, false, not, ◌+◌, ◌++◌, if◌then◌else◌, List, [], ◌∷◌, map, flat_map, Option, Some, None, option_map, unwrap_or, codes}
 use Rattle.serde_json.specs.Data.{Data, array, no_items, item}
 use Rattle.ot_model.specs.Shapes.{Arrays}
 use Rattle.ot_model.specs.declared.expr.Section.{Section}
@@ -10,12 +10,33 @@ use Rattle.ot_program.specs.Profiles.{profile_of}
 use Rattle.ot_program.specs.Programs.{program_copy}
 use Rattle.ot_overlap.specs.declared.item.Item.{Item}
 
--- what a clause names: whether it writes there, and the section
+-- a list item that a clause names: whether it writes there, and the section
 abbrev pub Named : Type 0
 Named = Bool × Section
 
 abbrev pub item_of : ℕ → ℕ → Named → Item
 item_of parent entry named = record { parent = parent; entry = entry; writes = named.0; section = named.1 }
+
+-- ---- list items: a section is one, and so is each cell that an iterator names (OpenMP API 5.2, sections 3.2.5 and 3.2.6)
+
+-- Whether a section, `[name, first, length]`, has a difference for its length. In what stands for C only that of an iterator has,
+-- which counts from a number up to another.
+abbrev pub is_difference : Data → Bool
+is_difference (array (item t (item a (item b no_items)))) = is_word t (codes "-")
+is_difference _ = false
+
+abbrev pub is_iterated : Data → Bool
+is_iterated (array (item name (item first (item length no_items)))) = is_difference length
+is_iterated _ = false
+
+-- so many cells of an array from an index on, one by one
+abbrev pub each_cell : Bool → ℕ → ℕ → ℕ → List Named
+each_cell writing a index zero = []
+each_cell writing a index (suc n) = (writing, record { array = a; start = index; len = 1 }) ∷ each_cell writing a (index + 1) n
+
+abbrev pub list_items : Bool → Bool → Section → List Named
+list_items writing true s = each_cell writing s.array s.start s.len
+list_items writing false s = (writing, s) ∷ []
 
 -- ---- the clauses of a statement
 
@@ -35,7 +56,7 @@ over arrays = record { arrays = arrays; tasks = 0 }
 
 abbrev pub section_by : List (List ℕ × ℕ) → Bindings → Bool → Option Data → List Named
 section_by arrays variables writing None = []
-section_by arrays variables writing (Some named) = (writing, section (over arrays) variables named) ∷ []
+section_by arrays variables writing (Some named) = list_items writing (is_iterated named) (section (over arrays) variables named)
 
 abbrev pub section_as : List (List ℕ × ℕ) → Bindings → Data → List Named
 section_as arrays variables clause = section_by arrays variables (writes clause) (depends clause)

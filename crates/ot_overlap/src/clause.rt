@@ -64,6 +64,54 @@ fn writes_in(items: &[Value]) -> bool
     }
 }
 
+ghost use Rattle.ot_overlap.specs.Items.{is_iterated, is_difference};
+
+/// Whether a section is that of an iterator, whose length is a difference.
+pub(crate) fn is_iterated(section: &Value) -> bool
+    ensures { result ≡ is_iterated (view section.now) }
+{
+    match section {
+        Value::Array(items) => is_iterated_in(items),
+        _ => false,
+    }
+}
+
+#[tactic(auto, using(crate::proofs::ClauseLemmas::iterated))]
+fn is_iterated_in(items: &[Value]) -> bool
+    ensures { result ≡ is_iterated (array (items_view items.now)) }
+{
+    if items.len() != 3 {
+        return false;
+    }
+    match items {
+        [_, _, length] => is_difference(length),
+        _ => unreachable!(),
+    }
+}
+
+/// Whether a size is a difference: that of a section where an iterator names its cells.
+pub fn is_difference(size: &Value) -> bool
+    ensures { result ≡ is_difference (view size.now) }
+{
+    match size {
+        Value::Array(items) => is_difference_in(items),
+        _ => false,
+    }
+}
+
+#[tactic(auto, using(crate::proofs::ClauseLemmas::differences))]
+fn is_difference_in(items: &[Value]) -> bool
+    ensures { result ≡ is_difference (array (items_view items.now)) }
+{
+    if items.len() != 3 {
+        return false;
+    }
+    match items {
+        [tag, _, _] => is_word(tag, "-"),
+        _ => unreachable!(),
+    }
+}
+
 ghost use Rattle.ot_model.specs.ShapeView.{arrays_of};
 ghost use Rattle.ot_place.specs.Seeking.{bindings_of};
 ghost use Rattle.ot_program.specs.Meanings.{section};
@@ -126,7 +174,7 @@ fn position_of(arrays: &[ArrayShape], name: &str) -> Result<u32, AllocError>
 }
 
 /// A number of 32 bits. Programs that were read have no others.
-fn short(number: u64) -> Result<u32, AllocError>
+pub(crate) fn short(number: u64) -> Result<u32, AllocError>
     ensures { IfOk result (λ same. same ≡ number) }
 {
     match u32::try_from(number) {

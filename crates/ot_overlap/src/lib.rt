@@ -9,4 +9,5 @@ mod order;
 mod request;
 mod walk;
 
+pub use clause::is_difference;
 pub use request::first_overlap;

@@ -8,8 +8,8 @@ ghost use Rattle.ot_place.specs.Seeking.{bindings_of};
 ghost use Rattle.ot_overlap.specs.Items.{met_at, met_one, met_in, task_of};
 ghost use Rattle.ot_overlap.specs.View.{met_by, arrays_by};
 
-use crate::clause::{depends, section_of, writes};
-use crate::item::Item;
+use crate::clause::{depends, is_iterated, section_of, writes};
+use crate::item::{Item, note_items};
 use ot_model::ArrayShape;
 use ot_place::{Profile, Text, Trail, Turn, letters, size_of, text_of};
 use serde_json::Value;
@@ -285,12 +285,12 @@ impl Walk<'_> {
             return Ok(());
         };
         let section = section_of(self.arrays, named, trail)?;
-        noted.push(Item {
+        let item = Item {
             parent,
             entry,
             writes: writes(clause),
             section,
-        })?;
-        Ok(())
+        };
+        note_items(item, is_iterated(named), noted)
     }
 }
