@@ -1,2 +1,8 @@
+mod UsesLemmas
+mod ClauseLemmas
+mod HeadingLemmas
+mod ReadLemmas
+mod TextLemmas
 mod ValueLemmas
 mod StatementLemmas
+mod BodyLemmas

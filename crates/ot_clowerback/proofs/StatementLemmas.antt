@@ -86,7 +86,7 @@ module _ (number : Text → ℕ) (names : List Text) (shape : Arrays) (o : Origi
       let at = byte_of o.starts left in
       rw (fold_assigned at sign by c (tree_of arrays e) (value_text shape e) (kind_of e) is_by adds (kept at) cell.0 (lowered number names shape a at knows e fits)) refl
 
-  into_cell : (left : ℕ) (op : Operation) (c : Cell) (e : E) → Fits names (CellAt c) → Fits names e
+  pub into_cell : (left : ℕ) (op : Operation) (c : Cell) (e : E) → Fits names (CellAt c) → Fits names e
       → IfSome (profile_of program2) (λ two. statement o a (folded_tree left (fold_form op) (arrays c.array) c.index (tree_of arrays e)) ≡ Ok (one (byte_of o.starts left) (statement_text shape two (fold_as_shown op c e)) []))
   into_cell left f.Plus c e cell fits = sign_lowered left s.Plus reductions.Plus c e refl refl (λ at. rw (word_second (kind_of e)) refl) cell fits
   into_cell left f.Times c e cell fits = sign_lowered left s.Times reductions.Times c e refl refl (λ at. rw (word_second (kind_of e)) refl) cell fits

@@ -1,24 +1,28 @@
 -- What becomes of trees that are written in C.
-use Rattle.std.specs.Prelude.{◌≡◌, ℕ, true, false, List, [], IfSome, None, Ok}
+use Rattle.std.specs.Prelude.{◌≡◌, ℕ, ◌≤◌, true, false, List, [], length, IfSome, None, Ok}
 use Rattle.ot_model.specs.Shapes.{Arrays}
-use Rattle.ot_model.specs.Tree.{E, CellAt, Set, Wait}
+use Rattle.ot_model.specs.Tree.{E, CellAt, Set, Wait, Body}
 use Rattle.ot_model.specs.declared.expr.Cell.{Cell}
 use Rattle.ot_model.specs.declared.fold.Fold.{Fold as Operation}
 use Rattle.ot_model.specs.declared.stmt.Use.{Use}
+use Rattle.ot_print.specs.Laws.{OnlyDepends}
 use Rattle.ot_print.specs.Shown.{Text, name}
 use Rattle.ot_program.specs.Printed.{value_text, statement_text}
 use Rattle.ot_program.specs.Profiles.{profile_of}
-use Rattle.ot_c.specs.Laws.{normal_fold}
+use Rattle.ot_c.specs.Laws.{normal_fold, normal}
 use Rattle.ot_c.specs.Statements.{only_folds}
+use Rattle.ot_cstatement.specs.Tree as tree
 use Rattle.ot_cscope.specs.Scopes.{Around}
 use Rattle.ot_cmeaning.specs.Values.{value}
 use Rattle.ot_cdeclare.specs.Places.{byte_of}
 use Rattle.ot_clower.specs.Lines.{one}
-use Rattle.ot_clower.specs.Statements.{Origin, statement}
+use Rattle.ot_clower.specs.Statements.{Origin, statement, body}
 use Rattle.ot_cback.specs.Numbering.{name_of}
 use Rattle.ot_cback.specs.Values.{tree_of, Fits}
 use Rattle.ot_cback.specs.Assignments.{set_tree, fold_tree}
+use Rattle.ot_cback.specs.Bodies.{body_trees}
 use Rattle.ot_cback.specs.Waits.{wait_tree}
+use Rattle.ot_clowerback.specs.Bodies.{AreFound, BodyIsPlain, places, Becomes}
 use Rattle.ot_clowerback.specs.Known.{program2, KnowsArrays, kind_of}
 
 -- the tree of a value becomes the text of the value, which is no negative number
@@ -40,3 +44,9 @@ FoldTreeIsLowered = (number : Text → ℕ) (names : List Text) (shape : Arrays)
 abbrev pub WaitTreeIsLowered : Type 0
 WaitTreeIsLowered = (number : Text → ℕ) (names : List Text) (shape : Arrays) (o : Origin) (a : Around) (left : ℕ) → a.inside ≡ true
     → IfSome (profile_of program2) (λ two. statement o a (wait_tree number names left []) ≡ Ok (one (byte_of o.starts left) (statement_text shape two (Wait None)) []))
+
+-- the trees of a body that reduces nothing, in a region, become texts that are read as the body as far as C tells it, at the places where the trees stand
+abbrev pub BodyTreesAreLowered : Type 0
+BodyTreesAreLowered = (number : Text → ℕ) (names : List Text) (shape : Arrays) (o : Origin) (a : Around) (own : List Use) (b : Body) (k : ℕ) → KnowsArrays number names shape a → AreFound names shape → a.inside ≡ true → OnlyDepends own → BodyIsPlain names b
+    → length (places o.starts (tree.body_of (body_trees number names own k b))) ≤ 20000
+    → Becomes shape (body o a (tree.body_of (body_trees number names own k b))) (places o.starts (tree.body_of (body_trees number names own k b))) (normal own b)

@@ -1,5 +1,5 @@
 //! Laws of what becomes of trees that are written in C. Each is the contract of a function that does nothing.
-ghost use Rattle.ot_clowerback.specs.Laws.{ValueTreeIsLowered, SetTreeIsLowered, FoldTreeIsLowered, WaitTreeIsLowered};
+ghost use Rattle.ot_clowerback.specs.Laws.{ValueTreeIsLowered, SetTreeIsLowered, FoldTreeIsLowered, WaitTreeIsLowered, BodyTreesAreLowered};
 
 /// The tree of a value becomes the value.
 pub fn value_tree_is_lowered()
@@ -19,4 +19,9 @@ pub fn fold_tree_is_lowered()
 /// The tree of a wait for all becomes the wait.
 pub fn wait_tree_is_lowered()
     ensures { WaitTreeIsLowered }
+{}
+
+/// The trees of a body that reduces nothing become the body as far as C tells it, each statement where it stands.
+pub fn body_trees_are_lowered()
+    ensures { BodyTreesAreLowered }
 {}
