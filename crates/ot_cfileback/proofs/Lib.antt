@@ -1,3 +1,3 @@
 mod FrontLemmas
 mod PartLemmas
-mod FileLemmas
+pub mod FileLemmas

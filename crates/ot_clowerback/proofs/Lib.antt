@@ -1,8 +1,8 @@
 mod UsesLemmas
-mod ClauseLemmas
-mod HeadingLemmas
+pub mod ClauseLemmas
+pub mod HeadingLemmas
 mod ReadLemmas
 mod TextLemmas
 mod ValueLemmas
 mod StatementLemmas
-mod BodyLemmas
+pub mod BodyLemmas

@@ -1,0 +1,3 @@
+mod DeclarationLemmas
+mod PointerLemmas
+mod FileLemmas
