@@ -1,5 +1,5 @@
 -- The tree of a value becomes the value.
-use Rattle.std.proofs.Common.{◌≡◌, ℕ, ◌<◌, List, [], ◌∷◌, length, Bool, true, false, Ok, refl, ap, ◌∙◌, arith}
+use Rattle.std.proofs.Common.{◌≡◌, ℕ, List, [], ◌∷◌, Bool, true, false, ◌||◌, Ok, refl, ap, ◌∙◌, arith}
 use Rattle.std.specs.Prelude.{◌==◌, codes, if◌then◌else◌}
 use Rattle.std.proofs.lemmas.Bool.Decides.{nat_tests}
 use Rattle.serde_json.specs.Data.{Data, string, array}
@@ -11,6 +11,7 @@ use Rattle.ot_model.specs.declared.expr.Op.TheVariants as op
 use Rattle.ot_model.specs.declared.expr.Section.{Section}
 use Rattle.ot_print.specs.Shown.{Text, name}
 use Rattle.ot_program.specs.Printed.{three, num, name_at, value_text}
+use Rattle.ot_c.specs.Named.{is_array, value_names}
 use Rattle.ot_c.specs.Values.{is_int, is_number, is_comparison}
 use Rattle.ot_words.specs.declared.word.IntegerType.{IntegerType}
 use Rattle.ot_words.specs.declared.word.IntegerType.TheVariants as t
@@ -28,8 +29,8 @@ use Rattle.ot_cscope.specs.Sizes.{size}
 use Rattle.ot_cmeaning.specs.Arithmetic.{Valued, whole, call_word}
 use Rattle.ot_cmeaning.specs.Values.{value, indexed, behind}
 use Rattle.ot_cback.specs.Numbering.{name_of}
-use Rattle.ot_cback.specs.Values.{Before, constant_type, constant_tree, as_operand_tree, as_left_tree, applied_tree, tree_of, Fits}
-use Rattle.ot_clowerback.specs.Known.{KnowsArrays, kind_of}
+use Rattle.ot_cback.specs.Values.{Before, constant_type, constant_tree, as_operand_tree, as_left_tree, applied_tree, tree_of}
+use Rattle.ot_clowerback.specs.Known.{KnowsArrays, ValueKnown, kind_of}
 
 -- ---- types
 
@@ -93,12 +94,24 @@ module _ (a : Around) (at : ℕ) where
   counted_valued true v = literal_valued v t.UnsignedLong
   counted_valued false v = literal_valued v (constant_type v)
 
+-- ---- arrays
+
+pub itself : (x : ℕ) → (x == x) ≡ true
+itself x = grind (arith, nat_tests)
+
+pub or_left : (a b : Bool) → a ≡ true → (a || b) ≡ true
+or_left a b is = rw is refl
+
+pub or_right : (a b : Bool) → b ≡ true → (a || b) ≡ true
+or_right true b is = refl
+or_right false b is = is
+
 -- ---- cells
 
 is_zero : (v : ℕ) → (v == 0) ≡ true → 0 ≡ v
 is_zero v is = grind (arith, nat_tests)
 
-module _ (number : Text → ℕ) (names : List Text) (shape : Arrays) (a : Around) (at : ℕ) (knows : KnowsArrays number names shape a) where
+module _ (number : Text → ℕ) (names : List Text) (shape : Arrays) (known : ℕ → Bool) (a : Around) (at : ℕ) (knows : KnowsArrays number names shape known a) where
   abbrev arrays : ℕ → Name
   arrays i = name_of number (name names i)
 
@@ -112,7 +125,7 @@ module _ (number : Text → ℕ) (names : List Text) (shape : Arrays) (a : Aroun
   abbrev IsValued : E → Type 0
   IsValued e = value a at (tree_of arrays e) ≡ valued (value_text shape e) (kind_of e)
 
-  cell_valued : (c : Cell) → c.array < length names → IsValued (CellAt c)
+  cell_valued : (c : Cell) → known c.array ≡ true → IsValued (CellAt c)
   unfolding value indexed size
   cell_valued c within =
       let is = (knows.cells c.array within).1 in
@@ -122,21 +135,21 @@ module _ (number : Text → ℕ) (names : List Text) (shape : Arrays) (a : Aroun
   abbrev picked : Section → ℕ → Data → Data
   picked s start x = array (three (string (codes "pick")) (array (three (name_at shape s.array) (num start) (num s.len))) x)
 
-  first_valued : (s : Section) (e : tree.E) (x : Data) (k : IntegerType) → s.array < length names → value a at e ≡ valued x k
+  first_valued : (s : Section) (e : tree.E) (x : Data) (k : IntegerType) → known s.array ≡ true → value a at e ≡ valued x k
       → value a at (tree.CellAt (arrays s.array) (tree.Apply signs.Rest e (constant_tree s.len))) ≡ valued (picked s 0 x) t.UnsignedLong
   unfolding value indexed size
   first_valued s e x k within is =
       let sense_is = (knows.cells s.array within).1 in
       rw (none_touched (arrays s.array) (tree.Apply signs.Rest e (constant_tree s.len)), sense_is, knows.text s.array within, is) refl
 
-  later_valued : (s : Section) (e : tree.E) (x : Data) (k : IntegerType) → s.array < length names → value a at e ≡ valued x k
+  later_valued : (s : Section) (e : tree.E) (x : Data) (k : IntegerType) → known s.array ≡ true → value a at e ≡ valued x k
       → value a at (tree.CellAt (arrays s.array) (tree.Apply signs.Plus (constant_tree s.start) (tree.Apply signs.Rest e (constant_tree s.len)))) ≡ valued (picked s s.start x) t.UnsignedLong
   unfolding value indexed behind size
   later_valued s e x k within is =
       let sense_is = (knows.cells s.array within).1 in
       rw (none_touched (arrays s.array) (tree.Apply signs.Plus (constant_tree s.start) (tree.Apply signs.Rest e (constant_tree s.len))), sense_is, knows.text s.array within, is) refl
 
-  pick_valued : (plain : Bool) (s : Section) (e : tree.E) (x : Data) (k : IntegerType) → (s.start == 0) ≡ plain → s.array < length names → value a at e ≡ valued x k
+  pick_valued : (plain : Bool) (s : Section) (e : tree.E) (x : Data) (k : IntegerType) → (s.start == 0) ≡ plain → known s.array ≡ true → value a at e ≡ valued x k
       → value a at (tree.CellAt (arrays s.array) (if plain then tree.Apply signs.Rest e (constant_tree s.len) else tree.Apply signs.Plus (constant_tree s.start) (tree.Apply signs.Rest e (constant_tree s.len)))) ≡ valued (picked s s.start x) t.UnsignedLong
   pick_valued true s e x k zero within is = first_valued s e x k within is ∙ ap (λ v. valued (picked s v x) t.UnsignedLong) (is_zero s.start zero)
   pick_valued false s e x k zero within is = later_valued s e x k within is
@@ -168,8 +181,11 @@ module _ (number : Text → ℕ) (names : List Text) (shape : Arrays) (a : Aroun
   apply_valued op.Min e f one two = before_valued c.Min e f one two
   apply_valued op.Max e f one two = before_valued c.Max e f one two
 
-  pub lowered : (e : E) → Fits names e → IsValued e
-  lowered (Literal v) fits = literal_valued a at v (constant_type v)
-  lowered (CellAt c) fits = cell_valued c fits.0
-  lowered (Apply o e f) fits = apply_valued o e f (lowered e fits.0) (lowered f fits.1)
-  lowered (PickFrom s e) fits = pick_valued (s.start == 0) s (as_operand_tree e (tree_of arrays e)) (value_text shape e) (operand_kind e) refl fits.0 (operand_valued e (lowered e fits.3))
+  pub lowered : (e : E) → ValueKnown known e → IsValued e
+  lowered (Literal v) all = literal_valued a at v (constant_type v)
+  lowered (CellAt c) all = cell_valued c (all c.array (itself c.array))
+  lowered (Apply o e f) all =
+      apply_valued o e f (lowered e (λ i h. all i (or_left (value_names i e) (value_names i f) h))) (lowered f (λ i h. all i (or_right (value_names i e) (value_names i f) h)))
+  lowered (PickFrom s e) all =
+      let here = all s.array (or_left (is_array s.array s.array) (value_names s.array e) (itself s.array)) in
+      pick_valued (s.start == 0) s (as_operand_tree e (tree_of arrays e)) (value_text shape e) (operand_kind e) refl here (operand_valued e (lowered e (λ i h. all i (or_right (is_array i s.array) (value_names i e) h))))

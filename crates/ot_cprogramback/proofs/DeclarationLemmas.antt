@@ -1,5 +1,5 @@
 -- Declared arrays are the program's, and their names mean their cells.
-use Rattle.std.proofs.Common.{◌≡◌, ◌≢◌, inl, inr, ℕ, zero, suc, ◌-◌, ◌<◌, ◌≤◌, List, [], ◌∷◌, ◌++◌, length, map, true, false, Some, None, Result, Ok, refl, sym, ap, ◌∙◌, subst, append_assoc, arith}
+use Rattle.std.proofs.Common.{Bool, ◌≡◌, ◌≢◌, inl, inr, ℕ, zero, suc, ◌-◌, ◌<◌, ◌≤◌, List, [], ◌∷◌, ◌++◌, length, map, true, false, Some, None, Result, Ok, refl, sym, ap, ◌∙◌, subst, append_assoc, arith}
 use Rattle.std.specs.Prelude.{◌==◌, nat_lt, slice_get, slice_set, replicate, String, string_bytes}
 use Rattle.std.specs.declared.alloc.Global.{Global}
 use Rattle.std.proofs.lemmas.Bool.Decides.{nat_tests}
@@ -138,19 +138,19 @@ module _ (number : Text → ℕ) (words : List (String Global)) where
 
   -- ---- all of them
 
-  module _ (names : List Text) (shape : Arrays) (ds : List Declared) (ms : List Meaning) (fits : DeclarationsFit number words ds) (new : AreNew ms ds) (declared : (i : ℕ) → i < length names → IsDeclared (name names i) ds)
-      (text : (i : ℕ) → i < length names → string (name names i) ≡ name_at shape i) where
+  module _ (names : List Text) (shape : Arrays) (ds : List Declared) (ms : List Meaning) (fits : DeclarationsFit number words ds) (new : AreNew ms ds) (known : ℕ → Bool) (declared : (i : ℕ) → known i ≡ true → IsDeclared (name names i) ds)
+      (text : (i : ℕ) → known i ≡ true → string (name names i) ≡ name_at shape i) where
     abbrev around : Around
     around = outside words (with_all ms ds) true
 
-    known : (i : ℕ) → i < length names → IsKnown (with_all ms ds) (name names i)
-    known i within = all_known ms ds (name names i) fits new (declared i within)
+    each_known : (i : ℕ) → known i ≡ true → IsKnown (with_all ms ds) (name names i)
+    each_known i named = all_known ms ds (name names i) fits new (declared i named)
 
-    cells_known : (i : ℕ) → i < length names → (count : ℕ) × (sense around (name_of number (name names i)) ≡ s.Cells t.UnsignedLong (Some count))
-    cells_known i within = let is = known i within in (is.count, rw (is.free, is.meaning) refl)
+    cells_known : (i : ℕ) → known i ≡ true → (count : ℕ) × (sense around (name_of number (name names i)) ≡ s.Cells t.UnsignedLong (Some count))
+    cells_known i named = let is = each_known i named in (is.count, rw (is.free, is.meaning) refl)
 
-    text_known : (i : ℕ) → i < length names → string (name_text around (name_of number (name names i))) ≡ name_at shape i
-    text_known i within = let is = known i within in rw (is.free, is.word.1, is.word.2) (text i within)
+    text_known : (i : ℕ) → known i ≡ true → string (name_text around (name_of number (name names i))) ≡ name_at shape i
+    text_known i named = let is = each_known i named in rw (is.free, is.word.1, is.word.2) (text i named)
 
-    pub knows : KnowsArrays number names shape around
+    pub knows : KnowsArrays number names shape known around
     knows = record { cells = cells_known; text = text_known; closed = refl }

@@ -1,5 +1,5 @@
 -- The tree of a file becomes its program.
-use Rattle.std.proofs.Common.{◌≡◌, ℕ, suc, ◌+◌, ◌<◌, ◌≤◌, List, [], ◌∷◌, ◌++◌, length, map, true, false, Some, Ok, refl, sym, ap, ◌∙◌, subst, append_assoc, arith}
+use Rattle.std.proofs.Common.{Bool, ◌≡◌, ℕ, suc, ◌+◌, ◌≤◌, List, [], ◌∷◌, ◌++◌, length, map, true, false, Some, Ok, refl, sym, ap, ◌∙◌, subst, append_assoc, arith}
 use Rattle.std.specs.Prelude.{nat_lt, slice_get, replicate, String, codes}
 use Rattle.std.specs.declared.alloc.Global.{Global}
 use Rattle.std.proofs.lemmas.Bool.Decides.{nat_tests}
@@ -17,6 +17,7 @@ use Rattle.ot_program.specs.Copies.{copies, copies_of, copy}
 use Rattle.ot_program.specs.Printed.{four, name_at}
 use Rattle.ot_c.specs.Arrays.{Declared}
 use Rattle.ot_c.specs.Laws.{normal}
+use Rattle.ot_c.specs.Named.{body_names}
 use Rattle.ot_words.specs.declared.word.IntegerType.TheVariants as t
 use Rattle.ot_words.specs.declared.word.Name.{Name}
 use Rattle.ot_cread.specs.Tree as values
@@ -166,13 +167,13 @@ module _ (number : Text → ℕ) (words : List (String Global)) (starts : List �
   abbrev grouped : List Data → Data
   grouped ts = array (four (string (codes "group")) (string (codes "+")) (array (items_of [])) (array (items_of ts)))
 
-  region_step : (names : List Text) (shape : Arrays) (found : AreFound names shape) (d : D) (known : KnowsArrays number names shape (outside words d.meanings true)) (left k : ℕ) (b : Body) → BodyIsPlain names b
+  region_step : (names : List Text) (shape : Arrays) (known : ℕ → Bool) (d : D) (knows_all : KnowsArrays number names shape known (outside words d.meanings true)) (left k : ℕ) (b : Body) → BodyIsPlain names b
       → (given : Becomes shape (body origin (outside words d.meanings true) (tree.body_of (body_trees number names [] k b))) (places starts (tree.body_of (body_trees number names [] k b))) (normal [] b))
       → suc (length (places starts (tree.body_of (body_trees number names [] k b)))) ≤ 20000
       → main_step words starts origin (so_far d [] []) (Region left [] (tree.body_of (body_trees number names [] k b))) ≡ Ok (so_far d (grouped given.texts ∷ []) (byte_of starts left ∷ places starts (tree.body_of (body_trees number names [] k b))))
-  region_step names shape found d known left k b plain given small =
+  region_step names shape known d knows_all left k b plain given small =
       let inner = tree.body_of (body_trees number names [] k b) in
-      rw (none_from words starts d number names [] b k plain, heading_is number names shape (outside words d.meanings true) (byte_of starts left) known [] tt tt, given.is, few (0 + suc (length (places starts inner))) (omega (arith, small))) refl
+      rw (none_from words starts d number names [] b k plain, heading_is number names shape known (outside words d.meanings true) (byte_of starts left) knows_all [] tt tt, given.is, few (0 + suc (length (places starts inner))) (omega (arith, small))) refl
 
   group_read : (shape : Arrays) (ts : List Data) (b : Body) → AreRead shape ts b → AreRead shape (grouped ts ∷ []) (Next (Group Plus [] b) End)
   unfolding copies copies_of copy
@@ -184,13 +185,14 @@ module _ (number : Text → ℕ) (words : List (String Global)) (starts : List �
       → lowered words starts (record { tops = []; main = acts }) ≡ Ok (record { arrays = d.arrays; program = form (codes "program2") (listed (map shown_array d.arrays) ∷ listed ts ∷ []); places = bs; reductions = r.ByNames })
   whole_is acts d ts bs is = rw (no_more (top_step words starts) (nothing words), is) refl
 
-  pub file_lowered : (names : List Text) (shape : Arrays) (ds : List Declared) (p : Expanded) (k : ℕ) → DeclarationsFit number words ds → ((i : ℕ) → i < length names → IsDeclared (name names i) ds)
-      → ((i : ℕ) → i < length names → string (name names i) ≡ name_at shape i) → AreFound names shape → BodyIsPlain names p.body → length (act_places starts (acts number names k (parts ds p))) ≤ 20000
+  pub file_lowered : (names : List Text) (shape : Arrays) (ds : List Declared) (p : Expanded) (k : ℕ) → DeclarationsFit number words ds → ((i : ℕ) → body_names i p.body ≡ true → IsDeclared (name names i) ds)
+      → ((i : ℕ) → body_names i p.body ≡ true → string (name names i) ≡ name_at shape i) → AreFound names shape → BodyIsPlain names p.body → length (act_places starts (acts number names k (parts ds p))) ≤ 20000
       → BecomesProgram shape (lowered words starts (record { tops = []; main = acts number names k (parts ds p) })) (map begun ds) (act_places starts (acts number names k (parts ds p))) (Next (Group Plus [] (normal [] p.body)) End)
   file_lowered names shape ds p k fits declared text found plain small =
       let first : D = record { meanings = replicate (length words) m.Nothing; arrays = [] } in
       let d = with_each first ds in
-      let known = knows number words names shape ds first.meanings fits (all_new ds fits) declared text in
+      let known = λ (i : ℕ). body_names i p.body in
+      let knows_all = knows number words names shape ds first.meanings fits (all_new ds fits) known declared text in
       let left = length (region_words names p.body) + (length (all_part_words names (behind names k p)) + k) in
       let j = suc (length (all_part_words names (behind names k p)) + k) in
       let inner = tree.body_of (body_trees number names [] j p.body) in
@@ -200,10 +202,10 @@ module _ (number : Text → ℕ) (words : List (String Global)) (starts : List �
       ∙ ap (λ bs. byte_of starts left ∷ (places starts inner ++ bs)) (no_places names k (behind names k p) (quiet_rest names k p))
       ∙ ap (λ bs. byte_of starts left ∷ bs) (append-nil (places starts inner)) in
       let less : length bytes ≤ 20000 = subst (λ bs. length bs ≤ 20000) same small in
-      let given = body_back number names shape found origin (outside words d.meanings true) known refl [] p.body j tt plain (omega (arith, less)) in
+      let given = body_back number names shape found known origin (outside words d.meanings true) knows_all refl [] p.body j tt (λ i h. h) plain (omega (arith, less)) in
       let run : each (main_step words starts origin) (so_far first [] []) (acts number names k (parts ds p)) ≡ Ok (so_far d (grouped given.texts ∷ []) bytes) =
       all_declared names k ds (Runs p.body ∷ behind names k p) first fits (all_new ds fits)
-      ∙ one_more (main_step words starts origin) (so_far d [] []) (so_far d (grouped given.texts ∷ []) bytes) (Region left [] inner) (acts number names k (behind names k p)) (region_step names shape found d known left j p.body plain given (omega (arith, less)))
+      ∙ one_more (main_step words starts origin) (so_far d [] []) (so_far d (grouped given.texts ∷ []) bytes) (Region left [] inner) (acts number names k (behind names k p)) (region_step names shape known d knows_all left j p.body plain given (omega (arith, less)))
       ∙ all_quiet names k d (grouped given.texts ∷ []) bytes (behind names k p) (quiet_rest names k p) less in
       subst (λ bs. BecomesProgram shape (lowered words starts (record { tops = []; main = acts number names k (parts ds p) })) (map begun ds) bs (Next (Group Plus [] (normal [] p.body)) End)) (sym same)
       (record { texts = grouped given.texts ∷ []; is = whole_is (acts number names k (parts ds p)) d (grouped given.texts ∷ []) bytes run; read = group_read shape given.texts (normal [] p.body) given.read })
