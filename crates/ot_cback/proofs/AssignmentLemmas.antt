@@ -51,7 +51,7 @@ stop_semicolon : (ws : List Word) → Stops 1 (w.Mark m.Semicolon ∷ ws)
 unfolding goes_on any_sign sign_of
 stop_semicolon ws = ends (w.Mark m.Semicolon ∷ ws) refl
 
-index_read : (i : ℕ) (rest : List Word) → index_at (w.Mark m.OpenIndex ∷ w.Number i (constant_type i) ∷ w.Mark m.CloseIndex ∷ rest) ≡ Ok (Some (constant_tree i), rest)
+pub index_read : (i : ℕ) (rest : List Word) → index_at (w.Mark m.OpenIndex ∷ w.Number i (constant_type i) ∷ w.Mark m.CloseIndex ∷ rest) ≡ Ok (Some (constant_tree i), rest)
 unfolding index_at close_index_at
 index_read i rest =
     let is : value_at 48 1 (w.Number i (constant_type i) ∷ w.Mark m.CloseIndex ∷ rest) ≡ Ok (constant_tree i, w.Mark m.CloseIndex ∷ rest) =

@@ -2,7 +2,7 @@
 use Rattle.std.proofs.Common.{◌≡◌, ℕ, zero, suc, ◌+◌, ◌-◌, ◌≤◌, List, [], ◌∷◌, ◌++◌, length, map, Bool, true, false, Some, None, Ok, refl, sym, ap, ◌∙◌, subst, append_assoc, arith, true≢false}
 use Rattle.std.specs.Prelude.{IfSome, if◌then◌else◌}
 use Rattle.std.proofs.Math.Nat.{le-max_left, le-max_right}
-use Rattle.std.proofs.lemmas.List.{append-nil, length-append, length-map}
+use Rattle.std.proofs.lemmas.List.{append-nil, length-append}
 use Rattle.ot_model.specs.declared.expr.Cell.{Cell}
 use Rattle.ot_model.specs.declared.expr.Section.{Section}
 use Rattle.ot_model.specs.declared.fold.Fold.{Fold as Operation}
@@ -34,13 +34,14 @@ use Rattle.ot_cstatement.specs.Tree as tree
 use Rattle.ot_cstatement.specs.Reading.{steps, open_at, close_at}
 use Rattle.ot_cstatement.specs.Simple.{One}
 use Rattle.ot_cstatement.specs.Directives.{directive_of, all_fit, own_clauses}
-use Rattle.ot_cstatement.specs.Statements.{opening_of, is_else, else_end, block_end, stmts_step, stmts_at, body_at, otherwise_at, branch_at, task_at, group_at, directive_at, form_at, statement_at}
+use Rattle.ot_cstatement.specs.Statements.{opening_of, is_else, else_end, block_end, stmts_step, stmts_at, body_at, otherwise_at, branch_at, task_at, directive_at, form_at, statement_at}
 use Rattle.ot_cback.specs.Numbering.{word_of, words_of, name_of}
 use Rattle.ot_cback.specs.Values.{words, tree_of, depth, Fits}
 use Rattle.ot_cback.specs.Assignments.{set_words, set_tree, fold_words, fold_tree, NoneIsType}
 use Rattle.ot_cback.specs.Clauses.{Direction, In, Out, Clause, Lists, Goes, Reduces, Combines, all_clause_words, claim, listed, over_long, in_mode, reducing, folding, clauses}
 use Rattle.ot_cback.specs.Waits.{wait_words, wait_tree}
-use Rattle.ot_cback.specs.Bodies.{block, headed, otherwise_words, branch_words, statement_words, body_words, statement_tree, body_trees, levels_in, levels, StatementFits, BodyFits}
+use Rattle.ot_cback.specs.Groups.{block, headed}
+use Rattle.ot_cback.specs.Bodies.{otherwise_words, branch_words, statement_words, body_words, statement_tree, body_trees, levels_in, levels, StatementFits, BodyFits}
 use Rattle.ot_cback.proofs.ValueLemmas.{name_word}
 use Rattle.ot_c.specs.Statements.{only_folds}
 use Rattle.ot_cback.specs.Assignments.{target_name}
@@ -48,25 +49,8 @@ use Rattle.ot_words.specs.declared.word.Name.{Name}
 use Rattle.ot_cback.proofs.AssignmentLemmas.{IsTarget, set_target, fold_target, set_read, fold_read, value_read}
 use Rattle.ot_cback.proofs.ClauseLemmas.{clauses_back, clauses_have, spelled_append}
 use Rattle.ot_cback.proofs.WaitLemmas.{wait_read, statement_is}
-
--- ---- step by step
-
-module _ (one : List Word → One) where
-  last_step : (t : ℕ) (front : List tree.S) (ws rest : List Word) → block_end ws ≡ Some rest → steps (stmts_step one) (suc t) front ws ≡ Ok (front, rest)
-  unfolding steps stmts_step
-  last_step t front ws rest is = rw is refl
-
-  more_step : (t : ℕ) (front : List tree.S) (s : tree.S) (ws rest : List Word) → block_end ws ≡ None → one ws ≡ Ok (s, rest) → steps (stmts_step one) (suc t) front ws ≡ steps (stmts_step one) t (front ++ s ∷ []) rest
-  unfolding steps stmts_step
-  more_step t front s ws rest none is = rw (none, is) refl
-
-  block_body : (ws rest : List Word) (ss : List tree.S) → stmts_at one ws ≡ Ok (ss, rest) → body_at one (w.Mark m.OpenBlock ∷ ws) ≡ Ok (tree.body_of ss, rest)
-  unfolding body_at
-  block_body ws rest ss is = rw is refl
-
-closes : (ws : List Word) → block_end (w.Mark m.CloseBlock ∷ ws) ≡ Some ws
-unfolding block_end
-closes ws = refl
+use Rattle.ot_cback.proofs.BlockLemmas.{last_step, more_step, block_body, closes, count, block_words, headed_words}
+use Rattle.ot_cback.proofs.GroupLemmas.{plain_read, reduced_read}
 
 -- ---- statements that hold others
 
@@ -80,11 +64,6 @@ module _ (one : List Word → One) (left : ℕ) where
       → form_at one left (w.Pragma ∷ w.Name (n.Known means.Task) ∷ ws) ≡ Ok (tree.Task left cs b, rest)
   unfolding form_at directive_at directive_of task_at own_clauses
   task_back ws more rest cs b read fit body = rw (read, fit, body) refl
-
-  group_back : (ws more rest : List Word) (b : tree.Body) → clauses_at ws ≡ Ok ([], more) → body_at one more ≡ Ok (b, rest)
-      → form_at one left (w.Pragma ∷ w.Name (n.Known means.Taskgroup) ∷ ws) ≡ Ok (tree.Group left [] b, rest)
-  unfolding form_at directive_at directive_of group_at own_clauses
-  group_back ws more rest b read body = rw (read, body) refl
 
   nothing_else : (ws : List Word) → else_end ws ≡ None → otherwise_at one ws ≡ Ok (tree.End, ws)
   unfolding otherwise_at
@@ -161,15 +140,6 @@ module _ (number : Text → ℕ) (names : List Text) where
   all_task (Reduces op cs ∷ more) all = all_task more all.1
   all_task (Combines op cs ∷ more) all = absurd all.0
 
-  abbrev spelled : List Spoken → List Word
-  spelled ws = words_of number ws
-
-  count : (ss : List Spoken) (rest : List Word) → length (spelled ss ++ rest) ≡ length ss + length rest
-  count ss rest = length-append (spelled ss) rest ∙ ap (λ k. k + length rest) (length-map ss (word_of number))
-
-  block_words : (ss : List Spoken) (rest : List Word) → spelled (block ss) ++ rest ≡ w.Mark m.OpenBlock ∷ (spelled ss ++ (w.Mark m.CloseBlock ∷ rest))
-  block_words ss rest = ap (λ vs. w.Mark m.OpenBlock ∷ vs) (spelled_append number ss (Marked m.CloseBlock ∷ []) rest)
-
   -- what a statement's words do not begin with
   record Begins (ws : List Word) : Type 0 where
     pub no_end : block_end ws ≡ None
@@ -200,7 +170,8 @@ module _ (number : Text → ℕ) (names : List Text) (are : AreIdentifiers names
   begins own (Wait None) rest some fits = record { no_end = refl; no_else = refl }
   begins own (Wait (Some [])) rest some fits = absurd (true≢false some)
   begins own (Wait (Some (u ∷ us))) rest some fits = record { no_end = refl; no_else = refl }
-  begins own (Group op cs b) rest some fits = record { no_end = refl; no_else = refl }
+  begins own (Group op [] b) rest some fits = record { no_end = refl; no_else = refl }
+  begins own (Group op (c ∷ cs) b) rest some fits = record { no_end = refl; no_else = refl }
 
   nothing_words : (own : List Use) (s : S) → is_nothing s ≡ true → statement_words names own s ≡ []
   nothing_words own (Wait (Some [])) is = refl
@@ -237,7 +208,8 @@ module _ (number : Text → ℕ) (names : List Text) (are : AreIdentifiers names
   statement_long own (Wait None) some = omega arith
   statement_long own (Wait (Some [])) some = absurd (true≢false some)
   statement_long own (Wait (Some (u ∷ us))) some = omega arith
-  statement_long own (Group op cs b) some = omega arith
+  statement_long own (Group op [] b) some = omega arith
+  statement_long own (Group op (c ∷ cs) b) some = omega arith
 
   -- ---- blocks of what is read
 
@@ -247,7 +219,7 @@ module _ (number : Text → ℕ) (names : List Text) (are : AreIdentifiers names
   block_read : (k : ℕ) (own : List Use) (b : Body) (rest : List Word) → IsBody k own b → body_at (statement_at k) (said (block (body_words names own b)) ++ rest) ≡ Ok (tree.body_of (body_trees number names own (suc (length rest)) b), rest)
   unfolding IsBody
   block_read k own b rest is =
-      ap (body_at (statement_at k)) (block_words number names (body_words names own b) rest)
+      ap (body_at (statement_at k)) (block_words number (body_words names own b) rest)
       ∙ block_body (statement_at k) (said (body_words names own b) ++ (w.Mark m.CloseBlock ∷ rest)) rest (body_trees number names own (suc (length rest)) b) (is rest)
 
   otherwise_read : (k : ℕ) (own : List Use) (b : Body) (rest : List Word) → IsBody k own b → else_end rest ≡ None
@@ -255,9 +227,6 @@ module _ (number : Text → ℕ) (names : List Text) (are : AreIdentifiers names
   otherwise_read k own End rest is alone = nothing_else (statement_at k) 0 rest alone
   otherwise_read k own (Next s more) rest is alone =
       something_else (statement_at k) 0 (said (block (body_words names own (Next s more))) ++ rest) rest (tree.body_of (body_trees number names own (suc (length rest)) (Next s more))) (block_read k own (Next s more) rest is)
-
-  headed_words : (cs ws : List Spoken) (rest : List Word) → said (cs ++ (spoken.End ∷ ws)) ++ rest ≡ said cs ++ (w.End ∷ (said ws ++ rest))
-  headed_words cs ws rest = spelled_append number cs (spoken.End ∷ ws) rest
 
   task_read : (k : ℕ) (us : List Use) (b : Body) (rest : List Word) → IsBody k us b
       → statement_at (suc k) (said (headed means.Task (all_clause_words names (clauses us)) (block (body_words names us b))) ++ rest)
@@ -268,22 +237,10 @@ module _ (number : Text → ℕ) (names : List Text) (are : AreIdentifiers names
       let more = said (block (body_words names us b)) ++ rest in
       let inner = tree.body_of (body_trees number names us (suc (length rest)) b) in
       statement_is number names k all
-      ∙ ap (λ vs. form_at (statement_at k) (length all) (w.Pragma ∷ w.Name (n.Known means.Task) ∷ vs)) (headed_words (all_clause_words names (clauses us)) (block (body_words names us b)) rest)
+      ∙ ap (λ vs. form_at (statement_at k) (length all) (w.Pragma ∷ w.Name (n.Known means.Task) ∷ vs)) (headed_words number (all_clause_words names (clauses us)) (block (body_words names us b)) rest)
       ∙ task_back (statement_at k) (length all) (said (all_clause_words names (clauses us)) ++ (w.End ∷ more)) more rest (map (claim number names) (clauses us)) inner
       (clauses_back number names (clauses us) more (clauses_have us)) (all_task number names (clauses us) (of_task us)) (block_read k us b rest is)
-      ∙ ap (λ l. Ok (tree.Task l (map (claim number names) (clauses us)) inner, rest)) (count number names ws rest)
-
-  group_read : (k : ℕ) (own : List Use) (b : Body) (rest : List Word) → IsBody k own b
-      → statement_at (suc k) (said (headed means.Taskgroup [] (block (body_words names own b))) ++ rest)
-      ≡ Ok (tree.Group (length (headed means.Taskgroup [] (block (body_words names own b))) + length rest) [] (tree.body_of (body_trees number names own (suc (length rest)) b)), rest)
-  group_read k own b rest is =
-      let ws = headed means.Taskgroup [] (block (body_words names own b)) in
-      let all = said ws ++ rest in
-      let more = said (block (body_words names own b)) ++ rest in
-      let inner = tree.body_of (body_trees number names own (suc (length rest)) b) in
-      statement_is number names k all
-      ∙ group_back (statement_at k) (length all) (w.End ∷ more) more rest inner (clauses_back number names [] more tt) (block_read k own b rest is)
-      ∙ ap (λ l. Ok (tree.Group l [] inner, rest)) (count number names ws rest)
+      ∙ ap (λ l. Ok (tree.Task l (map (claim number names) (clauses us)) inner, rest)) (count number ws rest)
 
   branch_text : (test ws other : List Spoken) (rest : List Word) → said (test ++ (Marked m.Close ∷ (block ws ++ other))) ++ rest ≡ said test ++ (w.Mark m.Close ∷ (said (block ws) ++ (said other ++ rest)))
   branch_text test ws other rest =
@@ -305,26 +262,26 @@ module _ (number : Text → ℕ) (names : List Text) (are : AreIdentifiers names
       statement_is number names k all
       ∙ ap (λ vs. form_at (statement_at k) (length all) (w.Name (n.Known means.If) ∷ w.Mark m.Open ∷ vs)) (branch_text (words names e) (body_words names own a) other rest)
       ∙ branch_back (statement_at k) (length all) (said (words names e)) aws behind rest x left right test (block_read k own a behind one) (otherwise_read k own b rest two alone)
-      ∙ ap (λ l. Ok (tree.If l x left right, rest)) (count number names ws rest)
-      ∙ ap (λ l. Ok (tree.If (length ws + length rest) x (tree.body_of (body_trees number names own (suc l) a)) right, rest)) (count number names other rest)
+      ∙ ap (λ l. Ok (tree.If l x left right, rest)) (count number ws rest)
+      ∙ ap (λ l. Ok (tree.If (length ws + length rest) x (tree.body_of (body_trees number names own (suc l) a)) right, rest)) (count number other rest)
 
   -- ---- bodies
 
   set_back : (k : ℕ) (own : List Use) (c : Cell) (e : E) (rest : List Word) → StatementFits names (Set c e) → statement_at (suc k) (said (set_words names c e) ++ rest) ≡ Ok (set_tree number names (length (set_words names c e) + length rest) c e, rest)
   set_back k own c e rest fits =
       set_read number names are none k c e rest fits.0 fits.1 fits.2
-      ∙ ap (λ l. Ok (set_tree number names l c e, rest)) (count number names (set_words names c e) rest)
+      ∙ ap (λ l. Ok (set_tree number names l c e, rest)) (count number (set_words names c e) rest)
 
   fold_back : (k : ℕ) (own : List Use) (op : Operation) (c : Cell) (e : E) (rest : List Word) → StatementFits names (Fold op c e)
       → statement_at (suc k) (said (fold_words names own op c e) ++ rest) ≡ Ok (fold_tree number names own (length (fold_words names own op c e) + length rest) op c e, rest)
   fold_back k own op c e rest fits =
       fold_read number names are none k own op c e rest fits.0 fits.1 fits.2
-      ∙ ap (λ l. Ok (fold_tree number names own l op c e, rest)) (count number names (fold_words names own op c e) rest)
+      ∙ ap (λ l. Ok (fold_tree number names own l op c e, rest)) (count number (fold_words names own op c e) rest)
 
   wait_back : (k : ℕ) (us : List Use) (rest : List Word) → OnlyDepends us → statement_at (suc k) (said (wait_words names us) ++ rest) ≡ Ok (wait_tree number names (length (wait_words names us) + length rest) us, rest)
   wait_back k us rest only =
       wait_read number names k us rest only
-      ∙ ap (λ l. Ok (wait_tree number names l us, rest)) (count number names (wait_words names us) rest)
+      ∙ ap (λ l. Ok (wait_tree number names l us, rest)) (count number (wait_words names us) rest)
 
   -- a statement before others, whose words are read so
   unfoldable IsRead : ℕ → List Use → S → Type 0
@@ -338,7 +295,7 @@ module _ (number : Text → ℕ) (names : List Text) (are : AreIdentifiers names
   unfolding IsBody IsSteps
   steps_body k own b is rest =
       let ws = said (body_words names own b) ++ (w.Mark m.CloseBlock ∷ rest) in
-      let long = count number names (body_words names own b) (w.Mark m.CloseBlock ∷ rest) in
+      let long = count number (body_words names own b) (w.Mark m.CloseBlock ∷ rest) in
       let all : length ws ≡ suc (length ws - 1) = omega (arith, long) in
       ap (λ t. steps (stmts_step (statement_at k)) t [] ws) all ∙ is [] (length ws - 1) rest (omega (arith, long))
 
@@ -370,7 +327,7 @@ module _ (number : Text → ℕ) (names : List Text) (are : AreIdentifiers names
       ∙ more_step (statement_at (suc k)) (suc t) front here all_words behind (begins own s behind is fits).no_end (one is behind (behind_body own more rest all))
       ∙ others (front ++ here ∷ []) t rest (omega (arith, both, some, long))
       ∙ ap (λ ss. Ok (ss, rest)) (append_assoc front (here ∷ []) (body_trees number names own (suc (length rest)) more))
-      ∙ ap (λ l. Ok (front ++ (statement_tree number names own l s ∷ body_trees number names own (suc (length rest)) more), rest)) (count number names (body_words names own more) (w.Mark m.CloseBlock ∷ rest))
+      ∙ ap (λ l. Ok (front ++ (statement_tree number names own l s ∷ body_trees number names own (suc (length rest)) more), rest)) (count number (body_words names own more) (w.Mark m.CloseBlock ∷ rest))
       ∙ ap (λ ss. Ok (front ++ ss, rest)) (sym trees_are)
 
   mutual
@@ -389,9 +346,14 @@ module _ (number : Text → ℕ) (names : List Text) (are : AreIdentifiers names
     statement_back k own (Wait None) some fits low rest alone = wait_back k [] rest tt
     statement_back k own (Wait (Some [])) some fits low rest alone = absurd (true≢false some)
     statement_back k own (Wait (Some (u ∷ us))) some fits low rest alone = wait_back k (u ∷ us) rest fits
-    statement_back zero own (Group op cs b) some fits low rest alone = absurd (omega (arith, low))
-    statement_back (suc k) own (Group op [] b) some fits low rest alone = group_read (suc k) own b rest (steps_body (suc k) own b (body_steps k own b fits (omega (arith, low))))
-    statement_back (suc k) own (Group op (c ∷ cs) b) some fits low rest alone = absurd fits
+    statement_back zero own (Group op [] b) some fits low rest alone = absurd (omega (arith, low))
+    statement_back (suc k) own (Group op [] b) some fits low rest alone =
+        plain_read number names (suc k) op (body_words names own b) rest (tree.body_of (body_trees number names own (suc (length rest)) b)) (block_read (suc k) own b rest (steps_body (suc k) own b (body_steps k own b fits (omega (arith, low)))))
+    statement_back zero own (Group op (c ∷ cs) b) some fits low rest alone = absurd (omega (arith, low))
+    statement_back (suc zero) own (Group op (c ∷ cs) b) some fits low rest alone = absurd (omega (arith, low))
+    statement_back (suc (suc k)) own (Group op (c ∷ cs) b) some fits low rest alone =
+        let behind = w.Mark m.CloseBlock ∷ rest in
+        reduced_read number names (suc k) op c cs (body_words names own b) rest (tree.body_of (body_trees number names own (suc (suc (length rest))) b)) (block_read (suc k) own b behind (steps_body (suc k) own b (body_steps k own b fits (omega (arith, low)))))
 
     body_steps : (k : ℕ) (own : List Use) (b : Body) → BodyFits names b → levels b ≤ k → IsSteps (suc k) own b
     body_steps k own End fits low = end_steps (suc k) own

@@ -1,10 +1,12 @@
 mod RowLemmas
 mod PartLemmas
-mod ValueLemmas
+pub mod ValueLemmas
 mod NameLemmas
 mod NumberingLemmas
-mod AssignmentLemmas
-mod ClauseLemmas
-mod WaitLemmas
-mod BodyLemmas
+pub mod AssignmentLemmas
+pub mod ClauseLemmas
+pub mod WaitLemmas
+pub mod BlockLemmas
+mod GroupLemmas
+pub mod BodyLemmas
 mod DepthLemmas

@@ -32,13 +32,13 @@ use Rattle.ot_cback.proofs.ClauseLemmas.{clauses_back, clauses_have}
 
 -- ---- clauses that a wait may have
 
-abbrev Depends : Clause → Type 0
+abbrev pub Depends : Clause → Type 0
 Depends (Lists d cs) = Unit {0}
 Depends (Goes d s) = Unit {0}
 Depends (Reduces op cs) = ⊥
 Depends (Combines op cs) = ⊥
 
-abbrev AllDepend : List Clause → Type 0
+abbrev pub AllDepend : List Clause → Type 0
 AllDepend [] = Unit {0}
 AllDepend (c ∷ cs) = Depends c × AllDepend cs
 
@@ -68,7 +68,7 @@ no_fold modes.Reads op none = refl
 no_fold modes.Writes op none = refl
 no_fold (modes.Folds other) op none = absurd (true≢false none)
 
-none_folded : (us : List Use) (op : Operation) → OnlyDepends us → cells_in us (modes.Folds op) ≡ []
+pub none_folded : (us : List Use) (op : Operation) → OnlyDepends us → cells_in us (modes.Folds op) ≡ []
 none_folded [] op only = refl
 none_folded (u ∷ us) op only = rw (no_fold u.mode op only.0) (none_folded us op only.1)
 
@@ -80,7 +80,7 @@ folding_depends us op only =
     none [] is = tt
     none (c ∷ cs) is = absurd cc
 
-clauses_depend : (us : List Use) → OnlyDepends us → AllDepend (clauses us)
+pub clauses_depend : (us : List Use) → OnlyDepends us → AllDepend (clauses us)
 clauses_depend us only =
     depend_append _ (folding us f.Max)
     (depend_append _ (folding us f.Min)

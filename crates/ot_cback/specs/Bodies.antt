@@ -1,30 +1,22 @@
--- What ot_c writes of bodies without reductions: their words, and the trees that C has of them.
+-- What ot_c writes of bodies: their words, and the trees that C has of them.
 use Rattle.std.specs.Prelude.{ℕ, ◌+◌, ◌≤◌, suc, max, if◌then◌else◌, List, [], ◌∷◌, ◌++◌, map, length, Some, None}
 use Rattle.ot_model.specs.declared.stmt.Use.{Use}
 use Rattle.ot_model.specs.Tree.{S, Set, Fold, If, Task, Wait, Group, Body, End, Next, CellAt}
 use Rattle.ot_print.specs.Shown.{Text, name}
 use Rattle.ot_print.specs.Laws.{OnlyDepends}
 use Rattle.ot_c.specs.Laws.{is_nothing}
-use Rattle.ot_words.specs.declared.known.Known.{Known}
 use Rattle.ot_words.specs.declared.known.Known.TheVariants as means
 use Rattle.ot_words.specs.declared.mark.Mark.TheVariants as m
-use Rattle.ot_words.specs.Words as said
-use Rattle.ot_words.specs.Words.{Spoken, Meant, Marked, Pragma}
+use Rattle.ot_words.specs.Words.{Spoken, Meant, Marked}
 use Rattle.ot_cstatement.specs.Tree as tree
 use Rattle.ot_cback.specs.Numbering.{name_of}
 use Rattle.ot_cback.specs.Values.{words, tree_of, depth, Fits}
 use Rattle.ot_cback.specs.Assignments.{set_words, set_tree, fold_words, fold_tree}
 use Rattle.ot_cback.specs.Clauses.{all_clause_words, claim, clauses}
+use Rattle.ot_cback.specs.Groups.{block, headed, group_words, behind_body, group_tree}
 use Rattle.ot_cback.specs.Waits.{wait_words, wait_tree}
 
 -- ---- words
-
-abbrev pub block : List Spoken → List Spoken
-block ws = Marked m.OpenBlock ∷ (ws ++ (Marked m.CloseBlock ∷ []))
-
--- a directive with its clauses, and what follows its line
-abbrev pub headed : Known → List Spoken → List Spoken → List Spoken
-headed word cs ws = Pragma ∷ Meant word ∷ (cs ++ (said.End ∷ ws))
 
 abbrev pub otherwise_words : Body → List Spoken → List Spoken
 otherwise_words End ws = []
@@ -47,7 +39,7 @@ abbrev mutual
   statement_words names own (Task us b) = headed means.Task (all_clause_words names (clauses us)) (block (body_words names us b))
   statement_words names own (Wait None) = wait_words names []
   statement_words names own (Wait (Some us)) = waited names us
-  statement_words names own (Group op cs b) = headed means.Taskgroup [] (block (body_words names own b))
+  statement_words names own (Group op cs b) = group_words names op cs (body_words names own b)
 
   pub body_words : List Text → List Use → Body → List Spoken
   body_words names own End = []
@@ -66,7 +58,7 @@ abbrev mutual
       tree.Task (length (headed means.Task (all_clause_words names (clauses us)) (block (body_words names us b))) + k) (map (claim number names) (clauses us)) (tree.body_of (body_trees number names us (suc k) b))
   statement_tree number names own k (Wait None) = wait_tree number names (length (wait_words names []) + k) []
   statement_tree number names own k (Wait (Some us)) = wait_tree number names (length (wait_words names us) + k) us
-  statement_tree number names own k (Group op cs b) = tree.Group (length (headed means.Taskgroup [] (block (body_words names own b))) + k) [] (tree.body_of (body_trees number names own (suc k) b))
+  statement_tree number names own k (Group op cs b) = group_tree number names op cs k (body_words names own b) (tree.body_of (body_trees number names own (behind_body cs k) b))
 
   pub body_trees : (Text → ℕ) → List Text → List Use → ℕ → Body → List tree.S
   body_trees number names own k End = []
@@ -75,7 +67,7 @@ abbrev mutual
 
 -- ---- limits
 
--- how deep statements nest in others
+-- how deep statements nest in others: a group over cells is one in a block
 abbrev mutual
   pub levels_in : S → ℕ
   levels_in (Set c e) = 0
@@ -83,13 +75,14 @@ abbrev mutual
   levels_in (If e a b) = suc (max (levels a) (levels b))
   levels_in (Task us b) = suc (levels b)
   levels_in (Wait w) = 0
-  levels_in (Group op cs b) = suc (levels b)
+  levels_in (Group op [] b) = suc (levels b)
+  levels_in (Group op (c ∷ cs) b) = suc (suc (levels b))
 
   pub levels : Body → ℕ
   levels End = 0
   levels (Next s rest) = max (levels_in s) (levels rest)
 
--- values fit, waits fold nothing, and groups are over no cell
+-- values fit, and waits fold nothing
 abbrev mutual
   pub StatementFits : List Text → S → Type 0
   StatementFits names (Set c e) = Fits names (CellAt c) × Fits names e × (depth e ≤ 48)
@@ -98,8 +91,7 @@ abbrev mutual
   StatementFits names (Task us b) = BodyFits names b
   StatementFits names (Wait None) = Unit {0}
   StatementFits names (Wait (Some us)) = OnlyDepends us
-  StatementFits names (Group op [] b) = BodyFits names b
-  StatementFits names (Group op (c ∷ cs) b) = ⊥
+  StatementFits names (Group op cs b) = BodyFits names b
 
   pub BodyFits : List Text → Body → Type 0
   BodyFits names End = Unit {0}

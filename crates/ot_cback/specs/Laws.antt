@@ -58,7 +58,7 @@ abbrev pub WaitWordsReadAsTree : Type 0
 WaitWordsReadAsTree = (number : Text → ℕ) (names : List Text) (nesting : ℕ) (us : List Use) (rest : List Word) → OnlyDepends us
     → statement_at (suc nesting) (words_of number (wait_words names us) ++ rest) ≡ Ok (wait_tree number names (length (words_of number (wait_words names us) ++ rest)) us, rest)
 
--- the words of a body whose groups are over no cell, up to the end of its block, are read as its trees, each with how many words are left where it begins
+-- the words of a body, up to the end of its block, are read as its trees, each with how many words are left where it begins
 abbrev pub BodyWordsReadAsTrees : Type 0
 BodyWordsReadAsTrees = (names : List Text) → AreIdentifiers names → NoneIsType names → (number : Text → ℕ) (own : List Use) (b : Body) (rest : List Word) → BodyFits names b → levels b ≤ 47
     → stmts_at (statement_at 48) (words_of number (body_words names own b) ++ (w.Mark m.CloseBlock ∷ rest)) ≡ Ok (body_trees number names own (suc (length rest)) b, rest)

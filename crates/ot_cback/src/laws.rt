@@ -36,7 +36,7 @@ pub fn wait_words_read_as_tree()
     ensures { WaitWordsReadAsTree }
 {}
 
-/// The words of a body whose groups are over no cell are read as its trees.
+/// The words of a body are read as its trees.
 pub fn body_words_read_as_trees()
     ensures { BodyWordsReadAsTrees }
 {}

@@ -1,0 +1,3 @@
+mod FrontLemmas
+mod PartLemmas
+pub mod FileLemmas

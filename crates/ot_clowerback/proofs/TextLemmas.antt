@@ -1,0 +1,119 @@
+-- The texts that trees become are read as what the trees were written of.
+use Rattle.std.proofs.Common.{◌≡◌, ℕ, ◌+◌, List, [], ◌∷◌, ◌++◌, map, Some, None, refl, sym, ap, ◌∙◌, append_assoc, arith}
+use Rattle.std.specs.Prelude.{codes, IfSome}
+use Rattle.serde_json.specs.Data.{Data, string, array}
+use Rattle.serde_json.specs.View.{items_of}
+use Rattle.ot_model.specs.Shapes.{Arrays}
+use Rattle.ot_model.specs.Signs.{identifier}
+use Rattle.ot_model.specs.Tree.{E, Literal, CellAt, Apply, PickFrom, S, Set, Fold, If, Task, Wait, Group, body_of}
+use Rattle.ot_model.specs.Uses.{AreInOrder}
+use Rattle.ot_model.specs.declared.expr.Cell.{Cell}
+use Rattle.ot_model.specs.declared.fold.Fold.{Fold as Operation}
+use Rattle.ot_model.specs.declared.fold.Fold.TheVariants as f
+use Rattle.ot_model.specs.declared.stmt.Mode.TheVariants as modes
+use Rattle.ot_model.specs.declared.stmt.Use.{Use}
+use Rattle.ot_print.specs.Laws.{OnlyDepends}
+use Rattle.ot_print.specs.Shown.{Text}
+use Rattle.ot_c.specs.Laws.{UsesFit}
+use Rattle.ot_program.specs.Copies.{copies, copies_of, copy, statements_of}
+use Rattle.ot_program.specs.Declarations.{uses}
+use Rattle.ot_program.specs.Meanings.{Bindings, each, section, clause, wait_clause}
+use Rattle.ot_program.specs.Printed.{one, two, three, four, cell_text, value_text, IsValue}
+use Rattle.ot_program.specs.Profiles.{profile_of}
+use Rattle.ot_program.proofs.PrintedBack.{cell_back, value_back, fold_back}
+use Rattle.ot_cback.specs.Values.{Fits}
+use Rattle.ot_cback.specs.Clauses.{Direction, In, Out, in_mode, clauses}
+use Rattle.ot_clowerback.specs.Known.{program2}
+use Rattle.ot_clowerback.specs.Declared.{direction_text, all_clause_texts}
+use Rattle.ot_clowerback.specs.Bodies.{AreFound}
+use Rattle.ot_clowerback.proofs.ClauseLemmas.{clauses_are}
+use Rattle.ot_clowerback.proofs.ReadLemmas.{mode_of, clauses_read}
+use Rattle.ot_clowerback.proofs.UsesLemmas.{declared, uses_back}
+
+-- the items of a list
+each_back : (ds : List Data) → each (items_of ds) ≡ ds
+each_back [] = refl
+each_back (d ∷ ds) = ap (λ es. d ∷ es) (each_back ds)
+
+module _ (names : List Text) (shape : Arrays) (found : AreFound names shape) where
+  -- texts that are read as these statements
+  abbrev pub Read : List Data → List S → Type 0
+  Read texts ss = IfSome (profile_of program2) (λ two. (level : ℕ) (variables : Bindings) → statements_of shape (copies_of two level (items_of texts) variables) ≡ ss)
+
+  pub none_read : Read [] []
+  unfolding copies copies_of copy
+  none_read = λ level variables. refl
+
+  two_parts : (xs ys : List Data) → IfSome (profile_of program2) (λ two. (level : ℕ) (variables : Bindings) → statements_of shape (copies_of two level (items_of (xs ++ ys)) variables) ≡ statements_of shape (copies_of two level (items_of xs) variables) ++ statements_of shape (copies_of two level (items_of ys) variables))
+  unfolding copies copies_of copy
+  two_parts [] ys = λ level variables. refl
+  two_parts (x ∷ xs) ys = λ level variables. rw (two_parts xs ys level variables, append_assoc) refl
+
+  pub both_read : (xs ys : List Data) (ss ts : List S) → Read xs ss → Read ys ts → Read (xs ++ ys) (ss ++ ts)
+  both_read xs ys ss ts one two = λ level variables. rw (two_parts xs ys level variables, one level variables, two level variables) refl
+
+  -- ---- values
+
+  is_value : (e : E) → Fits names e → IsValue shape e
+  is_value (Literal n) fits = fits
+  is_value (CellAt c) fits = let small = fits.1 in (found c.array fits.0, omega (arith, small))
+  is_value (Apply op a b) fits = (is_value a fits.0, is_value b fits.1)
+  is_value (PickFrom s e) fits =
+      let first = fits.1 in
+      let count = fits.2 in
+      (found s.array fits.0, omega (arith, first), omega (arith, count), is_value e fits.3)
+
+  -- ---- statements
+
+  pub set_read : (c : Cell) (e : E) → Fits names (CellAt c) → Fits names e → Read (array (three (string (codes "set")) (cell_text shape c) (value_text shape e)) ∷ []) (Set c e ∷ [])
+  unfolding copies copies_of copy
+  set_read c e cell fits = λ level variables. rw (cell_back shape variables c (is_value (CellAt c) cell), value_back shape variables e (is_value e fits)) refl
+
+  pub op_read : (op : Operation) (c : Cell) (e : E) → Fits names (CellAt c) → Fits names e → Read (array (four (string (codes "fold")) (string (identifier op)) (cell_text shape c) (value_text shape e)) ∷ []) (Fold op c e ∷ [])
+  unfolding copies copies_of copy
+  op_read op c e cell fits = λ level variables. rw (fold_back op, cell_back shape variables c (is_value (CellAt c) cell), value_back shape variables e (is_value e fits)) refl
+
+  pub wait_read : Read (array (one (string (codes "wait"))) ∷ []) (Wait None ∷ [])
+  unfolding copies copies_of copy
+  wait_read = λ level variables. refl
+
+  pub branch_read : (e : E) (xs ys : List Data) (ss ts : List S) → Fits names e → Read xs ss → Read ys ts
+      → Read (array (four (string (codes "if")) (value_text shape e) (array (items_of xs)) (array (items_of ys))) ∷ []) (If e (body_of ss) (body_of ts) ∷ [])
+  unfolding copies copies_of copy
+  branch_read e xs ys ss ts fits one two = λ level variables. rw (value_back shape variables e (is_value e fits), one (level + 1) variables, two (level + 1) variables) refl
+
+  pub group_read : (xs : List Data) (ss : List S) → Read xs ss → Read (array (four (string (codes "group")) (string (codes "+")) (array (items_of [])) (array (items_of xs))) ∷ []) (Group f.Plus [] (body_of ss) ∷ [])
+  unfolding copies copies_of copy
+  group_read xs ss one = λ level variables. rw (one (level + 1) variables) refl
+
+  wait_clause_read : (variables : Bindings) (d : Direction) (x : Data) → wait_clause shape variables (array (two (string (direction_text d)) x)) ≡ record { mode = mode_of d; section = section shape variables x }
+  wait_clause_read variables In x = refl
+  wait_clause_read variables Out x = refl
+
+  clause_read : (variables : Bindings) (d : Direction) (x : Data) → IfSome (profile_of program2) (λ profile. clause shape profile variables (array (two (string (direction_text d)) x)) ≡ record { mode = mode_of d; section = section shape variables x })
+  clause_read variables In x = refl
+  clause_read variables Out x = refl
+
+  task_clauses : (variables : Bindings) (us : List Use) → UsesFit names us
+      → IfSome (profile_of program2) (λ profile. map (clause shape profile variables) (all_clause_texts shape (in_mode In us modes.Reads ++ in_mode Out us modes.Writes)) ≡ declared us)
+  task_clauses variables us fit = clauses_read names shape found variables _ (λ d x. clause_read variables d x) us fit
+
+  pub wait_for_read : (us : List Use) → AreInOrder us → UsesFit names us → OnlyDepends us → Read (array (two (string (codes "wait")) (array (items_of (all_clause_texts shape (clauses us))))) ∷ []) (Wait (Some us) ∷ [])
+  unfolding copies copies_of copy
+  wait_for_read us order fit only = λ level variables.
+      let texts = all_clause_texts shape (clauses us) in
+      rw (each_back texts, clauses_are us only, clauses_read names shape found variables (wait_clause shape variables) (wait_clause_read variables) us fit, uses_back us order only) refl
+
+  pub task_read : (us : List Use) (xs : List Data) (ss : List S) → AreInOrder us → UsesFit names us → OnlyDepends us → Read xs ss
+      → Read (array (three (string (codes "task")) (array (items_of (all_clause_texts shape (clauses us)))) (array (items_of xs))) ∷ []) (Task us (body_of ss) ∷ [])
+  unfolding copies copies_of copy
+  task_read us xs ss order fit only one = λ level variables.
+      let texts = all_clause_texts shape (clauses us) in
+      rw (each_back texts, one (level + 1) variables, clauses_are us only, task_clauses variables us fit, uses_back us order only) refl
+
+  -- what declares something has clauses
+  pub no_clauses : (u : Use) (us : List Use) → AreInOrder (u ∷ us) → UsesFit names (u ∷ us) → OnlyDepends (u ∷ us) → clauses (u ∷ us) ≡ [] → ⊥
+  no_clauses u us order fit only is = none (sym (uses_back (u ∷ us) order only) ∙ ap uses (sym (clauses_read names shape found [] (wait_clause shape []) (wait_clause_read []) (u ∷ us) fit) ∙ ap (λ cs. map (wait_clause shape []) (all_clause_texts shape cs)) (sym (clauses_are (u ∷ us) only) ∙ is)))
+    where
+      none : u ∷ us ≡ [] → ⊥
+      none same = absurd cc

@@ -1,0 +1,332 @@
+-- Clauses of sections declare what their cells were taken from.
+use Rattle.std.proofs.Common.{◌≡◌, ℕ, zero, suc, ◌+◌, List, [], ◌∷◌, ◌++◌, map, Bool, true, false, ◌||◌, ◌&&◌, if◌then◌else◌, refl, sym, ap, ◌∙◌, arith, true≢false}
+use Rattle.std.specs.Prelude.{flat_map, fold, unwrap_or}
+use Rattle.std.specs.List.{list_any, range_with_len}
+use Rattle.std.proofs.lemmas.Bool.Decides.{nat_tests}
+use Rattle.std.proofs.lemmas.List.Folds.{list_any-append}
+use Rattle.ot_model.specs.Cells.{same_cell, is_before}
+use Rattle.ot_model.specs.Uses.{Precedes, AreInOrder, is_fold, same_mode}
+use Rattle.ot_model.specs.Value.{cell_at}
+use Rattle.ot_model.specs.Value as value
+use Rattle.ot_model.specs.declared.expr.Cell.{Cell}
+use Rattle.ot_model.specs.declared.expr.Section.{Section}
+use Rattle.ot_model.specs.declared.fold.Fold.TheVariants as f
+use Rattle.ot_model.specs.declared.stmt.Mode.{Mode}
+use Rattle.ot_model.specs.declared.stmt.Mode.TheVariants as modes
+use Rattle.ot_model.specs.declared.stmt.Use.{Use}
+use Rattle.ot_model.proofs.OrderLemmas.{precedes_trans, precedes_apart, precedes_from_before}
+use Rattle.ot_model.proofs.EqualLemmas.{cell-decides}
+use Rattle.ot_print.specs.Laws.{OnlyDepends}
+use Rattle.ot_print.specs.Sections.{cells_in, sections_of, cells_of, row, alone}
+use Rattle.ot_print.proofs.SectionLemmas.{comes_back}
+use Rattle.ot_c.specs.Clauses.{is_long, short}
+use Rattle.ot_c.proofs.OrderLemmas.{has, long, Below, AreSorted, same_cells}
+use Rattle.ot_program.specs.Declarations.{placed, named_cells, names, named_as, first_fold, mode_among, uses}
+use Rattle.ot_program.specs.Meanings.{Clause}
+
+-- ---- whether a cell is among others
+
+or_assoc : (a b c : Bool) → ((a || b) || c) ≡ (a || (b || c))
+or_assoc true b c = refl
+or_assoc false b c = refl
+
+or_swap : (a b c : Bool) → (a || (b || c)) ≡ (b || (a || c))
+or_swap true true c = refl
+or_swap true false c = refl
+or_swap false b c = refl
+
+same_itself : (c : Cell) → same_cell c c ≡ true
+same_itself c = (cell-decides c c).1 refl
+
+other_cell : (c d : Cell) → (c ≡ d → ⊥) → (b : Bool) → same_cell c d ≡ b → b ≡ false
+other_cell c d apart true h = absurd (apart ((cell-decides c d).0 h))
+other_cell c d apart false h = refl
+
+has_append : (c : Cell) (xs ys : List Cell) → has c (xs ++ ys) ≡ (has c xs || has c ys)
+has_append c [] ys = refl
+has_append c (x ∷ xs) ys = ap (λ b. same_cell c x || b) (has_append c xs ys) ∙ sym (or_assoc (same_cell c x) (has c xs) (has c ys))
+
+has_any : (c : Cell) (ds : List Cell) → list_any (same_cell c) ds ≡ has c ds
+has_any c [] = refl
+has_any c (d ∷ ds) = ap (λ b. same_cell c d || b) (has_any c ds)
+
+cells_from : (s : Section) (k n : ℕ) → map (cell_at s) (range_with_len k n) ≡ row s.array (s.start + k) n
+cells_from s k zero = refl
+cells_from s k (suc n) =
+    let next : s.start + (k + 1) ≡ s.start + k + 1 = omega arith in
+    ap (λ cs. record { array = s.array; index = s.start + k } ∷ cs) (cells_from s (k + 1) n ∙ ap (λ i. row s.array i n) next)
+
+cells_row : (s : Section) → value.cells_of s ≡ row s.array s.start s.len
+cells_row s = let first : s.start + 0 ≡ s.start = omega arith in cells_from s 0 s.len ∙ ap (λ i. row s.array i s.len) first
+
+-- ---- cells in order
+
+below_trans : (c d : Cell) (ds : List Cell) → Precedes c d → Below d ds → Below c ds
+below_trans c d [] p h = tt
+below_trans c d (e ∷ es) p h = (precedes_trans c d e p h.0, below_trans c d es p h.1)
+
+not_below : (c : Cell) (ds : List Cell) → Below c ds → has c ds ≡ false
+not_below c [] h = refl
+not_below c (d ∷ ds) h = rw (other_cell c d (precedes_apart c d h.0) (same_cell c d) refl) (not_below c ds h.1)
+
+-- one more in its place
+below_placed : (x c : Cell) (ds : List Cell) → Precedes x c → Below x ds → Below x (placed ds c)
+below_placed x c [] p below = (p, tt)
+below_placed x c (d ∷ ds) p below = by (is_before c d) (same_cell c d) (below_placed x c ds p below.1)
+  where
+    by : (a b : Bool) → Below x (placed ds c) → Below x (if a then c ∷ d ∷ ds else (if b then d ∷ ds else d ∷ placed ds c))
+    by true b rest = (p, below)
+    by false true rest = below
+    by false false rest = (below.0, rest)
+
+third : (a b e : Bool) → (a || (b || e)) ≡ true → a ≡ false → e ≡ false → b ≡ true
+third true b e some none other = absurd (true≢false none)
+third false true e some none other = refl
+third false false e some none other = absurd (true≢false (sym some ∙ other))
+
+total : (c d : Cell) → (is_before c d || (is_before d c || same_cell c d)) ≡ true
+total c d = grind (arith, nat_tests)
+
+sorted_placed : (ds : List Cell) (c : Cell) → AreSorted ds → AreSorted (placed ds c)
+sorted_placed [] c sorted = (tt, tt)
+sorted_placed (d ∷ ds) c sorted = by (is_before c d) (same_cell c d) refl refl (sorted_placed ds c sorted.1)
+  where
+    by : (a b : Bool) → is_before c d ≡ a → same_cell c d ≡ b → AreSorted (placed ds c) → AreSorted (if a then c ∷ d ∷ ds else (if b then d ∷ ds else d ∷ placed ds c))
+    by true b is same rest = let p = precedes_from_before c d is in ((p, below_trans c d ds p sorted.0), sorted)
+    by false true is same rest = sorted
+    by false false is same rest = (below_placed d c ds (precedes_from_before d c (third (is_before c d) (is_before d c) (same_cell c d) (total c d) is same)) sorted.0, rest)
+
+or_twice : (a b : Bool) → (a || b) ≡ (a || (a || b))
+or_twice true b = refl
+or_twice false b = refl
+
+has_placed : (x c : Cell) (ds : List Cell) → has x (placed ds c) ≡ (same_cell x c || has x ds)
+has_placed x c [] = refl
+has_placed x c (d ∷ ds) = by (is_before c d) (same_cell c d) refl (has_placed x c ds)
+  where
+    by : (a b : Bool) → same_cell c d ≡ b → has x (placed ds c) ≡ (same_cell x c || has x ds) → has x (if a then c ∷ d ∷ ds else (if b then d ∷ ds else d ∷ placed ds c)) ≡ (same_cell x c || (same_cell x d || has x ds))
+    by true b same rest = refl
+    by false true same rest = or_twice (same_cell x d) (has x ds) ∙ ap (λ y. same_cell x y || (same_cell x d || has x ds)) (sym ((cell-decides c d).0 same))
+    by false false same rest = ap (λ b. same_cell x d || b) rest ∙ or_swap (same_cell x d) (same_cell x c) (has x ds)
+
+all_sorted : (ds cs : List Cell) → AreSorted ds → AreSorted (fold placed ds cs)
+all_sorted ds [] sorted = sorted
+all_sorted ds (c ∷ cs) sorted = all_sorted (placed ds c) cs (sorted_placed ds c sorted)
+
+has_all : (x : Cell) (ds cs : List Cell) → has x (fold placed ds cs) ≡ (has x cs || has x ds)
+has_all x ds [] = refl
+has_all x ds (c ∷ cs) = has_all x (placed ds c) cs ∙ ap (λ b. has x cs || b) (has_placed x c ds) ∙ or_swap (has x cs) (same_cell x c) (has x ds) ∙ sym (or_assoc (same_cell x c) (has x cs) (has x ds))
+
+-- ---- the cells that clauses name
+
+or_none : (a : Bool) → (a || false) ≡ a
+or_none true = refl
+or_none false = refl
+
+has_flat : (x : Cell) (ks : List Clause) → has x (flat_map (λ k. value.cells_of k.section) ks) ≡ list_any (names x) ks
+has_flat x [] = refl
+has_flat x (k ∷ ks) =
+    has_append x (value.cells_of k.section) (flat_map (λ l. value.cells_of l.section) ks)
+    ∙ ap (λ b. b || has x (flat_map (λ l. value.cells_of l.section) ks)) (sym (has_any x (value.cells_of k.section)))
+    ∙ ap (λ b. names x k || b) (has_flat x ks)
+
+has_named : (x : Cell) (ks : List Clause) → has x (named_cells ks) ≡ list_any (names x) ks
+has_named x ks = has_all x [] (flat_map (λ k. value.cells_of k.section) ks) ∙ or_none (has x (flat_map (λ k. value.cells_of k.section) ks)) ∙ has_flat x ks
+
+sorted_named : (ks : List Clause) → AreSorted (named_cells ks)
+sorted_named ks = all_sorted [] (flat_map (λ k. value.cells_of k.section) ks) tt
+
+-- ---- clauses of sections
+
+-- those of more than 8 cells
+abbrev pub long_parts : Mode → List Section → List Clause
+long_parts m [] = []
+long_parts m (s ∷ ss) = if is_long s then record { mode = m; section = s } ∷ long_parts m ss else long_parts m ss
+
+-- ---- a test of the clauses that name a cell
+
+module _ (x : Cell) (t : Mode → Bool) where
+  abbrev passes : Clause → Bool
+  passes k = names x k && t k.mode
+
+  and_or : (a b c : Bool) → ((a && c) || (b && c)) ≡ ((a || b) && c)
+  and_or true true true = refl
+  and_or true true false = refl
+  and_or true false true = refl
+  and_or true false false = refl
+  and_or false b c = refl
+
+  abbrev one : Mode → Cell → Clause
+  one m c = record { mode = m; section = alone c }
+
+  one_passes : (m : Mode) (c : Cell) → passes (one m c) ≡ (same_cell x c && t m)
+  one_passes m c = ap (λ b. b && t m) (ap (list_any (same_cell x)) (cells_row (alone c)) ∙ or_none (same_cell x c))
+
+  alone_pass : (m : Mode) (cs : List Cell) → list_any passes (map (one m) cs) ≡ (has x cs && t m)
+  alone_pass m [] = refl
+  alone_pass m (c ∷ cs) = ap (λ b. b || list_any passes (map (one m) cs)) (one_passes m c) ∙ ap (λ b. (same_cell x c && t m) || b) (alone_pass m cs) ∙ and_or (same_cell x c) (has x cs) (t m)
+
+  -- clauses of short sections, cell by cell, and of long ones
+  abbrev in_parts : Mode → List Section → List Clause
+  in_parts m ss = map (one m) (cells_of (short ss)) ++ long_parts m ss
+
+  long_passes : (m : Mode) (ss : List Section) → list_any passes (long_parts m ss) ≡ (has x (cells_of (long ss)) && t m)
+  long_passes m [] = refl
+  long_passes m (s ∷ ss) = by (is_long s) (long_passes m ss)
+    where
+      by : (b : Bool) → list_any passes (long_parts m ss) ≡ (has x (cells_of (long ss)) && t m) → list_any passes (if b then record { mode = m; section = s } ∷ long_parts m ss else long_parts m ss) ≡ (has x (cells_of (if b then s ∷ long ss else long ss)) && t m)
+      by false rest = rest
+      by true rest =
+          ap (λ b. b || list_any passes (long_parts m ss)) (ap (λ b. b && t m) (ap (list_any (same_cell x)) (cells_row s) ∙ has_any x (row s.array s.start s.len)))
+          ∙ ap (λ b. (has x (row s.array s.start s.len) && t m) || b) rest
+          ∙ and_or (has x (row s.array s.start s.len)) (has x (cells_of (long ss))) (t m)
+          ∙ ap (λ b. b && t m) (sym (has_append x (row s.array s.start s.len) (cells_of (long ss))))
+
+  parts_have : (ss : List Section) → (has x (cells_of (short ss)) || has x (cells_of (long ss))) ≡ has x (cells_of ss)
+  parts_have [] = refl
+  parts_have (s ∷ ss) = by (is_long s) (parts_have ss) ∙ sym (has_append x (row s.array s.start s.len) (cells_of ss))
+    where
+      by : (b : Bool) → (has x (cells_of (short ss)) || has x (cells_of (long ss))) ≡ has x (cells_of ss) → (has x (cells_of (if b then short ss else s ∷ short ss)) || has x (cells_of (if b then s ∷ long ss else long ss))) ≡ (has x (row s.array s.start s.len) || has x (cells_of ss))
+      by true rest =
+          ap (λ b. has x (cells_of (short ss)) || b) (has_append x (row s.array s.start s.len) (cells_of (long ss)))
+          ∙ or_swap (has x (cells_of (short ss))) (has x (row s.array s.start s.len)) (has x (cells_of (long ss)))
+          ∙ ap (λ b. has x (row s.array s.start s.len) || b) rest
+      by false rest =
+          ap (λ b. b || has x (cells_of (long ss))) (has_append x (row s.array s.start s.len) (cells_of (short ss)))
+          ∙ or_assoc (has x (row s.array s.start s.len)) (has x (cells_of (short ss))) (has x (cells_of (long ss)))
+          ∙ ap (λ b. has x (row s.array s.start s.len) || b) rest
+
+  parts_pass : (m : Mode) (ss : List Section) → list_any passes (in_parts m ss) ≡ (has x (cells_of ss) && t m)
+  parts_pass m ss =
+      list_any-append passes (map (one m) (cells_of (short ss))) (long_parts m ss)
+      ∙ ap (λ b. b || list_any passes (long_parts m ss)) (alone_pass m (cells_of (short ss)))
+      ∙ ap (λ b. (has x (cells_of (short ss)) && t m) || b) (long_passes m ss)
+      ∙ and_or (has x (cells_of (short ss))) (has x (cells_of (long ss))) (t m)
+      ∙ ap (λ b. b && t m) (parts_have ss)
+
+-- ---- clauses of what is read and of what is written
+
+-- the clauses of cells that are declared in a mode
+abbrev pub of_mode : List Use → Mode → List Clause
+of_mode us m = map (λ c. record { mode = m; section = alone c }) (cells_of (short (sections_of (cells_in us m)))) ++ long_parts m (sections_of (cells_in us m))
+
+abbrev pub declared : List Use → List Clause
+declared us = of_mode us modes.Reads ++ of_mode us modes.Writes
+
+declared_pass : (x : Cell) (t : Mode → Bool) (us : List Use) → list_any (passes x t) (declared us) ≡ ((has x (cells_in us modes.Reads) && t modes.Reads) || (has x (cells_in us modes.Writes) && t modes.Writes))
+declared_pass x t us =
+    let reads = cells_in us modes.Reads in
+    let writes = cells_in us modes.Writes in
+    list_any-append (passes x t) (of_mode us modes.Reads) (of_mode us modes.Writes)
+    ∙ ap (λ b. b || list_any (passes x t) (of_mode us modes.Writes)) (parts_pass x t modes.Reads (sections_of reads) ∙ ap (λ cs. has x cs && t modes.Reads) (comes_back reads))
+    ∙ ap (λ b. (has x reads && t modes.Reads) || b) (parts_pass x t modes.Writes (sections_of writes) ∙ ap (λ cs. has x cs && t modes.Writes) (comes_back writes))
+
+first_only : (a b : Bool) → ((a && true) || (b && false)) ≡ a
+first_only true b = refl
+first_only false true = refl
+first_only false false = refl
+
+second_only : (a b : Bool) → ((a && false) || (b && true)) ≡ b
+second_only true true = refl
+second_only true false = refl
+second_only false true = refl
+second_only false false = refl
+
+both_ways : (a b : Bool) → ((a && true) || (b && true)) ≡ (a || b)
+both_ways true b = refl
+both_ways false true = refl
+both_ways false false = refl
+
+reads_named : (x : Cell) (us : List Use) → named_as modes.Reads (declared us) x ≡ has x (cells_in us modes.Reads)
+reads_named x us = declared_pass x (same_mode modes.Reads) us ∙ first_only (has x (cells_in us modes.Reads)) (has x (cells_in us modes.Writes))
+
+writes_named : (x : Cell) (us : List Use) → named_as modes.Writes (declared us) x ≡ has x (cells_in us modes.Writes)
+writes_named x us = declared_pass x (same_mode modes.Writes) us ∙ second_only (has x (cells_in us modes.Reads)) (has x (cells_in us modes.Writes))
+
+and_true : (a : Bool) → a ≡ (a && true)
+and_true true = refl
+and_true false = refl
+
+any_named : (x : Cell) (ks : List Clause) → list_any (names x) ks ≡ list_any (passes x (λ m. true)) ks
+any_named x [] = refl
+any_named x (k ∷ ks) = ap (λ b. b || list_any (names x) ks) (and_true (names x k)) ∙ ap (λ b. (names x k && true) || b) (any_named x ks)
+
+-- ---- declarations in order
+
+abbrev cells : List Use → List Cell
+cells us = map (λ u. u.cell) us
+
+sorted_cells : (us : List Use) → AreInOrder us → AreSorted (cells us)
+sorted_cells [] order = tt
+sorted_cells (u ∷ []) order = (tt, tt)
+sorted_cells (u ∷ v ∷ us) order =
+    let rest = sorted_cells (v ∷ us) order.1 in
+    ((order.0, below_trans u.cell v.cell (cells us) order.0 rest.0), rest)
+
+below_in : (c : Cell) (us : List Use) (m : Mode) → Below c (cells us) → Below c (cells_in us m)
+below_in c [] m below = tt
+below_in c (u ∷ us) m below = by (same_mode u.mode m) (below_in c us m below.1)
+  where
+    by : (b : Bool) → Below c (cells_in us m) → Below c (if b then u.cell ∷ cells_in us m else cells_in us m)
+    by true rest = (below.0, rest)
+    by false rest = rest
+
+-- each of some uses stands among the cells of a mode where it has that mode
+abbrev AllStand : Mode → List Cell → List Use → Type 0
+AllStand m cs [] = Unit {0}
+AllStand m cs (u ∷ us) = (has u.cell cs ≡ same_mode u.mode m) × AllStand m cs us
+
+later_stand : (m : Mode) (c : Cell) (cs : List Cell) (us : List Use) → Below c (cells us) → AllStand m cs us → AllStand m (c ∷ cs) us
+later_stand m c cs [] below all = tt
+later_stand m c cs (u ∷ us) below all = (ap (λ b. b || has u.cell cs) (other_cell u.cell c (λ e. precedes_apart c u.cell below.0 (sym e)) (same_cell u.cell c) refl) ∙ all.0, later_stand m c cs us below.1 all.1)
+
+all_stand : (us : List Use) (m : Mode) → AreSorted (cells us) → AllStand m (cells_in us m) us
+all_stand [] m sorted = tt
+all_stand (u ∷ us) m sorted = by (same_mode u.mode m) refl (all_stand us m sorted.1)
+  where
+    by : (b : Bool) → same_mode u.mode m ≡ b → AllStand m (cells_in us m) us → AllStand m (if b then u.cell ∷ cells_in us m else cells_in us m) (u ∷ us)
+    by true is rest = (ap (λ b. b || has u.cell (cells_in us m)) (same_itself u.cell) ∙ sym is, later_stand m u.cell (cells_in us m) us sorted.0 rest)
+    by false is rest = (not_below u.cell (cells_in us m) (below_in u.cell us m sorted.0) ∙ sym is, rest)
+
+-- a use reads or writes
+has_either : (x : Cell) (us : List Use) → OnlyDepends us → has x (cells us) ≡ (has x (cells_in us modes.Reads) || has x (cells_in us modes.Writes))
+has_either x [] only = refl
+has_either x (u ∷ us) only = by u.mode only.0 (has_either x us only.1)
+  where
+    by : (m : Mode) → is_fold m ≡ false → has x (cells us) ≡ (has x (cells_in us modes.Reads) || has x (cells_in us modes.Writes))
+        → (same_cell x u.cell || has x (cells us)) ≡ (has x (if same_mode m modes.Reads then u.cell ∷ cells_in us modes.Reads else cells_in us modes.Reads) || has x (if same_mode m modes.Writes then u.cell ∷ cells_in us modes.Writes else cells_in us modes.Writes))
+    by modes.Reads none rest = ap (λ b. same_cell x u.cell || b) rest ∙ sym (or_assoc (same_cell x u.cell) (has x (cells_in us modes.Reads)) (has x (cells_in us modes.Writes)))
+    by modes.Writes none rest = ap (λ b. same_cell x u.cell || b) rest ∙ or_swap (same_cell x u.cell) (has x (cells_in us modes.Reads)) (has x (cells_in us modes.Writes))
+    by (modes.Folds op) none rest = absurd (true≢false none)
+
+-- ---- what is declared
+
+named_are : (us : List Use) → AreInOrder us → OnlyDepends us → named_cells (declared us) ≡ cells us
+named_are us order only =
+    same_cells (named_cells (declared us)) (cells us) (sorted_named (declared us)) (sorted_cells us order)
+    (λ x. has_named x (declared us) ∙ any_named x (declared us) ∙ declared_pass x (λ m. true) us ∙ both_ways (has x (cells_in us modes.Reads)) (has x (cells_in us modes.Writes)) ∙ sym (has_either x us only))
+
+mode_is : (us : List Use) (u : Use) → has u.cell (cells_in us modes.Reads) ≡ same_mode u.mode modes.Reads → has u.cell (cells_in us modes.Writes) ≡ same_mode u.mode modes.Writes → is_fold u.mode ≡ false → mode_among (declared us) u.cell ≡ u.mode
+mode_is us u reads writes none =
+    ap (λ w. if w then modes.Writes else (if named_as modes.Reads (declared us) u.cell then modes.Reads else folded)) (writes_named u.cell us ∙ writes)
+    ∙ ap (λ r. if same_mode u.mode modes.Writes then modes.Writes else (if r then modes.Reads else folded)) (reads_named u.cell us ∙ reads)
+    ∙ by u.mode none
+  where
+    folded : Mode
+    folded = modes.Folds (unwrap_or (first_fold (declared us) u.cell) f.Plus)
+
+    by : (m : Mode) → is_fold m ≡ false → (if same_mode m modes.Writes then modes.Writes else (if same_mode m modes.Reads then modes.Reads else folded)) ≡ m
+    by modes.Reads none = refl
+    by modes.Writes none = refl
+    by (modes.Folds op) none = absurd (true≢false none)
+
+pub uses_back : (us : List Use) → AreInOrder us → OnlyDepends us → uses (declared us) ≡ us
+uses_back us order only =
+    ap (map (λ c. record { cell = c; mode = mode_among (declared us) c })) (named_are us order only)
+    ∙ back us (all_stand us modes.Reads (sorted_cells us order)) (all_stand us modes.Writes (sorted_cells us order)) only
+  where
+    back : (vs : List Use) → AllStand modes.Reads (cells_in us modes.Reads) vs → AllStand modes.Writes (cells_in us modes.Writes) vs → OnlyDepends vs → map (λ c. record { cell = c; mode = mode_among (declared us) c }) (cells vs) ≡ vs
+    back [] reads writes only = refl
+    back (v ∷ vs) reads writes only =
+        ap (λ m. record { cell = v.cell; mode = m } ∷ map (λ c. record { cell = c; mode = mode_among (declared us) c }) (cells vs)) (mode_is us v reads.0 writes.0 only.0)
+        ∙ ap (λ ws. v ∷ ws) (back vs reads.1 writes.1 only.1)

@@ -1,0 +1,4 @@
+pub mod Known
+pub mod Declared
+pub mod Bodies
+pub mod Laws

@@ -1,0 +1,211 @@
+-- The tree of a file becomes its program.
+use Rattle.std.proofs.Common.{Bool, ◌≡◌, ℕ, suc, ◌+◌, ◌≤◌, List, [], ◌∷◌, ◌++◌, length, map, true, false, Some, Ok, refl, sym, ap, ◌∙◌, subst, append_assoc, arith}
+use Rattle.std.specs.Prelude.{nat_lt, slice_get, replicate, String, codes}
+use Rattle.std.specs.declared.alloc.Global.{Global}
+use Rattle.std.proofs.lemmas.Bool.Decides.{nat_tests}
+use Rattle.std.proofs.lemmas.List.{append-nil, length-replicate, get_or-replicate}
+use Rattle.std.proofs.lemmas.Option.{slice_get-get_or, slice_get_within}
+use Rattle.serde_json.specs.Data.{Data, string, array}
+use Rattle.serde_json.specs.View.{items_of}
+use Rattle.ot_model.specs.Programs.{Expanded}
+use Rattle.ot_model.specs.Shapes.{Arrays}
+use Rattle.ot_model.specs.Tree.{Body, Group, End, Next}
+use Rattle.ot_model.specs.declared.expr.Section.{Section}
+use Rattle.ot_model.specs.declared.fold.Fold.TheVariants.{Plus}
+use Rattle.ot_print.specs.Shown.{Text, name}
+use Rattle.ot_program.specs.Copies.{copies, copies_of, copy}
+use Rattle.ot_program.specs.Printed.{four, name_at}
+use Rattle.ot_c.specs.Arrays.{Declared}
+use Rattle.ot_c.specs.Laws.{normal}
+use Rattle.ot_c.specs.Named.{body_names}
+use Rattle.ot_words.specs.declared.word.IntegerType.TheVariants as t
+use Rattle.ot_words.specs.declared.word.Name.{Name}
+use Rattle.ot_cread.specs.Tree as values
+use Rattle.ot_cstatement.specs.Tree as tree
+use Rattle.ot_cfile.specs.Program.{Act, Local, Region, Does}
+use Rattle.ot_cscope.specs.declared.scope.Meaning.{Meaning}
+use Rattle.ot_cscope.specs.declared.scope.Meaning.TheVariants as m
+use Rattle.ot_cscope.specs.Forms.{form, listed}
+use Rattle.ot_cscope.specs.Scopes.{Around}
+use Rattle.ot_cdeclare.specs.Arrays.{D, outside, variable_step}
+use Rattle.ot_cdeclare.specs.Each.{each}
+use Rattle.ot_cdeclare.specs.Places.{byte_of}
+use Rattle.ot_clower.specs.declared.lowered.Reductions.TheVariants as r
+use Rattle.ot_clower.specs.Files.{P, top_step, main_step, nothing, lowered}
+use Rattle.ot_clower.specs.Files.{shown as shown_array}
+use Rattle.ot_clower.specs.Lines.{L, none}
+use Rattle.ot_clower.specs.Statements.{Origin, read_step, statement, body}
+use Rattle.ot_cback.specs.Bodies.{body_trees}
+use Rattle.ot_cfileback.specs.Files.{shown_behind, shown, parts}
+use Rattle.ot_cfileback.specs.Parts.{Part, Declares, Runs, Marks, Shows, region_words, all_part_words, cells_of, declared_tree, acts, act}
+use Rattle.ot_clowerback.specs.Known.{KnowsArrays}
+use Rattle.ot_clowerback.specs.Bodies.{AreFound, BodyIsPlain, places, AreRead, Becomes}
+use Rattle.ot_clowerback.proofs.BodyLemmas.{body_back}
+use Rattle.ot_clowerback.proofs.HeadingLemmas.{heading_is}
+use Rattle.ot_cprogramback.specs.Programs.{DeclarationFits, DeclarationsFit, IsDeclared, begun, act_places, BecomesProgram}
+use Rattle.ot_cprogramback.proofs.DeclarationLemmas.{no_more, one_more, with_all, AreNew, still_new, variable_is, knows}
+use Rattle.ot_cprogramback.proofs.PointerLemmas.{none_from}
+
+few : (x : ℕ) → x ≤ 20000 → nat_lt 20000 x ≡ false
+few x small = grind (arith, nat_tests)
+
+-- statements that become these texts, at these places
+abbrev line : List Data → List ℕ → L
+line ts bs = record { texts = ts; places = bs; taking = [] }
+
+module _ (number : Text → ℕ) (words : List (String Global)) (starts : List ℕ) where
+  abbrev origin : Origin
+  origin = record { starts = starts; functions = [] }
+
+  abbrev so_far : D → List Data → List ℕ → P
+  so_far d ts bs = record { declared = d; lines = line ts bs }
+
+  -- ---- declarations
+
+  abbrev with_one : D → Declared → D
+  with_one before d = record { meanings = with_all number words before.meanings (d ∷ []); arrays = before.arrays ++ begun d ∷ [] }
+
+  declaration_is : (at : ℕ) (d : Declared) (before : D) → DeclarationFits number words d → slice_get before.meanings (number d.name) ≡ Some m.Nothing → each (variable_step words at t.UnsignedLong) before (cells_of number d ∷ []) ≡ Ok (with_one before d)
+  declaration_is at d before fit new =
+      one_more (variable_step words at t.UnsignedLong) before (with_one before d) (cells_of number d) [] (variable_is number words at d before fit new)
+      ∙ no_more (variable_step words at t.UnsignedLong) (with_one before d)
+
+  local_step : (left : ℕ) (d : Declared) (before : D) → DeclarationFits number words d → slice_get before.meanings (number d.name) ≡ Some m.Nothing
+      → main_step words starts origin (so_far before [] []) (Local (declared_tree number left d)) ≡ Ok (so_far (with_one before d) [] [])
+  local_step left d before fit new = rw (declaration_is (byte_of starts left) d before fit new) refl
+
+  abbrev with_each : D → List Declared → D
+  with_each before ds = record { meanings = with_all number words before.meanings ds; arrays = before.arrays ++ map begun ds }
+
+  module _ (names : List Text) (k : ℕ) where
+    all_declared : (ds : List Declared) (ps : List Part) (before : D) → DeclarationsFit number words ds → AreNew number words before.meanings ds
+        → each (main_step words starts origin) (so_far before [] []) (acts number names k (map Declares ds ++ ps)) ≡ each (main_step words starts origin) (so_far (with_each before ds) [] []) (acts number names k ps)
+    all_declared [] ps before fits new = ap (λ xs. each (main_step words starts origin) (so_far (record { meanings = before.meanings; arrays = xs }) [] []) (acts number names k ps)) (sym (append-nil before.arrays))
+    all_declared (d ∷ ds) ps before fits new =
+        one_more (main_step words starts origin) (so_far before [] []) (so_far (with_one before d) [] []) (act number names _ (Declares d)) (acts number names k (map Declares ds ++ ps)) (local_step _ d before fits.0 new.0)
+        ∙ all_declared ds ps (with_one before d) fits.2 (still_new number words before.meanings d ds fits.0 fits.1 fits.2 new.1)
+        ∙ ap (λ xs. each (main_step words starts origin) (so_far (record { meanings = with_all number words before.meanings (d ∷ ds); arrays = xs }) [] []) (acts number names k ps)) (append_assoc before.arrays (begun d ∷ []) (map begun ds))
+
+    -- ---- what shows cells
+
+    abbrev IsQuiet : Part → Type 0
+    IsQuiet (Declares d) = ⊥
+    IsQuiet (Runs b) = ⊥
+    IsQuiet Marks = Unit {0}
+    IsQuiet (Shows s) = Unit {0}
+
+    abbrev AreQuiet : List Part → Type 0
+    AreQuiet [] = Unit {0}
+    AreQuiet (p ∷ ps) = IsQuiet p × AreQuiet ps
+
+    nothing_step : (d : D) (ts : List Data) (bs : List ℕ) (s : tree.S) → statement origin (outside words d.meanings false) s ≡ Ok none → length bs ≤ 20000 → main_step words starts origin (so_far d ts bs) (Does s) ≡ Ok (so_far d ts bs)
+    nothing_step d ts bs s is small = rw (is, few (length bs + 0) (omega (arith, small)), append-nil ts, append-nil bs) refl
+
+    print_is : (a : Around) (left : ℕ) → statement origin a (tree.Print left []) ≡ Ok none
+    unfolding statement
+    print_is a left = no_more (read_step a (byte_of starts left)) none
+
+    show_is : (meanings : List Meaning) (left : ℕ) (x : Name) (i n : values.E) → statement origin (outside words meanings false) (tree.Show left x i n) ≡ Ok none
+    unfolding statement
+    show_is meanings left x i n = refl
+
+    quiet_step : (d : D) (ts : List Data) (bs : List ℕ) (p : Part) (left : ℕ) → IsQuiet p → length bs ≤ 20000 → main_step words starts origin (so_far d ts bs) (act number names left p) ≡ Ok (so_far d ts bs)
+    quiet_step d ts bs (Declares e) left quiet small = absurd quiet
+    quiet_step d ts bs (Runs b) left quiet small = absurd quiet
+    quiet_step d ts bs Marks left quiet small = nothing_step d ts bs _ (print_is (outside words d.meanings false) _) small
+    quiet_step d ts bs (Shows s) left quiet small = nothing_step d ts bs _ (show_is d.meanings _ _ _ _) small
+
+    all_quiet : (d : D) (ts : List Data) (bs : List ℕ) (ps : List Part) → AreQuiet ps → length bs ≤ 20000 → each (main_step words starts origin) (so_far d ts bs) (acts number names k ps) ≡ Ok (so_far d ts bs)
+    all_quiet d ts bs [] quiet small = no_more (main_step words starts origin) (so_far d ts bs)
+    all_quiet d ts bs (p ∷ ps) quiet small =
+        one_more (main_step words starts origin) (so_far d ts bs) (so_far d ts bs) (act number names _ p) (acts number names k ps) (quiet_step d ts bs p _ quiet.0 small)
+        ∙ all_quiet d ts bs ps quiet.1 small
+
+    quiet_append : (ps qs : List Part) → AreQuiet ps → AreQuiet qs → AreQuiet (ps ++ qs)
+    quiet_append [] qs one two = two
+    quiet_append (p ∷ ps) qs one two = (one.0, quiet_append ps qs one.1 two)
+
+    quiet_behind : (ss : List Section) → AreQuiet (shown_behind ss)
+    quiet_behind [] = tt
+    quiet_behind (s ∷ ss) = (tt, (tt, quiet_behind ss))
+
+    quiet_shown : (ss : List Section) → AreQuiet (shown ss)
+    quiet_shown [] = tt
+    quiet_shown (s ∷ ss) = (tt, quiet_behind ss)
+
+    -- what stands behind the body
+    abbrev behind : Expanded → List Part
+    behind p = Marks ∷ (shown p.shows ++ (Marks ∷ []))
+
+    quiet_rest : (p : Expanded) → AreQuiet (behind p)
+    quiet_rest p = (tt, quiet_append (shown p.shows) (Marks ∷ []) (quiet_shown p.shows) (tt, tt))
+
+    -- ---- places
+
+    no_places : (ps : List Part) → AreQuiet ps → act_places starts (acts number names k ps) ≡ []
+    no_places [] quiet = refl
+    no_places (Declares d ∷ ps) quiet = absurd quiet.0
+    no_places (Runs b ∷ ps) quiet = absurd quiet.0
+    no_places (Marks ∷ ps) quiet = no_places ps quiet.1
+    no_places (Shows s ∷ ps) quiet = no_places ps quiet.1
+
+    declared_places : (ds : List Declared) (ps : List Part) → act_places starts (acts number names k (map Declares ds ++ ps)) ≡ act_places starts (acts number names k ps)
+    declared_places [] ps = refl
+    declared_places (d ∷ ds) ps = declared_places ds ps
+
+  -- ---- names that mean nothing yet
+
+  all_new : (ds : List Declared) → DeclarationsFit number words ds → AreNew number words (replicate (length words) m.Nothing) ds
+  all_new [] fits = tt
+  all_new (d ∷ ds) fits =
+      let within = slice_get_within words (number d.name) fits.0.word.0 fits.0.word.1 in
+      let long = length-replicate (length words) m.Nothing in
+      (slice_get-get_or (replicate (length words) m.Nothing) (number d.name) m.Nothing (omega (arith, within, long)) ∙ ap (λ x. Some x) (get_or-replicate (length words) (number d.name) m.Nothing m.Nothing within), all_new ds fits.2)
+
+  -- ---- the region
+
+  abbrev grouped : List Data → Data
+  grouped ts = array (four (string (codes "group")) (string (codes "+")) (array (items_of [])) (array (items_of ts)))
+
+  region_step : (names : List Text) (shape : Arrays) (known : ℕ → Bool) (d : D) (knows_all : KnowsArrays number names shape known (outside words d.meanings true)) (left k : ℕ) (b : Body) → BodyIsPlain names b
+      → (given : Becomes shape (body origin (outside words d.meanings true) (tree.body_of (body_trees number names [] k b))) (places starts (tree.body_of (body_trees number names [] k b))) (normal [] b))
+      → suc (length (places starts (tree.body_of (body_trees number names [] k b)))) ≤ 20000
+      → main_step words starts origin (so_far d [] []) (Region left [] (tree.body_of (body_trees number names [] k b))) ≡ Ok (so_far d (grouped given.texts ∷ []) (byte_of starts left ∷ places starts (tree.body_of (body_trees number names [] k b))))
+  region_step names shape known d knows_all left k b plain given small =
+      let inner = tree.body_of (body_trees number names [] k b) in
+      rw (none_from words starts d number names [] b k plain, heading_is number names shape known (outside words d.meanings true) (byte_of starts left) knows_all [] tt tt, given.is, few (0 + suc (length (places starts inner))) (omega (arith, small))) refl
+
+  group_read : (shape : Arrays) (ts : List Data) (b : Body) → AreRead shape ts b → AreRead shape (grouped ts ∷ []) (Next (Group Plus [] b) End)
+  unfolding copies copies_of copy
+  group_read shape ts b read = λ level variables. rw (read (level + 1) variables) refl
+
+  -- ---- the whole
+
+  whole_is : (acts : List Act) (d : D) (ts : List Data) (bs : List ℕ) → each (main_step words starts origin) (so_far (record { meanings = replicate (length words) m.Nothing; arrays = [] }) [] []) acts ≡ Ok (so_far d ts bs)
+      → lowered words starts (record { tops = []; main = acts }) ≡ Ok (record { arrays = d.arrays; program = form (codes "program2") (listed (map shown_array d.arrays) ∷ listed ts ∷ []); places = bs; reductions = r.ByNames })
+  whole_is acts d ts bs is = rw (no_more (top_step words starts) (nothing words), is) refl
+
+  pub file_lowered : (names : List Text) (shape : Arrays) (ds : List Declared) (p : Expanded) (k : ℕ) → DeclarationsFit number words ds → ((i : ℕ) → body_names i p.body ≡ true → IsDeclared (name names i) ds)
+      → ((i : ℕ) → body_names i p.body ≡ true → string (name names i) ≡ name_at shape i) → AreFound names shape → BodyIsPlain names p.body → length (act_places starts (acts number names k (parts ds p))) ≤ 20000
+      → BecomesProgram shape (lowered words starts (record { tops = []; main = acts number names k (parts ds p) })) (map begun ds) (act_places starts (acts number names k (parts ds p))) (Next (Group Plus [] (normal [] p.body)) End)
+  file_lowered names shape ds p k fits declared text found plain small =
+      let first : D = record { meanings = replicate (length words) m.Nothing; arrays = [] } in
+      let d = with_each first ds in
+      let known = λ (i : ℕ). body_names i p.body in
+      let knows_all = knows number words names shape ds first.meanings fits (all_new ds fits) known declared text in
+      let left = length (region_words names p.body) + (length (all_part_words names (behind names k p)) + k) in
+      let j = suc (length (all_part_words names (behind names k p)) + k) in
+      let inner = tree.body_of (body_trees number names [] j p.body) in
+      let bytes = byte_of starts left ∷ places starts inner in
+      let same : act_places starts (acts number names k (parts ds p)) ≡ bytes =
+      declared_places names k ds (Runs p.body ∷ behind names k p)
+      ∙ ap (λ bs. byte_of starts left ∷ (places starts inner ++ bs)) (no_places names k (behind names k p) (quiet_rest names k p))
+      ∙ ap (λ bs. byte_of starts left ∷ bs) (append-nil (places starts inner)) in
+      let less : length bytes ≤ 20000 = subst (λ bs. length bs ≤ 20000) same small in
+      let given = body_back number names shape found known origin (outside words d.meanings true) knows_all refl [] p.body j tt (λ i h. h) plain (omega (arith, less)) in
+      let run : each (main_step words starts origin) (so_far first [] []) (acts number names k (parts ds p)) ≡ Ok (so_far d (grouped given.texts ∷ []) bytes) =
+      all_declared names k ds (Runs p.body ∷ behind names k p) first fits (all_new ds fits)
+      ∙ one_more (main_step words starts origin) (so_far d [] []) (so_far d (grouped given.texts ∷ []) bytes) (Region left [] inner) (acts number names k (behind names k p)) (region_step names shape known d knows_all left j p.body plain given (omega (arith, less)))
+      ∙ all_quiet names k d (grouped given.texts ∷ []) bytes (behind names k p) (quiet_rest names k p) less in
+      subst (λ bs. BecomesProgram shape (lowered words starts (record { tops = []; main = acts number names k (parts ds p) })) (map begun ds) bs (Next (Group Plus [] (normal [] p.body)) End)) (sym same)
+      (record { texts = grouped given.texts ∷ []; is = whole_is (acts number names k (parts ds p)) d (grouped given.texts ∷ []) bytes run; read = group_read shape given.texts (normal [] p.body) given.read })

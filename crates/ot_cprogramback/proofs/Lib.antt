@@ -1,0 +1,4 @@
+mod NamedLemmas
+mod DeclarationLemmas
+mod PointerLemmas
+mod FileLemmas
