@@ -129,8 +129,29 @@ int main(void)
 }
 ";
 
+const SIZE: &str = "/* The last run of a session, as C with OpenMP: it prints what the run shows. */
+#include <inttypes.h>
+#include <stdint.h>
+#include <stdio.h>
+
+int main(void)
+{
+    static uint64_t A_size_t[3] = {1, 2};
+
+    #pragma omp parallel
+    #pragma omp single
+    {
+        A_size_t[2] = 5;
+    }
+
+    printf(\"[\");
+    printf(\"]\\n\");
+    return 0;
+}
+";
+
 /// An array `a` in a program, with its name in the C and its length; the program; and its C.
-const ROWS: [(&str, u32, &str, &str); 4] = [
+const ROWS: [(&str, u32, &str, &str); 5] = [
     ("a", 3, "[],[]", NOTHING),
     (
         "for",
@@ -150,6 +171,7 @@ const ROWS: [(&str, u32, &str, &str); 4] = [
         "[],[[\"task\",[[\"out\",[\"a\",1,9]],[\"in\",[\"a\",12,2]],[\"out\",[\"a\",16,1]]],[]]]",
         LONG,
     ),
+    ("size_t", 3, "[],[[\"set\",[\"c\",\"a\",2],5]]", SIZE),
 ];
 
 fn is_program(

@@ -15,8 +15,8 @@ taken =
     codes "const" ∷ codes "constexpr" ∷ codes "continue" ∷ codes "default" ∷ codes "do" ∷ codes "double" ∷ codes "else" ∷ codes "enum" ∷
     codes "extern" ∷ codes "false" ∷ codes "float" ∷ codes "for" ∷ codes "goto" ∷ codes "i386" ∷ codes "if" ∷ codes "inline" ∷ codes "int" ∷
     codes "linux" ∷ codes "long" ∷ codes "max" ∷ codes "min" ∷ codes "nullptr" ∷ codes "printf" ∷ codes "register" ∷ codes "restrict" ∷
-    codes "return" ∷ codes "short" ∷ codes "show" ∷ codes "signed" ∷ codes "sizeof" ∷ codes "static" ∷ codes "static_assert" ∷ codes "struct" ∷
-    codes "switch" ∷ codes "thread_local" ∷ codes "true" ∷ codes "typedef" ∷ codes "typeof" ∷ codes "typeof_unqual" ∷ codes "uint64_t" ∷
+    codes "return" ∷ codes "short" ∷ codes "show" ∷ codes "signed" ∷ codes "size_t" ∷ codes "sizeof" ∷ codes "static" ∷ codes "static_assert" ∷
+    codes "struct" ∷ codes "switch" ∷ codes "thread_local" ∷ codes "true" ∷ codes "typedef" ∷ codes "typeof" ∷ codes "typeof_unqual" ∷ codes "uint64_t" ∷
     codes "union" ∷ codes "unix" ∷ codes "unsigned" ∷ codes "void" ∷ codes "volatile" ∷ codes "while" ∷ []
 
 -- words that no array can be called by

@@ -13,7 +13,7 @@ use std::alloc::{AllocError, Global};
 
 /// Words that no array can be called by in the C that is written: the keywords of C and of its compilers, what their
 /// headers name, and what the program calls by itself.
-const TAKEN: [&str; 55] = [
+const TAKEN: [&str; 56] = [
     "alignas",
     "alignof",
     "asm",
@@ -52,6 +52,7 @@ const TAKEN: [&str; 55] = [
     "short",
     "show",
     "signed",
+    "size_t",
     "sizeof",
     "static",
     "static_assert",
