@@ -75,11 +75,11 @@ none_folds (u ∷ us) op c only = by (same_cell c u.cell) (none_folds us op c on
 
 -- ---- one after another
 
-few : (x : ℕ) → x ≤ 20000 → nat_lt 20000 x ≡ false
+pub few : (x : ℕ) → x ≤ 20000 → nat_lt 20000 x ≡ false
 few x small = grind (arith, nat_tests)
 
 -- statements that become these texts, at these places
-abbrev line : List Data → List ℕ → L
+abbrev pub line : List Data → List ℕ → L
 line ts ps = record { texts = ts; places = ps; taking = [] }
 
 module _ (names : List Text) (shape : Arrays) (found : AreFound names shape) (o : Origin) (a : Around) where

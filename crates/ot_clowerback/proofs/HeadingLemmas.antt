@@ -30,11 +30,11 @@ use Rattle.ot_clowerback.specs.Declared.{one_text, many_text, clause_texts, all_
 -- ---- one after another
 
 module _ {A B : Type 0} (step : A → B → Result A Refusal) where
-  no_more : (a : A) → each step a [] ≡ Ok a
+  pub no_more : (a : A) → each step a [] ≡ Ok a
   unfolding each
   no_more a = refl
 
-  one_more : (a b : A) (x : B) (xs : List B) → step a x ≡ Ok b → each step a (x ∷ xs) ≡ each step b xs
+  pub one_more : (a b : A) (x : B) (xs : List B) → step a x ≡ Ok b → each step a (x ∷ xs) ≡ each step b xs
   unfolding each
   one_more a b x xs is = rw is refl
 

@@ -1,5 +1,5 @@
 -- Declared arrays are the program's, and their names mean their cells.
-use Rattle.std.proofs.Common.{Bool, ◌≡◌, ◌≢◌, inl, inr, ℕ, zero, suc, ◌-◌, ◌<◌, ◌≤◌, List, [], ◌∷◌, ◌++◌, length, map, true, false, Some, None, Result, Ok, refl, sym, ap, ◌∙◌, subst, append_assoc, arith}
+use Rattle.std.proofs.Common.{Bool, ◌≡◌, ◌≢◌, inl, inr, ℕ, zero, suc, ◌-◌, ◌<◌, ◌≤◌, List, [], ◌∷◌, ◌++◌, length, map, true, false, Some, None, Ok, refl, sym, ap, ◌∙◌, subst, append_assoc, arith}
 use Rattle.std.specs.Prelude.{◌==◌, nat_lt, slice_get, slice_set, replicate, String, string_bytes}
 use Rattle.std.specs.declared.alloc.Global.{Global}
 use Rattle.std.proofs.lemmas.Bool.Decides.{nat_tests}
@@ -15,7 +15,6 @@ use Rattle.ot_cscope.specs.declared.scope.Meaning.{Meaning}
 use Rattle.ot_cscope.specs.declared.scope.Meaning.TheVariants as m
 use Rattle.ot_cscope.specs.declared.scope.Sense.TheVariants as s
 use Rattle.ot_cscope.specs.Constants.{constant}
-use Rattle.ot_cscope.specs.Results.{Refusal}
 use Rattle.ot_cscope.specs.Scopes.{Around, sense, name_text}
 use Rattle.ot_cdeclare.specs.Each.{each}
 use Rattle.ot_cdeclare.specs.Arrays.{D, first, number_step, begun as begun_by, cells_in, outside, variable_step}
@@ -23,18 +22,8 @@ use Rattle.ot_cback.specs.Numbering.{name_of}
 use Rattle.ot_cback.specs.Values.{constant_tree}
 use Rattle.ot_cfileback.specs.Parts.{start, cells_of}
 use Rattle.ot_clowerback.specs.Known.{KnowsArrays}
+use Rattle.ot_clowerback.proofs.HeadingLemmas.{no_more, one_more}
 use Rattle.ot_cprogramback.specs.Programs.{DeclarationFits, IsApart, DeclarationsFit, IsDeclared, begun}
-
--- ---- one after another
-
-module _ {A B : Type 0} (step : A → B → Result A Refusal) where
-  pub no_more : (a : A) → each step a [] ≡ Ok a
-  unfolding each
-  no_more a = refl
-
-  pub one_more : (a b : A) (x : B) (xs : List B) → step a x ≡ Ok b → each step a (x ∷ xs) ≡ each step b xs
-  unfolding each
-  one_more a b x xs is = rw is refl
 
 -- ---- numbers
 

@@ -1,8 +1,7 @@
 -- The tree of a file becomes its program.
 use Rattle.std.proofs.Common.{Bool, ◌≡◌, ℕ, suc, ◌+◌, ◌≤◌, List, [], ◌∷◌, ◌++◌, length, map, true, false, Some, Ok, refl, sym, ap, ◌∙◌, subst, append_assoc, arith}
-use Rattle.std.specs.Prelude.{nat_lt, slice_get, replicate, String, codes}
+use Rattle.std.specs.Prelude.{slice_get, replicate, String, codes}
 use Rattle.std.specs.declared.alloc.Global.{Global}
-use Rattle.std.proofs.lemmas.Bool.Decides.{nat_tests}
 use Rattle.std.proofs.lemmas.List.{append-nil, length-replicate, get_or-replicate}
 use Rattle.std.proofs.lemmas.Option.{slice_get-get_or, slice_get_within}
 use Rattle.serde_json.specs.Data.{Data, string, array}
@@ -33,25 +32,18 @@ use Rattle.ot_cdeclare.specs.Places.{byte_of}
 use Rattle.ot_clower.specs.declared.lowered.Reductions.TheVariants as r
 use Rattle.ot_clower.specs.Files.{P, top_step, main_step, nothing, lowered}
 use Rattle.ot_clower.specs.Files.{shown as shown_array}
-use Rattle.ot_clower.specs.Lines.{L, none}
+use Rattle.ot_clower.specs.Lines.{none}
 use Rattle.ot_clower.specs.Statements.{Origin, read_step, statement, body}
 use Rattle.ot_cback.specs.Bodies.{body_trees}
 use Rattle.ot_cfileback.specs.Files.{shown_behind, shown, parts}
 use Rattle.ot_cfileback.specs.Parts.{Part, Declares, Runs, Marks, Shows, region_words, all_part_words, cells_of, declared_tree, acts, act}
 use Rattle.ot_clowerback.specs.Known.{KnowsArrays}
 use Rattle.ot_clowerback.specs.Bodies.{AreFound, BodyIsPlain, places, AreRead, Becomes}
-use Rattle.ot_clowerback.proofs.BodyLemmas.{body_back}
-use Rattle.ot_clowerback.proofs.HeadingLemmas.{heading_is}
+use Rattle.ot_clowerback.proofs.BodyLemmas.{few, line, body_back}
+use Rattle.ot_clowerback.proofs.HeadingLemmas.{no_more, one_more, heading_is}
 use Rattle.ot_cprogramback.specs.Programs.{DeclarationFits, DeclarationsFit, IsDeclared, begun, act_places, BecomesProgram}
-use Rattle.ot_cprogramback.proofs.DeclarationLemmas.{no_more, one_more, with_all, AreNew, still_new, variable_is, knows}
+use Rattle.ot_cprogramback.proofs.DeclarationLemmas.{with_all, AreNew, still_new, variable_is, knows}
 use Rattle.ot_cprogramback.proofs.PointerLemmas.{none_from}
-
-few : (x : ℕ) → x ≤ 20000 → nat_lt 20000 x ≡ false
-few x small = grind (arith, nat_tests)
-
--- statements that become these texts, at these places
-abbrev line : List Data → List ℕ → L
-line ts bs = record { texts = ts; places = bs; taking = [] }
 
 module _ (number : Text → ℕ) (words : List (String Global)) (starts : List ℕ) where
   abbrev origin : Origin
