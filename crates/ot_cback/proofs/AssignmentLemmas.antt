@@ -39,7 +39,7 @@ use Rattle.ot_cstatement.specs.Simple.{One, change_of, change_at, target_at, ass
 use Rattle.ot_cstatement.specs.Statements.{opening_of, form_at, statement_at}
 use Rattle.ot_cback.specs.Numbering.{word_of, words_of, name_meant, name_of}
 use Rattle.ot_cback.specs.Values.{constant_type, call_words, words, constant_tree, tree_of, depth, Fits}
-use Rattle.ot_cback.specs.Assignments.{target_name, target_place, place_words, aim, ended, assigned, set_words, set_tree, fold_form, assign_mark, folded, fold_words, folded_tree, fold_tree, NoneIsType}
+use Rattle.ot_cback.specs.Assignments.{target_name, target_place, place_words, aim, ended, assigned, set_words, set_tree, fold_form, assign_mark, folded, fold_words, folded_tree, fold_tree}
 use Rattle.ot_cback.proofs.RowLemmas.{stop_close_index}
 use Rattle.ot_cback.proofs.PartLemmas.{IsAt, alone, at_place, number_alone}
 use Rattle.ot_cback.proofs.ValueLemmas.{name_word, deeper_at, call_read, reads}
@@ -54,13 +54,13 @@ stop_semicolon ws = ends (w.Mark m.Semicolon ∷ ws) refl
 pub index_read : (i : ℕ) (rest : List Word) → index_at (w.Mark m.OpenIndex ∷ w.Number i (constant_type i) ∷ w.Mark m.CloseIndex ∷ rest) ≡ Ok (Some (constant_tree i), rest)
 unfolding index_at close_index_at
 index_read i rest =
-    let is : value_at 48 1 (w.Number i (constant_type i) ∷ w.Mark m.CloseIndex ∷ rest) ≡ Ok (constant_tree i, w.Mark m.CloseIndex ∷ rest) =
-    alone 1 1 (w.Number i (constant_type i) ∷ []) (constant_tree i) (omega arith) (number_alone i (constant_type i)) 48 (w.Mark m.CloseIndex ∷ rest) (omega arith) (stop_close_index rest) in
+    let is : value_at 72 1 (w.Number i (constant_type i) ∷ w.Mark m.CloseIndex ∷ rest) ≡ Ok (constant_tree i, w.Mark m.CloseIndex ∷ rest) =
+    alone 1 1 (w.Number i (constant_type i) ∷ []) (constant_tree i) (omega arith) (number_alone i (constant_type i)) 72 (w.Mark m.CloseIndex ∷ rest) (omega arith) (stop_close_index rest) in
     rw is refl
 
 -- a mark changes by a sign, or sets
 abbrev Changes : Mark → Option Sign → Type 0
-Changes mark sign = (ws rest : List Word) (x : tree.E) → value_at 48 1 ws ≡ Ok (x, rest) → change_at (w.Mark mark ∷ ws) ≡ Ok (sign, x, rest)
+Changes mark sign = (ws rest : List Word) (x : tree.E) → value_at 72 1 ws ≡ Ok (x, rest) → change_at (w.Mark mark ∷ ws) ≡ Ok (sign, x, rest)
 
 sets : Changes m.Assign None
 unfolding change_at change_of
@@ -86,12 +86,12 @@ xors : Changes m.XorAssign (Some s.Xor)
 unfolding change_at change_of
 xors ws rest x read = rw read refl
 
-assignment_read : (left : ℕ) (a : Name) (i : ℕ) (mark : Mark) (sign : Option Sign) (ws rest : List Word) (x : tree.E) → Changes mark sign → IsAt 1 48 ws x
+assignment_read : (left : ℕ) (a : Name) (i : ℕ) (mark : Mark) (sign : Option Sign) (ws rest : List Word) (x : tree.E) → Changes mark sign → IsAt 1 72 ws x
     → assignment_at left a (w.Mark m.OpenIndex ∷ w.Number i (constant_type i) ∷ w.Mark m.CloseIndex ∷ w.Mark mark ∷ (ws ++ (w.Mark m.Semicolon ∷ rest))) ≡ Ok (Assign left (aim a i) sign x, rest)
 unfolding assignment_at target_at semicolon_at
 assignment_read left a i mark sign ws rest x changes read =
     let behind = ws ++ (w.Mark m.Semicolon ∷ rest) in
-    let value_is : value_at 48 1 behind ≡ Ok (x, w.Mark m.Semicolon ∷ rest) = read 48 (w.Mark m.Semicolon ∷ rest) (omega arith) (stop_semicolon rest) in
+    let value_is : value_at 72 1 behind ≡ Ok (x, w.Mark m.Semicolon ∷ rest) = read 72 (w.Mark m.Semicolon ∷ rest) (omega arith) (stop_semicolon rest) in
     rw (index_read i (w.Mark mark ∷ behind), changes behind (w.Mark m.Semicolon ∷ rest) x value_is) refl
 
 named_read : (inner : List Word → One) (left : ℕ) (a : Name) (ws : List Word) → opening_of a ≡ opening_of (n.Other 0) → form_at inner left (w.Name a ∷ w.Mark m.OpenIndex ∷ ws) ≡ assignment_at left a (w.Mark m.OpenIndex ∷ ws)
@@ -122,7 +122,7 @@ module _ (number : Text → ℕ) where
   unfolding statement_at
   statement_is depth ws = refl
 
-  assigned_read : (nesting : ℕ) (text : Text) (i : ℕ) (mark : Mark) (sign : Option Sign) (ws : List Spoken) (rest : List Word) (x : tree.E) → IsTarget (name_of number text) → Changes mark sign → IsAt 1 48 (spelled ws) x
+  assigned_read : (nesting : ℕ) (text : Text) (i : ℕ) (mark : Mark) (sign : Option Sign) (ws : List Spoken) (rest : List Word) (x : tree.E) → IsTarget (name_of number text) → Changes mark sign → IsAt 1 72 (spelled ws) x
       → statement_at (suc nesting) (spelled (assigned text i mark ws) ++ rest) ≡ Ok (Assign (length (spelled (assigned text i mark ws) ++ rest)) (aim (name_of number text) i) sign x, rest)
   assigned_read nesting text i mark sign ws rest x target changes read =
       let all = spelled (assigned text i mark ws) ++ rest in
@@ -177,20 +177,20 @@ record IsNone (text : Text) : Type 0 where
   pub else_word : bytes_eq (codes "else") text ≡ false
   pub return_word : bytes_eq (codes "return") text ≡ false
 
-is_none : (text : Text) → is_taken text ≡ false → bytes_eq (codes "size_t") text ≡ false → IsNone text
-is_none text free size = record {
+is_none : (text : Text) → is_taken text ≡ false → IsNone text
+is_none text free = record {
   if_word = no_taken 23 text free (omega arith);
   for_word = no_taken 20 text free (omega arith);
   printf_word = no_taken 31 text free (omega arith);
   show_word = no_taken 36 text free (omega arith);
   int_word = no_taken 25 text free (omega arith);
-  unsigned_word = no_taken 51 text free (omega arith);
+  unsigned_word = no_taken 52 text free (omega arith);
   long_word = no_taken 27 text free (omega arith);
-  type_word = no_taken 48 text free (omega arith);
-  size_word = size;
-  static_word = no_taken 39 text free (omega arith);
+  type_word = no_taken 49 text free (omega arith);
+  size_word = no_taken 38 text free (omega arith);
+  static_word = no_taken 40 text free (omega arith);
   const_word = no_taken 9 text free (omega arith);
-  void_word = no_taken 52 text free (omega arith);
+  void_word = no_taken 53 text free (omega arith);
   else_word = no_taken 15 text free (omega arith);
   return_word = no_taken 34 text free (omega arith);
 }
@@ -226,8 +226,8 @@ unfolding opening_of
 meant_opens i None free = refl
 meant_opens i (Some k) free = known_opens k (free k refl)
 
-array_target : (number : Text → ℕ) (text : Text) → is_taken text ≡ false → bytes_eq (codes "size_t") text ≡ false → IsTarget (name_of number text)
-array_target number text free size = record { name = is_name number text free; begins = meant_opens (number text) (known_of text) (λ k is. opens_of text k (is_none text free size) is) }
+array_target : (number : Text → ℕ) (text : Text) → is_taken text ≡ false → IsTarget (name_of number text)
+array_target number text free = record { name = is_name number text free; begins = meant_opens (number text) (known_of text) (λ k is. opens_of text k (is_none text free) is) }
 
 -- a pointer's name means nothing by itself: it begins with a capital
 pointer_meant : (names : List Text) (op : Operation) (c : Cell) → known_of (pointer names op c) ≡ None
@@ -250,12 +250,12 @@ pointer_target number names op c = other_target (number (pointer names op c)) (k
 
 -- ---- sets and folds
 
-module _ (number : Text → ℕ) (names : List Text) (are : AreIdentifiers names) (none : NoneIsType names) where
+module _ (number : Text → ℕ) (names : List Text) (are : AreIdentifiers names) where
   abbrev arrays : ℕ → Name
   arrays i = name_of number (name names i)
 
   pub set_target : (c : Cell) → c.array < length names → IsTarget (arrays c.array)
-  set_target c within = array_target number (name names c.array) (are.free c.array within) (none c.array within)
+  set_target c within = array_target number (name names c.array) (are.free c.array within)
 
   pub fold_target : (own : Bool) (op : Operation) (c : Cell) → c.array < length names → IsTarget (name_of number (if own then pointer names op c else name names c.array))
   fold_target true op c within = pointer_target number names op c
@@ -264,34 +264,34 @@ module _ (number : Text → ℕ) (names : List Text) (are : AreIdentifiers names
   pub value_read : (e : E) (d : ℕ) → Fits names e → depth e ≤ d → IsAt 1 d (words_of number (words names e)) (tree_of arrays e)
   value_read e d fits deep = deeper_at 1 (depth e) d (words_of number (words names e)) (tree_of arrays e) deep (reads number names e (all_names names are number e fits)).value
 
-  pub set_read : (nesting : ℕ) (c : Cell) (e : E) (rest : List Word) → Fits names (CellAt c) → Fits names e → depth e ≤ 48
+  pub set_read : (nesting : ℕ) (c : Cell) (e : E) (rest : List Word) → Fits names (CellAt c) → Fits names e → depth e ≤ 72
       → statement_at (suc nesting) (words_of number (set_words names c e) ++ rest) ≡ Ok (set_tree number names (length (words_of number (set_words names c e) ++ rest)) c e, rest)
   set_read nesting c e rest cell fits deep =
-      assigned_read number nesting (name names c.array) c.index m.Assign None (words names e) rest (tree_of arrays e) (set_target c cell.0) sets (value_read e 48 fits deep)
+      assigned_read number nesting (name names c.array) c.index m.Assign None (words names e) rest (tree_of arrays e) (set_target c cell.0) sets (value_read e 72 fits deep)
 
   -- a fold by a call into a place
-  called_read : (nesting : ℕ) (call : Call) (text : Text) (i : ℕ) (ws : List Spoken) (x : tree.E) (rest : List Word) → IsTarget (name_of number text) → IsAt 1 47 (words_of number ws) x
+  called_read : (nesting : ℕ) (call : Call) (text : Text) (i : ℕ) (ws : List Spoken) (x : tree.E) (rest : List Word) → IsTarget (name_of number text) → IsAt 1 71 (words_of number ws) x
       → statement_at (suc nesting) (words_of number (assigned text i m.Assign (call_words call (place_words text i) ws)) ++ rest)
       ≡ Ok (Assign (length (words_of number (assigned text i m.Assign (call_words call (place_words text i) ws)) ++ rest)) (aim (name_of number text) i) None (tree.Called call (tree.CellAt (name_of number text) (constant_tree i)) x), rest)
   called_read nesting call text i ws x rest target read =
-      let place = deeper_at 1 2 47 (words_of number (place_words text i)) (tree.CellAt (name_of number text) (constant_tree i)) (omega arith) (place_read number text i target.name) in
-      let both = call_read number names call 47 47 (place_words text i) ws (tree.CellAt (name_of number text) (constant_tree i)) x place read in
-      let value = alone 1 (max 47 47 + 1) (words_of number (call_words call (place_words text i) ws)) (tree.Called call (tree.CellAt (name_of number text) (constant_tree i)) x) (omega arith) both in
+      let place = deeper_at 1 2 71 (words_of number (place_words text i)) (tree.CellAt (name_of number text) (constant_tree i)) (omega arith) (place_read number text i target.name) in
+      let both = call_read number names call 71 71 (place_words text i) ws (tree.CellAt (name_of number text) (constant_tree i)) x place read in
+      let value = alone 1 (max 71 71 + 1) (words_of number (call_words call (place_words text i) ws)) (tree.Called call (tree.CellAt (name_of number text) (constant_tree i)) x) (omega arith) both in
       assigned_read number nesting text i m.Assign None (call_words call (place_words text i) ws) rest (tree.Called call (tree.CellAt (name_of number text) (constant_tree i)) x) target sets value
 
   -- a fold into a place
-  folded_read : (nesting : ℕ) (op : Operation) (text : Text) (i : ℕ) (ws : List Spoken) (x : tree.E) (rest : List Word) → IsTarget (name_of number text) → IsAt 1 47 (words_of number ws) x
+  folded_read : (nesting : ℕ) (op : Operation) (text : Text) (i : ℕ) (ws : List Spoken) (x : tree.E) (rest : List Word) → IsTarget (name_of number text) → IsAt 1 71 (words_of number ws) x
       → statement_at (suc nesting) (words_of number (assigned text i (assign_mark op) (folded (fold_form op) text i ws)) ++ rest)
       ≡ Ok (folded_tree (length (words_of number (assigned text i (assign_mark op) (folded (fold_form op) text i ws)) ++ rest)) (fold_form op) (name_of number text) i x, rest)
-  folded_read nesting f.Plus text i ws x rest target read = assigned_read number nesting text i m.AddAssign (Some s.Plus) ws rest x target adds (deeper_at 1 47 48 (words_of number ws) x (omega arith) read)
-  folded_read nesting f.Times text i ws x rest target read = assigned_read number nesting text i m.MultiplyAssign (Some s.Times) ws rest x target multiplies (deeper_at 1 47 48 (words_of number ws) x (omega arith) read)
-  folded_read nesting f.And text i ws x rest target read = assigned_read number nesting text i m.AndAssign (Some s.And) ws rest x target ands (deeper_at 1 47 48 (words_of number ws) x (omega arith) read)
-  folded_read nesting f.Or text i ws x rest target read = assigned_read number nesting text i m.OrAssign (Some s.Or) ws rest x target ors (deeper_at 1 47 48 (words_of number ws) x (omega arith) read)
-  folded_read nesting f.Xor text i ws x rest target read = assigned_read number nesting text i m.XorAssign (Some s.Xor) ws rest x target xors (deeper_at 1 47 48 (words_of number ws) x (omega arith) read)
+  folded_read nesting f.Plus text i ws x rest target read = assigned_read number nesting text i m.AddAssign (Some s.Plus) ws rest x target adds (deeper_at 1 71 72 (words_of number ws) x (omega arith) read)
+  folded_read nesting f.Times text i ws x rest target read = assigned_read number nesting text i m.MultiplyAssign (Some s.Times) ws rest x target multiplies (deeper_at 1 71 72 (words_of number ws) x (omega arith) read)
+  folded_read nesting f.And text i ws x rest target read = assigned_read number nesting text i m.AndAssign (Some s.And) ws rest x target ands (deeper_at 1 71 72 (words_of number ws) x (omega arith) read)
+  folded_read nesting f.Or text i ws x rest target read = assigned_read number nesting text i m.OrAssign (Some s.Or) ws rest x target ors (deeper_at 1 71 72 (words_of number ws) x (omega arith) read)
+  folded_read nesting f.Xor text i ws x rest target read = assigned_read number nesting text i m.XorAssign (Some s.Xor) ws rest x target xors (deeper_at 1 71 72 (words_of number ws) x (omega arith) read)
   folded_read nesting f.Min text i ws x rest target read = called_read nesting c.Min text i ws x rest target read
   folded_read nesting f.Max text i ws x rest target read = called_read nesting c.Max text i ws x rest target read
 
-  pub fold_read : (nesting : ℕ) (own : List Use) (op : Operation) (c : Cell) (e : E) (rest : List Word) → Fits names (CellAt c) → Fits names e → depth e ≤ 47
+  pub fold_read : (nesting : ℕ) (own : List Use) (op : Operation) (c : Cell) (e : E) (rest : List Word) → Fits names (CellAt c) → Fits names e → depth e ≤ 71
       → statement_at (suc nesting) (words_of number (fold_words names own op c e) ++ rest) ≡ Ok (fold_tree number names own (length (words_of number (fold_words names own op c e) ++ rest)) op c e, rest)
   fold_read nesting own op c e rest cell fits deep =
-      folded_read nesting op (target_name names own op c) (target_place own op c) (words names e) (tree_of arrays e) rest (fold_target (only_folds own op c) op c cell.0) (value_read e 47 fits deep)
+      folded_read nesting op (target_name names own op c) (target_place own op c) (words names e) (tree_of arrays e) rest (fold_target (only_folds own op c) op c cell.0) (value_read e 71 fits deep)

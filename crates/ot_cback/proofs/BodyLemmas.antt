@@ -37,7 +37,7 @@ use Rattle.ot_cstatement.specs.Directives.{directive_of, all_fit, own_clauses}
 use Rattle.ot_cstatement.specs.Statements.{opening_of, is_else, else_end, block_end, stmts_step, stmts_at, body_at, otherwise_at, branch_at, task_at, directive_at, form_at, statement_at}
 use Rattle.ot_cback.specs.Numbering.{word_of, words_of, name_of}
 use Rattle.ot_cback.specs.Values.{words, tree_of, depth, Fits}
-use Rattle.ot_cback.specs.Assignments.{set_words, set_tree, fold_words, fold_tree, NoneIsType}
+use Rattle.ot_cback.specs.Assignments.{set_words, set_tree, fold_words, fold_tree}
 use Rattle.ot_cback.specs.Clauses.{Direction, In, Out, Clause, Lists, Goes, Reduces, Combines, all_clause_words, claim, listed, over_long, in_mode, reducing, folding, clauses}
 use Rattle.ot_cback.specs.Waits.{wait_words, wait_tree}
 use Rattle.ot_cback.specs.Groups.{block, headed}
@@ -55,7 +55,7 @@ use Rattle.ot_cback.proofs.GroupLemmas.{plain_read, reduced_read}
 -- ---- statements that hold others
 
 module _ (one : List Word → One) (left : ℕ) where
-  branch_back : (ws aws other rest : List Word) (x : values.E) (a b : tree.Body) → value_at 48 1 (ws ++ (w.Mark m.Close ∷ aws)) ≡ Ok (x, w.Mark m.Close ∷ aws) → body_at one aws ≡ Ok (a, other) → otherwise_at one other ≡ Ok (b, rest)
+  branch_back : (ws aws other rest : List Word) (x : values.E) (a b : tree.Body) → value_at 72 1 (ws ++ (w.Mark m.Close ∷ aws)) ≡ Ok (x, w.Mark m.Close ∷ aws) → body_at one aws ≡ Ok (a, other) → otherwise_at one other ≡ Ok (b, rest)
       → form_at one left (w.Name (n.Known means.If) ∷ w.Mark m.Open ∷ (ws ++ (w.Mark m.Close ∷ aws))) ≡ Ok (tree.If left x a b, rest)
   unfolding form_at opening_of branch_at open_at close_at
   branch_back ws aws other rest x a b test body otherwise = rw (test, body, otherwise) refl
@@ -154,7 +154,7 @@ name_begins : (number : Text → ℕ) (names : List Text) (a : Name) (ws : List 
 unfolding block_end else_end
 name_begins number names a ws is = record { no_end = refl; no_else = rw (plain_else a is) refl }
 
-module _ (number : Text → ℕ) (names : List Text) (are : AreIdentifiers names) (none : NoneIsType names) where
+module _ (number : Text → ℕ) (names : List Text) (are : AreIdentifiers names) where
   abbrev said : List Spoken → List Word
   said ws = words_of number ws
 
@@ -163,8 +163,8 @@ module _ (number : Text → ℕ) (names : List Text) (are : AreIdentifiers names
 
   begins : (own : List Use) (s : S) (rest : List Word) → is_nothing s ≡ false → StatementFits names s → Begins number names (said (statement_words names own s) ++ rest)
   unfolding block_end else_end is_else
-  begins own (Set c e) rest some fits = assigned_begins (name names c.array) _ (set_target number names are none c fits.0.0)
-  begins own (Fold op c e) rest some fits = assigned_begins (target_name names own op c) _ (fold_target number names are none (only_folds own op c) op c fits.0.0)
+  begins own (Set c e) rest some fits = assigned_begins (name names c.array) _ (set_target number names are c fits.0.0)
+  begins own (Fold op c e) rest some fits = assigned_begins (target_name names own op c) _ (fold_target number names are (only_folds own op c) op c fits.0.0)
   begins own (If e a b) rest some fits = record { no_end = refl; no_else = refl }
   begins own (Task us b) rest some fits = record { no_end = refl; no_else = refl }
   begins own (Wait None) rest some fits = record { no_end = refl; no_else = refl }
@@ -247,7 +247,7 @@ module _ (number : Text → ℕ) (names : List Text) (are : AreIdentifiers names
       spelled_append number test (Marked m.Close ∷ (block ws ++ other)) rest
       ∙ ap (λ vs. said test ++ (w.Mark m.Close ∷ vs)) (spelled_append number (block ws) other rest)
 
-  branch_read : (k : ℕ) (own : List Use) (e : E) (a b : Body) (rest : List Word) → Fits names e → depth e ≤ 48 → IsBody k own a → IsBody k own b → else_end rest ≡ None
+  branch_read : (k : ℕ) (own : List Use) (e : E) (a b : Body) (rest : List Word) → Fits names e → depth e ≤ 72 → IsBody k own a → IsBody k own b → else_end rest ≡ None
       → statement_at (suc k) (said (statement_words names own (If e a b)) ++ rest) ≡ Ok (statement_tree number names own (length rest) (If e a b), rest)
   branch_read k own e a b rest fits deep one two alone =
       let other = otherwise_words b (body_words names own b) in
@@ -256,7 +256,7 @@ module _ (number : Text → ℕ) (names : List Text) (are : AreIdentifiers names
       let behind = said other ++ rest in
       let aws = said (block (body_words names own a)) ++ behind in
       let x = tree_of (λ i. name_of number (name names i)) e in
-      let test = value_read number names are none e 48 fits deep 48 (w.Mark m.Close ∷ aws) (omega arith) (ends (w.Mark m.Close ∷ aws) (no_close aws)) in
+      let test = value_read number names are e 72 fits deep 72 (w.Mark m.Close ∷ aws) (omega arith) (ends (w.Mark m.Close ∷ aws) (no_close aws)) in
       let left = tree.body_of (body_trees number names own (suc (length behind)) a) in
       let right = tree.body_of (body_trees number names own (suc (length rest)) b) in
       statement_is number names k all
@@ -269,13 +269,13 @@ module _ (number : Text → ℕ) (names : List Text) (are : AreIdentifiers names
 
   set_back : (k : ℕ) (own : List Use) (c : Cell) (e : E) (rest : List Word) → StatementFits names (Set c e) → statement_at (suc k) (said (set_words names c e) ++ rest) ≡ Ok (set_tree number names (length (set_words names c e) + length rest) c e, rest)
   set_back k own c e rest fits =
-      set_read number names are none k c e rest fits.0 fits.1 fits.2
+      set_read number names are k c e rest fits.0 fits.1 fits.2
       ∙ ap (λ l. Ok (set_tree number names l c e, rest)) (count number (set_words names c e) rest)
 
   fold_back : (k : ℕ) (own : List Use) (op : Operation) (c : Cell) (e : E) (rest : List Word) → StatementFits names (Fold op c e)
       → statement_at (suc k) (said (fold_words names own op c e) ++ rest) ≡ Ok (fold_tree number names own (length (fold_words names own op c e) + length rest) op c e, rest)
   fold_back k own op c e rest fits =
-      fold_read number names are none k own op c e rest fits.0 fits.1 fits.2
+      fold_read number names are k own op c e rest fits.0 fits.1 fits.2
       ∙ ap (λ l. Ok (fold_tree number names own l op c e, rest)) (count number (fold_words names own op c e) rest)
 
   wait_back : (k : ℕ) (us : List Use) (rest : List Word) → OnlyDepends us → statement_at (suc k) (said (wait_words names us) ++ rest) ≡ Ok (wait_tree number names (length (wait_words names us) + length rest) us, rest)

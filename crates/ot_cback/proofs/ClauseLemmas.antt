@@ -37,11 +37,11 @@ use Rattle.ot_cback.proofs.ValueLemmas.{name_word}
 
 -- ---- values of one word
 
-pub number_value : (v : ℕ) (t : IntegerType) (mark : Mark) (rest : List Word) → goes_on (w.Mark mark ∷ rest) ≡ false → value_at 48 1 (w.Number v t ∷ w.Mark mark ∷ rest) ≡ Ok (Literal v t, w.Mark mark ∷ rest)
-number_value v t mark rest stops = (back (Literal v t) tt).value 48 1 (w.Mark mark ∷ rest) (omega arith) (omega arith) (ends (w.Mark mark ∷ rest) stops)
+pub number_value : (v : ℕ) (t : IntegerType) (mark : Mark) (rest : List Word) → goes_on (w.Mark mark ∷ rest) ≡ false → value_at 72 1 (w.Number v t ∷ w.Mark mark ∷ rest) ≡ Ok (Literal v t, w.Mark mark ∷ rest)
+number_value v t mark rest stops = (back (Literal v t) tt).value 72 1 (w.Mark mark ∷ rest) (omega arith) (omega arith) (ends (w.Mark mark ∷ rest) stops)
 
-variable_value : (x : Name) (mark : Mark) (rest : List Word) → IsName x → goes_on (w.Mark mark ∷ rest) ≡ false → value_at 48 1 (w.Name x ∷ w.Mark mark ∷ rest) ≡ Ok (Variable x, w.Mark mark ∷ rest)
-variable_value x mark rest is stops = (back (Variable x) is).value 48 1 (w.Mark mark ∷ rest) (omega arith) (omega arith) (ends (w.Mark mark ∷ rest) stops)
+variable_value : (x : Name) (mark : Mark) (rest : List Word) → IsName x → goes_on (w.Mark mark ∷ rest) ≡ false → value_at 72 1 (w.Name x ∷ w.Mark mark ∷ rest) ≡ Ok (Variable x, w.Mark mark ∷ rest)
+variable_value x mark rest is stops = (back (Variable x) is).value 72 1 (w.Mark mark ∷ rest) (omega arith) (omega arith) (ends (w.Mark mark ∷ rest) stops)
 
 pub no_close_index : (rest : List Word) → goes_on (w.Mark m.CloseIndex ∷ rest) ≡ false
 unfolding goes_on any_sign sign_of

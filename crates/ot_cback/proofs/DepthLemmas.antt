@@ -54,5 +54,5 @@ shallow (PickFrom s e) =
     let most = picked (s.start == 0) (beside e (depth e)) (depth_of e) inner.side (deep e) in
     record { value = omega (arith, most); side = omega (arith, most) }
 
-pub fits : (e : E) → depth_of e ≤ 16 → depth e ≤ 47
+pub fits : (e : E) → depth_of e ≤ 24 → depth e ≤ 71
 fits e h = let is = (shallow e).value in omega (arith, is, h)

@@ -57,8 +57,8 @@ module _ (one : List Word → One) (left : ℕ) where
   unfolding form_at opening_of local_at pointer_at cell_at name_at assign_at address_at open_index_at close_index_at semicolon_at
   point_back p a i rest =
       let behind = w.Mark m.CloseIndex ∷ w.Mark m.Semicolon ∷ rest in
-      let is : value_at 48 1 (w.Number i (constant_type i) ∷ behind) ≡ Ok (constant_tree i, behind) =
-      alone 1 1 (w.Number i (constant_type i) ∷ []) (constant_tree i) (omega arith) (number_alone i (constant_type i)) 48 behind (omega arith) (stop_close_index (w.Mark m.Semicolon ∷ rest)) in
+      let is : value_at 72 1 (w.Number i (constant_type i) ∷ behind) ≡ Ok (constant_tree i, behind) =
+      alone 1 1 (w.Number i (constant_type i) ∷ []) (constant_tree i) (omega arith) (number_alone i (constant_type i)) 72 behind (omega arith) (stop_close_index (w.Mark m.Semicolon ∷ rest)) in
       rw is refl
 
   group_back : (ws more rest : List Word) (cs : List Claim) (b : Body) → clauses_at ws ≡ Ok (cs, more) → IfSome (directive_of (n.Known means.Taskgroup)) (λ d. all_fit d cs ≡ true) → body_at one more ≡ Ok (b, rest)

@@ -1,6 +1,5 @@
 -- What ot_c writes of a set and of a fold: their words, and the trees that C has of them.
-use Rattle.std.specs.Prelude.{◌≡◌, ℕ, ◌<◌, false, if◌then◌else◌, List, [], ◌∷◌, ◌++◌, length, codes, Some, None}
-use Rattle.std.specs.Str.{bytes_eq}
+use Rattle.std.specs.Prelude.{ℕ, if◌then◌else◌, List, [], ◌∷◌, ◌++◌, Some, None}
 use Rattle.ot_model.specs.declared.expr.Cell.{Cell}
 use Rattle.ot_model.specs.declared.fold.Fold.{Fold as Operation}
 use Rattle.ot_model.specs.declared.fold.Fold.TheVariants as f
@@ -91,9 +90,3 @@ folded_tree left (As call) array i x = Assign left (aim array i) None (tree.Call
 -- the tree of a fold that begins where so many words are left
 abbrev pub fold_tree : (Text → ℕ) → List Text → List Use → ℕ → Operation → Cell → E → S
 fold_tree number names own left op c e = folded_tree left (fold_form op) (name_of number (target_name names own op c)) (target_place own op c) (tree_of (λ i. name_of number (name names i)) e)
-
--- ---- names
-
--- No array is called `size_t`: a statement that begins with that word is read as a declaration.
-abbrev pub NoneIsType : List Text → Type 0
-NoneIsType names = (i : ℕ) → i < length names → bytes_eq (codes "size_t") (name names i) ≡ false

@@ -85,9 +85,9 @@ abbrev mutual
 -- values fit, and waits fold nothing
 abbrev mutual
   pub StatementFits : List Text → S → Type 0
-  StatementFits names (Set c e) = Fits names (CellAt c) × Fits names e × (depth e ≤ 48)
-  StatementFits names (Fold op c e) = Fits names (CellAt c) × Fits names e × (depth e ≤ 47)
-  StatementFits names (If e a b) = Fits names e × (depth e ≤ 48) × BodyFits names a × BodyFits names b
+  StatementFits names (Set c e) = Fits names (CellAt c) × Fits names e × (depth e ≤ 72)
+  StatementFits names (Fold op c e) = Fits names (CellAt c) × Fits names e × (depth e ≤ 71)
+  StatementFits names (If e a b) = Fits names e × (depth e ≤ 72) × BodyFits names a × BodyFits names b
   StatementFits names (Task us b) = BodyFits names b
   StatementFits names (Wait None) = Unit {0}
   StatementFits names (Wait (Some us)) = OnlyDepends us

@@ -11,7 +11,7 @@ pub fn value_words_read_as_tree()
     ensures { ValueWordsReadAsTree }
 {}
 
-/// A value that is no deeper than 16 in a program is none too deep in C.
+/// A value of depth 24 at most is none too deep in C, not even in a fold.
 pub fn shallow_values_fit()
     ensures { ShallowValuesFit }
 {}

@@ -18,7 +18,6 @@ use Rattle.ot_cfile.specs.Program.{Act}
 use Rattle.ot_cfile.specs.Main.{main_at, has_region}
 use Rattle.ot_cfile.specs.Files.{is_void, void_end, parameters_at, is_int, is_main, main_begin, tops_at, none_left, file_at}
 use Rattle.ot_cback.specs.Numbering.{word_of, words_of}
-use Rattle.ot_cback.specs.Assignments.{NoneIsType}
 use Rattle.ot_cback.specs.Bodies.{levels, BodyFits}
 use Rattle.ot_cfileback.specs.Functions.{Front, all_front_words, TellsSides}
 use Rattle.ot_cfileback.specs.Parts.{Part, Declares, Runs, Marks, all_part_words, acts}
@@ -37,12 +36,12 @@ whole_back : (ws vs : List Word) (ds : List Act) → tops_at ws ≡ Ok ([], w.Ma
 unfolding file_at parameters_at void_end is_void open_at close_at open_block_at none_left
 whole_back ws vs ds before within some = rw (before, within, some) refl
 
-module _ (number : Text → ℕ) (names : List Text) (are : AreIdentifiers names) (none : NoneIsType names) where
+module _ (number : Text → ℕ) (names : List Text) (are : AreIdentifiers names) where
   abbrev said : List Spoken → List Word
   said ws = words_of number ws
 
   abbrev Fit : List Part → Type 0
-  Fit ps = AllFit number names are none ps
+  Fit ps = AllFit number names are ps
 
   fit_append : (ps qs : List Part) → Fit ps → Fit qs → Fit (ps ++ qs)
   fit_append [] qs one two = two
@@ -80,10 +79,10 @@ module _ (number : Text → ℕ) (names : List Text) (are : AreIdentifiers names
       let before = front_back number fs ws head apart (omega arith) (main_begins head) in
       ap file_at (map-append (word_of number) (all_front_words fs) (main_words names ps))
       ∙ ap (λ us. file_at (said (all_front_words fs) ++ us)) (main_text ps)
-      ∙ whole_back (said (all_front_words fs) ++ ws) vs (acts number names (length return_words) ps) before (parts_back number names are none ps (fit_parts ds p fits low))
+      ∙ whole_back (said (all_front_words fs) ++ ws) vs (acts number names (length return_words) ps) before (parts_back number names are ps (fit_parts ds p fits low))
       (has_body number names (length return_words) ds p.body (Marks ∷ (shown p.shows ++ (Marks ∷ []))))
 
 module _ (number : Text → ℕ) where
-  pub file_back : (fs : List Front) (arrays : List (Text × ℕ)) (numbers : List (List ℕ)) (p : Expanded) → AreIdentifiers (names_of arrays) → NoneIsType (names_of arrays) → TellsSides number fs → BodyFits (names_of arrays) p.body → levels p.body ≤ 47
+  pub file_back : (fs : List Front) (arrays : List (Text × ℕ)) (numbers : List (List ℕ)) (p : Expanded) → AreIdentifiers (names_of arrays) → TellsSides number fs → BodyFits (names_of arrays) p.body → levels p.body ≤ 47
       → file_at (words_of number (file_words fs arrays numbers p)) ≡ Ok (file_tree number arrays numbers p)
-  file_back fs arrays numbers p are none apart fits low = words_back number (names_of arrays) are none fs (declared_from p 0 arrays numbers) p apart fits low
+  file_back fs arrays numbers p are apart fits low = words_back number (names_of arrays) are fs (declared_from p 0 arrays numbers) p apart fits low

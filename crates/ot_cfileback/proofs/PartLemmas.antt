@@ -31,7 +31,6 @@ use Rattle.ot_cfile.specs.Regions.{is_parallel, parallel_end, is_single, single_
 use Rattle.ot_cfile.specs.Main.{is_return, main_end, plain_at, act_at, main_step, main_at, has_region}
 use Rattle.ot_cback.specs.Numbering.{word_of, words_of, name_of}
 use Rattle.ot_cback.specs.Values.{constant_type, constant_tree}
-use Rattle.ot_cback.specs.Assignments.{NoneIsType}
 use Rattle.ot_cback.specs.Groups.{block}
 use Rattle.ot_cback.specs.Bodies.{body_words, body_trees, levels, BodyFits}
 use Rattle.ot_cback.proofs.ValueLemmas.{name_word}
@@ -165,7 +164,7 @@ no_show = refl
 
 -- ---- parts as they are written
 
-module _ (number : Text → ℕ) (names : List Text) (are : AreIdentifiers names) (none : NoneIsType names) where
+module _ (number : Text → ℕ) (names : List Text) (are : AreIdentifiers names) where
   abbrev said : List Spoken → List Word
   said ws = words_of number ws
 
@@ -204,7 +203,7 @@ module _ (number : Text → ℕ) (names : List Text) (are : AreIdentifiers names
       let inner = tree.body_of (body_trees number names [] (suc (length rest)) b) in
       let body : body_at (statement_at 48) ws ≡ Ok (inner, rest) =
       ap (body_at (statement_at 48)) (block_words number (body_words names [] b) rest)
-      ∙ block_body (statement_at 48) inside rest (body_trees number names [] (suc (length rest)) b) (body_back number names are none 47 [] b rest fits low) in
+      ∙ block_body (statement_at 48) inside rest (body_trees number names [] (suc (length rest)) b) (body_back number names are 47 [] b rest fits low) in
       region_step front ws rest inner body
       ∙ ap (λ l. Ok (front ++ Region l [] inner ∷ [], true, rest)) (count number (region_words names b) rest)
 

@@ -3,6 +3,6 @@ pub mod ClauseLemmas
 pub mod HeadingLemmas
 mod ReadLemmas
 mod TextLemmas
-mod ValueLemmas
+pub mod ValueLemmas
 mod StatementLemmas
 pub mod BodyLemmas

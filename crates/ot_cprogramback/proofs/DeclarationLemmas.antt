@@ -118,6 +118,11 @@ module _ (number : Text → ℕ) (words : List (String Global)) where
       })
   all_known ms (d ∷ ds) text fits new (inr is) = all_known (slice_set ms (number d.name) (cells d)) ds text fits.2 (still_new ms d ds fits.0 fits.1 fits.2 new.1) is
 
+  -- inside of regions and outside of them
+  pub cells_known : (inside : Bool) (ms : List Meaning) (ds : List Declared) (text : Text) → DeclarationsFit number words ds → AreNew ms ds → IsDeclared text ds
+      → (count : ℕ) × (sense (outside words (with_all ms ds) inside) (name_of number text) ≡ s.Cells t.UnsignedLong (Some count))
+  cells_known inside ms ds text fits new is = let known = all_known ms ds text fits new is in (known.count, rw (known.free, known.meaning) refl)
+
   -- ---- one declaration
 
   pub variable_is : (at : ℕ) (d : Declared) (before : D) → DeclarationFits number words d → slice_get before.meanings (number d.name) ≡ Some m.Nothing
@@ -132,14 +137,8 @@ module _ (number : Text → ℕ) (words : List (String Global)) where
     abbrev around : Around
     around = outside words (with_all ms ds) true
 
-    each_known : (i : ℕ) → known i ≡ true → IsKnown (with_all ms ds) (name names i)
-    each_known i named = all_known ms ds (name names i) fits new (declared i named)
-
-    cells_known : (i : ℕ) → known i ≡ true → (count : ℕ) × (sense around (name_of number (name names i)) ≡ s.Cells t.UnsignedLong (Some count))
-    cells_known i named = let is = each_known i named in (is.count, rw (is.free, is.meaning) refl)
-
     text_known : (i : ℕ) → known i ≡ true → string (name_text around (name_of number (name names i))) ≡ name_at shape i
-    text_known i named = let is = each_known i named in rw (is.free, is.word.1, is.word.2) (text i named)
+    text_known i named = let is = all_known ms ds (name names i) fits new (declared i named) in rw (is.free, is.word.1, is.word.2) (text i named)
 
     pub knows : KnowsArrays number names shape known around
-    knows = record { cells = cells_known; text = text_known; closed = refl }
+    knows = record { cells = λ i named. cells_known true ms ds (name names i) fits new (declared i named); text = text_known; closed = refl }

@@ -16,7 +16,7 @@ use Rattle.ot_program.specs.Copies.{copies, copies_of, copy}
 use Rattle.ot_program.specs.Printed.{four, name_at}
 use Rattle.ot_c.specs.Arrays.{Declared}
 use Rattle.ot_c.specs.Laws.{normal}
-use Rattle.ot_c.specs.Named.{body_names}
+use Rattle.ot_c.specs.Named.{is_array, sections_name, body_names, names as program_names}
 use Rattle.ot_words.specs.declared.word.IntegerType.TheVariants as t
 use Rattle.ot_words.specs.declared.word.Name.{Name}
 use Rattle.ot_cread.specs.Tree as values
@@ -25,7 +25,8 @@ use Rattle.ot_cfile.specs.Program.{Act, Local, Region, Does}
 use Rattle.ot_cscope.specs.declared.scope.Meaning.{Meaning}
 use Rattle.ot_cscope.specs.declared.scope.Meaning.TheVariants as m
 use Rattle.ot_cscope.specs.Forms.{form, listed}
-use Rattle.ot_cscope.specs.Scopes.{Around}
+use Rattle.ot_cscope.specs.declared.scope.Sense.TheVariants as s
+use Rattle.ot_cscope.specs.Scopes.{Around, sense}
 use Rattle.ot_cdeclare.specs.Arrays.{D, outside, variable_step}
 use Rattle.ot_cdeclare.specs.Each.{each}
 use Rattle.ot_cdeclare.specs.Places.{byte_of}
@@ -35,14 +36,16 @@ use Rattle.ot_clower.specs.Files.{shown as shown_array}
 use Rattle.ot_clower.specs.Lines.{none}
 use Rattle.ot_clower.specs.Statements.{Origin, read_step, statement, body}
 use Rattle.ot_cback.specs.Bodies.{body_trees}
+use Rattle.ot_cback.specs.Numbering.{name_of}
 use Rattle.ot_cfileback.specs.Files.{shown_behind, shown, parts}
 use Rattle.ot_cfileback.specs.Parts.{Part, Declares, Runs, Marks, Shows, region_words, all_part_words, cells_of, declared_tree, acts, act}
 use Rattle.ot_clowerback.specs.Known.{KnowsArrays}
 use Rattle.ot_clowerback.specs.Bodies.{AreFound, BodyIsPlain, places, AreRead, Becomes}
 use Rattle.ot_clowerback.proofs.BodyLemmas.{few, line, body_back}
 use Rattle.ot_clowerback.proofs.HeadingLemmas.{no_more, one_more, heading_is}
+use Rattle.ot_clowerback.proofs.ValueLemmas.{itself, or_left, or_right}
 use Rattle.ot_cprogramback.specs.Programs.{DeclarationFits, DeclarationsFit, IsDeclared, begun, act_places, BecomesProgram}
-use Rattle.ot_cprogramback.proofs.DeclarationLemmas.{with_all, AreNew, still_new, variable_is, knows}
+use Rattle.ot_cprogramback.proofs.DeclarationLemmas.{with_all, AreNew, still_new, cells_known, variable_is, knows}
 use Rattle.ot_cprogramback.proofs.PointerLemmas.{none_from}
 
 module _ (number : Text → ℕ) (words : List (String Global)) (starts : List ℕ) where
@@ -80,15 +83,19 @@ module _ (number : Text → ℕ) (words : List (String Global)) (starts : List �
 
     -- ---- what shows cells
 
-    abbrev IsQuiet : Part → Type 0
-    IsQuiet (Declares d) = ⊥
-    IsQuiet (Runs b) = ⊥
-    IsQuiet Marks = Unit {0}
-    IsQuiet (Shows s) = Unit {0}
+    -- outside of regions an array's name means its cells
+    abbrev IsSeen : D → ℕ → Type 0
+    IsSeen d i = (count : ℕ) × (sense (outside words d.meanings false) (name_of number (name names i)) ≡ s.Cells t.UnsignedLong (Some count))
 
-    abbrev AreQuiet : List Part → Type 0
-    AreQuiet [] = Unit {0}
-    AreQuiet (p ∷ ps) = IsQuiet p × AreQuiet ps
+    abbrev IsQuiet : D → Part → Type 0
+    IsQuiet d (Declares e) = ⊥
+    IsQuiet d (Runs b) = ⊥
+    IsQuiet d Marks = Unit {0}
+    IsQuiet d (Shows shows) = IsSeen d shows.array
+
+    abbrev AreQuiet : D → List Part → Type 0
+    AreQuiet d [] = Unit {0}
+    AreQuiet d (p ∷ ps) = IsQuiet d p × AreQuiet d ps
 
     nothing_step : (d : D) (ts : List Data) (bs : List ℕ) (s : tree.S) → statement origin (outside words d.meanings false) s ≡ Ok none → length bs ≤ 20000 → main_step words starts origin (so_far d ts bs) (Does s) ≡ Ok (so_far d ts bs)
     nothing_step d ts bs s is small = rw (is, few (length bs + 0) (omega (arith, small)), append-nil ts, append-nil bs) refl
@@ -97,49 +104,59 @@ module _ (number : Text → ℕ) (words : List (String Global)) (starts : List �
     unfolding statement
     print_is a left = no_more (read_step a (byte_of starts left)) none
 
-    show_is : (meanings : List Meaning) (left : ℕ) (x : Name) (i n : values.E) → statement origin (outside words meanings false) (tree.Show left x i n) ≡ Ok none
+    show_is : (meanings : List Meaning) (left : ℕ) (x : Name) (i n : values.E) (count : ℕ) → sense (outside words meanings false) x ≡ s.Cells t.UnsignedLong (Some count) → statement origin (outside words meanings false) (tree.Show left x i n) ≡ Ok none
     unfolding statement
-    show_is meanings left x i n = refl
+    show_is meanings left x i n count is = rw is refl
 
-    quiet_step : (d : D) (ts : List Data) (bs : List ℕ) (p : Part) (left : ℕ) → IsQuiet p → length bs ≤ 20000 → main_step words starts origin (so_far d ts bs) (act number names left p) ≡ Ok (so_far d ts bs)
+    quiet_step : (d : D) (ts : List Data) (bs : List ℕ) (p : Part) (left : ℕ) → IsQuiet d p → length bs ≤ 20000 → main_step words starts origin (so_far d ts bs) (act number names left p) ≡ Ok (so_far d ts bs)
     quiet_step d ts bs (Declares e) left quiet small = absurd quiet
     quiet_step d ts bs (Runs b) left quiet small = absurd quiet
     quiet_step d ts bs Marks left quiet small = nothing_step d ts bs _ (print_is (outside words d.meanings false) _) small
-    quiet_step d ts bs (Shows s) left quiet small = nothing_step d ts bs _ (show_is d.meanings _ _ _ _) small
+    quiet_step d ts bs (Shows shows) left quiet small = nothing_step d ts bs _ (show_is d.meanings _ _ _ _ quiet.0 quiet.1) small
 
-    all_quiet : (d : D) (ts : List Data) (bs : List ℕ) (ps : List Part) → AreQuiet ps → length bs ≤ 20000 → each (main_step words starts origin) (so_far d ts bs) (acts number names k ps) ≡ Ok (so_far d ts bs)
+    all_quiet : (d : D) (ts : List Data) (bs : List ℕ) (ps : List Part) → AreQuiet d ps → length bs ≤ 20000 → each (main_step words starts origin) (so_far d ts bs) (acts number names k ps) ≡ Ok (so_far d ts bs)
     all_quiet d ts bs [] quiet small = no_more (main_step words starts origin) (so_far d ts bs)
     all_quiet d ts bs (p ∷ ps) quiet small =
         one_more (main_step words starts origin) (so_far d ts bs) (so_far d ts bs) (act number names _ p) (acts number names k ps) (quiet_step d ts bs p _ quiet.0 small)
         ∙ all_quiet d ts bs ps quiet.1 small
 
-    quiet_append : (ps qs : List Part) → AreQuiet ps → AreQuiet qs → AreQuiet (ps ++ qs)
-    quiet_append [] qs one two = two
-    quiet_append (p ∷ ps) qs one two = (one.0, quiet_append ps qs one.1 two)
+    quiet_append : (d : D) (ps qs : List Part) → AreQuiet d ps → AreQuiet d qs → AreQuiet d (ps ++ qs)
+    quiet_append d [] qs one two = two
+    quiet_append d (p ∷ ps) qs one two = (one.0, quiet_append d ps qs one.1 two)
 
-    quiet_behind : (ss : List Section) → AreQuiet (shown_behind ss)
-    quiet_behind [] = tt
-    quiet_behind (s ∷ ss) = (tt, (tt, quiet_behind ss))
+    -- all arrays that sections name
+    abbrev AreSeen : D → List Section → Type 0
+    AreSeen d ss = (i : ℕ) → sections_name i ss ≡ true → IsSeen d i
 
-    quiet_shown : (ss : List Section) → AreQuiet (shown ss)
-    quiet_shown [] = tt
-    quiet_shown (s ∷ ss) = (tt, quiet_behind ss)
+    first_seen : (d : D) (x : Section) (ss : List Section) → AreSeen d (x ∷ ss) → IsSeen d x.array
+    first_seen d x ss all = all x.array (or_left (is_array x.array x.array) (sections_name x.array ss) (itself x.array))
+
+    others_seen : (d : D) (x : Section) (ss : List Section) → AreSeen d (x ∷ ss) → AreSeen d ss
+    others_seen d x ss all = λ i h. all i (or_right (is_array i x.array) (sections_name i ss) h)
+
+    quiet_behind : (d : D) (ss : List Section) → AreSeen d ss → AreQuiet d (shown_behind ss)
+    quiet_behind d [] all = tt
+    quiet_behind d (x ∷ ss) all = (tt, (first_seen d x ss all, quiet_behind d ss (others_seen d x ss all)))
+
+    quiet_shown : (d : D) (ss : List Section) → AreSeen d ss → AreQuiet d (shown ss)
+    quiet_shown d [] all = tt
+    quiet_shown d (x ∷ ss) all = (first_seen d x ss all, quiet_behind d ss (others_seen d x ss all))
 
     -- what stands behind the body
     abbrev behind : Expanded → List Part
     behind p = Marks ∷ (shown p.shows ++ (Marks ∷ []))
 
-    quiet_rest : (p : Expanded) → AreQuiet (behind p)
-    quiet_rest p = (tt, quiet_append (shown p.shows) (Marks ∷ []) (quiet_shown p.shows) (tt, tt))
+    quiet_rest : (d : D) (p : Expanded) → AreSeen d p.shows → AreQuiet d (behind p)
+    quiet_rest d p all = (tt, quiet_append d (shown p.shows) (Marks ∷ []) (quiet_shown d p.shows all) (tt, tt))
 
     -- ---- places
 
-    no_places : (ps : List Part) → AreQuiet ps → act_places starts (acts number names k ps) ≡ []
-    no_places [] quiet = refl
-    no_places (Declares d ∷ ps) quiet = absurd quiet.0
-    no_places (Runs b ∷ ps) quiet = absurd quiet.0
-    no_places (Marks ∷ ps) quiet = no_places ps quiet.1
-    no_places (Shows s ∷ ps) quiet = no_places ps quiet.1
+    no_places : (d : D) (ps : List Part) → AreQuiet d ps → act_places starts (acts number names k ps) ≡ []
+    no_places d [] quiet = refl
+    no_places d (Declares e ∷ ps) quiet = absurd quiet.0
+    no_places d (Runs b ∷ ps) quiet = absurd quiet.0
+    no_places d (Marks ∷ ps) quiet = no_places d ps quiet.1
+    no_places d (Shows shows ∷ ps) quiet = no_places d ps quiet.1
 
     declared_places : (ds : List Declared) (ps : List Part) → act_places starts (acts number names k (map Declares ds ++ ps)) ≡ act_places starts (acts number names k ps)
     declared_places [] ps = refl
@@ -177,27 +194,29 @@ module _ (number : Text → ℕ) (words : List (String Global)) (starts : List �
       → lowered words starts (record { tops = []; main = acts }) ≡ Ok (record { arrays = d.arrays; program = form (codes "program2") (listed (map shown_array d.arrays) ∷ listed ts ∷ []); places = bs; reductions = r.ByNames })
   whole_is acts d ts bs is = rw (no_more (top_step words starts) (nothing words), is) refl
 
-  pub file_lowered : (names : List Text) (shape : Arrays) (ds : List Declared) (p : Expanded) (k : ℕ) → DeclarationsFit number words ds → ((i : ℕ) → body_names i p.body ≡ true → IsDeclared (name names i) ds)
+  pub file_lowered : (names : List Text) (shape : Arrays) (ds : List Declared) (p : Expanded) (k : ℕ) → DeclarationsFit number words ds → ((i : ℕ) → program_names p i ≡ true → IsDeclared (name names i) ds)
       → ((i : ℕ) → body_names i p.body ≡ true → string (name names i) ≡ name_at shape i) → AreFound names shape → BodyIsPlain names p.body → length (act_places starts (acts number names k (parts ds p))) ≤ 20000
       → BecomesProgram shape (lowered words starts (record { tops = []; main = acts number names k (parts ds p) })) (map begun ds) (act_places starts (acts number names k (parts ds p))) (Next (Group Plus [] (normal [] p.body)) End)
   file_lowered names shape ds p k fits declared text found plain small =
       let first : D = record { meanings = replicate (length words) m.Nothing; arrays = [] } in
       let d = with_each first ds in
       let known = λ (i : ℕ). body_names i p.body in
-      let knows_all = knows number words names shape ds first.meanings fits (all_new ds fits) known declared text in
+      let knows_all = knows number words names shape ds first.meanings fits (all_new ds fits) known (λ i h. declared i (or_right (sections_name i p.shows) (body_names i p.body) h)) text in
+      let seen = λ (i : ℕ) (h : sections_name i p.shows ≡ true). cells_known number words false first.meanings ds (name names i) fits (all_new ds fits) (declared i (or_left (sections_name i p.shows) (body_names i p.body) h)) in
+      let quiet = quiet_rest names k d p seen in
       let left = length (region_words names p.body) + (length (all_part_words names (behind names k p)) + k) in
       let j = suc (length (all_part_words names (behind names k p)) + k) in
       let inner = tree.body_of (body_trees number names [] j p.body) in
       let bytes = byte_of starts left ∷ places starts inner in
       let same : act_places starts (acts number names k (parts ds p)) ≡ bytes =
       declared_places names k ds (Runs p.body ∷ behind names k p)
-      ∙ ap (λ bs. byte_of starts left ∷ (places starts inner ++ bs)) (no_places names k (behind names k p) (quiet_rest names k p))
+      ∙ ap (λ bs. byte_of starts left ∷ (places starts inner ++ bs)) (no_places names k d (behind names k p) quiet)
       ∙ ap (λ bs. byte_of starts left ∷ bs) (append-nil (places starts inner)) in
       let less : length bytes ≤ 20000 = subst (λ bs. length bs ≤ 20000) same small in
       let given = body_back number names shape found known origin (outside words d.meanings true) knows_all refl [] p.body j tt (λ i h. h) plain (omega (arith, less)) in
       let run : each (main_step words starts origin) (so_far first [] []) (acts number names k (parts ds p)) ≡ Ok (so_far d (grouped given.texts ∷ []) bytes) =
       all_declared names k ds (Runs p.body ∷ behind names k p) first fits (all_new ds fits)
       ∙ one_more (main_step words starts origin) (so_far d [] []) (so_far d (grouped given.texts ∷ []) bytes) (Region left [] inner) (acts number names k (behind names k p)) (region_step names shape known d knows_all left j p.body plain given (omega (arith, less)))
-      ∙ all_quiet names k d (grouped given.texts ∷ []) bytes (behind names k p) (quiet_rest names k p) less in
+      ∙ all_quiet names k d (grouped given.texts ∷ []) bytes (behind names k p) quiet less in
       subst (λ bs. BecomesProgram shape (lowered words starts (record { tops = []; main = acts number names k (parts ds p) })) (map begun ds) bs (Next (Group Plus [] (normal [] p.body)) End)) (sym same)
       (record { texts = grouped given.texts ∷ []; is = whole_is (acts number names k (parts ds p)) d (grouped given.texts ∷ []) bytes run; read = group_read shape given.texts (normal [] p.body) given.read })

@@ -1,14 +1,15 @@
--- Arrays that a body names are there, and are declared.
+-- Arrays that a program names are there, and are declared.
 use Rattle.std.proofs.Common.{◌≡◌, inl, inr, ℕ, zero, suc, ◌+◌, ◌<◌, List, [], ◌∷◌, length, Bool, true, false, ◌||◌, Some, None, refl, sym, ap, ◌∙◌, arith, true≢false}
 use Rattle.std.specs.Prelude.{◌==◌, if◌then◌else◌}
 use Rattle.std.proofs.lemmas.Bool.Decides.{nat_tests}
 use Rattle.ot_model.specs.Programs.{Expanded}
 use Rattle.ot_model.specs.Tree.{E, Literal, CellAt, Apply, PickFrom, S, Set, Fold, If, Task, Wait, Group, Body, End, Next}
+use Rattle.ot_model.specs.declared.expr.Section.{Section}
 use Rattle.ot_model.specs.declared.stmt.Use.{Use}
 use Rattle.ot_print.specs.Shown.{Text, name}
 use Rattle.ot_c.specs.Arrays.{declared}
-use Rattle.ot_c.specs.Laws.{UsesFit}
-use Rattle.ot_c.specs.Named.{is_array, value_names, uses_name, statement_names, body_names, names}
+use Rattle.ot_c.specs.Laws.{UsesFit, ShowsFit}
+use Rattle.ot_c.specs.Named.{is_array, value_names, uses_name, sections_name, statement_names, body_names, names}
 use Rattle.ot_c.specs.Programs.{declared_from}
 use Rattle.ot_cback.specs.Values.{Fits}
 use Rattle.ot_cfileback.specs.Files.{names_of}
@@ -38,6 +39,10 @@ module _ (texts : List Text) (i : ℕ) where
   uses_within [] fits is = absurd (true≢false (sym is))
   uses_within (u ∷ us) fits is = either (is_array i u.cell.array) (uses_name i us) Within is (λ h. same_array u.cell.array i (length texts) h fits.0.0) (uses_within us fits.1)
 
+  shows_within : (ss : List Section) → ShowsFit texts ss → sections_name i ss ≡ true → Within
+  shows_within [] fits is = absurd (true≢false (sym is))
+  shows_within (s ∷ ss) fits is = either (is_array i s.array) (sections_name i ss) Within is (λ h. same_array s.array i (length texts) h fits.0.0) (shows_within ss fits.1)
+
   mutual
     statement_within : (s : S) → StatementIsPlain texts s → statement_names i s ≡ true → Within
     statement_within (Set c e) plain is = either (is_array i c.array) (value_names i e) Within is (λ h. same_array c.array i (length texts) h plain.0.0) (value_within e plain.1)
@@ -50,9 +55,12 @@ module _ (texts : List Text) (i : ℕ) where
     statement_within (Group op [] b) plain is = body_within b plain is
     statement_within (Group op (c ∷ cs) b) plain is = absurd plain
 
-    pub body_within : (b : Body) → BodyIsPlain texts b → body_names i b ≡ true → Within
+    body_within : (b : Body) → BodyIsPlain texts b → body_names i b ≡ true → Within
     body_within End plain is = absurd (true≢false (sym is))
     body_within (Next s rest) plain is = either (statement_names i s) (body_names i rest) Within is (statement_within s plain.0) (body_within rest plain.1)
+
+  pub named_within : (p : Expanded) → ShowsFit texts p.shows → BodyIsPlain texts p.body → names p i ≡ true → Within
+  named_within p fits plain is = either (sections_name i p.shows) (body_names i p.body) Within is (shows_within p.shows fits) (body_within p.body plain)
 
 -- ---- arrays that are named are declared
 
@@ -72,11 +80,7 @@ module _ (p : Expanded) where
       by true rest = inr rest
       by false rest = rest
 
-  or_right : (a b : Bool) → b ≡ true → (a || b) ≡ true
-  or_right true b is = refl
-  or_right false b is = is
-
-  pub all_declared : (arrays : List (Text × ℕ)) (numbers : List (List ℕ)) → length numbers ≡ length arrays → (j : ℕ) → j < length arrays → body_names j p.body ≡ true → IsDeclared (name (names_of arrays) j) (declared_from p 0 arrays numbers)
+  pub all_declared : (arrays : List (Text × ℕ)) (numbers : List (List ℕ)) → length numbers ≡ length arrays → (j : ℕ) → j < length arrays → names p j ≡ true → IsDeclared (name (names_of arrays) j) (declared_from p 0 arrays numbers)
   all_declared arrays numbers long j within named =
       let first : 0 + j ≡ j = omega arith in
-      declared_at 0 j arrays numbers long (ap (names p) first ∙ or_right _ (body_names j p.body) named) within
+      declared_at 0 j arrays numbers long (ap (names p) first ∙ named) within

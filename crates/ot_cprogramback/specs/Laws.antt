@@ -8,14 +8,13 @@ use Rattle.ot_model.specs.Tree.{Group, End, Next}
 use Rattle.ot_model.specs.declared.fold.Fold.TheVariants.{Plus}
 use Rattle.ot_print.specs.Shown.{Text, name}
 use Rattle.ot_c.specs.Arrays.{Declared}
-use Rattle.ot_c.specs.Laws.{AreIdentifiers, normal}
-use Rattle.ot_c.specs.Named.{body_names}
+use Rattle.ot_c.specs.Laws.{AreIdentifiers, ShowsFit, normal}
+use Rattle.ot_c.specs.Named.{body_names, names as program_names}
 use Rattle.ot_c.specs.Programs.{declared_from}
 use Rattle.ot_program.specs.Printed.{name_at}
 use Rattle.ot_cfile.specs.Files.{file_at}
 use Rattle.ot_cfile.specs.Program.{Whole}
 use Rattle.ot_clower.specs.Files.{lowered}
-use Rattle.ot_cback.specs.Assignments.{NoneIsType}
 use Rattle.ot_cback.specs.Bodies.{levels, BodyFits}
 use Rattle.ot_cback.specs.Numbering.{words_of}
 use Rattle.ot_cfileback.specs.Files.{parts, names_of, file_words, file_tree}
@@ -24,18 +23,18 @@ use Rattle.ot_cfileback.specs.Parts.{acts}
 use Rattle.ot_clowerback.specs.Bodies.{AreFound, BodyIsPlain}
 use Rattle.ot_cprogramback.specs.Programs.{DeclarationsFit, IsDeclared, begun, act_places, BecomesProgram}
 
--- The tree of a file, whose words are these, that declares the arrays which its body names, and reduces nothing: it becomes these arrays as
+-- The tree of a file, whose words are these, that declares the arrays which it names, and reduces nothing: it becomes these arrays as
 -- they begin, and a program whose body is a group over no cell, around the body as far as C tells it, each statement where it stands.
 abbrev pub FileTreeIsLowered : Type 0
-FileTreeIsLowered = (number : Text → ℕ) (words : List (String Global)) (starts : List ℕ) (names : List Text) (shape : Arrays) (ds : List Declared) (p : Expanded) (k : ℕ) → DeclarationsFit number words ds → ((i : ℕ) → body_names i p.body ≡ true → IsDeclared (name names i) ds)
+FileTreeIsLowered = (number : Text → ℕ) (words : List (String Global)) (starts : List ℕ) (names : List Text) (shape : Arrays) (ds : List Declared) (p : Expanded) (k : ℕ) → DeclarationsFit number words ds → ((i : ℕ) → program_names p i ≡ true → IsDeclared (name names i) ds)
     → ((i : ℕ) → body_names i p.body ≡ true → string (name names i) ≡ name_at shape i) → AreFound names shape → BodyIsPlain names p.body → length (act_places starts (acts number names k (parts ds p))) ≤ 20000
     → BecomesProgram shape (lowered words starts (record { tops = []; main = acts number names k (parts ds p) })) (map begun ds) (act_places starts (acts number names k (parts ds p))) (Next (Group Plus [] (normal [] p.body)) End)
 
 -- The words of a file whose program reduces nothing are read as a file that becomes the arrays that the program names, as they begin, and a program whose body is a group over no cell, around the body as far as C tells it.
 abbrev pub FileWordsBecomeProgram : Type 0
-FileWordsBecomeProgram = (fs : List Front) (arrays : List (Text × ℕ)) (numbers : List (List ℕ)) (p : Expanded) → AreIdentifiers (names_of arrays) → NoneIsType (names_of arrays) → (number : Text → ℕ) → TellsSides number fs
+FileWordsBecomeProgram = (fs : List Front) (arrays : List (Text × ℕ)) (numbers : List (List ℕ)) (p : Expanded) → AreIdentifiers (names_of arrays) → (number : Text → ℕ) → TellsSides number fs
     → BodyFits (names_of arrays) p.body → levels p.body ≤ 47 → (words : List (String Global)) (starts : List ℕ) (shape : Arrays) → length numbers ≡ length arrays → DeclarationsFit number words (declared_from p 0 arrays numbers)
     → ((i : ℕ) → i < length (names_of arrays) → string (name (names_of arrays) i) ≡ name_at shape i)
-    → AreFound (names_of arrays) shape → BodyIsPlain (names_of arrays) p.body → length (act_places starts (file_tree number arrays numbers p).main) ≤ 20000
+    → AreFound (names_of arrays) shape → ShowsFit (names_of arrays) p.shows → BodyIsPlain (names_of arrays) p.body → length (act_places starts (file_tree number arrays numbers p).main) ≤ 20000
     → (file : Whole) × (file_at (words_of number (file_words fs arrays numbers p)) ≡ Ok file)
     × BecomesProgram shape (lowered words starts file) (map begun (declared_from p 0 arrays numbers)) (act_places starts file.main) (Next (Group Plus [] (normal [] p.body)) End)
