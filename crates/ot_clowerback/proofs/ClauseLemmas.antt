@@ -1,6 +1,7 @@
--- The clauses of what folds nothing: of what it reads, and of what it writes.
-use Rattle.std.proofs.Common.{◌≡◌, ℕ, zero, suc, ◌+◌, List, [], ◌∷◌, ◌++◌, Bool, true, false, if◌then◌else◌, refl, ap, ◌∙◌}
+-- The clauses of a declaration: of what it reads, of what it writes, and of what it folds.
+use Rattle.std.proofs.Common.{◌≡◌, ℕ, zero, suc, ◌+◌, List, [], ◌∷◌, ◌++◌, Bool, true, false, if◌then◌else◌, refl, ap, ◌∙◌, append_assoc}
 use Rattle.std.proofs.lemmas.List.{append-nil}
+use Rattle.ot_model.specs.Signs.{folds}
 use Rattle.ot_model.specs.Uses.{same_mode}
 use Rattle.ot_model.specs.declared.expr.Cell.{Cell}
 use Rattle.ot_model.specs.declared.expr.Section.{Section}
@@ -14,7 +15,7 @@ use Rattle.ot_print.specs.Sections.{cells_in, sections_of, cells_of, row, behind
 use Rattle.ot_c.specs.Clauses.{is_long, short}
 use Rattle.ot_c.specs.Named.{is_array, uses_name}
 use Rattle.ot_cback.specs.Clauses.{Direction, In, Out, Clause, Lists, Goes, Reduces, Combines, listed, over_long, in_mode, folding, clauses}
-use Rattle.ot_cback.proofs.WaitLemmas.{none_folded}
+use Rattle.ot_cback.proofs.WaitLemmas.{AllDepend, none_folded}
 use Rattle.ot_clowerback.specs.Known.{UsesKnown}
 use Rattle.ot_clowerback.proofs.ValueLemmas.{itself, or_left, or_right}
 
@@ -42,13 +43,13 @@ module _ (known : ℕ → Bool) where
   known_append [] ys one two = two
   known_append (x ∷ xs) ys one two = (one.0, known_append xs ys one.1 two)
 
-  cells_append : (xs ys : List Cell) → CellsKnown known xs → CellsKnown known ys → CellsKnown known (xs ++ ys)
+  pub cells_append : (xs ys : List Cell) → CellsKnown known xs → CellsKnown known ys → CellsKnown known (xs ++ ys)
   cells_append [] ys one two = two
   cells_append (x ∷ xs) ys one two = (one.0, cells_append xs ys one.1 two)
 
   -- ---- cells and sections
 
-  in_known : (us : List Use) (m : Mode) → UsesKnown known us → CellsKnown known (cells_in us m)
+  pub in_known : (us : List Use) (m : Mode) → UsesKnown known us → CellsKnown known (cells_in us m)
   in_known [] m all = tt
   in_known (u ∷ us) m all = by (same_mode u.mode m) (all u.cell.array (or_left (is_array u.cell.array u.cell.array) (uses_name u.cell.array us) (itself u.cell.array))) (in_known us m (λ i h. all i (or_right (is_array i u.cell.array) (uses_name i us) h)))
     where
@@ -98,22 +99,66 @@ module _ (known : ℕ → Bool) where
       by true rest = (all.0, rest)
       by false rest = rest
 
-  mode_known : (d : Direction) (us : List Use) (m : Mode) → UsesKnown known us → ClausesKnown known (in_mode d us m)
+  pub mode_known : (d : Direction) (us : List Use) (m : Mode) → UsesKnown known us → ClausesKnown known (in_mode d us m)
   mode_known d us m all =
       let ss = sections_of (cells_in us m) in
       let each = sections_known (cells_in us m) (in_known us m all) in
       known_append (listed d (cells_of (short ss))) (over_long d ss) (listed_known d (cells_of (short ss)) (cells_known (short ss) (short_known ss each))) (long_known d ss each)
 
-  pub clauses_known : (us : List Use) → UsesKnown known us → ClausesKnown known (in_mode In us modes.Reads ++ in_mode Out us modes.Writes)
-  clauses_known us all = known_append (in_mode In us modes.Reads) (in_mode Out us modes.Writes) (mode_known In us modes.Reads all) (mode_known Out us modes.Writes all)
+  pub depending_known : (us : List Use) → UsesKnown known us → ClausesKnown known (in_mode In us modes.Reads ++ in_mode Out us modes.Writes)
+  depending_known us all = known_append (in_mode In us modes.Reads) (in_mode Out us modes.Writes) (mode_known In us modes.Reads all) (mode_known Out us modes.Writes all)
+
+-- ---- the clauses of a declaration
+
+-- of what is folded by some operations
+abbrev pub all_folding : List Use → List Operation → List Clause
+all_folding us [] = []
+all_folding us (op ∷ ops) = folding us op ++ all_folding us ops
+
+-- of what is read, and of what is written
+abbrev pub depending : List Use → List Clause
+depending us = in_mode In us modes.Reads ++ in_mode Out us modes.Writes
+
+-- one after another, from the left and from the right
+seven : (x a b c d e g h : List Clause) → x ++ a ++ b ++ c ++ d ++ e ++ g ++ h ≡ x ++ (a ++ (b ++ (c ++ (d ++ (e ++ (g ++ (h ++ [])))))))
+seven x a b c d e g h = rw (append-nil h, append_assoc, append_assoc, append_assoc, append_assoc, append_assoc, append_assoc) refl
+
+pub clauses_are : (us : List Use) → clauses us ≡ depending us ++ all_folding us folds
+clauses_are us = seven (depending us) (folding us f.Plus) (folding us f.Times) (folding us f.And) (folding us f.Or) (folding us f.Xor) (folding us f.Min) (folding us f.Max)
 
 folding_none : (us : List Use) (op : Operation) → OnlyDepends us → folding us op ≡ []
 folding_none us op only = rw (none_folded us op only) refl
 
-pub clauses_are : (us : List Use) → OnlyDepends us → clauses us ≡ in_mode In us modes.Reads ++ in_mode Out us modes.Writes
-clauses_are us only =
-    let front = in_mode In us modes.Reads ++ in_mode Out us modes.Writes in
-    without f.Max _ ∙ without f.Min _ ∙ without f.Xor _ ∙ without f.Or _ ∙ without f.And _ ∙ without f.Times _ ∙ without f.Plus front
+-- nothing is folded
+pub none_folding : (us : List Use) (ops : List Operation) → OnlyDepends us → all_folding us ops ≡ []
+none_folding us [] only = refl
+none_folding us (op ∷ ops) only = rw (folding_none us op only) (none_folding us ops only)
+
+pub depending_alone : (us : List Use) → OnlyDepends us → clauses us ≡ depending us
+depending_alone us only = clauses_are us ∙ ap (λ cs. depending us ++ cs) (none_folding us folds only) ∙ append-nil (depending us)
+
+-- ---- clauses of dependences alone
+
+depend_append : (xs ys : List Clause) → AllDepend xs → AllDepend ys → AllDepend (xs ++ ys)
+depend_append [] ys front more = more
+depend_append (x ∷ xs) ys front more = (front.0, depend_append xs ys front.1 more)
+
+listed_depend : (d : Direction) (cs : List Cell) → AllDepend (listed d cs)
+listed_depend d [] = tt
+listed_depend d (c ∷ cs) = (tt, tt)
+
+long_depend : (d : Direction) (ss : List Section) → AllDepend (over_long d ss)
+long_depend d [] = tt
+long_depend d (s ∷ ss) = by (is_long s) (long_depend d ss)
   where
-    without : (op : Operation) (cs : List Clause) → cs ++ folding us op ≡ cs
-    without op cs = ap (λ ds. cs ++ ds) (folding_none us op only) ∙ append-nil cs
+    by : (b : Bool) → AllDepend (over_long d ss) → AllDepend (if b then Goes d s ∷ over_long d ss else over_long d ss)
+    by true rest = (tt, rest)
+    by false rest = rest
+
+pub mode_depends : (d : Direction) (us : List Use) (m : Mode) → AllDepend (in_mode d us m)
+mode_depends d us m =
+    let ss = sections_of (cells_in us m) in
+    depend_append (listed d (cells_of (short ss))) (over_long d ss) (listed_depend d (cells_of (short ss))) (long_depend d ss)
+
+pub depending_depend : (us : List Use) → AllDepend (depending us)
+depending_depend us = depend_append (in_mode In us modes.Reads) (in_mode Out us modes.Writes) (mode_depends In us modes.Reads) (mode_depends Out us modes.Writes)

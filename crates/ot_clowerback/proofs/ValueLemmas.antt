@@ -1,5 +1,5 @@
 -- The tree of a value becomes the value.
-use Rattle.std.proofs.Common.{◌≡◌, ℕ, List, [], ◌∷◌, Bool, true, false, ◌||◌, Ok, refl, ap, ◌∙◌, arith}
+use Rattle.std.proofs.Common.{◌≡◌, ℕ, List, [], ◌∷◌, Bool, true, false, ◌||◌, Some, Ok, refl, ap, ◌∙◌, arith}
 use Rattle.std.specs.Prelude.{◌==◌, codes, if◌then◌else◌}
 use Rattle.std.proofs.lemmas.Bool.Decides.{nat_tests}
 use Rattle.serde_json.specs.Data.{Data, string, array}
@@ -16,7 +16,6 @@ use Rattle.ot_c.specs.Values.{is_int, is_number, is_comparison}
 use Rattle.ot_words.specs.declared.word.IntegerType.{IntegerType}
 use Rattle.ot_words.specs.declared.word.IntegerType.TheVariants as t
 use Rattle.ot_words.specs.declared.word.Name.{Name}
-use Rattle.ot_words.specs.declared.word.Name.TheVariants as n
 use Rattle.ot_cread.specs.declared.sign.Sign.TheVariants as signs
 use Rattle.ot_cread.specs.declared.tree.Call.{Call}
 use Rattle.ot_cread.specs.declared.tree.Call.TheVariants as c
@@ -24,13 +23,14 @@ use Rattle.ot_cread.specs.Tree as tree
 use Rattle.ot_cscope.specs.Forms.{nat, form}
 use Rattle.ot_cscope.specs.Kinds.{joined}
 use Rattle.ot_cscope.specs.Runs.{run, untouched}
-use Rattle.ot_cscope.specs.Scopes.{Around, Run, is_pointed}
+use Rattle.ot_cscope.specs.Constants.{constant}
+use Rattle.ot_cscope.specs.Scopes.{Around, is_pointed}
 use Rattle.ot_cscope.specs.Sizes.{size}
 use Rattle.ot_cmeaning.specs.Arithmetic.{Valued, whole, call_word}
 use Rattle.ot_cmeaning.specs.Values.{value, indexed, behind}
 use Rattle.ot_cback.specs.Numbering.{name_of}
 use Rattle.ot_cback.specs.Values.{Before, constant_type, constant_tree, as_operand_tree, as_left_tree, applied_tree, tree_of}
-use Rattle.ot_clowerback.specs.Known.{KnowsArrays, ValueKnown, kind_of}
+use Rattle.ot_clowerback.specs.Known.{KnowsArrays, ValueKnown, IsUntouched, ReadsUntouched, kind_of}
 
 -- ---- types
 
@@ -106,6 +106,21 @@ pub or_right : (a b : Bool) → b ≡ true → (a || b) ≡ true
 or_right true b is = refl
 or_right false b is = is
 
+-- ---- cells that no open group combines
+
+module _ (a : Around) (at : ℕ) (x : Name) where
+  pub cell_untouched : (i : ℕ) → is_pointed a x (Some (i, 1)) ≡ false → untouched a at x (constant_tree i) ≡ Ok tt
+  unfolding run constant
+  cell_untouched i is = rw is refl
+
+  first_untouched : (e : tree.E) (len : ℕ) → is_pointed a x (Some (0, len)) ≡ false → untouched a at x (tree.Apply signs.Rest e (constant_tree len)) ≡ Ok tt
+  unfolding run constant
+  first_untouched e len is = rw is refl
+
+  later_untouched : (e : tree.E) (start len : ℕ) → is_pointed a x (Some (start, len)) ≡ false → untouched a at x (tree.Apply signs.Plus (constant_tree start) (tree.Apply signs.Rest e (constant_tree len))) ≡ Ok tt
+  unfolding run constant
+  later_untouched e start len is = rw is refl
+
 -- ---- cells
 
 is_zero : (v : ℕ) → (v == 0) ≡ true → 0 ≡ v
@@ -115,44 +130,41 @@ module _ (number : Text → ℕ) (names : List Text) (shape : Arrays) (known : �
   abbrev arrays : ℕ → Name
   arrays i = name_of number (name names i)
 
-  none_pointed : (x : Name) (r : Run) → is_pointed a x r ≡ false
-  none_pointed (n.Known k) r = refl
-  none_pointed (n.Other x) r = rw knows.closed refl
-
-  pub none_touched : (x : Name) (i : tree.E) → untouched a at x i ≡ Ok tt
-  none_touched x i = rw (none_pointed x (run a i)) refl
-
   abbrev IsValued : E → Type 0
   IsValued e = value a at (tree_of arrays e) ≡ valued (value_text shape e) (kind_of e)
 
-  cell_valued : (c : Cell) → known c.array ≡ true → IsValued (CellAt c)
+  cell_valued : (c : Cell) → known c.array ≡ true → IsUntouched number names a c → IsValued (CellAt c)
   unfolding value indexed size
-  cell_valued c within =
+  cell_valued c within free =
       let is = (knows.cells c.array within).1 in
-      rw (none_touched (arrays c.array) (constant_tree c.index), is, knows.text c.array within) refl
+      rw (cell_untouched a at (arrays c.array) c.index free, is, knows.text c.array within) refl
 
   -- `["pick", [array, start, len], x]`
   abbrev picked : Section → ℕ → Data → Data
   picked s start x = array (three (string (codes "pick")) (array (three (name_at shape s.array) (num start) (num s.len))) x)
 
-  first_valued : (s : Section) (e : tree.E) (x : Data) (k : IntegerType) → known s.array ≡ true → value a at e ≡ valued x k
+  -- no open group combines over a section
+  abbrev Untouched : Section → ℕ → Type 0
+  Untouched s start = is_pointed a (arrays s.array) (Some (start, s.len)) ≡ false
+
+  first_valued : (s : Section) (e : tree.E) (x : Data) (k : IntegerType) → known s.array ≡ true → Untouched s 0 → value a at e ≡ valued x k
       → value a at (tree.CellAt (arrays s.array) (tree.Apply signs.Rest e (constant_tree s.len))) ≡ valued (picked s 0 x) t.UnsignedLong
   unfolding value indexed size
-  first_valued s e x k within is =
+  first_valued s e x k within free is =
       let sense_is = (knows.cells s.array within).1 in
-      rw (none_touched (arrays s.array) (tree.Apply signs.Rest e (constant_tree s.len)), sense_is, knows.text s.array within, is) refl
+      rw (first_untouched a at (arrays s.array) e s.len free, sense_is, knows.text s.array within, is) refl
 
-  later_valued : (s : Section) (e : tree.E) (x : Data) (k : IntegerType) → known s.array ≡ true → value a at e ≡ valued x k
+  later_valued : (s : Section) (e : tree.E) (x : Data) (k : IntegerType) → known s.array ≡ true → Untouched s s.start → value a at e ≡ valued x k
       → value a at (tree.CellAt (arrays s.array) (tree.Apply signs.Plus (constant_tree s.start) (tree.Apply signs.Rest e (constant_tree s.len)))) ≡ valued (picked s s.start x) t.UnsignedLong
   unfolding value indexed behind size
-  later_valued s e x k within is =
+  later_valued s e x k within free is =
       let sense_is = (knows.cells s.array within).1 in
-      rw (none_touched (arrays s.array) (tree.Apply signs.Plus (constant_tree s.start) (tree.Apply signs.Rest e (constant_tree s.len))), sense_is, knows.text s.array within, is) refl
+      rw (later_untouched a at (arrays s.array) e s.start s.len free, sense_is, knows.text s.array within, is) refl
 
-  pick_valued : (plain : Bool) (s : Section) (e : tree.E) (x : Data) (k : IntegerType) → (s.start == 0) ≡ plain → known s.array ≡ true → value a at e ≡ valued x k
+  pick_valued : (plain : Bool) (s : Section) (e : tree.E) (x : Data) (k : IntegerType) → (s.start == 0) ≡ plain → known s.array ≡ true → Untouched s s.start → value a at e ≡ valued x k
       → value a at (tree.CellAt (arrays s.array) (if plain then tree.Apply signs.Rest e (constant_tree s.len) else tree.Apply signs.Plus (constant_tree s.start) (tree.Apply signs.Rest e (constant_tree s.len)))) ≡ valued (picked s s.start x) t.UnsignedLong
-  pick_valued true s e x k zero within is = first_valued s e x k within is ∙ ap (λ v. valued (picked s v x) t.UnsignedLong) (is_zero s.start zero)
-  pick_valued false s e x k zero within is = later_valued s e x k within is
+  pick_valued true s e x k zero within free is = first_valued s e x k within (ap (λ v. is_pointed a (arrays s.array) (Some (v, s.len))) (is_zero s.start zero) ∙ free) is ∙ ap (λ v. valued (picked s v x) t.UnsignedLong) (is_zero s.start zero)
+  pick_valued false s e x k zero within free is = later_valued s e x k within free is
 
   -- ---- operations of values
 
@@ -181,11 +193,11 @@ module _ (number : Text → ℕ) (names : List Text) (shape : Arrays) (known : �
   apply_valued op.Min e f one two = before_valued c.Min e f one two
   apply_valued op.Max e f one two = before_valued c.Max e f one two
 
-  pub lowered : (e : E) → ValueKnown known e → IsValued e
-  lowered (Literal v) all = literal_valued a at v (constant_type v)
-  lowered (CellAt c) all = cell_valued c (all c.array (itself c.array))
-  lowered (Apply o e f) all =
-      apply_valued o e f (lowered e (λ i h. all i (or_left (value_names i e) (value_names i f) h))) (lowered f (λ i h. all i (or_right (value_names i e) (value_names i f) h)))
-  lowered (PickFrom s e) all =
+  pub lowered : (e : E) → ValueKnown known e → ReadsUntouched number names a e → IsValued e
+  lowered (Literal v) all free = literal_valued a at v (constant_type v)
+  lowered (CellAt c) all free = cell_valued c (all c.array (itself c.array)) free
+  lowered (Apply o e f) all free =
+      apply_valued o e f (lowered e (λ i h. all i (or_left (value_names i e) (value_names i f) h)) free.0) (lowered f (λ i h. all i (or_right (value_names i e) (value_names i f) h)) free.1)
+  lowered (PickFrom s e) all free =
       let here = all s.array (or_left (is_array s.array s.array) (value_names s.array e) (itself s.array)) in
-      pick_valued (s.start == 0) s (as_operand_tree e (tree_of arrays e)) (value_text shape e) (operand_kind e) refl here (operand_valued e (lowered e (λ i h. all i (or_right (is_array i s.array) (value_names i e) h))))
+      pick_valued (s.start == 0) s (as_operand_tree e (tree_of arrays e)) (value_text shape e) (operand_kind e) refl here free.0 (operand_valued e (lowered e (λ i h. all i (or_right (is_array i s.array) (value_names i e) h)) free.1))

@@ -1,4 +1,5 @@
 pub mod Known
 pub mod Declared
+pub mod Reductions
 pub mod Bodies
 pub mod Laws
