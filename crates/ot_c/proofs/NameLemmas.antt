@@ -4,7 +4,7 @@ use Rattle.ot_print.specs.Shown.{Text, name}
 use Rattle.ot_print.specs.Laws.{is_digit, in_word, all_word, is_name}
 use Rattle.ot_print.proofs.WordLemmas.{and_true, tail_of}
 use Rattle.ot_print.proofs.ValueLemmas.{name_word}
-use Rattle.ot_c.specs.Arrays.{is_taken, name_in_c}
+use Rattle.ot_cnames.specs.Names.{is_taken, name_in_c}
 use Rattle.ot_c.specs.Laws.{in_identifier, all_identifier, is_identifier, NamesStayApart}
 
 identifier_word : (b : ℕ) → in_word b ≡ true → in_identifier b ≡ true

@@ -17,7 +17,7 @@ use Rattle.ot_model.specs.declared.expr.Section.{Section}
 use Rattle.ot_model.specs.declared.stmt.Mode.{Mode}
 use Rattle.ot_model.specs.declared.stmt.Mode.TheVariants as m
 use Rattle.ot_print.specs.Sections.{cells_in, sections_of}
-use Rattle.ot_c.specs.Arrays.{name_in_c}
+use Rattle.ot_cnames.specs.Names.{name_in_c}
 use Rattle.ot_c.specs.Clauses.{is_long, short, listed, iterations, dependences, declared, pointer, reduction}
 use Rattle.ot_c.specs.Laws.{in_identifier, all_identifier, is_identifier, AreIdentifiers, normal_fold, is_nothing, normal_statement, normal, UsesFit, StatementFits, BodyFits, BodyIsDetermined, CalledFoldIsWrittenAsSet}
 use Rattle.ot_c.specs.Statements.{fold, deeper, block, otherwise, put, put_all, each_once, pointers, statement, body}

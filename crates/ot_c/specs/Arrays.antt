@@ -1,31 +1,9 @@
 -- The arrays of a program, as its C has them.
 use Rattle.std.specs.Prelude.{ℕ, ◌==◌, Bool, true, false, if◌then◌else◌, List, [], ◌∷◌, ◌++◌, map, codes, decimal, string_bytes}
-use Rattle.std.specs.List.{list_any}
-use Rattle.std.specs.Str.{bytes_eq}
 use Rattle.ot_model.specs.declared.shape.ArrayShape.{ArrayShape}
 use Rattle.ot_print.specs.Shown.{Text}
+use Rattle.ot_cnames.specs.Names.{name_in_c}
 use Rattle.ot_c.specs.Values.{constant}
-
--- ---- names
-
--- keywords of C and of its compilers, what the headers name, and what the program calls by itself
-abbrev pub taken : List Text
-taken =
-    codes "alignas" ∷ codes "alignof" ∷ codes "asm" ∷ codes "at" ∷ codes "auto" ∷ codes "bool" ∷ codes "break" ∷ codes "case" ∷ codes "char" ∷
-    codes "const" ∷ codes "constexpr" ∷ codes "continue" ∷ codes "default" ∷ codes "do" ∷ codes "double" ∷ codes "else" ∷ codes "enum" ∷
-    codes "extern" ∷ codes "false" ∷ codes "float" ∷ codes "for" ∷ codes "goto" ∷ codes "i386" ∷ codes "if" ∷ codes "inline" ∷ codes "int" ∷
-    codes "linux" ∷ codes "long" ∷ codes "max" ∷ codes "min" ∷ codes "nullptr" ∷ codes "printf" ∷ codes "register" ∷ codes "restrict" ∷
-    codes "return" ∷ codes "short" ∷ codes "show" ∷ codes "signed" ∷ codes "size_t" ∷ codes "sizeof" ∷ codes "static" ∷ codes "static_assert" ∷
-    codes "struct" ∷ codes "switch" ∷ codes "thread_local" ∷ codes "true" ∷ codes "typedef" ∷ codes "typeof" ∷ codes "typeof_unqual" ∷ codes "uint64_t" ∷
-    codes "union" ∷ codes "unix" ∷ codes "unsigned" ∷ codes "void" ∷ codes "volatile" ∷ codes "while" ∷ []
-
--- words that no array can be called by
-abbrev pub is_taken : Text → Bool
-is_taken word = list_any (λ one. bytes_eq one word) taken
-
--- an array's name in C: its own, behind `A_` where that is taken
-abbrev pub name_in_c : Text → Text
-name_in_c word = if is_taken word then codes "A_" ++ word else word
 
 -- arrays, each with its name and its length, by their names in C
 abbrev pub arrays_in_c : List (Text × ℕ) → List (Text × ℕ)

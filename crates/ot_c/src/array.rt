@@ -1,76 +1,14 @@
 //! The arrays of a program, as its C has them.
 ghost use Rattle.std.specs.Prelude.{◌≡◌, ◌++◌, OnOk, IfOk, string_bytes};
-ghost use Rattle.std.specs.List.{list_any};
-ghost use Rattle.std.specs.Str.{bytes_eq};
 ghost use Rattle.ot_model.specs.ShapeView.{arrays_of};
 ghost use Rattle.ot_c.specs.Arrays as written;
 ghost use Rattle.ot_c.specs.Arrays.{array_of};
 
 use crate::value::constant;
+use ot_cnames::name_in_c;
 use ot_model::ArrayShape;
 use ot_print::Printer;
 use std::alloc::{AllocError, Global};
-
-/// Words that no array can be called by in the C that is written: the keywords of C and of its compilers, what their
-/// headers name, and what the program calls by itself.
-const TAKEN: [&str; 56] = [
-    "alignas",
-    "alignof",
-    "asm",
-    "at",
-    "auto",
-    "bool",
-    "break",
-    "case",
-    "char",
-    "const",
-    "constexpr",
-    "continue",
-    "default",
-    "do",
-    "double",
-    "else",
-    "enum",
-    "extern",
-    "false",
-    "float",
-    "for",
-    "goto",
-    "i386",
-    "if",
-    "inline",
-    "int",
-    "linux",
-    "long",
-    "max",
-    "min",
-    "nullptr",
-    "printf",
-    "register",
-    "restrict",
-    "return",
-    "short",
-    "show",
-    "signed",
-    "size_t",
-    "sizeof",
-    "static",
-    "static_assert",
-    "struct",
-    "switch",
-    "thread_local",
-    "true",
-    "typedef",
-    "typeof",
-    "typeof_unqual",
-    "uint64_t",
-    "union",
-    "unix",
-    "unsigned",
-    "void",
-    "volatile",
-    "while",
-];
 
 /// The arrays of a shape by their names in C: their own, behind `A_` where these are taken.
 pub(crate) fn arrays_in_c(
@@ -88,33 +26,6 @@ pub(crate) fn arrays_in_c(
         })?;
     }
     Ok(called)
-}
-
-/// The names of arrays have no capitals, so the one that is made up is no other array's.
-fn name_in_c(alloc: Global, name: &str) -> Result<String, AllocError>
-    ensures { IfOk result (λ called. string_bytes called ≡ written.name_in_c name.now) }
-{
-    if is_taken(name) {
-        return format!(in alloc; "A_{name}");
-    }
-    String::from_str(alloc, name)
-}
-
-fn is_taken(name: &str) -> bool
-    ensures { result ≡ written.is_taken name.now }
-{
-    is_among(&TAKEN, name)
-}
-
-fn is_among(words: &[&str], name: &str) -> bool
-    ensures { result ≡ list_any (λ word. bytes_eq word.now name.now) words.now }
-{
-    for word in words {
-        if *word == name {
-            return true;
-        }
-    }
-    false
 }
 
 /// The numbers without the zeros at the end.

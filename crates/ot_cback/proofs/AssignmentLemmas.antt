@@ -10,7 +10,7 @@ use Rattle.ot_model.specs.declared.fold.Fold.TheVariants as f
 use Rattle.ot_model.specs.declared.stmt.Use.{Use}
 use Rattle.ot_model.specs.Tree.{E, CellAt}
 use Rattle.ot_print.specs.Shown.{Text, name}
-use Rattle.ot_c.specs.Arrays.{is_taken}
+use Rattle.ot_cnames.specs.Names.{is_taken}
 use Rattle.ot_c.specs.Clauses.{pointer}
 use Rattle.ot_c.specs.Laws.{AreIdentifiers}
 use Rattle.ot_c.specs.Statements.{only_folds}
@@ -179,20 +179,20 @@ record IsNone (text : Text) : Type 0 where
 
 is_none : (text : Text) → is_taken text ≡ false → IsNone text
 is_none text free = record {
-  if_word = no_taken 23 text free (omega arith);
-  for_word = no_taken 20 text free (omega arith);
-  printf_word = no_taken 31 text free (omega arith);
-  show_word = no_taken 36 text free (omega arith);
-  int_word = no_taken 25 text free (omega arith);
-  unsigned_word = no_taken 52 text free (omega arith);
-  long_word = no_taken 27 text free (omega arith);
-  type_word = no_taken 49 text free (omega arith);
-  size_word = no_taken 38 text free (omega arith);
-  static_word = no_taken 40 text free (omega arith);
+  if_word = no_taken 26 text free (omega arith);
+  for_word = no_taken 23 text free (omega arith);
+  printf_word = no_taken 49 text free (omega arith);
+  show_word = no_taken 56 text free (omega arith);
+  int_word = no_taken 32 text free (omega arith);
+  unsigned_word = no_taken 78 text free (omega arith);
+  long_word = no_taken 35 text free (omega arith);
+  type_word = no_taken 75 text free (omega arith);
+  size_word = no_taken 59 text free (omega arith);
+  static_word = no_taken 61 text free (omega arith);
   const_word = no_taken 9 text free (omega arith);
-  void_word = no_taken 53 text free (omega arith);
-  else_word = no_taken 15 text free (omega arith);
-  return_word = no_taken 34 text free (omega arith);
+  void_word = no_taken 80 text free (omega arith);
+  else_word = no_taken 17 text free (omega arith);
+  return_word = no_taken 53 text free (omega arith);
 }
 
 none_avoided : (text : Text) → IsNone text → list_all (λ e. not (in_statements e.1) || not (bytes_eq e.0 text)) known_words ≡ true

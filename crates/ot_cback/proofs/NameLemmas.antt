@@ -6,7 +6,7 @@ use Rattle.std.specs.Str.{bytes_eq}
 use Rattle.ot_model.specs.Tree.{E, Literal, CellAt, Apply, PickFrom}
 use Rattle.ot_print.specs.Shown.{Text, name}
 use Rattle.ot_print.proofs.WordLemmas.{and_true, or_false}
-use Rattle.ot_c.specs.Arrays.{taken, is_taken}
+use Rattle.ot_cnames.specs.Names.{taken, is_taken}
 use Rattle.ot_c.specs.Laws.{AreIdentifiers}
 use Rattle.ot_words.specs.Tables.{looked_up}
 use Rattle.ot_words.specs.Names.{known_words, known_of}
@@ -27,7 +27,7 @@ none_of p (x ∷ xs) zero none within = (or_false (p x) (list_any p xs) none).0
 none_of p (x ∷ xs) (suc i) none within = none_of p xs i (or_false (p x) (list_any p xs) none).1 (omega (arith, within))
 
 -- a word that is taken isn't the text
-pub no_taken : (i : ℕ) (text : Text) → is_taken text ≡ false → i < 56 → bytes_eq (get_or taken i []) text ≡ false
+pub no_taken : (i : ℕ) (text : Text) → is_taken text ≡ false → i < 83 → bytes_eq (get_or taken i []) text ≡ false
 no_taken i text free within = none_of (λ one. bytes_eq one text) taken i free within
 
 found_or : {X : Type 0} (t : Bool) (x : X) (rest : Option X) (y : X) → (if t then Some x else rest) ≡ Some y → (P : X → Bool) → (t ≡ true → P x ≡ false) → (rest ≡ Some y → P y ≡ false) → P y ≡ false
@@ -60,7 +60,7 @@ in_values _ = false
 
 free_of : (text : Text) (k : Known) → is_taken text ≡ false → known_of text ≡ Some k → in_values k ≡ false
 unfolding known_of
-free_of text k free is = avoided in_values known_words text k (all_avoided (no_taken 28 text free (omega arith)) (no_taken 29 text free (omega arith)) (no_taken 49 text free (omega arith))) is
+free_of text k free is = avoided in_values known_words text k (all_avoided (no_taken 39 text free (omega arith)) (no_taken 41 text free (omega arith)) (no_taken 75 text free (omega arith))) is
   where
     all_avoided : bytes_eq (codes "max") text ≡ false → bytes_eq (codes "min") text ≡ false → bytes_eq (codes "uint64_t") text ≡ false
         → list_all (λ e. not (in_values e.1) || not (bytes_eq e.0 text)) known_words ≡ true

@@ -13,7 +13,7 @@ use Rattle.ot_cscope.specs.declared.scope.Sense.TheVariants as s
 use Rattle.ot_cscope.specs.Constants.{Typed, constant}
 use Rattle.ot_cscope.specs.Forms.{nat, form, listed}
 use Rattle.ot_cscope.specs.Results.{Refusal, ◌>>=◌}
-use Rattle.ot_cscope.specs.Scopes.{Around, Run, sense, name_text, text_of}
+use Rattle.ot_cscope.specs.Scopes.{Around, Run, sense, name_text, array_text}
 use Rattle.ot_cscope.specs.Sizes.{size}
 use Rattle.ot_cscope.specs.Runs.{run_by}
 
@@ -47,7 +47,7 @@ is_only p = false
 
 -- the cell that a pointer points to
 abbrev pub pointed : Around → ℕ → Pointee → Part → Sectioned
-pointed a at cell p = if is_only p then Ok (listed (string (text_of a.names cell.array) ∷ nat cell.place ∷ nat 1 ∷ [])) else Err (at, why.Pointee)
+pointed a at cell p = if is_only p then Ok (listed (string (array_text a.names cell.array) ∷ nat cell.place ∷ nat 1 ∷ [])) else Err (at, why.Pointee)
 
 -- how many cells an item has that no iterator counts: never a difference, which says that one does (`Items.is_iterated` of `ot_overlap`)
 abbrev pub plain : Data → Data

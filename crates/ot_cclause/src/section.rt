@@ -60,7 +60,7 @@ pub(crate) fn pointed(
     if !is_only(place) {
         return Err(CFault::Outside(start, Reason::Pointee));
     }
-    let name = json::text(alloc, scope.text(cell.array))?;
+    let name = scope.named(alloc, Name::Other(cell.array))?;
     let first = Value::from(cell.place);
     Ok(json::three(alloc, name, first, Value::from(1u64))?)
 }

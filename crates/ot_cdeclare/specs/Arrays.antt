@@ -1,6 +1,9 @@
 -- What a file declares: `T a[N]` is an array, `T x` an array of one cell. Numbers below zero stand modulo 2^64.
 use Rattle.std.specs.Prelude.{ℕ, ◌-◌, ◌%◌, ◌^◌, ◌==◌, nat_lt, Bool, false, ◌&&◌, ◌||◌, List, [], ◌∷◌, ◌++◌, length as count_in, map, replicate, slice_get, slice_set, Option, Some, None, Result, Ok, Err, String, string_bytes, if◌then◌else◌}
+use Rattle.std.specs.List.{list_any}
+use Rattle.std.specs.Str.{bytes_eq}
 use Rattle.std.specs.declared.alloc.Global.{Global}
+use Rattle.ot_cnames.specs.Names.{is_taken, own_name}
 use Rattle.ot_words.specs.declared.word.IntegerType.{IntegerType}
 use Rattle.ot_words.specs.declared.word.Name.{Name}
 use Rattle.ot_words.specs.declared.word.Name.TheVariants as n
@@ -114,13 +117,20 @@ abbrev pub number_of : ℕ → Name → Result ℕ Refusal
 number_of at (n.Other i) = Ok i
 number_of at (n.Known k) = Err (at, why.Reserved)
 
-abbrev pub name_by : ℕ → Option (String Global) → Result (List ℕ) Refusal
-name_by at None = Err (at, why.NoName)
-name_by at (Some s) = if is_name (string_bytes s) then Ok (string_bytes s) else Err (at, why.NoName)
+abbrev pub is_declared : List Arr → List ℕ → Bool
+is_declared arrays name = list_any (λ a. bytes_eq a.name name) arrays
 
--- the text of a name that the language has
-abbrev pub name_of : List (String Global) → ℕ → ℕ → Result (List ℕ) Refusal
-name_of names at i = name_by at (slice_get names i)
+-- a name that the language has, and that no array has by another name in C, as `at` and `A_at` would
+abbrev pub new_name : ℕ → List Arr → List ℕ → Result (List ℕ) Refusal
+new_name at arrays name = if is_taken name && is_declared arrays name then Err (at, why.Twice) else if is_name name then Ok name else Err (at, why.NoName)
+
+abbrev pub name_by : ℕ → List Arr → Option (String Global) → Result (List ℕ) Refusal
+name_by at arrays None = Err (at, why.NoName)
+name_by at arrays (Some s) = new_name at arrays (own_name (string_bytes s))
+
+-- the name of the array that is called so in C
+abbrev pub name_of : List (String Global) → ℕ → List Arr → ℕ → Result (List ℕ) Refusal
+name_of names at arrays i = name_by at arrays (slice_get names i)
 
 abbrev pub with_array : D → List ℕ → List ℕ → D
 with_array d name cells = record d { arrays = d.arrays ++ (record { name = name; cells = cells }) ∷ [] }
@@ -128,7 +138,7 @@ with_array d name cells = record d { arrays = d.arrays ++ (record { name = name;
 abbrev pub variable_step : List (String Global) → ℕ → IntegerType → D → Cells → Result D Refusal
 variable_step names at k d v =
     number_of at v.name >>= λ i.
-    name_of names at i >>= λ name.
+    name_of names at d.arrays i >>= λ name.
     cells_of names d.meanings at k v >>= λ cells.
     named at d i (m.Cells k cells.0) >>= λ e.
     Ok (with_array e name cells.1)

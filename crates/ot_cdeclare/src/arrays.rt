@@ -1,14 +1,15 @@
 //! What a file declares.
-ghost use Rattle.std.specs.Prelude.{◌≡◌, string_bytes};
+ghost use Rattle.std.specs.Prelude.{◌≡◌, map, string_bytes};
 ghost use Rattle.ot_cread.specs.Tree.{expr_of};
 ghost use Rattle.ot_cstatement.specs.Tree.{exprs_of, index_of};
 ghost use Rattle.ot_cfile.specs.Program.{initial_of, variable_of, variables_of, declaration_of};
 ghost use Rattle.ot_cscope.specs.Results.{Gives};
-ghost use Rattle.ot_cdeclare.specs.Arrays.{declared_of};
+ghost use Rattle.ot_cdeclare.specs.Arrays.{array_of, declared_of};
 ghost use Rattle.ot_cdeclare.specs.Arrays as meant;
 ghost use Rattle.ot_cdeclare.specs.Each.{each};
 
 use indexmap::IndexSet;
+use ot_cnames::{is_taken, own_name};
 use ot_cfile::{Declaration, Initial, Variable};
 use ot_cread::{Expr, Unary};
 use ot_cscope::kind::{holds, holds_below, is_signed};
@@ -208,18 +209,49 @@ pub fn number_of(start: usize, name: Name) -> Result<usize, CFault>
     }
 }
 
-/// The text of a name that the language has.
+fn is_declared(arrays: &[CArray], name: &str) -> bool
+    ensures { result ≡ meant.is_declared (map array_of arrays.now) name.now }
+{
+    for array in arrays {
+        if array.name.as_str() == name {
+            return true;
+        }
+    }
+    false
+}
+
+/// A name that the language has, and that no array has by another name in C, as `at` and `A_at` would. Few names are
+/// taken, so few are looked for.
+fn new_name(
+    alloc: Global,
+    start: usize,
+    arrays: &[CArray],
+    name: &str,
+) -> Result<String, CFault>
+    ensures { Gives (λ s. string_bytes s) result (meant.new_name start (map array_of arrays.now) name.now) }
+{
+    if is_taken(name) && is_declared(arrays, name) {
+        return Err(CFault::Outside(start, Reason::Twice));
+    }
+    if !is_name(name) {
+        return Err(CFault::Outside(start, Reason::NoName));
+    }
+    Ok(String::from_str(alloc, name)?)
+}
+
+/// The name of the array that is called so in C.
 fn name_of(
     alloc: Global,
     names: &IndexSet<String>,
     start: usize,
+    arrays: &[CArray],
     number: usize,
 ) -> Result<String, CFault>
-    ensures { Gives (λ s. string_bytes s) result (meant.name_of names.now.keys start number) }
+    ensures { Gives (λ s. string_bytes s) result (meant.name_of names.now.keys start (map array_of arrays.now) number) }
 {
     match names.get_index(number) {
-        Some(name) if is_name(name.as_str()) => Ok(name.clone()?),
-        _ => Err(CFault::Outside(start, Reason::NoName)),
+        Some(name) => new_name(alloc, start, arrays, own_name(name.as_str())),
+        None => Err(CFault::Outside(start, Reason::NoName)),
     }
 }
 
@@ -235,7 +267,7 @@ fn variable_step(
     ensures { Gives declared_of result (meant.variable_step names.now.keys start kind (declared_of declared) (variable_of variable.now)) }
 {
     let number = number_of(start, variable.name)?;
-    let name = name_of(alloc, names, start, number)?;
+    let name = name_of(alloc, names, start, &declared.arrays, number)?;
     let (length, cells) = cells_of(alloc, names, &declared.meanings, start, kind, variable)?;
     let mut declared = named(start, declared, number, Meaning::Cells(kind, length))?;
     declared.arrays.push(CArray { name, cells })?;

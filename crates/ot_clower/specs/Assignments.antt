@@ -15,7 +15,7 @@ use Rattle.ot_cscope.specs.declared.scope.Sense.{Sense}
 use Rattle.ot_cscope.specs.declared.scope.Sense.TheVariants as s
 use Rattle.ot_cscope.specs.Forms.{nat, form}
 use Rattle.ot_cscope.specs.Results.{Refusal, ◌>>=◌}
-use Rattle.ot_cscope.specs.Scopes.{Around, sense, name_text, text_of}
+use Rattle.ot_cscope.specs.Scopes.{Around, sense, name_text, array_text}
 use Rattle.ot_cscope.specs.Sizes.{size}
 use Rattle.ot_cmeaning.specs.Stores.{assigned, changed}
 use Rattle.ot_cscope.specs.Runs.{untouched}
@@ -40,7 +40,7 @@ is_start (Some (Literal n k)) = n == 0
 is_start i = false
 
 abbrev pub pointed_cell : Around → ℕ → Pointee → Option E → Stated
-pointed_cell a at p index = if is_start index then Ok (form (codes "c") (string (text_of a.names p.array) ∷ nat p.place ∷ [])) else Err (at, why.Pointee)
+pointed_cell a at p index = if is_start index then Ok (form (codes "c") (string (array_text a.names p.array) ∷ nat p.place ∷ [])) else Err (at, why.Pointee)
 
 -- what is assigned to: a pointer's cell or how many cells there are; their type; and by which operation the task folds into
 -- its own copy of it, if it has one

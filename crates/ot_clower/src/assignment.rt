@@ -62,7 +62,7 @@ fn pointed_cell(
     if !is_start(index) {
         return Err(CFault::Outside(start, Reason::Pointee));
     }
-    let name = json::text(alloc, scope.text(cell.array))?;
+    let name = scope.named(alloc, Name::Other(cell.array))?;
     Ok(json::form2(alloc, "c", name, Value::from(cell.place))?)
 }
 

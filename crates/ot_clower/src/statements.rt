@@ -187,7 +187,7 @@ fn bounded(alloc: Global, scope: &Scope<'_>, start: usize, turns: &Turns) -> Res
         return Err(CFault::Outside(start, Reason::Narrow));
     }
     let end = end_of(alloc, turns.through, end)?;
-    let name = scope.named(alloc, Name::Other(turns.variable))?;
+    let name = json::text(alloc, scope.text(turns.variable))?;
     Ok(Bounds { name, first, end })
 }
 

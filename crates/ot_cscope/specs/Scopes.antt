@@ -2,6 +2,7 @@
 use Rattle.std.specs.Prelude.{ℕ, ◌==◌, ◌-◌, nat_le, nat_lt, Bool, true, false, ◌&&◌, List, ◌∷◌, map, find, Option, Some, None, option_map, unwrap_or, slice_get, String, string_bytes, if◌then◌else◌, []}
 use Rattle.std.specs.List.{list_any}
 use Rattle.std.specs.declared.alloc.Global.{Global}
+use Rattle.ot_cnames.specs.Names.{own_name}
 use Rattle.ot_words.specs.declared.word.IntegerType.{IntegerType}
 use Rattle.ot_words.specs.declared.word.IntegerType.TheVariants.{UnsignedLong}
 use Rattle.ot_words.specs.declared.word.Name.{Name}
@@ -28,9 +29,13 @@ pub record Around : Type 0 where
 abbrev pub text_of : List (String Global) → ℕ → List ℕ
 text_of names i = unwrap_or (option_map (λ x. string_bytes x) (slice_get names i)) []
 
+-- the name of the array that is called so
+abbrev pub array_text : List (String Global) → ℕ → List ℕ
+array_text names i = own_name (text_of names i)
+
 abbrev pub name_text : Around → Name → List ℕ
 name_text a (n.Known k) = []
-name_text a (n.Other i) = text_of a.names i
+name_text a (n.Other i) = array_text a.names i
 
 abbrev pub meaning_of : Around → ℕ → Meaning
 meaning_of a i = unwrap_or (slice_get a.meanings i) m.Nothing

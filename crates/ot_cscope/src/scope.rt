@@ -8,6 +8,7 @@ ghost use Rattle.ot_cscope.specs.Scopes.{Around, meaning_of, turn_of, opening_of
 
 use crate::json;
 use indexmap::IndexSet;
+use ot_cnames::own_name;
 use ot_cread::Operation;
 use ot_words::{IntegerType, Name};
 use serde_json::Value;
@@ -202,13 +203,13 @@ impl<'a> Scope<'a> {
         }
     }
 
-    /// The same as JSON.
+    /// As JSON, the name that the language has of an array, or of a loop's variable, which no array's name in C hides.
     pub fn named(&self, alloc: Global, name: Name) -> Result<Value, AllocError>
         ensures { IfOk result (λ v. view v ≡ string (around.name_text self.now name)) }
     {
         match name {
             Name::Known(_) => json::text(alloc, ""),
-            Name::Other(number) => json::text(alloc, self.text(number)),
+            Name::Other(number) => json::text(alloc, own_name(self.text(number))),
         }
     }
 

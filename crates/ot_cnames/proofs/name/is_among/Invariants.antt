@@ -1,7 +1,7 @@
 use Rattle.std.proofs.Common.{◌≡◌, drop}
 use Rattle.std.specs.List.{list_any}
 use Rattle.std.specs.Str.{bytes_eq}
-use Rattle.ot_c.proofs.array.is_among.Given as goal
+use Rattle.ot_cnames.proofs.name.is_among.Given as goal
 
 -- those that are left decide
 abbrev pub invariant-loop-word : goal.invariant-loop-word
