@@ -121,7 +121,7 @@ depending us = in_mode In us modes.Reads ++ in_mode Out us modes.Writes
 
 -- one after another, from the left and from the right
 seven : (x a b c d e g h : List Clause) → x ++ a ++ b ++ c ++ d ++ e ++ g ++ h ≡ x ++ (a ++ (b ++ (c ++ (d ++ (e ++ (g ++ (h ++ [])))))))
-seven x a b c d e g h = rw (append-nil h, append_assoc, append_assoc, append_assoc, append_assoc, append_assoc, append_assoc) refl
+seven x a b c d e g h = rw (append-nil h) (simp append_assoc refl)
 
 pub clauses_are : (us : List Use) → clauses us ≡ depending us ++ all_folding us folds
 clauses_are us = seven (depending us) (folding us f.Plus) (folding us f.Times) (folding us f.And) (folding us f.Or) (folding us f.Xor) (folding us f.Min) (folding us f.Max)

@@ -26,10 +26,9 @@ use Rattle.ot_cscope.specs.declared.scope.Sense.TheVariants as s
 use Rattle.ot_cscope.specs.Scopes.{Around, Run, sense}
 use Rattle.ot_cscope.specs.Sizes.{size}
 use Rattle.ot_cdeclare.specs.Each.{each}
-use Rattle.ot_cclause.specs.Clauses.{Head, number_of, item_step, clause_step, joining_step}
+use Rattle.ot_cclause.specs.Clauses.{Head, number_of, own_of, item_step, clause_step, joining_step}
 use Rattle.ot_cclause.specs.Owns.{is_of, own_count, name_if, name_all}
 use Rattle.ot_cclause.specs.Sections.{is_name, is_counted}
-use Rattle.ot_cclause.specs.declared.own.Own.{Own}
 use Rattle.ot_cclause.specs.declared.own.Taking.{Taking}
 use Rattle.ot_cback.specs.Numbering.{name_of}
 use Rattle.ot_cback.specs.Clauses.{Direction, In, Out, Clause, Lists, Goes, Reduces, Combines, direction_role, cell_entry, pointer_entry, at_entry, reduction, claim}
@@ -43,6 +42,13 @@ use Rattle.ot_clowerback.proofs.PlaceLemmas.{Place, in_section, same_array}
 use Rattle.ot_clowerback.proofs.UsesLemmas.{cells_row}
 use Rattle.ot_clowerback.proofs.ValueLemmas.{itself}
 
+-- a cell that a task folds into by a pointer, and whether it stands under `in` too
+abbrev type_of : {A : Type 0} → List A → Type 0
+type_of {A} xs = A
+
+abbrev pub Own : Type 0
+Own = type_of (own_of None)
+
 -- ---- one after another
 
 module _ {A B : Type 0} (step : A → B → Result A Refusal) where
@@ -54,21 +60,24 @@ module _ {A B : Type 0} (step : A → B → Result A Refusal) where
   unfolding each
   one_more a b x xs is = rw is refl
 
+  one_refused : (a : A) (x : B) (xs : List B) (e : Refusal) → step a x ≡ Err e → each step a (x ∷ xs) ≡ Err e
+  unfolding each
+  one_refused a x xs e bad = rw bad refl
+
+  abbrev good : A → Result A Refusal
+  good a = Ok a
+
+  good_same : (a b : A) → good a ≡ good b → a ≡ b
+  good_same a b is = cc
+
   -- some, then others
   pub more_after : (xs ys : List B) (a b : A) → each step a xs ≡ Ok b → each step a (xs ++ ys) ≡ each step b ys
-  more_after [] ys a b is = ap (λ x. each step x ys) (given (sym (no_more a) ∙ is))
-    where
-      given : {x y : A} → Ok x ≡ Ok y → x ≡ y
-      given e = cc
+  more_after [] ys a b is = ap (λ x. each step x ys) (good_same a b (sym (no_more a) ∙ is))
   more_after (x ∷ xs) ys a b is = by (step a x) refl (λ c. more_after xs ys c b)
     where
-      refused : (e : Refusal) → step a x ≡ Err e → each step a (x ∷ xs) ≡ Err e
-      unfolding each
-      refused e bad = rw bad refl
-
       by : (r : Result A Refusal) → step a x ≡ r → ((c : A) → each step c xs ≡ Ok b → each step c (xs ++ ys) ≡ each step b ys) → each step a (x ∷ (xs ++ ys)) ≡ each step b ys
       by (Ok c) good rest = one_more a c x (xs ++ ys) good ∙ rest c (sym (one_more a c x xs good) ∙ is)
-      by (Err e) bad rest = absurd (never (sym (refused e bad) ∙ is))
+      by (Err e) bad rest = absurd (never (sym (one_refused a x xs e bad) ∙ is))
         where
           never : Err e ≡ Ok b → ⊥
           never h = absurd cc
@@ -102,6 +111,36 @@ ClauseTimes js k (Combines op cs) = ⊥
 abbrev pub ClausesTimes : List Cell → ℕ → List Clause → Type 0
 ClausesTimes js k [] = Unit {0}
 ClausesTimes js k (c ∷ cs) = ClauseTimes js k c × ClausesTimes js k cs
+
+-- ---- cells under `in`
+
+-- the cells that stand under `in` behind these clauses
+abbrev pub with_cells : (Cell → Bool) → List Cell → Cell → Bool
+with_cells done [] = done
+with_cells done (c ∷ cs) = with_cells (λ e. done e || has_cell (alone c) e) cs
+
+abbrev pub with_clause : (Cell → Bool) → Clause → Cell → Bool
+with_clause done (Lists d cs) = with_cells done cs
+with_clause done (Goes d s) = λ e. done e || has_cell s e
+with_clause done (Reduces op cs) = done
+with_clause done (Combines op cs) = done
+
+abbrev pub with_clauses : (Cell → Bool) → List Clause → Cell → Bool
+with_clauses done [] = done
+with_clauses done (c ∷ cs) = with_clauses (with_clause done c) cs
+
+-- under `in`
+abbrev pub IsUnderIn : Clause → Type 0
+IsUnderIn (Lists In cs) = Unit {0}
+IsUnderIn (Lists Out cs) = ⊥
+IsUnderIn (Goes In s) = Unit {0}
+IsUnderIn (Goes Out s) = ⊥
+IsUnderIn (Reduces op cs) = ⊥
+IsUnderIn (Combines op cs) = ⊥
+
+abbrev pub AreUnderIn : List Clause → Type 0
+AreUnderIn [] = Unit {0}
+AreUnderIn (c ∷ cs) = IsUnderIn c × AreUnderIn cs
 
 module _ (number : Text → ℕ) (names : List Text) (shape : Arrays) (known : ℕ → Bool) (pointed : Operation → Cell → Bool) (gs : List Grouped) (mine : Operation → Cell → Bool) (a : Around) (place : Place number names shape known pointed gs mine a) (at : ℕ) where
   abbrev arrays : ℕ → Name
@@ -266,39 +305,11 @@ module _ (number : Text → ℕ) (names : List Text) (shape : Arrays) (known : �
     own_section s ds done ts within once long =
         rw (rest_is s.start s.len, own_is s done js within all ∙ section_many s js 1 once ∙ times_one s.len, some_cells s.len long, itself s.len, all_names s done js within all) refl
 
-    -- the cells that stand under `in` behind these clauses
-    abbrev pub with_cells : (Cell → Bool) → List Cell → Cell → Bool
-    with_cells done [] = done
-    with_cells done (c ∷ cs) = with_cells (λ e. done e || has_cell (alone c) e) cs
-
     own_cells : (cs : List Cell) (ds : List Data) (done : Cell → Bool) (ts : List Taking) → CellsKnown known cs → AllCells (λ c. times c js ≡ 1) cs → each (item_step at r.In None) (marked ds done ts) (map (cell_entry number names) cs) ≡ Ok (marked ds (with_cells done cs) ts)
     own_cells [] ds done ts fit once = no_more (item_step at r.In None) (marked ds done ts)
     own_cells (c ∷ cs) ds done ts fit once =
         one_more (item_step at r.In None) (marked ds done ts) (marked ds (λ e. done e || has_cell (alone c) e) ts) (cell_entry number names c) (map (cell_entry number names) cs) (own_cell c ds done ts fit.0 once.0)
         ∙ own_cells cs ds (λ e. done e || has_cell (alone c) e) ts fit.1 once.1
-
-    abbrev with_clause : (Cell → Bool) → Clause → Cell → Bool
-    with_clause done (Lists d cs) = with_cells done cs
-    with_clause done (Goes d s) = λ e. done e || has_cell s e
-    with_clause done (Reduces op cs) = done
-    with_clause done (Combines op cs) = done
-
-    abbrev pub with_clauses : (Cell → Bool) → List Clause → Cell → Bool
-    with_clauses done [] = done
-    with_clauses done (c ∷ cs) = with_clauses (with_clause done c) cs
-
-    -- under `in`
-    abbrev IsUnderIn : Clause → Type 0
-    IsUnderIn (Lists In cs) = Unit {0}
-    IsUnderIn (Lists Out cs) = ⊥
-    IsUnderIn (Goes In s) = Unit {0}
-    IsUnderIn (Goes Out s) = ⊥
-    IsUnderIn (Reduces op cs) = ⊥
-    IsUnderIn (Combines op cs) = ⊥
-
-    abbrev pub AreUnderIn : List Clause → Type 0
-    AreUnderIn [] = Unit {0}
-    AreUnderIn (c ∷ cs) = IsUnderIn c × AreUnderIn cs
 
     own_clause : (c : Clause) (ds : List Data) (done : Cell → Bool) (ts : List Taking) → IsUnderIn c → ClauseKnown known c → ClauseTimes js 1 c → clause_step at (marked ds done ts) (claim number names c) ≡ Ok (marked ds (with_clause done c) ts)
     own_clause (Lists In cs) ds done ts under fit once = own_cells cs ds done ts fit once

@@ -1,6 +1,10 @@
 mod UsesLemmas
+mod CountLemmas
+pub mod PlaceLemmas
 pub mod ClauseLemmas
 pub mod HeadingLemmas
+mod JoinLemmas
+pub mod TaskLemmas
 mod ReadLemmas
 mod TextLemmas
 pub mod ValueLemmas

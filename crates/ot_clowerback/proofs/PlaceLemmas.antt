@@ -130,9 +130,12 @@ or_false false b is = (refl, is)
 pub in_section : (s : Section) (c : Cell) → has_cell s c ≡ ((c.array == s.array) && (nat_le s.start c.index && nat_lt (c.index - s.start) s.len))
 in_section s c = ap (list_any (same_cell c)) (cells_row s) ∙ in_row s.array s.start s.len c
 
+one_cell : (c d : Cell) → c.array ≡ d.array → c.index ≡ d.index → same_cell c d ≡ true
+one_cell c d array index = grind (arith, nat_tests)
+
 -- ---- places inside of groups
 
-abbrev has_grouped : List Grouped → Section → Bool
+abbrev pub has_grouped : List Grouped → Section → Bool
 has_grouped gs sec = list_any (λ g. has_cell sec g.cell) gs
 
 -- the cell that a name points to
@@ -265,10 +268,10 @@ module _ (number : Text → ℕ) (names : List Text) (shape : Arrays) (known : �
     pointers_apart op by c d h stands k other apart is =
         let same = by_number (pointers by d) (pointers op c) (may_combine by d k other) (may_something (pointers op c) (may_combine op c h stands)) is in
         let points : Some (record { array = number_of (arrays d.array); place = d.index }) ≡ Some (record { array = number_of (arrays c.array); place = c.index }) = sym (points_to by d k other) ∙ ap (λ x. pointee_of (sense a x)) same ∙ points_to op c h stands in
-        let one = ap (λ (p : Pointee). p.array) (some_same points) in
-        let two = ap (λ (p : Pointee). p.place) (some_same points) in
-        let array = same_array c.array d.array (at.within op c h) (at.within by d k) (sym one) in
-        apart ((cell-decides c d).0 (grind (arith, nat_tests)))
+        let one : number_of (arrays d.array) ≡ number_of (arrays c.array) = ap (λ (p : Pointee). p.array) (some_same points) in
+        let index : d.index ≡ c.index = ap (λ (p : Pointee). p.place) (some_same points) in
+        let array : c.array ≡ d.array = same_array c.array d.array (at.within op c h) (at.within by d k) (sym one) in
+        apart ((cell-decides c d).0 (one_cell c d array (sym index)))
 
     module _ (op : Operation) (c : Cell) (flag : Bool) (h : pointed op c ≡ true) (stands : Stands op c) where
       abbrev new : Opening
@@ -325,8 +328,8 @@ module _ (number : Text → ℕ) (names : List Text) (shape : Arrays) (known : �
             inside = at.inside;
           }
         where
-          one_cell : (d : Cell) → same_cell c d ≡ true → c ≡ d
-          one_cell d same = (cell-decides c d).0 same
+          same_is : (d : Cell) → same_cell c d ≡ true → c ≡ d
+          same_is d same = (cell-decides c d).0 same
 
           two_cells : (d : Cell) → same_cell c d ≡ false → c ≡ d → ⊥
           two_cells d other same = true≢false (sym ((cell-decides c d).1 same) ∙ other)
@@ -335,24 +338,24 @@ module _ (number : Text → ℕ) (names : List Text) (shape : Arrays) (known : �
           none_some e = absurd cc
 
           points_new : (by : Operation) (d : Cell) → pointed by d ≡ true → grouped_by more d ≡ None → (b : Bool) → same_cell c d ≡ b → sense inner (pointers by d) ≡ s.Pointer (number_of (arrays d.array)) d.index
-          points_new by d k none true same = absurd (none_some (sym this ∙ ap (grouped_by more) (one_cell d same) ∙ none))
+          points_new by d k none true same = absurd (none_some (sym this ∙ ap (grouped_by more) (same_is d same) ∙ none))
           points_new by d k none false other = let old = sym (others d (two_cells d other)) ∙ none in there by d k (inl old) (two_cells d other) ∙ at.points by d k old
 
           combines_new : (by : Operation) (d : Cell) → pointed by d ≡ true → grouped_by more d ≡ Some by → (b : Bool) → same_cell c d ≡ b → sense inner (pointers by d) ≡ s.Combined (opening number names (mine by d) by d) t.UnsignedLong None
           combines_new by d k is true same =
-              subst (λ e. sense inner (pointers by e) ≡ s.Combined (opening number names (mine by e) by e) t.UnsignedLong None) (one_cell d same)
-              (subst (λ o. sense inner (pointers o c) ≡ s.Combined (opening number names (mine o c) o c) t.UnsignedLong None) (some_same (sym this ∙ ap (grouped_by more) (one_cell d same) ∙ is))
+              subst (λ e. sense inner (pointers by e) ≡ s.Combined (opening number names (mine by e) by e) t.UnsignedLong None) (same_is d same)
+              (subst (λ o. sense inner (pointers o c) ≡ s.Combined (opening number names (mine o c) o c) t.UnsignedLong None) (some_same (sym this ∙ ap (grouped_by more) (same_is d same) ∙ is))
               (here ∙ ap (λ b. s.Combined (opening number names b op c) t.UnsignedLong None) (sym flagged)))
           combines_new by d k is false other =
               let old = sym (others d (two_cells d other)) ∙ is in
               there by d k (inr old) (two_cells d other) ∙ at.combines by d k old ∙ ap (λ b. s.Combined (opening number names b by d) t.UnsignedLong None) (sym (kept by d (two_cells d other)))
 
           grouped_new : (by : Operation) (d : Cell) → grouped_by more d ≡ Some by → (b : Bool) → same_cell c d ≡ b → pointed by d ≡ true
-          grouped_new by d is true same = subst (λ e. pointed by e ≡ true) (one_cell d same) (subst (λ o. pointed o c ≡ true) (some_same (sym this ∙ ap (grouped_by more) (one_cell d same) ∙ is)) h)
+          grouped_new by d is true same = subst (λ e. pointed by e ≡ true) (same_is d same) (subst (λ o. pointed o c ≡ true) (some_same (sym this ∙ ap (grouped_by more) (same_is d same) ∙ is)) h)
           grouped_new by d is false other = at.grouped by d (sym (others d (two_cells d other)) ∙ is)
 
           owned_new : (by : Operation) (d : Cell) → mine by d ≡ true → (b : Bool) → same_cell c d ≡ b → grouped_by more d ≡ Some by
           owned_new by d is true same =
-              let is_op = only by (subst (λ e. mine by e ≡ true) (sym (one_cell d same)) is) in
-              ap (grouped_by more) (sym (one_cell d same)) ∙ this ∙ ap (λ o. Some o) (sym is_op)
+              let is_op = only by (subst (λ e. mine by e ≡ true) (sym (same_is d same)) is) in
+              ap (grouped_by more) (sym (same_is d same)) ∙ this ∙ ap (λ o. Some o) (sym is_op)
           owned_new by d is false other = others d (two_cells d other) ∙ at.owned by d (sym (kept by d (two_cells d other)) ∙ is)

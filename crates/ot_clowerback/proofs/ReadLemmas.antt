@@ -22,7 +22,7 @@ use Rattle.ot_program.specs.Printed.{two, three, num, name_at, section_text, IsF
 use Rattle.ot_program.proofs.PrintedBack.{size_back, section_back}
 use Rattle.ot_cback.specs.Clauses.{Direction, In, Out, Clause, Goes, listed, over_long, in_mode}
 use Rattle.ot_clowerback.specs.Declared.{direction_text, one_text, clause_texts, all_clause_texts}
-use Rattle.ot_clowerback.proofs.UsesLemmas.{long_parts, of_mode, declared}
+use Rattle.ot_clowerback.proofs.UsesLemmas.{long_parts, of_mode, depending}
 
 abbrev pub mode_of : Direction → Mode
 mode_of In = modes.Reads
@@ -81,7 +81,7 @@ module _ (names : List Text) (shape : Arrays) (found : (i : ℕ) → i < length 
         ∙ ap (λ ks. ks ++ map f (all_clause_texts shape (over_long d ss))) (cells_read d (cells_of (short ss)) (cells_fit names (short ss) (short_fit names ss all)))
         ∙ ap (λ ks. map (λ c. record { mode = mode_of d; section = alone c }) (cells_of (short ss)) ++ ks) (long_read d ss all)
 
-    pub clauses_read : (us : List Use) → UsesFit names us → map f (all_clause_texts shape (in_mode In us modes.Reads ++ in_mode Out us modes.Writes)) ≡ declared us
+    pub clauses_read : (us : List Use) → UsesFit names us → map f (all_clause_texts shape (in_mode In us modes.Reads ++ in_mode Out us modes.Writes)) ≡ depending us
     clauses_read us fit =
         ap (map f) (texts_append (in_mode In us modes.Reads) (in_mode Out us modes.Writes))
         ∙ map-append f (all_clause_texts shape (in_mode In us modes.Reads)) (all_clause_texts shape (in_mode Out us modes.Writes))

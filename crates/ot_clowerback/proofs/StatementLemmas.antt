@@ -32,7 +32,7 @@ use Rattle.ot_cstatement.specs.Tree.{Assign}
 use Rattle.ot_cscope.specs.Kinds.{joined}
 use Rattle.ot_cscope.specs.declared.scope.Opening.{Opening}
 use Rattle.ot_cscope.specs.declared.scope.Sense.TheVariants as senses
-use Rattle.ot_cscope.specs.Scopes.{Around, sense, name_text, text_of}
+use Rattle.ot_cscope.specs.Scopes.{Around, sense, name_text, array_text}
 use Rattle.ot_cscope.specs.Sizes.{size}
 use Rattle.ot_cmeaning.specs.Arithmetic.{whole}
 use Rattle.ot_cmeaning.specs.Stores.{folded}
@@ -131,10 +131,10 @@ module _ (number : Text → ℕ) (names : List Text) (shape : Arrays) (known : �
   other_name (n.Known w) y k is = absurd cc
   other_name (n.Other i) y k is = (i, refl)
 
-  array_other : (i : ℕ) → known i ≡ true → string (text_of a.names (number_of (arrays i))) ≡ name_at shape i
+  array_other : (i : ℕ) → known i ≡ true → string (array_text a.names (number_of (arrays i))) ≡ name_at shape i
   array_other i within = by (arrays i) (knows.cells i within).1 (knows.text i within)
     where
-      by : (x : Name) → sense a x ≡ senses.Cells t.UnsignedLong (Some (knows.cells i within).0) → string (name_text a x) ≡ name_at shape i → string (text_of a.names (number_of x)) ≡ name_at shape i
+      by : (x : Name) → sense a x ≡ senses.Cells t.UnsignedLong (Some (knows.cells i within).0) → string (name_text a x) ≡ name_at shape i → string (array_text a.names (number_of x)) ≡ name_at shape i
       by (n.Known w) is text = absurd cc
       by (n.Other j) is text = text
 

@@ -47,7 +47,7 @@ has_append : (c : Cell) (xs ys : List Cell) → has c (xs ++ ys) ≡ (has c xs |
 has_append c [] ys = refl
 has_append c (x ∷ xs) ys = ap (λ b. same_cell c x || b) (has_append c xs ys) ∙ sym (or_assoc (same_cell c x) (has c xs) (has c ys))
 
-has_any : (c : Cell) (ds : List Cell) → list_any (same_cell c) ds ≡ has c ds
+pub has_any : (c : Cell) (ds : List Cell) → list_any (same_cell c) ds ≡ has c ds
 has_any c [] = refl
 has_any c (d ∷ ds) = ap (λ b. same_cell c d || b) (has_any c ds)
 
@@ -115,7 +115,7 @@ has_placed x c (d ∷ ds) = by (is_before c d) (same_cell c d) refl (has_placed 
     by false true same rest = or_twice (same_cell x d) (has x ds) ∙ ap (λ y. same_cell x y || (same_cell x d || has x ds)) (sym ((cell-decides c d).0 same))
     by false false same rest = ap (λ b. same_cell x d || b) rest ∙ or_swap (same_cell x d) (same_cell x c) (has x ds)
 
-all_sorted : (ds cs : List Cell) → AreSorted ds → AreSorted (fold placed ds cs)
+pub all_sorted : (ds cs : List Cell) → AreSorted ds → AreSorted (fold placed ds cs)
 all_sorted ds [] sorted = sorted
 all_sorted ds (c ∷ cs) sorted = all_sorted (placed ds c) cs (sorted_placed ds c sorted)
 
@@ -188,7 +188,7 @@ module _ (x : Cell) (t : Mode → Bool) where
           ∙ and_or (has x (row s.array s.start s.len)) (has x (cells_of (long ss))) (t m)
           ∙ ap (λ b. b && t m) (sym (has_append x (row s.array s.start s.len) (cells_of (long ss))))
 
-  parts_have : (ss : List Section) → (has x (cells_of (short ss)) || has x (cells_of (long ss))) ≡ has x (cells_of ss)
+  pub parts_have : (ss : List Section) → (has x (cells_of (short ss)) || has x (cells_of (long ss))) ≡ has x (cells_of ss)
   parts_have [] = refl
   parts_have (s ∷ ss) = by (is_long s) (parts_have ss) ∙ sym (has_append x (row s.array s.start s.len) (cells_of ss))
     where
@@ -284,7 +284,7 @@ and_true true = refl
 and_true false = refl
 
 -- whether a cell is folded by one of these operations
-abbrev is_folded : Cell → List Use → List Operation → Bool
+abbrev pub is_folded : Cell → List Use → List Operation → Bool
 is_folded x us [] = false
 is_folded x us (op ∷ ops) = has x (cells_in us (modes.Folds op)) || is_folded x us ops
 

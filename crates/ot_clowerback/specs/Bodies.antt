@@ -3,8 +3,11 @@ use Rattle.std.specs.Prelude.{◌≡◌, ℕ, ◌<◌, List, [], ◌∷◌, ◌+
 use Rattle.serde_json.specs.Data.{Data, array}
 use Rattle.serde_json.specs.View.{items_of}
 use Rattle.ot_model.specs.Shapes.{Arrays}
-use Rattle.ot_model.specs.Tree.{Body, body_of}
+use Rattle.ot_model.specs.Tree.{S, Set, Fold, If, Task, Wait, Group, Body, End, Next, CellAt, body_of}
+use Rattle.ot_model.specs.Uses.{AreInOrder}
+use Rattle.ot_print.specs.Laws.{CellsFit}
 use Rattle.ot_print.specs.Shown.{Text}
+use Rattle.ot_c.specs.Laws.{UsesFit}
 use Rattle.ot_program.specs.Copies.{copies, statements_of}
 use Rattle.ot_program.specs.Meanings.{Bindings}
 use Rattle.ot_program.specs.Printed.{IsFound}
@@ -16,11 +19,27 @@ use Rattle.ot_cstatement.specs.Tree as tree
 use Rattle.ot_cdeclare.specs.Places.{byte_of}
 use Rattle.ot_cclause.specs.declared.own.Taking.TheVariants.{ByPointer}
 use Rattle.ot_clower.specs.Lines.{Took, Lowered}
+use Rattle.ot_cback.specs.Values.{Fits}
 use Rattle.ot_clowerback.specs.Known.{program2}
 
 -- each array is found by its name
 abbrev pub AreFound : List Text → Arrays → Type 0
 AreFound names shape = (i : ℕ) → i < length names → IsFound shape i
+
+-- values fit, declarations are in order, and each cell's array has a name
+abbrev mutual
+  pub StatementFits : List Text → S → Type 0
+  StatementFits names (Set c e) = Fits names (CellAt c) × Fits names e
+  StatementFits names (Fold op c e) = Fits names (CellAt c) × Fits names e
+  StatementFits names (If e a b) = Fits names e × BodyFits names a × BodyFits names b
+  StatementFits names (Task us b) = AreInOrder us × UsesFit names us × BodyFits names b
+  StatementFits names (Wait None) = Unit {0}
+  StatementFits names (Wait (Some us)) = AreInOrder us × UsesFit names us
+  StatementFits names (Group op cs b) = CellsFit names cs × BodyFits names b
+
+  pub BodyFits : List Text → Body → Type 0
+  BodyFits names End = Unit {0}
+  BodyFits names (Next s rest) = StatementFits names s × BodyFits names rest
 
 -- ---- places
 

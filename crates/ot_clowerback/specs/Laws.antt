@@ -9,7 +9,7 @@ use Rattle.ot_print.specs.Laws.{OnlyDepends}
 use Rattle.ot_print.specs.Shown.{Text, name}
 use Rattle.ot_program.specs.Printed.{value_text, statement_text}
 use Rattle.ot_program.specs.Profiles.{profile_of}
-use Rattle.ot_c.specs.Laws.{normal_fold, normal, BodyFits}
+use Rattle.ot_c.specs.Laws.{normal_fold, normal}
 use Rattle.ot_c.specs.Statements.{only_folds}
 use Rattle.ot_words.specs.declared.word.IntegerType.TheVariants as t
 use Rattle.ot_cstatement.specs.Tree as tree
@@ -24,7 +24,7 @@ use Rattle.ot_cback.specs.Values.{tree_of}
 use Rattle.ot_cback.specs.Assignments.{set_tree, fold_tree}
 use Rattle.ot_cback.specs.Bodies.{body_trees}
 use Rattle.ot_cback.specs.Waits.{wait_tree}
-use Rattle.ot_clowerback.specs.Bodies.{AreFound, places, taking, Becomes}
+use Rattle.ot_clowerback.specs.Bodies.{AreFound, BodyFits, places, taking, Becomes}
 use Rattle.ot_clowerback.specs.Known.{program2, KnowsArrays, ValueKnown, StatementKnown, BodyKnown, pointer_name, KnowsPointers, BodyPointed, opening, IsUntouched, ReadsUntouched, kind_of}
 use Rattle.ot_clowerback.specs.Reductions.{BodyReduces}
 
