@@ -28,7 +28,6 @@ use Rattle.ot_c.specs.Named.{is_array, value_names, uses_name, cells_name, state
 use Rattle.ot_c.specs.Statements.{is_mode, only_folds, put, put_all, each_once}
 use Rattle.ot_words.specs.declared.word.IntegerType.TheVariants as t
 use Rattle.ot_words.specs.declared.word.Name.{Name}
-use Rattle.ot_words.specs.Words.{Spoken}
 use Rattle.ot_cread.specs.Tree as values
 use Rattle.ot_cread.specs.Tree.{Claim}
 use Rattle.ot_cstatement.specs.Tree as tree
@@ -38,12 +37,12 @@ use Rattle.ot_cclause.specs.Clauses.{heading}
 use Rattle.ot_cclause.specs.declared.own.Taking.TheVariants.{ByPointer}
 use Rattle.ot_cdeclare.specs.Places.{byte_of}
 use Rattle.ot_clower.specs.Lines.{L, Lowered, Took}
-use Rattle.ot_clower.specs.Statements.{Origin, region_at, waits, wait_for, task_head, group_head, statement, body_from}
+use Rattle.ot_clower.specs.Statements.{Origin, region_at, waits, wait_for, statement, body_from}
 use Rattle.ot_cback.specs.Numbering.{name_of}
-use Rattle.ot_cback.specs.Values.{tree_of, constant_tree}
+use Rattle.ot_cback.specs.Values.{tree_of}
 use Rattle.ot_cback.specs.Assignments.{set_words, set_tree, fold_form, folded_tree}
-use Rattle.ot_cback.specs.Clauses.{Direction, In, Out, Clause, Lists, Goes, Reduces, Combines, pointer_entry, claim, in_mode, reducing, folding, clauses}
-use Rattle.ot_cback.specs.Groups.{all_pointer_words, pointer_trees}
+use Rattle.ot_cback.specs.Clauses.{In, Out, Clause, Lists, Goes, Reduces, Combines, pointer_entry, claim, in_mode, reducing, folding, clauses}
+use Rattle.ot_cback.specs.Groups.{pointer_trees}
 use Rattle.ot_cback.specs.Values.{Fits}
 use Rattle.ot_cback.specs.Bodies.{statement_tree, body_trees}
 use Rattle.ot_cback.proofs.WaitLemmas.{AllDepend}
@@ -99,7 +98,7 @@ put_all_fit : (names : List Text) (ds cs : List Cell) → CellsFit names ds → 
 put_all_fit names ds [] fit more = fit
 put_all_fit names ds (c ∷ cs) fit more = put_all_fit names (put ds c) cs (put_fit names ds c fit (more.0, tt)) more.1
 
-once_fit : (names : List Text) (cs : List Cell) → CellsFit names cs → CellsFit names (each_once cs)
+pub once_fit : (names : List Text) (cs : List Cell) → CellsFit names cs → CellsFit names (each_once cs)
 once_fit names cs fit = put_all_fit names [] cs tt fit
 
 -- ---- one after another
@@ -201,11 +200,11 @@ module _ (names : List Text) (shape : Arrays) (found : AreFound names shape) (o 
           record {
             texts = made.texts;
             is =
-            block_is left b
-            ∙ points_steps op k cs t
-            ∙ alone_steps t made.texts (places_in o.starts t) (taking_in o.starts t) made.is small
-            ∙ ap (λ ps. Ok (line made.texts ps (taking_in o.starts t))) (sym (points_places op k cs t))
-            ∙ ap (λ ks. Ok (line made.texts (places o.starts b) ks)) (sym (points_taking op k cs t));
+                block_is left b
+                ∙ points_steps op k cs t
+                ∙ alone_steps t made.texts (places_in o.starts t) (taking_in o.starts t) made.is small
+                ∙ ap (λ ps. Ok (line made.texts ps (taking_in o.starts t))) (sym (points_places op k cs t))
+                ∙ ap (λ ks. Ok (line made.texts (places o.starts b) ks)) (sym (points_taking op k cs t));
             read = made.read;
           }
 

@@ -14,7 +14,7 @@ use Rattle.ot_model.specs.declared.stmt.Mode.{Mode}
 use Rattle.ot_model.specs.declared.stmt.Mode.TheVariants as modes
 use Rattle.ot_model.specs.declared.stmt.Use.{Use}
 use Rattle.ot_model.proofs.EqualLemmas.{cell-decides, mode-decides}
-use Rattle.ot_print.specs.Sections.{cells_in, sections_of, cells_of, row, alone}
+use Rattle.ot_print.specs.Sections.{cells_in, sections_of, cells_of, row}
 use Rattle.ot_print.proofs.SectionLemmas.{comes_back}
 use Rattle.ot_c.specs.Clauses.{is_long, short}
 use Rattle.ot_c.specs.Statements.{is_mode, only_folds}

@@ -1,5 +1,5 @@
 -- Tasks take part in reductions, and groups combine: clauses over pointers.
-use Rattle.std.proofs.Common.{◌≡◌, inl, inr, ℕ, List, [], ◌∷◌, ◌++◌, map, Bool, true, false, ◌||◌, ◌&&◌, if◌then◌else◌, Some, None, Ok, refl, sym, ap, ◌∙◌, subst, append_assoc, true≢false}
+use Rattle.std.proofs.Common.{◌≡◌, inr, ℕ, List, [], ◌∷◌, ◌++◌, map, Bool, true, false, ◌||◌, ◌&&◌, if◌then◌else◌, Some, Ok, refl, sym, ap, ◌∙◌, subst, append_assoc, true≢false}
 use Rattle.std.specs.Prelude.{codes}
 use Rattle.std.specs.List.{list_any}
 use Rattle.std.proofs.lemmas.List.{append-nil, map-append}
@@ -12,7 +12,6 @@ use Rattle.ot_model.specs.declared.expr.Cell.{Cell}
 use Rattle.ot_model.specs.declared.expr.Section.{Section}
 use Rattle.ot_model.specs.declared.fold.Fold.{Fold as Operation}
 use Rattle.ot_model.specs.declared.fold.Fold.TheVariants as f
-use Rattle.ot_model.specs.declared.stmt.Mode.{Mode}
 use Rattle.ot_model.specs.declared.stmt.Mode.TheVariants as modes
 use Rattle.ot_model.specs.declared.stmt.Use.{Use}
 use Rattle.ot_model.proofs.EqualLemmas.{cell-decides, fold-decides, mode-decides}
@@ -25,19 +24,17 @@ use Rattle.ot_c.proofs.OrderLemmas.{has, Below, AreSorted, sorted_in}
 use Rattle.ot_words.specs.declared.word.IntegerType.TheVariants as t
 use Rattle.ot_words.specs.declared.word.Name.{Name}
 use Rattle.ot_words.specs.declared.word.Name.TheVariants as n
-use Rattle.ot_cread.specs.declared.tree.Role.TheVariants as r
 use Rattle.ot_cscope.specs.declared.scope.Sense.TheVariants as s
 use Rattle.ot_cscope.specs.Scopes.{Around, sense, name_text, array_text, with_opening}
 use Rattle.ot_cdeclare.specs.Each.{each}
-use Rattle.ot_cclause.specs.Clauses.{Head, number_of, takes_part, joining_step, item_step, clause_step}
+use Rattle.ot_cclause.specs.Clauses.{Head, number_of, takes_part, joining_step}
 use Rattle.ot_cclause.specs.Operations.{is_same, operation_word}
 use Rattle.ot_cclause.specs.Sections.{is_only}
-use Rattle.ot_cclause.specs.declared.own.Taking.{Taking}
 use Rattle.ot_cclause.specs.declared.own.Taking.TheVariants.{ByPointer}
-use Rattle.ot_cback.specs.Clauses.{In, Clause, Reduces, Combines, reduction, pointer_entry, claim, in_mode, reducing, folding}
+use Rattle.ot_cback.specs.Clauses.{In, Reduces, reduction, pointer_entry, claim, in_mode, reducing, folding}
 use Rattle.ot_clowerback.specs.Known.{array_name, opening}
-use Rattle.ot_clowerback.specs.Reductions.{Grouped, grouped_by, has_cell, IsGrouped, AreGrouped, AreFree, with_group}
-use Rattle.ot_clowerback.proofs.ClauseLemmas.{CellsKnown, all_folding, mode_depends}
+use Rattle.ot_clowerback.specs.Reductions.{Grouped, grouped_by, has_cell, IsGrouped, AreGrouped}
+use Rattle.ot_clowerback.proofs.ClauseLemmas.{all_folding, mode_depends}
 use Rattle.ot_clowerback.proofs.CountLemmas.{AllCells, folded_cells, only_folds_is}
 use Rattle.ot_clowerback.proofs.HeadingLemmas.{Own, no_more, one_more, more_after, joins_none}
 use Rattle.ot_clowerback.proofs.PlaceLemmas.{Place, opened_place, same_place, has_grouped}
@@ -277,8 +274,7 @@ module _ (number : Text → ℕ) (names : List Text) (shape : Arrays) (known : �
   can_join_all : (us : List Use) (ops : List Operation) (own : Operation → Cell → Bool) → AreInOrder us → AreGrouped gs us → AreApart ops → AreNew own ops → CanJoinAll own us ops
   can_join_all us [] own order grouped apart new = tt
   can_join_all us (op ∷ ops) own order grouped apart new =
-      let cs = cells_in us (modes.Folds op) in
-      (
+      let cs = cells_in us (modes.Folds op) in (
         can_join op cs own (sorted_in us (modes.Folds op) order) (are_grouped us op grouped) (each_none (λ c. own op c ≡ false) cs (λ c. new op (ap (λ b. b || list_any (same_fold op) ops) (fold_itself op)) c)),
         can_join_all us ops (adds_all own op cs) order grouped apart.1 (λ by among c. adds_other op by cs own c (differ by among (same_fold op by) refl) ∙ new by (later (same_fold by op) among) c),
       )

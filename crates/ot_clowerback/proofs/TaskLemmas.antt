@@ -1,6 +1,6 @@
 -- The clauses of tasks, of waits and of groups become what they say.
-use Rattle.std.proofs.Common.{◌≡◌, inl, inr, ℕ, List, [], ◌∷◌, ◌++◌, map, Bool, true, false, ◌||◌, ◌&&◌, if◌then◌else◌, Some, None, Ok, refl, sym, ap, ◌∙◌, subst, append_assoc, true≢false}
-use Rattle.std.specs.Prelude.{nat_lt, fold}
+use Rattle.std.proofs.Common.{◌≡◌, inl, ℕ, List, [], ◌∷◌, ◌++◌, map, Bool, true, false, ◌||◌, if◌then◌else◌, Some, None, Ok, refl, sym, ap, ◌∙◌, subst, append_assoc}
+use Rattle.std.specs.Prelude.{fold}
 use Rattle.std.specs.List.{list_any, list_all}
 use Rattle.std.proofs.lemmas.List.{append-nil, map-append}
 use Rattle.serde_json.specs.Data.{Data}
@@ -24,25 +24,23 @@ use Rattle.ot_c.specs.Clauses.{is_long, short}
 use Rattle.ot_c.specs.Statements.{only_folds, put, put_all, each_once}
 use Rattle.ot_c.proofs.OrderLemmas.{has, long, Below, AreSorted}
 use Rattle.ot_words.specs.declared.word.IntegerType.TheVariants as t
-use Rattle.ot_words.specs.declared.word.Name.{Name}
 use Rattle.ot_words.specs.declared.word.Name.TheVariants as n
 use Rattle.ot_cread.specs.declared.tree.Role.TheVariants as r
 use Rattle.ot_cscope.specs.declared.scope.Sense.TheVariants as s
-use Rattle.ot_cscope.specs.Scopes.{Around, Run, sense, is_pointed, with_opening}
+use Rattle.ot_cscope.specs.Scopes.{Around, sense, is_pointed, with_opening}
 use Rattle.ot_cdeclare.specs.Each.{each}
 use Rattle.ot_cclause.specs.Clauses.{Head, number_of, item_step, clause_step, joining_step, heading}
 use Rattle.ot_cclause.specs.Sections.{is_only}
 use Rattle.ot_cclause.specs.declared.own.Taking.{Taking}
 use Rattle.ot_cclause.specs.declared.own.Taking.TheVariants.{ByPointer}
-use Rattle.ot_cback.specs.Clauses.{Direction, In, Out, Clause, Lists, Goes, Reduces, Combines, reduction, pointer_entry, claim, listed, over_long, in_mode, reducing, folding, clauses}
-use Rattle.ot_cback.proofs.WaitLemmas.{AllDepend}
+use Rattle.ot_cback.specs.Clauses.{Direction, In, Out, Clause, Goes, Reduces, Combines, reduction, pointer_entry, claim, listed, over_long, in_mode, reducing, folding, clauses}
 use Rattle.ot_clowerback.specs.Known.{array_name, UsesKnown, CellsPointed, opening}
 use Rattle.ot_clowerback.specs.Declared.{all_clause_texts}
-use Rattle.ot_clowerback.specs.Reductions.{Grouped, grouped_by, has_cell, IsFree, AreFree, AreGrouped, with_group}
-use Rattle.ot_clowerback.proofs.ClauseLemmas.{CellsKnown, ClausesKnown, cells_append, in_known, mode_known, depending_known, all_folding, depending, clauses_are, depending_depend}
+use Rattle.ot_clowerback.specs.Reductions.{Grouped, grouped_by, has_cell, AreFree, AreGrouped, with_group}
+use Rattle.ot_clowerback.proofs.ClauseLemmas.{CellsKnown, cells_append, in_known, mode_known, depending_known, all_folding, depending, clauses_are, depending_depend}
 use Rattle.ot_clowerback.proofs.CountLemmas.{AllCells, AllSections, from_each, in_short, times, once, folded_cells, mode_once}
-use Rattle.ot_clowerback.proofs.HeadingLemmas.{Own, no_more, one_more, more_after, has_alone, ClausesTimes, with_cells, with_clause, with_clauses, AreUnderIn, mark, head, array_other, ClausesApart, all_clauses, none_apart, clauses_apart, own_clauses, skipped, joins_none}
-use Rattle.ot_clowerback.proofs.JoinLemmas.{red_texts, fresh, array_is, around_after, all_join, can, task_inside, not_in, other_cell}
+use Rattle.ot_clowerback.proofs.HeadingLemmas.{Own, no_more, one_more, more_after, has_alone, ClausesTimes, with_cells, with_clause, with_clauses, AreUnderIn, array_other, all_clauses, none_apart, clauses_apart, own_clauses, skipped, joins_none}
+use Rattle.ot_clowerback.proofs.JoinLemmas.{red_texts, array_is, around_after, all_join, can, task_inside, not_in, other_cell}
 use Rattle.ot_clowerback.proofs.PlaceLemmas.{Place, opened_place, has_grouped}
 use Rattle.ot_clowerback.proofs.UsesLemmas.{same_itself, cells_row, has_any, is_folded, parts_have, all_sorted}
 
@@ -242,7 +240,7 @@ module _ (number : Text → ℕ) (names : List Text) (shape : Arrays) (known : �
         let reds = reducing op (cells_in us (modes.Folds op)) in
         ap (each (clause_step at) (said ds done ts)) (map-append (claim number names) lists reds)
         ∙ more_after (clause_step at) (map (claim number names) lists) (map (claim number names) reds) (said ds done ts) (said ds (with_clauses done lists) ts)
-            (own_clauses number names shape known pointed gs own a place at js (folded_known us folds all) lists ds done ts (mode_under us (modes.Folds op)) (mode_known known In us (modes.Folds op) all) (mode_times us In (modes.Folds op) order))
+        (own_clauses number names shape known pointed gs own a place at js (folded_known us folds all) lists ds done ts (mode_under us (modes.Folds op)) (mode_known known In us (modes.Folds op) all) (mode_times us In (modes.Folds op) order))
         ∙ reducing_skipped gs own a place op (cells_in us (modes.Folds op)) (said ds (with_clauses done lists) ts)
 
     all_said : (ops : List Operation) (ds : List Data) (done : Cell → Bool) (ts : List Taking) → each (clause_step at) (said ds done ts) (map (claim number names) (all_folding us ops)) ≡ Ok (said ds (with_folding done us ops) ts)
@@ -262,7 +260,7 @@ module _ (number : Text → ℕ) (names : List Text) (shape : Arrays) (known : �
         ap (λ cs. each (clause_step at) (said ds none_done ts) (map (claim number names) cs)) (clauses_are us)
         ∙ ap (each (clause_step at) (said ds none_done ts)) (map-append (claim number names) front (all_folding us folds))
         ∙ more_after (clause_step at) (map (claim number names) front) (map (claim number names) (all_folding us folds)) (said ds none_done ts) (said (ds ++ all_clause_texts shape front) none_done ts)
-            (all_clauses number names shape known pointed gs own a place at front ds (marks none_done js) ts (clauses_apart number names shape known pointed gs own a place at js known_all none_done front (depending_known known us all) (depending_times us order)) (depending_known known us all))
+        (all_clauses number names shape known pointed gs own a place at front ds (marks none_done js) ts (clauses_apart number names shape known pointed gs own a place at js known_all none_done front (depending_known known us all) (depending_times us order)) (depending_known known us all))
         ∙ all_said folds (ds ++ all_clause_texts shape front) none_done ts
 
     named_all : (done : Cell → Bool) (cs : List Cell) → AllCells (λ c. done c ≡ true) cs → list_all (λ o. o.named) (marks done cs) ≡ true

@@ -424,13 +424,13 @@ named_are : (us : List Use) → AreInOrder us → named_cells (declared us) ≡ 
 named_are us order =
     same_cells (named_cells (declared us)) (cells us) (sorted_named (declared us)) (sorted_cells us order)
     (λ x.
-      let either = has x (cells_in us modes.Reads) || has x (cells_in us modes.Writes) in
-      has_named x (declared us)
-      ∙ any_named x (declared us)
-      ∙ declared_pass x (λ m. true) us
-      ∙ ap (λ b. fold_passes x (λ m. true) us folds || b) (both_ways (has x (cells_in us modes.Reads)) (has x (cells_in us modes.Writes)))
-      ∙ ap (λ b. b || either) (all_folds x us folds)
-      ∙ sym (has_some x us))
+    let either = has x (cells_in us modes.Reads) || has x (cells_in us modes.Writes) in
+    has_named x (declared us)
+    ∙ any_named x (declared us)
+    ∙ declared_pass x (λ m. true) us
+    ∙ ap (λ b. fold_passes x (λ m. true) us folds || b) (both_ways (has x (cells_in us modes.Reads)) (has x (cells_in us modes.Writes)))
+    ∙ ap (λ b. b || either) (all_folds x us folds)
+    ∙ sym (has_some x us))
 
 -- ---- by what a cell is folded
 

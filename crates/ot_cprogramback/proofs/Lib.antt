@@ -1,4 +1,6 @@
-mod NamedLemmas
 mod DeclarationLemmas
+mod NamedLemmas
 mod PointerLemmas
+mod MeaningLemmas
+mod ApartLemmas
 mod FileLemmas

@@ -4,16 +4,18 @@ use Rattle.std.specs.Prelude.{◌==◌, if◌then◌else◌}
 use Rattle.std.proofs.lemmas.Bool.Decides.{nat_tests}
 use Rattle.ot_model.specs.Programs.{Expanded}
 use Rattle.ot_model.specs.Tree.{E, Literal, CellAt, Apply, PickFrom, S, Set, Fold, If, Task, Wait, Group, Body, End, Next}
+use Rattle.ot_model.specs.declared.expr.Cell.{Cell}
 use Rattle.ot_model.specs.declared.expr.Section.{Section}
 use Rattle.ot_model.specs.declared.stmt.Use.{Use}
+use Rattle.ot_print.specs.Laws.{CellsFit}
 use Rattle.ot_print.specs.Shown.{Text, name}
 use Rattle.ot_c.specs.Arrays.{declared}
 use Rattle.ot_c.specs.Laws.{UsesFit, ShowsFit}
-use Rattle.ot_c.specs.Named.{is_array, value_names, uses_name, sections_name, statement_names, body_names, names}
+use Rattle.ot_c.specs.Named.{is_array, value_names, uses_name, cells_name, sections_name, statement_names, body_names, names}
 use Rattle.ot_c.specs.Programs.{declared_from}
 use Rattle.ot_cback.specs.Values.{Fits}
 use Rattle.ot_cfileback.specs.Files.{names_of}
-use Rattle.ot_clowerback.specs.Bodies.{StatementIsPlain, BodyIsPlain}
+use Rattle.ot_clowerback.specs.Bodies.{StatementFits, BodyFits}
 use Rattle.ot_cprogramback.specs.Programs.{IsDeclared}
 
 -- ---- arrays that are named are there
@@ -43,24 +45,27 @@ module _ (texts : List Text) (i : ℕ) where
   shows_within [] fits is = absurd (true≢false (sym is))
   shows_within (s ∷ ss) fits is = either (is_array i s.array) (sections_name i ss) Within is (λ h. same_array s.array i (length texts) h fits.0.0) (shows_within ss fits.1)
 
+  cells_within : (cs : List Cell) → CellsFit texts cs → cells_name i cs ≡ true → Within
+  cells_within [] fits is = absurd (true≢false (sym is))
+  cells_within (c ∷ cs) fits is = either (is_array i c.array) (cells_name i cs) Within is (λ h. same_array c.array i (length texts) h fits.0.0) (cells_within cs fits.1)
+
   mutual
-    statement_within : (s : S) → StatementIsPlain texts s → statement_names i s ≡ true → Within
-    statement_within (Set c e) plain is = either (is_array i c.array) (value_names i e) Within is (λ h. same_array c.array i (length texts) h plain.0.0) (value_within e plain.1)
-    statement_within (Fold op c e) plain is = either (is_array i c.array) (value_names i e) Within is (λ h. same_array c.array i (length texts) h plain.0.0) (value_within e plain.1)
-    statement_within (If e a b) plain is =
-        either (value_names i e || body_names i a) (body_names i b) Within is (λ h. either (value_names i e) (body_names i a) Within h (value_within e plain.0) (body_within a plain.1)) (body_within b plain.2)
-    statement_within (Task us b) plain is = either (uses_name i us) (body_names i b) Within is (uses_within us plain.1) (body_within b plain.3)
-    statement_within (Wait None) plain is = absurd (true≢false (sym is))
-    statement_within (Wait (Some us)) plain is = uses_within us plain.1 is
-    statement_within (Group op [] b) plain is = body_within b plain is
-    statement_within (Group op (c ∷ cs) b) plain is = absurd plain
+    statement_within : (s : S) → StatementFits texts s → statement_names i s ≡ true → Within
+    statement_within (Set c e) fits is = either (is_array i c.array) (value_names i e) Within is (λ h. same_array c.array i (length texts) h fits.0.0) (value_within e fits.1)
+    statement_within (Fold op c e) fits is = either (is_array i c.array) (value_names i e) Within is (λ h. same_array c.array i (length texts) h fits.0.0) (value_within e fits.1)
+    statement_within (If e a b) fits is =
+        either (value_names i e || body_names i a) (body_names i b) Within is (λ h. either (value_names i e) (body_names i a) Within h (value_within e fits.0) (body_within a fits.1)) (body_within b fits.2)
+    statement_within (Task us b) fits is = either (uses_name i us) (body_names i b) Within is (uses_within us fits.1) (body_within b fits.2)
+    statement_within (Wait None) fits is = absurd (true≢false (sym is))
+    statement_within (Wait (Some us)) fits is = uses_within us fits.1 is
+    statement_within (Group op cs b) fits is = either (cells_name i cs) (body_names i b) Within is (cells_within cs fits.0) (body_within b fits.1)
 
-    body_within : (b : Body) → BodyIsPlain texts b → body_names i b ≡ true → Within
-    body_within End plain is = absurd (true≢false (sym is))
-    body_within (Next s rest) plain is = either (statement_names i s) (body_names i rest) Within is (statement_within s plain.0) (body_within rest plain.1)
+    pub body_within : (b : Body) → BodyFits texts b → body_names i b ≡ true → Within
+    body_within End fits is = absurd (true≢false (sym is))
+    body_within (Next s rest) fits is = either (statement_names i s) (body_names i rest) Within is (statement_within s fits.0) (body_within rest fits.1)
 
-  pub named_within : (p : Expanded) → ShowsFit texts p.shows → BodyIsPlain texts p.body → names p i ≡ true → Within
-  named_within p fits plain is = either (sections_name i p.shows) (body_names i p.body) Within is (shows_within p.shows fits) (body_within p.body plain)
+  pub named_within : (p : Expanded) → ShowsFit texts p.shows → BodyFits texts p.body → names p i ≡ true → Within
+  named_within p shows fits is = either (sections_name i p.shows) (body_names i p.body) Within is (shows_within p.shows shows) (body_within p.body fits)
 
 -- ---- arrays that are named are declared
 
