@@ -1,14 +1,14 @@
 -- Declared arrays are the program's, and their names mean their cells.
 use Rattle.std.proofs.Common.{Bool, ◌≡◌, ◌≢◌, inl, inr, ℕ, zero, suc, ◌-◌, ◌<◌, ◌≤◌, List, [], ◌∷◌, ◌++◌, length, map, true, false, Some, None, Ok, refl, sym, ap, ◌∙◌, subst, append_assoc, arith, true≢false}
 use Rattle.std.specs.Prelude.{◌==◌, nat_lt, ◌&&◌, ◌||◌, if◌then◌else◌, slice_get, slice_set, replicate, take, drop, String, string_bytes, codes}
-use Rattle.std.specs.List.{list_all, list_any}
+use Rattle.std.specs.List.{list_all}
 use Rattle.std.specs.Str.{bytes_eq}
 use Rattle.std.specs.declared.alloc.Global.{Global}
 use Rattle.std.proofs.lemmas.Bool.Decides.{nat_tests}
 use Rattle.std.proofs.lemmas.List.{append-nil, take-append-drop}
 use Rattle.std.proofs.lemmas.List.Folds.{list_any-append}
 use Rattle.std.proofs.lemmas.Slice.Eq.{bytes_eq-Decides}
-use Rattle.ot_print.specs.Shown.{Text, name}
+use Rattle.ot_print.specs.Shown.{Text}
 use Rattle.ot_c.specs.Arrays.{Declared, up_to_last}
 use Rattle.ot_cnames.specs.Names.{is_taken, is_made_up, own_name}
 use Rattle.ot_words.specs.Tables.{looked_up}
@@ -18,7 +18,7 @@ use Rattle.ot_cscope.specs.declared.scope.Meaning.{Meaning}
 use Rattle.ot_cscope.specs.declared.scope.Meaning.TheVariants as m
 use Rattle.ot_cscope.specs.declared.scope.Sense.TheVariants as s
 use Rattle.ot_cscope.specs.Constants.{constant}
-use Rattle.ot_cscope.specs.Scopes.{Around, sense, name_text}
+use Rattle.ot_cscope.specs.Scopes.{Around, sense}
 use Rattle.ot_cdeclare.specs.Each.{each}
 use Rattle.ot_cdeclare.specs.Arrays.{Arr, D, first, number_step, begun as begun_by, cells_in, outside, is_declared, variable_step}
 use Rattle.ot_cback.specs.Numbering.{name_of}
@@ -184,11 +184,10 @@ module _ (number : Text → ℕ) (words : List (String Global)) where
 
   pub still_new_arrays : (arrays : List Arr) (d : Declared) (ds : List Declared) → DeclarationFits number words d → IsApart d.name ds → DeclarationsFit number words ds → AreNewArrays arrays ds → AreNewArrays (arrays ++ begun d ∷ []) ds
   still_new_arrays arrays d [] fit apart fits new = tt
-  still_new_arrays arrays d (e ∷ es) fit apart fits new =
-      (
-        list_any-append (λ a. bytes_eq a.name (own_name e.name)) arrays (begun d ∷ []) ∙ ap (λ b. b || (bytes_eq (own_name d.name) (own_name e.name) || false)) new.0 ∙ other (bytes_eq (own_name d.name) (own_name e.name)) refl,
-        still_new_arrays arrays d es fit apart.1 fits.2 new.1,
-      )
+  still_new_arrays arrays d (e ∷ es) fit apart fits new = (
+    list_any-append (λ a. bytes_eq a.name (own_name e.name)) arrays (begun d ∷ []) ∙ ap (λ b. b || (bytes_eq (own_name d.name) (own_name e.name) || false)) new.0 ∙ other (bytes_eq (own_name d.name) (own_name e.name)) refl,
+    still_new_arrays arrays d es fit apart.1 fits.2 new.1,
+  )
     where
       other : (b : Bool) → bytes_eq (own_name d.name) (own_name e.name) ≡ b → (b || false) ≡ false
       other true is = absurd (apart.0 (own_apart d.name e.name fit.free fits.0.free ((bytes_eq-Decides (own_name d.name) (own_name e.name)).0 is)))

@@ -1,5 +1,5 @@
 -- The tree of a file becomes its program.
-use Rattle.std.proofs.Common.{Bool, ◌≡◌, inl, ℕ, suc, ◌+◌, ◌≤◌, List, [], ◌∷◌, ◌++◌, length, map, true, false, Some, Ok, refl, sym, ap, ◌∙◌, subst, append_assoc, arith}
+use Rattle.std.proofs.Common.{◌≡◌, inl, ℕ, suc, ◌+◌, ◌≤◌, List, [], ◌∷◌, ◌++◌, length, map, true, false, Some, Ok, refl, sym, ap, ◌∙◌, subst, append_assoc, arith}
 use Rattle.std.specs.Prelude.{slice_get, replicate, String, codes}
 use Rattle.std.specs.declared.alloc.Global.{Global}
 use Rattle.std.proofs.lemmas.List.{append-nil, length-replicate, get_or-replicate}
@@ -41,12 +41,12 @@ use Rattle.ot_cnames.specs.Names.{own_name}
 use Rattle.ot_cfileback.specs.Files.{shown_behind, shown, parts}
 use Rattle.ot_cfileback.specs.Parts.{Part, Declares, Runs, Marks, Shows, region_words, all_part_words, cells_of, declared_tree, acts, act}
 use Rattle.ot_clowerback.specs.Bodies.{AreFound, BodyFits, places, taking, AreRead, Becomes}
-use Rattle.ot_clowerback.specs.Reductions.{Grouped, BodyReduces}
+use Rattle.ot_clowerback.specs.Reductions.{BodyReduces}
 use Rattle.ot_clowerback.proofs.BodyLemmas.{few, line, body_back}
 use Rattle.ot_clowerback.proofs.HeadingLemmas.{no_more, one_more}
 use Rattle.ot_clowerback.proofs.TaskLemmas.{empty_heading}
 use Rattle.ot_clowerback.proofs.ValueLemmas.{itself, or_left, or_right}
-use Rattle.ot_cprogramback.specs.Programs.{DeclarationFits, DeclarationsFit, IsDeclared, begun, pointers_of, IsAmong, pointer_to, PointersFit, act_places, act_taking, BecomesProgram}
+use Rattle.ot_cprogramback.specs.Programs.{DeclarationFits, DeclarationsFit, IsDeclared, begun, pointers_of, pointer_to, PointersFit, act_places, act_taking, BecomesProgram}
 use Rattle.ot_cprogramback.proofs.DeclarationLemmas.{with_all, AreNew, still_new, variable_is, AreNewArrays, no_arrays, still_new_arrays}
 use Rattle.ot_cprogramback.proofs.MeaningLemmas.{is_among, body_pointed, body_named, cells_are, knows, knows_pointers}
 use Rattle.ot_cprogramback.proofs.NamedLemmas.{body_within}
@@ -246,7 +246,7 @@ module _ (number : Text → ℕ) (words : List (String Global)) (starts : List �
       let run : each (main_step words starts origin) (so_far first [] [] []) (acts number names k (parts ds p)) ≡ Ok (so_far e (grouped given.texts ∷ []) bytes took) =
       all_declared names k ds (Runs p.body ∷ behind names k p) first fits (no_arrays number words ds) new
       ∙ one_more (main_step words starts origin) (so_far d [] [] []) (so_far e (grouped given.texts ∷ []) bytes took) (Region left [] inner) (acts number names k (behind names k p))
-          (region_step shape d e left inner (normal [] p.body) (from_does number words starts names ds fits base new gs pointers [] p.body j d before (λ g is. is)) given (omega (arith, less)))
+      (region_step shape d e left inner (normal [] p.body) (from_does number words starts names ds fits base new gs pointers [] p.body j d before (λ g is. is)) given (omega (arith, less)))
       ∙ all_quiet names k e (grouped given.texts ∷ []) bytes took (behind names k p) quiet less in
       subst (λ ks. BecomesProgram shape (lowered words starts (record { tops = []; main = acts number names k (parts ds p) })) (map begun ds) (act_places starts (acts number names k (parts ds p))) (reductions_of ks) (Next (Group Plus [] (normal [] p.body)) End)) (sym same_taking)
       (subst (λ bs. BecomesProgram shape (lowered words starts (record { tops = []; main = acts number names k (parts ds p) })) (map begun ds) bs (reductions_of took) (Next (Group Plus [] (normal [] p.body)) End)) (sym same)

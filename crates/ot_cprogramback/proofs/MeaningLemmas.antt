@@ -1,6 +1,6 @@
 -- What names mean in the region: arrays their cells, and pointers the cells that they point to.
-use Rattle.std.proofs.Common.{◌≡◌, inl, inr, ℕ, ◌<◌, List, [], ◌∷◌, ◌++◌, length, map, Bool, true, false, ◌||◌, ◌&&◌, Some, None, refl, sym, ap, ◌∙◌, subst, true≢false}
-use Rattle.std.specs.Prelude.{if◌then◌else◌, slice_get, String, string_bytes}
+use Rattle.std.proofs.Common.{◌≡◌, inl, inr, ℕ, ◌<◌, List, [], ◌∷◌, ◌++◌, length, map, Bool, true, false, ◌||◌, ◌&&◌, Some, refl, sym, ap, ◌∙◌, true≢false}
+use Rattle.std.specs.Prelude.{if◌then◌else◌, slice_get, String}
 use Rattle.std.specs.List.{list_any}
 use Rattle.std.specs.declared.alloc.Global.{Global}
 use Rattle.serde_json.specs.Data.{string}
@@ -19,8 +19,6 @@ use Rattle.ot_c.specs.Named.{is_array, value_names, uses_name, cells_name, state
 use Rattle.ot_c.specs.Statements.{put, put_all, each_once}
 use Rattle.ot_cnames.specs.Names.{own_name}
 use Rattle.ot_words.specs.declared.word.IntegerType.TheVariants as t
-use Rattle.ot_words.specs.declared.word.Name.{Name}
-use Rattle.ot_words.specs.declared.word.Name.TheVariants as n
 use Rattle.ot_cscope.specs.declared.scope.Meaning.{Meaning}
 use Rattle.ot_cscope.specs.declared.scope.Meaning.TheVariants as m
 use Rattle.ot_cscope.specs.declared.scope.Sense.TheVariants as s
@@ -32,8 +30,8 @@ use Rattle.ot_clowerback.specs.Known.{KnowsArrays, KnowsPointers, CellsPointed, 
 use Rattle.ot_clowerback.specs.Reductions.{Grouped}
 use Rattle.ot_clowerback.proofs.ValueLemmas.{itself, or_left, or_right}
 use Rattle.ot_cprogramback.specs.Programs.{DeclarationsFit, IsDeclared, pointers_in, pointers_of, IsAmong, pointer_to, PointersFit}
-use Rattle.ot_cprogramback.proofs.DeclarationLemmas.{IsKnown, all_known, AreNew, with_all}
-use Rattle.ot_cprogramback.proofs.PointerLemmas.{pointer_known, among_left, among_right, IsGood, after, good_after, points}
+use Rattle.ot_cprogramback.proofs.DeclarationLemmas.{all_known, AreNew}
+use Rattle.ot_cprogramback.proofs.PointerLemmas.{pointer_known, among_left, among_right, IsGood}
 
 -- ---- pointers of a body
 

@@ -1,7 +1,6 @@
 -- The pointers that a body's trees declare, and what names mean behind them.
-use Rattle.std.proofs.Common.{◌≡◌, ◌≢◌, ◌⊎◌, inl, inr, ℕ, zero, suc, ◌<◌, ◌^◌, List, [], ◌∷◌, ◌++◌, length, map, Bool, true, false, ◌||◌, ◌&&◌, Option, Some, None, Result, Ok, refl, sym, ap, ◌∙◌, subst, arith, true≢false}
-use Rattle.std.specs.Prelude.{◌==◌, nat_le, nat_lt, if◌then◌else◌, slice_get, slice_index, slice_set, String, string_bytes, codes}
-use Rattle.std.specs.List.{list_any}
+use Rattle.std.proofs.Common.{◌≡◌, ◌≢◌, ◌⊎◌, inl, inr, ℕ, zero, suc, ◌<◌, List, [], ◌∷◌, ◌++◌, length, map, Bool, true, false, ◌&&◌, Option, Some, None, Ok, refl, sym, ap, ◌∙◌, subst, arith, true≢false}
+use Rattle.std.specs.Prelude.{◌==◌, nat_le, nat_lt, if◌then◌else◌, slice_get, slice_index, slice_set, String, string_bytes}
 use Rattle.std.specs.declared.alloc.Global.{Global}
 use Rattle.std.proofs.lemmas.Bool.{lt-ltb, eqb-true}
 use Rattle.std.proofs.lemmas.Bool.Decides.{nat_tests}
@@ -36,7 +35,7 @@ use Rattle.ot_cback.specs.Values.{constant_tree}
 use Rattle.ot_clowerback.specs.Reductions.{Grouped}
 use Rattle.ot_cprogramback.specs.Programs.{DeclarationFits, DeclarationsFit, IsDeclared, IsAmong, HasCell, pointer_to, PointersFit}
 use Rattle.ot_cprogramback.specs.Programs as program
-use Rattle.ot_cprogramback.proofs.DeclarationLemmas.{IsKnown, all_known, get_set_same, get_set_other, AreNew, with_all, still_new, later_same, free_known}
+use Rattle.ot_cprogramback.proofs.DeclarationLemmas.{all_known, get_set_same, get_set_other, AreNew, with_all, still_new, later_same}
 
 -- ---- names of pointers
 
