@@ -45,10 +45,7 @@ awaits-piece kids (Next (Set c e) more) rest os only h =
     awaits-piece kids more rest os only (awaits-step kids kids (Next (Set c e) (append more rest)) (append more rest) os (λ g. g) (λ o later is T k. k) h)
 awaits-piece kids (Next (Fold op c e) more) rest os only h =
     awaits-piece kids more rest os only (awaits-step kids kids (Next (Fold op c e) (append more rest)) (append more rest) os (λ g. g) (λ o later is T k. k) h)
-awaits-piece kids (Next (If e a b) more) rest os only h = absurd only
-awaits-piece kids (Next (Task d b) more) rest os only h = absurd only
-awaits-piece kids (Next (Wait w) more) rest os only h = absurd only
-awaits-piece kids (Next (Group op cs b) more) rest os only h = absurd only
+awaits-piece kids (Next x more) rest os only h = absurd only
 
 pub awaits-wait : (before now : Kids) → Monotone before → (w : Option (List Use)) (rest : Body) (os : List Open) → UnawaitedBy w now before
     → AwaitsAll before (Next (Wait w) rest) os → AwaitsAll now rest os

@@ -1,5 +1,5 @@
 -- A task ends its body, and its parent's table tells so: what holds of the regions stays.
-use Rattle.std.proofs.Common.{◌≡◌, ◌≢◌, ℕ, zero, suc, ◌<◌, ◌≤◌, Bool, true, false, not, ◌&&◌, ◌||◌, List, [], ◌∷◌, length, refl, sym, ap, subst, ◌∙◌, ◌⊎◌, inl, inr, arith, true≢false, eq-zero-or-pos, None, option_map, Some, slice_get, nat_lt, ◌==◌}
+use Rattle.std.proofs.Common.{◌≡◌, ◌≢◌, ℕ, zero, suc, ◌<◌, Bool, true, false, not, ◌&&◌, ◌||◌, List, [], ◌∷◌, length, refl, sym, ap, subst, ◌∙◌, ◌⊎◌, inl, inr, arith, true≢false, eq-zero-or-pos, None, option_map, Some, slice_get, nat_lt, ◌==◌, ⊎_elim}
 use Rattle.ot_job.proofs.Common.{is_awaited_at, list_any, cases_eq, cases_lt, nat_tests, End, updated, Use, length-updated, Sibling, is_unfinished, with_finished, IsReady, is_in, or_true, true_or, or_right, Cell, Operation, same_fold, allows, folds_to, has_cell, Open, todo, AwaitsAll, unawaited, Region, over, without, told_parent, closed, at, parent_of, todo_at, ended_at, parents, DontMix, OnlyFolds, grouped_in, IsBegun, IsKin, IsPlaced, IsSound}
 use Rattle.std.proofs.lemmas.Bool.{true_from_ne_false}
 use Rattle.ot_model.proofs.CellsLemmas.{slice_get-updated, slice_get-updated-other}
@@ -137,26 +137,18 @@ module _ (ws : List Region) (s : IsSound ws) (i : ℕ) (h : i < length ws) (was 
   told-none zero_ = let test : nat_lt 0 i ≡ false = grind (arith, nat_tests) in rw test refl
 
   told-long : length (told_parent i ws) ≡ length ws
-  told-long = by (eq-zero-or-pos i)
-    where
-      by : (i ≡ 0) ⊎ (0 < i) → length (told_parent i ws) ≡ length ws
-      by (inl e) = ap length (told-none e)
-      by (inr e) = ap length (told-some e) ∙ length-updated ws p (without c)
+  told-long = ⊎_elim (λ e. ap length (told-none e)) (λ e. ap length (told-some e) ∙ length-updated ws p (without c)) (eq-zero-or-pos i)
 
   pub long-closed : length now ≡ length ws
   long-closed = length-updated (told_parent i ws) i over ∙ told-long
 
   -- the table, before the task itself is marked
   at-told : (j : ℕ) → ((0 < i) × (j ≡ p) × (at (told_parent i ws) j ≡ without c (at ws p))) ⊎ ((0 < i → j ≢ p) × (at (told_parent i ws) j ≡ at ws j))
-  at-told j = by (eq-zero-or-pos i)
-    where
-      by : (i ≡ 0) ⊎ (0 < i) → ((0 < i) × (j ≡ p) × (at (told_parent i ws) j ≡ without c (at ws p))) ⊎ ((0 < i → j ≢ p) × (at (told_parent i ws) j ≡ at ws j))
-      by (inl e) = inr ((λ pos. absurd (omega (arith, pos, e))), ap (λ l. at l j) (told-none e))
-      by (inr pos) = pick (cases_eq j p)
-        where
-          pick : (j ≡ p) ⊎ (j ≡ p → ⊥) → ((0 < i) × (j ≡ p) × (at (told_parent i ws) j ≡ without c (at ws p))) ⊎ ((0 < i → j ≢ p) × (at (told_parent i ws) j ≡ at ws j))
-          pick (inl e) = inl (pos, e, ap (λ l. at l j) (told-some pos) ∙ ap (at (updated ws p (without c))) e ∙ at-updated ws p (without c) (omega (arith, s.down i pos, h)))
-          pick (inr e) = inr ((λ k. e), ap (λ l. at l j) (told-some pos) ∙ at-updated-other ws p j (without c) e)
+  at-told j = elim (eq-zero-or-pos i) [
+    | inl e ↦ inr ((λ pos. absurd (omega (arith, pos, e))), ap (λ l. at l j) (told-none e))
+    | inr pos ↦ ⊎_elim (λ e. inl (pos, e, ap (λ l. at l j) (told-some pos) ∙ ap (at (updated ws p (without c))) e ∙ at-updated ws p (without c) (omega (arith, s.down i pos, h))))
+        (λ e. inr ((λ k. e), ap (λ l. at l j) (told-some pos) ∙ at-updated-other ws p j (without c) e)) (cases_eq j p)
+  ]
 
   at-now : (j : ℕ) → Now j
   at-now j = pick (cases_eq j i) (at-told j)
@@ -250,11 +242,9 @@ module _ (ws : List Region) (s : IsSound ws) (i : ℕ) (h : i < length ws) (was 
       unchanged is other = make k.entry (ap (λ t. slice_get t (at ws j).child) is ∙ k.there) refl (k.finished ∙ sym (ended-other j other))
 
       places : 0 < i → parent_of ws j ≡ p → j ≢ i → (at ws j).child ≢ c
-      places posi e other same_child = order (cases_lt j i)
-        where
-          order : (j < i) ⊎ (i ≤ j) → ⊥
-          order (inl lt) = omega (arith, s.older i j pos lt h e, same_child)
-          order (inr le) = omega (arith, s.older j i posi (omega (arith, le, other)) l (sym e), same_child)
+      places posi e other same_child =
+          ⊎_elim (λ lt. omega (arith, s.older i j pos lt h e, same_child))
+          (λ le. omega (arith, s.older j i posi (omega (arith, le, other)) l (sym e), same_child)) (cases_lt j i)
 
       by : Now (parent_of ws j) → (j ≡ i) ⊎ (j ≡ i → ⊥) → IsKin now j
       by (inl (e, is)) (inl me) = absurd (omega (arith, s.down j pos, e, me))

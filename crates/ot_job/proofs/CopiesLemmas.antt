@@ -1,6 +1,6 @@
 -- Assignments on copies, given back, are the assignments on the cells.
 use Rattle.std.proofs.Common.{◌≡◌, ◌⊎◌, ℕ, Option, Some, None, Bool, true, false, refl, sym, ap, subst, ◌∙◌, inl, inr, if◌then◌else◌, option_map, suc, cond, List, [], ◌∷◌, arith, true≢false, IsSome, find, All}
-use Rattle.ot_job.proofs.Common.{join_by, unit_of, Cell, Mode, Reads, Writes, Folds, Use, E, Set, Fold, If, Task, Wait, Group, Body, End, Next, val, cell_of, same_cell, State, bump, change, serial, Operation, use_as, EachRead, EachTouch, same_is, Look, assigned, AreAssigns, same_self, same_Some, option_map_id, lengths, is_fold, joined, is_at, first_at, value_at, AreJoined, LentCell, found-lent}
+use Rattle.ot_job.proofs.Common.{join_by, unit_of, Cell, Mode, Reads, Writes, Folds, Use, E, Set, Fold, Body, End, Next, val, cell_of, same_cell, State, bump, change, serial, Operation, use_as, EachRead, EachTouch, same_is, Look, assigned, AreAssigns, same_self, same_Some, option_map_id, lengths, is_fold, joined, is_at, first_at, value_at, AreJoined, LentCell, found-lent}
 use Rattle.ot_model.specs.Monoids.{join-associative, join-absorbed}
 use Rattle.ot_model.specs.Cells.{with_cell}
 use Rattle.ot_check.proofs.Cited.{read-weaker, value-same}
@@ -42,20 +42,17 @@ module _ (modes : Cell → Option Mode) (before : Look) where
 
   -- what may be read has its value in the copy
   read-same : (o : Option Mode) (was copy now : Option ℕ) → IsGiven o was copy now → LetsMode Reads o → now ≡ copy
-  read-same None was copy now g may = absurd may
   read-same (Some Reads) was copy now g may = g.0 ∙ sym g.1
   read-same (Some Writes) was copy now g may = g
-  read-same (Some (Folds op)) was copy now g may = absurd may
+  read-same o was copy now g may = absurd may
 
   pub value-copies : (copies : Look) (s : State) (e : E) → Given copies s → EachRead (λ c. Lets modes (use_as Reads c)) e → val (cell_of s.cells) e ≡ val copies e
   value-copies copies s e g may = value-same (cell_of s.cells) copies e (read-weaker _ _ e (λ c h. read-same (modes c) (before c) (copies c) (cell_of s.cells c) (g c) h) may)
 
   set_at : (o : Option Mode) (was copy now : Option ℕ) (n : ℕ) → LetsMode Writes o → IsGiven o was copy now
       → IsGiven o was (option_map (λ _. n) copy) (option_map (λ _. n) now)
-  set_at None was copy now n may g = absurd may
-  set_at (Some Reads) was copy now n may g = absurd may
   set_at (Some Writes) was copy now n may g = ap (option_map (λ _. n)) g
-  set_at (Some (Folds op)) was copy now n may g = absurd may
+  set_at o was copy now n may g = absurd may
 
   -- a copy that begins at the unit, and its cell, through one fold
   folded : (op : Operation) (was copy now : Option ℕ) (v : ℕ) → IsGiven (Some (Folds op)) was copy now
@@ -72,11 +69,10 @@ module _ (modes : Cell → Option Mode) (before : Look) where
 
   fold_at : (op : Operation) (o : Option Mode) (was copy now : Option ℕ) (v : ℕ) → LetsMode (Folds op) o → IsGiven o was copy now
       → IsGiven o was (option_map (λ n. join_by op n v) copy) (option_map (λ n. join_by op n v) now)
-  fold_at op None was copy now v may g = absurd may
-  fold_at op (Some Reads) was copy now v may g = absurd may
   fold_at op (Some Writes) was copy now v may g = ap (option_map (λ n. join_by op n v)) g
   fold_at op (Some (Folds by)) was copy now v may g =
       subst (λ (b : Operation). IsGiven (Some (Folds by)) was (option_map (λ n. join_by b n v) copy) (option_map (λ n. join_by b n v) now)) (sym may) (folded by was copy now v g)
+  fold_at op o was copy now v may g = absurd may
 
   -- one copy and its cell change alike, and no other does
   moved : (copies : Look) (s : State) (c : Cell) (f : ℕ → ℕ) → Given copies s
@@ -106,10 +102,7 @@ module _ (modes : Cell → Option Mode) (before : Look) where
       let same = value-copies copies s e g may.0.0 in
       given-serial rest (with_copy copies c (λ n. join_by op n (val copies e))) (bump 0 1 (change s c (λ n. join_by op n v))) only may.1
       (subst (λ w. Given (with_copy copies c (λ n. join_by op n w)) (change s c (λ n. join_by op n v))) same (moved copies s c (λ n. join_by op n v) g (fold_at op (modes c) (before c) (copies c) (cell_of s.cells c) v may.0.1 (g c))))
-  given-serial (Next (If e a b) rest) copies s only may g = absurd only
-  given-serial (Next (Task d b) rest) copies s only may g = absurd only
-  given-serial (Next (Wait w) rest) copies s only may g = absurd only
-  given-serial (Next (Group op cs b) rest) copies s only may g = absurd only
+  given-serial (Next x rest) copies s only may g = absurd only
 
 -- ---- the cells once a piece has come back are the cells after its assignments
 

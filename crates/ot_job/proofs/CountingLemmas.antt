@@ -1,5 +1,5 @@
 -- What a job counts: through each change of the regions, and at its end.
-use Rattle.std.proofs.Common.{◌≡◌, ℕ, ◌+◌, ◌≤◌, Bool, true, false, ◌&&◌, filter, List, [], ◌∷◌, None, refl, ap, ◌∙◌, arith, ◌==◌, if◌then◌else◌, ◌<◌, ◌-◌, zero, suc, cond, not, ◌||◌, length, sym, is_some, count_by}
+use Rattle.std.proofs.Common.{◌≡◌, ℕ, ◌+◌, ◌≤◌, Bool, true, false, ◌&&◌, filter, List, [], ◌∷◌, None, refl, ap, ◌∙◌, arith, ◌==◌, if◌then◌else◌, ◌<◌, zero, suc, cond, not, ◌||◌, length, sym, is_some, count_by}
 use Rattle.ot_job.proofs.Common.{Set, Fold, If, Task, Wait, Group, Body, End, Next, val, cell_of, lengths, size, tasks_in, join_by, State, bump, change, either, serial, serial_run, state_of, AreAssigns, left, children_left, leading_len, counted, counts_after, list_any, nat_tests, range_with_len, sum_by-cons, updated, Region, at, all_ended, any_out, out_in}
 use Rattle.ot_model.proofs.CellsLemmas.{lengths-with_cell}
 use Rattle.ot_model.specs.declared.plain.Counts.{Counts}
@@ -64,10 +64,7 @@ piece-counts (Next (Set c e) rest) s only =
     let r = piece-counts rest (bump 0 1 (change s c (λ _. val (cell_of s.cells) e))) only in (omega (arith, r.0), omega (arith, r.1))
 piece-counts (Next (Fold op c e) rest) s only =
     let r = piece-counts rest (bump 0 1 (change s c (λ n. join_by op n (val (cell_of s.cells) e)))) only in (omega (arith, r.0), omega (arith, r.1))
-piece-counts (Next (If e a b) rest) s only = absurd only
-piece-counts (Next (Task d b) rest) s only = absurd only
-piece-counts (Next (Wait w) rest) s only = absurd only
-piece-counts (Next (Group op cs b) rest) s only = absurd only
+piece-counts (Next x rest) s only = absurd only
 
 -- a piece sees the cells alone
 pub piece-cells : (piece : Body) (s : State) → (serial piece s).cells ≡ (serial_run piece s.cells).cells
@@ -80,10 +77,7 @@ piece-lengths (Next (Set c e) rest) s only =
     piece-lengths rest (bump 0 1 (change s c (λ _. val (cell_of s.cells) e))) only ∙ lengths-with_cell s.cells c (λ _. val (cell_of s.cells) e)
 piece-lengths (Next (Fold op c e) rest) s only =
     piece-lengths rest (bump 0 1 (change s c (λ n. join_by op n (val (cell_of s.cells) e)))) only ∙ lengths-with_cell s.cells c (λ n. join_by op n (val (cell_of s.cells) e))
-piece-lengths (Next (If e a b) rest) s only = absurd only
-piece-lengths (Next (Task d b) rest) s only = absurd only
-piece-lengths (Next (Wait w) rest) s only = absurd only
-piece-lengths (Next (Group op cs b) rest) s only = absurd only
+piece-lengths (Next x rest) s only = absurd only
 
 same-state : (s t : State) → s.cells ≡ t.cells → s.tasks ≡ t.tasks → s.units ≡ t.units → s ≡ t
 same-state s t a b c =
@@ -110,14 +104,10 @@ settled-state piece rest cells counts only =
     by : (b : Body) → counted b (record { cells = (serial_run piece cells).cells; tasks = counts.tasks; units = counts.units + leading_len piece })
         ≡ state_of (serial_run piece cells).cells (counts_after counts piece b)
     by End = same-state _ (state_of (serial_run piece cells).cells (counts_after counts piece End)) refl (omega arith) (omega arith)
-    by (Next (Set c e) r) = one counts.tasks
-    by (Next (Fold op c e) r) = one counts.tasks
-    by (Next (If e a b) r) = one counts.tasks
-    by (Next (Wait w) r) = one counts.tasks
-    by (Next (Group op cs b) r) = one counts.tasks
     by (Next (Task d b) r) =
         same-state (record { cells = (serial_run piece cells).cells; tasks = counts.tasks + 1; units = counts.units + leading_len piece + 1 })
         (state_of (serial_run piece cells).cells (counts_after counts piece (Next (Task d b) r))) refl refl (omega arith)
+    by (Next x r) = one counts.tasks
 
 -- ---- the counters beside the tasks, through each change of the regions
 

@@ -1,6 +1,6 @@
 -- Each touch of a piece may be made on what it holds.
 use Rattle.std.proofs.Common.{◌≡◌, ◌≢◌, ◌<◌, ℕ, zero, suc, ◌+◌, Bool, true, false, List, [], ◌∷◌, ◌++◌, map, refl, sym, ap, subst, ◌∙◌, inl, inr, arith, true≢false, Option, Some, None, IsSome, cond, option_map, if◌then◌else◌, fold, find}
-use Rattle.ot_job.proofs.Common.{false_from_ne_true, range_with_len, E, Literal, CellAt, Apply, PickFrom, Set, Fold, If, Task, Wait, Group, Body, End, Next, NamedIn, ValueNamedIn, cell_at, HasAll, cells_named, Cell, Operation, Section, Mode, Reads, Writes, Folds, Use, use_as, touches, Declared, folds_to, same_cell, lent_from, copy_of, first_at, value_at, is_at, same_is, same_self, AreAssigns, CanAssign, mode_in, same_fold, assign_touches, held, noted, stronger, with_mode, mode_held, reads-append}
+use Rattle.ot_job.proofs.Common.{false_from_ne_true, range_with_len, E, Literal, CellAt, Apply, PickFrom, Set, Fold, Body, End, Next, NamedIn, ValueNamedIn, cell_at, HasAll, cells_named, Cell, Operation, Section, Mode, Reads, Writes, Folds, Use, use_as, touches, Declared, folds_to, same_cell, lent_from, copy_of, first_at, value_at, is_at, same_is, same_self, AreAssigns, CanAssign, mode_in, same_fold, assign_touches, held, noted, stronger, with_mode, mode_held, reads-append}
 use Rattle.ot_owner.specs.Lending.{MayChange}
 use Rattle.ot_job.proofs.HoldsLemmas.{Among}
 
@@ -21,27 +21,17 @@ two-folds o p w = by (same_fold o p)
 
 grow : (o : Option Mode) (n w : Mode) → Covers o w → Covers (Some (with_mode o n)) w
 grow None n w h = absurd h
+grow (Some (Folds o)) (Folds p) w h = two-folds o p w
 grow (Some Reads) Reads Reads h = tt
-grow (Some Reads) Writes Reads h = tt
-grow (Some Reads) (Folds o) Reads h = tt
 grow (Some Reads) n Writes h = absurd h
 grow (Some Reads) n (Folds o) h = absurd h
-grow (Some Writes) n w h = tt
-grow (Some (Folds o)) Reads w h = tt
-grow (Some (Folds o)) Writes w h = tt
-grow (Some (Folds o)) (Folds p) w h = two-folds o p w
+grow (Some m) n w h = tt
 
 itself : (o : Option Mode) (n : Mode) → Covers (Some (with_mode o n)) n
-itself None Reads = tt
-itself None Writes = tt
-itself None (Folds o) = tt
-itself (Some Reads) Reads = tt
-itself (Some Reads) Writes = tt
-itself (Some Reads) (Folds o) = tt
-itself (Some Writes) n = tt
-itself (Some (Folds o)) Reads = tt
-itself (Some (Folds o)) Writes = tt
 itself (Some (Folds o)) (Folds p) = two-folds o p (Folds p)
+itself (Some Reads) Reads = tt
+itself None Reads = tt
+itself o n = tt
 
 module _ (own : Declared) where
   stays : (c : Cell) (us : List Use) (o : Option Mode) (w : Mode) → Covers o w → Covers (fold (noted own c) o us) w
@@ -79,10 +69,8 @@ changes cells (u ∷ d) c w other h = by (changes cells d c w other) (same_cell 
   where
     writes : (m w : Mode) → w ≢ Reads → Covers (Some m) w → m ≢ Reads
     writes Reads Reads other h e = other refl
-    writes Reads Writes other h e = absurd h
-    writes Reads (Folds o) other h e = absurd h
-    writes Writes w other h e = cc
-    writes (Folds o) w other h e = cc
+    writes Reads w other h e = absurd h
+    writes m w other h e = cc
 
     by : (Covers (mode_in d c) w → MayChange (lent_from cells d) c) → (b : Bool) → same_cell c u.cell ≡ b → MayChange (lent_from cells (u ∷ d)) c
     by more true e = (0, copy_of cells u, omega arith, refl, (sym (same_is c u.cell e), writes u.mode w other (rw e at h)))
@@ -153,10 +141,7 @@ module _ (lens : List ℕ) (own : Declared) (cells : List (List ℕ)) (d : List 
         changes cells d c (mode_held own (use_as (Folds op) c)) (held-fold op c) (first (use_as (Folds op) c) (among-right (use_as (Folds op) c) reads (use_as (Folds op) c ∷ []) (inl refl))),
         can-assign rest only n.1 (λ u k. f u (among-right u (touches (Fold op c e)) (assign_touches rest) k)),
       )
-  can-assign (Next (If e a b) rest) only n f = absurd only
-  can-assign (Next (Task u b) rest) only n f = absurd only
-  can-assign (Next (Wait w) rest) only n f = absurd only
-  can-assign (Next (Group op cs b) rest) only n f = absurd only
+  can-assign (Next x rest) only n f = absurd only
 
 -- a piece that holds what its touches ask may make its assigns
 pub piece-can : (lens : List ℕ) (own : Declared) (cells : List (List ℕ)) (d : List Use) (piece : Body) (more : List Use) → AreAssigns piece → NamedIn lens piece

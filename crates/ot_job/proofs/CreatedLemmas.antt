@@ -191,14 +191,12 @@ module _ (rs : List Region) (i : ℕ) (h : i < length rs) (uses : List Use) (bod
 
   -- an entry stays in its table
   entry-kept : (p k : ℕ) (s : Sibling) → p < length rs → slice_get (at rs p).children k ≡ Some s → slice_get (at more p).children k ≡ Some s
-  entry-kept p k s l there = pick (cases_eq p i)
-    where
-      pick : (p ≡ i) ⊎ (p ≡ i → ⊥) → slice_get (at more p).children k ≡ Some s
-      pick (inl e) =
-          ap (λ n. slice_get (at more n).children k) e ∙ ap (λ (r : Region). slice_get r.children k) at-parent
-          ∙ (let here : slice_get (at rs i).children k ≡ Some s = subst (λ n. slice_get (at rs n).children k ≡ Some s) e there in
-          slice_get-push (at rs i).children (created uses (map (λ o. o.group) (at rs i).groups)) k (slice_get_within (at rs i).children k s here) ∙ here)
-      pick (inr e) = ap (λ (r : Region). slice_get r.children k) (at-others p l e) ∙ there
+  entry-kept p k s l there = elim (cases_eq p i) [
+    | inl e ↦ ap (λ n. slice_get (at more n).children k) e ∙ ap (λ (r : Region). slice_get r.children k) at-parent
+        ∙ (let here : slice_get (at rs i).children k ≡ Some s = subst (λ n. slice_get (at rs n).children k ≡ Some s) e there in
+        slice_get-push (at rs i).children (created uses (map (λ o. o.group) (at rs i).groups)) k (slice_get_within (at rs i).children k s here) ∙ here)
+    | inr e ↦ ap (λ (r : Region). slice_get r.children k) (at-others p l e) ∙ there
+  ]
 
   module _ (s : IsSound rs) where
     kin-old : (j : ℕ) → 0 < j → j < length rs → IsKin more j
@@ -223,11 +221,7 @@ module _ (rs : List Region) (i : ℕ) (h : i < length rs) (uses : List Use) (bod
     }
 
     pub kin-more : (j : ℕ) → 0 < j → j < length more → IsKin more j
-    kin-more j pos l = pick (cases_lt j (length rs))
-      where
-        pick : (j < length rs) ⊎ (length rs ≤ j) → IsKin more j
-        pick (inl below) = kin-old j pos below
-        pick (inr past) = subst (IsKin more) (omega (arith, past, l, long)) kin-new
+    kin-more j pos l = ⊎_elim (λ below. kin-old j pos below) (λ past. subst (IsKin more) (omega (arith, past, l, long)) kin-new) (cases_lt j (length rs))
 
     pub begun-more : (j : ℕ) → j < length rs → IsBegun rs j → IsBegun more j
     begun-more j l begun pos =
@@ -243,10 +237,8 @@ module _ (rs : List Region) (i : ℕ) (h : i < length rs) (uses : List Use) (bod
         longer = omega (arith, long)
 
         ready : (q k : ℕ) → q < length rs → IsReady (at rs q).children k → IsReady (at more q).children k
-        ready q k below r = pick (cases_eq q i)
-          where
-            pick : (q ≡ i) ⊎ (q ≡ i → ⊥) → IsReady (at more q).children k
-            pick (inl e) =
-                subst (λ n. IsReady (at more n).children k) (sym e)
-                (subst (λ (x : Region). IsReady x.children k) (sym at-parent) (IsReady-push (at rs i).children _ k (subst (λ n. IsReady (at rs n).children k) e r)))
-            pick (inr e) = subst (λ (x : Region). IsReady x.children k) (sym (at-others q below e)) r
+        ready q k below r = elim (cases_eq q i) [
+          | inl e ↦ subst (λ n. IsReady (at more n).children k) (sym e)
+              (subst (λ (x : Region). IsReady x.children k) (sym at-parent) (IsReady-push (at rs i).children _ k (subst (λ n. IsReady (at rs n).children k) e r)))
+          | inr e ↦ subst (λ (x : Region). IsReady x.children k) (sym (at-others q below e)) r
+        ]

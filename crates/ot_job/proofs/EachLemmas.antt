@@ -1,30 +1,25 @@
 -- What is true of each region and of each open group, through each change.
 use Rattle.std.proofs.Common.{◌≡◌, ℕ, zero, suc, List, [], ◌∷◌, ◌++◌, refl, Bool, true, false, Option, Some, None, if◌then◌else◌, nat_lt, All}
-use Rattle.ot_job.proofs.Common.{updated, Region, at, All-nil, All-cons, All-tail, Set, Fold, If, Task, Wait, Group, Body, End, Next, Use, Cell, Operation, Lease, Open, with_child, new_region, with_created, stepped, stepped_from, executed, next_task, rest_at, children_at, over, stopped, without, passed, begun, is_at_end, parent_of, told_parent, closed, moved_on, settled}
+use Rattle.ot_job.proofs.Common.{updated, Region, at, All-nil, All-cons, All-tail, Group, Body, End, Next, Use, Cell, Operation, Lease, Open, with_child, new_region, with_created, stepped, stepped_from, executed, next_task, rest_at, children_at, over, stopped, without, passed, begun, is_at_end, parent_of, told_parent, closed, moved_on, settled}
 
 -- ---- what is true of each region, where one changes, and where one more is there
 
 pub at-each : (P : Region → Type 0) (rs : List Region) (i : ℕ) (f : Region → Region) → ((k : ℕ) → P (at rs k)) → P (f (at rs i)) → (k : ℕ) → P (at (updated rs i f) k)
-at-each P [] i f old new k = old k
 at-each P (r ∷ rs) zero f old new zero = new
-at-each P (r ∷ rs) zero f old new (suc k) = old (suc k)
-at-each P (r ∷ rs) (suc i) f old new zero = old 0
 at-each P (r ∷ rs) (suc i) f old new (suc k) = at-each P rs i f (λ n. old (suc n)) new k
+at-each P rs i f old new k = old k
 
 pub more-each : (P : Region → Type 0) (rs : List Region) (n : Region) → ((k : ℕ) → P (at rs k)) → P n → (k : ℕ) → P (at (rs ++ n ∷ []) k)
 more-each P [] n old new zero = new
-more-each P [] n old new (suc k) = old k
-more-each P (r ∷ rs) n old new zero = old 0
 more-each P (r ∷ rs) n old new (suc k) = more-each P rs n (λ m. old (suc m)) new k
+more-each P rs n old new k = old k
 
 -- ---- a field
 
 pub field-at : {A : Type 0} (g : Region → A) (f : Region → Region) (rs : List Region) (i : ℕ) → g (f (at rs i)) ≡ g (at rs i) → (p : ℕ) → g (at (updated rs i f) p) ≡ g (at rs p)
-field-at g f [] i same p = refl
 field-at g f (r ∷ rs) zero same zero = same
-field-at g f (r ∷ rs) zero same (suc p) = refl
-field-at g f (r ∷ rs) (suc i) same zero = refl
 field-at g f (r ∷ rs) (suc i) same (suc p) = field-at g f rs i same p
+field-at g f rs i same p = refl
 
 pub field-kept : {A : Type 0} (g : Region → A) (f : Region → Region) → ((r : Region) → g (f r) ≡ g r) → (rs : List Region) (i p : ℕ) → g (at (updated rs i f) p) ≡ g (at rs p)
 field-kept g f same rs i p = field-at g f rs i (same (at rs i)) p
@@ -32,9 +27,8 @@ field-kept g f same rs i p = field-at g f rs i (same (at rs i)) p
 -- one more is there, that has what no region has
 pub field-more : {A : Type 0} (g : Region → A) (rs : List Region) (new : Region) → g new ≡ g (at [] 0) → (p : ℕ) → g (at (rs ++ new ∷ []) p) ≡ g (at rs p)
 field-more g [] new same zero = same
-field-more g [] new same (suc p) = refl
-field-more g (r ∷ rs) new same zero = refl
 field-more g (r ∷ rs) new same (suc p) = field-more g rs new same p
+field-more g rs new same p = refl
 
 -- ---- what is true of each open group, through each change of the regions
 
@@ -64,13 +58,8 @@ module _ (P : Open → Type 0) where
     each-stepped = at-each Each rs i (stepped taken g) old (by (at rs i).rest refl)
       where
         by : (b : Body) → (at rs i).rest ≡ b → All P (stepped_from taken g b (at rs i)).groups
-        by End was = old i
-        by (Next (Set c e) rest) was = old i
-        by (Next (Fold op c e) rest) was = old i
-        by (Next (If e a b) rest) was = old i
-        by (Next (Task d b) rest) was = old i
-        by (Next (Wait w) rest) was = old i
         by (Next (Group op cs b) rest) was = All-cons P (record { group = g; op = op; cells = cs; behind = rest }) (at rs i).groups (new op cs b rest was) (old i)
+        by b was = old i
 
     each-created : (child : Option (List Use × Body)) (k : ℕ) → All P (at (with_created i child (updated rs i (stepped taken g))) k).groups
     each-created None = each-stepped

@@ -18,9 +18,8 @@ same-op o = (fold-decides o o).1 refl
 -- ---- two modes
 
 pub agrees-before : (o : Operation) (m : Mode) → conflicts m (Folds o) ≡ false → m ≡ Folds o
-agrees-before o Reads h = absurd (true≢false h)
-agrees-before o Writes h = absurd (true≢false h)
 agrees-before o (Folds p) h = ap Folds (one-op p o (not_false (same_fold p o) h))
+agrees-before o m h = absurd (true≢false h)
 
 pub agrees-itself : (o : Operation) → conflicts (Folds o) (Folds o) ≡ false
 agrees-itself o = ap not (same-op o)
@@ -30,19 +29,15 @@ pub both-fold : (o : Operation) (m n : Mode) → m ≡ Folds o → n ≡ Folds o
 both-fold o m n p q = ap (λ (k : Mode). conflicts k n) p ∙ ap (conflicts (Folds o)) q ∙ agrees-itself o
 
 pub turned : (m n : Mode) → conflicts m n ≡ false → conflicts n m ≡ false
-turned Reads Reads h = h
-turned Reads Writes h = h
-turned Reads (Folds p) h = h
-turned Writes Reads h = h
-turned Writes Writes h = h
-turned Writes (Folds p) h = h
 turned (Folds o) n h = both-fold o n (Folds o) (conflicts_folds o n h) refl
+turned Reads Reads h = h
+turned Writes Writes h = h
+turned m n h = h
 
 -- what a declared fold covers is a fold by the same operation
 pub covered-fold : (o : Operation) (m : Mode) → covers (Folds o) m ≡ true → m ≡ Folds o
-covered-fold o Reads h = absurd (true≢false (sym h))
-covered-fold o Writes h = absurd (true≢false (sym h))
 covered-fold o (Folds p) h = ap Folds (sym (one-op o p h))
+covered-fold o m h = absurd (true≢false (sym h))
 
 -- ---- declarations
 
@@ -56,10 +51,8 @@ writes-any (d ∷ uses) c m may =
     ]
   where
     one : (b : Bool) (n : Mode) → (b && covers n Writes) ≡ true → (b && covers n m) ≡ true
-    one true Reads h = absurd (true≢false (sym h))
     one true Writes h = refl
-    one true (Folds p) h = absurd (true≢false (sym h))
-    one false n h = absurd (true≢false (sym h))
+    one b n h = absurd (true≢false (sym h))
 
 pub writes-all : (own : Declared) (c : Cell) (m : Mode) → allows own (use_as Writes c) ≡ true → allows own (use_as m c) ≡ true
 writes-all None c m may = refl
@@ -77,10 +70,9 @@ declares-fold (d ∷ uses) o c may none =
     ]
   where
     one : (b : Bool) (m : Mode) → (b && covers m (Folds o)) ≡ true → (b && covers m Reads) ≡ false → (b && folds_by o m) ≡ true
-    one true Reads h g = absurd (true≢false (sym h))
     one true Writes h g = absurd (true≢false g)
     one true (Folds p) h g = h
-    one false m h g = absurd (true≢false (sym h))
+    one b m h g = absurd (true≢false (sym h))
 
 -- ---- cells that are folded and not used otherwise
 
@@ -144,14 +136,12 @@ folds-alone (u ∷ us) order o c folds m may =
     ]
   where
     only : (n : Mode) → folds_by o n ≡ true → covers n m ≡ true → m ≡ Folds o
-    only Reads h g = absurd (true≢false (sym h))
-    only Writes h g = absurd (true≢false (sym h))
     only (Folds p) h g = covered-fold p m g ∙ ap Folds (one-op p o h)
+    only n h g = absurd (true≢false (sym h))
 
     either : (a b more : Bool) → more ≡ false → ((a && b) || more) ≡ true → b ≡ true
     either true true more none h = refl
-    either true false more none h = absurd (true≢false (sym h ∙ none))
-    either false b more none h = absurd (true≢false (sym h ∙ none))
+    either a b more none h = absurd (true≢false (sym h ∙ none))
 
     rest : (a b more : Bool) → a ≡ false → ((a && b) || more) ≡ true → more ≡ true
     rest true b more none h = absurd (true≢false none)

@@ -1,5 +1,5 @@
 -- A task is created: what holds of the regions stays.
-use Rattle.std.proofs.Common.{◌≡◌, ℕ, ◌<◌, ◌≤◌, true, false, ◌||◌, List, [], ◌∷◌, ◌++◌, map, length, refl, sym, ap, subst, ◌∙◌, ◌⊎◌, inl, inr, arith, true≢false, Some, slice_get, ◌==◌}
+use Rattle.std.proofs.Common.{◌≡◌, ℕ, ◌<◌, ◌≤◌, true, false, ◌||◌, List, [], ◌∷◌, ◌++◌, map, length, refl, sym, ap, subst, ◌∙◌, ◌⊎◌, inl, inr, arith, true≢false, Some, slice_get, ◌==◌, ⊎_elim}
 use Rattle.ot_job.proofs.Common.{list_any, cases_eq, cases_lt, none-some, slice_get_within, Task, Body, Next, updated, AreInOrder, Use, length-updated, Sibling, created, is_in, EachTouch, EachTask, IsFine, IsClean, allows, or_false_right, true_or, Open, todo, opened, children_of, IsFineAt, AwaitsAll, unawaited, Region, with_rest, with_child, new_region, at, gone, parent_of, ended_at, LetsAll, IsBegun, IsPlaced, IsSound, slice_get-push_place}
 use Rattle.ot_check.proofs.Cited.{eq_itself}
 use Rattle.ot_check.specs.Discipline.{marks, may_break}
@@ -136,11 +136,9 @@ module _ (rs : List Region) (s : IsSound rs) (i : ℕ) (h : i < length rs) (aliv
           }
 
       by : (p < length rs) ⊎ ((p ≡ length rs) ⊎ (length now ≤ p)) → HasTask now p k
-      by (inl below) = pick (cases_eq p i)
-        where
-          pick : (p ≡ i) ⊎ (p ≡ i → ⊥) → HasTask now p k
-          pick (inl e) = here e
-          pick (inr e) = old below (ap (λ (r : Region). slice_get r.children k) (sym (at-others rs i h uses body p below e)) ∙ there)
+      by (inl below) =
+          ⊎_elim (λ e. here e)
+          (λ e. old below (ap (λ (r : Region). slice_get r.children k) (sym (at-others rs i h uses body p below e)) ∙ there)) (cases_eq p i)
       by (inr (inl e)) = absurd (none-some x (ap (λ (r : Region). slice_get r.children k) (sym (fresh-at p e)) ∙ there))
       by (inr (inr past)) = absurd (none-some x (ap (λ (r : Region). slice_get r.children k) (sym (gone-at p past)) ∙ there))
 
@@ -196,13 +194,11 @@ module _ (rs : List Region) (s : IsSound rs) (i : ℕ) (h : i < length rs) (aliv
       entered j o os is (inr (inr past)) = absurd (never (ap (λ (r : Region). r.groups) (sym (gone-at j past)) ∙ is))
 
       done : (j : ℕ) → 0 < j → ended_at now j ≡ true → (k : ℕ) (x : Sibling) → slice_get (at now j).children k ≡ Some x → (j < length rs) ⊎ ((j ≡ length rs) ⊎ (length now ≤ j)) → x.finished ≡ true
-      done j pos over k x there (inl old) = pick (cases_eq j i)
-        where
-          pick : (j ≡ i) ⊎ (j ≡ i → ⊥) → x.finished ≡ true
-          pick (inl e) = absurd (true≢false (sym over ∙ ap (λ (r : Region). r.ended) (ap (at now) e ∙ at-parent rs i h uses body) ∙ alive))
-          pick (inr e) =
-              let same = at-others rs i h uses body j old e in
-              s.done j pos (ap (λ (r : Region). r.ended) (sym same) ∙ over) k x (ap (λ (r : Region). slice_get r.children k) (sym same) ∙ there)
+      done j pos over k x there (inl old) = elim (cases_eq j i) [
+        | inl e ↦ absurd (true≢false (sym over ∙ ap (λ (r : Region). r.ended) (ap (at now) e ∙ at-parent rs i h uses body) ∙ alive))
+        | inr e ↦ let same = at-others rs i h uses body j old e in
+            s.done j pos (ap (λ (r : Region). r.ended) (sym same) ∙ over) k x (ap (λ (r : Region). slice_get r.children k) (sym same) ∙ there)
+      ]
       done j pos over k x there (inr (inl e)) = absurd (true≢false (sym over ∙ ap (λ (r : Region). r.ended) (fresh-at j e)))
       done j pos over k x there (inr (inr past)) = absurd (none-some x (ap (λ (r : Region). slice_get r.children k) (sym (gone-at j past)) ∙ there))
 

@@ -1,6 +1,6 @@
 -- What a piece holds is a right of its touches, and what is true of each touch is true of each use of the list.
 use Rattle.std.proofs.Common.{◌≡◌, ◌<◌, ℕ, zero, suc, ◌+◌, ◌%◌, Bool, true, false, List, [], ◌∷◌, ◌++◌, map, refl, sym, ap, subst, ◌∙◌, ◌⊎◌, inl, inr, ⊎_elim, arith, Option, Some, None, if◌then◌else◌, fold}
-use Rattle.ot_job.proofs.Common.{range_with_len, same_Some, none-some, E, Literal, CellAt, Apply, PickFrom, Set, Fold, If, Task, Wait, Group, Body, End, Next, cell_at, cells_named, Cell, Operation, Section, Mode, Reads, Writes, Folds, Use, use_as, touches, Declared, folds_to, same_cell, same_fold, EachRead, EachTouch, IsRight, same_is, assign_touches, test_touches, held, held_as, noted, with_mode, stronger, mode_held, reads-append}
+use Rattle.ot_job.proofs.Common.{range_with_len, same_Some, none-some, E, Literal, CellAt, Apply, PickFrom, Set, Fold, If, Body, End, Next, cell_at, cells_named, Cell, Operation, Section, Mode, Reads, Writes, Folds, Use, use_as, touches, Declared, folds_to, same_cell, same_fold, EachRead, EachTouch, IsRight, same_is, assign_touches, test_touches, held, held_as, noted, with_mode, stronger, mode_held, reads-append}
 use Rattle.std.proofs.Math.Nat.{mod-eq_of_lt}
 use Rattle.ot_job.proofs.FoldLemmas.{same-op}
 
@@ -22,10 +22,9 @@ Alike e n = Unit {0}
 
 one-of : (e n : Mode) → Alike e n → (stronger e n ≡ e) ⊎ (stronger e n ≡ n)
 one-of Reads n like = inr refl
-one-of Writes n like = inl refl
-one-of (Folds p) Reads like = inl refl
 one-of (Folds p) Writes like = inr refl
 one-of (Folds p) (Folds q) like = inl (rw (subst (λ (o : Operation). same_fold p o ≡ true) like (same-op p)) refl)
+one-of e n like = inl refl
 
 module _ (own : Declared) (c : Cell) (alike : (p q : Operation) → folds_to own p c ≡ true → folds_to own q c ≡ true → p ≡ q) where
   abbrev HeldBy : List Use → Mode → Type 0
@@ -33,9 +32,8 @@ module _ (own : Declared) (c : Cell) (alike : (p q : Operation) → folds_to own
 
   -- a fold that is held is the body's own
   abbrev IsOwn : Mode → Type 0
-  IsOwn Reads = Unit {0}
-  IsOwn Writes = Unit {0}
   IsOwn (Folds p) = folds_to own p c ≡ true
+  IsOwn m = Unit {0}
 
   abbrev IsOwnIf : Option Mode → Type 0
   IsOwnIf None = Unit {0}
@@ -49,16 +47,12 @@ module _ (own : Declared) (c : Cell) (alike : (p q : Operation) → folds_to own
       fold p false e = tt
 
       by : (m : Mode) → IsOwn (held_as own c m)
-      by Reads = tt
-      by Writes = tt
       by (Folds p) = fold p (folds_to own p c) refl
+      by m = tt
 
   both-alike : (e n : Mode) → IsOwn e → IsOwn n → Alike e n
-  both-alike Reads n h g = tt
-  both-alike Writes n h g = tt
-  both-alike (Folds p) Reads h g = tt
-  both-alike (Folds p) Writes h g = tt
   both-alike (Folds p) (Folds q) h g = alike p q h g
+  both-alike e n h g = tt
 
   own-mixed : (o : Option Mode) (n : Mode) → IsOwnIf o → IsOwn n → IsOwn (with_mode o n)
   own-mixed None n h g = g
@@ -146,9 +140,7 @@ module _ (Q : Use → Type 0) where
       one c m q u (inl e) = subst Q e q
       one c m q u (inr k) = absurd k
   each-assign (Next (If e a b) rest) h u k = ⊎_elim (each-read e h.0.0 u) (each-assign rest h.1 u) (among-split u (map (use_as Reads) (cells_named e)) (assign_touches rest) k)
-  each-assign (Next (Task d b) rest) h u k = each-assign rest h.1 u k
-  each-assign (Next (Wait w) rest) h u k = each-assign rest h.1 u k
-  each-assign (Next (Group op cs b) rest) h u k = each-assign rest h.1 u k
+  each-assign (Next x rest) h u k = each-assign rest h.1 u k
 
   -- of a condition
   pub each-test : (e : E) → EachTouch Q (Next (If e End End) End) → (u : Use) → Among u (test_touches (Some e)) → Q u

@@ -12,11 +12,9 @@ at-updated (r ∷ rs) zero f h = refl
 at-updated (r ∷ rs) (suc i) f h = at-updated rs i f (omega (arith, h))
 
 pub at-updated-other : (rs : List Region) (i j : ℕ) (f : Region → Region) → j ≢ i → at (updated rs i f) j ≡ at rs j
-at-updated-other [] i j f h = refl
 at-updated-other (r ∷ rs) zero zero f h = absurd (h refl)
-at-updated-other (r ∷ rs) zero (suc j) f h = refl
-at-updated-other (r ∷ rs) (suc i) zero f h = refl
 at-updated-other (r ∷ rs) (suc i) (suc j) f h = at-updated-other rs i j f (λ e. h (ap suc e))
+at-updated-other rs i j f h = refl
 
 map-parents : (rs : List Region) (i : ℕ) (f : Region → Region) → ((r : Region) → (f r).parent ≡ r.parent) → map (λ r. r.parent) (updated rs i f) ≡ map (λ r. r.parent) rs
 map-parents [] i f h = refl
@@ -24,9 +22,8 @@ map-parents (r ∷ rs) zero f h = ap (λ p. p ∷ map (λ r. r.parent) rs) (h r)
 map-parents (r ∷ rs) (suc i) f h = ap (λ ps. r.parent ∷ ps) (map-parents rs i f h)
 
 pub parents-updated : (rs : List Region) (i : ℕ) (f : Region → Region) → ((r : Region) → (f r).parent ≡ r.parent) → parents (updated rs i f) ≡ parents rs
-parents-updated [] i f h = refl
-parents-updated (r ∷ rs) zero f h = refl
 parents-updated (r ∷ rs) (suc i) f h = map-parents rs i f h
+parents-updated rs i f h = refl
 
 parents-more : (rs : List Region) (new : Region) → 0 < length rs → parents (rs ++ new ∷ []) ≡ parents rs ++ new.parent ∷ []
 parents-more [] new h = absurd (omega (arith, h))

@@ -26,9 +26,8 @@ one-input cells l there first = record {
     stored (Some n) e h f = e ∙ ap Some (sym (f ∙ ap (λ o. unwrap_or o 0) e))
 
     by : (m : Mode) → is_fold m ≡ false → l.first ≡ first_of m (unwrap_or (cell_of cells l.cell) 0) → (o : Option ℕ) → cell_of cells l.cell ≡ o → IsSome (cell_of cells l.cell) → cell_of cells l.cell ≡ Some l.first
-    by Reads other f o e h = stored o e (subst IsSome e h) f
-    by Writes other f o e h = stored o e (subst IsSome e h) f
     by (Folds op) other f o e h = absurd (true≢false other)
+    by m other f o e h = stored o e (subst IsSome e h) f
 
 -- what is lent has the inputs of a lease that would be the same now
 pub has-inputs : (cells : List (List ℕ)) (lent : List LentCell) → map (λ l. l.first) lent ≡ map (λ l. l.first) (lent_from cells (uses_of lent))
@@ -67,10 +66,8 @@ module _ (lent : List LentCell) (before after : List (List ℕ)) (back : AreJoin
     where
       reads : (m n : Mode) → is_fold n ≡ false → conflicts m n ≡ false → m ≡ Reads
       reads Reads n other h = refl
-      reads Writes n other h = absurd (true≢false h)
-      reads (Folds op) Reads other h = absurd (true≢false h)
-      reads (Folds op) Writes other h = absurd (true≢false h)
       reads (Folds op) (Folds by) other h = absurd (true≢false other)
+      reads m n other h = absurd (true≢false h)
 
       pick : (o : Option LentCell) → find (is_at u.cell) lent ≡ o → cell_of after u.cell ≡ cell_of before u.cell
       pick None e = back.others u.cell (λ is. none (find (is_at u.cell) lent) e ((found-lent lent u.cell).1 is))
@@ -88,8 +85,7 @@ module _ (lent : List LentCell) (before after : List (List ℕ)) (back : AreJoin
     where
       by : (m : Mode) → u.mode ≡ m → first_of m (unwrap_or (cell_of after u.cell) 0) ≡ first_of m (unwrap_or (cell_of before u.cell) 0)
       by (Folds op) e = refl
-      by Reads e = ap (λ o. unwrap_or o 0) (stays u k (ap is_fold e))
-      by Writes e = ap (λ o. unwrap_or o 0) (stays u k (ap is_fold e))
+      by m e = ap (λ o. unwrap_or o 0) (stays u k (ap is_fold e))
 
   copies-kept : (vs : List Use) → ((u : Use) → Among u vs → Among u us) → lent_from after vs ≡ lent_from before vs
   copies-kept [] some = refl
@@ -199,7 +195,6 @@ back-unsummed j o i run out lent is k d within writes =
 -- a group is opened where one comes next
 pub opens : (next : Option (Operation × List Cell)) (room : Option (Operation × List Use)) (number : ℕ) (before after : List Summed) → IsRoomFor next room → after ≡ before ++ opened_under number room → Opens next number before after
 opens None None number before after names is = is ∙ append-nil before
-opens None (Some room) number before after names is = absurd names
-opens (Some group) None number before after names is = absurd names
 opens (Some group) (Some room) number before after names is =
     (room.1, names.1, is ∙ ap (λ op. before ++ record { group = number; op = op; uses = room.1; rows = replicate 17 None } ∷ []) names.0)
+opens next room number before after names is = absurd names

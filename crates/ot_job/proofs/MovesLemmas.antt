@@ -1,5 +1,5 @@
 -- A task moves on behind its piece, and what a settle leaves of the pieces of others.
-use Rattle.std.proofs.Common.{◌≡◌, ℕ, zero, suc, ◌<◌, ◌≤◌, Bool, true, false, List, [], ◌∷◌, ◌++◌, length, refl, sym, ap, subst, ◌∙◌, ◌⊎◌, inl, inr, arith, Option, Some, None, nat_lt, ◌==◌, if◌then◌else◌, ◌+◌, ◌≢◌, IsPermutation}
+use Rattle.std.proofs.Common.{◌≡◌, ℕ, zero, suc, ◌<◌, ◌≤◌, Bool, true, false, List, [], ◌∷◌, ◌++◌, length, refl, sym, ap, subst, ◌∙◌, ◌⊎◌, inl, inr, arith, Option, Some, None, nat_lt, ◌==◌, if◌then◌else◌, ◌+◌, ◌≢◌, IsPermutation, ⊎_elim}
 use Rattle.ot_job.proofs.Common.{cases_eq, nat_tests, E, S, Set, Fold, If, Task, Wait, Group, Body, End, Next, append, val, NamedIn, cell_of, updated, AreInOrder, State, bump, either, Use, Cell, Operation, length-updated, left, Open, todo, Region, with_rest, with_child, new_region, inside, stepped, stepped_from, with_created, next_task, executed, leading, test_of, closed, moved_on, counted, is_at_end, at, todo_at, parents, left_of, IsBegun, IsSound, cases_lt, length-map, IsPermutation-refl, IsPermutation-trans, IsPermutation-cons, IsPermutation-swap, none-some, updated-updated, Run, rest_at, children_at, over, stopped, without, tasks_next, told_parent, settled, parent_of, whole, wholes, loan_in, with_loan, loans_out, Sibling, with_finished}
 use Rattle.ot_model.proofs.NamesLemmas.{NamedIn-append}
 use Rattle.ot_job.proofs.KeptLemmas.{todo-append, todo-next, kept-wait, kept-group, kept-if, kept-task, at-updated, at-updated-other, at-more}
@@ -29,17 +29,14 @@ updated-same (w ∷ ws) zero f g same = ap (λ x. x ∷ ws) same
 updated-same (w ∷ ws) (suc i) f g same = ap (λ xs. w ∷ xs) (updated-same ws i f g same)
 
 updated-itself : (ws : List Region) (i : ℕ) → updated ws i (λ r. r) ≡ ws
-updated-itself [] i = refl
-updated-itself (w ∷ ws) zero = refl
 updated-itself (w ∷ ws) (suc i) = ap (λ xs. w ∷ xs) (updated-itself ws i)
+updated-itself ws i = refl
 
 -- a number takes the first body where it isn't 0
 taken-by : (n : ℕ) (a b : Body) → (if nat_lt 0 n then a else b) ≡ either n a b
-taken-by n a b = by (cases_eq n 0)
-  where
-    by : (n ≡ 0) ⊎ (n ≡ 0 → ⊥) → (if nat_lt 0 n then a else b) ≡ either n a b
-    by (inl e) = let one : nat_lt 0 n ≡ false = grind (arith, nat_tests) in let two : (n == 0) ≡ true = grind (arith, nat_tests) in rw (one, two) refl
-    by (inr e) = let one : nat_lt 0 n ≡ true = grind (arith, nat_tests) in let two : (n == 0) ≡ false = grind (arith, nat_tests) in rw (one, two) refl
+taken-by n a b =
+    ⊎_elim (λ e. let one : nat_lt 0 n ≡ false = grind (arith, nat_tests) in let two : (n == 0) ≡ true = grind (arith, nat_tests) in rw (one, two) refl)
+    (λ e. let one : nat_lt 0 n ≡ true = grind (arith, nat_tests) in let two : (n == 0) ≡ false = grind (arith, nat_tests) in rw (one, two) refl) (cases_eq n 0)
 
 module _ (lens : List ℕ) (ws : List Region) (s : IsSound ws) (i : ℕ) (h : i < length ws) (alive : (at ws i).ended ≡ false) (calm : (at ws i).waiting ≡ None)
     (started : IsBegun ws i) (named : (k : ℕ) → NamedIn lens (todo_at ws k)) (t : State) where
@@ -175,11 +172,9 @@ module _ (lens : List ℕ) (ws : List Region) (s : IsSound ws) (i : ℕ) (h : i 
 -- ---- a body's end
 
 updated-swap : (xs : List Region) (i j : ℕ) (f g : Region → Region) → ((r : Region) → g (f r) ≡ f (g r)) → updated (updated xs i f) j g ≡ updated (updated xs j g) i f
-updated-swap [] i j f g same = refl
 updated-swap (x ∷ xs) zero zero f g same = ap (λ y. y ∷ xs) (same x)
-updated-swap (x ∷ xs) zero (suc j) f g same = refl
-updated-swap (x ∷ xs) (suc i) zero f g same = refl
 updated-swap (x ∷ xs) (suc i) (suc j) f g same = ap (λ ys. x ∷ ys) (updated-swap xs i j f g same)
+updated-swap xs i j f g same = refl
 
 tell-wholes : (some : Bool) (p c : ℕ) (rs : List Region) → wholes (tell some p c rs) ≡ tell some p c (wholes rs)
 tell-wholes false p c rs = refl

@@ -1,5 +1,5 @@
 -- What pieces hold beside open groups, at each call of a job: what a fold goes into, and which cells are free where a group begins and ends.
-use Rattle.std.proofs.Common.{◌≡◌, ℕ, zero, suc, ◌+◌, ◌<◌, Bool, true, false, ◌&&◌, List, [], ◌∷◌, length, refl, sym, ap, ◌∙◌, ◌⊎◌, inl, inr, arith, true≢false, eq-zero-or-pos, Option, Some, None, All, Contains, IsSome}
+use Rattle.std.proofs.Common.{◌≡◌, ℕ, zero, suc, ◌+◌, ◌<◌, Bool, true, false, ◌&&◌, List, [], ◌∷◌, length, refl, sym, ap, ◌∙◌, inl, inr, arith, true≢false, eq-zero-or-pos, Option, Some, None, All, Contains, IsSome, ⊎_elim}
 use Rattle.ot_job.proofs.Common.{cases_eq, All-weaker, End, NamedIn, AreInShape, cell_of, lengths, updated, AreInOrder, is_fold, mode_in, same_fold, Cell, Operation, Mode, Folds, Declared, folds_to, has_cell, or_true, and_left, and_right, Lease, Open, Region, Run, leading, awake, begun, AreHeld, opened, is_claimable, at, parent_of, todo_at, IsBegun, IsKin, IsSound, RunsWell, wholes, Live, IsOnCourse}
 use Rattle.ot_model.specs.Names.{IsInShape}
 use Rattle.ot_model.proofs.NamesLemmas.{found_from_in}
@@ -57,11 +57,9 @@ module _ (rs : List Region) (s : IsSound (wholes rs)) where
 
       going : folds_to (at rs p).own op c ≡ true → (b : Bool) → (at rs p).ended ≡ b → b ≡ false
       going own false e = refl
-      going own true e = up (eq-zero-or-pos p)
-        where
-          up : (p ≡ 0) ⊎ (0 < p) → true ≡ false
-          up (inl root) = absurd (root-folds-none op c (ap (λ m. folds_to (at rs m).own op c) (sym root) ∙ own))
-          up (inr higher) = absurd (true≢false (sym (s.done p higher (ap (λ (r : Region). r.ended) (at-whole rs p) ∙ e) (at ws i).child kin.entry kin.there) ∙ unfinished))
+      going own true e =
+          ⊎_elim (λ root. absurd (root-folds-none op c (ap (λ m. folds_to (at rs m).own op c) (sym root) ∙ own)))
+          (λ higher. absurd (true≢false (sym (s.done p higher (ap (λ (r : Region). r.ended) (at-whole rs p) ∙ e) (at ws i).child kin.entry kin.there) ∙ unfinished))) (eq-zero-or-pos p)
 
   folds-below : (n i : ℕ) → i < n → (op : Operation) (c : Cell) → (at rs i).ended ≡ false → folds_to (at rs i).own op c ≡ true → IsFolded rs op c
   folds-below zero i below op c alive folds = absurd (omega (arith, below))
@@ -87,11 +85,9 @@ module _ (rs : List Region) (s : IsSound (wholes rs)) (lens : List ℕ) (named :
       where
         by : (b : Bool) → opened (at rs k).groups op c ≡ b → b ≡ false
         by false e = refl
-        by true e = pick (cases_eq i k)
-          where
-            pick : (i ≡ k) ⊎ (i ≡ k → ⊥) → true ≡ false
-            pick (inl same) = sym e ∙ ap (λ n. opened (at rs n).groups op c) (sym same) ∙ own_untouched rs s lens named well started i op c m run out held
-            pick (inr differs) = sym (ap is_fold (folds_alone rs s lens named well started i k op c m run out held e differs)) ∙ other
+        by true e =
+            ⊎_elim (λ same. sym e ∙ ap (λ n. opened (at rs n).groups op c) (sym same) ∙ own_untouched rs s lens named well started i op c m run out held)
+            (λ differs. sym (ap is_fold (folds_alone rs s lens named well started i k op c m run out held e differs)) ∙ other) (cases_eq i k)
 
     -- a cell of which it holds the fold is in one by that operation
     pub held-folded : (i : ℕ) (run : Run) → (at rs i).running ≡ Some run → (op : Operation) (c : Cell) → mode_in run.lease.uses c ≡ Some (Folds op) → IsFolded rs op c

@@ -1,6 +1,6 @@
 -- Copies are kept of the cells of the open groups and of no others, as tasks go on and as pieces come back.
-use Rattle.std.proofs.Common.{◌≡◌, ◌≢◌, ◌<◌, ◌+◌, ◌↔◌, ◌⊎◌, ℕ, zero, suc, Bool, true, false, ◌&&◌, true≢false, List, [], ◌∷◌, ◌++◌, map, length, get_or, refl, sym, ap, subst, ◌∙◌, inl, inr, arith, Contains, IsPermutation, Option, Some, None, IsSome, is_some, option_map, unwrap_or, replicate, nat_lt, if◌then◌else◌, ◌==◌, All, Any}
-use Rattle.ot_job.proofs.Common.{cases_eq, eqb-true, eq-eqb, option_map_id, map-append, get_or_default, All-contains, Any-from_list_any, list_any-from_Any, Contains-permutation, IsPermutation-refl, IsPermutation-sym, IsPermutation-trans, IsPermutation-cons, same_Some, none-some, cell_of, same_cell, updated, Set, Fold, If, Task, Wait, Group, Body, End, Next, Conflict, is_fold, mode_in, first_of, same_fold, Cell, Operation, Mode, Reads, Writes, Folds, Use, has_cell, true_or, or_right, and_true, all_back, copy_of, lent_from, Loan, Owned, IsFreeFor, Summed, IsNamed, IsSummed, IsSummedBy, begun_for, worth_over, worth, worths, LentCell, permutation_rest, cell_of-worths, passed, awake, group_passed, Open, Region, group_next, with_child, new_region, with_created, stepped, stepped_from, executed, next_task, rest_at, children_at, over, stopped, opened, at, parent_of, AreOpen, left_open, Opens, told_parent, closed, moved_on, settled}
+use Rattle.std.proofs.Common.{◌≡◌, ◌≢◌, ◌<◌, ◌↔◌, ◌⊎◌, ℕ, zero, suc, Bool, true, false, ◌&&◌, true≢false, List, [], ◌∷◌, ◌++◌, map, length, get_or, refl, sym, ap, subst, ◌∙◌, inl, inr, arith, Contains, IsPermutation, Option, Some, None, IsSome, is_some, option_map, unwrap_or, replicate, nat_lt, if◌then◌else◌, ◌==◌, All, Any, ⊎_elim}
+use Rattle.ot_job.proofs.Common.{cases_eq, eqb-true, eq-eqb, option_map_id, map-append, get_or_default, All-contains, Any-from_list_any, list_any-from_Any, Contains-permutation, IsPermutation-refl, IsPermutation-sym, IsPermutation-trans, IsPermutation-cons, same_Some, none-some, cell_of, same_cell, updated, Group, Body, End, Next, Conflict, is_fold, mode_in, first_of, same_fold, Cell, Operation, Mode, Reads, Folds, Use, has_cell, true_or, or_right, and_true, all_back, copy_of, lent_from, Loan, Owned, IsFreeFor, Summed, IsNamed, IsSummed, IsSummedBy, begun_for, worth_over, worth, worths, LentCell, permutation_rest, cell_of-worths, passed, awake, group_passed, Open, Region, group_next, with_child, new_region, with_created, stepped, stepped_from, executed, next_task, rest_at, children_at, over, stopped, opened, at, parent_of, AreOpen, left_open, Opens, told_parent, closed, moved_on, settled}
 use Rattle.ot_depend.proofs.ReadyLemmas.{same_answer}
 use Rattle.std.proofs.lemmas.List.Elements.{Contains-get_or, Contains-append_left, Contains-append_right, Contains-append_cases, Contains-push_cases}
 use Rattle.std.proofs.lemmas.List.Quantifiers.{position-Some}
@@ -232,11 +232,7 @@ without-fewer n (h ∷ gs) g there = by (h.group == n) (λ rest. without-fewer n
   where
     by : (b : Bool) → (Contains (without_group n gs) g → Contains gs g) → Contains (if b then gs else h ∷ without_group n gs) g → Contains (h ∷ gs) g
     by true rest kept = later h g gs kept
-    by false rest kept = pick (one_of h g (without_group n gs) kept)
-      where
-        pick : (h ≡ g) ⊎ Contains (without_group n gs) g → Contains (h ∷ gs) g
-        pick (inl is) = subst (Contains (h ∷ gs)) is (here h gs)
-        pick (inr left) = later h g gs (rest left)
+    by false rest kept = ⊎_elim (λ is. subst (Contains (h ∷ gs)) is (here h gs)) (λ left. later h g gs (rest left)) (one_of h g (without_group n gs) kept)
 
 open-left : (rs : List Region) (gs : List Summed) (i : ℕ) (f : Region → Region) (o : Open) (os : List Open) → i < length rs → (at rs i).groups ≡ o ∷ os → (f (at rs i)).groups ≡ os
     → AreOpen rs gs → AreOpen (updated rs i f) (without_group o.group gs)
@@ -257,13 +253,11 @@ open-left rs gs i f o os within was now are =
         (IsPermutation-trans (groups_of gs) (numbers_in rs) (o.group ∷ numbers_in (updated rs i f)) are.numbers (numbers-left rs i f o os within was now)))
 
     fewer : (k : ℕ) (p : Open) → Contains (at (updated rs i f) k).groups p → Contains (at rs k).groups p
-    fewer k p there = pick (cases_eq k i)
-      where
-        pick : (k ≡ i) ⊎ (k ≡ i → ⊥) → Contains (at rs k).groups p
-        pick (inl is) =
-            let inner : Contains os p = subst (λ ps. Contains ps p) (ap (λ n. (at (updated rs i f) n).groups) is ∙ ap (λ (r : Region). r.groups) (at-updated rs i f within) ∙ now) there in
-            subst (λ ps. Contains ps p) (sym (ap (λ n. (at rs n).groups) is ∙ was)) (later o p os inner)
-        pick (inr apart) = subst (λ (r : Region). Contains r.groups p) (at-updated-other rs i k f apart) there
+    fewer k p there = elim (cases_eq k i) [
+      | inl is ↦ let inner : Contains os p = subst (λ ps. Contains ps p) (ap (λ n. (at (updated rs i f) n).groups) is ∙ ap (λ (r : Region). r.groups) (at-updated rs i f within) ∙ now) there in
+          subst (λ ps. Contains ps p) (sym (ap (λ n. (at rs n).groups) is ∙ was)) (later o p os inner)
+      | inr apart ↦ subst (λ (r : Region). Contains r.groups p) (at-updated-other rs i k f apart) there
+    ]
 
 -- a task goes on, past the end of its innermost open group or not
 pub open-passed : (rs : List Region) (gs : List Summed) (i : ℕ) (f : Region → Region) → i < length rs → ((r : Region) → (f r).groups ≡ (awake r).groups)
@@ -425,15 +419,10 @@ module _ (taken : Bool) (number i : ℕ) (rs : List Region) (gs new : List Summe
       (open-same rs (updated rs i (stepped taken number)) gs (field-at (λ r. r.groups) (stepped taken number) rs i (ap (λ b. (stepped_from taken number b (at rs i)).groups) was ∙ same)) are)
 
   open-stepped : (b : Body) → (at rs i).rest ≡ b → Opens (group_next b) number gs new → AreOpen (updated rs i (stepped taken number)) new
-  open-stepped End was opens = same-stepped End was refl opens
-  open-stepped (Next (Set c e) rest) was opens = same-stepped (Next (Set c e) rest) was refl opens
-  open-stepped (Next (Fold op c e) rest) was opens = same-stepped (Next (Fold op c e) rest) was refl opens
-  open-stepped (Next (If e a b) rest) was opens = same-stepped (Next (If e a b) rest) was refl opens
-  open-stepped (Next (Task d b) rest) was opens = same-stepped (Next (Task d b) rest) was refl opens
-  open-stepped (Next (Wait w) rest) was opens = same-stepped (Next (Wait w) rest) was refl opens
   open-stepped (Next (Group op cs b) rest) was (uses, named, is) =
       subst (AreOpen (updated rs i (stepped taken number))) (sym is)
       (open-entered rs gs i (stepped taken number) (record { group = number; op = op; cells = cs; behind = rest }) uses within (ap (λ b. (stepped_from taken number b (at rs i)).groups) was) below named are)
+  open-stepped b was opens = same-stepped b was refl opens
 
   open-executed : Opens (group_next (at rs i).rest) number gs new → AreOpen (executed taken number i rs) new
   open-executed opens =
@@ -529,8 +518,7 @@ lent-worths owned cells (u ∷ uses) apart =
     now other = sym (worth-unsummed owned cells u.cell (apart 0 u (omega arith) other)) ∙ sym (cell_of-worths owned cells u.cell)
 
     by : (m : Mode) → u.mode ≡ m → copy_of cells u ≡ copy_of (worths owned cells) u
-    by Reads is = ap (λ o. lends (first_of u.mode (unwrap_or o 0))) (now (ap is_fold is))
-    by Writes is = ap (λ o. lends (first_of u.mode (unwrap_or o 0))) (now (ap is_fold is))
     by (Folds op) is =
         ap (λ m. lends (first_of m (unwrap_or (cell_of cells u.cell) 0))) is
         ∙ sym (ap (λ m. lends (first_of m (unwrap_or (cell_of (worths owned cells) u.cell) 0))) is)
+    by m is = ap (λ o. lends (first_of u.mode (unwrap_or o 0))) (now (ap is_fold is))

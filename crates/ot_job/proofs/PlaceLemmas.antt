@@ -88,8 +88,7 @@ behind-wait before now mono w rest g le T k =
   where
     turned : (t x n : Bool) → ((t && x) && n) ≡ true → ((n && t) && x) ≡ true
     turned true true n k = and_true (n && true) true (and_true n true k refl) refl
-    turned true false n k = absurd (true≢false (sym k))
-    turned false x n k = absurd (true≢false (sym k))
+    turned t x n k = absurd (true≢false (sym k))
 
 -- a wait: whoever waits goes on only once none is left of those that it awaits
 pub at-wait : (own : Declared) (before now : Kids) → Monotone before → (w : Option (List Use)) (rest : Body) (os : List Open) → UnawaitedBy w now before
@@ -105,10 +104,9 @@ behind-task kids rest g new here T k =
     first_true (kids (λ s. through s.uses rest && (not (is_in g s) && T s))) (through new.uses rest) (is_in g new) (T new) here k
   where
     first_true : (a t i x : Bool) → i ≡ true → (a || (t && (not i && x))) ≡ true → a ≡ true
-    first_true true t i x here k = refl
-    first_true false true true x here k = k
-    first_true false false i x here k = k
     first_true false true false x here k = absurd (true≢false (sym here))
+    first_true true t i x here k = refl
+    first_true a t i x here k = k
 
 pub at-task : (own : Declared) (kids : Kids) (d : List Use) (b rest : Body) (os : List Open) (new : Sibling) → new.uses ≡ d
     → ((o : Open) (more : List Open) → os ≡ o ∷ more → is_in o.group new ≡ true)
@@ -261,5 +259,4 @@ module _ (r : Region) (p : IsPlaced r) where
 
       outer : (a i b : Bool) → i ≡ false → ((a && i) || b) ≡ true → b ≡ true
       outer true true b h g = absurd (true≢false h)
-      outer true false b h g = g
-      outer false i b h g = g
+      outer a i b h g = g

@@ -1,6 +1,6 @@
 -- Two pieces that are out hold nothing that conflicts.
 use Rattle.std.proofs.Common.{◌≡◌, ℕ, ◌<◌, Bool, true, false, refl, sym, ap, subst, ◌∙◌, ◌⊎◌, inl, inr, ⊎_elim, List, [], ◌∷◌, ◌&&◌, true≢false, arith, Some, ◌≢◌, zero, suc, length, get_or, None, slice_get, if◌then◌else◌, IsTrue, Any}
-use Rattle.ot_job.proofs.Common.{Body, conflicts, Cell, Operation, Mode, Reads, Writes, Folds, Use, use_as, Declared, Openings, allows, covers, folds_by, folds_to, clashes, Children, IsHarmless, same_cell, Agree, ReductionMisuse, ConflictsWithChild, or_true, true_or, or_right, or_false_left, or_false_right, opened-none, clash_free, IsRight, NotDeclared, Set, Fold, If, Task, Wait, Group, End, Next, append, NamedIn, Precedes, AreInOrder, Conflict, mode_in, Sibling, IsFine, AreAssigns, not_false, harmless, harmless_if, same_is, Open, todo, opened, children_of, IsFineAt, unawaited, Kids, same_self, Region, Run, at, parent_of, parents, IsPlaced, IsSound, test_of, piece_touches, assign_touches, test_touches, RunsWell, assigns_out, whole, wholes}
+use Rattle.ot_job.proofs.Common.{Body, conflicts, Cell, Operation, Mode, Reads, Writes, Folds, Use, use_as, Declared, Openings, allows, covers, folds_by, folds_to, clashes, Children, IsHarmless, same_cell, Agree, ReductionMisuse, ConflictsWithChild, or_true, true_or, or_right, or_false_left, or_false_right, opened-none, clash_free, IsRight, NotDeclared, Set, Fold, If, End, Next, append, NamedIn, Precedes, AreInOrder, Conflict, mode_in, Sibling, IsFine, AreAssigns, not_false, harmless, harmless_if, same_is, Open, todo, opened, children_of, IsFineAt, unawaited, Kids, same_self, Region, Run, at, parent_of, parents, IsPlaced, IsSound, test_of, piece_touches, assign_touches, test_touches, RunsWell, assigns_out, whole, wholes}
 use Rattle.ot_check.proofs.Cited.{conflicts_folds}
 use Rattle.ot_model.proofs.OrderLemmas.{precedes_trans}
 use Rattle.ot_job.proofs.FoldLemmas.{turned, held-alike}
@@ -28,10 +28,9 @@ folds_or_clashes o c (d ∷ uses) may free =
     ]
   where
     one : (b : Bool) (m : Mode) → (b && covers m (Folds o)) ≡ true → (b && conflicts m (Folds o)) ≡ false → (b && folds_by o m) ≡ true
-    one true Reads h g = cc
-    one true Writes h g = cc
     one true (Folds p) h g = h
-    one false m h g = cc
+    one true Writes h g = cc
+    one b m h g = cc
 
 -- A piece without an offence, and a child that hasn't ended, each of whose folds is one of the body's own or of a group that
 -- is open in it: what the piece holds and what the child may do don't conflict.
@@ -158,31 +157,21 @@ allowed-writes (Some (d ∷ us)) o c may none =
     ]
   where
     one : (b : Bool) (m : Mode) → (b && covers m (Folds o)) ≡ true → (b && folds_by o m) ≡ false → (b && covers m Writes) ≡ true
-    one true Reads h n = absurd (true≢false (sym h))
-    one true Writes h n = refl
     one true (Folds p) h n = absurd (true≢false (sym h ∙ n))
-    one false m h n = h
+    one b m h n = h
 
 -- ---- a piece's touches are no offence
 
 module _ (lens : List ℕ) (own : Declared) (groups : Openings) (ch : Children) where
   test-safe : (b : Body) → NamedIn lens b → IsFine own groups ch b → (u : Use) → Among u (test_touches (test_of b)) → IsHarmless own groups ch u
-  test-safe End n f u k = absurd k
-  test-safe (Next (Set c e) rest) n f u k = absurd k
-  test-safe (Next (Fold op c e) rest) n f u k = absurd k
   test-safe (Next (If e a b) rest) n f u k = each-test (IsHarmless own groups ch) e (harmless_if lens own groups ch e a b rest n.0.0 f) u k
-  test-safe (Next (Task d b) rest) n f u k = absurd k
-  test-safe (Next (Wait w) rest) n f u k = absurd k
-  test-safe (Next (Group op cs b) rest) n f u k = absurd k
+  test-safe b n f u k = absurd k
 
   pub fine-behind : (piece rest : Body) → AreAssigns piece → IsFine own groups ch (append piece rest) → IsFine own groups ch rest
   fine-behind End rest only f = f
   fine-behind (Next (Set c e) more) rest only f = fine-behind more rest only f.2
   fine-behind (Next (Fold op c e) more) rest only f = fine-behind more rest only f.2
-  fine-behind (Next (If e a b) more) rest only f = absurd only
-  fine-behind (Next (Task d b) more) rest only f = absurd only
-  fine-behind (Next (Wait w) more) rest only f = absurd only
-  fine-behind (Next (Group op cs b) more) rest only f = absurd only
+  fine-behind (Next x more) rest only f = absurd only
 
   pub named-both : (piece rest : Body) → NamedIn lens (append piece rest) → NamedIn lens piece × NamedIn lens rest
   named-both End rest n = (tt, n)
@@ -200,9 +189,8 @@ fine-innermost own kids rest [] f = f
 fine-innermost own kids rest (o ∷ os) f = f.0
 
 pub at-whole : (rs : List Region) (i : ℕ) → at (wholes rs) i ≡ whole (at rs i)
-at-whole [] i = refl
-at-whole (r ∷ rs) zero = refl
 at-whole (r ∷ rs) (suc i) = at-whole rs i
+at-whole rs i = refl
 
 pub named-half : (lens : List ℕ) (a b : Body) → NamedIn lens (append a b) → NamedIn lens a
 named-half lens End b n = tt

@@ -1,6 +1,6 @@
 -- A piece that is claimed may be run on its copies.
 use Rattle.std.proofs.Common.{◌≡◌, ◌<◌, ℕ, ◌+◌, ◌%◌, Bool, true, false, cond, List, [], ◌∷◌, map, refl, sym, ap, subst, ◌∙◌, inl, arith, Option, Some, None, option_map, if◌then◌else◌, find, IfSome, IsSome}
-use Rattle.ot_job.proofs.Common.{range_with_len, E, Literal, CellAt, Apply, PickFrom, Set, Fold, If, Task, Wait, Group, Body, End, Next, append, NamedIn, ValueNamedIn, cell_at, cells_named, same_cell, mode_in, Cell, Operation, Mode, Reads, Writes, Folds, Use, use_as, touches, Declared, Openings, allows, folds_to, EachRead, EachTouch, Children, IsFine, AreAssigns, NotDeclared, is_at, uses_of, LentCell, IsRight, OnlyFolds, test_of, assign_touches, test_touches, piece_touches, held, held_as, mode_held, reads-append, not_false, HasAll, lengths, lent_from, first_at, value_at, CanAssign, CanRun, Region, at, leading, behind, awake, AreHeld, Live, IsOnCourse, Lease, lease_of, use_of, Look, assigned}
+use Rattle.ot_job.proofs.Common.{range_with_len, E, Literal, CellAt, Apply, PickFrom, Set, Fold, If, Body, End, Next, append, NamedIn, ValueNamedIn, cell_at, cells_named, same_cell, mode_in, Cell, Operation, Mode, Reads, Writes, Folds, Use, use_as, touches, Declared, Openings, allows, folds_to, EachRead, EachTouch, Children, IsFine, AreAssigns, NotDeclared, is_at, uses_of, LentCell, IsRight, OnlyFolds, test_of, assign_touches, test_touches, piece_touches, held, held_as, mode_held, reads-append, not_false, HasAll, lengths, lent_from, first_at, value_at, CanAssign, CanRun, Region, at, leading, behind, awake, AreHeld, Live, IsOnCourse, Lease, lease_of, use_of, Look, assigned}
 use Rattle.ot_check.proofs.Cited.{one_op}
 use Rattle.std.proofs.Math.Nat.{mod-lt}
 use Rattle.ot_task.proofs.AssignLemmas.{all-kept, assigned-same}
@@ -54,10 +54,7 @@ touch-from P lens (Next (Fold op c e) rest) only n f =
       ),
       touch-from P lens rest only n.1 (λ u k. f u (among-right u (touches (Fold op c e)) (assign_touches rest) k)),
     )
-touch-from P lens (Next (If e a b) rest) only n f = absurd only
-touch-from P lens (Next (Task d b) rest) only n f = absurd only
-touch-from P lens (Next (Wait w) rest) only n f = absurd only
-touch-from P lens (Next (Group op cs b) rest) only n f = absurd only
+touch-from P lens (Next x rest) only n f = absurd only
 
 -- ---- the mode of a copy
 
@@ -124,13 +121,8 @@ module _ (lens : List ℕ) (own : Declared) (opened : Openings) (children : Chil
       (λ c k. lets (use_as Reads c) (among-right (use_as Reads c) (assign_touches piece) (test_touches (test_of rest)) (subst (λ o. Among (use_as Reads c) (test_touches o)) (sym is) k)))
     where
       value-named : (b : Body) → test_of b ≡ Some e → NamedIn lens b → ValueNamedIn lens e
-      value-named End is n = cc
-      value-named (Next (Set c x) r) is n = cc
-      value-named (Next (Fold op c x) r) is n = cc
       value-named (Next (If x a b) r) is n = let same : x ≡ e = cc in subst (ValueNamedIn lens) same n.0.0
-      value-named (Next (Task d b) r) is n = cc
-      value-named (Next (Wait w) r) is n = cc
-      value-named (Next (Group op cs b) r) is n = cc
+      value-named b is n = cc
 
 -- ---- a piece that is claimed may be run on its copies
 
@@ -146,13 +138,8 @@ module _ (j : Live) (o : IsOnCourse j) (i : ℕ) (lent : List LentCell) (are : A
 
   readable : (b : Body) → NamedIn (lengths j.cells) b → ((c : Cell) → mode_in (uses_of lent) c ≡ held r.own (piece_touches (leading ahead) (test_of b)) c)
       → IfSome (test_of b) (λ e. HasAll (value_at (lent_from cells (uses_of lent))) e)
-  readable End n modes = tt
-  readable (Next (Set c e) rest) n modes = tt
-  readable (Next (Fold op c e) rest) n modes = tt
   readable (Next (If e a b) rest) n modes = piece-reads (lengths j.cells) r.own cells (uses_of lent) (leading ahead) e n.0.0 modes
-  readable (Next (Task d b) rest) n modes = tt
-  readable (Next (Wait w) rest) n modes = tt
-  readable (Next (Group op cs b) rest) n modes = tt
+  readable b n modes = tt
 
   pub claim-can : CanRun (leading ahead) (test_of (behind ahead)) lent
   claim-can = record {

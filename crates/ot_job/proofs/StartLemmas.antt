@@ -219,10 +219,9 @@ pub state-ended : (j : Live) → state_in j ≡ Ended → (j.failing ≡ false) 
 state-ended j h = by j.failing (any_out j.regions) (all_ended j.regions) h
   where
     by : (f a e : Bool) → (if f then (if a then Failing else Failed) else if e then Ended else Working) ≡ Ended → (f ≡ false) × (e ≡ true)
-    by true true e h = cc
-    by true false e h = cc
     by false a true h = (refl, refl)
-    by false a false h = cc
+    by true true e h = cc
+    by f a e h = cc
 
 -- a task with a piece out has not ended
 pub one-out : (rs : List Region) → any_out rs ≡ true → (i : ℕ) × (run : Run) × ((at rs i).running ≡ Some run)

@@ -1,6 +1,6 @@
 -- A control statement is executed: what it leaves of the region and what holds of it.
-use Rattle.std.proofs.Common.{◌++◌, get_or, set, sym, length, length-append, true, false, ◌≡◌, ◌<◌, ℕ, zero, suc, Bool, List, [], ◌∷◌, refl, ap, ◌∙◌, arith, ◌+◌, ◌⊎◌, inl, inr, Option, Some, None, option_map, nat_lt, if◌then◌else◌, ◌&&◌, subst, true≢false, not}
-use Rattle.ot_job.proofs.Common.{length-updated, updated-updated, Set, Fold, If, Wait, Group, Body, End, Next, append, updated, Use, Region, with_child, new_region, children_at, stepped, stepped_from, next_task, rest_at, with_created, executed, tasks_next, over, without, Waiting, Open, is_at_end, none-some, same_Some, told_parent, closed, moved_on, at, parent_of, Sibling, Cell, Operation, E, allows, EachTouch, EachTask, todo, IsFineAt, AwaitsAll, unawaited, with_rest, inside, LetsAll, IsBegun, IsPlaced, IsSound, awaits}
+use Rattle.std.proofs.Common.{◌++◌, get_or, set, sym, length, length-append, true, false, ◌≡◌, ◌<◌, ℕ, suc, Bool, List, [], ◌∷◌, refl, ap, ◌∙◌, arith, ◌+◌, ◌⊎◌, inl, inr, Option, Some, None, option_map, nat_lt, if◌then◌else◌, ◌&&◌, subst, true≢false, not}
+use Rattle.ot_job.proofs.Common.{length-updated, updated-updated, If, Wait, Group, Body, End, Next, append, updated, Use, Region, with_child, new_region, children_at, stepped, stepped_from, next_task, rest_at, with_created, executed, tasks_next, over, without, Waiting, Open, is_at_end, none-some, same_Some, told_parent, closed, moved_on, at, parent_of, Sibling, Cell, Operation, E, allows, EachTouch, EachTask, todo, IsFineAt, AwaitsAll, unawaited, with_rest, inside, LetsAll, IsBegun, IsPlaced, IsSound, awaits}
 use Rattle.ot_model.specs.Tree.{Task as Fork}
 use Rattle.ot_task.specs.Regions.{child_of, with_noted}
 use Rattle.ot_job.proofs.ViewLemmas.{set-changed}
@@ -20,13 +20,11 @@ pub stepped-field : {A : Type 0} (g : Region → A) → ((r : Region) (rest : Bo
 stepped-field g same taken number r = by r.rest
   where
     by : (b : Body) → g (stepped_from taken number b r) ≡ g r
-    by End = refl
-    by (Next (Set c e) rest) = refl
-    by (Next (Fold op c e) rest) = refl
     by (Next (If e a b) rest) = same r (append (if taken then a else b) rest) r.groups r.waiting
     by (Next (Fork d b) rest) = same r rest r.groups r.waiting
     by (Next (Wait w) rest) = same r rest r.groups (Some w)
     by (Next (Group op cs b) rest) = same r b (record { group = number; op = op; cells = cs; behind = rest } ∷ r.groups) r.waiting
+    by b = refl
 
 pub stepped-children : (taken : Bool) (number : ℕ) (r : Region) → (stepped taken number r).children ≡ r.children
 stepped-children = stepped-field (λ r. r.children) (λ r rest groups waiting. refl)
@@ -37,32 +35,20 @@ stepped-running = stepped-field (λ r. r.running) (λ r rest groups waiting. ref
 -- ---- the task that comes next
 
 pub children-here : (rs : List Region) (i : ℕ) → children_at rs i ≡ length (at rs i).children
-children-here [] i = refl
-children-here (r ∷ rs) zero = refl
 children-here (r ∷ rs) (suc i) = children-here rs i
+children-here rs i = refl
 
 pub rest-here : (rs : List Region) (i : ℕ) → rest_at rs i ≡ (at rs i).rest
-rest-here [] i = refl
-rest-here (r ∷ rs) zero = refl
 rest-here (r ∷ rs) (suc i) = rest-here rs i
+rest-here rs i = refl
 
 none-next : (b : Body) → tasks_next b ≡ 0 → next_task b ≡ None
-none-next End h = refl
-none-next (Next (Set c e) rest) h = refl
-none-next (Next (Fold op c e) rest) h = refl
-none-next (Next (If e a b) rest) h = refl
 none-next (Next (Fork d b) rest) h = absurd (omega (arith, h))
-none-next (Next (Wait w) rest) h = refl
-none-next (Next (Group op cs b) rest) h = refl
+none-next b h = refl
 
 some-next : (b : Body) → (tasks_next b ≡ 0 → ⊥) → (child : List Use × Body) × (next_task b ≡ Some child)
-some-next End h = absurd (h refl)
-some-next (Next (Set c e) rest) h = absurd (h refl)
-some-next (Next (Fold op c e) rest) h = absurd (h refl)
-some-next (Next (If e a b) rest) h = absurd (h refl)
 some-next (Next (Fork d b) rest) h = ((d, b), refl)
-some-next (Next (Wait w) rest) h = absurd (h refl)
-some-next (Next (Group op cs b) rest) h = absurd (h refl)
+some-next b h = absurd (h refl)
 
 -- where no task comes next, none is created
 pub executed-none : (taken : Bool) (g i : ℕ) (rs : List Region) → tasks_next (at rs i).rest ≡ 0 → executed taken g i rs ≡ updated rs i (stepped taken g)
@@ -127,8 +113,7 @@ tell-long true p c rs = length-updated rs p (without c)
 -- it stands at its body's end, or it doesn't
 pub end-cases : (b : Body) (gs : List Open) → ((b ≡ End) × (gs ≡ []) × (is_at_end b gs ≡ true)) ⊎ (is_at_end b gs ≡ false)
 end-cases End [] = inl (refl, refl, refl)
-end-cases End (o ∷ os) = inr refl
-end-cases (Next x rest) gs = inr refl
+end-cases b gs = inr refl
 
 pub created-running : (i : ℕ) (o : Option (List Use × Body)) (rs : List Region) (k : ℕ) → (at (with_created i o rs) k).running ≡ (at rs k).running
 created-running i None rs k = refl
@@ -152,16 +137,11 @@ moved-long taken g i rs = elim (end-cases (at rs i).rest (at rs i).groups) [
 ]
   where
     created : (b : Body) → length (with_created i (next_task b) (updated rs i (stepped taken g))) ≡ length rs + tasks_next b
-    created End = omega (arith, length-updated rs i (stepped taken g))
-    created (Next (Set c e) rest) = omega (arith, length-updated rs i (stepped taken g))
-    created (Next (Fold op c e) rest) = omega (arith, length-updated rs i (stepped taken g))
-    created (Next (If e a b) rest) = omega (arith, length-updated rs i (stepped taken g))
-    created (Next (Wait w) rest) = omega (arith, length-updated rs i (stepped taken g))
-    created (Next (Group op cs b) rest) = omega (arith, length-updated rs i (stepped taken g))
     created (Next (Fork d b) rest) =
         let xs = updated rs i (stepped taken g) in
         let more = length-append (updated xs i (with_child d)) (new_region i (children_at xs i) d b ∷ []) in
         omega (arith, more, length-updated rs i (stepped taken g), length-updated xs i (with_child d))
+    created b = omega (arith, length-updated rs i (stepped taken g))
 
 -- ---- an `if` and a wait are executed: what holds of the region stays
 

@@ -172,7 +172,6 @@ pub state-working : (j : Live) → state_in j ≡ Working → (j.failing ≡ fal
 state-working j h = by j.failing (any_out j.regions) (all_ended j.regions) h
   where
     by : (f a e : Bool) → (if f then (if a then Failing else Failed) else if e then Ended else Working) ≡ Working → (f ≡ false) × (e ≡ false)
-    by true true e h = cc
-    by true false e h = cc
-    by false a true h = cc
     by false a false h = (refl, refl)
+    by true true e h = cc
+    by f a e h = cc

@@ -21,10 +21,8 @@ weight-few (Next (Wait w) rest) = omega (arith, weight-few rest)
 weight-few (Next (Group op cs b) rest) = omega (arith, weight-few rest, weight-few b)
 
 left-≤ : (out : Bool) (rest : Body) (os : List Open) → weight_left out rest os ≤ weight rest + weight_behind os
-left-≤ true rest os = omega arith
 left-≤ false End [] = omega arith
-left-≤ false End (o ∷ os) = omega arith
-left-≤ false (Next x rest) os = omega arith
+left-≤ out rest os = omega arith
 
 -- ---- one region among all
 
