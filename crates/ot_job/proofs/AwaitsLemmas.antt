@@ -100,10 +100,8 @@ monotone waiting kids f g w h =
 pub executed-wait : (w : Option (List Use)) (kids : List Sibling) (test : Sibling → Bool)
     → unawaited (Some w) kids test ≡ true → unawaited None kids (λ s. test s && not (awaits w s.uses)) ≡ true
 executed-wait w kids test h =
-    weaker-any kids (λ s. not (awaits w s.uses) && test s) (λ s. test s && not (awaits w s.uses)) (λ s k. turned (not (awaits w s.uses)) (test s) k) h
-  where
-    turned : (a t : Bool) → (a && t) ≡ true → (t && a) ≡ true
-    turned a t k = and_true t a (and_right a t k) (and_left a t k)
+    weaker-any kids (λ s. not (awaits w s.uses) && test s) (λ s. test s && not (awaits w s.uses)) (λ s k.
+    and_true (test s) (not (awaits w s.uses)) (and_right (not (awaits w s.uses)) (test s) k) (and_left (not (awaits w s.uses)) (test s) k)) h
 
 -- a task that goes on has awaited whom its wait awaits: those that are unawaited are as at any other place
 pub let-go : (waiting : Waiting) (kids : List Sibling) (test : Sibling → Bool) → is_held waiting kids ≡ false

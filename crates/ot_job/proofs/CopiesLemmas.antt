@@ -84,10 +84,7 @@ module _ (modes : Cell → Option Mode) (before : Look) where
           rw e (subst (λ x. IsGiven (modes x) (before x) (option_map f (copies x)) (cell_of (with_cell s.cells c f) x)) (same_is c d e)
           (subst (IsGiven (modes c) (before c) (option_map f (copies c))) (sym (model.cell_of-with_cell s.cells c f)) here))
       at false e =
-          rw e (subst (IsGiven (modes d) (before d) (copies d)) (sym (model.cell_of-with_cell-other s.cells c d f (λ same. none (sym (same_self c d same) ∙ e)))) (g d))
-        where
-          none : true ≡ false → ⊥
-          none h = cc
+          rw e (subst (IsGiven (modes d) (before d) (copies d)) (sym (model.cell_of-with_cell-other s.cells c d f (λ same. true≢false (sym (same_self c d same) ∙ e)))) (g d))
 
   -- the copies after the assignments, given back, are the cells after them
   pub given-serial : (piece : Body) (copies : Look) (s : State) → AreAssigns piece → EachTouch (Lets modes) piece → Given copies s → Given (assigned piece copies) (serial piece s)
@@ -146,11 +143,7 @@ module _ (first last : List LentCell) (before after : List (List ℕ)) (piece : 
         given l (Folds op) is h at = some (cell_of before c) refl
           where
             some : (o : Option ℕ) → cell_of before c ≡ o → IsGiven (Some (Folds op)) (cell_of before c) (Some l.first) (cell_of before c)
-            some None e = absurd (gone (cell_of before l.cell) (ap (cell_of before) at ∙ e) h.there)
-              where
-                gone : (o : Option ℕ) → o ≡ None → IsSome o → ⊥
-                gone None e h = true≢false (sym h)
-                gone (Some n) e h = cc
+            some None e = absurd (true≢false (sym (subst IsSome (ap (cell_of before) at ∙ e) h.there)))
             some (Some n) e = (n, l.first, e, refl, inr (h.unit op is, refl))
 
         pick : (o : Option LentCell) → find (is_at c) first ≡ o → IsGiven (mode_at first c) (cell_of before c) (first_at first c) (cell_of before c)
@@ -183,12 +176,8 @@ module _ (first last : List LentCell) (before after : List (List ℕ)) (piece : 
 
         pick : (o : Option LentCell) → find (is_at c) last ≡ o → IsGiven (mode_at first c) (cell_of before c) (value_at last c) (cell_of (serial piece begin).cells c) → cell_of after c ≡ cell_of (serial piece begin).cells c
         pick None e g =
-            back.others c (λ lent. none (find (is_at c) last) e ((found-lent last c).1 lent))
+            back.others c (λ lent. true≢false (sym (subst IsSome e ((found-lent last c).1 lent))))
             ∙ sym (subst (λ (m : Option Mode). IsGiven m (cell_of before c) (value_at last c) (cell_of (serial piece begin).cells c)) (sym (modes_same c) ∙ ap (option_map (λ l. l.mode)) e) g)
-          where
-            none : (o : Option LentCell) → o ≡ None → IsSome o → ⊥
-            none None e h = true≢false (sym h)
-            none (Some l) e h = cc
         pick (Some l) e g =
             let f = found (λ l. (cell_of after l.cell ≡ option_map (λ stored. joined l.mode stored l.value) (cell_of before l.cell))
             × ((op : Operation) → l.mode ≡ Folds op → l.value ≡ unit_of op → cell_of after l.cell ≡ cell_of before l.cell) × IsSome (cell_of before l.cell)) last c l

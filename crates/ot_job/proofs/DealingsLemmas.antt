@@ -1,6 +1,6 @@
 -- A job's calls, as whoever deals with it sees them.
 use Rattle.std.proofs.Common.{◌≡◌, ◌≢◌, ℕ, zero, suc, ◌+◌, ◌<◌, ◌≤◌, Bool, true, false, not, ◌&&◌, ◌||◌, List, [], ◌∷◌, length, get_or, refl, sym, ap, subst, ◌∙◌, ◌⊎◌, inl, inr, arith, true≢false, ◌==◌, ◌%◌, Option, Some, None, is_some, option_map, if◌then◌else◌}
-use Rattle.ot_job.proofs.Common.{range_with_len, same_Some, none-some, slice_get-get_or, length-range_with_len, length-filter, count_by-le-length, false_from_ne_true, E, Body, expanded_of, updated, and_left, not_true, Lease, lease_of, loan_of, Region, Run, stopped, root_region, at, Live, Taken, Came, IsOut, taken_by, behind, test_of, begun, with_loan, loans_out, is_claimable, claimable_of, picked, is_let_go, is_ready, Claims, ahead, Settles, moved_on, settled, is_at_end, any_out, all_ended, claimable_in, aborted, region_weight, weight_left, IsWell, Working, Failing, Ended, Failed, out_in}
+use Rattle.ot_job.proofs.Common.{range_with_len, same_Some, none-some, slice_get-get_or, length-range_with_len, length-filter, count_by-le-length, false_from_ne_true, E, Body, expanded_of, updated, and_left, not_true, Lease, lease_of, loan_of, Region, Run, stopped, root_region, at, Live, Taken, Came, IsOut, taken_by, behind, test_of, begun, with_loan, loans_out, is_claimable, claimable_of, picked, is_let_go, is_ready, Claims, ahead, Settles, moved_on, settled, is_at_end, any_out, all_ended, claimable_in, aborted, region_weight, weight_left, IsWell, Working, Failing, Ended, Failed, out_in, or_right}
 use Rattle.std.proofs.lemmas.Nat.{mod_below}
 use Rattle.std.proofs.lemmas.List.Sorted.{length_permutation}
 use Rattle.ot_check.specs.Jobs.{Spec}
@@ -77,11 +77,7 @@ out-light (r ∷ rs) alive = by r.running refl (out-light rs (λ i. alive (suc i
 any-at : (rs : List Region) (i : ℕ) (run : Run) → (at rs i).running ≡ Some run → any_out rs ≡ true
 any-at [] i run is = absurd (none-some run is)
 any-at (r ∷ rs) zero run is = ap (λ (o : Option Run). is_some o || any_out rs) is
-any-at (r ∷ rs) (suc i) run is = by (is_some r.running) (any-at rs i run is)
-  where
-    by : (b : Bool) → any_out rs ≡ true → (b || any_out rs) ≡ true
-    by true h = refl
-    by false h = h
+any-at (r ∷ rs) (suc i) run is = or_right (is_some r.running) (any_out rs) (any-at rs i run is)
 
 pub none-out : (j : Live) → any_out j.regions ≡ false → NoneOut j
 none-out j h k = work-none (at j.regions k) (none-at j.regions h k)
@@ -101,9 +97,7 @@ failed-state rs = ap (λ (b : Bool). if b then Failing else Failed) (sym (out-an
 -- ---- how it stands
 
 working-is : (j : Live) → j.failing ≡ false → all_ended j.regions ≡ false → state_of j ≡ Working
-working-is j working left =
-    ap (λ (f : Bool). if f then (if any_out j.regions then Failing else Failed) else if all_ended j.regions then Ended else Working) working
-    ∙ ap (λ (e : Bool). if e then Ended else Working) left
+working-is j working left = rw (working, left)
 
 one-alive : (rs : List Region) (i : ℕ) → (at rs i).ended ≡ false → all_ended rs ≡ false
 one-alive rs i alive = false_from_ne_true (all_ended rs) (λ e. true≢false (sym (each-ended rs e i) ∙ alive))
@@ -282,9 +276,7 @@ settles-pays old d n new s = record {
 
     after : (b : Bool) → all_ended new.regions ≡ b → (state_of new ≡ Working) ⊎ (state_of new ≡ Ended)
     after false e = inl (working-is new working-now e)
-    after true e =
-        inr (ap (λ (f : Bool). if f then (if any_out new.regions then Failing else Failed) else if all_ended new.regions then Ended else Working) working-now
-        ∙ ap (λ (x : Bool). if x then Ended else Working) e)
+    after true e = inr (rw (working-now, e))
 
 -- a job that goes well works while a piece of it is out
 pub works : (j : Live) (d : Came) → IsWell j → IsOut j.regions d → j.failing ≡ false → state_of j ≡ Working
@@ -294,9 +286,7 @@ works j d w out going =
 -- ---- a piece comes back without results
 
 pub state-by-out : (old : Live) (d : Came) → IsOut old.regions d → old.failing ≡ true → state_of old ≡ Failing
-state-by-out old d out e =
-    ap (λ (x : Bool). if x then (if any_out old.regions then Failing else Failed) else if all_ended old.regions then Ended else Working) e
-    ∙ ap (λ (x : Bool). if x then Failing else Failed) (any-at old.regions d.task (run_of out.0.0 d) out.0.1)
+state-by-out old d out e = rw (e, any-at old.regions d.task (run_of out.0.0 d) out.0.1)
 
 pub fails-breaks : (old : Live) (d : Came) (new : Live) → FailsBy old d new → Breaks old d new
 fails-breaks old d new f = subst (λ (n : Live). Breaks old d n) (sym f.now) (record {

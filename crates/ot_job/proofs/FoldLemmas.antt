@@ -83,17 +83,11 @@ held-alike own c only o p h g = sym (one_op p o (only o h (Folds p) (folded own 
 
 -- it isn't read
 pub only-unread : (o : Operation) (own : Declared) (c : Cell) → OnlyFolds o own c → allows own (use_as Reads c) ≡ true → ⊥
-only-unread o own c only may = never (only Reads may)
-  where
-    never : Reads ≡ Folds o → ⊥
-    never e = cc
+only-unread o own c only may = let e : Reads ≡ Folds o = only Reads may in cc
 
 -- nor written
 pub only-unwritten : (o : Operation) (own : Declared) (c : Cell) → OnlyFolds o own c → allows own (use_as Writes c) ≡ true → ⊥
-only-unwritten o own c only may = never (only Writes may)
-  where
-    never : Writes ≡ Folds o → ⊥
-    never e = cc
+only-unwritten o own c only may = let e : Writes ≡ Folds o = only Writes may in cc
 
 -- whatever the body may do with it, it declares to fold it
 pub only-declares : (uses : List Use) (o : Operation) (c : Cell) → OnlyFolds o (Some uses) c → (m : Mode) → allows (Some uses) (use_as m c) ≡ true → folds_to (Some uses) o c ≡ true
@@ -108,11 +102,7 @@ skip u v [] order = tt
 skip u v (w ∷ us) (first, (second, later)) = (precedes_trans u.cell v.cell w.cell first second, later)
 
 other_cell : (c d : Cell) → Precedes c d → (test : Bool) → (same_cell d c && test) ≡ false
-other_cell c d before test = by (same_cell d c) refl
-  where
-    by : (b : Bool) → same_cell d c ≡ b → (b && test) ≡ false
-    by true e = absurd (precedes_apart c d before (sym (same_is d c e)))
-    by false e = refl
+other_cell c d before test = ap (λ b. b && test) (false_from_ne_true (same_cell d c) (λ e. precedes_apart c d before (sym (same_is d c e))))
 
 -- no later use is of the same cell
 behind_none : (u : Use) (us : List Use) (test : Use → Bool) → AreInOrder (u ∷ us) → list_any (λ d. same_cell d.cell u.cell && test d) us ≡ false

@@ -185,13 +185,10 @@ module _ (rs : List Region) (s : IsSound rs) (i : ℕ) (h : i < length rs) (aliv
       begun j pos below (inr (inl e)) = subst (IsBegun now) (sym (ap (λ (r : Region). r.parent) (fresh-at j e))) (begun-now i h started)
       begun j pos below (inr (inr past)) = absurd (omega (arith, past, below))
 
-      never : {o : Open} {os : List Open} → [] ≡ o ∷ os → ⊥
-      never e = cc
-
       entered : (j : ℕ) (o : Open) (os : List Open) → (at now j).groups ≡ o ∷ os → (j < length rs) ⊎ ((j ≡ length rs) ⊎ (length now ≤ j)) → IsBegun now j
       entered j o os is (inl old) = begun-now j old (s.entered j o os (sym (same-field rs i h uses body (λ r. r.groups) (λ r. refl) j old) ∙ is))
-      entered j o os is (inr (inl e)) = absurd (never (ap (λ (r : Region). r.groups) (sym (fresh-at j e)) ∙ is))
-      entered j o os is (inr (inr past)) = absurd (never (ap (λ (r : Region). r.groups) (sym (gone-at j past)) ∙ is))
+      entered j o os is (inr (inl e)) = let none : [] ≡ o ∷ os = ap (λ (r : Region). r.groups) (sym (fresh-at j e)) ∙ is in cc
+      entered j o os is (inr (inr past)) = let none : [] ≡ o ∷ os = ap (λ (r : Region). r.groups) (sym (gone-at j past)) ∙ is in cc
 
       done : (j : ℕ) → 0 < j → ended_at now j ≡ true → (k : ℕ) (x : Sibling) → slice_get (at now j).children k ≡ Some x → (j < length rs) ⊎ ((j ≡ length rs) ⊎ (length now ≤ j)) → x.finished ≡ true
       done j pos over k x there (inl old) = elim (cases_eq j i) [

@@ -1,5 +1,5 @@
 -- What a piece holds is a right of its touches, and what is true of each touch is true of each use of the list.
-use Rattle.std.proofs.Common.{◌≡◌, ◌<◌, ℕ, zero, suc, ◌+◌, ◌%◌, Bool, true, false, List, [], ◌∷◌, ◌++◌, map, refl, sym, ap, subst, ◌∙◌, ◌⊎◌, inl, inr, ⊎_elim, arith, Option, Some, None, if◌then◌else◌, fold}
+use Rattle.std.proofs.Common.{◌≡◌, ◌<◌, ℕ, zero, suc, ◌+◌, ◌%◌, Bool, true, false, List, [], ◌∷◌, ◌++◌, map, refl, sym, ap, subst, ◌∙◌, ◌⊎◌, inl, inr, ⊎_elim, arith, Option, Some, None, if◌then◌else◌, fold, Contains}
 use Rattle.ot_job.proofs.Common.{range_with_len, same_Some, none-some, E, Literal, CellAt, Apply, PickFrom, Set, Fold, If, Body, End, Next, cell_at, cells_named, Cell, Operation, Section, Mode, Reads, Writes, Folds, Use, use_as, touches, Declared, folds_to, same_cell, same_fold, EachRead, EachTouch, IsRight, same_is, assign_touches, test_touches, held, held_as, noted, with_mode, stronger, mode_held, reads-append}
 use Rattle.std.proofs.Math.Nat.{mod-eq_of_lt}
 use Rattle.ot_job.proofs.FoldLemmas.{same-op}
@@ -12,6 +12,16 @@ pub among-split : (u : Use) (us vs : List Use) → Among u (us ++ vs) → Among 
 among-split u [] vs h = inr h
 among-split u (v ∷ us) vs (inl e) = inl (inl e)
 among-split u (v ∷ us) vs (inr h) = ⊎_elim (λ k. inl (inr k)) inr (among-split u us vs h)
+
+pub among : (u : Use) (us : List Use) → Contains us u → Among u us
+among u [] (k, within, is) = absurd (omega (arith, within))
+among u (v ∷ us) (zero, within, is) = inl is
+among u (v ∷ us) (suc k, within, is) = inr (among u us (k, omega (arith, within), is))
+
+pub contained : (u : Use) (us : List Use) → Among u us → Contains us u
+contained u [] h = absurd h
+contained u (v ∷ us) (inl e) = (0, omega arith, e)
+contained u (v ∷ us) (inr h) = let r = contained u us h in (suc r.0, omega (arith, r.1), r.2)
 
 -- ---- the mode is that of a touch
 
@@ -122,23 +132,19 @@ module _ (Q : Use → Type 0) where
       (each-read e h.1 u)
       (among-split u (map (use_as Reads) (map (cell_at s) (range_with_len 0 s.len))) (map (use_as Reads) (cells_named e)) (subst (Among u) (reads-append (map (cell_at s) (range_with_len 0 s.len)) (cells_named e)) k))
 
+  one-touch : (v u : Use) → Q v → Among u (v ∷ []) → Q u
+  one-touch v u q (inl e) = subst Q e q
+  one-touch v u q (inr k) = absurd k
+
   -- of assigns
   pub each-assign : (b : Body) → EachTouch Q b → (u : Use) → Among u (assign_touches b) → Q u
   each-assign End h u k = absurd k
   each-assign (Next (Set c e) rest) h u k =
-      ⊎_elim (λ w. ⊎_elim (each-read e h.0.0 u) (one c Writes h.0.1 u) (among-split u (map (use_as Reads) (cells_named e)) (use_as Writes c ∷ []) w)) (each-assign rest h.1 u)
+      ⊎_elim (λ w. ⊎_elim (each-read e h.0.0 u) (one-touch (use_as Writes c) u h.0.1) (among-split u (map (use_as Reads) (cells_named e)) (use_as Writes c ∷ []) w)) (each-assign rest h.1 u)
       (among-split u (touches (Set c e)) (assign_touches rest) k)
-    where
-      one : (c : Cell) (m : Mode) → Q (use_as m c) → (u : Use) → Among u (use_as m c ∷ []) → Q u
-      one c m q u (inl e) = subst Q e q
-      one c m q u (inr k) = absurd k
   each-assign (Next (Fold op c e) rest) h u k =
-      ⊎_elim (λ w. ⊎_elim (each-read e h.0.0 u) (one c (Folds op) h.0.1 u) (among-split u (map (use_as Reads) (cells_named e)) (use_as (Folds op) c ∷ []) w)) (each-assign rest h.1 u)
+      ⊎_elim (λ w. ⊎_elim (each-read e h.0.0 u) (one-touch (use_as (Folds op) c) u h.0.1) (among-split u (map (use_as Reads) (cells_named e)) (use_as (Folds op) c ∷ []) w)) (each-assign rest h.1 u)
       (among-split u (touches (Fold op c e)) (assign_touches rest) k)
-    where
-      one : (c : Cell) (m : Mode) → Q (use_as m c) → (u : Use) → Among u (use_as m c ∷ []) → Q u
-      one c m q u (inl e) = subst Q e q
-      one c m q u (inr k) = absurd k
   each-assign (Next (If e a b) rest) h u k = ⊎_elim (each-read e h.0.0 u) (each-assign rest h.1 u) (among-split u (map (use_as Reads) (cells_named e)) (assign_touches rest) k)
   each-assign (Next x rest) h u k = each-assign rest h.1 u k
 

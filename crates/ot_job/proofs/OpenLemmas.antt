@@ -1,6 +1,6 @@
 -- What pieces hold of the cells of open groups, and which group may be opened.
-use Rattle.std.proofs.Common.{◌≡◌, ◌≢◌, ℕ, ◌<◌, Bool, true, false, List, [], ◌∷◌, length, refl, sym, ap, subst, ◌∙◌, inl, inr, true≢false, ◌&&◌, Some, slice_get, ◌↔◌, ◌||◌, Contains, Option, None, not, IfSome, ⊎_elim}
-use Rattle.ot_job.proofs.Common.{cases_lt, false_from_ne_true, NamedIn, conflicts, mode_in, same_fold, Conflict, Cell, Operation, Mode, Reads, Writes, Folds, Use, Sibling, is_in, use_as, Declared, allows, folds_to, has_cell, Agree, ReductionMisuse, or_true, or_right, and_true, opened-none, Open, Region, Run, test_of, piece_touches, IsRight, opened, at, parent_of, todo_at, ended_at, may_at, grouped_in, NamedOnce, IsBegun, IsPlaced, IsSound, RunsWell, whole, wholes, list_any, cases_eq, All-permutation, IsPermutation-sym, IsPermutation-trans, Group, Body, Next, append, lengths, updated, clashes, opened_by_any, IsFine, group_free, groups_inside, Loan, IsNamed, permutation_rest, group_next, stopped, with_rest, children_of, unawaited, Live, IsRoomFor, MayOpen, IsWell, IsOnCourse, assigns_out, loan_in, loans_out}
+use Rattle.std.proofs.Common.{◌≡◌, ◌≢◌, ℕ, ◌<◌, true, false, List, [], ◌∷◌, length, refl, sym, ap, subst, ◌∙◌, inl, inr, true≢false, ◌&&◌, Some, slice_get, ◌↔◌, ◌||◌, Contains, Option, None, not, IfSome, ⊎_elim}
+use Rattle.ot_job.proofs.Common.{cases_lt, false_from_ne_true, NamedIn, conflicts, mode_in, same_fold, Conflict, Cell, Operation, Mode, Reads, Writes, Folds, Use, Sibling, is_in, use_as, Declared, allows, folds_to, has_cell, Agree, ReductionMisuse, or_true, or_right, and_true, opened-none, Open, Region, Run, test_of, piece_touches, IsRight, opened, at, parent_of, todo_at, ended_at, may_at, grouped_in, NamedOnce, IsBegun, IsPlaced, IsSound, RunsWell, whole, wholes, list_any, cases_eq, All-permutation, IsPermutation-sym, IsPermutation-trans, Group, Body, Next, append, lengths, updated, clashes, opened_by_any, IsFine, group_free, groups_inside, Loan, IsNamed, permutation_rest, group_next, stopped, with_rest, children_of, unawaited, Live, IsRoomFor, MayOpen, IsWell, IsOnCourse, assigns_out, loan_in, loans_out, and_right}
 use Rattle.ot_check.proofs.Cited.{conflicts_writes}
 use Rattle.ot_job.proofs.FoldLemmas.{same-op, agrees-before, both-fold, writes-all, only-declares, only-unwritten}
 use Rattle.ot_job.proofs.HoldsLemmas.{Among}
@@ -96,14 +96,10 @@ module _ (rs : List Region) (s : IsSound (wholes rs)) where
         elim (p.grouped k x there unfinished o.op c declared) [
           | inl own ↦ only-unwritten o.op (at rs i).own c (p.exclusive o.op c own) may_write
           | inr in_one ↦ elim (or_true ((same_fold o.op o.op && has_cell o.cells c) && is_in o.group x) (grouped_in os x o.op c) (sym (ap (λ (gs : List Open). grouped_in gs x o.op c) innermost) ∙ in_one)) [
-            | inl here ↦ both (same_fold o.op o.op && has_cell o.cells c) (is_in o.group x) here (none_in k x there unfinished)
+            | inl here ↦ true≢false (sym (and_right (same_fold o.op o.op && has_cell o.cells c) (is_in o.group x) here) ∙ none_in k x there unfinished)
             | inr outer ↦ true≢false (sym (grouped-opened os x o.op c outer) ∙ (subst NamedOnce innermost p.once).0 o.op c named)
           ]
         ]
-      where
-        both : (a b : Bool) → (a && b) ≡ true → b ≡ false → ⊥
-        both true b h g = true≢false (sym h ∙ g)
-        both false b h g = true≢false (sym h)
 
     pub end-holds : MayHold rs i (use_as Writes c)
     end-holds = record {

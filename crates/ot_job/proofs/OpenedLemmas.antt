@@ -1,6 +1,6 @@
 -- What pieces hold beside open groups, at each call of a job: what a fold goes into, and which cells are free where a group begins and ends.
 use Rattle.std.proofs.Common.{◌≡◌, ℕ, zero, suc, ◌+◌, ◌<◌, Bool, true, false, ◌&&◌, List, [], ◌∷◌, length, refl, sym, ap, ◌∙◌, inl, inr, arith, true≢false, eq-zero-or-pos, Option, Some, None, All, Contains, IsSome, ⊎_elim}
-use Rattle.ot_job.proofs.Common.{cases_eq, All-weaker, End, NamedIn, AreInShape, cell_of, lengths, updated, AreInOrder, is_fold, mode_in, same_fold, Cell, Operation, Mode, Folds, Declared, folds_to, has_cell, or_true, and_left, and_right, Lease, Open, Region, Run, leading, awake, begun, AreHeld, opened, is_claimable, at, parent_of, todo_at, IsBegun, IsKin, IsSound, RunsWell, wholes, Live, IsOnCourse}
+use Rattle.ot_job.proofs.Common.{cases_eq, All-weaker, End, NamedIn, AreInShape, cell_of, lengths, updated, AreInOrder, is_fold, mode_in, same_fold, Cell, Operation, Mode, Folds, Declared, folds_to, has_cell, or_true, and_left, and_right, Lease, Open, Region, Run, leading, awake, begun, AreHeld, opened, is_claimable, at, parent_of, todo_at, IsBegun, IsKin, IsSound, RunsWell, wholes, Live, IsOnCourse, none-some}
 use Rattle.ot_model.specs.Names.{IsInShape}
 use Rattle.ot_model.proofs.NamesLemmas.{found_from_in}
 use Rattle.ot_job.proofs.KeptLemmas.{at-updated}
@@ -100,14 +100,11 @@ module _ (rs : List Region) (s : IsSound (wholes rs)) (lens : List ℕ) (named :
       pub group_free : (k : ℕ) (run : Run) → (at rs k).running ≡ Some run → (c : Cell) → has_cell o.cells c ≡ true → mode_in run.lease.uses c ≡ None
       group_free k run out c is = by (mode_in run.lease.uses c) refl
         where
-          idle : None ≡ Some run → ⊥
-          idle e = cc
-
           by : (m : Option Mode) → mode_in run.lease.uses c ≡ m → m ≡ None
           by None held = refl
           by (Some m) held =
               absurd (none_out rs s lens named well started i k o os innermost (none-in-group (at rs i) o os (claimable-goes rs i can) was innermost) c m run out held
-              (λ same. idle (sym (claimable-idle rs i can) ∙ ap (λ n. (at rs n).running) same ∙ out)) is)
+              (λ same. none-some run (sym (claimable-idle rs i can) ∙ ap (λ n. (at rs n).running) same ∙ out)) is)
 
 -- ---- a piece that is about to be claimed, beside the groups that are open then
 

@@ -242,7 +242,7 @@ module _ (r : Region) (p : IsPlaced r) where
     within = p.within;
     apart = p.apart;
     over = λ e. sym same ∙ p.over e;
-    shut = λ e. absurd (some-groups (sym here ∙ p.shut e));
+    shut = λ e. let none : o ∷ os ≡ [] = sym here ∙ p.shut e in cc;
     once = (subst NamedOnce here p.once).1;
     writes = λ by c h. p.writes by c (ap (λ gs. opened gs by c) here ∙ true_or (opened os by c) (same_fold o.op by && has_cell o.cells c) h);
     grouped = λ k s there alive by c folds. ⊎_elim (λ e. inl e)
@@ -253,9 +253,6 @@ module _ (r : Region) (p : IsPlaced r) where
     where
       same : todo r.rest r.groups ≡ todo o.behind os
       same = ap (λ x. todo x r.groups) was ∙ ap (todo End) here
-
-      some-groups : o ∷ os ≡ [] → ⊥
-      some-groups e = cc
 
       outer : (a i b : Bool) → i ≡ false → ((a && i) || b) ≡ true → b ≡ true
       outer true true b h g = absurd (true≢false h)

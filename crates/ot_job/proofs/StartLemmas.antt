@@ -200,20 +200,16 @@ fails-well j d owned w out ended groups = record {
 
 -- where a job stands, by what is known of it
 pub state-is-failing : (j : Live) → j.failing ≡ true → any_out j.regions ≡ true → Failing ≡ state_in j
-state-is-failing j fails out =
-    sym (ap (λ b. if b then (if any_out j.regions then Failing else Failed) else if all_ended j.regions then Ended else Working) fails ∙ ap (λ b. if b then Failing else Failed) out)
+state-is-failing j fails out = rw (fails, out)
 
 pub state-is-failed : (j : Live) → j.failing ≡ true → any_out j.regions ≡ false → Failed ≡ state_in j
-state-is-failed j fails out =
-    sym (ap (λ b. if b then (if any_out j.regions then Failing else Failed) else if all_ended j.regions then Ended else Working) fails ∙ ap (λ b. if b then Failing else Failed) out)
+state-is-failed j fails out = rw (fails, out)
 
 pub state-is-ended : (j : Live) → j.failing ≡ false → all_ended j.regions ≡ true → Ended ≡ state_in j
-state-is-ended j fails ended =
-    sym (ap (λ b. if b then (if any_out j.regions then Failing else Failed) else if all_ended j.regions then Ended else Working) fails ∙ ap (λ b. if b then Ended else Working) ended)
+state-is-ended j fails ended = rw (fails, ended)
 
 pub state-is-working : (j : Live) → j.failing ≡ false → all_ended j.regions ≡ false → Working ≡ state_in j
-state-is-working j fails ended =
-    sym (ap (λ b. if b then (if any_out j.regions then Failing else Failed) else if all_ended j.regions then Ended else Working) fails ∙ ap (λ b. if b then Ended else Working) ended)
+state-is-working j fails ended = rw (fails, ended)
 
 pub state-ended : (j : Live) → state_in j ≡ Ended → (j.failing ≡ false) × (all_ended j.regions ≡ true)
 state-ended j h = by j.failing (any_out j.regions) (all_ended j.regions) h

@@ -7,7 +7,7 @@ use Rattle.ot_job.proofs.Kept.{MayRun}
 use Rattle.ot_job.proofs.KeptLemmas.{todo-append, todo-next, at-updated}
 use Rattle.ot_job.proofs.SoundLemmas.{at-past}
 use Rattle.ot_job.proofs.ChangedLemmas.{sound-changed, placed-as}
-use Rattle.ot_job.proofs.RightsLemmas.{fine-innermost, named-both}
+use Rattle.ot_job.proofs.RightsLemmas.{fine-innermost, named-half}
 use Rattle.ot_job.proofs.StepLemmas.{rest-here}
 
 -- ---- a piece comes back: its assigns are behind the place
@@ -49,7 +49,7 @@ module _ (r : Region) (p : IsPlaced r) (piece rest : Body) (was : r.rest ≡ app
 
   pub piece-harmless : (lens : List ℕ) → NamedIn lens r.rest → EachTouch (IsHarmless r.own (opened r.groups) (children_of (unawaited r.waiting r.children))) piece
   piece-harmless lens named =
-      harmless lens r.own (opened r.groups) (children_of (unawaited r.waiting r.children)) piece rest only (named-both lens r.own (opened r.groups) (children_of (unawaited r.waiting r.children)) piece rest (subst (NamedIn lens) was named)).0
+      harmless lens r.own (opened r.groups) (children_of (unawaited r.waiting r.children)) piece rest only (named-half lens piece rest (subst (NamedIn lens) was named))
       (fine-innermost r.own (unawaited r.waiting r.children) (append piece rest) r.groups (subst (λ b. IsFineAt r.own (unawaited r.waiting r.children) b r.groups) was p.fine))
 
 -- touches that are no offence agree with all that an unfinished child may do
