@@ -9,7 +9,7 @@ use Rattle.ot_job.proofs.PlaceLemmas.{at-fewer, at-task}
 use Rattle.ot_job.proofs.AwaitsLemmas.{awaits-fewer, awaits-task}
 use Rattle.ot_job.proofs.KeptLemmas.{at-updated, todo-next}
 use Rattle.ot_job.proofs.SoundLemmas.{at-past}
-use Rattle.ot_job.proofs.ChangedLemmas.{sound-changed, begun-changed, placed-as}
+use Rattle.ot_job.proofs.ChangedLemmas.{sound-changed, begun-changed, placed-as, placed-bare}
 use Rattle.ot_job.proofs.RightsLemmas.{fine-innermost}
 use Rattle.ot_job.proofs.CreatedLemmas.{kids-more, placed-parent, child, more, long, at-fresh, at-parent, at-others, same-field, kin-more, begun-more}
 use Rattle.ot_job.proofs.FoldLemmas.{folds-alone}
@@ -57,21 +57,9 @@ module _ (r : Region) (p : IsPlaced r) (alive : r.ended ≡ false) (uses : List 
 
   -- and begins
   pub placed-new : (parent child : ℕ) → IsPlaced (new_region parent child uses body)
-  placed-new parent child = record {
-    fine = innermost.1;
-    inside = each.0.0;
-    tasks = each.0.1;
-    awaits = λ own is. or_false_right (list_any (λ m. may_break r.own (opened r.groups) (children_of (unawaited r.waiting r.children)) m EndsWithChildren) (marks (Task uses body))) _ (innermost.0 EndsWithChildren);
-    within = λ k s h. cc;
-    apart = λ k l s t h. cc;
-    over = λ e. absurd (true≢false (sym e));
-    shut = λ e. refl;
-    once = tt;
-    writes = λ o c h. absurd (true≢false (sym h));
-    grouped = λ k s h. cc;
-    reduced = λ k s h. cc;
-    exclusive = folds-alone uses ordered;
-  }
+  placed-new parent child = placed-bare parent child (Some uses) body false innermost.1 each.0.0 each.0.1
+      (λ own is. or_false_right (list_any (λ m. may_break r.own (opened r.groups) (children_of (unawaited r.waiting r.children)) m EndsWithChildren) (marks (Task uses body))) _ (innermost.0 EndsWithChildren))
+      (λ e. absurd (true≢false (sym e))) (folds-alone uses ordered)
 
 -- ---- all regions
 

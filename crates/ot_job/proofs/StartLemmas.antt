@@ -6,6 +6,7 @@ use Rattle.ot_check.specs.Discipline.{IsDisciplined}
 use Rattle.ot_check.proofs.Cited.{disciplined-fine, inside}
 use Rattle.ot_owner.proofs.WorthLemmas.{worths-combined}
 use Rattle.ot_job.proofs.Kept.{touch-all}
+use Rattle.ot_job.proofs.ChangedLemmas.{placed-bare}
 use Rattle.ot_job.proofs.RightsLemmas.{at-whole}
 use Rattle.ot_job.proofs.OpeningLemmas.{none-open, open-none, none-combined}
 use Rattle.ot_job.proofs.SettleLemmas.{run_of, runs-within}
@@ -15,42 +16,15 @@ use Rattle.ot_job.proofs.MovesLemmas.{one-less, stopped-others}
 -- ---- the root alone
 
 placed-gone : IsPlaced gone
-placed-gone = record {
-  fine = tt;
-  inside = tt;
-  tasks = tt;
-  awaits = λ uses is. cc;
-  within = λ k s h. cc;
-  apart = λ k l s t h. cc;
-  over = λ e. refl;
-  shut = λ e. refl;
-  once = tt;
-  writes = λ o c h. absurd (true≢false (sym h));
-  grouped = λ k s h. cc;
-  reduced = λ k s h. cc;
-  exclusive = λ o c h. absurd (true≢false (sym h));
-}
+placed-gone = placed-bare 0 0 None End true tt tt tt (λ uses is. cc) (λ e. refl) (λ o c h. absurd (true≢false (sym h)))
 
 module _ (program : Expanded) (disciplined : IsDisciplined program) (lens : List ℕ) (named : NamedIn lens program.body) where
   abbrev root : List Region
   root = root_region program.body ∷ []
 
   placed-root : IsPlaced (root_region program.body)
-  placed-root = record {
-    fine = disciplined-fine program.body disciplined;
-    inside = touch-all (λ u. allows None u ≡ true) (λ u. refl) program.body;
-    tasks = inside lens program.body named disciplined;
-    awaits = λ uses is. cc;
-    within = λ k s h. cc;
-    apart = λ k l s t h. cc;
-    over = λ e. absurd (true≢false (sym e));
-    shut = λ e. refl;
-    once = tt;
-    writes = λ o c h. absurd (true≢false (sym h));
-    grouped = λ k s h. cc;
-    reduced = λ k s h. cc;
-    exclusive = λ o c h. absurd (true≢false (sym h));
-  }
+  placed-root = placed-bare 0 0 None program.body false (disciplined-fine program.body disciplined) (touch-all (λ u. allows None u ≡ true) (λ u. refl) program.body)
+      (inside lens program.body named disciplined) (λ uses is. cc) (λ e. absurd (true≢false (sym e))) (λ o c h. absurd (true≢false (sym h)))
 
   placed-each : (i : ℕ) → IsPlaced (at root i)
   placed-each zero = placed-root
