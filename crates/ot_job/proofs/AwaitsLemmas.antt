@@ -1,9 +1,9 @@
 -- The children that may be unawaited, where a task stands and at its end.
-use Rattle.std.proofs.Common.{◌≡◌, ℕ, Bool, true, false, not, ◌&&◌, ◌||◌, List, [], ◌∷◌, Option, refl, sym, subst, ◌∙◌, Some, None, inl, inr, true≢false}
+use Rattle.std.proofs.Common.{◌≡◌, ℕ, Bool, true, false, not, ◌&&◌, ◌||◌, List, [], ◌∷◌, Option, refl, sym, subst, ◌∙◌, Some, None, inl, inr, true≢false, if◌then◌else◌}
 use Rattle.ot_job.proofs.Common.{E, Set, Fold, If, Task, Wait, Group, Body, End, Next, append, Cell, Operation, Use, Sibling, is_in, Children, behind_one, AreAssigns, true_or, or_right, Open, Kids, children_of, kids_behind, AwaitsAll, list_any, is_unfinished, awaits, or_true, and_left, and_right, and_true, Waiting, is_awaited_at, is_held, unawaited}
 use Rattle.ot_check.specs.Discipline.{anyone, behind}
 use Rattle.ot_check.proofs.Cited.{behind-more, false_below}
-use Rattle.ot_job.proofs.PlaceLemmas.{FewerKids, Monotone, UnawaitedBy, behind-fewer, behind-one, behind-two, behind-wait, behind-task, enter-fewer, behind-enter}
+use Rattle.ot_job.proofs.PlaceLemmas.{FewerKids, Monotone, UnawaitedBy, behind-fewer, behind-branch, taken-or, behind-wait, behind-task, enter-fewer, behind-enter}
 
 -- ---- a task's body ends with no child unawaited: step by step
 
@@ -24,19 +24,13 @@ pub awaits-step : (before now : Kids) (rest next : Body) (os : List Open)
 awaits-step before now rest next [] moves le h = false_below (behind (children_of now) next anyone) (behind (children_of before) rest anyone) moves h
 awaits-step before now rest next (o ∷ os) moves le h = awaits-fewer (kids_behind now next o.group) (kids_behind before rest o.group) o.behind os (le o os refl) h
 
-pub awaits-one : (kids : Kids) → Monotone kids → (e : E) (a b rest : Body) (os : List Open) → AwaitsAll kids (Next (If e a b) rest) os → AwaitsAll kids (append a rest) os
-awaits-one kids mono e a b rest os h =
+pub awaits-branch : (kids : Kids) → Monotone kids → (taken : Bool) (e : E) (a b rest : Body) (os : List Open) → AwaitsAll kids (Next (If e a b) rest) os → AwaitsAll kids (append (if taken then a else b) rest) os
+awaits-branch kids mono taken e a b rest os h =
     let children = children_of kids in
-    awaits-step kids kids (Next (If e a b) rest) (append a rest) os
-    (λ g. behind-more (behind children a) (behind_one children (If e a b)) (λ T. true_or (behind children a T) (behind children b T)) rest anyone (sym (behind-append children a rest anyone) ∙ g))
-    (λ o more is. behind-one kids mono e a b rest o.group) h
-
-pub awaits-two : (kids : Kids) → Monotone kids → (e : E) (a b rest : Body) (os : List Open) → AwaitsAll kids (Next (If e a b) rest) os → AwaitsAll kids (append b rest) os
-awaits-two kids mono e a b rest os h =
-    let children = children_of kids in
-    awaits-step kids kids (Next (If e a b) rest) (append b rest) os
-    (λ g. behind-more (behind children b) (behind_one children (If e a b)) (λ T. or_right (behind children a T) (behind children b T)) rest anyone (sym (behind-append children b rest anyone) ∙ g))
-    (λ o more is. behind-two kids mono e a b rest o.group) h
+    let chosen : Body = if taken then a else b in
+    awaits-step kids kids (Next (If e a b) rest) (append chosen rest) os
+    (λ g. behind-more (behind children chosen) (behind_one children (If e a b)) (λ T. taken-or (λ c. behind children c T) taken a b) rest anyone (sym (behind-append children chosen rest anyone) ∙ g))
+    (λ o more is. behind-branch kids mono taken e a b rest o.group) h
 
 -- sets and folds
 pub awaits-piece : (kids : Kids) (piece rest : Body) (os : List Open) → AreAssigns piece → AwaitsAll kids (append piece rest) os → AwaitsAll kids rest os

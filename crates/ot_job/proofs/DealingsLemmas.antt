@@ -1,6 +1,6 @@
 -- A job's calls, as whoever deals with it sees them.
 use Rattle.std.proofs.Common.{◌≡◌, ◌≢◌, ℕ, zero, suc, ◌+◌, ◌<◌, ◌≤◌, Bool, true, false, not, ◌&&◌, ◌||◌, List, [], ◌∷◌, length, get_or, refl, sym, ap, subst, ◌∙◌, ◌⊎◌, inl, inr, arith, true≢false, ◌==◌, ◌%◌, Option, Some, None, is_some, option_map, if◌then◌else◌}
-use Rattle.ot_job.proofs.Common.{range_with_len, same_Some, none-some, slice_get-get_or, length-range_with_len, length-filter, count_by-le-length, false_from_ne_true, E, Body, expanded_of, updated, and_left, not_true, Lease, lease_of, loan_of, Region, Run, stopped, root_region, at, Live, Taken, Came, IsOut, taken_by, behind, test_of, begun, with_loan, loans_out, is_claimable, claimable_of, picked, is_let_go, is_ready, Claims, ahead, Settles, moved_on, settled, is_at_end, any_out, all_ended, claimable_in, aborted, region_weight, weight_left, IsWell, Working, Failing, Ended, Failed, out_in, or_right}
+use Rattle.ot_job.proofs.Common.{range_with_len, same_Some, none-some, slice_get-get_or, length-range_with_len, length-filter, count_by-le-length, false_from_ne_true, E, Body, expanded_of, updated, and_left, not_true, Lease, lease_of, loan_of, Region, Run, stopped, root_region, at, Live, Taken, Came, IsOut, taken_by, behind, test_of, begun, with_loan, loans_out, is_claimable, claimable_of, picked, is_let_go, is_ready, Claims, ahead, Settles, moved_on, settled, any_out, all_ended, claimable_in, aborted, region_weight, weight_left, IsWell, Working, Failing, Ended, Failed, out_in, or_right}
 use Rattle.std.proofs.lemmas.Nat.{mod_below}
 use Rattle.std.proofs.lemmas.List.Sorted.{length_permutation}
 use Rattle.ot_check.specs.Jobs.{Spec}
@@ -223,7 +223,7 @@ work-settled-other taken g i rs k other = ap work_in (at-updated-other (moved_on
     pick : Alike (at (moved_on taken g i rs) k) (at rs k) ⊎ ((at (moved_on taken g i rs) k).running ≡ None) → work_in (at (moved_on taken g i rs) k) ≡ work_in (at rs k)
     pick (inl (kids, a)) = work-same (at (moved_on taken g i rs) k) (at rs k) (ap (λ (r : Region). r.running) a) (ap (λ (r : Region). r.rest) a)
     pick (inr none) =
-        work-none (at (moved_on taken g i rs) k) none ∙ sym (work-none (at rs k) (sym (moved-running (is_at_end (at rs i).rest (at rs i).groups) taken g i rs k) ∙ none))
+        work-none (at (moved_on taken g i rs) k) none ∙ sym (work-none (at rs k) (sym (moved-running taken g i rs k) ∙ none))
 
 work-settled : (taken : Bool) (g i : ℕ) (rs : List Region) → work_in (at (settled taken g i rs) i) ≡ None
 work-settled taken g i rs = by (at (settled taken g i rs) i).running refl

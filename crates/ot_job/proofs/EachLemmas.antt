@@ -1,6 +1,6 @@
 -- What is true of each region and of each open group, through each change.
-use Rattle.std.proofs.Common.{◌≡◌, ℕ, zero, suc, List, [], ◌∷◌, ◌++◌, refl, Bool, true, false, Option, Some, None, if◌then◌else◌, nat_lt, All}
-use Rattle.ot_job.proofs.Common.{updated, Region, at, All-nil, All-cons, All-tail, Group, Body, End, Next, Use, Cell, Operation, Lease, Open, with_child, new_region, with_created, stepped, stepped_from, executed, next_task, rest_at, children_at, over, stopped, without, passed, begun, is_at_end, parent_of, told_parent, closed, moved_on, settled}
+use Rattle.std.proofs.Common.{◌≡◌, ℕ, zero, suc, List, [], ◌∷◌, ◌++◌, refl, Bool, true, false, Option, Some, None, if◌then◌else◌, nat_lt, All, arith, eq-zero-or-pos, inl, inr, ◌<◌}
+use Rattle.ot_job.proofs.Common.{updated, Region, at, All-nil, All-cons, All-tail, Group, Body, End, Next, Use, Cell, Operation, Lease, Open, with_child, new_region, with_created, stepped, stepped_from, executed, next_task, rest_at, children_at, over, stopped, without, passed, begun, is_at_end, parent_of, told_parent, closed, moved_on, settled, nat_tests}
 
 -- ---- what is true of each region, where one changes, and where one more is there
 
@@ -30,6 +30,28 @@ field-more g [] new same zero = same
 field-more g (r ∷ rs) new same (suc p) = field-more g rs new same p
 field-more g rs new same p = refl
 
+-- ---- what a settle's step leaves, by its parts
+
+-- the parent's table tells of the task, or there is no parent
+pub told-by : (i : ℕ) (rs : List Region) (R : List Region → Type 0) → (i ≡ 0 → R rs) → (0 < i → R (updated rs (parent_of rs i) (without (at rs i).child))) → R (told_parent i rs)
+told-by i rs R same tells = elim (eq-zero-or-pos i) [
+  | inl e ↦ let test : nat_lt 0 i ≡ false = grind (arith, nat_tests) in rw test (same e)
+  | inr pos ↦ let test : nat_lt 0 i ≡ true = grind (arith, nat_tests) in rw test (tells pos)
+]
+
+-- its body ends, or it executes a control statement, by which a task may be created
+pub moved-by : (taken : Bool) (g i : ℕ) (rs : List Region) (R : List Region → Type 0) → ((at rs i).rest ≡ End → R (closed i rs)) → R (updated rs i (stepped taken g))
+    → ((l : List Region) (child : List Use × Body) → R l → R (updated l i (with_child child.0) ++ new_region i (children_at l i) child.0 child.1 ∷ [])) → R (moved_on taken g i rs)
+moved-by taken g i rs R closes steps creates = by (at rs i).rest (at rs i).groups refl (created (next_task (rest_at rs i)))
+  where
+    created : (o : Option (List Use × Body)) → R (with_created i o (updated rs i (stepped taken g)))
+    created None = steps
+    created (Some child) = creates (updated rs i (stepped taken g)) child steps
+
+    by : (b : Body) (gs : List Open) → (at rs i).rest ≡ b → R (executed taken g i rs) → R (if is_at_end b gs then closed i rs else executed taken g i rs)
+    by End [] was goes = closes was
+    by b gs was goes = goes
+
 -- ---- what is true of each open group, through each change of the regions
 
 module _ (P : Open → Type 0) where
@@ -48,11 +70,7 @@ module _ (P : Open → Type 0) where
   module _ (taken : Bool) (g i : ℕ) (rs : List Region) (old : (k : ℕ) → All P (at rs k).groups)
       (new : (op : Operation) (cs : List Cell) (b rest : Body) → (at rs i).rest ≡ Next (Group op cs b) rest → P (record { group = g; op = op; cells = cs; behind = rest })) where
     each-told : (k : ℕ) → All P (at (told_parent i rs) k).groups
-    each-told = by (nat_lt 0 i)
-      where
-        by : (b : Bool) → (k : ℕ) → All P (at (if b then updated rs (parent_of rs i) (without (at rs i).child) else rs) k).groups
-        by true = at-each Each rs (parent_of rs i) (without (at rs i).child) old (old (parent_of rs i))
-        by false = old
+    each-told = told-by i rs (λ l. (k : ℕ) → All P (at l k).groups) (λ z. old) (λ pos. at-each Each rs (parent_of rs i) (without (at rs i).child) old (old (parent_of rs i)))
 
     each-stepped : (k : ℕ) → All P (at (updated rs i (stepped taken g)) k).groups
     each-stepped = at-each Each rs i (stepped taken g) old (by (at rs i).rest refl)
@@ -61,18 +79,9 @@ module _ (P : Open → Type 0) where
         by (Next (Group op cs b) rest) was = All-cons P (record { group = g; op = op; cells = cs; behind = rest }) (at rs i).groups (new op cs b rest was) (old i)
         by b was = old i
 
-    each-created : (child : Option (List Use × Body)) (k : ℕ) → All P (at (with_created i child (updated rs i (stepped taken g))) k).groups
-    each-created None = each-stepped
-    each-created (Some child) =
-        let now = updated rs i (stepped taken g) in
-        more-each Each (updated now i (with_child child.0)) (new_region i (children_at now i) child.0 child.1) (at-each Each now i (with_child child.0) each-stepped (each-stepped i)) (All-nil P)
-
     each-moved : (k : ℕ) → All P (at (moved_on taken g i rs) k).groups
-    each-moved = by (is_at_end (at rs i).rest (at rs i).groups)
-      where
-        by : (b : Bool) → (k : ℕ) → All P (at (if b then closed i rs else executed taken g i rs) k).groups
-        by true = at-each Each (told_parent i rs) i over each-told (each-told i)
-        by false = each-created (next_task (rest_at rs i))
+    each-moved = moved-by taken g i rs (λ l. (k : ℕ) → All P (at l k).groups) (λ was. at-each Each (told_parent i rs) i over each-told (each-told i)) each-stepped
+        (λ l child h. more-each Each (updated l i (with_child child.0)) (new_region i (children_at l i) child.0 child.1) (at-each Each l i (with_child child.0) h (h i)) (All-nil P))
 
     -- a settle opens the group that comes next
     pub each-settled : (k : ℕ) → All P (at (settled taken g i rs) k).groups

@@ -1,6 +1,6 @@
 -- Copies are kept of the cells of the open groups and of no others, as tasks go on and as pieces come back.
 use Rattle.std.proofs.Common.{◌≡◌, ◌≢◌, ◌<◌, ◌↔◌, ◌⊎◌, ℕ, zero, suc, Bool, true, false, ◌&&◌, true≢false, List, [], ◌∷◌, ◌++◌, map, length, get_or, refl, sym, ap, subst, ◌∙◌, inl, inr, arith, Contains, IsPermutation, Option, Some, None, IsSome, is_some, option_map, unwrap_or, replicate, nat_lt, if◌then◌else◌, ◌==◌, All, Any, ⊎_elim}
-use Rattle.ot_job.proofs.Common.{cases_eq, eqb-true, eq-eqb, option_map_id, map-append, get_or_default, All-contains, Any-from_list_any, list_any-from_Any, Contains-permutation, IsPermutation-refl, IsPermutation-sym, IsPermutation-trans, IsPermutation-cons, same_Some, none-some, cell_of, same_cell, updated, Group, Body, End, Next, Conflict, is_fold, mode_in, first_of, same_fold, Cell, Operation, Mode, Reads, Folds, Use, has_cell, true_or, or_right, and_true, all_back, copy_of, lent_from, Loan, Owned, IsFreeFor, Summed, IsNamed, IsSummed, IsSummedBy, begun_for, worth_over, worth, worths, LentCell, permutation_rest, cell_of-worths, passed, awake, group_passed, Open, Region, group_next, with_child, new_region, with_created, stepped, stepped_from, executed, next_task, rest_at, children_at, over, stopped, opened, at, parent_of, AreOpen, IsFor, left_open, Opens, told_parent, closed, moved_on, settled}
+use Rattle.ot_job.proofs.Common.{cases_eq, eqb-true, eq-eqb, option_map_id, map-append, get_or_default, All-contains, Any-from_list_any, list_any-from_Any, Contains-permutation, IsPermutation-refl, IsPermutation-sym, IsPermutation-trans, IsPermutation-cons, same_Some, none-some, cell_of, same_cell, updated, Group, Body, End, Next, Conflict, is_fold, mode_in, first_of, same_fold, Cell, Operation, Mode, Reads, Folds, Use, has_cell, true_or, or_right, and_true, all_back, copy_of, lent_from, Loan, Owned, IsFreeFor, Summed, IsNamed, IsSummed, IsSummedBy, begun_for, worth_over, worth, worths, LentCell, permutation_rest, cell_of-worths, passed, awake, group_passed, Open, Region, group_next, with_child, new_region, stepped, stepped_from, children_at, over, stopped, opened, at, parent_of, AreOpen, IsFor, left_open, Opens, told_parent, moved_on, settled}
 use Rattle.ot_depend.proofs.ReadyLemmas.{same_answer}
 use Rattle.std.proofs.lemmas.List.Elements.{Contains-get_or, Contains-append_left, Contains-append_right, Contains-append_cases, Contains-push_cases}
 use Rattle.std.proofs.lemmas.List.Quantifiers.{position-Some}
@@ -15,8 +15,8 @@ use Rattle.ot_task.specs.Pieces.{ended_group}
 use Rattle.ot_job.specs.Opened.{numbers_in}
 use Rattle.ot_job.proofs.FoldLemmas.{same-op}
 use Rattle.ot_job.proofs.KeptLemmas.{at-updated, at-updated-other}
-use Rattle.ot_job.proofs.StepLemmas.{tell-field, end-cases}
-use Rattle.ot_job.proofs.EachLemmas.{field-at, field-more}
+use Rattle.ot_job.proofs.StepLemmas.{tell-field}
+use Rattle.ot_job.proofs.EachLemmas.{field-at, field-more, moved-by}
 
 -- ---- what is among the elements
 
@@ -356,14 +356,6 @@ module _ (rs : List Region) (gs : List Summed) (i : ℕ) (f : Region → Region)
 
 -- ---- a piece comes back
 
-groups-created : (i : ℕ) (child : Option (List Use × Body)) (rs : List Region) (k : ℕ) → (at (with_created i child rs) k).groups ≡ (at rs k).groups
-groups-created i None rs k = refl
-groups-created i (Some child) rs k =
-    field-more (λ r. r.groups) (updated rs i (with_child child.0)) (new_region i (children_at rs i) child.0 child.1) refl k ∙ field-at (λ r. r.groups) (with_child child.0) rs i refl k
-
-groups-closed : (i : ℕ) (rs : List Region) (k : ℕ) → (at (closed i rs) k).groups ≡ (at rs k).groups
-groups-closed i rs k = field-at (λ r. r.groups) over (told_parent i rs) i refl k ∙ tell-field (λ r. r.groups) (λ c r. refl) (nat_lt 0 i) (parent_of rs i) (at rs i).child rs k
-
 module _ (taken : Bool) (number i : ℕ) (rs : List Region) (gs new : List Summed) (within : i < length rs) (below : AreBelow rs number) (are : AreOpen rs gs) where
   same-stepped : (b : Body) → (at rs i).rest ≡ b → (stepped_from taken number b (at rs i)).groups ≡ (at rs i).groups → new ≡ gs → AreOpen (updated rs i (stepped taken number)) new
   same-stepped b was same is =
@@ -376,22 +368,18 @@ module _ (taken : Bool) (number i : ℕ) (rs : List Region) (gs new : List Summe
       (open-entered rs gs i (stepped taken number) (record { group = number; op = op; cells = cs; behind = rest }) uses within (ap (λ b. (stepped_from taken number b (at rs i)).groups) was) below named are)
   open-stepped b was opens = same-stepped b was refl opens
 
-  open-executed : Opens (group_next (at rs i).rest) number gs new → AreOpen (executed taken number i rs) new
-  open-executed opens =
-      open-same (updated rs i (stepped taken number)) (executed taken number i rs) new (groups-created i (next_task (rest_at rs i)) (updated rs i (stepped taken number)))
-      (open-stepped (at rs i).rest refl opens)
-
-  open-moved : Opens (group_next (at rs i).rest) number gs new → AreOpen (moved_on taken number i rs) new
-  open-moved opens = elim (end-cases (at rs i).rest (at rs i).groups) [
-    | inl ends ↦ (let is : new ≡ gs = subst (λ b. Opens (group_next b) number gs new) ends.0 opens in
-        subst (λ b. AreOpen (if b then closed i rs else executed taken number i rs) new) (sym ends.2) (open-same rs (closed i rs) new (groups-closed i rs) (subst (AreOpen rs) (sym is) are)))
-    | inr goes ↦ subst (λ b. AreOpen (if b then closed i rs else executed taken number i rs) new) (sym goes) (open-executed opens)
-  ]
+  groups-moved : (k : ℕ) → (at (moved_on taken number i rs) k).groups ≡ (at (updated rs i (stepped taken number)) k).groups
+  groups-moved = moved-by taken number i rs (λ l. (k : ℕ) → (at l k).groups ≡ (at (updated rs i (stepped taken number)) k).groups)
+      (λ was k. field-at (λ r. r.groups) over (told_parent i rs) i refl k ∙ tell-field (λ r. r.groups) (λ c r. refl) (nat_lt 0 i) (parent_of rs i) (at rs i).child rs k
+      ∙ sym (field-at (λ r. r.groups) (stepped taken number) rs i (ap (λ b. (stepped_from taken number b (at rs i)).groups) was) k))
+      (λ k. refl)
+      (λ l child same k. field-more (λ r. r.groups) (updated l i (with_child child.0)) (new_region i (children_at l i) child.0 child.1) refl k ∙ field-at (λ r. r.groups) (with_child child.0) l i refl k ∙ same k)
 
   -- what becomes of the open groups as a piece comes back
   pub open-settled : Opens (group_next (at rs i).rest) number gs new → AreOpen (settled taken number i rs) new
   open-settled opens =
-      open-same (moved_on taken number i rs) (settled taken number i rs) new (field-at (λ r. r.groups) stopped (moved_on taken number i rs) i refl) (open-moved opens)
+      open-same (updated rs i (stepped taken number)) (settled taken number i rs) new (λ k. field-at (λ r. r.groups) stopped (moved_on taken number i rs) i refl k ∙ groups-moved k)
+      (open-stepped (at rs i).rest refl opens)
 
 -- ---- where no group is open
 

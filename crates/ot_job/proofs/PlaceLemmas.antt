@@ -1,5 +1,5 @@
 -- How what is left stays fine, step by step, where a group is entered and passed too.
-use Rattle.std.proofs.Common.{◌≡◌, ℕ, Bool, true, false, not, ◌&&◌, ◌||◌, List, [], ◌∷◌, Option, refl, sym, subst, ◌∙◌, true≢false, zero, suc, ap, inl, inr, ⊎_elim, None, Some, slice_get}
+use Rattle.std.proofs.Common.{◌≡◌, ℕ, Bool, true, false, not, ◌&&◌, ◌||◌, List, [], ◌∷◌, Option, refl, sym, subst, ◌∙◌, true≢false, zero, suc, ap, inl, inr, ⊎_elim, None, Some, slice_get, if◌then◌else◌}
 use Rattle.ot_job.proofs.Common.{E, Set, Fold, If, Task, Wait, Group, Body, End, Next, append, Cell, Operation, Use, Sibling, is_in, Declared, awaits, behind_one, IsFine, true_or, or_right, and_left, and_right, and_true, Open, opened, Kids, children_of, kids_behind, IsFineAt, false_from_ne_true, list_any, S, same_fold, Mode, Writes, is_unfinished, use_as, EachTouch, EachTask, allows, clashes, has_cell, opened_by_any, same_cell, ReductionMisuse, ConflictsWithChild, or_true, or_false_left, or_false_right, group_free, groups_inside, opened-none, same_is, clash_free, IsClean, todo, AwaitsAll, unawaited, Region, with_rest, inside, LetsAll, NamedOnce, IsPlaced, grouped_in}
 use Rattle.ot_check.specs.Discipline.{nothing_open, behind, through, AreFewer}
 use Rattle.ot_check.proofs.Cited.{fine-fewer, fine-append, through-append, is_offence-Group, conflicts_writes}
@@ -46,35 +46,32 @@ at-fold own kids op c e rest os h = at-step own kids kids (Next (Fold op c e) re
 and_more : (p q r : Bool) → (p ≡ true → q ≡ true) → (p && r) ≡ true → (q && r) ≡ true
 and_more p q r le h = and_true q r (le (and_left p r h)) (and_right p r h)
 
+-- what is true of both bodies of an `if` is true of the one that is taken, and what is true of that one is true of one of them
+pub taken-of : (P : Body → Type 0) (taken : Bool) (a b : Body) → P a → P b → P (if taken then a else b)
+taken-of P true a b p q = p
+taken-of P false a b p q = q
+
+pub taken-or : (test : Body → Bool) (taken : Bool) (a b : Body) → test (if taken then a else b) ≡ true → (test a || test b) ≡ true
+taken-or test true a b h = true_or (test a) (test b) h
+taken-or test false a b h = or_right (test a) (test b) h
+
 -- behind the end of a group: what a child gets through in the body that an `if` takes it gets through in the `if`
-module _ (kids : Kids) (mono : Monotone kids) (e : E) (a b rest : Body) (g : ℕ) where
-  pub behind-one : FewerKids (kids_behind kids (append a rest) g) (kids_behind kids (Next (If e a b) rest) g)
-  behind-one T k = mono _ (λ s. through s.uses (Next (If e a b) rest) && (not (is_in g s) && T s))
-      (λ s. and_more (through s.uses (append a rest)) (through s.uses (Next (If e a b) rest)) (not (is_in g s) && T s) (λ t.
-      let both = sym (through-append s.uses a rest) ∙ t in
-      and_true (through s.uses a || through s.uses b) (through s.uses rest)
-      (true_or (through s.uses a) (through s.uses b) (and_left (through s.uses a) (through s.uses rest) both)) (and_right (through s.uses a) (through s.uses rest) both))) k
+pub behind-branch : (kids : Kids) → Monotone kids → (taken : Bool) (e : E) (a b rest : Body) (g : ℕ) → FewerKids (kids_behind kids (append (if taken then a else b) rest) g) (kids_behind kids (Next (If e a b) rest) g)
+behind-branch kids mono taken e a b rest g T k =
+    let chosen : Body = if taken then a else b in
+    mono _ (λ s. through s.uses (Next (If e a b) rest) && (not (is_in g s) && T s))
+    (λ s. and_more (through s.uses (append chosen rest)) (through s.uses (Next (If e a b) rest)) (not (is_in g s) && T s) (λ t.
+    let both = sym (through-append s.uses chosen rest) ∙ t in
+    and_true (through s.uses a || through s.uses b) (through s.uses rest)
+    (taken-or (through s.uses) taken a b (and_left (through s.uses chosen) (through s.uses rest) both)) (and_right (through s.uses chosen) (through s.uses rest) both))) k
 
-  pub behind-two : FewerKids (kids_behind kids (append b rest) g) (kids_behind kids (Next (If e a b) rest) g)
-  behind-two T k = mono _ (λ s. through s.uses (Next (If e a b) rest) && (not (is_in g s) && T s))
-      (λ s. and_more (through s.uses (append b rest)) (through s.uses (Next (If e a b) rest)) (not (is_in g s) && T s) (λ t.
-      let both = sym (through-append s.uses b rest) ∙ t in
-      and_true (through s.uses a || through s.uses b) (through s.uses rest)
-      (or_right (through s.uses a) (through s.uses b) (and_left (through s.uses b) (through s.uses rest) both)) (and_right (through s.uses b) (through s.uses rest) both))) k
-
-pub at-one : (own : Declared) (kids : Kids) → Monotone kids → (e : E) (a b rest : Body) (os : List Open) → IsFineAt own kids (Next (If e a b) rest) os → IsFineAt own kids (append a rest) os
-at-one own kids mono e a b rest os h =
-    at-step own kids kids (Next (If e a b) rest) (append a rest) os
-    (λ f. fine-append own (opened os) (children_of kids) a rest f.1.0
-    (fine-fewer own (opened os) (behind (children_of kids) a) (behind_one (children_of kids) (If e a b)) (λ T. true_or (behind (children_of kids) a T) (behind (children_of kids) b T)) rest f.2))
-    (λ g o more is. behind-one kids mono e a b rest o.group) h
-
-pub at-two : (own : Declared) (kids : Kids) → Monotone kids → (e : E) (a b rest : Body) (os : List Open) → IsFineAt own kids (Next (If e a b) rest) os → IsFineAt own kids (append b rest) os
-at-two own kids mono e a b rest os h =
-    at-step own kids kids (Next (If e a b) rest) (append b rest) os
-    (λ f. fine-append own (opened os) (children_of kids) b rest f.1.1
-    (fine-fewer own (opened os) (behind (children_of kids) b) (behind_one (children_of kids) (If e a b)) (λ T. or_right (behind (children_of kids) a T) (behind (children_of kids) b T)) rest f.2))
-    (λ g o more is. behind-two kids mono e a b rest o.group) h
+pub at-branch : (own : Declared) (kids : Kids) → Monotone kids → (taken : Bool) (e : E) (a b rest : Body) (os : List Open) → IsFineAt own kids (Next (If e a b) rest) os → IsFineAt own kids (append (if taken then a else b) rest) os
+at-branch own kids mono taken e a b rest os h =
+    let chosen : Body = if taken then a else b in
+    at-step own kids kids (Next (If e a b) rest) (append chosen rest) os
+    (λ f. fine-append own (opened os) (children_of kids) chosen rest (taken-of (IsFine own (opened os) (children_of kids)) taken a b f.1.0 f.1.1)
+    (fine-fewer own (opened os) (behind (children_of kids) chosen) (behind_one (children_of kids) (If e a b)) (λ T. taken-or (λ c. behind (children_of kids) c T) taken a b) rest f.2))
+    (λ g o more is. behind-branch kids mono taken e a b rest o.group) h
 
 -- each child of the one is among the other, and isn't awaited by the wait
 abbrev pub UnawaitedBy : Option (List Use) → Kids → Kids → Type 0
