@@ -137,21 +137,21 @@ module _ (ws : List Region) (s : IsSound ws) (i : ℕ) (h : i < length ws) (was 
   abbrev now : List Region
   now = closed i ws
 
-  abbrev told_ws : List Region
-  told_ws = told_parent i ws
+  abbrev noted : List Region
+  noted = told_parent i ws
 
   pub long-closed : length now ≡ length ws
-  long-closed = length-updated told_ws i over ∙ told-by i ws (λ l. length l ≡ length ws) (λ z. refl) (λ pos. length-updated ws p (without c))
+  long-closed = length-updated noted i over ∙ told-by i ws (λ l. length l ≡ length ws) (λ z. refl) (λ pos. length-updated ws p (without c))
 
   -- but for the tables and the end each field is as before
-  same-told : {A : Type 0} (g : Region → A) → ((r : Region) → g (without c r) ≡ g r) → (j : ℕ) → g (at told_ws j) ≡ g (at ws j)
+  same-told : {A : Type 0} (g : Region → A) → ((r : Region) → g (without c r) ≡ g r) → (j : ℕ) → g (at noted j) ≡ g (at ws j)
   same-told g w j = told-by i ws (λ l. g (at l j) ≡ g (at ws j)) (λ z. refl) (λ pos. field-kept g (without c) w ws p j)
 
   same : {A : Type 0} (g : Region → A) → ((r : Region) → g (over r) ≡ g r) → ((r : Region) → g (without c r) ≡ g r) → (j : ℕ) → g (at now j) ≡ g (at ws j)
-  same g o w j = field-kept g over o told_ws i j ∙ same-told g w j
+  same g o w j = field-kept g over o noted i j ∙ same-told g w j
 
-  tables : (q : ℕ) → (at now q).children ≡ (at told_ws q).children
-  tables = field-kept (λ r. r.children) over (λ r. refl) told_ws i
+  tables : (q : ℕ) → (at now q).children ≡ (at noted q).children
+  tables = field-kept (λ r. r.children) over (λ r. refl) noted i
 
   parent-same : (j : ℕ) → parent_of now j ≡ parent_of ws j
   parent-same = same (λ r. r.parent) (λ r. refl) (λ r. refl)
@@ -163,10 +163,10 @@ module _ (ws : List Region) (s : IsSound ws) (i : ℕ) (h : i < length ws) (was 
   todo-closed = same (λ r. todo r.rest r.groups) (λ r. refl) (λ r. refl)
 
   ended-other : (j : ℕ) → j ≢ i → ended_at now j ≡ ended_at ws j
-  ended-other j other = ap (λ (r : Region). r.ended) (at-updated-other told_ws i j over other) ∙ same-told (λ r. r.ended) (λ r. refl) j
+  ended-other j other = ap (λ (r : Region). r.ended) (at-updated-other noted i j over other) ∙ same-told (λ r. r.ended) (λ r. refl) j
 
   ended-here : ended_at now i ≡ true
-  ended-here = ap (λ (r : Region). r.ended) (at-updated told_ws i over (omega (arith, h, long-closed, length-updated told_ws i over)))
+  ended-here = ap (λ (r : Region). r.ended) (at-updated noted i over (omega (arith, h, long-closed, length-updated noted i over)))
 
   -- an entry as it was before
   entry-was : (q k : ℕ) (x : Sibling) → slice_get (at now q).children k ≡ Some x → Before (at ws q).children k x
@@ -192,7 +192,7 @@ module _ (ws : List Region) (s : IsSound ws) (i : ℕ) (h : i < length ws) (was 
       k : IsKin ws j
       k = s.kin j pos l
 
-      make : (x : Sibling) → slice_get (at told_ws (parent_of ws j)).children (at ws j).child ≡ Some x → x.uses ≡ k.entry.uses → x.finished ≡ ended_at now j → IsKin now j
+      make : (x : Sibling) → slice_get (at noted (parent_of ws j)).children (at ws j).child ≡ Some x → x.uses ≡ k.entry.uses → x.finished ≡ ended_at now j → IsKin now j
       make x there uses finished = record {
         entry = x;
         there = ap (λ n. slice_get (at now n).children (at now j).child) (parent-same j) ∙ ap (slice_get (at now (parent_of ws j)).children) (child-same j)
@@ -234,7 +234,7 @@ module _ (ws : List Region) (s : IsSound ws) (i : ℕ) (h : i < length ws) (was 
       by (inr e) = b.finished (s.done j pos (sym (ended-other j e) ∙ ended) k b.entry b.there)
 
   pub parents-closed : parents now ≡ parents ws
-  parents-closed = parents-updated told_ws i over (λ r. refl) ∙ told-by i ws (λ l. parents l ≡ parents ws) (λ z. refl) (λ pos. parents-updated ws p (without c) (λ r. refl))
+  parents-closed = parents-updated noted i over (λ r. refl) ∙ told-by i ws (λ l. parents l ≡ parents ws) (λ z. refl) (λ pos. parents-updated ws p (without c) (λ r. refl))
 
   pub sound-closed : IsSound now
   sound-closed = record {
@@ -251,9 +251,9 @@ module _ (ws : List Region) (s : IsSound ws) (i : ℕ) (h : i < length ws) (was 
         omega (arith, o, child-same a, child-same b);
     begun = λ j pos below. subst (IsBegun now) (sym (parent-same j)) (begun-closed (parent_of ws j) (s.begun j pos (omega (arith, below, long-closed))));
     entered = λ j o os is. begun-closed j (s.entered j o os (sym (same (λ r. r.groups) (λ r. refl) (λ r. refl) j) ∙ is));
-    placed = at-each IsPlaced told_ws i over placed-told (placed-over (at told_ws i) (placed-told i) (same-told (λ r. r.rest) (λ r. refl) i ∙ was) (same-told (λ r. r.groups) (λ r. refl) i ∙ none));
+    placed = at-each IsPlaced noted i over placed-told (placed-over (at noted i) (placed-told i) (same-told (λ r. r.rest) (λ r. refl) i ∙ was) (same-told (λ r. r.groups) (λ r. refl) i ∙ none));
     done = done-now;
   }
     where
-      placed-told : (j : ℕ) → IsPlaced (at told_ws j)
+      placed-told : (j : ℕ) → IsPlaced (at noted j)
       placed-told = told-by i ws (λ l. (j : ℕ) → IsPlaced (at l j)) (λ z. s.placed) (λ pos. at-each IsPlaced ws p (without c) s.placed (placed-without c (at ws p) (s.placed p)))

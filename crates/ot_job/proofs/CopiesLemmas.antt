@@ -1,6 +1,6 @@
 -- Assignments on copies, given back, are the assignments on the cells.
 use Rattle.std.proofs.Common.{◌≡◌, ◌⊎◌, ℕ, Option, Some, None, Bool, true, false, refl, sym, ap, subst, ◌∙◌, inl, inr, if◌then◌else◌, option_map, suc, cond, List, [], ◌∷◌, arith, true≢false, IsSome, find, All}
-use Rattle.ot_job.proofs.Common.{join_by, unit_of, Cell, Mode, Reads, Writes, Folds, Use, E, Set, Fold, Body, End, Next, val, cell_of, same_cell, State, bump, change, serial, Operation, use_as, EachRead, EachTouch, same_is, Look, assigned, AreAssigns, same_self, same_Some, option_map_id, lengths, is_fold, joined, is_at, first_at, value_at, AreJoined, LentCell, found-lent}
+use Rattle.ot_job.proofs.Common.{join_by, unit_of, Cell, Mode, Reads, Writes, Folds, Use, E, Set, Fold, Body, End, Next, val, cell_of, same_cell, State, bump, change, serial, Operation, use_as, EachRead, EachTouch, same_is, Look, assigned, AreAssigns, same_self, same_Some, option_map_id, lengths, is_fold, joined, is_at, first_at, value_at, AreJoined, LentCell, found-lent, cases_Bool}
 use Rattle.ot_model.specs.Monoids.{join-associative, join-absorbed}
 use Rattle.ot_model.specs.Cells.{with_cell}
 use Rattle.ot_check.proofs.Cited.{read-weaker, value-same}
@@ -112,13 +112,11 @@ pub record HasInputs (cells : List (List ℕ)) (l : LentCell) : Type 0 where
 -- what holds of all holds of the one that is found
 pub found : (P : LentCell → Type 0) (lent : List LentCell) (c : Cell) (l : LentCell) → All P lent → find (is_at c) lent ≡ Some l → P l × (l.cell ≡ c)
 found P [] c l all h = cc
-found P (x ∷ lent) c l all h = pick (is_at c x) refl (λ g. found P lent c l (λ k d within. all (suc k) d (omega (arith, within))) g)
-  where
-    pick : (b : Bool) → is_at c x ≡ b → (find (is_at c) lent ≡ Some l → P l × (l.cell ≡ c)) → P l × (l.cell ≡ c)
-    pick true e ih =
-        let one : x ≡ l = same_Some x l (sym (ap (λ b. cond b (Some x) (find (is_at c) lent)) e) ∙ h) in
-        (subst P one (all 0 x (omega arith)), subst (λ (y : LentCell). y.cell ≡ c) one (same-from_is_at c x e))
-    pick false e ih = ih (sym (ap (λ b. cond b (Some x) (find (is_at c) lent)) e) ∙ h)
+found P (x ∷ lent) c l all h = elim (cases_Bool (is_at c x)) [
+  | inl e ↦ let one : x ≡ l = same_Some x l (sym (ap (λ b. cond b (Some x) (find (is_at c) lent)) e) ∙ h) in
+      (subst P one (all 0 x (omega arith)), subst (λ (y : LentCell). y.cell ≡ c) one (same-from_is_at c x e))
+  | inr e ↦ found P lent c l (λ k d within. all (suc k) d (omega (arith, within))) (sym (ap (λ b. cond b (Some x) (find (is_at c) lent)) e) ∙ h)
+]
 
 abbrev pub mode_at : List LentCell → Cell → Option Mode
 mode_at lent c = option_map (λ l. l.mode) (find (is_at c) lent)

@@ -1,6 +1,6 @@
 -- A job's calls, as whoever deals with it sees them.
 use Rattle.std.proofs.Common.{◌≡◌, ◌≢◌, ℕ, zero, suc, ◌+◌, ◌<◌, ◌≤◌, Bool, true, false, not, ◌&&◌, ◌||◌, List, [], ◌∷◌, length, get_or, refl, sym, ap, subst, ◌∙◌, ◌⊎◌, inl, inr, arith, true≢false, ◌==◌, ◌%◌, Option, Some, None, is_some, option_map, if◌then◌else◌}
-use Rattle.ot_job.proofs.Common.{range_with_len, same_Some, none-some, slice_get-get_or, length-range_with_len, length-filter, count_by-le-length, false_from_ne_true, E, Body, expanded_of, updated, and_left, not_true, Lease, lease_of, loan_of, Region, Run, stopped, root_region, at, Live, Taken, Came, IsOut, taken_by, behind, test_of, begun, with_loan, loans_out, is_claimable, claimable_of, picked, is_let_go, is_ready, Claims, ahead, Settles, moved_on, settled, any_out, all_ended, claimable_in, aborted, region_weight, weight_left, IsWell, Working, Failing, Ended, Failed, out_in, or_right}
+use Rattle.ot_job.proofs.Common.{range_with_len, same_Some, none-some, slice_get-get_or, length-range_with_len, length-filter, count_by-le-length, false_from_ne_true, E, Body, expanded_of, updated, and_left, not_true, Lease, lease_of, loan_of, Region, Run, stopped, root_region, at, Live, Taken, Came, IsOut, taken_by, behind, test_of, begun, with_loan, loans_out, is_claimable, claimable_of, picked, is_let_go, is_ready, Claims, ahead, Settles, moved_on, settled, any_out, all_ended, claimable_in, aborted, region_weight, weight_left, IsWell, Working, Failing, Ended, Failed, out_in, or_right, cases_Bool}
 use Rattle.std.proofs.lemmas.Nat.{mod_below}
 use Rattle.std.proofs.lemmas.List.Sorted.{length_permutation}
 use Rattle.ot_check.specs.Jobs.{Spec}
@@ -17,7 +17,7 @@ use Rattle.ot_job.proofs.StartLemmas.{each-ended, one-out, root-light}
 use Rattle.ot_job.proofs.MovesLemmas.{Alike, others-moved, still-out, loans-settled}
 use Rattle.ot_job.proofs.WeighingLemmas.{weight-begun}
 use Rattle.ot_job.proofs.StepLemmas.{moved-running}
-use Rattle.ot_job.proofs.StuckLemmas.{none-out as none-at}
+use Rattle.ot_job.proofs.StuckLemmas.{none-out as none-at, state-working}
 
 -- ---- the piece that is out
 
@@ -120,13 +120,6 @@ starts-fresh spec j s = record {
 
 -- ---- a claim
 
-not-failing : (j : Live) (pick i : ℕ) → picked (claimable_in j) pick ≡ Some i → j.failing ≡ false
-not-failing j pick i h = by j.failing refl h
-  where
-    by : (b : Bool) → j.failing ≡ b → picked (if b then [] else claimable_of j.regions) pick ≡ Some i → b ≡ false
-    by false e h = refl
-    by true e h = absurd (none-some i h)
-
 some-picked : (xs : List ℕ) (pick i : ℕ) → picked xs pick ≡ Some i → 0 < length xs
 some-picked [] pick i h = absurd (none-some i h)
 some-picked (x ∷ xs) pick i h = omega arith
@@ -184,10 +177,10 @@ claims-takes old pick worker p new c = subst (λ (n : Live). Takes old p.task (w
     now = record old { regions = updated old.regions p.task (begun worker (lease_of p.lent)); cells = new.cells; owned = new.owned }
 
     working : old.failing ≡ false
-    working = not-failing old pick i c.task
+    working = (picked-in old.failing rs pick i c.task).0
 
     both : (i < length rs) × (is_claimable rs i ≡ true)
-    both = picked-claimable rs pick i (ap (λ (f : Bool). picked (if f then [] else claimable_of rs) pick) (sym working) ∙ c.task)
+    both = picked-claimable rs pick i (picked-in old.failing rs pick i c.task).1
 
     idle : (at rs i).running ≡ None
     idle = claimable-idle rs i both.1
@@ -253,14 +246,6 @@ settles-returns old d n new s = record {
         (loans-settled (taken_by d.answer) old.counts.units i old.regions (run_of s.out.0.0 d) (runs-within old.regions i (run_of s.out.0.0 d) s.out.0.1) s.out.0.1) in
         omega (arith, same, ap out_in regions, out-loans old.regions, out-loans (settled (taken_by d.answer) old.counts.units i old.regions))
 
-working-goes : (j : Live) → state_of j ≡ Working → j.failing ≡ false
-working-goes j is = by j.failing (any_out j.regions) refl is
-  where
-    by : (f a : Bool) → j.failing ≡ f → (if f then (if a then Failing else Failed) else if all_ended j.regions then Ended else Working) ≡ Working → f ≡ false
-    by false a e h = refl
-    by true true e h = cc
-    by true false e h = cc
-
 pub settles-pays : (old : Live) (d : Came) (n : ℕ) (new : Live) → Settles old d n new → Pays old d n new
 settles-pays old d n new s = record {
   returns = settles-returns old d n new s;
@@ -272,7 +257,7 @@ settles-pays old d n new s = record {
 }
   where
     working-now : new.failing ≡ false
-    working-now = ap (λ (j : Live). j.failing) s.now ∙ working-goes old s.working
+    working-now = ap (λ (j : Live). j.failing) s.now ∙ (state-working old s.working).0
 
     after : (b : Bool) → all_ended new.regions ≡ b → (state_of new ≡ Working) ⊎ (state_of new ≡ Ended)
     after false e = inl (working-is new working-now e)
@@ -322,11 +307,10 @@ fails-breaks old d new f = subst (λ (n : Live). Breaks old d n) (sym f.now) (re
 
 -- how a job stands that a piece comes back to
 pub stands-by : (old : Live) (d : Came) → IsWell old → IsOut old.regions d → ((state_of old ≡ Working) × (out_of old ≤ weight_of old)) ⊎ (state_of old ≡ Failing)
-stands-by old d w out = by old.failing refl
-  where
-    by : (b : Bool) → old.failing ≡ b → ((state_of old ≡ Working) × (out_of old ≤ weight_of old)) ⊎ (state_of old ≡ Failing)
-    by true e = inr (state-by-out old d out e)
-    by false e = inl (works old d w out e, out-light old.regions (λ k x is. ((w.course e).runs k x is).alive))
+stands-by old d w out = elim (cases_Bool old.failing) [
+  | inl e ↦ inr (state-by-out old d out e)
+  | inr e ↦ inl (works old d w out e, out-light old.regions (λ k x is. ((w.course e).runs k x is).alive))
+]
 
 pub aborted-aborts : (old new : Live) → new ≡ aborted old → Aborts old new
 aborted-aborts old new is = subst (λ (n : Live). Aborts old n) (sym is) (record {

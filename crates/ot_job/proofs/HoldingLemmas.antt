@@ -31,11 +31,11 @@ module _ (own : Declared) (us d : List Use) (modes : (c : Cell) → mode_in d c 
 
   -- a cell that is touched is held in some mode, as the fold over the touches tells
   touched : (c : Cell) → Touches us c → (m : Mode) × (held own us c ≡ Some m)
-  touched c (u, has, is) = by (held own us c) refl (subst (λ x. Covers (held own us x) (mode_held own u)) is (covered own us None u (among u us has)))
+  touched c (u, has, is) = by (held own us c) (subst (λ x. Covers (held own us x) (mode_held own u)) is (covered own us None u (among u us has)))
     where
-      by : (o : Option Mode) → held own us c ≡ o → Covers o (mode_held own u) → (m : Mode) × (held own us c ≡ Some m)
-      by None e h = absurd h
-      by (Some m) e h = (m, e)
+      by : (o : Option Mode) → Covers o (mode_held own u) → (m : Mode) × (o ≡ Some m)
+      by None h = absurd h
+      by (Some m) h = (m, refl)
 
   is-right : (c : Cell) (m : Mode) → held own us c ≡ Some m → Right m c
   is-right c = held-right own c (held-alike own c (λ o. exclusive o c)) us

@@ -1,6 +1,6 @@
 -- What a piece holds is a right of its touches, and what is true of each touch is true of each use of the list.
 use Rattle.std.proofs.Common.{◌≡◌, ◌<◌, ℕ, zero, suc, ◌+◌, ◌%◌, Bool, true, false, List, [], ◌∷◌, ◌++◌, map, refl, sym, ap, subst, ◌∙◌, ◌⊎◌, inl, inr, ⊎_elim, arith, Option, Some, None, if◌then◌else◌, fold, Contains}
-use Rattle.ot_job.proofs.Common.{range_with_len, same_Some, none-some, E, Literal, CellAt, Apply, PickFrom, Set, Fold, If, Body, End, Next, cell_at, cells_named, Cell, Operation, Section, Mode, Reads, Writes, Folds, Use, use_as, touches, Declared, folds_to, same_cell, same_fold, EachRead, EachTouch, IsRight, same_is, assign_touches, test_touches, held, held_as, noted, with_mode, stronger, mode_held, reads-append}
+use Rattle.ot_job.proofs.Common.{range_with_len, same_Some, none-some, E, Literal, CellAt, Apply, PickFrom, Set, Fold, If, Body, End, Next, cell_at, cells_named, Cell, Operation, Section, Mode, Reads, Writes, Folds, Use, use_as, touches, Declared, folds_to, same_cell, same_fold, EachRead, EachTouch, IsRight, same_is, assign_touches, test_touches, held, held_as, noted, with_mode, stronger, mode_held, reads-append, cases_Bool}
 use Rattle.std.proofs.Math.Nat.{mod-eq_of_lt}
 use Rattle.ot_job.proofs.FoldLemmas.{same-op}
 
@@ -94,11 +94,10 @@ module _ (own : Declared) (c : Cell) (alike : (p q : Operation) → folds_to own
   right-by : (Touched : Use → Type 0) (k : Mode) (m : Mode) → Touched (use_as k c) → mode_held own (use_as k c) ≡ m → IsRight own Touched (use_as m c)
   right-by Touched Reads m t e = subst (λ n. IsRight own Touched (use_as n c)) e t
   right-by Touched Writes m t e = subst (λ n. IsRight own Touched (use_as n c)) e (inl t)
-  right-by Touched (Folds p) m t e = by (folds_to own p c) refl
-    where
-      by : (b : Bool) → folds_to own p c ≡ b → IsRight own Touched (use_as m c)
-      by true a = subst (λ n. IsRight own Touched (use_as n c)) (rw a at e) (t, a)
-      by false a = subst (λ n. IsRight own Touched (use_as n c)) (rw a at e) (inr (p, t, a))
+  right-by Touched (Folds p) m t e = elim (cases_Bool (folds_to own p c)) [
+    | inl a ↦ subst (λ n. IsRight own Touched (use_as n c)) (rw a at e) (t, a)
+    | inr a ↦ subst (λ n. IsRight own Touched (use_as n c)) (rw a at e) (inr (p, t, a))
+  ]
 
   pub held-right : (us : List Use) (m : Mode) → held own us c ≡ Some m → IsRight own (λ u. Among u us) (use_as m c)
   held-right us m h = ⊎_elim (λ e. absurd (none-some m e)) found (held-by us None m tt h)

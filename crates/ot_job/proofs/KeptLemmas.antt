@@ -1,5 +1,5 @@
 -- What is left of a job stays the same when a task makes a step, out of order.
-use Rattle.std.proofs.Common.{◌≡◌, ◌≢◌, ℕ, zero, suc, ◌+◌, ◌<◌, true, false, List, [], ◌∷◌, ◌++◌, map, length, refl, sym, ap, subst, ◌∙◌, ◌⊎◌, inl, inr, arith, Option, Some, if◌then◌else◌, ◌==◌}
+use Rattle.std.proofs.Common.{◌≡◌, ◌≢◌, ℕ, zero, suc, ◌+◌, ◌<◌, true, false, List, [], ◌∷◌, ◌++◌, map, length, refl, sym, ap, subst, ◌∙◌, ◌⊎◌, inl, inr, arith, Option, Some, if◌then◌else◌, ◌==◌, Bool, ⊎_elim}
 use Rattle.ot_job.proofs.Common.{cases_eq, nat_tests, map-append, E, S, If, Task, Wait, Group, Body, End, Next, append, val, cell_of, updated, length-updated, updated-updated, State, bump, either, serial, Use, Cell, Operation, serial-append, left, Open, todo, Region, with_rest, inside, with_child, new_region, at, parent_of, todo_at, ended_at, parents, left_of, may_at, IsBegun, IsSound, length-map}
 use Rattle.ot_model.proofs.CellsLemmas.{map-updated}
 use Rattle.ot_model.proofs.TreeLemmas as tree
@@ -55,13 +55,11 @@ are_parents (r ∷ rs) down =
 
 In-insert : (q k x : ℕ) (os : List ℕ) → In x os → In x (insert_before q k os)
 In-insert q k x [] h = h
-In-insert q k x (y ∷ os) h = at_test (λ g. In-insert q k x os g) (cases_eq q y) h
+In-insert q k x (y ∷ os) h = by (q == y) (⊎_elim inl (λ g. inr (In-insert q k x os g)) h)
   where
-    at_test : (In x os → In x (insert_before q k os)) → (q ≡ y) ⊎ (q ≡ y → ⊥) → (x ≡ y) ⊎ In x os → In x (if q == y then k ∷ y ∷ insert_before q k os else y ∷ insert_before q k os)
-    at_test ih (inl e) (inl g) = let t : (q == y) ≡ true = grind (arith, nat_tests) in rw t (inr (inl g))
-    at_test ih (inl e) (inr g) = let t : (q == y) ≡ true = grind (arith, nat_tests) in rw t (inr (inr (ih g)))
-    at_test ih (inr e) (inl g) = let t : (q == y) ≡ false = grind (arith, nat_tests) in rw t (inl g)
-    at_test ih (inr e) (inr g) = let t : (q == y) ≡ false = grind (arith, nat_tests) in rw t (inr (ih g))
+    by : (b : Bool) → In x (y ∷ insert_before q k os) → In x (if b then k ∷ y ∷ insert_before q k os else y ∷ insert_before q k os)
+    by true h = inr h
+    by false h = h
 
 In-new : (q k : ℕ) (os : List ℕ) → In q os → In k (insert_before q k os)
 In-new q k [] h = h

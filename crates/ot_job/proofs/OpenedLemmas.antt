@@ -1,6 +1,6 @@
 -- What pieces hold beside open groups, at each call of a job: what a fold goes into, and which cells are free where a group begins and ends.
 use Rattle.std.proofs.Common.{◌≡◌, ℕ, zero, suc, ◌+◌, ◌<◌, Bool, true, false, ◌&&◌, List, [], ◌∷◌, length, refl, sym, ap, ◌∙◌, inl, inr, arith, true≢false, eq-zero-or-pos, Option, Some, None, All, Contains, IsSome, ⊎_elim}
-use Rattle.ot_job.proofs.Common.{cases_eq, All-weaker, End, NamedIn, AreInShape, cell_of, lengths, updated, AreInOrder, is_fold, mode_in, same_fold, Cell, Operation, Mode, Folds, Declared, folds_to, has_cell, or_true, and_left, and_right, Lease, Open, Region, Run, leading, awake, begun, AreHeld, opened, is_claimable, at, parent_of, todo_at, IsBegun, IsKin, IsSound, RunsWell, wholes, Live, IsOnCourse, none-some}
+use Rattle.ot_job.proofs.Common.{cases_eq, All-weaker, End, NamedIn, AreInShape, cell_of, lengths, updated, AreInOrder, is_fold, mode_in, same_fold, Cell, Operation, Mode, Folds, Declared, folds_to, has_cell, or_true, and_left, and_right, Lease, Open, Region, Run, leading, awake, begun, AreHeld, opened, is_claimable, at, parent_of, todo_at, IsBegun, IsKin, IsSound, RunsWell, wholes, Live, IsOnCourse, none-some, false_from_ne_true}
 use Rattle.ot_model.specs.Names.{IsInShape}
 use Rattle.ot_model.proofs.NamesLemmas.{found_from_in}
 use Rattle.ot_job.proofs.KeptLemmas.{at-updated}
@@ -81,13 +81,10 @@ module _ (rs : List Region) (s : IsSound (wholes rs)) (lens : List ℕ) (named :
   where
     -- a cell that a piece reads or writes is in no open group
     pub held-unopened : (i : ℕ) (run : Run) → (at rs i).running ≡ Some run → (c : Cell) (m : Mode) → mode_in run.lease.uses c ≡ Some m → is_fold m ≡ false → (k : ℕ) (op : Operation) → opened (at rs k).groups op c ≡ false
-    held-unopened i run out c m held other k op = by (opened (at rs k).groups op c) refl
-      where
-        by : (b : Bool) → opened (at rs k).groups op c ≡ b → b ≡ false
-        by false e = refl
-        by true e =
-            ⊎_elim (λ same. sym e ∙ ap (λ n. opened (at rs n).groups op c) (sym same) ∙ own_untouched rs s lens named well started i op c m run out held)
-            (λ differs. sym (ap is_fold (folds_alone rs s lens named well started i k op c m run out held e differs)) ∙ other) (cases_eq i k)
+    held-unopened i run out c m held other k op = false_from_ne_true (opened (at rs k).groups op c) (λ e. elim (cases_eq i k) [
+      | inl same ↦ true≢false (sym e ∙ ap (λ n. opened (at rs n).groups op c) (sym same) ∙ own_untouched rs s lens named well started i op c m run out held)
+      | inr differs ↦ true≢false (sym (ap is_fold (folds_alone rs s lens named well started i k op c m run out held e differs)) ∙ other)
+    ])
 
     -- a cell of which it holds the fold is in one by that operation
     pub held-folded : (i : ℕ) (run : Run) → (at rs i).running ≡ Some run → (op : Operation) (c : Cell) → mode_in run.lease.uses c ≡ Some (Folds op) → IsFolded rs op c

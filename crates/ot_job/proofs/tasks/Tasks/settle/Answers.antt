@@ -19,6 +19,5 @@ returns-clause-settled c = c.stop.ensures ∙ ap (λ (l : List Region). updated 
 
 pub returns-in_err-move_on : goal.returns-in_err-move_on
 returns-in_err-move_on c =
-    let told = c.from_residual.result in
     let err = c.from_residual.ensures.0 in
-    record { ordered = IfOk-from_err told _ err; settled = IfOk-from_err told _ err; refused = on_err_always told c.in_err-move_on.ensures.refused }
+    record { ordered = IfOk-from_err _ _ err; settled = IfOk-from_err _ _ err; refused = on_err_always _ c.in_err-move_on.ensures.refused }
