@@ -1,8 +1,8 @@
 -- The children that may be unawaited, where a task stands and at its end.
-use Rattle.std.proofs.Common.{◌≡◌, ℕ, Bool, true, false, not, ◌&&◌, ◌||◌, List, [], ◌∷◌, Option, refl, sym, subst, ◌∙◌, Some, None, inl, inr, true≢false, if◌then◌else◌}
-use Rattle.ot_job.proofs.Common.{E, Set, Fold, If, Task, Wait, Group, Body, End, Next, append, Cell, Operation, Use, Sibling, is_in, Children, behind_one, AreAssigns, true_or, or_right, Open, Kids, children_of, kids_behind, AwaitsAll, list_any, is_unfinished, awaits, or_true, and_left, and_right, and_true, Waiting, is_awaited_at, is_held, unawaited}
+use Rattle.std.proofs.Common.{◌≡◌, ℕ, Bool, true, false, not, ◌&&◌, ◌||◌, List, [], ◌∷◌, Option, refl, sym, subst, ◌∙◌, Some, None, true≢false, if◌then◌else◌}
+use Rattle.ot_job.proofs.Common.{E, Set, Fold, If, Task, Wait, Group, Body, End, Next, append, Cell, Operation, Use, Sibling, is_in, Children, behind_one, AreAssigns, Open, Kids, children_of, kids_behind, AwaitsAll, list_any, is_unfinished, awaits, and_left, and_right, and_true, Waiting, is_awaited_at, is_held, unawaited}
 use Rattle.ot_check.specs.Discipline.{anyone, behind}
-use Rattle.ot_check.proofs.Cited.{behind-more, false_below}
+use Rattle.ot_check.proofs.Cited.{any-more, behind-more, false_below}
 use Rattle.ot_job.proofs.PlaceLemmas.{FewerKids, Monotone, UnawaitedBy, behind-fewer, behind-branch, taken-or, behind-wait, behind-task, enter-fewer, behind-enter}
 
 -- ---- a task's body ends with no child unawaited: step by step
@@ -76,12 +76,8 @@ awaits-end kids h = h
 
 weaker-any : (kids : List Sibling) (f g : Sibling → Bool) → ((s : Sibling) → f s ≡ true → g s ≡ true)
     → list_any (λ s. is_unfinished s && f s) kids ≡ true → list_any (λ s. is_unfinished s && g s) kids ≡ true
-weaker-any [] f g w h = h
-weaker-any (x ∷ kids) f g w h =
-    elim (or_true (is_unfinished x && f x) (list_any (λ s. is_unfinished s && f s) kids) h) [
-      | inl e ↦ true_or (is_unfinished x && g x) (list_any (λ s. is_unfinished s && g s) kids) (and_true (is_unfinished x) (g x) (and_left (is_unfinished x) (f x) e) (w x (and_right (is_unfinished x) (f x) e)))
-      | inr e ↦ or_right (is_unfinished x && g x) (list_any (λ s. is_unfinished s && g s) kids) (weaker-any kids f g w e)
-    ]
+weaker-any kids f g w h =
+    any-more (λ s. is_unfinished s && f s) (λ s. is_unfinished s && g s) kids (λ s k. and_true (is_unfinished s) (g s) (and_left (is_unfinished s) (f s) k) (w s (and_right (is_unfinished s) (f s) k))) h
 
 -- what is true of more is true of some child more often
 pub monotone : (waiting : Waiting) (kids : List Sibling) (f g : Sibling → Bool) → ((s : Sibling) → f s ≡ true → g s ≡ true)

@@ -1,8 +1,9 @@
 -- A task ends its body, and its parent's table tells so: what holds of the regions stays.
 use Rattle.std.proofs.Common.{◌≡◌, ◌≢◌, ℕ, zero, suc, ◌<◌, Bool, true, false, not, ◌&&◌, ◌||◌, List, [], ◌∷◌, length, refl, sym, ap, subst, ◌∙◌, ◌⊎◌, inl, inr, arith, true≢false, None, option_map, Some, slice_get, ◌==◌, ⊎_elim}
-use Rattle.ot_job.proofs.Common.{is_awaited_at, list_any, cases_eq, cases_lt, End, updated, Use, length-updated, Sibling, is_unfinished, with_finished, IsReady, is_in, or_true, true_or, or_right, Cell, Operation, same_fold, allows, folds_to, has_cell, Open, todo, AwaitsAll, unawaited, Region, over, without, told_parent, closed, at, parent_of, todo_at, ended_at, parents, DontMix, OnlyFolds, grouped_in, IsBegun, IsKin, IsPlaced, IsSound}
+use Rattle.ot_job.proofs.Common.{is_awaited_at, list_any, cases_eq, cases_lt, End, updated, Use, length-updated, Sibling, is_unfinished, with_finished, IsReady, is_in, or_right, Cell, Operation, same_fold, allows, folds_to, has_cell, Open, todo, AwaitsAll, unawaited, Region, over, without, told_parent, closed, at, parent_of, todo_at, ended_at, parents, DontMix, OnlyFolds, grouped_in, IsBegun, IsKin, IsPlaced, IsSound}
 use Rattle.std.proofs.lemmas.Bool.{true_from_ne_false}
 use Rattle.ot_model.proofs.CellsLemmas.{slice_get-updated, slice_get-updated-other}
+use Rattle.ot_check.proofs.Bits.{or_more}
 use Rattle.ot_depend.proofs.SiblingsLemmas.{IsReady-finished}
 use Rattle.ot_job.proofs.PlaceLemmas.{at-fewer, kid-none}
 use Rattle.ot_job.proofs.AwaitsLemmas.{awaits-fewer, awaits-end}
@@ -53,10 +54,7 @@ fewer-any : (kids : List Sibling) (c : ℕ) (test : Sibling → Bool)
 fewer-any [] c test h = h
 fewer-any (x ∷ kids) zero test h = or_right (is_unfinished x && test x) (list_any (λ s. is_unfinished s && test s) kids) h
 fewer-any (x ∷ kids) (suc c) test h =
-    elim (or_true (is_unfinished x && test x) (list_any (λ s. is_unfinished s && test s) (with_finished kids c)) h) [
-      | inl here ↦ true_or (is_unfinished x && test x) (list_any (λ s. is_unfinished s && test s) kids) here
-      | inr later ↦ or_right (is_unfinished x && test x) (list_any (λ s. is_unfinished s && test s) kids) (fewer-any kids c test later)
-    ]
+    or_more (is_unfinished x && test x) (list_any (λ s. is_unfinished s && test s) (with_finished kids c)) (is_unfinished x && test x) (list_any (λ s. is_unfinished s && test s) kids) (λ e. e) (fewer-any kids c test) h
 
 -- ---- one region
 

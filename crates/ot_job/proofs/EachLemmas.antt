@@ -1,6 +1,6 @@
 -- What is true of each region and of each open group, through each change.
-use Rattle.std.proofs.Common.{◌≡◌, ℕ, zero, suc, List, [], ◌∷◌, ◌++◌, refl, Bool, true, false, Option, Some, None, if◌then◌else◌, nat_lt, All, arith, eq-zero-or-pos, inl, inr, ◌<◌}
-use Rattle.ot_job.proofs.Common.{updated, Region, at, All-nil, All-cons, All-tail, Group, Body, End, Next, Use, Cell, Operation, Lease, Open, with_child, new_region, with_created, stepped, stepped_from, executed, next_task, rest_at, children_at, over, stopped, without, passed, begun, is_at_end, parent_of, told_parent, closed, moved_on, settled, nat_tests}
+use Rattle.std.proofs.Common.{◌≡◌, ℕ, zero, suc, List, [], ◌∷◌, ◌++◌, refl, Bool, true, false, Option, Some, None, if◌then◌else◌, nat_lt, All, arith, eq-zero-or-pos, inl, inr, ◌<◌, length}
+use Rattle.ot_job.proofs.Common.{updated, Region, at, All-nil, All-cons, All-tail, Group, Body, End, Next, Use, Cell, Operation, Lease, Open, with_child, new_region, with_created, stepped, stepped_from, executed, next_task, rest_at, children_at, over, stopped, without, passed, begun, is_at_end, parent_of, told_parent, closed, moved_on, settled, nat_tests, gone}
 
 -- ---- what is true of each region, where one changes, and where one more is there
 
@@ -13,6 +13,14 @@ pub more-each : (P : Region → Type 0) (rs : List Region) (n : Region) → ((k 
 more-each P [] n old new zero = new
 more-each P (r ∷ rs) n old new (suc k) = more-each P rs n (λ m. old (suc m)) new k
 more-each P rs n old new k = old k
+
+-- by its number too
+pub more-by_number : (P : ℕ → Region → Type 0) (rs : List Region) (n : Region) → ((k : ℕ) → k < length rs → P k (at rs k)) → P (length rs) n → ((k : ℕ) → length rs < k → P k gone) → (k : ℕ) → P k (at (rs ++ n ∷ []) k)
+more-by_number P [] n old new past zero = new
+more-by_number P [] n old new past (suc k) = past (suc k) (omega arith)
+more-by_number P (r ∷ rs) n old new past zero = old 0 (omega arith)
+more-by_number P (r ∷ rs) n old new past (suc k) =
+    more-by_number (λ m. P (suc m)) rs n (λ m l. old (suc m) (omega (arith, l))) new (λ m l. past (suc m) (omega (arith, l))) k
 
 -- ---- a field
 

@@ -1,8 +1,9 @@
 -- Modes that fold, and what a declaration lets a body fold.
 use Rattle.std.proofs.Common.{◌≡◌, Bool, true, false, not, ◌&&◌, List, [], ◌∷◌, refl, sym, ap, subst, ◌∙◌, inl, inr, true≢false, Some, None, ◌||◌}
-use Rattle.ot_job.proofs.Common.{false_from_ne_true, same_cell, conflicts, same_fold, Cell, Operation, Mode, Reads, Writes, Folds, Use, use_as, Declared, allows, covers, folds_by, folds_to, or_true, true_or, or_right, or_false_left, or_false_right, not_false, OnlyFolds, list_any, Precedes, AreInOrder, and_left, and_right, same_is}
+use Rattle.ot_job.proofs.Common.{false_from_ne_true, same_cell, conflicts, same_fold, Cell, Operation, Mode, Reads, Writes, Folds, Use, use_as, Declared, allows, covers, folds_by, folds_to, or_true, or_false_left, or_false_right, not_false, OnlyFolds, list_any, Precedes, AreInOrder, and_left, and_right, same_is}
 use Rattle.ot_model.proofs.EqualLemmas.{fold-decides}
-use Rattle.ot_check.proofs.Cited.{folded, conflicts_folds, one_op}
+use Rattle.ot_check.proofs.Cited.{any-more, folded, conflicts_folds, one_op}
+use Rattle.ot_check.proofs.Bits.{or_more}
 use Rattle.ot_model.proofs.OrderLemmas.{precedes_trans, precedes_apart, rest_in_order}
 
 -- ---- modes that fold, and what a declaration lets a body fold
@@ -43,12 +44,8 @@ covered-fold o m h = absurd (true≢false (sym h))
 
 -- who may write a cell may do anything with it
 writes-any : (uses : List Use) (c : Cell) (m : Mode) → allows (Some uses) (use_as Writes c) ≡ true → allows (Some uses) (use_as m c) ≡ true
-writes-any [] c m may = may
-writes-any (d ∷ uses) c m may =
-    elim (or_true (same_cell d.cell c && covers d.mode Writes) (allows (Some uses) (use_as Writes c)) may) [
-      | inl here ↦ true_or (same_cell d.cell c && covers d.mode m) (allows (Some uses) (use_as m c)) (one (same_cell d.cell c) d.mode here)
-      | inr later ↦ or_right (same_cell d.cell c && covers d.mode m) (allows (Some uses) (use_as m c)) (writes-any uses c m later)
-    ]
+writes-any uses c m may =
+    any-more (λ d. same_cell d.cell c && covers d.mode Writes) (λ d. same_cell d.cell c && covers d.mode m) uses (λ d. one (same_cell d.cell c) d.mode) may
   where
     one : (b : Bool) (n : Mode) → (b && covers n Writes) ≡ true → (b && covers n m) ≡ true
     one true Writes h = refl
@@ -58,16 +55,17 @@ pub writes-all : (own : Declared) (c : Cell) (m : Mode) → allows own (use_as W
 writes-all None c m may = refl
 writes-all (Some uses) c m may = writes-any uses c m may
 
+-- some use passes the first test and none the second: so that some use passes the third
+pub any-but : (f n g : Use → Bool) (uses : List Use) → ((u : Use) → f u ≡ true → n u ≡ false → g u ≡ true) → list_any f uses ≡ true → list_any n uses ≡ false → list_any g uses ≡ true
+any-but f n g [] w h k = h
+any-but f n g (u ∷ uses) w h k =
+    or_more (f u) (list_any f uses) (g u) (list_any g uses) (λ e. w u e (or_false_left (n u) (list_any n uses) k)) (λ e. any-but f n g uses w e (or_false_right (n u) (list_any n uses) k)) h
+
 -- who may fold, and not read, declares the fold
 pub declares-fold : (uses : List Use) (o : Operation) (c : Cell) → allows (Some uses) (use_as (Folds o) c) ≡ true → allows (Some uses) (use_as Reads c) ≡ false → folds_to (Some uses) o c ≡ true
-declares-fold [] o c may none = may
-declares-fold (d ∷ uses) o c may none =
-    elim (or_true (same_cell d.cell c && covers d.mode (Folds o)) (allows (Some uses) (use_as (Folds o) c)) may) [
-      | inl here ↦ true_or (same_cell d.cell c && folds_by o d.mode) (folds_to (Some uses) o c)
-          (one (same_cell d.cell c) d.mode here (or_false_left (same_cell d.cell c && covers d.mode Reads) (allows (Some uses) (use_as Reads c)) none))
-      | inr later ↦ or_right (same_cell d.cell c && folds_by o d.mode) (folds_to (Some uses) o c)
-          (declares-fold uses o c later (or_false_right (same_cell d.cell c && covers d.mode Reads) (allows (Some uses) (use_as Reads c)) none))
-    ]
+declares-fold uses o c may none =
+    any-but (λ d. same_cell d.cell c && covers d.mode (Folds o)) (λ d. same_cell d.cell c && covers d.mode Reads) (λ d. same_cell d.cell c && folds_by o d.mode) uses
+    (λ d. one (same_cell d.cell c) d.mode) may none
   where
     one : (b : Bool) (m : Mode) → (b && covers m (Folds o)) ≡ true → (b && covers m Reads) ≡ false → (b && folds_by o m) ≡ true
     one true Writes h g = absurd (true≢false g)

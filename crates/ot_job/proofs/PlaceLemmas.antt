@@ -2,7 +2,7 @@
 use Rattle.std.proofs.Common.{◌≡◌, ℕ, Bool, true, false, not, ◌&&◌, ◌||◌, List, [], ◌∷◌, Option, refl, sym, subst, ◌∙◌, true≢false, zero, suc, ap, inl, inr, ⊎_elim, None, Some, slice_get, if◌then◌else◌}
 use Rattle.ot_job.proofs.Common.{E, Set, Fold, If, Task, Wait, Group, Body, End, Next, append, Cell, Operation, Use, Sibling, is_in, Declared, awaits, behind_one, IsFine, true_or, or_right, and_left, and_right, and_true, Open, opened, Kids, children_of, kids_behind, IsFineAt, false_from_ne_true, list_any, S, same_fold, Mode, Writes, is_unfinished, use_as, EachTouch, EachTask, allows, clashes, has_cell, opened_by_any, same_cell, ReductionMisuse, ConflictsWithChild, or_true, or_false_left, or_false_right, group_free, groups_inside, opened-none, same_is, clash_free, IsClean, todo, AwaitsAll, unawaited, Region, with_rest, inside, LetsAll, NamedOnce, IsPlaced, grouped_in}
 use Rattle.ot_check.specs.Discipline.{nothing_open, behind, through, AreFewer}
-use Rattle.ot_check.proofs.Cited.{fine-fewer, fine-append, through-append, is_offence-Group, conflicts_writes}
+use Rattle.ot_check.proofs.Cited.{any-more, fine-fewer, fine-append, through-append, is_offence-Group, conflicts_writes}
 use Rattle.ot_job.proofs.KeptLemmas.{todo-next}
 
 -- ---- how what is left stays fine, step by step
@@ -163,25 +163,20 @@ pub kid-none : (kids : List Sibling) (test : Sibling → Bool) (k : ℕ) (s : Si
 kid-none [] test k s free there alive = cc
 kid-none (x ∷ kids) test zero s free there alive =
     let here : x ≡ s = cc in
-    bits (is_unfinished s) (test s) (ap not alive) (subst (λ (y : Sibling). (is_unfinished y && test y) ≡ false) here (or_false_left (is_unfinished x && test x) (list_any (λ s. is_unfinished s && test s) kids) free))
-  where
-    bits : (u t : Bool) → u ≡ true → (u && t) ≡ false → t ≡ false
-    bits true t h g = g
-    bits false t h g = absurd (true≢false (sym h))
+    false_from_ne_true (test s) (λ e. true≢false (sym (and_true (is_unfinished s) (test s) (ap not alive) e)
+    ∙ subst (λ (y : Sibling). (is_unfinished y && test y) ≡ false) here (or_false_left (is_unfinished x && test x) (list_any (λ s. is_unfinished s && test s) kids) free)))
 kid-none (x ∷ kids) test (suc k) s free there alive = kid-none kids test k s (or_false_right (is_unfinished x && test x) (list_any (λ s. is_unfinished s && test s) kids) free) there alive
 
 -- a group names no cell that an unfinished child may use
 pub unused : (cs : List Cell) (kids : List Sibling) (k : ℕ) (s : Sibling) (c : Cell) → list_any (λ c. unawaited None kids (λ s. clashes (use_as Writes c) s.uses)) cs ≡ false
     → slice_get kids k ≡ Some s → s.finished ≡ false → has_cell cs c ≡ true
     → (m : Mode) → allows (Some s.uses) (use_as m c) ≡ false
-unused [] kids k s c free there alive named m = absurd (true≢false (sym named))
-unused (d ∷ cs) kids k s c free there alive named m =
-    elim (or_true (same_cell d c) (has_cell cs c) named) [
-      | inl here ↦
-          let none = kid-none kids (λ s. clashes (use_as Writes d) s.uses) k s (or_false_left (unawaited None kids (λ s. clashes (use_as Writes d) s.uses)) (list_any (λ c. unawaited None kids (λ s. clashes (use_as Writes c) s.uses)) cs) free) there alive in
-          false_from_ne_true (allows (Some s.uses) (use_as m c)) (λ may. conflicts_writes m (clash_free (use_as Writes d) (use_as m c) s.uses none may (same_is d c here)))
-      | inr later ↦ unused cs kids k s c (or_false_right (unawaited None kids (λ s. clashes (use_as Writes d) s.uses)) (list_any (λ c. unawaited None kids (λ s. clashes (use_as Writes c) s.uses)) cs) free) there alive later m
-    ]
+unused cs kids k s c free there alive named m =
+    let taken = λ (d : Cell). unawaited None kids (λ s. clashes (use_as Writes d) s.uses) in
+    let here : taken c ≡ false = false_from_ne_true (taken c) (λ yes.
+    true≢false (sym (any-more (λ d. same_cell d c) taken cs (λ d e. subst (λ x. taken x ≡ true) (sym (same_is d c e)) yes) named) ∙ free)) in
+    false_from_ne_true (allows (Some s.uses) (use_as m c)) (λ may.
+    conflicts_writes m (clash_free (use_as Writes c) (use_as m c) s.uses (kid-none kids (λ s. clashes (use_as Writes c) s.uses) k s here there alive) may refl))
 
 -- a group that is no offence names cells that the body may write, that no open group names, and that no child clashes with
 pub clean-group : (r : Region) (op : Operation) (cs : List Cell) (b : Body) → r.waiting ≡ None → IsClean r.own (opened r.groups) (children_of (unawaited r.waiting r.children)) (Group op cs b)

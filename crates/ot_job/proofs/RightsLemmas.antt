@@ -1,9 +1,9 @@
 -- Two pieces that are out hold nothing that conflicts.
 use Rattle.std.proofs.Common.{◌≡◌, ℕ, ◌<◌, Bool, true, false, refl, sym, ap, subst, ◌∙◌, ◌⊎◌, inl, inr, ⊎_elim, List, [], ◌∷◌, ◌&&◌, true≢false, arith, Some, ◌≢◌, suc, length, None, slice_get, if◌then◌else◌, IsTrue, Any}
-use Rattle.ot_job.proofs.Common.{Body, conflicts, Cell, Operation, Mode, Reads, Writes, Folds, Use, use_as, Declared, Openings, allows, covers, folds_by, folds_to, clashes, Children, IsHarmless, same_cell, Agree, ReductionMisuse, ConflictsWithChild, or_true, true_or, or_right, or_false_left, or_false_right, opened-none, clash_free, IsRight, NotDeclared, Set, Fold, If, End, Next, append, NamedIn, Precedes, AreInOrder, Conflict, mode_in, Sibling, IsFine, AreAssigns, not_false, harmless, harmless_if, same_is, Open, todo, opened, children_of, IsFineAt, unawaited, Kids, same_self, Region, Run, at, parent_of, parents, IsPlaced, IsSound, test_of, piece_touches, assign_touches, test_touches, RunsWell, assigns_out, whole, wholes}
+use Rattle.ot_job.proofs.Common.{Body, conflicts, Cell, Operation, Mode, Reads, Writes, Folds, Use, use_as, Declared, Openings, allows, covers, folds_by, folds_to, clashes, Children, IsHarmless, same_cell, Agree, ReductionMisuse, ConflictsWithChild, opened-none, clash_free, IsRight, NotDeclared, Set, Fold, If, End, Next, append, NamedIn, Precedes, AreInOrder, Conflict, mode_in, Sibling, IsFine, AreAssigns, not_false, harmless, harmless_if, same_is, Open, todo, opened, children_of, IsFineAt, unawaited, Kids, same_self, Region, Run, at, parent_of, parents, IsPlaced, IsSound, test_of, piece_touches, assign_touches, test_touches, RunsWell, assigns_out, whole, wholes}
 use Rattle.ot_check.proofs.Cited.{conflicts_folds}
 use Rattle.ot_model.proofs.OrderLemmas.{precedes_trans}
-use Rattle.ot_job.proofs.FoldLemmas.{turned, held-alike}
+use Rattle.ot_job.proofs.FoldLemmas.{turned, held-alike, any-but}
 use Rattle.ot_job.proofs.Order.{IsBefore, branch, Ordered, order, order-ordered}
 use Rattle.ot_job.proofs.Kept.{Sound, Uses, up_to, alive_up, begun_anc, In, Each-at}
 use Rattle.ot_job.proofs.KeptLemmas.{here, family_of}
@@ -18,14 +18,9 @@ Allowed own u = allows own u ≡ true
 
 -- a use that is declared as Writes or as Folds lets the body fold; nobody else does
 folds_or_clashes : (o : Operation) (c : Cell) (uses : List Use) → allows (Some uses) (use_as (Folds o) c) ≡ true → clashes (use_as (Folds o) c) uses ≡ false → folds_to (Some uses) o c ≡ true
-folds_or_clashes o c [] may free = may
-folds_or_clashes o c (d ∷ uses) may free =
-    elim (or_true (same_cell d.cell c && covers d.mode (Folds o)) (allows (Some uses) (use_as (Folds o) c)) may) [
-      | inl here ↦ true_or (same_cell d.cell c && folds_by o d.mode) (folds_to (Some uses) o c)
-          (one (same_cell d.cell c) d.mode here (or_false_left (same_cell d.cell c && conflicts d.mode (Folds o)) (clashes (use_as (Folds o) c) uses) free))
-      | inr later ↦ or_right (same_cell d.cell c && folds_by o d.mode) (folds_to (Some uses) o c)
-          (folds_or_clashes o c uses later (or_false_right (same_cell d.cell c && conflicts d.mode (Folds o)) (clashes (use_as (Folds o) c) uses) free))
-    ]
+folds_or_clashes o c uses may free =
+    any-but (λ d. same_cell d.cell c && covers d.mode (Folds o)) (λ d. same_cell d.cell c && conflicts d.mode (Folds o)) (λ d. same_cell d.cell c && folds_by o d.mode) uses
+    (λ d. one (same_cell d.cell c) d.mode) may free
   where
     one : (b : Bool) (m : Mode) → (b && covers m (Folds o)) ≡ true → (b && conflicts m (Folds o)) ≡ false → (b && folds_by o m) ≡ true
     one true (Folds p) h g = h
@@ -139,12 +134,9 @@ none-conflict us vs ou ov agree c =
 
 allowed-writes : (own : Declared) (o : Operation) (c : Cell) → allows own (use_as (Folds o) c) ≡ true → folds_to own o c ≡ false → allows own (use_as Writes c) ≡ true
 allowed-writes None o c may none = refl
-allowed-writes (Some []) o c may none = may
-allowed-writes (Some (d ∷ us)) o c may none =
-    elim (or_true (same_cell d.cell c && covers d.mode (Folds o)) (allows (Some us) (use_as (Folds o) c)) may) [
-      | inl h ↦ true_or (same_cell d.cell c && covers d.mode Writes) (allows (Some us) (use_as Writes c)) (one (same_cell d.cell c) d.mode h (or_false_left (same_cell d.cell c && folds_by o d.mode) (folds_to (Some us) o c) none))
-      | inr h ↦ or_right (same_cell d.cell c && covers d.mode Writes) (allows (Some us) (use_as Writes c)) (allowed-writes (Some us) o c h (or_false_right (same_cell d.cell c && folds_by o d.mode) (folds_to (Some us) o c) none))
-    ]
+allowed-writes (Some uses) o c may none =
+    any-but (λ d. same_cell d.cell c && covers d.mode (Folds o)) (λ d. same_cell d.cell c && folds_by o d.mode) (λ d. same_cell d.cell c && covers d.mode Writes) uses
+    (λ d. one (same_cell d.cell c) d.mode) may none
   where
     one : (b : Bool) (m : Mode) → (b && covers m (Folds o)) ≡ true → (b && folds_by o m) ≡ false → (b && covers m Writes) ≡ true
     one true (Folds p) h n = absurd (true≢false (sym h ∙ n))
