@@ -1,0 +1,40 @@
+-- What holds of the text that is written in C.
+use Rattle.std.specs.Prelude.{◌≡◌, ℕ, Bool, if◌then◌else◌, List, [], ◌∷◌, ◌++◌, length, replicate, Ok}
+use Rattle.ot_model.specs.declared.stmt.Use.{Use}
+use Rattle.ot_model.specs.Tree.{Body}
+use Rattle.ot_model.specs.Programs.{Expanded}
+use Rattle.ot_print.specs.Shown.{Text}
+use Rattle.ot_c.specs.Laws.{AreIdentifiers, ListsFit}
+use Rattle.ot_c.specs.Named.{body_calls}
+use Rattle.ot_c.specs.declared.named.Call.TheVariants as call
+use Rattle.ot_c.specs.Programs.{any_shown, whole}
+use Rattle.ot_c.specs.Statements.{body}
+use Rattle.ot_words.specs.Words.{Spoken, words_in}
+use Rattle.ot_cback.specs.Bodies.{body_words}
+use Rattle.ot_cfileback.specs.Functions.{Front, Includes, Lesser, Greater, Shown}
+use Rattle.ot_cfileback.specs.Files.{names_of, file_words}
+use Rattle.ot_ctextback.specs.Fits.{BodyFits, ShowsFit, LengthsFit}
+
+-- a text has these words, each of which begins somewhere
+abbrev pub HasWords : Text → List Spoken → Type 0
+HasWords text ws = (starts : List ℕ) × (length starts ≡ length ws) × (words_in text ≡ Ok (starts, ws))
+
+-- ---- bodies
+
+-- the text of a body, behind so many blanks on each line, has its words
+abbrev pub BodyTextHasWords : Type 0
+BodyTextHasWords = (names : List Text) → AreIdentifiers names → (blanks : ℕ) (own : List Use) (b : Body) → BodyFits names b → HasWords (body names (replicate blanks 32) own b) (body_words names own b)
+
+-- ---- whole programs
+
+abbrev pub front_if : Bool → Front → List Front
+front_if wanted f = if wanted then f ∷ [] else []
+
+-- what stands before `main`: three lines that include, and the functions that are called
+abbrev pub fronts : Expanded → List Front
+fronts p = Includes ∷ Includes ∷ Includes ∷ (front_if (body_calls call.Min p.body) Lesser ++ front_if (body_calls call.Max p.body) Greater ++ front_if (any_shown p.shows) Shown)
+
+-- the text of a program, from its first line to its last, has its words
+abbrev pub TextHasWords : Type 0
+TextHasWords = (arrays : List (Text × ℕ)) (numbers : List (List ℕ)) (p : Expanded) → AreIdentifiers (names_of arrays) → LengthsFit arrays → ListsFit numbers → BodyFits (names_of arrays) p.body → ShowsFit (names_of arrays) p.shows
+    → HasWords (whole arrays numbers p) (file_words (fronts p) arrays numbers p)
