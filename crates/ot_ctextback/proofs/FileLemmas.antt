@@ -21,7 +21,7 @@ use Rattle.ot_cfileback.specs.Files.{names_of, shown, parts, return_words, file_
 use Rattle.ot_ctextback.specs.Fits.{BodyFits, ProgramFits}
 use Rattle.ot_ctextback.specs.Laws.{fronts, HasWords}
 use Rattle.ot_ctextback.proofs.ReadingLemmas.{spelled, has_words}
-use Rattle.ot_ctextback.proofs.SpellingLemmas.{beside, said_as}
+use Rattle.ot_ctextback.proofs.SpellingLemmas.{beside, in_words}
 use Rattle.ot_ctextback.proofs.LiteralLemmas.{empty_line, return_end, is_margin}
 use Rattle.ot_ctextback.proofs.BlockLemmas.{block_spelled}
 use Rattle.ot_ctextback.proofs.BodyLemmas.{OnLines, body_spelled}
@@ -75,4 +75,4 @@ text_has_words arrays numbers p fits =
     let names = names_of arrays in
     let before = beside (beside (beside (front_spelled p) main_spelled) (arrays_spelled (codes "    ") arrays numbers p refl fits.names.each fits.lengths fits.lists)) region_spelled in
     let within = beside (beside (block_spelled (codes "    ") (body names (deeper (codes "    ")) [] p.body) (body_words names [] p.body) refl (body_spelled names fits.names.each (deeper (codes "    ")) [] p.body refl fits.body)) empty_line) (shows_spelled names fits.names.each (codes "    ") p.shows refl fits.shows) in
-    read_whole (whole arrays numbers p) (file_words (fronts p) arrays numbers p) (said_as refl (all_words_so (all_front_words (fronts p)) arrays numbers p) (beside (beside before within) return_end))
+    read_whole (whole arrays numbers p) (file_words (fronts p) arrays numbers p) (in_words (all_words_so (all_front_words (fronts p)) arrays numbers p) (beside (beside before within) return_end))
