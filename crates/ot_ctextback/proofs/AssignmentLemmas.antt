@@ -17,7 +17,7 @@ use Rattle.ot_cread.specs.declared.tree.Call.{Call}
 use Rattle.ot_cread.specs.declared.tree.Call.TheVariants as call
 use Rattle.ot_cback.specs.Values.{Fits, call_words, words}
 use Rattle.ot_cback.specs.Assignments.{target_name, target_place, place_words, assign_mark, set_words, fold_words}
-use Rattle.ot_ctextback.proofs.SpellingLemmas.{Spells, Leads, anything, joined, beside, said_as, leads_on, led}
+use Rattle.ot_ctextback.proofs.SpellingLemmas.{Spells, Leads, anything, joined, beside, in_words, leads_on, led}
 use Rattle.ot_ctextback.proofs.LiteralLemmas.{assign, comma, end_statement, end_call, zero_index, is_margin, margin_spelled}
 use Rattle.ot_ctextback.proofs.SignLemmas.{call_front, fold_sign_spelled, fold_call_spelled}
 use Rattle.ot_ctextback.proofs.NameLemmas.{AreNamed, identifier_spelled, identifier_leads, pointer_is}
@@ -72,7 +72,7 @@ module _ (names : List Text) (each : AreNamed names) where
   by_sign to place op e called target of =
       record {
         leads = leads_on (codes ";\n") (leads_on (value names e) (leads_on (fold_sign op) target.leads));
-        spells = said_as refl (words_so place (Marked (assign_mark op)) (words names e)) (joined (led (beside target.first (fold_sign_spelled op called).spells) of.leads of.spells) (λ rest fits. refl) end_statement);
+        spells = in_words (words_so place (Marked (assign_mark op)) (words names e)) (joined (led (beside target.first (fold_sign_spelled op called).spells) of.leads of.spells) (λ rest fits. refl) end_statement);
       }
     where
       words_so : (a : List Spoken) (x : Spoken) (b : List Spoken) → ((a ++ (x ∷ [])) ++ b) ++ (Marked m.Semicolon ∷ []) ≡ a ++ (x ∷ (b ++ (Marked m.Semicolon ∷ [])))
@@ -83,7 +83,7 @@ module _ (names : List Text) (each : AreNamed names) where
   by_call to place op f e front leads target of =
       record {
         leads = leads_on (codes ");\n") (leads_on (value names e) (leads_on (codes ", ") (leads_on to (leads_on (fold_sign op) (leads_on (codes " = ") target.leads)))));
-        spells = said_as refl (words_so f place (words names e)) (joined (led (beside (beside (led (beside target.first assign) leads front) target.within) comma) of.leads of.spells) (λ rest fits. refl) end_call);
+        spells = in_words (words_so f place (words names e)) (joined (led (beside (beside (led (beside target.first assign) leads front) target.within) comma) of.leads of.spells) (λ rest fits. refl) end_call);
       }
     where
       words_so : (f : Call) (a b : List Spoken)

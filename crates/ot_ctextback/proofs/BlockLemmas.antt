@@ -19,7 +19,7 @@ use Rattle.ot_words.specs.Words.{Spoken, Meant, Marked, Pragma, End}
 use Rattle.ot_cback.specs.Clauses.{Combines, clause_words, all_clause_words, clauses}
 use Rattle.ot_cback.specs.Groups.{block, headed, pointer_words, all_pointer_words, group_words}
 use Rattle.ot_ctextback.specs.Fits.{CellsFit}
-use Rattle.ot_ctextback.proofs.SpellingLemmas.{Spells, apart, anything, unspliced, joined, beside, anyway, nothing, said_as, led_by_mark}
+use Rattle.ot_ctextback.proofs.SpellingLemmas.{Spells, apart, anything, unspliced, joined, beside, anyway, nothing, in_words, led_by_mark}
 use Rattle.ot_ctextback.proofs.LiteralLemmas.{feed, open_block, close_block, end_statement, pointer_front, address, group_front, end_directive, is_margin, margin_spelled, deeper_margin}
 use Rattle.ot_ctextback.proofs.NameLemmas.{AreNamed, identifier_spelled, identifier_leads, pointer_is}
 use Rattle.ot_ctextback.proofs.ValueLemmas.{cell_spelled, cell_leads}
@@ -49,7 +49,7 @@ module _ (names : List Text) (each : AreNamed names) where
   pub headed_spelled : (margin words inside : Text) (k : Known) (us : List Use) (ws : List Spoken) → is_margin margin ≡ true → ((rest : Text) → unspliced (words ++ rest) ≡ true) → Spells line.Fresh apart line.Directive words (Pragma ∷ Meant k ∷ []) → UsesFit names us
       → Spells line.Fresh anything line.Fresh inside ws → Spells line.Fresh anything line.Fresh (directive names margin words us ++ c.block margin inside) (headed k (all_clause_words names (clauses us)) (block ws))
   headed_spelled margin words inside k us ws is plain front fit h =
-      said_as refl (ap (λ vs. Pragma ∷ Meant k ∷ vs) (append_assoc (all_clause_words names (clauses us)) (End ∷ []) (block ws)))
+      in_words (ap (λ vs. Pragma ∷ Meant k ∷ vs) (append_assoc (all_clause_words names (clauses us)) (End ∷ []) (block ws)))
       (beside (directive_spelled margin words k us is plain front fit) (block_spelled margin inside ws is h))
 
   -- ---- pointers
@@ -83,7 +83,7 @@ module _ (names : List Text) (each : AreNamed names) where
       → Spells line.Fresh anything line.Fresh (reduced names margin op cs) (all_pointer_words names op cs ++ (Pragma ∷ Meant means.Taskgroup ∷ (clause_words names (Combines op cs) ++ (End ∷ []))))
   reduced_spelled margin op cs is fit some =
       let them = task_reduction_spelled names each op cs fit some in
-      said_as refl (words_so (all_pointer_words names op cs) (clause_words names (Combines op cs)))
+      in_words (words_so (all_pointer_words names op cs) (clause_words names (Combines op cs)))
       (joined (joined (joined (beside (pointers_spelled margin op cs is fit) (margin_spelled margin is)) (λ rest fits. refl) group_front) (λ rest fits. them.stops rest fits) (anyway them.spells)) (λ rest fits. refl) end_directive)
     where
       words_so : (ps cs : List Spoken) → (((ps ++ []) ++ (Pragma ∷ Meant means.Taskgroup ∷ [])) ++ cs) ++ (End ∷ []) ≡ ps ++ (Pragma ∷ Meant means.Taskgroup ∷ (cs ++ (End ∷ [])))
@@ -95,7 +95,7 @@ module _ (names : List Text) (each : AreNamed names) where
       beside (joined (joined (margin_spelled margin is) (λ rest fits. refl) group_front) (λ rest fits. refl) end_directive) (block_spelled margin inside ws is h)
   group_spelled margin op (c ∷ cs) inside deep ws is fit h deeper_h =
       let further = deeper_margin margin is in
-      said_as refl (words_so (all_pointer_words names op (each_once (c ∷ cs))) (clause_words names (Combines op (each_once (c ∷ cs)))) ws)
+      in_words (words_so (all_pointer_words names op (each_once (c ∷ cs))) (clause_words names (Combines op (each_once (c ∷ cs)))) ws)
       (beside (beside (beside (open_line margin is) (reduced_spelled (deeper margin) op (each_once (c ∷ cs)) further (once_fit names (c ∷ cs) fit) (put_all_some (put [] c) cs (put_some [] c)))) (block_spelled (deeper margin) deep ws further deeper_h)) (close_line margin is))
     where
       words_so : (ps cs ws : List Spoken)

@@ -15,7 +15,7 @@ use Rattle.ot_words.specs.Words.{Spoken, Meant, Marked}
 use Rattle.ot_cback.specs.Values.{Fits, words}
 use Rattle.ot_cback.specs.Bodies.{otherwise_words, branch_words, waited, statement_words, body_words}
 use Rattle.ot_ctextback.specs.Fits.{StatementFits, BodyFits}
-use Rattle.ot_ctextback.proofs.SpellingLemmas.{Spells, anything, joined, beside, nothing, said_as}
+use Rattle.ot_ctextback.proofs.SpellingLemmas.{Spells, anything, joined, beside, nothing, in_words}
 use Rattle.ot_ctextback.proofs.LiteralLemmas.{feed, else_block, condition_front, condition_end, task_front, wait_front, end_directive, is_margin, margin_spelled, deeper_margin}
 use Rattle.ot_ctextback.proofs.NameLemmas.{AreNamed}
 use Rattle.ot_ctextback.proofs.ValueLemmas.{value_written}
@@ -54,7 +54,7 @@ module _ (names : List Text) (each : AreNamed names) where
     statement_spelled margin own (Fold op c e) is fits = fold_spelled names each margin own op c e is fits.0 fits.1
     statement_spelled margin own (If e a b) is fits =
         let deep = deeper_margin margin is in
-        said_as refl (branch_so b (words names e) (body_words names own a) (body_words names own b))
+        in_words (branch_so b (words names e) (body_words names own a) (body_words names own b))
         (beside (beside (beside (condition_spelled margin e is fits.0) (body_spelled (deeper margin) own a deep fits.1))
         (otherwise_spelled margin (body names (deeper margin) own b) b (body_words names own b) is (body_spelled (deeper margin) own b deep fits.2))) (close_line margin is))
     statement_spelled margin own (Task us b) is fits =

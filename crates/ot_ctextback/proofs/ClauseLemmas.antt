@@ -26,7 +26,7 @@ use Rattle.ot_cback.specs.Clauses as w
 use Rattle.ot_cback.specs.Clauses.{Clause, Direction, In, Out, Lists, Goes, Reduces, Combines, cell_item, pointer_item, operation_word, direction_word, clause_words, all_clause_words, closed, in_mode, over_long, folding, clauses}
 use Rattle.ot_ctextback.specs.Fits.{CellsFit}
 use Rattle.ot_ctextback.proofs.ReadingLemmas.{Reads, spelled}
-use Rattle.ot_ctextback.proofs.SpellingLemmas.{Spells, Leads, apart, anything, unspliced, joined, beside, nothing, said_as, led}
+use Rattle.ot_ctextback.proofs.SpellingLemmas.{Spells, Leads, apart, anything, unspliced, joined, beside, nothing, in_words, led}
 use Rattle.ot_ctextback.proofs.LiteralLemmas.{depend_front, iterator_front, colon, colon_blank, comma_blank, iterator_end, at_end, close_clause, pointed_part, in_word, out_word, in_reduction_front, task_reduction_front}
 use Rattle.ot_ctextback.proofs.WordLemmas.{decimal_leads}
 use Rattle.ot_ctextback.proofs.NameLemmas.{AreNamed, identifier_spelled, identifier_leads, pointer_is}
@@ -114,7 +114,7 @@ module _ (names : List Text) (each : AreNamed names) where
   further_spelled : (ss : List Section) → AreRows names ss → Spells line.Directive anything line.Directive (items names (codes ", ") ss) (w.further (map (cell_item names) (cells_of ss)))
   further_spelled [] are = nothing line.Directive anything
   further_spelled (s ∷ ss) are =
-      said_as refl (sym (ap w.further (map-append (cell_item names) (cells s.array s.start s.len) (cells_of ss)) ∙ further_append (map (cell_item names) (cells s.array s.start s.len)) (map (cell_item names) (cells_of ss))))
+      in_words (sym (ap w.further (map-append (cell_item names) (cells s.array s.start s.len) (cells_of ss)) ∙ further_append (map (cell_item names) (cells s.array s.start s.len)) (map (cell_item names) (cells_of ss))))
       (beside (row_spelled s.array s.start s.len (are.0).within (omega (arith, (are.0).start, (are.0).len))) (further_spelled ss are.1))
 
   first_row : (a i n : ℕ) (ss : List Section) → a < length names → 0 < n → i + n < 2 ^ 63 → AreRows names ss
@@ -122,7 +122,7 @@ module _ (names : List Text) (each : AreNamed names) where
   first_row a i zero ss within some small are = absurd (omega (arith, some))
   first_row a i (suc n) ss within some small are =
       let c : Cell = record { array = a; index = i } in
-      said_as refl
+      in_words
       (ap (λ ws. Marked m.Colon ∷ (cell_item names c ++ ws)) (sym (ap w.further (map-append (cell_item names) (cells a (i + 1) n) (cells_of ss)) ∙ further_append (map (cell_item names) (cells a (i + 1) n)) (map (cell_item names) (cells_of ss)))))
       (beside (beside (led colon_blank (cell_leads names each c within) (item_spelled a i within (omega (arith, small)))) (row_spelled a (i + 1) n within (omega (arith, small)))) (further_spelled ss are))
 
@@ -198,7 +198,7 @@ module _ (names : List Text) (each : AreNamed names) where
   reduction_spelled : (opened : Text) (ws : List Spoken) (op : Operation) (c : Cell) (cs : List Cell) → Spells line.Directive anything line.Directive opened ws → CellsFit names (c ∷ cs)
       → Spells line.Directive anything line.Directive (reduction names opened op (c ∷ cs)) (ws ++ (operation_word op ∷ Marked m.Colon ∷ closed (map (pointer_item names op) (c ∷ cs))))
   reduction_spelled opened ws op c cs front fit =
-      said_as refl (words_so ws (operation_word op) (Marked m.Colon ∷ (pointer_item names op c ++ w.further (map (pointer_item names op) cs))))
+      in_words (words_so ws (operation_word op) (Marked m.Colon ∷ (pointer_item names op c ++ w.further (map (pointer_item names op) cs))))
       (beside (joined (beside front (operation_spelled op)) (λ rest fits. refl)
       (beside (joined (led colon_blank (pointer_leads op c fit.0) (pointer_spelled op c fit.0)) (λ rest fits. refl) pointed_part) (pointed_spelled op cs fit.1)))
       close_clause)

@@ -6,7 +6,7 @@ use Rattle.ot_model.specs.declared.stmt.Use.{Use}
 use Rattle.ot_model.specs.Tree.{Body}
 use Rattle.ot_model.specs.Programs.{Expanded}
 use Rattle.ot_print.specs.Shown.{Text}
-use Rattle.ot_c.specs.Laws.{AreIdentifiers, ListsFit}
+use Rattle.ot_c.specs.Laws.{AreIdentifiers}
 use Rattle.ot_c.specs.Programs.{declared_from, whole}
 use Rattle.ot_c.specs.Statements.{deeper, body}
 use Rattle.ot_words.specs.declared.known.Known.TheVariants as means
@@ -18,10 +18,10 @@ use Rattle.ot_cback.specs.Groups.{block}
 use Rattle.ot_cfileback.specs.Functions.{all_front_words}
 use Rattle.ot_cfileback.specs.Parts.{Part, Declares, Runs, Marks, mark_words, part_words, all_part_words}
 use Rattle.ot_cfileback.specs.Files.{names_of, shown, parts, return_words, file_words}
-use Rattle.ot_ctextback.specs.Fits.{BodyFits, ShowsFit, LengthsFit}
+use Rattle.ot_ctextback.specs.Fits.{BodyFits, ProgramFits}
 use Rattle.ot_ctextback.specs.Laws.{fronts, HasWords}
 use Rattle.ot_ctextback.proofs.ReadingLemmas.{spelled, has_words}
-use Rattle.ot_ctextback.proofs.SpellingLemmas.{beside, said_as}
+use Rattle.ot_ctextback.proofs.SpellingLemmas.{beside, in_words}
 use Rattle.ot_ctextback.proofs.LiteralLemmas.{empty_line, return_end, is_margin}
 use Rattle.ot_ctextback.proofs.BlockLemmas.{block_spelled}
 use Rattle.ot_ctextback.proofs.BodyLemmas.{OnLines, body_spelled}
@@ -68,11 +68,11 @@ all_words_so fs arrays numbers p =
     ∙ ap (λ ws. fs ++ (main_front ++ ((all_part_words names ds ++ ((region_words ++ block (body_words names [] p.body)) ++ (mark_words ++ ws))) ++ return_words))) (sym (parts_append names (shown p.shows) (Marks ∷ [])))
     ∙ ap (λ ws. fs ++ (main_front ++ (ws ++ return_words))) (sym (parts_append names ds behind))
 
-pub text_has_words : (arrays : List (Text × ℕ)) (numbers : List (List ℕ)) (p : Expanded) → AreIdentifiers (names_of arrays) → LengthsFit arrays → ListsFit numbers → BodyFits (names_of arrays) p.body → ShowsFit (names_of arrays) p.shows
+pub text_has_words : (arrays : List (Text × ℕ)) (numbers : List (List ℕ)) (p : Expanded) → ProgramFits arrays numbers p
     → HasWords (whole arrays numbers p) (file_words (fronts p) arrays numbers p)
 unfolding main_front region_words
-text_has_words arrays numbers p are lens lists fits shown_fit =
+text_has_words arrays numbers p fits =
     let names = names_of arrays in
-    let before = beside (beside (beside (front_spelled p) main_spelled) (arrays_spelled (codes "    ") arrays numbers p refl are.each lens lists)) region_spelled in
-    let within = beside (beside (block_spelled (codes "    ") (body names (deeper (codes "    ")) [] p.body) (body_words names [] p.body) refl (body_spelled names are.each (deeper (codes "    ")) [] p.body refl fits)) empty_line) (shows_spelled names are.each (codes "    ") p.shows refl shown_fit) in
-    read_whole (whole arrays numbers p) (file_words (fronts p) arrays numbers p) (said_as refl (all_words_so (all_front_words (fronts p)) arrays numbers p) (beside (beside before within) return_end))
+    let before = beside (beside (beside (front_spelled p) main_spelled) (arrays_spelled (codes "    ") arrays numbers p refl fits.names.each fits.lengths fits.lists)) region_spelled in
+    let within = beside (beside (block_spelled (codes "    ") (body names (deeper (codes "    ")) [] p.body) (body_words names [] p.body) refl (body_spelled names fits.names.each (deeper (codes "    ")) [] p.body refl fits.body)) empty_line) (shows_spelled names fits.names.each (codes "    ") p.shows refl fits.shows) in
+    read_whole (whole arrays numbers p) (file_words (fronts p) arrays numbers p) (in_words (all_words_so (all_front_words (fronts p)) arrays numbers p) (beside (beside before within) return_end))

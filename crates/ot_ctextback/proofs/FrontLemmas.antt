@@ -19,7 +19,7 @@ use Rattle.ot_words.specs.Words.{Meant, Marked, Include, Pragma, End, spoken, be
 use Rattle.ot_cfileback.specs.Functions.{Front, Lesser, Greater, Shown, front_words, all_front_words}
 use Rattle.ot_ctextback.specs.Laws.{front_if, fronts}
 use Rattle.ot_ctextback.proofs.ReadingLemmas.{spelled}
-use Rattle.ot_ctextback.proofs.SpellingLemmas.{anything, beside, nothing, said_as}
+use Rattle.ot_ctextback.proofs.SpellingLemmas.{anything, beside, nothing, in_words}
 use Rattle.ot_ctextback.proofs.BodyLemmas.{OnLines}
 
 head_spelled : OnLines head (Include ∷ End ∷ Include ∷ End ∷ Include ∷ End ∷ [])
@@ -49,7 +49,7 @@ region_spelled = record { read = λ rest vs fits h. rw h refl }
 -- ---- functions that are called
 
 function_spelled : (wanted : Bool) (text : Text) (f : Front) → OnLines text (front_words f) → OnLines (words_if wanted text) (all_front_words (front_if wanted f))
-function_spelled true text f h = said_as refl (sym (append-nil (front_words f))) h
+function_spelled true text f h = in_words (sym (append-nil (front_words f))) h
 function_spelled false text f h = nothing line.Fresh anything
 
 all_fronts_append : (fs gs : List Front) → all_front_words (fs ++ gs) ≡ all_front_words fs ++ all_front_words gs
@@ -57,7 +57,7 @@ all_fronts_append [] gs = refl
 all_fronts_append (f ∷ fs) gs = ap (λ ws. front_words f ++ ws) (all_fronts_append fs gs) ∙ sym (append_assoc (front_words f) (all_front_words fs) (all_front_words gs))
 
 both_functions : {t u : Text} (fs gs : List Front) → OnLines t (all_front_words fs) → OnLines u (all_front_words gs) → OnLines (t ++ u) (all_front_words (fs ++ gs))
-both_functions fs gs first second = said_as refl (sym (all_fronts_append fs gs)) (beside first second)
+both_functions fs gs first second = in_words (sym (all_fronts_append fs gs)) (beside first second)
 
 pub front_spelled : (p : Expanded) → OnLines (head ++ functions p) (all_front_words (fronts p))
 front_spelled p =

@@ -13,3 +13,4 @@ mod BodyLemmas
 mod PartLemmas
 mod FrontLemmas
 pub mod FileLemmas
+pub mod NumberLemmas

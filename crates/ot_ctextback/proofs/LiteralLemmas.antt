@@ -17,7 +17,8 @@ use Rattle.ot_words.specs.Numbers.{suffix_of, value_of, type_of, in_base, number
 use Rattle.ot_words.specs.Words.{Spoken, Number, Meant, Quoted, Marked, Pragma, End, spoken, behind, named}
 use Rattle.ot_ctextback.proofs.ReadingLemmas.{Reads, spelled}
 use Rattle.ot_ctextback.proofs.SpellingLemmas.{Spells, anything, apart, unspliced, begins, apart_unspliced}
-use Rattle.ot_ctextback.proofs.WordLemmas.{and_true, word_behind, stops}
+use Rattle.ot_print.proofs.WordLemmas.{and_true}
+use Rattle.ot_ctextback.proofs.WordLemmas.{word_behind, stops}
 
 -- ---- on whatever line
 

@@ -15,7 +15,8 @@ use Rattle.ot_words.specs.Names.{is_letter, in_name}
 use Rattle.ot_words.specs.declared.piece.Line.{Line}
 use Rattle.ot_words.specs.Words.{named}
 use Rattle.ot_ctextback.proofs.SpellingLemmas.{Spells, Leads, apart}
-use Rattle.ot_ctextback.proofs.WordLemmas.{and_true, word_behind, letter_in_front, letter_leads, name_spelled}
+use Rattle.ot_print.proofs.WordLemmas.{and_true}
+use Rattle.ot_ctextback.proofs.WordLemmas.{word_behind, letter_in_front, letter_leads, name_spelled}
 
 name_byte : (b : ℕ) → in_identifier b ≡ true → in_name b ≡ true
 name_byte b h = grind (arith, nat_tests)

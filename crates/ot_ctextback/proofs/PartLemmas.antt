@@ -19,11 +19,11 @@ use Rattle.ot_cfileback.specs.Parts as w
 use Rattle.ot_cfileback.specs.Parts.{Part, Declares, Runs, Marks, Shows, initial_words, declaration_words, mark_words, show_words, all_part_words}
 use Rattle.ot_cfileback.specs.Files.{names_of, shown, shown_behind}
 use Rattle.ot_ctextback.specs.Fits.{LengthsFit, ShowsFit}
-use Rattle.ot_ctextback.proofs.SpellingLemmas.{Spells, apart, anything, joined, beside, nothing, said_as, leads_on, led, led_by_mark}
-use Rattle.ot_ctextback.proofs.LiteralLemmas.{open_index, close_index, comma, feed, empty_line, end_statement, end_call, static_front, initial_front, initial_end, print_open, print_comma, print_close, show_front, is_margin, margin_spelled}
+use Rattle.ot_ctextback.proofs.SpellingLemmas.{Spells, apart, anything, joined, beside, nothing, in_words, leads_on, led, led_by_mark}
+use Rattle.ot_ctextback.proofs.LiteralLemmas.{comma, feed, empty_line, end_statement, end_call, static_front, initial_front, initial_end, print_open, print_comma, print_close, show_front, is_margin, margin_spelled}
 use Rattle.ot_ctextback.proofs.WordLemmas.{decimal_leads}
-use Rattle.ot_ctextback.proofs.NameLemmas.{AreNamed, identifier_spelled, identifier_leads}
-use Rattle.ot_ctextback.proofs.ValueLemmas.{place_spelled, constant_spelled, cell_spelled, cell_leads}
+use Rattle.ot_ctextback.proofs.NameLemmas.{AreNamed, identifier_leads}
+use Rattle.ot_ctextback.proofs.ValueLemmas.{place_spelled, constant_spelled, indexed_spelled, cell_spelled, cell_leads}
 use Rattle.ot_ctextback.proofs.BodyLemmas.{OnLines}
 
 -- ---- numbers that an array begins with
@@ -55,8 +55,7 @@ initial_spelled (n ∷ ns) fit = joined (joined (beside initial_front (constant_
 -- ---- arrays
 
 sized_spelled : (word : Text) (len : ℕ) → is_identifier word ≡ true → len < 2 ^ 63 → Spells line.Inside anything line.Inside (sized word len) (place_words word len)
-sized_spelled word len is small =
-    joined (beside (joined (identifier_spelled line.Inside line.Inside word refl is) (λ rest fits. refl) (open_index line.Inside line.Inside refl)) (place_spelled line.Inside line.Inside len refl small)) (λ rest fits. refl) (close_index line.Inside line.Inside refl)
+sized_spelled word len is small = indexed_spelled line.Inside line.Inside word len refl is small
 
 -- it has a name, its length is one that a `long` holds, and its numbers fit
 record IsDeclared (d : Declared) : Type 0 where
@@ -82,7 +81,7 @@ line_if true = empty_line
 line_if false = nothing line.Fresh anything
 
 declarations_spelled : (names : List Text) (margin : Text) (ds : List Declared) → is_margin margin ≡ true → AreDeclared ds → OnLines (declarations margin ds) (all_part_words names (map Declares ds))
-declarations_spelled names margin ds is h = said_as refl (append-nil (all_part_words names (map Declares ds))) (beside (each_spelled names margin ds is h) (line_if (any_declared ds)))
+declarations_spelled names margin ds is h = in_words (append-nil (all_part_words names (map Declares ds))) (beside (each_spelled names margin ds is h) (line_if (any_declared ds)))
 
 -- each array's name is one
 abbrev AreIdentified : List (Text × ℕ) → Type 0

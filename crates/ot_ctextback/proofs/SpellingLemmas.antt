@@ -53,8 +53,12 @@ anyway first = record { read = λ rest more fits h. first.read rest more refl h 
 pub nothing : (on : Line) (q : Text → Bool) → Spells on q on [] []
 nothing on q = record { read = λ rest more fits h. h }
 
-pub said_as : {on next : Line} {q : Text → Bool} {t u : Text} {ws vs : List Spoken} → t ≡ u → ws ≡ vs → Spells on q next t ws → Spells on q next u vs
-said_as {on = on} {next = next} {q = q} {u = u} {ws = ws} texts words h = subst (λ (v : List Spoken). Spells on q next u v) words (subst (λ (v : Text). Spells on q next v ws) texts h)
+-- of words, or of a text, that are the same
+pub in_words : {on next : Line} {q : Text → Bool} {t : Text} {ws vs : List Spoken} → ws ≡ vs → Spells on q next t ws → Spells on q next t vs
+in_words {on = on} {next = next} {q = q} {t = t} same h = subst (λ (v : List Spoken). Spells on q next t v) same h
+
+pub in_text : {on next : Line} {q : Text → Bool} {t u : Text} {ws : List Spoken} → t ≡ u → Spells on q next t ws → Spells on q next u ws
+in_text {on = on} {next = next} {q = q} {ws = ws} same h = subst (λ (v : Text). Spells on q next v ws) same h
 
 -- ---- bytes
 

@@ -9,6 +9,7 @@ use Rattle.ot_model.specs.declared.expr.Op.{Op}
 use Rattle.ot_model.specs.Tree.{E, Literal, CellAt, Apply, PickFrom}
 use Rattle.ot_model.specs.Signs.{is_call, sign}
 use Rattle.ot_print.specs.Shown.{Text, name, cell, is_nested}
+use Rattle.ot_c.specs.Laws.{is_identifier}
 use Rattle.ot_c.specs.Values as c
 use Rattle.ot_c.specs.Values.{is_int, is_number}
 use Rattle.ot_words.specs.declared.known.Known.TheVariants as means
@@ -19,13 +20,13 @@ use Rattle.ot_words.specs.declared.word.IntegerType.TheVariants as t
 use Rattle.ot_words.specs.declared.number.Base.TheVariants as base
 use Rattle.ot_words.specs.declared.number.Suffix.TheVariants as s
 use Rattle.ot_words.specs.Numbers.{suffix_of, type_of}
-use Rattle.ot_words.specs.Words.{Spoken, Number, Meant, Marked}
+use Rattle.ot_words.specs.Words.{Spoken, Number, Meant, Marked, named}
 use Rattle.ot_cread.specs.declared.tree.Call.{Call}
 use Rattle.ot_cread.specs.declared.tree.Call.TheVariants as call
 use Rattle.ot_cread.specs.Spelling.{sign_mark}
 use Rattle.ot_cback.specs.Values as w
 use Rattle.ot_cback.specs.Values.{Fits, constant, constant_type, indexed}
-use Rattle.ot_ctextback.proofs.SpellingLemmas.{Spells, Leads, apart, anything, unspliced, joined, beside, anyway, nothing, said_as, leads_on, led}
+use Rattle.ot_ctextback.proofs.SpellingLemmas.{Spells, Leads, apart, anything, unspliced, joined, beside, anyway, nothing, in_words, in_text, leads_on, led}
 use Rattle.ot_ctextback.proofs.WordLemmas.{word_behind, behind_again, number_spelled, decimal_leads}
 use Rattle.ot_ctextback.proofs.LiteralLemmas.{open_index, close_index, open_bracket, close_bracket, cast_front, comma, plus, remainder}
 use Rattle.ot_ctextback.proofs.SignLemmas.{IsCalled, call_front, sign_spelled, call_spelled}
@@ -50,7 +51,7 @@ typed n small = rw (long n small, low n small) (either (nat_lt n 2147483648))
 -- a number that a `long` holds
 pub place_spelled : (on next : Line) (n : ℕ) → word_behind on ≡ next → n < 2 ^ 63 → Spells on apart next (decimal n) (constant n ∷ [])
 unfolding suffix_of
-place_spelled on next n goes small = said_as (append-nil (decimal n)) refl (number_spelled on next n [] s.Plain (constant_type n) goes (omega (arith, small)) refl refl refl (typed n small))
+place_spelled on next n goes small = in_text (append-nil (decimal n)) (number_spelled on next n [] s.Plain (constant_type n) goes (omega (arith, small)) refl refl refl (typed n small))
 
 long_spelled : (on next : Line) (n : ℕ) → word_behind on ≡ next → n < 2 ^ 64 → Spells on apart next (decimal n ++ codes "ULL") (Number n t.UnsignedLong ∷ [])
 unfolding suffix_of type_of
@@ -69,8 +70,14 @@ constant_spelled on next n goes small = by (nat_lt 9223372036854775807 n) refl
     low n is = grind (arith, nat_tests)
 
     by : (large : Bool) → nat_lt 9223372036854775807 n ≡ large → Spells on apart next (c.constant n) (constant n ∷ [])
-    by true is = said_as (ap (λ b. decimal n ++ (if b then codes "ULL" else [])) (sym is)) (ap (λ b. Number n (if b then t.UnsignedLong else if nat_lt n 2147483648 then t.Int else t.Long) ∷ []) (sym is)) (long_spelled on next n goes small)
-    by false is = said_as (sym (ap (λ u. decimal n ++ u) (no_suffix (low n is)) ∙ append-nil (decimal n))) refl (place_spelled on next n goes (low n is))
+    by true is = in_text (ap (λ b. decimal n ++ (if b then codes "ULL" else [])) (sym is)) (in_words (ap (λ b. Number n (if b then t.UnsignedLong else if nat_lt n 2147483648 then t.Int else t.Long) ∷ []) (sym is)) (long_spelled on next n goes small))
+    by false is = in_text (sym (ap (λ u. decimal n ++ u) (no_suffix (low n is)) ∙ append-nil (decimal n))) (place_spelled on next n goes (low n is))
+
+-- a name and a place
+pub indexed_spelled : (on next : Line) (word : Text) (i : ℕ) → word_behind on ≡ next → is_identifier word ≡ true → i < 2 ^ 63 → Spells on anything next (word ++ codes "[" ++ decimal i ++ codes "]") (indexed (named word) (constant i ∷ []))
+indexed_spelled on next word i goes is small =
+    let again = behind_again on next goes in
+    joined (beside (joined (identifier_spelled on next word goes is) (λ rest fits. refl) (open_index next next again)) (place_spelled next next i again small)) (λ rest fits. refl) (close_index next next again)
 
 -- ---- values
 
@@ -119,9 +126,7 @@ first_spelled start small = by (start == 0)
 
 module _ (names : List Text) (each : AreNamed names) where
   pub cell_spelled : (on next : Line) (c : Cell) → word_behind on ≡ next → c.array < length names → c.index < 2 ^ 63 → Spells on anything next (cell names c) (indexed (w.array names c.array) (constant c.index ∷ []))
-  cell_spelled on next c goes within small =
-      let again = behind_again on next goes in
-      joined (beside (joined (identifier_spelled on next (name names c.array) goes (each c.array within)) (λ rest fits. refl) (open_index next next again)) (place_spelled next next c.index again small)) (λ rest fits. refl) (close_index next next again)
+  cell_spelled on next c goes within small = indexed_spelled on next (name names c.array) c.index goes (each c.array within) small
 
   pub array_leads : (i : ℕ) → i < length names → Leads (name names i)
   array_leads i within = identifier_leads (name names i) (each i within)
@@ -144,7 +149,7 @@ module _ (names : List Text) (each : AreNamed names) where
       let right = operand_written b (c.value names b) (w.words names b) y in
       rw (is, sign_is.form) (record {
         leads = leads_on (c.as_operand b (c.value names b)) (leads_on (sign op) left.leads);
-        spells = said_as refl (append_assoc (w.as_left a b (w.words names a)) (Marked (sign_mark sign_is.by) ∷ []) (w.as_operand b (w.words names b))) (led (joined left.spells (λ rest fits. sign_is.stops rest) sign_is.spells) right.leads right.spells);
+        spells = in_words (append_assoc (w.as_left a b (w.words names a)) (Marked (sign_mark sign_is.by) ∷ []) (w.as_operand b (w.words names b))) (led (joined left.spells (λ rest fits. sign_is.stops rest) sign_is.spells) right.leads right.spells);
       })
 
   before : (op : Op) (a b : E) → is_call op ≡ true → IsWritten (c.value names a) (w.words names a) → IsWritten (c.value names b) (w.words names b) → IsWritten (c.value names (Apply op a b)) (w.words names (Apply op a b))
@@ -155,8 +160,8 @@ module _ (names : List Text) (each : AreNamed names) where
 
       by : (f : Call) → Spells line.Inside anything line.Inside (sign op) (call_front f)
           → Spells line.Inside apart line.Inside (sign op ++ c.value names a ++ codes ", " ++ c.value names b ++ codes ")") (w.call_words f (w.words names a) (w.words names b))
-      by call.Min front = said_as refl (words_so (Meant means.Min) (w.words names a) (w.words names b)) (anyway (joined (led (joined (beside front x.spells) (λ rest fits. refl) comma) y.leads y.spells) (λ rest fits. refl) close_bracket))
-      by call.Max front = said_as refl (words_so (Meant means.Max) (w.words names a) (w.words names b)) (anyway (joined (led (joined (beside front x.spells) (λ rest fits. refl) comma) y.leads y.spells) (λ rest fits. refl) close_bracket))
+      by call.Min front = in_words (words_so (Meant means.Min) (w.words names a) (w.words names b)) (anyway (joined (led (joined (beside front x.spells) (λ rest fits. refl) comma) y.leads y.spells) (λ rest fits. refl) close_bracket))
+      by call.Max front = in_words (words_so (Meant means.Max) (w.words names a) (w.words names b)) (anyway (joined (led (joined (beside front x.spells) (λ rest fits. refl) comma) y.leads y.spells) (λ rest fits. refl) close_bracket))
 
       called : (h : IsCalled op) → IsWritten (sign op ++ c.value names a ++ codes ", " ++ c.value names b ++ codes ")") (w.call_words h.by (w.words names a) (w.words names b))
       called h = record { leads = leads_on (codes ")") (leads_on (c.value names b) (leads_on (codes ", ") (leads_on (c.value names a) h.leads))); spells = by h.by h.spells }
@@ -170,7 +175,7 @@ module _ (names : List Text) (each : AreNamed names) where
       let place = place_spelled line.Inside line.Inside x.len refl len in
       record {
         leads = leads_on (codes "]") (leads_on (decimal x.len) (leads_on (codes " % ") (leads_on (c.as_operand e (c.value names e)) (leads_on (c.first_of x.start) (leads_on (codes "[") (array_leads x.array within))))));
-        spells = said_as refl (words_so (w.array names x.array) (first_words x.start) (w.as_operand e (w.words names e)) (constant x.len))
+        spells = in_words (words_so (w.array names x.array) (first_words x.start) (w.as_operand e (w.words names e)) (constant x.len))
             (anyway (joined (led (joined (led (beside (joined array (λ rest fits. refl) (open_index line.Inside line.Inside refl)) (first_spelled x.start start)) side.leads side.spells) (λ rest fits. refl) remainder) (decimal_leads x.len (omega (arith, len))) place)
             (λ rest fits. refl) (close_index line.Inside line.Inside refl)));
       }

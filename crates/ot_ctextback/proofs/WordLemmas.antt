@@ -1,10 +1,11 @@
 -- Names and numbers are read whole.
-use Rattle.std.proofs.Common.{◌≡◌, ℕ, zero, suc, ◌+◌, ◌*◌, ◌/◌, ◌%◌, ◌<◌, ◌≤◌, ◌^◌, ◌==◌, [], ◌∷◌, ◌++◌, length, drop, get_or, Bool, true, false, not, ◌&&◌, ◌||◌, Some, Ok, refl, sym, ap, ◌∙◌, subst, arith, true≢false}
+use Rattle.std.proofs.Common.{◌≡◌, ℕ, zero, suc, ◌+◌, ◌*◌, ◌/◌, ◌%◌, ◌<◌, ◌≤◌, ◌^◌, ◌==◌, [], ◌∷◌, ◌++◌, length, get_or, Bool, true, false, not, ◌&&◌, ◌||◌, Some, Ok, refl, sym, ap, ◌∙◌, subst, arith, true≢false}
 use Rattle.std.specs.Prelude.{decimal, nat_lt, if◌then◌else◌}
 use Rattle.std.specs.List.{prefix_len, list_all}
 use Rattle.std.proofs.lemmas.Bool.Decides.{nat_tests}
 use Rattle.std.proofs.lemmas.Fmt.{decimal_by_steps, decimal_digit, first_decimal}
-use Rattle.std.proofs.Math.Seq.{take-append_seam}
+use Rattle.std.proofs.Math.Seq.{take-append_seam, drop-append_seam}
+use Rattle.ot_print.proofs.WordLemmas.{and_true}
 use Rattle.ot_words.specs.Tables.{Text}
 use Rattle.ot_words.specs.Names.{is_letter, is_digit, in_name}
 use Rattle.ot_words.specs.Spans.{name_len}
@@ -21,10 +22,6 @@ use Rattle.ot_ctextback.proofs.ReadingLemmas.{piece_read}
 use Rattle.ot_ctextback.proofs.SpellingLemmas.{Spells, Leads, apart, begins}
 
 -- ---- how far a name goes
-
-pub and_true : (a b : Bool) → (a && b) ≡ true → (a ≡ true) × (b ≡ true)
-and_true true b h = (refl, h)
-and_true false b h = absurd (true≢false (sym h))
 
 and_false : (t : Bool) → (t && false) ≡ false
 and_false true = refl
@@ -178,10 +175,6 @@ nonempty : (ds : Text) → plain ds ≡ true → (length ds == 0) ≡ false
 nonempty [] h = absurd (true≢false (sym h))
 nonempty (c ∷ ds) h = grind (arith, nat_tests)
 
-behind_length : (ds u : Text) → drop (length ds) (ds ++ u) ≡ u
-behind_length [] u = refl
-behind_length (d ∷ ds) u = behind_length ds u
-
 value_written : (n : ℕ) (ds : Text) → n < 2 ^ 64 → value_behind base.Decimal 0 ds ≡ n → value_of base.Decimal ds ≡ Some n
 unfolding value_of
 value_written n ds small is = rw (is, below n small) refl
@@ -194,7 +187,7 @@ number_written : (n : ℕ) (ds u : Text) (suffix : Suffix) (kind : IntegerType) 
 unfolding in_base
 number_written n ds u suffix kind small is first end suffixed typed =
     in_decimal ds u first end
-    ∙ rw (figures_whole ds u is.digits end, nonempty ds first, take-append_seam ds u, behind_length ds u, suffixed, value_written n ds small is.value, typed) refl
+    ∙ rw (figures_whole ds u is.digits end, nonempty ds first, take-append_seam ds u, drop-append_seam ds u, suffixed, value_written n ds small is.value, typed) refl
 
 digit_in_front : (ds u : Text) → list_all is_digit ds ≡ true → plain ds ≡ true → digit_leads (ds ++ u) ≡ true
 digit_in_front [] u all h = absurd (true≢false (sym h))

@@ -3,15 +3,18 @@ use Rattle.std.specs.Prelude.{ℕ, ◌<◌, ◌^◌, List, [], ◌∷◌, length
 use Rattle.ot_model.specs.declared.expr.Cell.{Cell}
 use Rattle.ot_model.specs.declared.expr.Section.{Section}
 use Rattle.ot_model.specs.Tree.{S, Set, Fold, If, Task, Wait, Group, Body, End, Next, CellAt}
+use Rattle.ot_model.specs.Programs.{Expanded}
 use Rattle.ot_print.specs.Shown.{Text}
-use Rattle.ot_c.specs.Laws.{UsesFit}
+use Rattle.ot_c.specs.Laws.{AreIdentifiers, UsesFit, ListsFit}
 use Rattle.ot_cback.specs.Values.{Fits}
+use Rattle.ot_cfileback.specs.Files.{names_of}
 
 -- each cell's array has a name, and its place fits 32 bits
 abbrev pub CellsFit : List Text → List Cell → Type 0
 CellsFit names [] = Unit {0}
 CellsFit names (c ∷ cs) = ((c.array < length names) × (c.index < 2 ^ 32)) × CellsFit names cs
 
+-- values have numbers that fit, and cells that are declared do
 abbrev mutual
   pub StatementFits : List Text → S → Type 0
   StatementFits names (Set c e) = Fits names (CellAt c) × Fits names e
@@ -35,3 +38,11 @@ ShowsFit names (s ∷ ss) = ((s.array < length names) × (s.start < 2 ^ 63) × (
 abbrev pub LengthsFit : List (Text × ℕ) → Type 0
 LengthsFit [] = Unit {0}
 LengthsFit (a ∷ arrays) = (a.1 < 2 ^ 63) × LengthsFit arrays
+
+-- numbers that arrays begin with have 64 bits, and names are identifiers that are free
+pub record ProgramFits (arrays : List (Text × ℕ)) (numbers : List (List ℕ)) (p : Expanded) : Type 0 where
+  pub names : AreIdentifiers (names_of arrays)
+  pub lengths : LengthsFit arrays
+  pub lists : ListsFit numbers
+  pub body : BodyFits (names_of arrays) p.body
+  pub shows : ShowsFit (names_of arrays) p.shows
