@@ -36,9 +36,15 @@ const WAYS: &str =
 [["if",["c","x",0],[["task",[["out",["x",0,1]]],[["set",["c","x",0],5]]]],[]],["group","+",[["x",0,1]],[["task",[["red","+",["x",0,1]]],[["fold","+",["c","x",0],1]]]]]]|6 x 3
 "#;
 
-/// More ways than are judged, and more statements on them.
+/// More ways than are judged, and more statements on them. A server takes these programs.
 const MANY: &str = r#"[["for","i",0,11,[["if",["c","x",0],[["set",["c","a",1],"i"]],[]]]]]
 [["for","i",0,10,[["if",["c","x",0],[["set",["c","a",1],"i"]],[]]]],["for","i",0,2000,[["set",["c","a",1],"i"]]]]
+"#;
+
+/// The same beside a task that declares nothing of what it touches; and beside a reduction by names.
+const MANY_JUDGED: &str =
+    r#"[["task",[],[["set",["c","a",2],1]]],["wait"],["for","i",0,11,[["if",["c","x",0],[["set",["c","a",1],"i"]],[]]]]]|2
+[["group","+",[["x",0,1]],[["task",[["red","+",["x",0,1]]],[["fold","+",["c","x",0],1]]]]],["for","i",0,11,[["if",["c","a",0],[["set",["c","a",1],"i"]],[]]]]]|
 "#;
 
 /// Items that overlap, with the column of the statement that is told: of siblings, of one task, in two turns, of a wait, one that
@@ -193,14 +199,39 @@ fn ways(rt: HostRuntime) -> Result<(), Fail> {
 }
 
 #[test]
-fn many_ways(rt: HostRuntime) -> Result<(), Fail> {
+fn many_ways_of_what_a_server_takes(rt: HostRuntime) -> Result<(), Fail> {
     let alloc = rt.alloc();
-    let wanted =
-        "k.c: note: only the run with these numbers was judged: there are too many paths\n";
     for body in MANY.lines() {
-        let told = tells(alloc, Order::OfC, body, Verdict::Clean, wanted)?;
+        let told = tells(alloc, Order::OfC, body, Verdict::Clean, "")?;
         assert!(rt; told, "{body}");
     }
+    Ok(())
+}
+
+/// What is written where there are too many ways, behind a warning at this column.
+fn only_run(alloc: Global, column: &str) -> Result<String, AllocError> {
+    let line = "k.c: note: only the run with these numbers was judged: there are too many paths\n";
+    if column.is_empty() {
+        return String::from_str(alloc, line);
+    }
+    format!(in alloc;
+        "k.c:1:{column}: warning: no race, but omptaskd refuses it: the task lacks depend(out: a[2]) [425]\n{line}"
+    )
+}
+
+#[test]
+fn many_ways_of_what_is_judged(rt: HostRuntime) -> Result<(), Fail> {
+    let alloc = rt.alloc();
+    let mut rows = 0u32;
+    for line in MANY_JUDGED.lines() {
+        if let Some((body, column)) = line.split_once("|") {
+            let wanted = only_run(alloc, column)?;
+            let told = tells(alloc, Order::OfC, body, Verdict::Clean, wanted.as_str())?;
+            assert!(rt; told, "{line}");
+            rows = rows.wrapping_add(1);
+        }
+    }
+    assert!(rt; rows == 2);
     Ok(())
 }
 

@@ -8,7 +8,7 @@ use ot_model::{Cell, Decl, Expr, Fold, Op, Program, Section, Stmt};
 
 /// A function that values and folds may call.
 #[derive(Clone, Copy)]
-pub(crate) enum Call {
+pub enum Call {
     Min,
     Max,
 }

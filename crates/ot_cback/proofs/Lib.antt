@@ -2,7 +2,7 @@ mod RowLemmas
 mod PartLemmas
 pub mod ValueLemmas
 mod NameLemmas
-mod NumberingLemmas
+pub mod NumberingLemmas
 pub mod AssignmentLemmas
 pub mod ClauseLemmas
 pub mod WaitLemmas

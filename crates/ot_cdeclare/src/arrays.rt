@@ -9,8 +9,8 @@ ghost use Rattle.ot_cdeclare.specs.Arrays as meant;
 ghost use Rattle.ot_cdeclare.specs.Each.{each};
 
 use indexmap::IndexSet;
-use ot_cnames::{is_taken, own_name};
 use ot_cfile::{Declaration, Initial, Variable};
+use ot_cnames::{is_taken, own_name};
 use ot_cread::{Expr, Unary};
 use ot_cscope::kind::{holds, holds_below, is_signed};
 use ot_cscope::{CFault, Meaning, Reason, Scope, constant};
@@ -222,12 +222,7 @@ fn is_declared(arrays: &[CArray], name: &str) -> bool
 
 /// A name that the language has, and that no array has by another name in C, as `at` and `A_at` would. Few names are
 /// taken, so few are looked for.
-fn new_name(
-    alloc: Global,
-    start: usize,
-    arrays: &[CArray],
-    name: &str,
-) -> Result<String, CFault>
+fn new_name(alloc: Global, start: usize, arrays: &[CArray], name: &str) -> Result<String, CFault>
     ensures { Gives (λ s. string_bytes s) result (meant.new_name start (map array_of arrays.now) name.now) }
 {
     if is_taken(name) && is_declared(arrays, name) {

@@ -1,9 +1,10 @@
 -- Which races are looked for in what stands for a C text: in its run, and then on all ways through its branches.
-use Rattle.std.specs.Prelude.{List, ℕ, Bool, true, false}
+use Rattle.std.specs.Prelude.{◌≡◌, ◌⊎◌, List, ℕ, Bool, true, false}
 use Rattle.ot_model.specs.Tree.{Body}
+use Rattle.ot_check.specs.Discipline.{OffendsNowhere}
 use Rattle.ot_race.specs.Events.{Event, this_way, events_of}
 use Rattle.ot_race.specs.Races.{NothingRaces, IsFirstRace}
-use Rattle.ot_corder.specs.Orders.{ordered_by}
+use Rattle.ot_corder.specs.Orders.{ordered_by, is_alike}
 use Rattle.ot_corder.specs.declared.order.Order.{Order}
 use Rattle.ot_ways.specs.Verdicts.{AreFew, NoWayRaces, IsRaceOn}
 use Rattle.ot_ways.specs.declared.verdict.Turn.{Turn}
@@ -16,14 +17,22 @@ use Rattle.ot_cjudge.specs.declared.finding.Finding.TheVariants.{InRun, OnWay, N
 abbrev pub events_by : Order → Body → List (List ℕ) → List Event
 events_by order body cells = ordered_by order (events_of this_way body cells)
 
+-- a server accepts the body, and this orders its tasks as the language does
+abbrev pub IsAccepted : Order → Body → Type 0
+IsAccepted order body = OffendsNowhere body × (is_alike order body ≡ true)
+
+-- all its ways are known: they are few, or it is accepted, so that none of them races
+abbrev pub AreKnown : Order → Body → Type 0
+AreKnown order body = AreFew body ⊎ IsAccepted order body
+
 -- the first race of the run; where nothing races in it, the first race of a way, from any cells; or that no way races, or that
--- there are too many ways
+-- there are too many ways to know
 abbrev pub Finds : Order → Body → List (List ℕ) → Finding → Type 0
 Finds order body cells (InRun race) = IsFirstRace (events_by order body cells) race.cell race.place race.later
 Finds order body cells (OnWay race) =
     NothingRaces (events_by order body cells) × AreFew body × (taken : List Turn) × ((from : List (List ℕ)) → IsRaceOn order body taken race from)
-Finds order body cells Nowhere = NothingRaces (events_by order body cells) × AreFew body × NoWayRaces order body
-Finds order body cells OnlyRun = NothingRaces (events_by order body cells) × (AreFew body → ⊥)
+Finds order body cells Nowhere = NothingRaces (events_by order body cells) × AreKnown order body × NoWayRaces order body
+Finds order body cells OnlyRun = NothingRaces (events_by order body cells) × (AreKnown order body → ⊥)
 
 -- that no way races
 abbrev pub is_clean : Verdict → Bool

@@ -3,7 +3,7 @@ ghost use Rattle.std.specs.Prelude.{IfOk};
 ghost use Rattle.ot_model.specs.View.{stmts_of};
 ghost use Rattle.ot_model.specs.Cells.{lengths};
 ghost use Rattle.ot_model.specs.Names.{NamedIn};
-ghost use Rattle.ot_cjudge.specs.Findings.{Finds};
+ghost use Rattle.ot_cjudge.specs.Findings.{Finds, IsAccepted};
 
 use ot_check::Checked;
 use ot_corder::{Order, is_alike, judge_by};
@@ -11,7 +11,7 @@ use ot_model::{Cells, Program};
 use ot_race::{Race, run_events};
 use ot_raceless::laws::checked_races_on_no_way_by;
 use ot_ways::laws::runs_are_ways;
-use ot_ways::{Verdict as WaysVerdict, any_way, has_few_ways};
+use ot_ways::{Verdict as WaysVerdict, any_way};
 use std::alloc::{AllocError, Global};
 
 /// What is found of a program that begins with the C's numbers.
@@ -23,12 +23,12 @@ pub(crate) enum Finding {
     OnWay(Race),
     /// No way races.
     Nowhere,
-    /// Its run doesn't race, and there are too many ways.
+    /// Its run doesn't race, and there are too many ways to know.
     OnlyRun,
 }
 
-/// The same as `find_race` of a program that a check accepts. Where this orders its tasks as the language does it races on no way,
-/// and none is judged.
+/// Looks for a race in a program that a check accepts. Where this orders its tasks as the language does it races on no way, and none is
+/// judged.
 pub(crate) fn find_in_checked(
     alloc: Global,
     order: Order,
@@ -41,26 +41,37 @@ pub(crate) fn find_in_checked(
     if is_alike(order, &checked.program.body) {
         checked_races_on_no_way_by(order, checked);
         runs_are_ways();
-        if has_few_ways(&checked.program) {
-            Ok(Finding::Nowhere)
-        } else {
-            Ok(Finding::OnlyRun)
-        }
+        Ok(Finding::Nowhere)
     } else {
         find_race(alloc, order, &checked.program, cells)
     }
 }
 
-/// Looks for a race in the run of a program that begins with these cells, and then on all ways, where this orders tasks. The run goes
-/// a way itself: where no way races it isn't judged.
-pub(crate) fn find_race(
+/// Looks for a race in the run of a program that begins with these cells, and then on all ways, where this orders tasks.
+pub(crate) fn find_in_refused(
     alloc: Global,
     order: Order,
     program: &Program,
     cells: Cells,
 ) -> Result<Finding, AllocError>
     requires { NamedIn (lengths cells) (stmts_of program.now.body.items) }
-    ensures { IfOk result (Finds order (stmts_of program.now.body.items) cells) }
+    ensures { (IsAccepted order (stmts_of program.now.body.items) → ⊥) → IfOk result (Finds order (stmts_of program.now.body.items) cells) }
+{
+    match race_in_run(alloc, order, program, cells)? {
+        Some(race) => Ok(Finding::InRun(race)),
+        None => Ok(finding_of(any_way(alloc, order, program)?)),
+    }
+}
+
+/// The same, but that it looks on all ways first. The run goes a way itself: where no way races it isn't judged.
+fn find_race(
+    alloc: Global,
+    order: Order,
+    program: &Program,
+    cells: Cells,
+) -> Result<Finding, AllocError>
+    requires { NamedIn (lengths cells) (stmts_of program.now.body.items) }
+    ensures { (IsAccepted order (stmts_of program.now.body.items) → ⊥) → IfOk result (Finds order (stmts_of program.now.body.items) cells) }
 {
     runs_are_ways();
     let told = any_way(alloc, order, program)?;

@@ -18,7 +18,7 @@ ghost use Rattle.ot_cjudge.specs.Fits.{Fits};
 ghost use Rattle.ot_cjudge.specs.Lacks.{lacks};
 ghost use Rattle.ot_cjudge.specs.Reports.{HasProgram, Reports, ReportsRead, ReportsProgram, ReportsRun, ReportsFinding, race_text, warning_text, only_run_line, faulty, outside_line, overlaps, reason_of, run_of};
 
-use crate::finding::{Finding, find_in_checked, find_race};
+use crate::finding::{Finding, find_in_checked, find_in_refused};
 use crate::found::find_in;
 use crate::lacks::lacks_by;
 use crate::line::put_cell;
@@ -204,7 +204,7 @@ fn report_offending(
         → IfOk result (λ report. ReportsRun (source_by source.now) cells program.body report.verdict report.text.items) }
 {
     let program = read_again(alloc, source, shape)?;
-    let finding = find_race(alloc, source.order, &program, cells)?;
+    let finding = find_in_refused(alloc, source.order, &program, cells)?;
     report_finding(alloc, source, &program, Some(first), finding)
 }
 

@@ -1,9 +1,9 @@
 -- The children that may be unawaited, where a task stands and at its end.
-use Rattle.std.proofs.Common.{◌≡◌, ℕ, Bool, true, false, not, ◌&&◌, ◌||◌, List, [], ◌∷◌, Option, refl, sym, subst, ◌∙◌, Some, None, inl, inr, true≢false}
-use Rattle.ot_job.proofs.Common.{E, Set, Fold, If, Task, Wait, Group, Body, End, Next, append, Cell, Operation, Use, Sibling, is_in, Children, behind_one, AreAssigns, true_or, or_right, Open, Kids, children_of, kids_behind, AwaitsAll, list_any, is_unfinished, awaits, or_true, and_left, and_right, and_true, Waiting, is_awaited_at, is_held, unawaited}
+use Rattle.std.proofs.Common.{◌≡◌, ℕ, Bool, true, false, not, ◌&&◌, ◌||◌, List, [], ◌∷◌, Option, refl, sym, subst, ◌∙◌, Some, None, true≢false, if◌then◌else◌}
+use Rattle.ot_job.proofs.Common.{E, Set, Fold, If, Task, Wait, Group, Body, End, Next, append, Cell, Operation, Use, Sibling, is_in, Children, behind_one, AreAssigns, Open, Kids, children_of, kids_behind, AwaitsAll, list_any, is_unfinished, awaits, and_left, and_right, and_true, Waiting, is_awaited_at, is_held, unawaited}
 use Rattle.ot_check.specs.Discipline.{anyone, behind}
-use Rattle.ot_check.proofs.Cited.{behind-more, false_below}
-use Rattle.ot_job.proofs.PlaceLemmas.{FewerKids, Monotone, UnawaitedBy, behind-fewer, behind-one, behind-two, behind-wait, behind-task, enter-fewer, behind-enter}
+use Rattle.ot_check.proofs.Cited.{any-more, behind-more, false_below}
+use Rattle.ot_job.proofs.PlaceLemmas.{FewerKids, Monotone, UnawaitedBy, behind-fewer, behind-branch, taken-or, behind-wait, behind-task, enter-fewer, behind-enter}
 
 -- ---- a task's body ends with no child unawaited: step by step
 
@@ -24,19 +24,13 @@ pub awaits-step : (before now : Kids) (rest next : Body) (os : List Open)
 awaits-step before now rest next [] moves le h = false_below (behind (children_of now) next anyone) (behind (children_of before) rest anyone) moves h
 awaits-step before now rest next (o ∷ os) moves le h = awaits-fewer (kids_behind now next o.group) (kids_behind before rest o.group) o.behind os (le o os refl) h
 
-pub awaits-one : (kids : Kids) → Monotone kids → (e : E) (a b rest : Body) (os : List Open) → AwaitsAll kids (Next (If e a b) rest) os → AwaitsAll kids (append a rest) os
-awaits-one kids mono e a b rest os h =
+pub awaits-branch : (kids : Kids) → Monotone kids → (taken : Bool) (e : E) (a b rest : Body) (os : List Open) → AwaitsAll kids (Next (If e a b) rest) os → AwaitsAll kids (append (if taken then a else b) rest) os
+awaits-branch kids mono taken e a b rest os h =
     let children = children_of kids in
-    awaits-step kids kids (Next (If e a b) rest) (append a rest) os
-    (λ g. behind-more (behind children a) (behind_one children (If e a b)) (λ T. true_or (behind children a T) (behind children b T)) rest anyone (sym (behind-append children a rest anyone) ∙ g))
-    (λ o more is. behind-one kids mono e a b rest o.group) h
-
-pub awaits-two : (kids : Kids) → Monotone kids → (e : E) (a b rest : Body) (os : List Open) → AwaitsAll kids (Next (If e a b) rest) os → AwaitsAll kids (append b rest) os
-awaits-two kids mono e a b rest os h =
-    let children = children_of kids in
-    awaits-step kids kids (Next (If e a b) rest) (append b rest) os
-    (λ g. behind-more (behind children b) (behind_one children (If e a b)) (λ T. or_right (behind children a T) (behind children b T)) rest anyone (sym (behind-append children b rest anyone) ∙ g))
-    (λ o more is. behind-two kids mono e a b rest o.group) h
+    let chosen : Body = if taken then a else b in
+    awaits-step kids kids (Next (If e a b) rest) (append chosen rest) os
+    (λ g. behind-more (behind children chosen) (behind_one children (If e a b)) (λ T. taken-or (λ c. behind children c T) taken a b) rest anyone (sym (behind-append children chosen rest anyone) ∙ g))
+    (λ o more is. behind-branch kids mono taken e a b rest o.group) h
 
 -- sets and folds
 pub awaits-piece : (kids : Kids) (piece rest : Body) (os : List Open) → AreAssigns piece → AwaitsAll kids (append piece rest) os → AwaitsAll kids rest os
@@ -45,10 +39,7 @@ awaits-piece kids (Next (Set c e) more) rest os only h =
     awaits-piece kids more rest os only (awaits-step kids kids (Next (Set c e) (append more rest)) (append more rest) os (λ g. g) (λ o later is T k. k) h)
 awaits-piece kids (Next (Fold op c e) more) rest os only h =
     awaits-piece kids more rest os only (awaits-step kids kids (Next (Fold op c e) (append more rest)) (append more rest) os (λ g. g) (λ o later is T k. k) h)
-awaits-piece kids (Next (If e a b) more) rest os only h = absurd only
-awaits-piece kids (Next (Task d b) more) rest os only h = absurd only
-awaits-piece kids (Next (Wait w) more) rest os only h = absurd only
-awaits-piece kids (Next (Group op cs b) more) rest os only h = absurd only
+awaits-piece kids (Next x more) rest os only h = absurd only
 
 pub awaits-wait : (before now : Kids) → Monotone before → (w : Option (List Use)) (rest : Body) (os : List Open) → UnawaitedBy w now before
     → AwaitsAll before (Next (Wait w) rest) os → AwaitsAll now rest os
@@ -85,12 +76,8 @@ awaits-end kids h = h
 
 weaker-any : (kids : List Sibling) (f g : Sibling → Bool) → ((s : Sibling) → f s ≡ true → g s ≡ true)
     → list_any (λ s. is_unfinished s && f s) kids ≡ true → list_any (λ s. is_unfinished s && g s) kids ≡ true
-weaker-any [] f g w h = h
-weaker-any (x ∷ kids) f g w h =
-    elim (or_true (is_unfinished x && f x) (list_any (λ s. is_unfinished s && f s) kids) h) [
-      | inl e ↦ true_or (is_unfinished x && g x) (list_any (λ s. is_unfinished s && g s) kids) (and_true (is_unfinished x) (g x) (and_left (is_unfinished x) (f x) e) (w x (and_right (is_unfinished x) (f x) e)))
-      | inr e ↦ or_right (is_unfinished x && g x) (list_any (λ s. is_unfinished s && g s) kids) (weaker-any kids f g w e)
-    ]
+weaker-any kids f g w h =
+    any-more (λ s. is_unfinished s && f s) (λ s. is_unfinished s && g s) kids (λ s k. and_true (is_unfinished s) (g s) (and_left (is_unfinished s) (f s) k) (w s (and_right (is_unfinished s) (f s) k))) h
 
 -- what is true of more is true of some child more often
 pub monotone : (waiting : Waiting) (kids : List Sibling) (f g : Sibling → Bool) → ((s : Sibling) → f s ≡ true → g s ≡ true)
@@ -103,10 +90,8 @@ monotone waiting kids f g w h =
 pub executed-wait : (w : Option (List Use)) (kids : List Sibling) (test : Sibling → Bool)
     → unawaited (Some w) kids test ≡ true → unawaited None kids (λ s. test s && not (awaits w s.uses)) ≡ true
 executed-wait w kids test h =
-    weaker-any kids (λ s. not (awaits w s.uses) && test s) (λ s. test s && not (awaits w s.uses)) (λ s k. turned (not (awaits w s.uses)) (test s) k) h
-  where
-    turned : (a t : Bool) → (a && t) ≡ true → (t && a) ≡ true
-    turned a t k = and_true t a (and_right a t k) (and_left a t k)
+    weaker-any kids (λ s. not (awaits w s.uses) && test s) (λ s. test s && not (awaits w s.uses)) (λ s k.
+    and_true (test s) (not (awaits w s.uses)) (and_right (not (awaits w s.uses)) (test s) k) (and_left (not (awaits w s.uses)) (test s) k)) h
 
 -- a task that goes on has awaited whom its wait awaits: those that are unawaited are as at any other place
 pub let-go : (waiting : Waiting) (kids : List Sibling) (test : Sibling → Bool) → is_held waiting kids ≡ false

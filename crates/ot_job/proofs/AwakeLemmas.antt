@@ -1,6 +1,6 @@
 -- A task goes on where neither a wait nor a group's end holds it.
 use Rattle.std.proofs.Common.{◌≡◌, ℕ, ◌<◌, Bool, true, false, not, ◌&&◌, ◌||◌, List, [], ◌∷◌, length, refl, sym, ap, subst, ◌∙◌, arith, true≢false, None, Some, slice_get, count_by, ◌==◌}
-use Rattle.ot_job.proofs.Common.{list_any, nat_tests, Body, End, Next, updated, Sibling, is_unfinished, is_unfinished_in, is_in, and_left, and_right, Open, IsFineAt, AwaitsAll, unawaited, Region, at, IsBegun, IsPlaced, IsSound, passed, awake, is_held, is_let_go, end_lets_go}
+use Rattle.ot_job.proofs.Common.{list_any, nat_tests, Body, End, Next, updated, Sibling, is_unfinished, is_unfinished_in, is_in, and_left, and_right, Open, IsFineAt, AwaitsAll, unawaited, Region, at, IsBegun, IsPlaced, IsSound, passed, awake, is_held, is_let_go, end_lets_go, not_true}
 use Rattle.ot_job.proofs.CountingLemmas.{any-counted}
 use Rattle.ot_job.proofs.PlaceLemmas.{at-fewer, at-leave, placed-leave, kid-none}
 use Rattle.ot_job.proofs.AwaitsLemmas.{awaits-fewer, awaits-leave, let-go}
@@ -69,12 +69,8 @@ module _ (r : Region) (p : IsPlaced r) (calm : r.waiting ≡ None) where
 pub placed-awake : (r : Region) → IsPlaced r → is_let_go r ≡ true → IsPlaced (awake r)
 placed-awake r p go =
     placed-passed (record r { waiting = None })
-    (placed-calm r p (unheld (is_held r.waiting r.children) (and_left (not (is_held r.waiting r.children)) (end_lets_go r.rest r.groups r.children) go)))
+    (placed-calm r p (not_true (is_held r.waiting r.children) (and_left (not (is_held r.waiting r.children)) (end_lets_go r.rest r.groups r.children) go)))
     refl r.rest r.groups refl refl (and_right (not (is_held r.waiting r.children)) (end_lets_go r.rest r.groups r.children) go)
-  where
-    unheld : (b : Bool) → not b ≡ true → b ≡ false
-    unheld true h = sym h
-    unheld false h = refl
 
 -- who has a group open behind the end of another had one open before it
 open-before : (P : Type 0) (rest : Body) (gs : List Open) → ((o : Open) (os : List Open) → gs ≡ o ∷ os → P) → (o : Open) (os : List Open) → (passed rest gs).groups ≡ o ∷ os → P

@@ -1,6 +1,7 @@
 -- One region moves on, and who is whose child stays.
-use Rattle.std.proofs.Common.{◌≡◌, ℕ, ◌<◌, List, ◌∷◌, length, sym, ap, subst, ◌∙◌, ◌⊎◌, inl, inr, arith, Bool, true, [], slice_get, Some}
-use Rattle.ot_job.proofs.Common.{cases_eq, updated, Body, End, Use, length-updated, IsReady, Open, todo, Region, Waiting, at, parent_of, IsBegun, IsPlaced, IsSound, LetsAll, IsFineAt, AwaitsAll, unawaited, EachTouch, EachTask, allows}
+use Rattle.std.proofs.Common.{◌≡◌, ℕ, ◌<◌, List, ◌∷◌, length, sym, ap, subst, ◌∙◌, ◌⊎◌, inl, inr, arith, Bool, true, [], slice_get, Some, None, true≢false, refl}
+use Rattle.ot_job.proofs.Common.{cases_eq, updated, Body, End, Use, length-updated, IsReady, Open, todo, Region, Waiting, at, parent_of, IsBegun, IsPlaced, IsSound, LetsAll, IsFineAt, AwaitsAll, unawaited, EachTouch, EachTask, allows, Cell, Declared, IsFine, OnlyFolds, Operation, children_of, folds_to}
+use Rattle.ot_check.specs.Discipline.{nothing_open}
 use Rattle.ot_job.proofs.KeptLemmas.{at-updated, at-updated-other}
 use Rattle.ot_job.proofs.EachLemmas.{at-each, field-kept}
 
@@ -84,4 +85,24 @@ placed-as r p rest waiting ended fine inside tasks awaits over shut = record {
   grouped = p.grouped;
   reduced = p.reduced;
   exclusive = p.exclusive;
+}
+
+-- a region with no child and no open group
+pub placed-bare : (parent child : ℕ) (own : Declared) (rest : Body) (ended : Bool) → IsFine own nothing_open (children_of (unawaited None [])) rest → EachTouch (λ u. allows own u ≡ true) rest → EachTask LetsAll rest
+    → ((uses : List Use) → own ≡ Some uses → AwaitsAll (unawaited None []) rest []) → (ended ≡ true → rest ≡ End) → ((o : Operation) (c : Cell) → folds_to own o c ≡ true → OnlyFolds o own c)
+    → IsPlaced (record { parent = parent; child = child; own = own; rest = rest; groups = []; children = []; waiting = None; ended = ended; running = None })
+placed-bare parent child own rest ended fine inside tasks awaits over exclusive = record {
+  fine = fine;
+  inside = inside;
+  tasks = tasks;
+  awaits = awaits;
+  within = λ k s h. cc;
+  apart = λ k l s t h. cc;
+  over = over;
+  shut = λ e. refl;
+  once = tt;
+  writes = λ o c h. absurd (true≢false (sym h));
+  grouped = λ k s h. cc;
+  reduced = λ k s h. cc;
+  exclusive = exclusive;
 }

@@ -2,6 +2,7 @@
 use Rattle.std.proofs.Common.{◌≡◌, ◌≢◌, ◌<◌, ℕ, zero, suc, Bool, true, false, not, ◌||◌, ◌&&◌, ◌==◌, List, [], ◌∷◌, ◌++◌, length, take, refl, sym, ap, ◌∙◌, inl, inr, arith, Option, is_some, slice_get, option_map, unwrap_or, get_or, subst, true≢false, ◌%◌, Some, None}
 use Rattle.ot_job.proofs.Common.{list_all, cases_eq, updated, length-updated, Use, Sibling, is_ready, with_finished, depends_on, Region, with_child, without, at, is_claimable, is_let_go, slice_get-push, nat_tests, IsReady, claimable_of, picked}
 use Rattle.std.proofs.lemmas.List.{take-append-le}
+use Rattle.ot_check.proofs.Cited.{and_false}
 use Rattle.ot_depend.proofs.ReadyLemmas.{depends_on-from_DependsOn}
 use Rattle.ot_depend.proofs.SiblingsLemmas.{IsReady-from_All}
 use Rattle.std.proofs.lemmas.List.Sums.{AllPass-from_list_all}
@@ -26,14 +27,10 @@ same-root old new here = ap (λ (r : Region). claim_at 0 r true) here
 
 -- none is claimable whose piece is out
 pub claimable-busy : (rs : List Region) (i : ℕ) → is_some (at rs i).running ≡ true → is_claimable rs i ≡ false
-claimable-busy rs i out = ap (λ b. (not (at rs i).ended && not b) && others) out ∙ none (not (at rs i).ended)
+claimable-busy rs i out = ap (λ b. (not (at rs i).ended && not b) && others) out ∙ ap (λ b. b && others) (and_false (not (at rs i).ended))
   where
     others : Bool
     others = ((i == 0) || is_ready (at rs (at rs i).parent).children (at rs i).child) && is_let_go (at rs i)
-
-    none : (b : Bool) → ((b && false) && others) ≡ false
-    none true = refl
-    none false = refl
 
 -- ---- one region changes
 

@@ -1,12 +1,14 @@
 -- A task ends its body, and its parent's table tells so: what holds of the regions stays.
-use Rattle.std.proofs.Common.{◌≡◌, ◌≢◌, ℕ, zero, suc, ◌<◌, ◌≤◌, Bool, true, false, not, ◌&&◌, ◌||◌, List, [], ◌∷◌, length, refl, sym, ap, subst, ◌∙◌, ◌⊎◌, inl, inr, arith, true≢false, eq-zero-or-pos, None, option_map, Some, slice_get, nat_lt, ◌==◌}
-use Rattle.ot_job.proofs.Common.{is_awaited_at, list_any, cases_eq, cases_lt, nat_tests, End, updated, Use, length-updated, Sibling, is_unfinished, with_finished, IsReady, is_in, or_true, true_or, or_right, Cell, Operation, same_fold, allows, folds_to, has_cell, Open, todo, AwaitsAll, unawaited, Region, over, without, told_parent, closed, at, parent_of, todo_at, ended_at, parents, DontMix, OnlyFolds, grouped_in, IsBegun, IsKin, IsPlaced, IsSound}
+use Rattle.std.proofs.Common.{◌≡◌, ◌≢◌, ℕ, zero, suc, ◌<◌, Bool, true, false, not, ◌&&◌, ◌||◌, List, [], ◌∷◌, length, refl, sym, ap, subst, ◌∙◌, ◌⊎◌, inl, inr, arith, true≢false, None, option_map, Some, slice_get, ◌==◌, ⊎_elim}
+use Rattle.ot_job.proofs.Common.{is_awaited_at, list_any, cases_eq, cases_lt, End, updated, Use, length-updated, Sibling, is_unfinished, with_finished, IsReady, is_in, or_right, Cell, Operation, same_fold, allows, folds_to, has_cell, Open, todo, AwaitsAll, unawaited, Region, over, without, told_parent, closed, at, parent_of, todo_at, ended_at, parents, DontMix, OnlyFolds, grouped_in, IsBegun, IsKin, IsPlaced, IsSound}
 use Rattle.std.proofs.lemmas.Bool.{true_from_ne_false}
 use Rattle.ot_model.proofs.CellsLemmas.{slice_get-updated, slice_get-updated-other}
+use Rattle.ot_check.proofs.Bits.{or_more}
 use Rattle.ot_depend.proofs.SiblingsLemmas.{IsReady-finished}
 use Rattle.ot_job.proofs.PlaceLemmas.{at-fewer, kid-none}
 use Rattle.ot_job.proofs.AwaitsLemmas.{awaits-fewer, awaits-end}
 use Rattle.ot_job.proofs.KeptLemmas.{at-updated, at-updated-other, parents-updated}
+use Rattle.ot_job.proofs.EachLemmas.{at-each, field-kept, told-by}
 use Rattle.ot_job.proofs.ChangedLemmas.{placed-as}
 
 -- ---- a table that tells of one more
@@ -52,10 +54,7 @@ fewer-any : (kids : List Sibling) (c : ℕ) (test : Sibling → Bool)
 fewer-any [] c test h = h
 fewer-any (x ∷ kids) zero test h = or_right (is_unfinished x && test x) (list_any (λ s. is_unfinished s && test s) kids) h
 fewer-any (x ∷ kids) (suc c) test h =
-    elim (or_true (is_unfinished x && test x) (list_any (λ s. is_unfinished s && test s) (with_finished kids c)) h) [
-      | inl here ↦ true_or (is_unfinished x && test x) (list_any (λ s. is_unfinished s && test s) kids) here
-      | inr later ↦ or_right (is_unfinished x && test x) (list_any (λ s. is_unfinished s && test s) kids) (fewer-any kids c test later)
-    ]
+    or_more (is_unfinished x && test x) (list_any (λ s. is_unfinished s && test s) (with_finished kids c)) (is_unfinished x && test x) (list_any (λ s. is_unfinished s && test s) kids) (λ e. e) (fewer-any kids c test) h
 
 -- ---- one region
 
@@ -111,6 +110,21 @@ all-finished r p was none calm uses own k s there = true_from_ne_false s.finishe
 
 -- ---- all regions
 
+told-entry : (rs : List Region) (p c q k : ℕ) (x : Sibling) → slice_get (at (updated rs p (without c)) q).children k ≡ Some x → Before (at rs q).children k x
+told-entry (r ∷ rs) zero c zero k x h = before r.children c k x h
+told-entry (r ∷ rs) (suc p) c (suc q) k x h = told-entry rs p c q k x h
+told-entry rs p c q k x h = itself (at rs q).children k x h
+
+told-other : (rs : List Region) (p c q k : ℕ) (x : Sibling) → (q ≡ p → k ≢ c) → slice_get (at rs q).children k ≡ Some x → slice_get (at (updated rs p (without c)) q).children k ≡ Some x
+told-other (r ∷ rs) zero c zero k x other h = untold r.children c k x (other refl) h
+told-other (r ∷ rs) (suc p) c (suc q) k x other h = told-other rs p c q k x (λ e. other (ap suc e)) h
+told-other rs p c q k x other h = h
+
+told-ready : (rs : List Region) (p c q k : ℕ) → IsReady (at rs q).children k → IsReady (at (updated rs p (without c)) q).children k
+told-ready (r ∷ rs) zero c zero k h = IsReady-finished r.children c k h
+told-ready (r ∷ rs) (suc p) c (suc q) k h = told-ready rs p c q k h
+told-ready rs p c q k h = h
+
 module _ (ws : List Region) (s : IsSound ws) (i : ℕ) (h : i < length ws) (was : (at ws i).rest ≡ End) (none : (at ws i).groups ≡ []) (calm : (at ws i).waiting ≡ None) where
   abbrev p : ℕ
   p = parent_of ws i
@@ -121,64 +135,21 @@ module _ (ws : List Region) (s : IsSound ws) (i : ℕ) (h : i < length ws) (was 
   abbrev now : List Region
   now = closed i ws
 
-  -- which region it is, and what became of it
-  abbrev Now : ℕ → Type 0
-  Now j =
-      ((j ≡ i) × (at now j ≡ over (at ws i)))
-      ⊎ (((0 < i) × (j ≡ p) × (j ≢ i) × (at now j ≡ without c (at ws p))) ⊎ ((j ≢ i) × (0 < i → j ≢ p) × (at now j ≡ at ws j)))
-
-  apart-from : 0 < i → p ≢ i
-  apart-from pos e = absurd (omega (arith, s.down i pos, e))
-
-  told-some : 0 < i → told_parent i ws ≡ updated ws p (without c)
-  told-some pos = let test : nat_lt 0 i ≡ true = grind (arith, nat_tests) in rw test refl
-
-  told-none : i ≡ 0 → told_parent i ws ≡ ws
-  told-none zero_ = let test : nat_lt 0 i ≡ false = grind (arith, nat_tests) in rw test refl
-
-  told-long : length (told_parent i ws) ≡ length ws
-  told-long = by (eq-zero-or-pos i)
-    where
-      by : (i ≡ 0) ⊎ (0 < i) → length (told_parent i ws) ≡ length ws
-      by (inl e) = ap length (told-none e)
-      by (inr e) = ap length (told-some e) ∙ length-updated ws p (without c)
+  abbrev noted : List Region
+  noted = told_parent i ws
 
   pub long-closed : length now ≡ length ws
-  long-closed = length-updated (told_parent i ws) i over ∙ told-long
+  long-closed = length-updated noted i over ∙ told-by i ws (λ l. length l ≡ length ws) (λ z. refl) (λ pos. length-updated ws p (without c))
 
-  -- the table, before the task itself is marked
-  at-told : (j : ℕ) → ((0 < i) × (j ≡ p) × (at (told_parent i ws) j ≡ without c (at ws p))) ⊎ ((0 < i → j ≢ p) × (at (told_parent i ws) j ≡ at ws j))
-  at-told j = by (eq-zero-or-pos i)
-    where
-      by : (i ≡ 0) ⊎ (0 < i) → ((0 < i) × (j ≡ p) × (at (told_parent i ws) j ≡ without c (at ws p))) ⊎ ((0 < i → j ≢ p) × (at (told_parent i ws) j ≡ at ws j))
-      by (inl e) = inr ((λ pos. absurd (omega (arith, pos, e))), ap (λ l. at l j) (told-none e))
-      by (inr pos) = pick (cases_eq j p)
-        where
-          pick : (j ≡ p) ⊎ (j ≡ p → ⊥) → ((0 < i) × (j ≡ p) × (at (told_parent i ws) j ≡ without c (at ws p))) ⊎ ((0 < i → j ≢ p) × (at (told_parent i ws) j ≡ at ws j))
-          pick (inl e) = inl (pos, e, ap (λ l. at l j) (told-some pos) ∙ ap (at (updated ws p (without c))) e ∙ at-updated ws p (without c) (omega (arith, s.down i pos, h)))
-          pick (inr e) = inr ((λ k. e), ap (λ l. at l j) (told-some pos) ∙ at-updated-other ws p j (without c) e)
+  -- but for the tables and the end each field is as before
+  same-told : {A : Type 0} (g : Region → A) → ((r : Region) → g (without c r) ≡ g r) → (j : ℕ) → g (at noted j) ≡ g (at ws j)
+  same-told g w j = told-by i ws (λ l. g (at l j) ≡ g (at ws j)) (λ z. refl) (λ pos. field-kept g (without c) w ws p j)
 
-  at-now : (j : ℕ) → Now j
-  at-now j = pick (cases_eq j i) (at-told j)
-    where
-      here : (0 < i) × (i ≡ p) × (at (told_parent i ws) i ≡ without c (at ws p)) ⊎ ((0 < i → i ≢ p) × (at (told_parent i ws) i ≡ at ws i)) → at (told_parent i ws) i ≡ at ws i
-      here (inl t) = absurd (apart-from t.0 (sym t.1))
-      here (inr t) = t.1
-
-      pick : (j ≡ i) ⊎ (j ≡ i → ⊥) → ((0 < i) × (j ≡ p) × (at (told_parent i ws) j ≡ without c (at ws p))) ⊎ ((0 < i → j ≢ p) × (at (told_parent i ws) j ≡ at ws j)) → Now j
-      pick (inl e) t =
-          inl (e, ap (at now) e ∙ at-updated (told_parent i ws) i over (omega (arith, h, told-long)) ∙ ap over (here (at-told i)))
-      pick (inr e) (inl (pos, q, is)) = inr (inl (pos, q, e, at-updated-other (told_parent i ws) i j over e ∙ is))
-      pick (inr e) (inr (q, is)) = inr (inr (e, q, at-updated-other (told_parent i ws) i j over e ∙ is))
-
-  -- each other field is as before
   same : {A : Type 0} (g : Region → A) → ((r : Region) → g (over r) ≡ g r) → ((r : Region) → g (without c r) ≡ g r) → (j : ℕ) → g (at now j) ≡ g (at ws j)
-  same g o w j = by (at-now j)
-    where
-      by : Now j → g (at now j) ≡ g (at ws j)
-      by (inl (e, is)) = ap g is ∙ o (at ws i) ∙ ap (λ n. g (at ws n)) (sym e)
-      by (inr (inl (pos, e, other, is))) = ap g is ∙ w (at ws p) ∙ ap (λ n. g (at ws n)) (sym e)
-      by (inr (inr (other, e, is))) = ap g is
+  same g o w j = field-kept g over o noted i j ∙ same-told g w j
+
+  tables : (q : ℕ) → (at now q).children ≡ (at noted q).children
+  tables = field-kept (λ r. r.children) over (λ r. refl) noted i
 
   parent-same : (j : ℕ) → parent_of now j ≡ parent_of ws j
   parent-same = same (λ r. r.parent) (λ r. refl) (λ r. refl)
@@ -190,29 +161,15 @@ module _ (ws : List Region) (s : IsSound ws) (i : ℕ) (h : i < length ws) (was 
   todo-closed = same (λ r. todo r.rest r.groups) (λ r. refl) (λ r. refl)
 
   ended-other : (j : ℕ) → j ≢ i → ended_at now j ≡ ended_at ws j
-  ended-other j other = by (at-now j)
-    where
-      by : Now j → ended_at now j ≡ ended_at ws j
-      by (inl (e, is)) = absurd (other e)
-      by (inr (inl (pos, e, o, is))) = ap (λ (r : Region). r.ended) is ∙ ap (λ n. ended_at ws n) (sym e)
-      by (inr (inr (o, e, is))) = ap (λ (r : Region). r.ended) is
+  ended-other j other = ap (λ (r : Region). r.ended) (at-updated-other noted i j over other) ∙ same-told (λ r. r.ended) (λ r. refl) j
 
   ended-here : ended_at now i ≡ true
-  ended-here = by (at-now i)
-    where
-      by : Now i → ended_at now i ≡ true
-      by (inl (e, is)) = ap (λ (r : Region). r.ended) is
-      by (inr (inl (pos, e, o, is))) = absurd (o refl)
-      by (inr (inr (o, e, is))) = absurd (o refl)
+  ended-here = ap (λ (r : Region). r.ended) (at-updated noted i over (omega (arith, h, long-closed, length-updated noted i over)))
 
   -- an entry as it was before
   entry-was : (q k : ℕ) (x : Sibling) → slice_get (at now q).children k ≡ Some x → Before (at ws q).children k x
-  entry-was q k x there = by (at-now q)
-    where
-      by : Now q → Before (at ws q).children k x
-      by (inl (e, is)) = itself (at ws q).children k x (ap (λ n. slice_get (at ws n).children k) e ∙ ap (λ (r : Region). slice_get r.children k) (sym is) ∙ there)
-      by (inr (inl (pos, e, o, is))) = subst (λ n. Before (at ws n).children k x) (sym e) (before (at ws p).children c k x (ap (λ (r : Region). slice_get r.children k) (sym is) ∙ there))
-      by (inr (inr (o, e, is))) = itself (at ws q).children k x (ap (λ (r : Region). slice_get r.children k) (sym is) ∙ there)
+  entry-was q k x there =
+      told-by i ws (λ l. slice_get (at l q).children k ≡ Some x → Before (at ws q).children k x) (λ z. itself (at ws q).children k x) (λ pos. told-entry ws p c q k x) (ap (λ t. slice_get t k) (sym (tables q)) ∙ there)
 
   pub begun-closed : (j : ℕ) → IsBegun ws j → IsBegun now j
   begun-closed j b pos =
@@ -222,15 +179,10 @@ module _ (ws : List Region) (s : IsSound ws) (i : ℕ) (h : i < length ws) (was 
       )
     where
       ready : (q k : ℕ) → IsReady (at ws q).children k → IsReady (at now q).children k
-      ready q k r = by (at-now q)
-        where
-          by : Now q → IsReady (at now q).children k
-          by (inl (e, is)) = subst (λ (x : Region). IsReady x.children k) (sym is) (subst (λ n. IsReady (at ws n).children k) e r)
-          by (inr (inl (pos, e, o, is))) = subst (λ (x : Region). IsReady x.children k) (sym is) (IsReady-finished (at ws p).children c k (subst (λ n. IsReady (at ws n).children k) e r))
-          by (inr (inr (o, e, is))) = subst (λ (x : Region). IsReady x.children k) (sym is) r
+      ready q k r = subst (λ t. IsReady t k) (sym (tables q)) (told-by i ws (λ l. IsReady (at l q).children k) (λ z. r) (λ pos. told-ready ws p c q k r))
 
   kin-now : (j : ℕ) → 0 < j → j < length now → IsKin now j
-  kin-now j pos below = by (at-now (parent_of ws j)) (cases_eq j i)
+  kin-now j pos below = ⊎_elim own kept (cases_eq j i)
     where
       l : j < length ws
       l = omega (arith, below, long-closed)
@@ -238,39 +190,34 @@ module _ (ws : List Region) (s : IsSound ws) (i : ℕ) (h : i < length ws) (was 
       k : IsKin ws j
       k = s.kin j pos l
 
-      make : (x : Sibling) → slice_get (at now (parent_of ws j)).children (at ws j).child ≡ Some x → x.uses ≡ k.entry.uses → x.finished ≡ ended_at now j → IsKin now j
+      make : (x : Sibling) → slice_get (at noted (parent_of ws j)).children (at ws j).child ≡ Some x → x.uses ≡ k.entry.uses → x.finished ≡ ended_at now j → IsKin now j
       make x there uses finished = record {
         entry = x;
-        there = ap (λ n. slice_get (at now n).children (at now j).child) (parent-same j) ∙ ap (slice_get (at now (parent_of ws j)).children) (child-same j) ∙ there;
+        there = ap (λ n. slice_get (at now n).children (at now j).child) (parent-same j) ∙ ap (slice_get (at now (parent_of ws j)).children) (child-same j)
+            ∙ ap (λ t. slice_get t (at ws j).child) (tables (parent_of ws j)) ∙ there;
         uses = same (λ r. r.own) (λ r. refl) (λ r. refl) j ∙ k.uses ∙ ap Some (sym uses);
         finished = finished;
       }
 
-      unchanged : (at now (parent_of ws j)).children ≡ (at ws (parent_of ws j)).children → j ≢ i → IsKin now j
-      unchanged is other = make k.entry (ap (λ t. slice_get t (at ws j).child) is ∙ k.there) refl (k.finished ∙ sym (ended-other j other))
-
       places : 0 < i → parent_of ws j ≡ p → j ≢ i → (at ws j).child ≢ c
-      places posi e other same_child = order (cases_lt j i)
-        where
-          order : (j < i) ⊎ (i ≤ j) → ⊥
-          order (inl lt) = omega (arith, s.older i j pos lt h e, same_child)
-          order (inr le) = omega (arith, s.older j i posi (omega (arith, le, other)) l (sym e), same_child)
+      places posi e other same_child =
+          ⊎_elim (λ lt. omega (arith, s.older i j pos lt h e, same_child))
+          (λ le. omega (arith, s.older j i posi (omega (arith, le, other)) l (sym e), same_child)) (cases_lt j i)
 
-      by : Now (parent_of ws j) → (j ≡ i) ⊎ (j ≡ i → ⊥) → IsKin now j
-      by (inl (e, is)) (inl me) = absurd (omega (arith, s.down j pos, e, me))
-      by (inl (e, is)) (inr other) = unchanged (ap (λ (r : Region). r.children) is ∙ ap (λ n. (at ws n).children) (sym e)) other
-      by (inr (inl (posi, e, o, is))) (inl me) =
+      kept : (j ≡ i → ⊥) → IsKin now j
+      kept other =
+          make k.entry (told-by i ws (λ l. slice_get (at l (parent_of ws j)).children (at ws j).child ≡ Some k.entry) (λ z. k.there)
+          (λ posi. told-other ws p c (parent_of ws j) (at ws j).child k.entry (λ e. places posi e other) k.there)) refl (k.finished ∙ sym (ended-other j other))
+
+      -- its own entry tells that it has finished
+      own : j ≡ i → IsKin now j
+      own me =
           make (record k.entry { finished = true })
-          (ap (λ (r : Region). slice_get r.children (at ws j).child) is ∙ ap (λ n. slice_get (with_finished (at ws p).children (at ws n).child) (at ws j).child) (sym me)
-          ∙ told (at ws p).children (at ws j).child k.entry (ap (λ n. slice_get (at ws n).children (at ws j).child) (sym e) ∙ k.there)) refl
-          (sym (ap (ended_at now) me ∙ ended-here))
-      by (inr (inl (posi, e, o, is))) (inr other) =
-          make k.entry
-          (ap (λ (r : Region). slice_get r.children (at ws j).child) is
-          ∙ untold (at ws p).children c (at ws j).child k.entry (places posi e other) (ap (λ n. slice_get (at ws n).children (at ws j).child) (sym e) ∙ k.there)) refl
-          (k.finished ∙ sym (ended-other j other))
-      by (inr (inr (o, e, is))) (inl me) = absurd (e (omega (arith, pos, me)) (ap (parent_of ws) me))
-      by (inr (inr (o, e, is))) (inr other) = unchanged (ap (λ (r : Region). r.children) is) other
+          (told-by i ws (λ l. slice_get (at l (parent_of ws j)).children (at ws j).child ≡ Some (record k.entry { finished = true })) (λ z. absurd (omega (arith, z, me, pos)))
+          (λ posi. ap (λ n. slice_get (at (updated ws p (without c)) (parent_of ws n)).children (at ws n).child) me
+          ∙ ap (λ (r : Region). slice_get r.children c) (at-updated ws p (without c) (omega (arith, s.down i posi, h)))
+          ∙ told (at ws p).children c k.entry (ap (λ n. slice_get (at ws (parent_of ws n)).children (at ws n).child) (sym me) ∙ k.there)))
+          refl (sym (ap (ended_at now) me ∙ ended-here))
 
   done-now : (j : ℕ) → 0 < j → ended_at now j ≡ true → (k : ℕ) (x : Sibling) → slice_get (at now j).children k ≡ Some x → x.finished ≡ true
   done-now j pos ended k x there = by (cases_eq j i)
@@ -285,11 +232,7 @@ module _ (ws : List Region) (s : IsSound ws) (i : ℕ) (h : i < length ws) (was 
       by (inr e) = b.finished (s.done j pos (sym (ended-other j e) ∙ ended) k b.entry b.there)
 
   pub parents-closed : parents now ≡ parents ws
-  parents-closed = parents-updated (told_parent i ws) i over (λ r. refl) ∙ by (eq-zero-or-pos i)
-    where
-      by : (i ≡ 0) ⊎ (0 < i) → parents (told_parent i ws) ≡ parents ws
-      by (inl e) = ap parents (told-none e)
-      by (inr e) = ap parents (told-some e) ∙ parents-updated ws p (without c) (λ r. refl)
+  parents-closed = parents-updated noted i over (λ r. refl) ∙ told-by i ws (λ l. parents l ≡ parents ws) (λ z. refl) (λ pos. parents-updated ws p (without c) (λ r. refl))
 
   pub sound-closed : IsSound now
   sound-closed = record {
@@ -306,11 +249,9 @@ module _ (ws : List Region) (s : IsSound ws) (i : ℕ) (h : i < length ws) (was 
         omega (arith, o, child-same a, child-same b);
     begun = λ j pos below. subst (IsBegun now) (sym (parent-same j)) (begun-closed (parent_of ws j) (s.begun j pos (omega (arith, below, long-closed))));
     entered = λ j o os is. begun-closed j (s.entered j o os (sym (same (λ r. r.groups) (λ r. refl) (λ r. refl) j) ∙ is));
-    placed = λ j. placed j (at-now j);
+    placed = at-each IsPlaced noted i over placed-told (placed-over (at noted i) (placed-told i) (same-told (λ r. r.rest) (λ r. refl) i ∙ was) (same-told (λ r. r.groups) (λ r. refl) i ∙ none));
     done = done-now;
   }
     where
-      placed : (j : ℕ) → Now j → IsPlaced (at now j)
-      placed j (inl (e, is)) = subst IsPlaced (sym is) (placed-over (at ws i) (s.placed i) was none)
-      placed j (inr (inl (pos, e, o, is))) = subst IsPlaced (sym is) (placed-without c (at ws p) (s.placed p))
-      placed j (inr (inr (o, e, is))) = subst IsPlaced (sym is) (s.placed j)
+      placed-told : (j : ℕ) → IsPlaced (at noted j)
+      placed-told = told-by i ws (λ l. (j : ℕ) → IsPlaced (at l j)) (λ z. s.placed) (λ pos. at-each IsPlaced ws p (without c) s.placed (placed-without c (at ws p) (s.placed p)))

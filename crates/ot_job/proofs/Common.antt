@@ -78,7 +78,7 @@ pub use Rattle.ot_job.specs.Left.{children_left, left}
 pub use Rattle.ot_job.specs.Listing.{AreKept, IsRefreshed, member, members}
 pub use Rattle.ot_job.specs.Live.{Live}
 pub use Rattle.ot_job.specs.Numbered.{at, ended_at, gone, left_of, parent_of, parents, todo_at}
-pub use Rattle.ot_job.specs.Opened.{AreOpen, IsRoomFor}
+pub use Rattle.ot_job.specs.Opened.{AreOpen, IsFor, IsRoomFor}
 pub use Rattle.ot_job.specs.Opening.{MayOpen, Opens, left_open}
 pub use Rattle.ot_job.specs.Rights.{IsRight}
 pub use Rattle.ot_job.specs.Running.{RunsWell}

@@ -1,6 +1,6 @@
 -- Assignments on copies, given back, are the assignments on the cells.
 use Rattle.std.proofs.Common.{◌≡◌, ◌⊎◌, ℕ, Option, Some, None, Bool, true, false, refl, sym, ap, subst, ◌∙◌, inl, inr, if◌then◌else◌, option_map, suc, cond, List, [], ◌∷◌, arith, true≢false, IsSome, find, All}
-use Rattle.ot_job.proofs.Common.{join_by, unit_of, Cell, Mode, Reads, Writes, Folds, Use, E, Set, Fold, If, Task, Wait, Group, Body, End, Next, val, cell_of, same_cell, State, bump, change, serial, Operation, use_as, EachRead, EachTouch, same_is, Look, assigned, AreAssigns, same_self, same_Some, option_map_id, lengths, is_fold, joined, is_at, first_at, value_at, AreJoined, LentCell, found-lent}
+use Rattle.ot_job.proofs.Common.{join_by, unit_of, Cell, Mode, Reads, Writes, Folds, Use, E, Set, Fold, Body, End, Next, val, cell_of, same_cell, State, bump, change, serial, Operation, use_as, EachRead, EachTouch, same_is, Look, assigned, AreAssigns, same_self, same_Some, option_map_id, lengths, is_fold, joined, is_at, first_at, value_at, AreJoined, LentCell, found-lent, cases_Bool}
 use Rattle.ot_model.specs.Monoids.{join-associative, join-absorbed}
 use Rattle.ot_model.specs.Cells.{with_cell}
 use Rattle.ot_check.proofs.Cited.{read-weaker, value-same}
@@ -42,20 +42,17 @@ module _ (modes : Cell → Option Mode) (before : Look) where
 
   -- what may be read has its value in the copy
   read-same : (o : Option Mode) (was copy now : Option ℕ) → IsGiven o was copy now → LetsMode Reads o → now ≡ copy
-  read-same None was copy now g may = absurd may
   read-same (Some Reads) was copy now g may = g.0 ∙ sym g.1
   read-same (Some Writes) was copy now g may = g
-  read-same (Some (Folds op)) was copy now g may = absurd may
+  read-same o was copy now g may = absurd may
 
   pub value-copies : (copies : Look) (s : State) (e : E) → Given copies s → EachRead (λ c. Lets modes (use_as Reads c)) e → val (cell_of s.cells) e ≡ val copies e
   value-copies copies s e g may = value-same (cell_of s.cells) copies e (read-weaker _ _ e (λ c h. read-same (modes c) (before c) (copies c) (cell_of s.cells c) (g c) h) may)
 
   set_at : (o : Option Mode) (was copy now : Option ℕ) (n : ℕ) → LetsMode Writes o → IsGiven o was copy now
       → IsGiven o was (option_map (λ _. n) copy) (option_map (λ _. n) now)
-  set_at None was copy now n may g = absurd may
-  set_at (Some Reads) was copy now n may g = absurd may
   set_at (Some Writes) was copy now n may g = ap (option_map (λ _. n)) g
-  set_at (Some (Folds op)) was copy now n may g = absurd may
+  set_at o was copy now n may g = absurd may
 
   -- a copy that begins at the unit, and its cell, through one fold
   folded : (op : Operation) (was copy now : Option ℕ) (v : ℕ) → IsGiven (Some (Folds op)) was copy now
@@ -72,11 +69,10 @@ module _ (modes : Cell → Option Mode) (before : Look) where
 
   fold_at : (op : Operation) (o : Option Mode) (was copy now : Option ℕ) (v : ℕ) → LetsMode (Folds op) o → IsGiven o was copy now
       → IsGiven o was (option_map (λ n. join_by op n v) copy) (option_map (λ n. join_by op n v) now)
-  fold_at op None was copy now v may g = absurd may
-  fold_at op (Some Reads) was copy now v may g = absurd may
   fold_at op (Some Writes) was copy now v may g = ap (option_map (λ n. join_by op n v)) g
   fold_at op (Some (Folds by)) was copy now v may g =
       subst (λ (b : Operation). IsGiven (Some (Folds by)) was (option_map (λ n. join_by b n v) copy) (option_map (λ n. join_by b n v) now)) (sym may) (folded by was copy now v g)
+  fold_at op o was copy now v may g = absurd may
 
   -- one copy and its cell change alike, and no other does
   moved : (copies : Look) (s : State) (c : Cell) (f : ℕ → ℕ) → Given copies s
@@ -88,10 +84,7 @@ module _ (modes : Cell → Option Mode) (before : Look) where
           rw e (subst (λ x. IsGiven (modes x) (before x) (option_map f (copies x)) (cell_of (with_cell s.cells c f) x)) (same_is c d e)
           (subst (IsGiven (modes c) (before c) (option_map f (copies c))) (sym (model.cell_of-with_cell s.cells c f)) here))
       at false e =
-          rw e (subst (IsGiven (modes d) (before d) (copies d)) (sym (model.cell_of-with_cell-other s.cells c d f (λ same. none (sym (same_self c d same) ∙ e)))) (g d))
-        where
-          none : true ≡ false → ⊥
-          none h = cc
+          rw e (subst (IsGiven (modes d) (before d) (copies d)) (sym (model.cell_of-with_cell-other s.cells c d f (λ same. true≢false (sym (same_self c d same) ∙ e)))) (g d))
 
   -- the copies after the assignments, given back, are the cells after them
   pub given-serial : (piece : Body) (copies : Look) (s : State) → AreAssigns piece → EachTouch (Lets modes) piece → Given copies s → Given (assigned piece copies) (serial piece s)
@@ -106,10 +99,7 @@ module _ (modes : Cell → Option Mode) (before : Look) where
       let same = value-copies copies s e g may.0.0 in
       given-serial rest (with_copy copies c (λ n. join_by op n (val copies e))) (bump 0 1 (change s c (λ n. join_by op n v))) only may.1
       (subst (λ w. Given (with_copy copies c (λ n. join_by op n w)) (change s c (λ n. join_by op n v))) same (moved copies s c (λ n. join_by op n v) g (fold_at op (modes c) (before c) (copies c) (cell_of s.cells c) v may.0.1 (g c))))
-  given-serial (Next (If e a b) rest) copies s only may g = absurd only
-  given-serial (Next (Task d b) rest) copies s only may g = absurd only
-  given-serial (Next (Wait w) rest) copies s only may g = absurd only
-  given-serial (Next (Group op cs b) rest) copies s only may g = absurd only
+  given-serial (Next x rest) copies s only may g = absurd only
 
 -- ---- the cells once a piece has come back are the cells after its assignments
 
@@ -122,13 +112,11 @@ pub record HasInputs (cells : List (List ℕ)) (l : LentCell) : Type 0 where
 -- what holds of all holds of the one that is found
 pub found : (P : LentCell → Type 0) (lent : List LentCell) (c : Cell) (l : LentCell) → All P lent → find (is_at c) lent ≡ Some l → P l × (l.cell ≡ c)
 found P [] c l all h = cc
-found P (x ∷ lent) c l all h = pick (is_at c x) refl (λ g. found P lent c l (λ k d within. all (suc k) d (omega (arith, within))) g)
-  where
-    pick : (b : Bool) → is_at c x ≡ b → (find (is_at c) lent ≡ Some l → P l × (l.cell ≡ c)) → P l × (l.cell ≡ c)
-    pick true e ih =
-        let one : x ≡ l = same_Some x l (sym (ap (λ b. cond b (Some x) (find (is_at c) lent)) e) ∙ h) in
-        (subst P one (all 0 x (omega arith)), subst (λ (y : LentCell). y.cell ≡ c) one (same-from_is_at c x e))
-    pick false e ih = ih (sym (ap (λ b. cond b (Some x) (find (is_at c) lent)) e) ∙ h)
+found P (x ∷ lent) c l all h = elim (cases_Bool (is_at c x)) [
+  | inl e ↦ let one : x ≡ l = same_Some x l (sym (ap (λ b. cond b (Some x) (find (is_at c) lent)) e) ∙ h) in
+      (subst P one (all 0 x (omega arith)), subst (λ (y : LentCell). y.cell ≡ c) one (same-from_is_at c x e))
+  | inr e ↦ found P lent c l (λ k d within. all (suc k) d (omega (arith, within))) (sym (ap (λ b. cond b (Some x) (find (is_at c) lent)) e) ∙ h)
+]
 
 abbrev pub mode_at : List LentCell → Cell → Option Mode
 mode_at lent c = option_map (λ l. l.mode) (find (is_at c) lent)
@@ -153,11 +141,7 @@ module _ (first last : List LentCell) (before after : List (List ℕ)) (piece : 
         given l (Folds op) is h at = some (cell_of before c) refl
           where
             some : (o : Option ℕ) → cell_of before c ≡ o → IsGiven (Some (Folds op)) (cell_of before c) (Some l.first) (cell_of before c)
-            some None e = absurd (gone (cell_of before l.cell) (ap (cell_of before) at ∙ e) h.there)
-              where
-                gone : (o : Option ℕ) → o ≡ None → IsSome o → ⊥
-                gone None e h = true≢false (sym h)
-                gone (Some n) e h = cc
+            some None e = absurd (true≢false (sym (subst IsSome (ap (cell_of before) at ∙ e) h.there)))
             some (Some n) e = (n, l.first, e, refl, inr (h.unit op is, refl))
 
         pick : (o : Option LentCell) → find (is_at c) first ≡ o → IsGiven (mode_at first c) (cell_of before c) (first_at first c) (cell_of before c)
@@ -190,12 +174,8 @@ module _ (first last : List LentCell) (before after : List (List ℕ)) (piece : 
 
         pick : (o : Option LentCell) → find (is_at c) last ≡ o → IsGiven (mode_at first c) (cell_of before c) (value_at last c) (cell_of (serial piece begin).cells c) → cell_of after c ≡ cell_of (serial piece begin).cells c
         pick None e g =
-            back.others c (λ lent. none (find (is_at c) last) e ((found-lent last c).1 lent))
+            back.others c (λ lent. true≢false (sym (subst IsSome e ((found-lent last c).1 lent))))
             ∙ sym (subst (λ (m : Option Mode). IsGiven m (cell_of before c) (value_at last c) (cell_of (serial piece begin).cells c)) (sym (modes_same c) ∙ ap (option_map (λ l. l.mode)) e) g)
-          where
-            none : (o : Option LentCell) → o ≡ None → IsSome o → ⊥
-            none None e h = true≢false (sym h)
-            none (Some l) e h = cc
         pick (Some l) e g =
             let f = found (λ l. (cell_of after l.cell ≡ option_map (λ stored. joined l.mode stored l.value) (cell_of before l.cell))
             × ((op : Operation) → l.mode ≡ Folds op → l.value ≡ unit_of op → cell_of after l.cell ≡ cell_of before l.cell) × IsSome (cell_of before l.cell)) last c l

@@ -1,6 +1,7 @@
 -- What a job counts: through each change of the regions, and at its end.
-use Rattle.std.proofs.Common.{◌≡◌, ℕ, ◌+◌, ◌≤◌, Bool, true, false, ◌&&◌, filter, List, [], ◌∷◌, None, refl, ap, ◌∙◌, arith, ◌==◌, if◌then◌else◌, ◌<◌, ◌-◌, zero, suc, cond, not, ◌||◌, length, sym, is_some, count_by}
-use Rattle.ot_job.proofs.Common.{Set, Fold, If, Task, Wait, Group, Body, End, Next, val, cell_of, lengths, size, tasks_in, join_by, State, bump, change, either, serial, serial_run, state_of, AreAssigns, left, children_left, leading_len, counted, counts_after, list_any, nat_tests, range_with_len, sum_by-cons, updated, Region, at, all_ended, any_out, out_in}
+use Rattle.std.proofs.Common.{◌≡◌, ℕ, ◌+◌, ◌≤◌, Bool, true, false, ◌&&◌, filter, List, [], ◌∷◌, None, refl, ap, ◌∙◌, arith, ◌==◌, if◌then◌else◌, ◌<◌, zero, suc, cond, not, ◌||◌, length, sym, is_some, count_by}
+use Rattle.ot_job.proofs.Common.{Set, Fold, If, Task, Wait, Group, Body, End, Next, val, cell_of, lengths, size, tasks_in, join_by, State, bump, change, either, serial, serial_run, state_of, AreAssigns, left, children_left, leading_len, counted, counts_after, list_any, range_with_len, sum_by-cons, updated, Region, at, all_ended, any_out, out_in, list_all}
+use Rattle.std.proofs.lemmas.List.Folds.{sum_by-zero}
 use Rattle.ot_model.proofs.CellsLemmas.{lengths-with_cell}
 use Rattle.ot_model.specs.declared.plain.Counts.{Counts}
 use Rattle.ot_model.proofs.SerialLemmas.{serial-from, either-both}
@@ -64,10 +65,7 @@ piece-counts (Next (Set c e) rest) s only =
     let r = piece-counts rest (bump 0 1 (change s c (λ _. val (cell_of s.cells) e))) only in (omega (arith, r.0), omega (arith, r.1))
 piece-counts (Next (Fold op c e) rest) s only =
     let r = piece-counts rest (bump 0 1 (change s c (λ n. join_by op n (val (cell_of s.cells) e)))) only in (omega (arith, r.0), omega (arith, r.1))
-piece-counts (Next (If e a b) rest) s only = absurd only
-piece-counts (Next (Task d b) rest) s only = absurd only
-piece-counts (Next (Wait w) rest) s only = absurd only
-piece-counts (Next (Group op cs b) rest) s only = absurd only
+piece-counts (Next x rest) s only = absurd only
 
 -- a piece sees the cells alone
 pub piece-cells : (piece : Body) (s : State) → (serial piece s).cells ≡ (serial_run piece s.cells).cells
@@ -80,10 +78,7 @@ piece-lengths (Next (Set c e) rest) s only =
     piece-lengths rest (bump 0 1 (change s c (λ _. val (cell_of s.cells) e))) only ∙ lengths-with_cell s.cells c (λ _. val (cell_of s.cells) e)
 piece-lengths (Next (Fold op c e) rest) s only =
     piece-lengths rest (bump 0 1 (change s c (λ n. join_by op n (val (cell_of s.cells) e)))) only ∙ lengths-with_cell s.cells c (λ n. join_by op n (val (cell_of s.cells) e))
-piece-lengths (Next (If e a b) rest) s only = absurd only
-piece-lengths (Next (Task d b) rest) s only = absurd only
-piece-lengths (Next (Wait w) rest) s only = absurd only
-piece-lengths (Next (Group op cs b) rest) s only = absurd only
+piece-lengths (Next x rest) s only = absurd only
 
 same-state : (s t : State) → s.cells ≡ t.cells → s.tasks ≡ t.tasks → s.units ≡ t.units → s ≡ t
 same-state s t a b c =
@@ -110,14 +105,10 @@ settled-state piece rest cells counts only =
     by : (b : Body) → counted b (record { cells = (serial_run piece cells).cells; tasks = counts.tasks; units = counts.units + leading_len piece })
         ≡ state_of (serial_run piece cells).cells (counts_after counts piece b)
     by End = same-state _ (state_of (serial_run piece cells).cells (counts_after counts piece End)) refl (omega arith) (omega arith)
-    by (Next (Set c e) r) = one counts.tasks
-    by (Next (Fold op c e) r) = one counts.tasks
-    by (Next (If e a b) r) = one counts.tasks
-    by (Next (Wait w) r) = one counts.tasks
-    by (Next (Group op cs b) r) = one counts.tasks
     by (Next (Task d b) r) =
         same-state (record { cells = (serial_run piece cells).cells; tasks = counts.tasks + 1; units = counts.units + leading_len piece + 1 })
         (state_of (serial_run piece cells).cells (counts_after counts piece (Next (Task d b) r))) refl refl (omega arith)
+    by (Next x r) = one counts.tasks
 
 -- ---- the counters beside the tasks, through each change of the regions
 
@@ -130,35 +121,25 @@ pub count-cons : {A : Type 0} (p : A → Bool) (r : A) (rs : List A) → count_b
 count-cons p r rs = sum_by-cons (λ x. cond {A = ℕ} (p x) 1 0) r rs
 
 pub any-counted : {A : Type 0} (p : A → Bool) (rs : List A) → not (count_by p rs == 0) ≡ list_any p rs
-any-counted p [] = refl
-any-counted p (r ∷ rs) = by (any-counted p rs) (p r) refl
+any-counted p rs = ap not (sum_by-zero (λ x. cond {A = ℕ} (p x) 1 0) rs) ∙ turned p rs
   where
-    by : not (count_by p rs == 0) ≡ list_any p rs → (b : Bool) → p r ≡ b → not (count_by p (r ∷ rs) == 0) ≡ (p r || list_any p rs)
-    by later true e =
-        let is : one (p r) ≡ 1 = ap one e in
-        let more : count_by p (r ∷ rs) ≡ 1 + count_by p rs = omega (arith, count-cons p r rs, is) in
-        let some : (count_by p (r ∷ rs) == 0) ≡ false = grind (arith, nat_tests, more) in
-        ap not some ∙ sym (ap (λ b. b || list_any p rs) e)
-    by later false e =
-        let is : one (p r) ≡ 0 = ap one e in
-        let same : count_by p (r ∷ rs) ≡ count_by p rs = omega (arith, count-cons p r rs, is) in
-        ap (λ n. not (n == 0)) same ∙ later ∙ sym (ap (λ b. b || list_any p rs) e)
+    turned : {A : Type 0} (p : A → Bool) (xs : List A) → not (list_all (λ x. cond {A = ℕ} (p x) 1 0 == 0) xs) ≡ list_any p xs
+    turned p [] = refl
+    turned p (x ∷ xs) = by (p x) (turned p xs)
+      where
+        by : (b : Bool) → not (list_all (λ x. cond {A = ℕ} (p x) 1 0 == 0) xs) ≡ list_any p xs → not ((cond {A = ℕ} b 1 0 == 0) && list_all (λ x. cond {A = ℕ} (p x) 1 0 == 0) xs) ≡ (b || list_any p xs)
+        by true later = refl
+        by false later = later
 
 pub out-any : (rs : List Region) → not (out_in rs == 0) ≡ any_out rs
 out-any rs = any-counted (λ r. is_some r.running) rs
 
 pub all-counted : (rs : List Region) → (count_by (λ r. not r.ended) rs == 0) ≡ all_ended rs
-all-counted [] = refl
-all-counted (r ∷ rs) = by (all-counted rs) r.ended refl
+all-counted rs = sum_by-zero (λ r. cond {A = ℕ} (not r.ended) 1 0) rs ∙ ap (λ (test : Region → Bool). list_all test rs) (λ z r. bit r.ended z)
   where
-    by : (count_by (λ r. not r.ended) rs == 0) ≡ all_ended rs → (b : Bool) → r.ended ≡ b → (count_by (λ r. not r.ended) (r ∷ rs) == 0) ≡ (r.ended && all_ended rs)
-    by later true e =
-        let same : count_by (λ r. not r.ended) (r ∷ rs) ≡ count_by (λ r. not r.ended) rs = omega (arith, count-cons (λ r. not r.ended) r rs, ap (λ b. one (not b)) e) in
-        ap (λ n. n == 0) same ∙ later ∙ sym (ap (λ b. b && all_ended rs) e)
-    by later false e =
-        let more : count_by (λ r. not r.ended) (r ∷ rs) ≡ 1 + count_by (λ r. not r.ended) rs = omega (arith, count-cons (λ r. not r.ended) r rs, ap (λ b. one (not b)) e) in
-        let some : (count_by (λ r. not r.ended) (r ∷ rs) == 0) ≡ false = grind (arith, nat_tests, more) in
-        some ∙ sym (ap (λ b. b && all_ended rs) e)
+    bit : (e : Bool) → (cond {A = ℕ} (not e) 1 0 == 0) ≡ e
+    bit true = refl
+    bit false = refl
 
 -- so many stand at the numbers that pass
 pub passing-counted : (p : Region → Bool) (rs : List Region) → length (passing (λ k. p (at rs k)) (length rs)) ≡ count_by p rs

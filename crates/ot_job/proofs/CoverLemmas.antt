@@ -1,6 +1,7 @@
 -- Each touch of a piece may be made on what it holds.
-use Rattle.std.proofs.Common.{◌≡◌, ◌≢◌, ◌<◌, ℕ, zero, suc, ◌+◌, Bool, true, false, List, [], ◌∷◌, ◌++◌, map, refl, sym, ap, subst, ◌∙◌, inl, inr, arith, true≢false, Option, Some, None, IsSome, cond, option_map, if◌then◌else◌, fold, find}
-use Rattle.ot_job.proofs.Common.{false_from_ne_true, range_with_len, E, Literal, CellAt, Apply, PickFrom, Set, Fold, If, Task, Wait, Group, Body, End, Next, NamedIn, ValueNamedIn, cell_at, HasAll, cells_named, Cell, Operation, Section, Mode, Reads, Writes, Folds, Use, use_as, touches, Declared, folds_to, same_cell, lent_from, copy_of, first_at, value_at, is_at, same_is, same_self, AreAssigns, CanAssign, mode_in, same_fold, assign_touches, held, noted, stronger, with_mode, mode_held, reads-append}
+use Rattle.std.proofs.Common.{◌≡◌, ◌≢◌, ◌<◌, ℕ, zero, suc, ◌+◌, Bool, true, false, List, [], ◌∷◌, ◌++◌, map, refl, sym, ap, subst, ◌∙◌, inl, inr, arith, true≢false, Option, Some, None, IsSome, cond, option_map, if◌then◌else◌, fold, find, ◌%◌}
+use Rattle.ot_job.proofs.Common.{false_from_ne_true, range_with_len, E, Literal, CellAt, Apply, PickFrom, Set, Fold, Body, End, Next, NamedIn, ValueNamedIn, cell_at, HasAll, cells_named, Cell, Operation, Section, Mode, Reads, Writes, Folds, Use, use_as, touches, Declared, folds_to, same_cell, lent_from, copy_of, first_at, value_at, is_at, same_is, same_self, AreAssigns, CanAssign, mode_in, same_fold, assign_touches, held, noted, stronger, with_mode, mode_held, reads-append, EachRead, cases_Bool}
+use Rattle.std.proofs.Math.Nat.{mod-lt, mod-eq_of_lt}
 use Rattle.ot_owner.specs.Lending.{MayChange}
 use Rattle.ot_job.proofs.HoldsLemmas.{Among}
 
@@ -21,27 +22,17 @@ two-folds o p w = by (same_fold o p)
 
 grow : (o : Option Mode) (n w : Mode) → Covers o w → Covers (Some (with_mode o n)) w
 grow None n w h = absurd h
+grow (Some (Folds o)) (Folds p) w h = two-folds o p w
 grow (Some Reads) Reads Reads h = tt
-grow (Some Reads) Writes Reads h = tt
-grow (Some Reads) (Folds o) Reads h = tt
 grow (Some Reads) n Writes h = absurd h
 grow (Some Reads) n (Folds o) h = absurd h
-grow (Some Writes) n w h = tt
-grow (Some (Folds o)) Reads w h = tt
-grow (Some (Folds o)) Writes w h = tt
-grow (Some (Folds o)) (Folds p) w h = two-folds o p w
+grow (Some m) n w h = tt
 
 itself : (o : Option Mode) (n : Mode) → Covers (Some (with_mode o n)) n
-itself None Reads = tt
-itself None Writes = tt
-itself None (Folds o) = tt
-itself (Some Reads) Reads = tt
-itself (Some Reads) Writes = tt
-itself (Some Reads) (Folds o) = tt
-itself (Some Writes) n = tt
-itself (Some (Folds o)) Reads = tt
-itself (Some (Folds o)) Writes = tt
 itself (Some (Folds o)) (Folds p) = two-folds o p (Folds p)
+itself (Some Reads) Reads = tt
+itself None Reads = tt
+itself o n = tt
 
 module _ (own : Declared) where
   stays : (c : Cell) (us : List Use) (o : Option Mode) (w : Mode) → Covers o w → Covers (fold (noted own c) o us) w
@@ -67,11 +58,10 @@ flip c d false e = false_from_ne_true (same_cell d c) (λ k. true≢false (sym (
 
 valued : (cells : List (List ℕ)) (d : List Use) (c : Cell) (w : Mode) → Covers (mode_in d c) w → IsSome (value_at (lent_from cells d) c)
 valued cells [] c w h = absurd h
-valued cells (u ∷ d) c w h = by (valued cells d c w) (same_cell c u.cell) refl
-  where
-    by : (Covers (mode_in d c) w → IsSome (value_at (lent_from cells d) c)) → (b : Bool) → same_cell c u.cell ≡ b → IsSome (value_at (lent_from cells (u ∷ d)) c)
-    by more true e = rw (flip c u.cell true e) refl
-    by more false e = rw (flip c u.cell false e) (more (rw e at h))
+valued cells (u ∷ d) c w h = elim (cases_Bool (same_cell c u.cell)) [
+  | inl e ↦ rw (flip c u.cell true e) refl
+  | inr e ↦ rw (flip c u.cell false e) (valued cells d c w (rw e at h))
+]
 
 changes : (cells : List (List ℕ)) (d : List Use) (c : Cell) (w : Mode) → w ≢ Reads → Covers (mode_in d c) w → MayChange (lent_from cells d) c
 changes cells [] c w other h = absurd h
@@ -79,10 +69,8 @@ changes cells (u ∷ d) c w other h = by (changes cells d c w other) (same_cell 
   where
     writes : (m w : Mode) → w ≢ Reads → Covers (Some m) w → m ≢ Reads
     writes Reads Reads other h e = other refl
-    writes Reads Writes other h e = absurd h
-    writes Reads (Folds o) other h e = absurd h
-    writes Writes w other h e = cc
-    writes (Folds o) w other h e = cc
+    writes Reads w other h e = absurd h
+    writes m w other h e = cc
 
     by : (Covers (mode_in d c) w → MayChange (lent_from cells d) c) → (b : Bool) → same_cell c u.cell ≡ b → MayChange (lent_from cells (u ∷ d)) c
     by more true e = (0, copy_of cells u, omega arith, refl, (sym (same_is c u.cell e), writes u.mode w other (rw e at h)))
@@ -106,22 +94,34 @@ in-section s a (suc n) (suc k) l =
     let e : a + 1 + k ≡ a + suc k = omega arith in
     inr (subst (λ m. Among (use_as Reads (cell_at s m)) (map (use_as Reads) (map (cell_at s) (range_with_len (a + 1) n)))) e (in-section s (a + 1) n k (omega (arith, l))))
 
-pub value-all : (lens : List ℕ) (look : Cell → Option ℕ) (e : E) → ValueNamedIn lens e → ((c : Cell) → Among (use_as Reads c) (map (use_as Reads) (cells_named e)) → IsSome (look c)) → HasAll look e
-value-all lens look (Literal n) h f = tt
-value-all lens look (CellAt c) h f = f c (inl refl)
-value-all lens look (Apply o a b) h f = (
-  value-all lens look a h.0 (λ c k. f c (subst (Among (use_as Reads c)) (sym (reads-append (cells_named a) (cells_named b))) (among-left (use_as Reads c) (map (use_as Reads) (cells_named a)) (map (use_as Reads) (cells_named b)) k))),
-  value-all lens look b h.1 (λ c k. f c (subst (Among (use_as Reads c)) (sym (reads-append (cells_named a) (cells_named b))) (among-right (use_as Reads c) (map (use_as Reads) (cells_named a)) (map (use_as Reads) (cells_named b)) k))),
+-- from each cell that is read in the list to each read of the term
+pub read-from : (Q : Cell → Type 0) (lens : List ℕ) (e : E) → ValueNamedIn lens e → ((c : Cell) → Among (use_as Reads c) (map (use_as Reads) (cells_named e)) → Q c) → EachRead Q e
+read-from Q lens (Literal n) h f = tt
+read-from Q lens (CellAt c) h f = f c (inl refl)
+read-from Q lens (Apply o a b) h f = (
+  read-from Q lens a h.0 (λ c k. f c (subst (Among (use_as Reads c)) (sym (reads-append (cells_named a) (cells_named b))) (among-left (use_as Reads c) (map (use_as Reads) (cells_named a)) (map (use_as Reads) (cells_named b)) k))),
+  read-from Q lens b h.1 (λ c k. f c (subst (Among (use_as Reads c)) (sym (reads-append (cells_named a) (cells_named b))) (among-right (use_as Reads c) (map (use_as Reads) (cells_named a)) (map (use_as Reads) (cells_named b)) k))),
 )
-value-all lens look (PickFrom s e) h f =
+read-from Q lens (PickFrom s e) h f =
     let cells = map (cell_at s) (range_with_len 0 s.len) in
     let back = λ (c : Cell). subst (Among (use_as Reads c)) (sym (reads-append cells (cells_named e))) in (
-      h.0.some,
-      omega (arith, h.0.within, h.0.short),
-      (λ k l. f (cell_at s k) (back (cell_at s k) (among-left (use_as Reads (cell_at s k)) (map (use_as Reads) cells) (map (use_as Reads) (cells_named e))
-          (let z : 0 + k ≡ k = omega arith in subst (λ m. Among (use_as Reads (cell_at s m)) (map (use_as Reads) cells)) z (in-section s 0 s.len k l))))),
-      value-all lens look e h.1 (λ c k. f c (back c (among-right (use_as Reads c) (map (use_as Reads) cells) (map (use_as Reads) (cells_named e)) k))),
+      (λ k.
+          let l : k % s.len < s.len = mod-lt k h.0.some in
+          let z : 0 + k % s.len ≡ k % s.len = omega arith in
+          f (cell_at s (k % s.len)) (back (cell_at s (k % s.len)) (among-left (use_as Reads (cell_at s (k % s.len))) (map (use_as Reads) cells) (map (use_as Reads) (cells_named e))
+          (subst (λ m. Among (use_as Reads (cell_at s m)) (map (use_as Reads) cells)) z (in-section s 0 s.len (k % s.len) l))))),
+      read-from Q lens e h.1 (λ c k. f c (back c (among-right (use_as Reads c) (map (use_as Reads) cells) (map (use_as Reads) (cells_named e)) k))),
     )
+
+all-read : (lens : List ℕ) (look : Cell → Option ℕ) (e : E) → ValueNamedIn lens e → EachRead (λ c. IsSome (look c)) e → HasAll look e
+all-read lens look (Literal n) h r = tt
+all-read lens look (CellAt c) h r = r
+all-read lens look (Apply o a b) h r = (all-read lens look a h.0 r.0, all-read lens look b h.1 r.1)
+all-read lens look (PickFrom s e) h r =
+    (h.0.some, omega (arith, h.0.within, h.0.short), (λ k l. subst (λ m. IsSome (look (cell_at s m))) (mod-eq_of_lt l) (r.0 k)), all-read lens look e h.1 r.1)
+
+value-all : (lens : List ℕ) (look : Cell → Option ℕ) (e : E) → ValueNamedIn lens e → ((c : Cell) → Among (use_as Reads c) (map (use_as Reads) (cells_named e)) → IsSome (look c)) → HasAll look e
+value-all lens look e n f = all-read lens look e n (read-from (λ c. IsSome (look c)) lens e n f)
 
 module _ (lens : List ℕ) (own : Declared) (cells : List (List ℕ)) (d : List Use) where
   abbrev Ready : List Use → Type 0
@@ -153,10 +153,7 @@ module _ (lens : List ℕ) (own : Declared) (cells : List (List ℕ)) (d : List 
         changes cells d c (mode_held own (use_as (Folds op) c)) (held-fold op c) (first (use_as (Folds op) c) (among-right (use_as (Folds op) c) reads (use_as (Folds op) c ∷ []) (inl refl))),
         can-assign rest only n.1 (λ u k. f u (among-right u (touches (Fold op c e)) (assign_touches rest) k)),
       )
-  can-assign (Next (If e a b) rest) only n f = absurd only
-  can-assign (Next (Task u b) rest) only n f = absurd only
-  can-assign (Next (Wait w) rest) only n f = absurd only
-  can-assign (Next (Group op cs b) rest) only n f = absurd only
+  can-assign (Next x rest) only n f = absurd only
 
 -- a piece that holds what its touches ask may make its assigns
 pub piece-can : (lens : List ℕ) (own : Declared) (cells : List (List ℕ)) (d : List Use) (piece : Body) (more : List Use) → AreAssigns piece → NamedIn lens piece

@@ -1,6 +1,6 @@
 -- A task that is created leaves what holds of its parent's region, and who is whose child.
 use Rattle.std.proofs.Common.{◌≡◌, ℕ, zero, suc, Bool, true, false, not, ◌&&◌, ◌||◌, List, [], ◌∷◌, ◌++◌, map, length, refl, sym, ap, subst, ◌∙◌, ◌⊎◌, inl, inr, ⊎_elim, true≢false, ◌==◌, Some, slice_get, ◌≢◌, ◌+◌, ◌<◌, ◌≤◌, arith, length-append}
-use Rattle.ot_job.proofs.Common.{Waiting, Region, with_rest, with_child, is_awaited_at, list_any, same_Some, Body, End, Next, Task, Cell, Operation, Mode, Reads, Writes, Folds, same_fold, Use, Sibling, created, is_unfinished, is_in, use_as, EachTouch, EachTask, Declared, allows, folds_to, has_cell, ReductionMisuse, or_true, true_or, or_right, and_left, and_right, and_true, IsClean, Open, todo, opened, children_of, IsFineAt, AwaitsAll, unawaited, DontMix, LetsAll, NamedOnce, OnlyFolds, IsPlaced, grouped_in, cases_eq, cases_lt, slice_get_within, updated, length-updated, IsReady, new_region, at, parent_of, IsBegun, IsKin, IsSound, slice_get-push}
+use Rattle.ot_job.proofs.Common.{Waiting, Region, with_rest, with_child, is_awaited_at, list_any, same_Some, Body, End, Next, Task, Cell, Operation, Mode, Reads, Writes, Folds, same_fold, Use, Sibling, created, is_unfinished, is_in, use_as, EachTouch, EachTask, Declared, allows, folds_to, has_cell, ReductionMisuse, or_true, true_or, or_right, and_left, and_right, and_true, IsClean, Open, todo, opened, children_of, IsFineAt, AwaitsAll, unawaited, DontMix, LetsAll, NamedOnce, OnlyFolds, IsPlaced, grouped_in, cases_eq, slice_get_within, updated, length-updated, IsReady, new_region, at, parent_of, IsBegun, IsKin, IsSound, slice_get-push, gone}
 use Rattle.std.proofs.lemmas.List.Folds.{list_any-append}
 use Rattle.ot_check.specs.Offences.{exceeds, misfits}
 use Rattle.ot_check.specs.declared.fault.Offence.TheVariants.{ChildBeyond}
@@ -8,7 +8,7 @@ use Rattle.ot_check.proofs.Cited.{is_offence-ChildBeyond, is_offence-ReductionMi
 use Rattle.ot_depend.proofs.SiblingsLemmas.{IsReady-push}
 use Rattle.ot_job.proofs.FoldLemmas.{one-op, writes-all, declares-fold, only-unwritten}
 use Rattle.ot_job.proofs.KeptLemmas.{todo-next, at-updated, at-updated-other, at-more, at-new}
-use Rattle.ot_job.proofs.EachLemmas.{field-kept}
+use Rattle.ot_job.proofs.EachLemmas.{field-kept, more-by_number}
 
 -- ---- a task that is created leaves what holds of its parent's region
 
@@ -185,49 +185,41 @@ module _ (rs : List Region) (i : ℕ) (h : i < length rs) (uses : List Use) (bod
   pub at-others : (j : ℕ) → j < length rs → j ≢ i → at more j ≡ at rs j
   at-others j l other = at-old j l ∙ at-updated-other rs i j (with_child uses) other
 
+  -- another task, the parent, the new one, or none
+  pub at-each-one : (P : ℕ → Region → Type 0) → ((j : ℕ) → j < length rs → j ≢ i → P j (at rs j)) → P i (with_child uses (at rs i)) → P (length rs) (new_region i child uses body)
+      → ((j : ℕ) → length rs < j → P j gone) → (j : ℕ) → P j (at more j)
+  at-each-one P others parent fresh past =
+      more-by_number P (updated rs i (with_child uses)) (new_region i child uses body) (λ j l. elim (cases_eq j i) [
+        | inl e ↦ subst (λ n. P n (at (updated rs i (with_child uses)) n)) (sym e) (subst (P i) (sym (at-updated rs i (with_child uses) h)) parent)
+        | inr other ↦ subst (P j) (sym (at-updated-other rs i j (with_child uses) other)) (others j (omega (arith, l, n-long)) other)
+      ]) (subst (λ n. P n (new_region i child uses body)) (sym n-long) fresh) (λ j l. past j (omega (arith, l, n-long)))
+
   -- each field but the children is as before
   pub same-field : {A : Type 0} (f : Region → A) → ((r : Region) → f (with_child uses r) ≡ f r) → (j : ℕ) → j < length rs → f (at more j) ≡ f (at rs j)
   same-field f keeps j l = ap f (at-old j l) ∙ field-kept f (with_child uses) keeps rs i j
 
   -- an entry stays in its table
   entry-kept : (p k : ℕ) (s : Sibling) → p < length rs → slice_get (at rs p).children k ≡ Some s → slice_get (at more p).children k ≡ Some s
-  entry-kept p k s l there = pick (cases_eq p i)
-    where
-      pick : (p ≡ i) ⊎ (p ≡ i → ⊥) → slice_get (at more p).children k ≡ Some s
-      pick (inl e) =
-          ap (λ n. slice_get (at more n).children k) e ∙ ap (λ (r : Region). slice_get r.children k) at-parent
-          ∙ (let here : slice_get (at rs i).children k ≡ Some s = subst (λ n. slice_get (at rs n).children k ≡ Some s) e there in
-          slice_get-push (at rs i).children (created uses (map (λ o. o.group) (at rs i).groups)) k (slice_get_within (at rs i).children k s here) ∙ here)
-      pick (inr e) = ap (λ (r : Region). slice_get r.children k) (at-others p l e) ∙ there
+  entry-kept p k s l there = elim (cases_eq p i) [
+    | inl e ↦ ap (λ n. slice_get (at more n).children k) e ∙ ap (λ (r : Region). slice_get r.children k) at-parent
+        ∙ (let here : slice_get (at rs i).children k ≡ Some s = subst (λ n. slice_get (at rs n).children k ≡ Some s) e there in
+        slice_get-push (at rs i).children (created uses (map (λ o. o.group) (at rs i).groups)) k (slice_get_within (at rs i).children k s here) ∙ here)
+    | inr e ↦ ap (λ (r : Region). slice_get r.children k) (at-others p l e) ∙ there
+  ]
 
   module _ (s : IsSound rs) where
-    kin-old : (j : ℕ) → 0 < j → j < length rs → IsKin more j
-    kin-old j pos l =
-        let k = s.kin j pos l in
-        let p = same-field (λ r. r.parent) (λ r. refl) j l in
-        let c = same-field (λ r. r.child) (λ r. refl) j l in
-        record {
-          entry = k.entry;
-          there = ap (λ n. slice_get (at more n).children (at more j).child) p ∙ ap (λ n. slice_get (at more (parent_of rs j)).children n) c
-              ∙ entry-kept (parent_of rs j) (at rs j).child k.entry (omega (arith, s.down j pos, l)) k.there;
-          uses = same-field (λ r. r.own) (λ r. refl) j l ∙ k.uses;
-          finished = k.finished ∙ sym (same-field (λ r. r.ended) (λ r. refl) j l);
-        }
-
-    kin-new : IsKin more (length rs)
-    kin-new = record {
-      entry = created uses (map (λ o. o.group) (at rs i).groups);
-      there = ap (λ (r : Region). slice_get (at more r.parent).children r.child) at-fresh ∙ ap (λ (r : Region). slice_get r.children child) at-parent ∙ slice_get-last (at rs i).children _;
-      uses = ap (λ (r : Region). r.own) at-fresh;
-      finished = sym (ap (λ (r : Region). r.ended) at-fresh);
-    }
-
     pub kin-more : (j : ℕ) → 0 < j → j < length more → IsKin more j
-    kin-more j pos l = pick (cases_lt j (length rs))
+    kin-more j pos l = let (entry, there, uses, finished) = at-each-one KinOf (λ j below other pos l. old j below pos) (λ pos l. old i h pos) (λ pos l. fresh)
+        (λ j past pos l. absurd (omega (arith, past, l, long))) j pos l in record { entry = entry; there = there; uses = uses; finished = finished }
       where
-        pick : (j < length rs) ⊎ (length rs ≤ j) → IsKin more j
-        pick (inl below) = kin-old j pos below
-        pick (inr past) = subst (IsKin more) (omega (arith, past, l, long)) kin-new
+        KinOf : ℕ → Region → Type 0
+        KinOf j r = 0 < j → j < length more → (entry : Sibling) × (slice_get (at more r.parent).children r.child ≡ Some entry) × (r.own ≡ Some entry.uses) × (entry.finished ≡ r.ended)
+
+        old : (j : ℕ) → j < length rs → 0 < j → (entry : Sibling) × (slice_get (at more (parent_of rs j)).children (at rs j).child ≡ Some entry) × ((at rs j).own ≡ Some entry.uses) × (entry.finished ≡ (at rs j).ended)
+        old j below pos = let k = s.kin j pos below in (k.entry, entry-kept (parent_of rs j) (at rs j).child k.entry (omega (arith, s.down j pos, below)) k.there, k.uses, k.finished)
+
+        fresh : (entry : Sibling) × (slice_get (at more i).children child ≡ Some entry) × (Some uses ≡ Some entry.uses) × (entry.finished ≡ false)
+        fresh = (created uses (map (λ o. o.group) (at rs i).groups), ap (λ (r : Region). slice_get r.children child) at-parent ∙ slice_get-last (at rs i).children _, refl, refl)
 
     pub begun-more : (j : ℕ) → j < length rs → IsBegun rs j → IsBegun more j
     begun-more j l begun pos =
@@ -243,10 +235,8 @@ module _ (rs : List Region) (i : ℕ) (h : i < length rs) (uses : List Use) (bod
         longer = omega (arith, long)
 
         ready : (q k : ℕ) → q < length rs → IsReady (at rs q).children k → IsReady (at more q).children k
-        ready q k below r = pick (cases_eq q i)
-          where
-            pick : (q ≡ i) ⊎ (q ≡ i → ⊥) → IsReady (at more q).children k
-            pick (inl e) =
-                subst (λ n. IsReady (at more n).children k) (sym e)
-                (subst (λ (x : Region). IsReady x.children k) (sym at-parent) (IsReady-push (at rs i).children _ k (subst (λ n. IsReady (at rs n).children k) e r)))
-            pick (inr e) = subst (λ (x : Region). IsReady x.children k) (sym (at-others q below e)) r
+        ready q k below r = elim (cases_eq q i) [
+          | inl e ↦ subst (λ n. IsReady (at more n).children k) (sym e)
+              (subst (λ (x : Region). IsReady x.children k) (sym at-parent) (IsReady-push (at rs i).children _ k (subst (λ n. IsReady (at rs n).children k) e r)))
+          | inr e ↦ subst (λ (x : Region). IsReady x.children k) (sym (at-others q below e)) r
+        ]

@@ -1,6 +1,6 @@
 -- A job's calls, as whoever deals with it sees them.
 use Rattle.std.proofs.Common.{◌≡◌, ◌≢◌, ℕ, zero, suc, ◌+◌, ◌<◌, ◌≤◌, Bool, true, false, not, ◌&&◌, ◌||◌, List, [], ◌∷◌, length, get_or, refl, sym, ap, subst, ◌∙◌, ◌⊎◌, inl, inr, arith, true≢false, ◌==◌, ◌%◌, Option, Some, None, is_some, option_map, if◌then◌else◌}
-use Rattle.ot_job.proofs.Common.{range_with_len, same_Some, none-some, slice_get-get_or, length-range_with_len, length-filter, count_by-le-length, false_from_ne_true, E, Body, expanded_of, updated, and_left, not_true, Lease, lease_of, loan_of, Region, Run, stopped, root_region, at, Live, Taken, Came, IsOut, taken_by, behind, test_of, begun, with_loan, loans_out, is_claimable, claimable_of, picked, is_let_go, is_ready, Claims, ahead, Settles, moved_on, settled, is_at_end, any_out, all_ended, claimable_in, aborted, region_weight, weight_left, IsWell, Working, Failing, Ended, Failed, out_in}
+use Rattle.ot_job.proofs.Common.{range_with_len, same_Some, none-some, slice_get-get_or, length-range_with_len, length-filter, count_by-le-length, false_from_ne_true, E, Body, expanded_of, updated, and_left, not_true, Lease, lease_of, loan_of, Region, Run, stopped, root_region, at, Live, Taken, Came, IsOut, taken_by, behind, test_of, begun, with_loan, loans_out, is_claimable, claimable_of, picked, is_let_go, is_ready, Claims, ahead, Settles, moved_on, settled, any_out, all_ended, claimable_in, aborted, region_weight, weight_left, IsWell, Working, Failing, Ended, Failed, out_in, or_right, cases_Bool}
 use Rattle.std.proofs.lemmas.Nat.{mod_below}
 use Rattle.std.proofs.lemmas.List.Sorted.{length_permutation}
 use Rattle.ot_check.specs.Jobs.{Spec}
@@ -17,7 +17,7 @@ use Rattle.ot_job.proofs.StartLemmas.{each-ended, one-out, root-light}
 use Rattle.ot_job.proofs.MovesLemmas.{Alike, others-moved, still-out, loans-settled}
 use Rattle.ot_job.proofs.WeighingLemmas.{weight-begun}
 use Rattle.ot_job.proofs.StepLemmas.{moved-running}
-use Rattle.ot_job.proofs.StuckLemmas.{none-out as none-at}
+use Rattle.ot_job.proofs.StuckLemmas.{none-out as none-at, state-working}
 
 -- ---- the piece that is out
 
@@ -77,11 +77,7 @@ out-light (r ∷ rs) alive = by r.running refl (out-light rs (λ i. alive (suc i
 any-at : (rs : List Region) (i : ℕ) (run : Run) → (at rs i).running ≡ Some run → any_out rs ≡ true
 any-at [] i run is = absurd (none-some run is)
 any-at (r ∷ rs) zero run is = ap (λ (o : Option Run). is_some o || any_out rs) is
-any-at (r ∷ rs) (suc i) run is = by (is_some r.running) (any-at rs i run is)
-  where
-    by : (b : Bool) → any_out rs ≡ true → (b || any_out rs) ≡ true
-    by true h = refl
-    by false h = h
+any-at (r ∷ rs) (suc i) run is = or_right (is_some r.running) (any_out rs) (any-at rs i run is)
 
 pub none-out : (j : Live) → any_out j.regions ≡ false → NoneOut j
 none-out j h k = work-none (at j.regions k) (none-at j.regions h k)
@@ -101,9 +97,7 @@ failed-state rs = ap (λ (b : Bool). if b then Failing else Failed) (sym (out-an
 -- ---- how it stands
 
 working-is : (j : Live) → j.failing ≡ false → all_ended j.regions ≡ false → state_of j ≡ Working
-working-is j working left =
-    ap (λ (f : Bool). if f then (if any_out j.regions then Failing else Failed) else if all_ended j.regions then Ended else Working) working
-    ∙ ap (λ (e : Bool). if e then Ended else Working) left
+working-is j working left = rw (working, left)
 
 one-alive : (rs : List Region) (i : ℕ) → (at rs i).ended ≡ false → all_ended rs ≡ false
 one-alive rs i alive = false_from_ne_true (all_ended rs) (λ e. true≢false (sym (each-ended rs e i) ∙ alive))
@@ -125,13 +119,6 @@ starts-fresh spec j s = record {
 }
 
 -- ---- a claim
-
-not-failing : (j : Live) (pick i : ℕ) → picked (claimable_in j) pick ≡ Some i → j.failing ≡ false
-not-failing j pick i h = by j.failing refl h
-  where
-    by : (b : Bool) → j.failing ≡ b → picked (if b then [] else claimable_of j.regions) pick ≡ Some i → b ≡ false
-    by false e h = refl
-    by true e h = absurd (none-some i h)
 
 some-picked : (xs : List ℕ) (pick i : ℕ) → picked xs pick ≡ Some i → 0 < length xs
 some-picked [] pick i h = absurd (none-some i h)
@@ -190,10 +177,10 @@ claims-takes old pick worker p new c = subst (λ (n : Live). Takes old p.task (w
     now = record old { regions = updated old.regions p.task (begun worker (lease_of p.lent)); cells = new.cells; owned = new.owned }
 
     working : old.failing ≡ false
-    working = not-failing old pick i c.task
+    working = (picked-in old.failing rs pick i c.task).0
 
     both : (i < length rs) × (is_claimable rs i ≡ true)
-    both = picked-claimable rs pick i (ap (λ (f : Bool). picked (if f then [] else claimable_of rs) pick) (sym working) ∙ c.task)
+    both = picked-claimable rs pick i (picked-in old.failing rs pick i c.task).1
 
     idle : (at rs i).running ≡ None
     idle = claimable-idle rs i both.1
@@ -229,7 +216,7 @@ work-settled-other taken g i rs k other = ap work_in (at-updated-other (moved_on
     pick : Alike (at (moved_on taken g i rs) k) (at rs k) ⊎ ((at (moved_on taken g i rs) k).running ≡ None) → work_in (at (moved_on taken g i rs) k) ≡ work_in (at rs k)
     pick (inl (kids, a)) = work-same (at (moved_on taken g i rs) k) (at rs k) (ap (λ (r : Region). r.running) a) (ap (λ (r : Region). r.rest) a)
     pick (inr none) =
-        work-none (at (moved_on taken g i rs) k) none ∙ sym (work-none (at rs k) (sym (moved-running (is_at_end (at rs i).rest (at rs i).groups) taken g i rs k) ∙ none))
+        work-none (at (moved_on taken g i rs) k) none ∙ sym (work-none (at rs k) (sym (moved-running taken g i rs k) ∙ none))
 
 work-settled : (taken : Bool) (g i : ℕ) (rs : List Region) → work_in (at (settled taken g i rs) i) ≡ None
 work-settled taken g i rs = by (at (settled taken g i rs) i).running refl
@@ -259,14 +246,6 @@ settles-returns old d n new s = record {
         (loans-settled (taken_by d.answer) old.counts.units i old.regions (run_of s.out.0.0 d) (runs-within old.regions i (run_of s.out.0.0 d) s.out.0.1) s.out.0.1) in
         omega (arith, same, ap out_in regions, out-loans old.regions, out-loans (settled (taken_by d.answer) old.counts.units i old.regions))
 
-working-goes : (j : Live) → state_of j ≡ Working → j.failing ≡ false
-working-goes j is = by j.failing (any_out j.regions) refl is
-  where
-    by : (f a : Bool) → j.failing ≡ f → (if f then (if a then Failing else Failed) else if all_ended j.regions then Ended else Working) ≡ Working → f ≡ false
-    by false a e h = refl
-    by true true e h = cc
-    by true false e h = cc
-
 pub settles-pays : (old : Live) (d : Came) (n : ℕ) (new : Live) → Settles old d n new → Pays old d n new
 settles-pays old d n new s = record {
   returns = settles-returns old d n new s;
@@ -278,13 +257,11 @@ settles-pays old d n new s = record {
 }
   where
     working-now : new.failing ≡ false
-    working-now = ap (λ (j : Live). j.failing) s.now ∙ working-goes old s.working
+    working-now = ap (λ (j : Live). j.failing) s.now ∙ (state-working old s.working).0
 
     after : (b : Bool) → all_ended new.regions ≡ b → (state_of new ≡ Working) ⊎ (state_of new ≡ Ended)
     after false e = inl (working-is new working-now e)
-    after true e =
-        inr (ap (λ (f : Bool). if f then (if any_out new.regions then Failing else Failed) else if all_ended new.regions then Ended else Working) working-now
-        ∙ ap (λ (x : Bool). if x then Ended else Working) e)
+    after true e = inr (rw (working-now, e))
 
 -- a job that goes well works while a piece of it is out
 pub works : (j : Live) (d : Came) → IsWell j → IsOut j.regions d → j.failing ≡ false → state_of j ≡ Working
@@ -294,9 +271,7 @@ works j d w out going =
 -- ---- a piece comes back without results
 
 pub state-by-out : (old : Live) (d : Came) → IsOut old.regions d → old.failing ≡ true → state_of old ≡ Failing
-state-by-out old d out e =
-    ap (λ (x : Bool). if x then (if any_out old.regions then Failing else Failed) else if all_ended old.regions then Ended else Working) e
-    ∙ ap (λ (x : Bool). if x then Failing else Failed) (any-at old.regions d.task (run_of out.0.0 d) out.0.1)
+state-by-out old d out e = rw (e, any-at old.regions d.task (run_of out.0.0 d) out.0.1)
 
 pub fails-breaks : (old : Live) (d : Came) (new : Live) → FailsBy old d new → Breaks old d new
 fails-breaks old d new f = subst (λ (n : Live). Breaks old d n) (sym f.now) (record {
@@ -332,11 +307,10 @@ fails-breaks old d new f = subst (λ (n : Live). Breaks old d n) (sym f.now) (re
 
 -- how a job stands that a piece comes back to
 pub stands-by : (old : Live) (d : Came) → IsWell old → IsOut old.regions d → ((state_of old ≡ Working) × (out_of old ≤ weight_of old)) ⊎ (state_of old ≡ Failing)
-stands-by old d w out = by old.failing refl
-  where
-    by : (b : Bool) → old.failing ≡ b → ((state_of old ≡ Working) × (out_of old ≤ weight_of old)) ⊎ (state_of old ≡ Failing)
-    by true e = inr (state-by-out old d out e)
-    by false e = inl (works old d w out e, out-light old.regions (λ k x is. ((w.course e).runs k x is).alive))
+stands-by old d w out = elim (cases_Bool old.failing) [
+  | inl e ↦ inr (state-by-out old d out e)
+  | inr e ↦ inl (works old d w out e, out-light old.regions (λ k x is. ((w.course e).runs k x is).alive))
+]
 
 pub aborted-aborts : (old new : Live) → new ≡ aborted old → Aborts old new
 aborted-aborts old new is = subst (λ (n : Live). Aborts old n) (sym is) (record {

@@ -1,8 +1,9 @@
 -- Modes that fold, and what a declaration lets a body fold.
 use Rattle.std.proofs.Common.{◌≡◌, Bool, true, false, not, ◌&&◌, List, [], ◌∷◌, refl, sym, ap, subst, ◌∙◌, inl, inr, true≢false, Some, None, ◌||◌}
-use Rattle.ot_job.proofs.Common.{false_from_ne_true, same_cell, conflicts, same_fold, Cell, Operation, Mode, Reads, Writes, Folds, Use, use_as, Declared, allows, covers, folds_by, folds_to, or_true, true_or, or_right, or_false_left, or_false_right, not_false, OnlyFolds, list_any, Precedes, AreInOrder, and_left, and_right, same_is}
+use Rattle.ot_job.proofs.Common.{false_from_ne_true, same_cell, conflicts, same_fold, Cell, Operation, Mode, Reads, Writes, Folds, Use, use_as, Declared, allows, covers, folds_by, folds_to, or_true, or_false_left, or_false_right, not_false, OnlyFolds, list_any, Precedes, AreInOrder, and_left, and_right, same_is}
 use Rattle.ot_model.proofs.EqualLemmas.{fold-decides}
-use Rattle.ot_check.proofs.Cited.{folded, conflicts_folds, one_op}
+use Rattle.ot_check.proofs.Cited.{any-more, folded, conflicts_folds, one_op}
+use Rattle.ot_check.proofs.Bits.{or_more}
 use Rattle.ot_model.proofs.OrderLemmas.{precedes_trans, precedes_apart, rest_in_order}
 
 -- ---- modes that fold, and what a declaration lets a body fold
@@ -18,9 +19,8 @@ same-op o = (fold-decides o o).1 refl
 -- ---- two modes
 
 pub agrees-before : (o : Operation) (m : Mode) → conflicts m (Folds o) ≡ false → m ≡ Folds o
-agrees-before o Reads h = absurd (true≢false h)
-agrees-before o Writes h = absurd (true≢false h)
 agrees-before o (Folds p) h = ap Folds (one-op p o (not_false (same_fold p o) h))
+agrees-before o m h = absurd (true≢false h)
 
 pub agrees-itself : (o : Operation) → conflicts (Folds o) (Folds o) ≡ false
 agrees-itself o = ap not (same-op o)
@@ -30,57 +30,47 @@ pub both-fold : (o : Operation) (m n : Mode) → m ≡ Folds o → n ≡ Folds o
 both-fold o m n p q = ap (λ (k : Mode). conflicts k n) p ∙ ap (conflicts (Folds o)) q ∙ agrees-itself o
 
 pub turned : (m n : Mode) → conflicts m n ≡ false → conflicts n m ≡ false
-turned Reads Reads h = h
-turned Reads Writes h = h
-turned Reads (Folds p) h = h
-turned Writes Reads h = h
-turned Writes Writes h = h
-turned Writes (Folds p) h = h
 turned (Folds o) n h = both-fold o n (Folds o) (conflicts_folds o n h) refl
+turned Reads Reads h = h
+turned Writes Writes h = h
+turned m n h = h
 
 -- what a declared fold covers is a fold by the same operation
 pub covered-fold : (o : Operation) (m : Mode) → covers (Folds o) m ≡ true → m ≡ Folds o
-covered-fold o Reads h = absurd (true≢false (sym h))
-covered-fold o Writes h = absurd (true≢false (sym h))
 covered-fold o (Folds p) h = ap Folds (sym (one-op o p h))
+covered-fold o m h = absurd (true≢false (sym h))
 
 -- ---- declarations
 
 -- who may write a cell may do anything with it
 writes-any : (uses : List Use) (c : Cell) (m : Mode) → allows (Some uses) (use_as Writes c) ≡ true → allows (Some uses) (use_as m c) ≡ true
-writes-any [] c m may = may
-writes-any (d ∷ uses) c m may =
-    elim (or_true (same_cell d.cell c && covers d.mode Writes) (allows (Some uses) (use_as Writes c)) may) [
-      | inl here ↦ true_or (same_cell d.cell c && covers d.mode m) (allows (Some uses) (use_as m c)) (one (same_cell d.cell c) d.mode here)
-      | inr later ↦ or_right (same_cell d.cell c && covers d.mode m) (allows (Some uses) (use_as m c)) (writes-any uses c m later)
-    ]
+writes-any uses c m may =
+    any-more (λ d. same_cell d.cell c && covers d.mode Writes) (λ d. same_cell d.cell c && covers d.mode m) uses (λ d. one (same_cell d.cell c) d.mode) may
   where
     one : (b : Bool) (n : Mode) → (b && covers n Writes) ≡ true → (b && covers n m) ≡ true
-    one true Reads h = absurd (true≢false (sym h))
     one true Writes h = refl
-    one true (Folds p) h = absurd (true≢false (sym h))
-    one false n h = absurd (true≢false (sym h))
+    one b n h = absurd (true≢false (sym h))
 
 pub writes-all : (own : Declared) (c : Cell) (m : Mode) → allows own (use_as Writes c) ≡ true → allows own (use_as m c) ≡ true
 writes-all None c m may = refl
 writes-all (Some uses) c m may = writes-any uses c m may
 
+-- some use passes the first test and none the second: so that some use passes the third
+pub any-but : (f n g : Use → Bool) (uses : List Use) → ((u : Use) → f u ≡ true → n u ≡ false → g u ≡ true) → list_any f uses ≡ true → list_any n uses ≡ false → list_any g uses ≡ true
+any-but f n g [] w h k = h
+any-but f n g (u ∷ uses) w h k =
+    or_more (f u) (list_any f uses) (g u) (list_any g uses) (λ e. w u e (or_false_left (n u) (list_any n uses) k)) (λ e. any-but f n g uses w e (or_false_right (n u) (list_any n uses) k)) h
+
 -- who may fold, and not read, declares the fold
 pub declares-fold : (uses : List Use) (o : Operation) (c : Cell) → allows (Some uses) (use_as (Folds o) c) ≡ true → allows (Some uses) (use_as Reads c) ≡ false → folds_to (Some uses) o c ≡ true
-declares-fold [] o c may none = may
-declares-fold (d ∷ uses) o c may none =
-    elim (or_true (same_cell d.cell c && covers d.mode (Folds o)) (allows (Some uses) (use_as (Folds o) c)) may) [
-      | inl here ↦ true_or (same_cell d.cell c && folds_by o d.mode) (folds_to (Some uses) o c)
-          (one (same_cell d.cell c) d.mode here (or_false_left (same_cell d.cell c && covers d.mode Reads) (allows (Some uses) (use_as Reads c)) none))
-      | inr later ↦ or_right (same_cell d.cell c && folds_by o d.mode) (folds_to (Some uses) o c)
-          (declares-fold uses o c later (or_false_right (same_cell d.cell c && covers d.mode Reads) (allows (Some uses) (use_as Reads c)) none))
-    ]
+declares-fold uses o c may none =
+    any-but (λ d. same_cell d.cell c && covers d.mode (Folds o)) (λ d. same_cell d.cell c && covers d.mode Reads) (λ d. same_cell d.cell c && folds_by o d.mode) uses
+    (λ d. one (same_cell d.cell c) d.mode) may none
   where
     one : (b : Bool) (m : Mode) → (b && covers m (Folds o)) ≡ true → (b && covers m Reads) ≡ false → (b && folds_by o m) ≡ true
-    one true Reads h g = absurd (true≢false (sym h))
     one true Writes h g = absurd (true≢false g)
     one true (Folds p) h g = h
-    one false m h g = absurd (true≢false (sym h))
+    one b m h g = absurd (true≢false (sym h))
 
 -- ---- cells that are folded and not used otherwise
 
@@ -91,17 +81,11 @@ held-alike own c only o p h g = sym (one_op p o (only o h (Folds p) (folded own 
 
 -- it isn't read
 pub only-unread : (o : Operation) (own : Declared) (c : Cell) → OnlyFolds o own c → allows own (use_as Reads c) ≡ true → ⊥
-only-unread o own c only may = never (only Reads may)
-  where
-    never : Reads ≡ Folds o → ⊥
-    never e = cc
+only-unread o own c only may = let e : Reads ≡ Folds o = only Reads may in cc
 
 -- nor written
 pub only-unwritten : (o : Operation) (own : Declared) (c : Cell) → OnlyFolds o own c → allows own (use_as Writes c) ≡ true → ⊥
-only-unwritten o own c only may = never (only Writes may)
-  where
-    never : Writes ≡ Folds o → ⊥
-    never e = cc
+only-unwritten o own c only may = let e : Writes ≡ Folds o = only Writes may in cc
 
 -- whatever the body may do with it, it declares to fold it
 pub only-declares : (uses : List Use) (o : Operation) (c : Cell) → OnlyFolds o (Some uses) c → (m : Mode) → allows (Some uses) (use_as m c) ≡ true → folds_to (Some uses) o c ≡ true
@@ -116,11 +100,7 @@ skip u v [] order = tt
 skip u v (w ∷ us) (first, (second, later)) = (precedes_trans u.cell v.cell w.cell first second, later)
 
 other_cell : (c d : Cell) → Precedes c d → (test : Bool) → (same_cell d c && test) ≡ false
-other_cell c d before test = by (same_cell d c) refl
-  where
-    by : (b : Bool) → same_cell d c ≡ b → (b && test) ≡ false
-    by true e = absurd (precedes_apart c d before (sym (same_is d c e)))
-    by false e = refl
+other_cell c d before test = ap (λ b. b && test) (false_from_ne_true (same_cell d c) (λ e. precedes_apart c d before (sym (same_is d c e))))
 
 -- no later use is of the same cell
 behind_none : (u : Use) (us : List Use) (test : Use → Bool) → AreInOrder (u ∷ us) → list_any (λ d. same_cell d.cell u.cell && test d) us ≡ false
@@ -144,14 +124,12 @@ folds-alone (u ∷ us) order o c folds m may =
     ]
   where
     only : (n : Mode) → folds_by o n ≡ true → covers n m ≡ true → m ≡ Folds o
-    only Reads h g = absurd (true≢false (sym h))
-    only Writes h g = absurd (true≢false (sym h))
     only (Folds p) h g = covered-fold p m g ∙ ap Folds (one-op p o h)
+    only n h g = absurd (true≢false (sym h))
 
     either : (a b more : Bool) → more ≡ false → ((a && b) || more) ≡ true → b ≡ true
     either true true more none h = refl
-    either true false more none h = absurd (true≢false (sym h ∙ none))
-    either false b more none h = absurd (true≢false (sym h ∙ none))
+    either a b more none h = absurd (true≢false (sym h ∙ none))
 
     rest : (a b more : Bool) → a ≡ false → ((a && b) || more) ≡ true → more ≡ true
     rest true b more none h = absurd (true≢false none)

@@ -1,6 +1,6 @@
 -- A task is created: what holds of the regions stays.
-use Rattle.std.proofs.Common.{◌≡◌, ℕ, ◌<◌, ◌≤◌, true, false, ◌||◌, List, [], ◌∷◌, ◌++◌, map, length, refl, sym, ap, subst, ◌∙◌, ◌⊎◌, inl, inr, arith, true≢false, Some, slice_get, ◌==◌}
-use Rattle.ot_job.proofs.Common.{list_any, cases_eq, cases_lt, none-some, slice_get_within, Task, Body, Next, updated, AreInOrder, Use, length-updated, Sibling, created, is_in, EachTouch, EachTask, IsFine, IsClean, allows, or_false_right, true_or, Open, todo, opened, children_of, IsFineAt, AwaitsAll, unawaited, Region, with_rest, with_child, new_region, at, gone, parent_of, ended_at, LetsAll, IsBegun, IsPlaced, IsSound, slice_get-push_place}
+use Rattle.std.proofs.Common.{◌≡◌, ℕ, ◌<◌, true, false, ◌||◌, List, [], ◌∷◌, ◌++◌, map, length, refl, sym, ap, subst, ◌∙◌, inl, inr, arith, true≢false, Some, slice_get, ◌==◌}
+use Rattle.ot_job.proofs.Common.{list_any, slice_get_within, Task, Body, Next, updated, AreInOrder, Use, length-updated, Sibling, created, is_in, EachTouch, EachTask, IsFine, IsClean, allows, or_false_right, true_or, Open, todo, opened, children_of, IsFineAt, AwaitsAll, unawaited, Region, with_rest, with_child, new_region, at, parent_of, ended_at, LetsAll, IsBegun, IsPlaced, IsSound, slice_get-push_place}
 use Rattle.ot_check.proofs.Cited.{eq_itself}
 use Rattle.ot_check.specs.Discipline.{marks, may_break}
 use Rattle.ot_check.specs.declared.fault.Offence.TheVariants.{EndsWithChildren}
@@ -8,10 +8,9 @@ use Rattle.ot_job.specs.Sound.{HasTask}
 use Rattle.ot_job.proofs.PlaceLemmas.{at-fewer, at-task}
 use Rattle.ot_job.proofs.AwaitsLemmas.{awaits-fewer, awaits-task}
 use Rattle.ot_job.proofs.KeptLemmas.{at-updated, todo-next}
-use Rattle.ot_job.proofs.SoundLemmas.{at-past}
-use Rattle.ot_job.proofs.ChangedLemmas.{sound-changed, begun-changed, placed-as}
+use Rattle.ot_job.proofs.ChangedLemmas.{sound-changed, begun-changed, placed-as, placed-bare}
 use Rattle.ot_job.proofs.RightsLemmas.{fine-innermost}
-use Rattle.ot_job.proofs.CreatedLemmas.{kids-more, placed-parent, child, more, long, at-fresh, at-parent, at-others, same-field, kin-more, begun-more}
+use Rattle.ot_job.proofs.CreatedLemmas.{kids-more, placed-parent, child, more, long, at-fresh, at-each-one, same-field, kin-more, begun-more}
 use Rattle.ot_job.proofs.FoldLemmas.{folds-alone}
 use Rattle.ot_job.proofs.EachLemmas.{at-each, more-each}
 
@@ -57,21 +56,9 @@ module _ (r : Region) (p : IsPlaced r) (alive : r.ended ≡ false) (uses : List 
 
   -- and begins
   pub placed-new : (parent child : ℕ) → IsPlaced (new_region parent child uses body)
-  placed-new parent child = record {
-    fine = innermost.1;
-    inside = each.0.0;
-    tasks = each.0.1;
-    awaits = λ own is. or_false_right (list_any (λ m. may_break r.own (opened r.groups) (children_of (unawaited r.waiting r.children)) m EndsWithChildren) (marks (Task uses body))) _ (innermost.0 EndsWithChildren);
-    within = λ k s h. cc;
-    apart = λ k l s t h. cc;
-    over = λ e. absurd (true≢false (sym e));
-    shut = λ e. refl;
-    once = tt;
-    writes = λ o c h. absurd (true≢false (sym h));
-    grouped = λ k s h. cc;
-    reduced = λ k s h. cc;
-    exclusive = folds-alone uses ordered;
-  }
+  placed-new parent child = placed-bare parent child (Some uses) body false innermost.1 each.0.0 each.0.1
+      (λ own is. or_false_right (list_any (λ m. may_break r.own (opened r.groups) (children_of (unawaited r.waiting r.children)) m EndsWithChildren) (marks (Task uses body))) _ (innermost.0 EndsWithChildren))
+      (λ e. absurd (true≢false (sym e))) (folds-alone uses ordered)
 
 -- ---- all regions
 
@@ -79,24 +66,6 @@ module _ (rs : List Region) (s : IsSound rs) (i : ℕ) (h : i < length rs) (aliv
     (uses : List Use) (body : Body) (noted : IsPlaced (with_child uses (at rs i))) (fresh : IsPlaced (new_region i (length (at rs i).children) uses body)) where
   abbrev now : List Region
   now = more rs i h uses body
-
-  -- an old task, the new one, or none
-  place : (j : ℕ) → (j < length rs) ⊎ ((j ≡ length rs) ⊎ (length now ≤ j))
-  place j = first (cases_lt j (length rs))
-    where
-      first : (j < length rs) ⊎ (length rs ≤ j) → (j < length rs) ⊎ ((j ≡ length rs) ⊎ (length now ≤ j))
-      first (inl below) = inl below
-      first (inr past) = inr (second (cases_eq j (length rs)))
-        where
-          second : (j ≡ length rs) ⊎ (j ≡ length rs → ⊥) → (j ≡ length rs) ⊎ (length now ≤ j)
-          second (inl e) = inl e
-          second (inr e) = inr (omega (arith, past, e, long rs i h uses body))
-
-  fresh-at : (j : ℕ) → j ≡ length rs → at now j ≡ new_region i (length (at rs i).children) uses body
-  fresh-at j e = ap (at now) e ∙ at-fresh rs i h uses body
-
-  gone-at : (j : ℕ) → length now ≤ j → at now j ≡ gone
-  gone-at j past = at-past now j past
 
   parent-old : (j : ℕ) → j < length rs → parent_of now j ≡ parent_of rs j
   parent-old = same-field rs i h uses body (λ r. r.parent) (λ r. refl)
@@ -108,57 +77,39 @@ module _ (rs : List Region) (s : IsSound rs) (i : ℕ) (h : i < length rs) (aliv
   some = omega (arith, h)
 
   entries-now : (p k : ℕ) (x : Sibling) → slice_get (at now p).children k ≡ Some x → HasTask now p k
-  entries-now p k x there = by (place p)
+  entries-now = at-each-one rs i h uses body (λ p r. (k : ℕ) (x : Sibling) → slice_get r.children k ≡ Some x → HasTask now p k) (λ p below other. old p) mine (λ k x there. cc) (λ p past k x there. cc)
     where
-      old : p < length rs → slice_get (at rs p).children k ≡ Some x → HasTask now p k
-      old below is =
+      old : (p k : ℕ) (x : Sibling) → slice_get (at rs p).children k ≡ Some x → HasTask now p k
+      old p k x is =
           let e = s.entries p k x is in
-          record {
-            task = e.task;
-            below = e.below;
-            known = omega (arith, e.known, long rs i h uses body);
-            of = parent-old e.task e.known ∙ e.of;
-            is = child-old e.task e.known ∙ e.is;
-          }
+          record { task = e.task; below = e.below; known = omega (arith, e.known, long rs i h uses body); of = parent-old e.task e.known ∙ e.of; is = child-old e.task e.known ∙ e.is }
 
-      here : p ≡ i → HasTask now p k
-      here e = pick (slice_get-push_place (at rs i).children (created uses (map (λ o. o.group) (at rs i).groups)) k x
-          (ap (λ (r : Region). slice_get r.children k) (sym (ap (at now) e ∙ at-parent rs i h uses body)) ∙ there))
-        where
-          pick : (slice_get (at rs i).children k ≡ Some x) ⊎ ((k ≡ length (at rs i).children) × (x ≡ created uses (map (λ o. o.group) (at rs i).groups))) → HasTask now p k
-          pick (inl is) = old (omega (arith, e, h)) (ap (λ n. slice_get (at rs n).children k) e ∙ is)
-          pick (inr is) = record {
-            task = length rs;
-            below = some;
-            known = omega (arith, long rs i h uses body);
-            of = ap (λ (r : Region). r.parent) (at-fresh rs i h uses body) ∙ sym e;
-            is = ap (λ (r : Region). r.child) (at-fresh rs i h uses body) ∙ sym is.0;
-          }
-
-      by : (p < length rs) ⊎ ((p ≡ length rs) ⊎ (length now ≤ p)) → HasTask now p k
-      by (inl below) = pick (cases_eq p i)
-        where
-          pick : (p ≡ i) ⊎ (p ≡ i → ⊥) → HasTask now p k
-          pick (inl e) = here e
-          pick (inr e) = old below (ap (λ (r : Region). slice_get r.children k) (sym (at-others rs i h uses body p below e)) ∙ there)
-      by (inr (inl e)) = absurd (none-some x (ap (λ (r : Region). slice_get r.children k) (sym (fresh-at p e)) ∙ there))
-      by (inr (inr past)) = absurd (none-some x (ap (λ (r : Region). slice_get r.children k) (sym (gone-at p past)) ∙ there))
+      mine : (k : ℕ) (x : Sibling) → slice_get (with_child uses (at rs i)).children k ≡ Some x → HasTask now i k
+      mine k x there = elim (slice_get-push_place (at rs i).children (created uses (map (λ o. o.group) (at rs i).groups)) k x there) [
+        | inl is ↦ old i k x is
+        | inr is ↦ record {
+          task = length rs;
+          below = some;
+          known = omega (arith, long rs i h uses body);
+          of = ap (λ (r : Region). r.parent) (at-fresh rs i h uses body);
+          is = ap (λ (r : Region). r.child) (at-fresh rs i h uses body) ∙ sym is.0;
+        }
+      ]
 
   older-now : (a b : ℕ) → 0 < b → b < a → a < length now → parent_of now b ≡ parent_of now a → (at now b).child < (at now a).child
-  older-now a b pos lt below same = by (place a)
+  older-now = at-each-one rs i h uses body (λ a r. (b : ℕ) → 0 < b → b < a → a < length now → parent_of now b ≡ r.parent → (at now b).child < r.child)
+      (λ a below other. old a below) (old i h) youngest (λ a past b pos lt below same. absurd (omega (arith, past, below, long rs i h uses body)))
     where
-      by : (a < length rs) ⊎ ((a ≡ length rs) ⊎ (length now ≤ a)) → (at now b).child < (at now a).child
-      by (inl old) =
-          let b-old : b < length rs = omega (arith, lt, old) in
-          let o = s.older a b pos lt old (sym (parent-old b b-old) ∙ same ∙ parent-old a old) in
-          omega (arith, o, child-old a old, child-old b b-old)
-      by (inr (inl e)) =
-          let b-old : b < length rs = omega (arith, lt, e) in
-          let up : parent_of rs b ≡ i = sym (parent-old b b-old) ∙ same ∙ ap (λ (r : Region). r.parent) (fresh-at a e) in
-          let k = s.kin b pos b-old in
-          let place : (at rs b).child < length (at rs i).children = slice_get_within (at rs i).children (at rs b).child k.entry (ap (λ n. slice_get (at rs n).children (at rs b).child) (sym up) ∙ k.there) in
-          omega (arith, place, child-old b b-old, ap (λ (r : Region). r.child) (fresh-at a e))
-      by (inr (inr past)) = absurd (omega (arith, past, below))
+      old : (a : ℕ) → a < length rs → (b : ℕ) → 0 < b → b < a → a < length now → parent_of now b ≡ parent_of rs a → (at now b).child < (at rs a).child
+      old a below b pos lt l same =
+          let b-old : b < length rs = omega (arith, lt, below) in
+          omega (arith, s.older a b pos lt below (sym (parent-old b b-old) ∙ same), child-old b b-old)
+
+      youngest : (b : ℕ) → 0 < b → b < length rs → length rs < length now → parent_of now b ≡ i → (at now b).child < length (at rs i).children
+      youngest b pos lt l same =
+          let k = s.kin b pos lt in
+          let place = slice_get_within (at rs i).children (at rs b).child k.entry (ap (λ n. slice_get (at rs n).children (at rs b).child) (sym same ∙ parent-old b lt) ∙ k.there) in
+          omega (arith, place, child-old b lt)
 
   pub begun-now : (j : ℕ) → j < length rs → IsBegun rs j → IsBegun now j
   begun-now = begun-more rs i h uses body s
@@ -167,44 +118,21 @@ module _ (rs : List Region) (s : IsSound rs) (i : ℕ) (h : i < length rs) (aliv
   sound-grown = record {
     root = same-field rs i h uses body (λ r. r.own) (λ r. refl) 0 some ∙ s.root;
     top = parent-old 0 some ∙ s.top;
-    down = λ j pos. down j pos (place j);
+    down = at-each-one rs i h uses body (λ j r. 0 < j → r.parent < j) (λ j below other. s.down j) (s.down i) (λ pos. h) (λ j past pos. pos);
     kin = kin-more rs i h uses body s;
     entries = entries-now;
     older = older-now;
-    begun = λ j pos below. begun j pos below (place j);
-    entered = λ j o os is. entered j o os is (place j);
+    begun = at-each-one rs i h uses body (λ j r. 0 < j → j < length now → IsBegun now r.parent) (λ j below other. begun j below) (begun i h) (λ pos l. begun-now i h started)
+        (λ j past pos l. absurd (omega (arith, past, l, long rs i h uses body)));
+    entered = at-each-one rs i h uses body (λ j r. (o : Open) (os : List Open) → r.groups ≡ o ∷ os → IsBegun now j) (λ j below other o os is. begun-now j below (s.entered j o os is))
+        (λ o os is. begun-now i h (s.entered i o os is)) (λ o os is. cc) (λ j past o os is. cc);
     placed = more-each IsPlaced (updated rs i (with_child uses)) (new_region i (length (at rs i).children) uses body) (at-each IsPlaced rs i (with_child uses) s.placed noted) fresh;
-    done = λ j pos over k x there. done j pos over k x there (place j);
+    done = at-each-one rs i h uses body (λ j r. 0 < j → r.ended ≡ true → (k : ℕ) (x : Sibling) → slice_get r.children k ≡ Some x → x.finished ≡ true) (λ j below other. s.done j)
+        (λ pos over. absurd (true≢false (sym over ∙ alive))) (λ pos over. absurd (true≢false (sym over))) (λ j past pos over k x there. cc);
   }
     where
-      down : (j : ℕ) → 0 < j → (j < length rs) ⊎ ((j ≡ length rs) ⊎ (length now ≤ j)) → parent_of now j < j
-      down j pos (inl old) = omega (arith, parent-old j old, s.down j pos)
-      down j pos (inr (inl e)) = omega (arith, ap (λ (r : Region). r.parent) (fresh-at j e), h, e)
-      down j pos (inr (inr past)) = omega (arith, ap (λ (r : Region). r.parent) (gone-at j past), pos)
-
-      begun : (j : ℕ) → 0 < j → j < length now → (j < length rs) ⊎ ((j ≡ length rs) ⊎ (length now ≤ j)) → IsBegun now (parent_of now j)
-      begun j pos below (inl old) = subst (IsBegun now) (sym (parent-old j old)) (begun-now (parent_of rs j) (omega (arith, s.down j pos, old)) (s.begun j pos old))
-      begun j pos below (inr (inl e)) = subst (IsBegun now) (sym (ap (λ (r : Region). r.parent) (fresh-at j e))) (begun-now i h started)
-      begun j pos below (inr (inr past)) = absurd (omega (arith, past, below))
-
-      never : {o : Open} {os : List Open} → [] ≡ o ∷ os → ⊥
-      never e = cc
-
-      entered : (j : ℕ) (o : Open) (os : List Open) → (at now j).groups ≡ o ∷ os → (j < length rs) ⊎ ((j ≡ length rs) ⊎ (length now ≤ j)) → IsBegun now j
-      entered j o os is (inl old) = begun-now j old (s.entered j o os (sym (same-field rs i h uses body (λ r. r.groups) (λ r. refl) j old) ∙ is))
-      entered j o os is (inr (inl e)) = absurd (never (ap (λ (r : Region). r.groups) (sym (fresh-at j e)) ∙ is))
-      entered j o os is (inr (inr past)) = absurd (never (ap (λ (r : Region). r.groups) (sym (gone-at j past)) ∙ is))
-
-      done : (j : ℕ) → 0 < j → ended_at now j ≡ true → (k : ℕ) (x : Sibling) → slice_get (at now j).children k ≡ Some x → (j < length rs) ⊎ ((j ≡ length rs) ⊎ (length now ≤ j)) → x.finished ≡ true
-      done j pos over k x there (inl old) = pick (cases_eq j i)
-        where
-          pick : (j ≡ i) ⊎ (j ≡ i → ⊥) → x.finished ≡ true
-          pick (inl e) = absurd (true≢false (sym over ∙ ap (λ (r : Region). r.ended) (ap (at now) e ∙ at-parent rs i h uses body) ∙ alive))
-          pick (inr e) =
-              let same = at-others rs i h uses body j old e in
-              s.done j pos (ap (λ (r : Region). r.ended) (sym same) ∙ over) k x (ap (λ (r : Region). slice_get r.children k) (sym same) ∙ there)
-      done j pos over k x there (inr (inl e)) = absurd (true≢false (sym over ∙ ap (λ (r : Region). r.ended) (fresh-at j e)))
-      done j pos over k x there (inr (inr past)) = absurd (none-some x (ap (λ (r : Region). slice_get r.children k) (sym (gone-at j past)) ∙ there))
+      begun : (j : ℕ) → j < length rs → 0 < j → j < length now → IsBegun now (parent_of rs j)
+      begun j below pos l = begun-now (parent_of rs j) (omega (arith, s.down j pos, below)) (s.begun j pos below)
 
 -- the task statement that comes next is executed
 module _ (ws : List Region) (s : IsSound ws) (i : ℕ) (h : i < length ws) (alive : ended_at ws i ≡ false) (started : IsBegun ws i)

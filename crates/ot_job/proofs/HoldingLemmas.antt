@@ -1,25 +1,13 @@
 -- Each piece that is out holds what it touches.
-use Rattle.std.proofs.Common.{◌≡◌, zero, suc, Bool, true, false, List, [], ◌∷◌, refl, sym, ap, subst, ◌∙◌, inl, inr, arith, true≢false, Option, Some, None, Contains, if◌then◌else◌}
+use Rattle.std.proofs.Common.{◌≡◌, Bool, true, false, List, refl, sym, ap, subst, ◌∙◌, inl, inr, true≢false, Option, Some, None, if◌then◌else◌}
 use Rattle.ot_job.proofs.Common.{lengths, mode_in, Cell, Operation, Mode, Reads, Writes, Folds, Use, use_as, Declared, allows, folds_to, held, held_as, mode_held, Holds, touches_out, Live, IsRight, at, OnlyFolds, IsOnCourse}
 use Rattle.ot_check.proofs.Cited.{one_op}
 use Rattle.ot_job.specs.Holding.{Touches, OnlyReads, FoldsNone, AllHold, AreApart}
 use Rattle.ot_job.proofs.CoverLemmas.{Covers, covered}
 use Rattle.ot_job.proofs.FoldLemmas.{held-alike, only-unread, only-unwritten}
 use Rattle.ot_job.proofs.RightsLemmas.{touch-may}
-use Rattle.ot_job.proofs.HoldsLemmas.{Among, held-right}
+use Rattle.ot_job.proofs.HoldsLemmas.{Among, held-right, among, contained}
 use Rattle.ot_job.proofs.OpenLemmas.{placed, named-at, pieces_apart}
-
--- ---- touches in a list
-
-among : (u : Use) (us : List Use) → Contains us u → Among u us
-among u [] (k, within, is) = absurd (omega (arith, within))
-among u (v ∷ us) (zero, within, is) = inl is
-among u (v ∷ us) (suc k, within, is) = inr (among u us (k, omega (arith, within), is))
-
-contained : (u : Use) (us : List Use) → Among u us → Contains us u
-contained u [] h = absurd h
-contained u (v ∷ us) (inl e) = (0, omega arith, e)
-contained u (v ∷ us) (inr h) = let r = contained u us h in (suc r.0, omega (arith, r.1), r.2)
 
 -- ---- the modes of a piece, case by case
 
@@ -43,11 +31,11 @@ module _ (own : Declared) (us d : List Use) (modes : (c : Cell) → mode_in d c 
 
   -- a cell that is touched is held in some mode, as the fold over the touches tells
   touched : (c : Cell) → Touches us c → (m : Mode) × (held own us c ≡ Some m)
-  touched c (u, has, is) = by (held own us c) refl (subst (λ x. Covers (held own us x) (mode_held own u)) is (covered own us None u (among u us has)))
+  touched c (u, has, is) = by (held own us c) (subst (λ x. Covers (held own us x) (mode_held own u)) is (covered own us None u (among u us has)))
     where
-      by : (o : Option Mode) → held own us c ≡ o → Covers o (mode_held own u) → (m : Mode) × (held own us c ≡ Some m)
-      by None e h = absurd h
-      by (Some m) e h = (m, e)
+      by : (o : Option Mode) → Covers o (mode_held own u) → (m : Mode) × (o ≡ Some m)
+      by None h = absurd h
+      by (Some m) h = (m, refl)
 
   is-right : (c : Cell) (m : Mode) → held own us c ≡ Some m → Right m c
   is-right c = held-right own c (held-alike own c (λ o. exclusive o c)) us

@@ -1,6 +1,6 @@
 -- What a piece holds is a right of its touches, and what is true of each touch is true of each use of the list.
-use Rattle.std.proofs.Common.{◌≡◌, ◌<◌, ℕ, zero, suc, ◌+◌, ◌%◌, Bool, true, false, List, [], ◌∷◌, ◌++◌, map, refl, sym, ap, subst, ◌∙◌, ◌⊎◌, inl, inr, ⊎_elim, arith, Option, Some, None, if◌then◌else◌, fold}
-use Rattle.ot_job.proofs.Common.{range_with_len, same_Some, none-some, E, Literal, CellAt, Apply, PickFrom, Set, Fold, If, Task, Wait, Group, Body, End, Next, cell_at, cells_named, Cell, Operation, Section, Mode, Reads, Writes, Folds, Use, use_as, touches, Declared, folds_to, same_cell, same_fold, EachRead, EachTouch, IsRight, same_is, assign_touches, test_touches, held, held_as, noted, with_mode, stronger, mode_held, reads-append}
+use Rattle.std.proofs.Common.{◌≡◌, ◌<◌, ℕ, zero, suc, ◌+◌, ◌%◌, Bool, true, false, List, [], ◌∷◌, ◌++◌, map, refl, sym, ap, subst, ◌∙◌, ◌⊎◌, inl, inr, ⊎_elim, arith, Option, Some, None, if◌then◌else◌, fold, Contains}
+use Rattle.ot_job.proofs.Common.{range_with_len, same_Some, none-some, E, Literal, CellAt, Apply, PickFrom, Set, Fold, If, Body, End, Next, cell_at, cells_named, Cell, Operation, Section, Mode, Reads, Writes, Folds, Use, use_as, touches, Declared, folds_to, same_cell, same_fold, EachRead, EachTouch, IsRight, same_is, assign_touches, test_touches, held, held_as, noted, with_mode, stronger, mode_held, reads-append, cases_Bool}
 use Rattle.std.proofs.Math.Nat.{mod-eq_of_lt}
 use Rattle.ot_job.proofs.FoldLemmas.{same-op}
 
@@ -13,6 +13,16 @@ among-split u [] vs h = inr h
 among-split u (v ∷ us) vs (inl e) = inl (inl e)
 among-split u (v ∷ us) vs (inr h) = ⊎_elim (λ k. inl (inr k)) inr (among-split u us vs h)
 
+pub among : (u : Use) (us : List Use) → Contains us u → Among u us
+among u [] (k, within, is) = absurd (omega (arith, within))
+among u (v ∷ us) (zero, within, is) = inl is
+among u (v ∷ us) (suc k, within, is) = inr (among u us (k, omega (arith, within), is))
+
+pub contained : (u : Use) (us : List Use) → Among u us → Contains us u
+contained u [] h = absurd h
+contained u (v ∷ us) (inl e) = (0, omega arith, e)
+contained u (v ∷ us) (inr h) = let r = contained u us h in (suc r.0, omega (arith, r.1), r.2)
+
 -- ---- the mode is that of a touch
 
 -- folds of the two are by one operation
@@ -22,10 +32,9 @@ Alike e n = Unit {0}
 
 one-of : (e n : Mode) → Alike e n → (stronger e n ≡ e) ⊎ (stronger e n ≡ n)
 one-of Reads n like = inr refl
-one-of Writes n like = inl refl
-one-of (Folds p) Reads like = inl refl
 one-of (Folds p) Writes like = inr refl
 one-of (Folds p) (Folds q) like = inl (rw (subst (λ (o : Operation). same_fold p o ≡ true) like (same-op p)) refl)
+one-of e n like = inl refl
 
 module _ (own : Declared) (c : Cell) (alike : (p q : Operation) → folds_to own p c ≡ true → folds_to own q c ≡ true → p ≡ q) where
   abbrev HeldBy : List Use → Mode → Type 0
@@ -33,9 +42,8 @@ module _ (own : Declared) (c : Cell) (alike : (p q : Operation) → folds_to own
 
   -- a fold that is held is the body's own
   abbrev IsOwn : Mode → Type 0
-  IsOwn Reads = Unit {0}
-  IsOwn Writes = Unit {0}
   IsOwn (Folds p) = folds_to own p c ≡ true
+  IsOwn m = Unit {0}
 
   abbrev IsOwnIf : Option Mode → Type 0
   IsOwnIf None = Unit {0}
@@ -49,16 +57,12 @@ module _ (own : Declared) (c : Cell) (alike : (p q : Operation) → folds_to own
       fold p false e = tt
 
       by : (m : Mode) → IsOwn (held_as own c m)
-      by Reads = tt
-      by Writes = tt
       by (Folds p) = fold p (folds_to own p c) refl
+      by m = tt
 
   both-alike : (e n : Mode) → IsOwn e → IsOwn n → Alike e n
-  both-alike Reads n h g = tt
-  both-alike Writes n h g = tt
-  both-alike (Folds p) Reads h g = tt
-  both-alike (Folds p) Writes h g = tt
   both-alike (Folds p) (Folds q) h g = alike p q h g
+  both-alike e n h g = tt
 
   own-mixed : (o : Option Mode) (n : Mode) → IsOwnIf o → IsOwn n → IsOwn (with_mode o n)
   own-mixed None n h g = g
@@ -90,11 +94,10 @@ module _ (own : Declared) (c : Cell) (alike : (p q : Operation) → folds_to own
   right-by : (Touched : Use → Type 0) (k : Mode) (m : Mode) → Touched (use_as k c) → mode_held own (use_as k c) ≡ m → IsRight own Touched (use_as m c)
   right-by Touched Reads m t e = subst (λ n. IsRight own Touched (use_as n c)) e t
   right-by Touched Writes m t e = subst (λ n. IsRight own Touched (use_as n c)) e (inl t)
-  right-by Touched (Folds p) m t e = by (folds_to own p c) refl
-    where
-      by : (b : Bool) → folds_to own p c ≡ b → IsRight own Touched (use_as m c)
-      by true a = subst (λ n. IsRight own Touched (use_as n c)) (rw a at e) (t, a)
-      by false a = subst (λ n. IsRight own Touched (use_as n c)) (rw a at e) (inr (p, t, a))
+  right-by Touched (Folds p) m t e = elim (cases_Bool (folds_to own p c)) [
+    | inl a ↦ subst (λ n. IsRight own Touched (use_as n c)) (rw a at e) (t, a)
+    | inr a ↦ subst (λ n. IsRight own Touched (use_as n c)) (rw a at e) (inr (p, t, a))
+  ]
 
   pub held-right : (us : List Use) (m : Mode) → held own us c ≡ Some m → IsRight own (λ u. Among u us) (use_as m c)
   held-right us m h = ⊎_elim (λ e. absurd (none-some m e)) found (held-by us None m tt h)
@@ -128,27 +131,21 @@ module _ (Q : Use → Type 0) where
       (each-read e h.1 u)
       (among-split u (map (use_as Reads) (map (cell_at s) (range_with_len 0 s.len))) (map (use_as Reads) (cells_named e)) (subst (Among u) (reads-append (map (cell_at s) (range_with_len 0 s.len)) (cells_named e)) k))
 
+  one-touch : (v u : Use) → Q v → Among u (v ∷ []) → Q u
+  one-touch v u q (inl e) = subst Q e q
+  one-touch v u q (inr k) = absurd k
+
   -- of assigns
   pub each-assign : (b : Body) → EachTouch Q b → (u : Use) → Among u (assign_touches b) → Q u
   each-assign End h u k = absurd k
   each-assign (Next (Set c e) rest) h u k =
-      ⊎_elim (λ w. ⊎_elim (each-read e h.0.0 u) (one c Writes h.0.1 u) (among-split u (map (use_as Reads) (cells_named e)) (use_as Writes c ∷ []) w)) (each-assign rest h.1 u)
+      ⊎_elim (λ w. ⊎_elim (each-read e h.0.0 u) (one-touch (use_as Writes c) u h.0.1) (among-split u (map (use_as Reads) (cells_named e)) (use_as Writes c ∷ []) w)) (each-assign rest h.1 u)
       (among-split u (touches (Set c e)) (assign_touches rest) k)
-    where
-      one : (c : Cell) (m : Mode) → Q (use_as m c) → (u : Use) → Among u (use_as m c ∷ []) → Q u
-      one c m q u (inl e) = subst Q e q
-      one c m q u (inr k) = absurd k
   each-assign (Next (Fold op c e) rest) h u k =
-      ⊎_elim (λ w. ⊎_elim (each-read e h.0.0 u) (one c (Folds op) h.0.1 u) (among-split u (map (use_as Reads) (cells_named e)) (use_as (Folds op) c ∷ []) w)) (each-assign rest h.1 u)
+      ⊎_elim (λ w. ⊎_elim (each-read e h.0.0 u) (one-touch (use_as (Folds op) c) u h.0.1) (among-split u (map (use_as Reads) (cells_named e)) (use_as (Folds op) c ∷ []) w)) (each-assign rest h.1 u)
       (among-split u (touches (Fold op c e)) (assign_touches rest) k)
-    where
-      one : (c : Cell) (m : Mode) → Q (use_as m c) → (u : Use) → Among u (use_as m c ∷ []) → Q u
-      one c m q u (inl e) = subst Q e q
-      one c m q u (inr k) = absurd k
   each-assign (Next (If e a b) rest) h u k = ⊎_elim (each-read e h.0.0 u) (each-assign rest h.1 u) (among-split u (map (use_as Reads) (cells_named e)) (assign_touches rest) k)
-  each-assign (Next (Task d b) rest) h u k = each-assign rest h.1 u k
-  each-assign (Next (Wait w) rest) h u k = each-assign rest h.1 u k
-  each-assign (Next (Group op cs b) rest) h u k = each-assign rest h.1 u k
+  each-assign (Next x rest) h u k = each-assign rest h.1 u k
 
   -- of a condition
   pub each-test : (e : E) → EachTouch Q (Next (If e End End) End) → (u : Use) → Among u (test_touches (Some e)) → Q u

@@ -8,23 +8,26 @@ use Rattle.ot_job.proofs.KeptLemmas.{at-updated, at-updated-other, at-more, at-n
 use Rattle.ot_job.proofs.SoundLemmas.{at-past}
 use Rattle.ot_job.proofs.EachLemmas.{field-kept}
 
+-- what is put in one place is what stands there, and elsewhere nothing changed
+put-is : {A : Type 0} (f g : ℕ → A) (i : ℕ) (x : A) → x ≡ g i → ((k : ℕ) → k ≢ i → f k ≡ g k) → (k : ℕ) → put f i x k ≡ g k
+put-is f g i x here others k = elim (cases_eq k i) [
+  | inl is ↦ subst (λ j. put f i x j ≡ g j) (sym is) (put-here f i x ∙ here)
+  | inr apart ↦ put-other f i x k apart ∙ others k apart
+]
+
 -- ---- one region changes
 
 member-put : (f : Region → Region) (rs : List Region) (i : ℕ) → i < length rs → (k : ℕ) → put (members rs) i (member (f (at rs i))) k ≡ members (updated rs i f) k
-member-put f rs i within k = elim (cases_eq k i) [
-  | inl is ↦ subst (λ j. put (members rs) i (member (f (at rs i))) j ≡ members (updated rs i f) j) (sym is) (put-here (members rs) i (member (f (at rs i))) ∙ sym (ap member (at-updated rs i f within)))
-  | inr apart ↦ put-other (members rs) i (member (f (at rs i))) k apart ∙ sym (ap member (at-updated-other rs i k f apart))
-]
+member-put f rs i within =
+    put-is (members rs) (members (updated rs i f)) i (member (f (at rs i))) (sym (ap member (at-updated rs i f within))) (λ k apart. sym (ap member (at-updated-other rs i k f apart)))
 
 module _ (f : Region → Region) (many : (r : Region) → (f r).children ≡ r.children) (rs : List Region) (i : ℕ) (within : i < length rs) (r : Kept) where
   -- its member does as it did, and whether it is claimable is told
   pub kept-updated : (b : Bool) → b ≡ is_claimable (updated rs i f) i → Tells (length rs) (put (members rs) i (member (f (at rs i)))) (put (is_claimable rs) i b) r → AreKept (updated rs i f) r
   kept-updated b is tells =
       subst (λ n. Tells n (members (updated rs i f)) (is_claimable (updated rs i f)) r) (sym (length-updated rs i f))
-      (tells-same (length rs) (put (members rs) i (member (f (at rs i)))) (members (updated rs i f)) (put (is_claimable rs) i b) (is_claimable (updated rs i f)) r (member-put f rs i within) (λ k h. elim (cases_eq k i) [
-        | inl same ↦ subst (λ j. put (is_claimable rs) i b j ≡ is_claimable (updated rs i f) j) (sym same) (put-here (is_claimable rs) i b ∙ is)
-        | inr apart ↦ put-other (is_claimable rs) i b k apart ∙ sym (claimable-other f many rs i k apart)
-      ]) tells)
+      (tells-same (length rs) (put (members rs) i (member (f (at rs i)))) (members (updated rs i f)) (put (is_claimable rs) i b) (is_claimable (updated rs i f)) r (member-put f rs i within)
+      (λ k h. put-is (is_claimable rs) (is_claimable (updated rs i f)) i b is (λ k apart. sym (claimable-other f many rs i k apart)) k) tells)
 
   pub now-busy : is_some (f (at rs i)).running ≡ true → is_claimable (updated rs i f) i ≡ false
   now-busy busy = claimable-busy (updated rs i f) i (ap (λ (r : Region). is_some r.running) (at-updated rs i f within) ∙ busy)
@@ -32,19 +35,15 @@ module _ (f : Region → Region) (many : (r : Region) → (f r).children ≡ r.c
   -- its piece is out before and after
   pub kept-still : is_some (at rs i).running ≡ true → is_some (f (at rs i)).running ≡ true → Tells (length rs) (put (members rs) i (member (f (at rs i)))) (is_claimable rs) r → AreKept (updated rs i f) r
   kept-still was busy tells =
-      kept-updated false (sym (now-busy busy)) (tells-same (length rs) (put (members rs) i (member (f (at rs i)))) (put (members rs) i (member (f (at rs i)))) (is_claimable rs) (put (is_claimable rs) i false) r (λ k. refl) (λ k h. elim (cases_eq k i) [
-        | inl same ↦ subst (λ j. is_claimable rs j ≡ put (is_claimable rs) i false j) (sym same) (claimable-busy rs i was ∙ sym (put-here (is_claimable rs) i false))
-        | inr apart ↦ sym (put-other (is_claimable rs) i false k apart)
-      ]) tells)
+      kept-updated false (sym (now-busy busy)) (tells-same (length rs) (put (members rs) i (member (f (at rs i)))) (put (members rs) i (member (f (at rs i)))) (is_claimable rs) (put (is_claimable rs) i false) r (λ k. refl)
+      (λ k h. sym (put-is (is_claimable rs) (is_claimable rs) i false (sym (claimable-busy rs i was)) (λ k apart. refl) k)) tells)
 
 -- a control statement is executed, and no task is created
 pub kept-stepped : (taken : Bool) (g : ℕ) (rs : List Region) (i : ℕ) (r : Kept) → i < length rs → is_some (at rs i).running ≡ true → AreKept rs r → AreKept (updated rs i (stepped taken g)) r
 kept-stepped taken g rs i r within out old =
     kept-still (stepped taken g) (stepped-children taken g) rs i within r out (ap is_some (stepped-running taken g (at rs i)) ∙ out)
-    (tells-same (length rs) (members rs) (put (members rs) i (member (stepped taken g (at rs i)))) (is_claimable rs) (is_claimable rs) r (λ k. elim (cases_eq k i) [
-      | inl same ↦ subst (λ j. members rs j ≡ put (members rs) i (member (stepped taken g (at rs i))) j) (sym same) (sym (put-here (members rs) i (member (stepped taken g (at rs i))) ∙ stepped-field member (λ r rest groups waiting. refl) taken g (at rs i)))
-      | inr apart ↦ sym (put-other (members rs) i (member (stepped taken g (at rs i))) k apart)
-    ]) (λ k h. refl) old)
+    (tells-same (length rs) (members rs) (put (members rs) i (member (stepped taken g (at rs i)))) (is_claimable rs) (is_claimable rs) r
+    (λ k. sym (put-is (members rs) (members rs) i (member (stepped taken g (at rs i))) (stepped-field member (λ r rest groups waiting. refl) taken g (at rs i)) (λ k apart. refl) k)) (λ k h. refl) old)
 
 -- ---- a child finishes, and whether its parent's task and those that waited for it are claimable is looked at
 
@@ -132,13 +131,10 @@ module _ (taken : Bool) (g i : ℕ) (rs : List Region) (within : i < length rs) 
   ]
 
   members-now : (d : List Use × Body) (k : ℕ) → with_member n i (members rs) k ≡ members (noted d ++ new d ∷ []) k
-  members-now d k = elim (cases_eq k n) [
-    | inl last ↦ subst (λ j. with_member n i (members rs) j ≡ members (noted d ++ new d ∷ []) j) (sym last) (put-here (put (members rs) i (with_kid (members rs i))) n _ ∙ sym (fresh-now d))
-    | inr young ↦ put-other (put (members rs) i (with_kid (members rs i))) n _ k young ∙ elim (cases_eq k i) [
-      | inl here ↦ subst (λ j. put (members rs) i (with_kid (members rs i)) j ≡ members (noted d ++ new d ∷ []) j) (sym here) (put-here (members rs) i (with_kid (members rs i)) ∙ sym (parent-now d))
-      | inr apart ↦ put-other (members rs) i (with_kid (members rs i)) k apart ∙ sym (other-now d k young apart)
-    ]
-  ]
+  members-now d = put-is (put (members rs) i (with_kid (members rs i))) (members (noted d ++ new d ∷ [])) n _ (sym (fresh-now d)) (λ k young. elim (cases_eq k i) [
+    | inl here ↦ subst (λ j. put (members rs) i (with_kid (members rs i)) j ≡ members (noted d ++ new d ∷ []) j) (sym here) (put-here (members rs) i (with_kid (members rs i)) ∙ sym (parent-now d))
+    | inr apart ↦ put-other (members rs) i (with_kid (members rs i)) k apart ∙ sym (other-now d k young apart)
+  ])
 
   -- who was claimable is, and no other of them
   claimable-now : (d : List Use × Body) (r : Kept) → AreKept rs r → (k : ℕ) → k < n → is_claimable rs k ≡ is_claimable (noted d ++ new d ∷ []) k

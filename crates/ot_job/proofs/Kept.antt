@@ -44,7 +44,7 @@ abbrev pub In : ℕ → List ℕ → Type 0
 In i [] = ⊥
 In i (x ∷ xs) = (i ≡ x) ⊎ In i xs
 
-Each-at : (P : ℕ → Type 0) (i : ℕ) (xs : List ℕ) → Each P xs → In i xs → P i
+pub Each-at : (P : ℕ → Type 0) (i : ℕ) (xs : List ℕ) → Each P xs → In i xs → P i
 Each-at P i [] h k = absurd k
 Each-at P i (x ∷ xs) h (inl e) = subst P (sym e) h.0
 Each-at P i (x ∷ xs) h (inr k) = Each-at P i xs h.1 k

@@ -1,6 +1,7 @@
 -- What is left of a job stays the same when a task makes a step, out of order.
-use Rattle.std.proofs.Common.{◌≡◌, ◌≢◌, ℕ, zero, suc, ◌+◌, ◌<◌, true, false, List, [], ◌∷◌, ◌++◌, map, length, refl, sym, ap, subst, ◌∙◌, ◌⊎◌, inl, inr, arith, Option, Some, if◌then◌else◌, ◌==◌}
-use Rattle.ot_job.proofs.Common.{cases_eq, nat_tests, map-append, E, S, If, Task, Wait, Group, Body, End, Next, append, val, cell_of, updated, length-updated, updated-updated, State, bump, either, serial, Use, Cell, Operation, serial-append, left, Open, todo, Region, with_rest, inside, with_child, new_region, at, parent_of, todo_at, ended_at, parents, left_of, may_at, IsBegun, IsSound}
+use Rattle.std.proofs.Common.{◌≡◌, ◌≢◌, ℕ, zero, suc, ◌+◌, ◌<◌, true, false, List, [], ◌∷◌, ◌++◌, map, length, refl, sym, ap, subst, ◌∙◌, ◌⊎◌, inl, inr, arith, Option, Some, if◌then◌else◌, ◌==◌, Bool, ⊎_elim}
+use Rattle.ot_job.proofs.Common.{cases_eq, nat_tests, map-append, E, S, If, Task, Wait, Group, Body, End, Next, append, val, cell_of, updated, length-updated, updated-updated, State, bump, either, serial, Use, Cell, Operation, serial-append, left, Open, todo, Region, with_rest, inside, with_child, new_region, at, parent_of, todo_at, ended_at, parents, left_of, may_at, IsBegun, IsSound, length-map}
+use Rattle.ot_model.proofs.CellsLemmas.{map-updated}
 use Rattle.ot_model.proofs.TreeLemmas as tree
 use Rattle.ot_job.proofs.Order.{order, order_from, insert_before, Each, AreParents, Descends, Each-weaker, small-insert}
 use Rattle.ot_job.proofs.Kept.{In, MayRun, left-piece, left-counts, left-if, left-task}
@@ -12,21 +13,13 @@ at-updated (r ∷ rs) zero f h = refl
 at-updated (r ∷ rs) (suc i) f h = at-updated rs i f (omega (arith, h))
 
 pub at-updated-other : (rs : List Region) (i j : ℕ) (f : Region → Region) → j ≢ i → at (updated rs i f) j ≡ at rs j
-at-updated-other [] i j f h = refl
 at-updated-other (r ∷ rs) zero zero f h = absurd (h refl)
-at-updated-other (r ∷ rs) zero (suc j) f h = refl
-at-updated-other (r ∷ rs) (suc i) zero f h = refl
 at-updated-other (r ∷ rs) (suc i) (suc j) f h = at-updated-other rs i j f (λ e. h (ap suc e))
-
-map-parents : (rs : List Region) (i : ℕ) (f : Region → Region) → ((r : Region) → (f r).parent ≡ r.parent) → map (λ r. r.parent) (updated rs i f) ≡ map (λ r. r.parent) rs
-map-parents [] i f h = refl
-map-parents (r ∷ rs) zero f h = ap (λ p. p ∷ map (λ r. r.parent) rs) (h r)
-map-parents (r ∷ rs) (suc i) f h = ap (λ ps. r.parent ∷ ps) (map-parents rs i f h)
+at-updated-other rs i j f h = refl
 
 pub parents-updated : (rs : List Region) (i : ℕ) (f : Region → Region) → ((r : Region) → (f r).parent ≡ r.parent) → parents (updated rs i f) ≡ parents rs
-parents-updated [] i f h = refl
-parents-updated (r ∷ rs) zero f h = refl
-parents-updated (r ∷ rs) (suc i) f h = map-parents rs i f h
+parents-updated (r ∷ rs) (suc i) f h = map-updated (λ r. r.parent) rs i f h
+parents-updated rs i f h = refl
 
 parents-more : (rs : List Region) (new : Region) → 0 < length rs → parents (rs ++ new ∷ []) ≡ parents rs ++ new.parent ∷ []
 parents-more [] new h = absurd (omega (arith, h))
@@ -62,13 +55,11 @@ are_parents (r ∷ rs) down =
 
 In-insert : (q k x : ℕ) (os : List ℕ) → In x os → In x (insert_before q k os)
 In-insert q k x [] h = h
-In-insert q k x (y ∷ os) h = at_test (λ g. In-insert q k x os g) (cases_eq q y) h
+In-insert q k x (y ∷ os) h = by (q == y) (⊎_elim inl (λ g. inr (In-insert q k x os g)) h)
   where
-    at_test : (In x os → In x (insert_before q k os)) → (q ≡ y) ⊎ (q ≡ y → ⊥) → (x ≡ y) ⊎ In x os → In x (if q == y then k ∷ y ∷ insert_before q k os else y ∷ insert_before q k os)
-    at_test ih (inl e) (inl g) = let t : (q == y) ≡ true = grind (arith, nat_tests) in rw t (inr (inl g))
-    at_test ih (inl e) (inr g) = let t : (q == y) ≡ true = grind (arith, nat_tests) in rw t (inr (inr (ih g)))
-    at_test ih (inr e) (inl g) = let t : (q == y) ≡ false = grind (arith, nat_tests) in rw t (inl g)
-    at_test ih (inr e) (inr g) = let t : (q == y) ≡ false = grind (arith, nat_tests) in rw t (inr (ih g))
+    by : (b : Bool) → In x (y ∷ insert_before q k os) → In x (if b then k ∷ y ∷ insert_before q k os else y ∷ insert_before q k os)
+    by true h = inr h
+    by false h = h
 
 In-new : (q k : ℕ) (os : List ℕ) → In q os → In k (insert_before q k os)
 In-new q k [] h = h
@@ -113,13 +104,9 @@ module _ (rs : List Region) (s : IsSound rs) (i : ℕ) (h : i < length rs) where
       first zero l = inl refl
       first (suc x) l = absurd (omega (arith, l))
 
-      long : (r : Region) (rest : List Region) → length (map (λ (x : Region). x.parent) rest) ≡ length rest
-      long r [] = refl
-      long r (x ∷ rest) = ap suc (long r rest)
-
       from : (ts : List Region) → i < length ts → AreParents (parent_of rs) 1 (parents ts) → In i (order (parents ts))
       from [] h ps = absurd (omega (arith, h))
-      from (r ∷ ts) h ps = In-order (parent_of rs) 1 (map (λ x. x.parent) ts) (0 ∷ []) ps first i (omega (arith, h, long r ts))
+      from (r ∷ ts) h ps = In-order (parent_of rs) 1 (map (λ x. x.parent) ts) (0 ∷ []) ps first i (omega (arith, h, length-map ts (λ (x : Region). x.parent)))
 
   pub family_of : AreParents (parent_of rs) 1 (parents rs)
   family_of = are_parents rs s.down
@@ -177,11 +164,7 @@ small-order k (q ∷ qs) os h =
 
 length-parents : (rs : List Region) → 0 < length rs → length rs ≡ 1 + length (parents rs)
 length-parents [] h = absurd (omega (arith, h))
-length-parents (r ∷ rs) h = omega (arith, long rs)
-  where
-    long : (rest : List Region) → length (map (λ (x : Region). x.parent) rest) ≡ length rest
-    long [] = refl
-    long (x ∷ rest) = ap suc (long rest)
+length-parents (r ∷ rs) h = omega (arith, length-map rs (λ (x : Region). x.parent))
 
 module _ (rs : List Region) (s : IsSound rs) (i : ℕ) (h : i < length rs) where
   -- a task is created

@@ -1,14 +1,15 @@
 -- What a job asks of its owners, where a piece is lent and where it comes back.
 use Rattle.std.proofs.Common.{◌≡◌, ℕ, suc, Bool, true, false, cond, List, [], ◌∷◌, map, refl, sym, ap, subst, ◌∙◌, inl, inr, arith, true≢false, Option, Some, None, IsSome, IsTrue, option_map, unwrap_or, Any, All, find, zero, ◌<◌, ◌++◌, get_or, length, Contains, IfSome, replicate}
-use Rattle.ot_job.proofs.Common.{All-nil, All-cons, All-head, All-tail, same_Some, option_map_id, false_from_ne_true, cell_of, conflicts, is_fold, joined, first_of, Conflict, Cell, Mode, Reads, Writes, Folds, Use, lent_from, copy_of, is_at, use_of, uses_of, AreJoined, LentCell, found-lent, All-contains, All-permutation, IsPermutation-sym, lengths, updated, End, AreInOrder, mode_in, Operation, has_cell, Lease, lease_of, Loan, Owned, IsFreeFor, Summed, IsSummed, IsSummedBy, begun_for, AreWorthSame, worths, worths-same, AreHeld, begun, group_passed, Open, Region, Run, is_claimable, Live, at, AreOpen, IsRoomFor, Opens, left_open, IsWell, IsOnCourse, loans_out}
+use Rattle.ot_job.proofs.Common.{All-nil, All-cons, All-head, All-tail, same_Some, option_map_id, false_from_ne_true, cell_of, conflicts, is_fold, joined, first_of, Conflict, Cell, Mode, Reads, Writes, Folds, Use, lent_from, copy_of, is_at, use_of, uses_of, AreJoined, LentCell, found-lent, All-contains, All-permutation, IsPermutation-sym, lengths, updated, End, AreInOrder, mode_in, Operation, has_cell, Lease, lease_of, Loan, Owned, IsFreeFor, Summed, IsSummed, IsSummedBy, begun_for, AreWorthSame, worths, worths-same, AreHeld, begun, group_passed, Open, Region, Run, is_claimable, Live, at, AreOpen, IsRoomFor, Opens, left_open, IsWell, IsOnCourse, loans_out, none-some}
 use Rattle.std.proofs.lemmas.List.{append-nil}
 use Rattle.ot_job.proofs.CopiesLemmas.{HasInputs, found}
-use Rattle.ot_job.proofs.HoldsLemmas.{Among}
+use Rattle.ot_job.proofs.HoldsLemmas.{Among, among as is-among, contained}
 use Rattle.ot_job.specs.Opened.{opened_under}
 use Rattle.ot_job.proofs.RightsLemmas.{mode-once}
 use Rattle.ot_job.proofs.OpenedLemmas.{claim-unopened, claim-folded, group_free, groups-there, held-unopened}
 use Rattle.ot_job.proofs.OpeningLemmas.{innermost, is-open, lent-worths, not_summed, free-out, open-grown, open-passed, open-summed, passed-open, there as there-of}
 use Rattle.ot_job.proofs.WholeLemmas.{loans-each}
+use Rattle.std.proofs.lemmas.List.Elements.{Contains-get_or}
 
 -- ---- the inputs of a piece that is out stay what they were: what comes back changes no cell that another piece reads or writes
 
@@ -26,9 +27,8 @@ one-input cells l there first = record {
     stored (Some n) e h f = e ∙ ap Some (sym (f ∙ ap (λ o. unwrap_or o 0) e))
 
     by : (m : Mode) → is_fold m ≡ false → l.first ≡ first_of m (unwrap_or (cell_of cells l.cell) 0) → (o : Option ℕ) → cell_of cells l.cell ≡ o → IsSome (cell_of cells l.cell) → cell_of cells l.cell ≡ Some l.first
-    by Reads other f o e h = stored o e (subst IsSome e h) f
-    by Writes other f o e h = stored o e (subst IsSome e h) f
     by (Folds op) other f o e h = absurd (true≢false other)
+    by m other f o e h = stored o e (subst IsSome e h) f
 
 -- what is lent has the inputs of a lease that would be the same now
 pub has-inputs : (cells : List (List ℕ)) (lent : List LentCell) → map (λ l. l.first) lent ≡ map (λ l. l.first) (lent_from cells (uses_of lent))
@@ -43,9 +43,7 @@ has-inputs cells (l ∷ lent) same there =
 -- ---- two leases that don't conflict
 
 among-any : (P : Use → Type 0) (us : List Use) (u : Use) → Among u us → P u → Any P us
-among-any P [] u k p = absurd k
-among-any P (x ∷ us) u (inl e) p = (0, x, omega arith, refl, subst P (sym e) p)
-among-any P (x ∷ us) u (inr k) p = let a = among-any P us u k p in (suc a.0, a.1, omega (arith, a.2), a.3, a.4)
+among-any P us u h p = let (k, within, is) = contained u us h in (k, u, within, is, p)
 
 found-among : (lent : List LentCell) (c : Cell) (l : LentCell) → find (is_at c) lent ≡ Some l → Among (use_of l) (uses_of lent)
 found-among [] c l h = cc
@@ -67,17 +65,11 @@ module _ (lent : List LentCell) (before after : List (List ℕ)) (back : AreJoin
     where
       reads : (m n : Mode) → is_fold n ≡ false → conflicts m n ≡ false → m ≡ Reads
       reads Reads n other h = refl
-      reads Writes n other h = absurd (true≢false h)
-      reads (Folds op) Reads other h = absurd (true≢false h)
-      reads (Folds op) Writes other h = absurd (true≢false h)
       reads (Folds op) (Folds by) other h = absurd (true≢false other)
+      reads m n other h = absurd (true≢false h)
 
       pick : (o : Option LentCell) → find (is_at u.cell) lent ≡ o → cell_of after u.cell ≡ cell_of before u.cell
-      pick None e = back.others u.cell (λ is. none (find (is_at u.cell) lent) e ((found-lent lent u.cell).1 is))
-        where
-          none : (o : Option LentCell) → o ≡ None → IsSome o → ⊥
-          none None e h = true≢false (sym h)
-          none (Some l) e h = cc
+      pick None e = back.others u.cell (λ is. true≢false (sym (subst IsSome e ((found-lent lent u.cell).1 is))))
       pick (Some l) e =
           let f = found (λ x. cell_of after x.cell ≡ option_map (λ stored. joined x.mode stored x.value) (cell_of before x.cell)) lent u.cell l back.lent_cells e in
           let m : l.mode ≡ Reads = reads l.mode u.mode other (agree u k l e f.1) in
@@ -88,8 +80,7 @@ module _ (lent : List LentCell) (before after : List (List ℕ)) (back : AreJoin
     where
       by : (m : Mode) → u.mode ≡ m → first_of m (unwrap_or (cell_of after u.cell) 0) ≡ first_of m (unwrap_or (cell_of before u.cell) 0)
       by (Folds op) e = refl
-      by Reads e = ap (λ o. unwrap_or o 0) (stays u k (ap is_fold e))
-      by Writes e = ap (λ o. unwrap_or o 0) (stays u k (ap is_fold e))
+      by m e = ap (λ o. unwrap_or o 0) (stays u k (ap is_fold e))
 
   copies-kept : (vs : List Use) → ((u : Use) → Among u vs → Among u us) → lent_from after vs ≡ lent_from before vs
   copies-kept [] some = refl
@@ -99,11 +90,6 @@ module _ (lent : List LentCell) (before after : List (List ℕ)) (back : AreJoin
   inputs-kept = copies-kept us (λ u k. k)
 
 -- ---- what a job asks of its owners, where a piece is lent and where it comes back
-
-among-at : (uses : List Use) (k : ℕ) (d : Use) → k < length uses → Among (get_or uses k d) uses
-among-at [] k d within = absurd (omega (arith, within))
-among-at (u ∷ us) zero d within = inl refl
-among-at (u ∷ us) (suc k) d within = inr (among-at us k d (omega (arith, within)))
 
 -- ---- a piece is lent
 
@@ -128,10 +114,7 @@ module _ (j : Live) (w : IsWell j) (o : IsOnCourse j) (i : ℕ) (h : i < length 
         (All-permutation (λ (l : Loan). (c : Cell) (m : Mode) → mode_in l.lease.uses c ≡ Some m → has_cell passed.0.cells c ≡ true → ⊥) (loans_out j.regions) j.owned.out
         (IsPermutation-sym j.owned.out (loans_out j.regions) w.rights)
         (loans-each (λ l. (c : Cell) (m : Mode) → mode_in l.lease.uses c ≡ Some m → has_cell passed.0.cells c ≡ true → ⊥) j.regions
-        (λ k run out c m held named. none (sym held ∙ group_free j.regions o.sound (lengths j.cells) o.named o.runs o.begun i can passed.2 passed.0 passed.1 passed.3 k run out c named)))))
-      where
-        none : {m : Mode} → Some m ≡ None → ⊥
-        none e = cc
+        (λ k run out c m held named. none-some m (sym (group_free j.regions o.sound (lengths j.cells) o.named o.runs o.begun i can passed.2 passed.0 passed.1 passed.3 k run out c named) ∙ held)))))
 
     passed-there : All (λ g. g.group ≡ group → All (λ u. IsSome (cell_of j.cells u.cell)) g.uses) gs
     passed-there = subst (λ n. All (λ (g : Summed). g.group ≡ n → All (λ u. IsSome (cell_of j.cells u.cell)) g.uses) gs) passed.4
@@ -162,7 +145,7 @@ module _ (j : Live) (w : IsWell j) (o : IsOnCourse j) (i : ℕ) (h : i < length 
     pub claim-folds : All (λ u. (op : Operation) → u.mode ≡ Folds op → IsSummedBy (left_open (group_passed (at j.regions i)) gs) op u.cell) lease.uses
     claim-folds k d within op folds =
         let u = get_or lease.uses k d in
-        let held = mode-once lease.uses ordered u (among-at lease.uses k d within) ∙ ap Some folds in
+        let held = mode-once lease.uses ordered u (is-among (get_or lease.uses k d) lease.uses (Contains-get_or lease.uses k d within)) ∙ ap Some folds in
         let (n, g, there, by, named) = claim-folded j o i h can worker lease are ordered op u.cell held in
         subst (λ p. IsSummedBy (left_open (group_passed (at j.regions i)) gs) p u.cell) by (open-summed now (left_open (group_passed (at j.regions i)) gs) n g u.cell open-now there named)
 
@@ -177,7 +160,7 @@ module _ (j : Live) (w : IsWell j) (o : IsOnCourse j) (i : ℕ) (h : i < length 
             let u = get_or lease.uses k d in
             not_summed now owned.groups u.cell
             (subst (AreOpen now) (sym groups) (open-grown now (left_open (group_passed (at j.regions i)) gs) worker lease.uses open-now))
-            (claim-unopened j o i h can worker lease are ordered u.cell u.mode (mode-once lease.uses ordered u (among-at lease.uses k d within)) other)
+            (claim-unopened j o i h can worker lease are ordered u.cell u.mode (mode-once lease.uses ordered u (is-among (get_or lease.uses k d) lease.uses (Contains-get_or lease.uses k d within))) other)
 
 -- ---- a piece comes back
 
@@ -199,7 +182,6 @@ back-unsummed j o i run out lent is k d within writes =
 -- a group is opened where one comes next
 pub opens : (next : Option (Operation × List Cell)) (room : Option (Operation × List Use)) (number : ℕ) (before after : List Summed) → IsRoomFor next room → after ≡ before ++ opened_under number room → Opens next number before after
 opens None None number before after names is = is ∙ append-nil before
-opens None (Some room) number before after names is = absurd names
-opens (Some group) None number before after names is = absurd names
 opens (Some group) (Some room) number before after names is =
     (room.1, names.1, is ∙ ap (λ op. before ++ record { group = number; op = op; uses = room.1; rows = replicate 17 None } ∷ []) names.0)
+opens next room number before after names is = absurd names

@@ -1,16 +1,17 @@
 -- A task moves on behind its piece, and what a settle leaves of the pieces of others.
-use Rattle.std.proofs.Common.{◌≡◌, ℕ, zero, suc, ◌<◌, ◌≤◌, Bool, true, false, List, [], ◌∷◌, ◌++◌, length, refl, sym, ap, subst, ◌∙◌, ◌⊎◌, inl, inr, arith, Option, Some, None, nat_lt, ◌==◌, if◌then◌else◌, ◌+◌, ◌≢◌, IsPermutation}
-use Rattle.ot_job.proofs.Common.{cases_eq, nat_tests, E, S, Set, Fold, If, Task, Wait, Group, Body, End, Next, append, val, NamedIn, cell_of, updated, AreInOrder, State, bump, either, Use, Cell, Operation, length-updated, left, Open, todo, Region, with_rest, with_child, new_region, inside, stepped, stepped_from, with_created, next_task, executed, leading, test_of, closed, moved_on, counted, is_at_end, at, todo_at, parents, left_of, IsBegun, IsSound, cases_lt, length-map, IsPermutation-refl, IsPermutation-trans, IsPermutation-cons, IsPermutation-swap, none-some, updated-updated, Run, rest_at, children_at, over, stopped, without, tasks_next, told_parent, settled, parent_of, whole, wholes, loan_in, with_loan, loans_out, Sibling, with_finished}
+use Rattle.std.proofs.Common.{◌≡◌, ℕ, zero, suc, ◌<◌, ◌≤◌, Bool, true, false, List, [], ◌∷◌, ◌++◌, length, refl, sym, ap, subst, ◌∙◌, ◌⊎◌, inl, inr, arith, Option, Some, None, nat_lt, ◌==◌, if◌then◌else◌, ◌+◌, ◌≢◌, IsPermutation, ⊎_elim}
+use Rattle.ot_job.proofs.Common.{cases_eq, nat_tests, E, S, Set, Fold, If, Task, Wait, Group, Body, End, Next, append, val, NamedIn, cell_of, updated, AreInOrder, State, bump, either, Use, Cell, Operation, length-updated, left, Open, todo, Region, with_rest, with_child, new_region, inside, stepped, stepped_from, with_created, next_task, executed, leading, test_of, closed, moved_on, counted, is_at_end, at, todo_at, parents, left_of, IsBegun, IsSound, cases_lt, length-map, IsPermutation-refl, IsPermutation-trans, IsPermutation-cons, IsPermutation-swap, none-some, updated-updated, Run, children_at, over, stopped, without, tasks_next, told_parent, settled, parent_of, whole, wholes, loan_in, with_loan, loans_out, Sibling, with_finished}
 use Rattle.ot_model.proofs.NamesLemmas.{NamedIn-append}
 use Rattle.ot_job.proofs.KeptLemmas.{todo-append, todo-next, kept-wait, kept-group, kept-if, kept-task, at-updated, at-updated-other, at-more}
-use Rattle.ot_job.proofs.ChangedLemmas.{begun-changed}
+use Rattle.ot_job.proofs.ChangedLemmas.{IsKept, begun-changed}
+use Rattle.ot_job.proofs.PlaceLemmas.{taken-of}
 use Rattle.ot_job.proofs.StopLemmas.{may-test, changed, wholes-executed}
 use Rattle.ot_job.proofs.StepLemmas.{waits, sound-branch, sound-wait, sound-enter, rest-here, children-here, tell, tell-field, end-cases, stepped-running, moved-running, moved-long}
 use Rattle.ot_job.proofs.CreatedLemmas.{more, long}
 use Rattle.ot_job.proofs.GrownLemmas.{sound-task, begun-task}
 use Rattle.ot_job.proofs.ClosedLemmas.{long-closed, todo-closed, begun-closed, parents-closed, sound-closed}
 use Rattle.ot_job.proofs.RightsLemmas.{named-front, at-whole}
-use Rattle.ot_job.proofs.EachLemmas.{at-each, more-each, field-more}
+use Rattle.ot_job.proofs.EachLemmas.{at-each, more-each, field-more, moved-by, told-by}
 use Rattle.ot_job.proofs.SoundLemmas.{at-past}
 
 -- ---- a task moves on behind its piece: what holds of the regions, and what is left of the job, stays
@@ -29,17 +30,14 @@ updated-same (w ∷ ws) zero f g same = ap (λ x. x ∷ ws) same
 updated-same (w ∷ ws) (suc i) f g same = ap (λ xs. w ∷ xs) (updated-same ws i f g same)
 
 updated-itself : (ws : List Region) (i : ℕ) → updated ws i (λ r. r) ≡ ws
-updated-itself [] i = refl
-updated-itself (w ∷ ws) zero = refl
 updated-itself (w ∷ ws) (suc i) = ap (λ xs. w ∷ xs) (updated-itself ws i)
+updated-itself ws i = refl
 
 -- a number takes the first body where it isn't 0
 taken-by : (n : ℕ) (a b : Body) → (if nat_lt 0 n then a else b) ≡ either n a b
-taken-by n a b = by (cases_eq n 0)
-  where
-    by : (n ≡ 0) ⊎ (n ≡ 0 → ⊥) → (if nat_lt 0 n then a else b) ≡ either n a b
-    by (inl e) = let one : nat_lt 0 n ≡ false = grind (arith, nat_tests) in let two : (n == 0) ≡ true = grind (arith, nat_tests) in rw (one, two) refl
-    by (inr e) = let one : nat_lt 0 n ≡ true = grind (arith, nat_tests) in let two : (n == 0) ≡ false = grind (arith, nat_tests) in rw (one, two) refl
+taken-by n a b =
+    ⊎_elim (λ e. let one : nat_lt 0 n ≡ false = grind (arith, nat_tests) in let two : (n == 0) ≡ true = grind (arith, nat_tests) in rw (one, two) refl)
+    (λ e. let one : nat_lt 0 n ≡ true = grind (arith, nat_tests) in let two : (n == 0) ≡ false = grind (arith, nat_tests) in rw (one, two) refl) (cases_eq n 0)
 
 module _ (lens : List ℕ) (ws : List Region) (s : IsSound ws) (i : ℕ) (h : i < length ws) (alive : (at ws i).ended ≡ false) (calm : (at ws i).waiting ≡ None)
     (started : IsBegun ws i) (named : (k : ℕ) → NamedIn lens (todo_at ws k)) (t : State) where
@@ -50,51 +48,35 @@ module _ (lens : List ℕ) (ws : List Region) (s : IsSound ws) (i : ℕ) (h : i 
   named-changed : (f : Region → Region) → NamedIn lens (todo (f (at ws i)).rest (f (at ws i)).groups) → (k : ℕ) → NamedIn lens (todo_at (updated ws i f) k)
   named-changed f n = at-each (λ r. NamedIn lens (todo r.rest r.groups)) ws i f named n
 
-  -- the step of one region, by what comes next
-  stepped-is : (taken : Bool) (g : ℕ) (b : Body) (f : Region → Region) → (at ws i).rest ≡ b → stepped_from taken g b (at ws i) ≡ f (at ws i) → next_task b ≡ None → executed taken g i ws ≡ updated ws i f
-  stepped-is taken g b f was is none =
-      ap (λ o. with_created i o (updated ws i (stepped taken g))) (ap next_task (rest-here ws i ∙ was) ∙ none)
-      ∙ updated-same ws i (stepped taken g) f (ap (λ b. stepped_from taken g b (at ws i)) was ∙ is)
+  -- a step of one region, by what comes next
+  goes-changed : (taken : Bool) (g : ℕ) (b : Body) (f : Region → Region) → (at ws i).rest ≡ b → stepped_from taken g b (at ws i) ≡ f (at ws i) → next_task b ≡ None
+      → IsKept f → IsSound (updated ws i f) → (after : State) → left_of (updated ws i f) after ≡ left_of ws t → NamedIn lens (todo (f (at ws i)).rest (f (at ws i)).groups) → Goes lens ws (executed taken g i ws) t after
+  goes-changed taken g b f was is none keeps sound after same n =
+      subst (λ now. Goes lens ws now t after)
+      (sym (ap (λ o. with_created i o (updated ws i (stepped taken g))) (ap next_task (rest-here ws i ∙ was) ∙ none) ∙ updated-same ws i (stepped taken g) f (ap (λ b. stepped_from taken g b (at ws i)) was ∙ is)))
+      (record { sound = sound; same = same; named = named-changed f n; begun = λ k below w. begun-changed ws i f h keeps k w; long = omega (arith, length-updated ws i f) })
 
   goes-wait : (taken : Bool) (g : ℕ) (w : Option (List Use)) (rest : Body) → (at ws i).rest ≡ Next (Wait w) rest → Goes lens ws (executed taken g i ws) t (bump 0 1 t)
   goes-wait taken g w rest was =
-      subst (λ now. Goes lens ws now t (bump 0 1 t)) (sym (stepped-is taken g (Next (Wait w) rest) (waits w rest) was refl refl)) (record {
-        sound = sound-wait ws s i h alive calm w rest was;
-        same = kept-wait ws s i h w rest t was;
-        named = named-changed (waits w rest) (named-next (Wait w) rest was).1;
-        begun = λ k below b. begun-changed ws i (waits w rest) h (record { parent = λ r. refl; child = λ r. refl; own = λ r. refl; children = λ r. refl; ended = λ r. refl }) k b;
-        long = omega (arith, length-updated ws i (waits w rest));
-      })
+      goes-changed taken g (Next (Wait w) rest) (waits w rest) was refl refl (record { parent = λ r. refl; child = λ r. refl; own = λ r. refl; children = λ r. refl; ended = λ r. refl })
+      (sound-wait ws s i h alive calm w rest was) (bump 0 1 t) (kept-wait ws s i h w rest t was) (named-next (Wait w) rest was).1
 
   goes-group : (taken : Bool) (g : ℕ) (op : Operation) (cs : List Cell) (b rest : Body) → (at ws i).rest ≡ Next (Group op cs b) rest → Goes lens ws (executed taken g i ws) t (bump 0 1 t)
   goes-group taken g op cs b rest was =
       let n = named-next (Group op cs b) rest was in
-      subst (λ now. Goes lens ws now t (bump 0 1 t)) (sym (stepped-is taken g (Next (Group op cs b) rest) (λ r. inside g op cs b (with_rest rest r)) was refl refl)) (record {
-        sound = sound-enter ws s i h calm started g op cs b rest was;
-        same = kept-group ws s i h g op cs b rest t was;
-        named = named-changed (λ r. inside g op cs b (with_rest rest r)) (NamedIn-append lens b (todo rest (at ws i).groups) n.0.1 n.1);
-        begun = λ k below w. begun-changed ws i (λ r. inside g op cs b (with_rest rest r)) h (record { parent = λ r. refl; child = λ r. refl; own = λ r. refl; children = λ r. refl; ended = λ r. refl }) k w;
-        long = omega (arith, length-updated ws i (λ r. inside g op cs b (with_rest rest r)));
-      })
+      goes-changed taken g (Next (Group op cs b) rest) (λ r. inside g op cs b (with_rest rest r)) was refl refl (record { parent = λ r. refl; child = λ r. refl; own = λ r. refl; children = λ r. refl; ended = λ r. refl })
+      (sound-enter ws s i h calm started g op cs b rest was) (bump 0 1 t) (kept-group ws s i h g op cs b rest t was) (NamedIn-append lens b (todo rest (at ws i).groups) n.0.1 n.1)
 
   goes-if : (g : ℕ) (e : E) (a b rest : Body) → (at ws i).rest ≡ Next (If e a b) rest → Goes lens ws (executed (nat_lt 0 (val (cell_of t.cells) e)) g i ws) t (bump 0 1 t)
   goes-if g e a b rest was =
       let taken = nat_lt 0 (val (cell_of t.cells) e) in
       let chosen : Body = if taken then a else b in
       let n = named-next (If e a b) rest was in
-      subst (λ now. Goes lens ws now t (bump 0 1 t)) (sym (stepped-is taken g (Next (If e a b) rest) (with_rest (append chosen rest)) was refl refl)) (record {
-        sound = sound-branch ws s i h alive taken e a b rest was;
-        same = ap (λ c. left_of (updated ws i (with_rest (append c rest))) (bump 0 1 t)) (taken-by (val (cell_of t.cells) e) a b)
-            ∙ kept-if ws s i h e a b rest t was (may-test ws s i e a b rest was alive lens (named-front lens (at ws i).rest (at ws i).groups (named i)) calm started);
-        named = named-changed (with_rest (append chosen rest)) (subst (NamedIn lens) (sym (todo-append chosen rest (at ws i).groups))
-            (NamedIn-append lens chosen (todo rest (at ws i).groups) (either-named taken a b n.0.1 n.0.2) n.1));
-        begun = λ k below w. begun-changed ws i (with_rest (append chosen rest)) h (record { parent = λ r. refl; child = λ r. refl; own = λ r. refl; children = λ r. refl; ended = λ r. refl }) k w;
-        long = omega (arith, length-updated ws i (with_rest (append chosen rest)));
-      })
-    where
-      either-named : (b : Bool) (one two : Body) → NamedIn lens one → NamedIn lens two → NamedIn lens (if b then one else two)
-      either-named true one two n m = n
-      either-named false one two n m = m
+      goes-changed taken g (Next (If e a b) rest) (with_rest (append chosen rest)) was refl refl (record { parent = λ r. refl; child = λ r. refl; own = λ r. refl; children = λ r. refl; ended = λ r. refl })
+      (sound-branch ws s i h alive taken e a b rest was) (bump 0 1 t)
+      (ap (λ c. left_of (updated ws i (with_rest (append c rest))) (bump 0 1 t)) (taken-by (val (cell_of t.cells) e) a b)
+      ∙ kept-if ws s i h e a b rest t was (may-test ws s i e a b rest was alive lens (named-front lens (at ws i).rest (at ws i).groups (named i)) calm started))
+      (subst (NamedIn lens) (sym (todo-append chosen rest (at ws i).groups)) (NamedIn-append lens chosen (todo rest (at ws i).groups) (taken-of (NamedIn lens) taken a b n.0.1 n.0.2) n.1))
 
   goes-task : (taken : Bool) (g : ℕ) (d : List Use) (b rest : Body) → (at ws i).rest ≡ Next (Task d b) rest → AreInOrder d → Goes lens ws (executed taken g i ws) t (bump 1 1 t)
   goes-task taken g d b rest was ordered =
@@ -135,7 +117,8 @@ module _ (lens : List ℕ) (ws : List Region) (s : IsSound ws) (i : ℕ) (h : i 
   -- a group's end is reached
   goes-here : (taken : Bool) (g : ℕ) → (at ws i).rest ≡ End → Goes lens ws (executed taken g i ws) t t
   goes-here taken g was =
-      subst (λ now. Goes lens ws now t t) (sym (stepped-is taken g End (λ r. r) was refl refl ∙ updated-itself ws i)) (record { sound = s; same = refl; named = named; begun = λ k below b. b; long = omega arith })
+      goes-changed taken g End (λ r. r) was refl refl (record { parent = λ r. refl; child = λ r. refl; own = λ r. refl; children = λ r. refl; ended = λ r. refl })
+      (subst IsSound (sym (updated-itself ws i)) s) t (ap (λ now. left_of now t) (updated-itself ws i)) (named i)
 
   -- the body's end is reached
   goes-closed : (at ws i).rest ≡ End → (at ws i).groups ≡ [] → Goes lens ws (closed i ws) t t
@@ -175,11 +158,9 @@ module _ (lens : List ℕ) (ws : List Region) (s : IsSound ws) (i : ℕ) (h : i 
 -- ---- a body's end
 
 updated-swap : (xs : List Region) (i j : ℕ) (f g : Region → Region) → ((r : Region) → g (f r) ≡ f (g r)) → updated (updated xs i f) j g ≡ updated (updated xs j g) i f
-updated-swap [] i j f g same = refl
 updated-swap (x ∷ xs) zero zero f g same = ap (λ y. y ∷ xs) (same x)
-updated-swap (x ∷ xs) zero (suc j) f g same = refl
-updated-swap (x ∷ xs) (suc i) zero f g same = refl
 updated-swap (x ∷ xs) (suc i) (suc j) f g same = ap (λ ys. x ∷ ys) (updated-swap xs i j f g same)
+updated-swap xs i j f g same = refl
 
 tell-wholes : (some : Bool) (p c : ℕ) (rs : List Region) → wholes (tell some p c rs) ≡ tell some p c (wholes rs)
 tell-wholes false p c rs = refl
@@ -242,35 +223,15 @@ without-alike c zero (r ∷ rs) (suc k) = ((at rs k).children, refl)
 without-alike c (suc p) (r ∷ rs) zero = (r.children, refl)
 without-alike c (suc p) (r ∷ rs) (suc k) = without-alike c p rs k
 
-others-closed : (i : ℕ) (rs : List Region) (k : ℕ) → k ≢ i → Alike (at (closed i rs) k) (at rs k)
-others-closed i rs k other = let (kids, is) = told (nat_lt 0 i) in (kids, at-updated-other (told_parent i rs) i k over other ∙ is)
-  where
-    told : (some : Bool) → Alike (at (tell some (parent_of rs i) (at rs i).child rs) k) (at rs k)
-    told true = without-alike (at rs i).child (parent_of rs i) rs k
-    told false = ((at rs k).children, refl)
-
-others-created : (i : ℕ) (child : Option (List Use × Body)) (rs : List Region) (k : ℕ) → k ≢ i → Alike (at (with_created i child rs) k) (at rs k) ⊎ ((at (with_created i child rs) k).running ≡ None)
-others-created i None rs k other = inl ((at rs k).children, refl)
-others-created i (Some child) rs k other = pick (cases_lt k (length two))
-  where
-    two : List Region
-    two = updated rs i (with_child child.0)
-
-    new : Region
-    new = new_region i (children_at rs i) child.0 child.1
-
-    pick : (k < length two) ⊎ (length two ≤ k) → Alike (at (two ++ new ∷ []) k) (at rs k) ⊎ ((at (two ++ new ∷ []) k).running ≡ None)
-    pick (inl below) = inl ((at rs k).children, at-more two new k below ∙ at-updated-other rs i k (with_child child.0) other)
-    pick (inr past) = inr (field-more (λ r. r.running) two new refl k ∙ ap (λ (r : Region). r.running) (at-past two k past))
-
 pub others-moved : (taken : Bool) (g i : ℕ) (rs : List Region) (k : ℕ) → k ≢ i → Alike (at (moved_on taken g i rs) k) (at rs k) ⊎ ((at (moved_on taken g i rs) k).running ≡ None)
-others-moved taken g i rs k other = by (is_at_end (at rs i).rest (at rs i).groups)
-  where
-    by : (b : Bool) → Alike (at (if b then closed i rs else executed taken g i rs) k) (at rs k) ⊎ ((at (if b then closed i rs else executed taken g i rs) k).running ≡ None)
-    by true = inl (others-closed i rs k other)
-    by false =
-        subst (λ r. Alike (at (executed taken g i rs) k) r ⊎ ((at (executed taken g i rs) k).running ≡ None)) (at-updated-other rs i k (stepped taken g) other)
-        (others-created i (next_task (rest_at rs i)) (updated rs i (stepped taken g)) k other)
+others-moved taken g i rs k other = moved-by taken g i rs (λ l. Alike (at l k) (at rs k) ⊎ ((at l k).running ≡ None))
+    (λ was. let (kids, is) = told-by i rs (λ l. Alike (at l k) (at rs k)) (λ z. ((at rs k).children, refl)) (λ pos. without-alike (at rs i).child (parent_of rs i) rs k) in
+    inl (kids, at-updated-other (told_parent i rs) i k over other ∙ is))
+    (inl ((at rs k).children, at-updated-other rs i k (stepped taken g) other))
+    (λ l child h. let two = updated l i (with_child child.0) in let new = new_region i (children_at l i) child.0 child.1 in elim (cases_lt k (length two)) [
+      | inl below ↦ subst (λ r. Alike r (at rs k) ⊎ (r.running ≡ None)) (sym (at-more two new k below ∙ at-updated-other l i k (with_child child.0) other)) h
+      | inr past ↦ inr (field-more (λ r. r.running) two new refl k ∙ ap (λ (r : Region). r.running) (at-past two k past))
+    ])
 
 -- where a piece comes back, each that is out still is another's
 pub stopped-others : (rs : List Region) (i k : ℕ) (run : Run) → (at (updated rs i stopped) k).running ≡ Some run → (k ≢ i) × (at (updated rs i stopped) k ≡ at rs k)
@@ -302,21 +263,11 @@ loans-more : (rs : List Region) (new : Region) → new.running ≡ None → loan
 loans-more [] new none = ap (λ o. with_loan o []) none
 loans-more (r ∷ rs) new none = ap (with_loan r.running) (loans-more rs new none)
 
-loans-created : (i : ℕ) (child : Option (List Use × Body)) (rs : List Region) → loans_out (with_created i child rs) ≡ loans_out rs
-loans-created i None rs = refl
-loans-created i (Some child) rs =
-    loans-more (updated rs i (with_child child.0)) (new_region i (children_at rs i) child.0 child.1) refl ∙ loans-same rs i (with_child child.0) (λ r. refl)
-
 loans-moved : (taken : Bool) (g i : ℕ) (rs : List Region) → loans_out (moved_on taken g i rs) ≡ loans_out rs
-loans-moved taken g i rs = by (is_at_end (at rs i).rest (at rs i).groups)
-  where
-    tells : (some : Bool) → loans_out (tell some (parent_of rs i) (at rs i).child rs) ≡ loans_out rs
-    tells false = refl
-    tells true = loans-same rs (parent_of rs i) (without (at rs i).child) (λ r. refl)
-
-    by : (b : Bool) → loans_out (if b then closed i rs else executed taken g i rs) ≡ loans_out rs
-    by true = loans-same (told_parent i rs) i over (λ r. refl) ∙ tells (nat_lt 0 i)
-    by false = loans-created i (next_task (rest_at rs i)) (updated rs i (stepped taken g)) ∙ loans-same rs i (stepped taken g) (stepped-running taken g)
+loans-moved taken g i rs = moved-by taken g i rs (λ l. loans_out l ≡ loans_out rs)
+    (λ was. loans-same (told_parent i rs) i over (λ r. refl) ∙ told-by i rs (λ l. loans_out l ≡ loans_out rs) (λ z. refl) (λ pos. loans-same rs (parent_of rs i) (without (at rs i).child) (λ r. refl)))
+    (loans-same rs i (stepped taken g) (stepped-running taken g))
+    (λ l child h. loans-more (updated l i (with_child child.0)) (new_region i (children_at l i) child.0 child.1) refl ∙ loans-same l i (with_child child.0) (λ r. refl) ∙ h)
 
 pub one-less : (rs : List Region) (i : ℕ) (run : Run) → (at rs i).running ≡ Some run → IsPermutation (loans_out rs) (loan_in run ∷ loans_out (updated rs i stopped))
 one-less [] i run is = cc
@@ -333,7 +284,7 @@ one-less (r ∷ rs) (suc i) run is = by (one-less rs i run is) r.running
 -- the task's own lease is out no more
 pub loans-settled : (taken : Bool) (g i : ℕ) (rs : List Region) (run : Run) → i < length rs → (at rs i).running ≡ Some run → IsPermutation (loans_out rs) (loan_in run ∷ loans_out (settled taken g i rs))
 loans-settled taken g i rs run h is =
-    subst (λ l. IsPermutation l (loan_in run ∷ loans_out (settled taken g i rs))) (loans-moved taken g i rs) (one-less (moved_on taken g i rs) i run (moved-running (is_at_end (at rs i).rest (at rs i).groups) taken g i rs i ∙ is))
+    subst (λ l. IsPermutation l (loan_in run ∷ loans_out (settled taken g i rs))) (loans-moved taken g i rs) (one-less (moved_on taken g i rs) i run (moved-running taken g i rs i ∙ is))
 
 -- ---- how many tasks there are
 

@@ -1,6 +1,6 @@
 -- What pieces hold of the cells of open groups, and which group may be opened.
-use Rattle.std.proofs.Common.{◌≡◌, ◌≢◌, ℕ, ◌<◌, ◌≤◌, Bool, true, false, List, [], ◌∷◌, length, refl, sym, ap, subst, ◌∙◌, ◌⊎◌, inl, inr, true≢false, ◌&&◌, Some, slice_get, ◌↔◌, ◌||◌, Contains, Option, None, not, IfSome}
-use Rattle.ot_job.proofs.Common.{cases_lt, false_from_ne_true, NamedIn, conflicts, mode_in, same_fold, Conflict, Cell, Operation, Mode, Reads, Writes, Folds, Use, Sibling, is_in, use_as, Declared, allows, folds_to, has_cell, Agree, ReductionMisuse, or_true, or_right, and_true, opened-none, Open, Region, Run, test_of, piece_touches, IsRight, opened, at, parent_of, todo_at, ended_at, may_at, grouped_in, NamedOnce, IsBegun, IsPlaced, IsSound, RunsWell, whole, wholes, list_any, cases_eq, All-permutation, IsPermutation-sym, IsPermutation-trans, Set, Fold, If, Task, Wait, Group, Body, End, Next, append, lengths, updated, clashes, opened_by_any, IsFine, group_free, groups_inside, Loan, IsNamed, permutation_rest, group_next, stopped, with_rest, children_of, unawaited, Live, IsRoomFor, MayOpen, IsWell, IsOnCourse, assigns_out, loan_in, loans_out}
+use Rattle.std.proofs.Common.{◌≡◌, ◌≢◌, ℕ, ◌<◌, true, false, List, [], ◌∷◌, length, refl, sym, ap, subst, ◌∙◌, inl, inr, true≢false, ◌&&◌, Some, slice_get, ◌↔◌, ◌||◌, Contains, Option, None, not, IfSome, ⊎_elim}
+use Rattle.ot_job.proofs.Common.{cases_lt, false_from_ne_true, NamedIn, conflicts, mode_in, same_fold, Conflict, Cell, Operation, Mode, Reads, Writes, Folds, Use, Sibling, is_in, use_as, Declared, allows, folds_to, has_cell, Agree, ReductionMisuse, or_true, or_right, and_true, opened-none, Open, Region, Run, test_of, piece_touches, IsRight, opened, at, parent_of, todo_at, ended_at, may_at, grouped_in, NamedOnce, IsBegun, IsPlaced, IsSound, RunsWell, whole, wholes, list_any, cases_eq, All-permutation, IsPermutation-sym, IsPermutation-trans, Group, Body, Next, append, lengths, updated, clashes, opened_by_any, IsFine, group_free, groups_inside, Loan, IsNamed, permutation_rest, group_next, stopped, with_rest, children_of, unawaited, Live, IsRoomFor, MayOpen, IsWell, IsOnCourse, assigns_out, loan_in, loans_out, and_right}
 use Rattle.ot_check.proofs.Cited.{conflicts_writes}
 use Rattle.ot_job.proofs.FoldLemmas.{same-op, agrees-before, both-fold, writes-all, only-declares, only-unwritten}
 use Rattle.ot_job.proofs.HoldsLemmas.{Among}
@@ -30,11 +30,9 @@ module _ (rs : List Region) (s : IsSound (wholes rs)) where
   ws = wholes rs
 
   pub known : (i : ℕ) → (at rs i).ended ≡ false → i < length ws
-  known i alive = by (cases_lt i (length ws))
-    where
-      by : (i < length ws) ⊎ (length ws ≤ i) → i < length ws
-      by (inl below) = below
-      by (inr past) = absurd (true≢false (sym (ap (λ (r : Region). r.ended) (at-past ws i past)) ∙ ap (λ (r : Region). r.ended) (at-whole rs i) ∙ alive))
+  known i alive =
+      ⊎_elim (λ below. below)
+      (λ past. absurd (true≢false (sym (ap (λ (r : Region). r.ended) (at-past ws i past)) ∙ ap (λ (r : Region). r.ended) (at-whole rs i) ∙ alive))) (cases_lt i (length ws))
 
   -- two tasks may hold no cell in modes that conflict
   pub holders-agree : (i j : ℕ) (u v : Use) → MayHold rs i u → MayHold rs j v → i ≢ j → Agree u v
@@ -47,15 +45,14 @@ module _ (rs : List Region) (s : IsSound (wholes rs)) where
       (total ws s i j (known i one.alive) (known j two.alive) other) u v one two
     where
       meets : (k : ℕ) → (w : Use) × MayHold rs k w → (c : ℕ) → parent_of ws c ≡ k → 0 < c → ended_at ws c ≡ false → (u v : Use) → MayHold rs k u → may_at ws c v → Agree u v
-      meets k r c up pos unended u v h may = by (cases_lt c (length ws))
-        where
-          by : (c < length ws) ⊎ (length ws ≤ c) → Agree u v
-          by (inr past) = absurd (true≢false (sym (ap (λ (x : Region). x.ended) (at-past ws c past)) ∙ unended))
-          by (inl below) = λ same.
-              let kin = s.kin c pos below in
-              let there : slice_get (at rs k).children (at ws c).child ≡ Some kin.entry = sym (ap (λ (x : Region). slice_get x.children (at ws c).child) (ap (at ws) up ∙ at-whole rs k)) ∙ kin.there in
-              h.alone (at ws c).child kin.entry there (kin.finished ∙ unended) v.mode
-              (subst (λ (x : Cell). allows (Some kin.entry.uses) (use_as v.mode x) ≡ true) (sym same) (ap (λ (o : Declared). allows o v) (sym kin.uses) ∙ may))
+      meets k r c up pos unended u v h may = elim (cases_lt c (length ws)) [
+        | inl below ↦ λ same.
+            let kin = s.kin c pos below in
+            let there : slice_get (at rs k).children (at ws c).child ≡ Some kin.entry = sym (ap (λ (x : Region). slice_get x.children (at ws c).child) (ap (at ws) up ∙ at-whole rs k)) ∙ kin.there in
+            h.alone (at ws c).child kin.entry there (kin.finished ∙ unended) v.mode
+            (subst (λ (x : Cell). allows (Some kin.entry.uses) (use_as v.mode x) ≡ true) (sym same) (ap (λ (o : Declared). allows o v) (sym kin.uses) ∙ may))
+        | inr past ↦ absurd (true≢false (sym (ap (λ (x : Region). x.ended) (at-past ws c past)) ∙ unended))
+      ]
 
   pub placed : (i : ℕ) → IsPlaced (whole (at rs i))
   placed i = subst IsPlaced (at-whole rs i) (s.placed i)
@@ -99,14 +96,10 @@ module _ (rs : List Region) (s : IsSound (wholes rs)) where
         elim (p.grouped k x there unfinished o.op c declared) [
           | inl own ↦ only-unwritten o.op (at rs i).own c (p.exclusive o.op c own) may_write
           | inr in_one ↦ elim (or_true ((same_fold o.op o.op && has_cell o.cells c) && is_in o.group x) (grouped_in os x o.op c) (sym (ap (λ (gs : List Open). grouped_in gs x o.op c) innermost) ∙ in_one)) [
-            | inl here ↦ both (same_fold o.op o.op && has_cell o.cells c) (is_in o.group x) here (none_in k x there unfinished)
+            | inl here ↦ true≢false (sym (and_right (same_fold o.op o.op && has_cell o.cells c) (is_in o.group x) here) ∙ none_in k x there unfinished)
             | inr outer ↦ true≢false (sym (grouped-opened os x o.op c outer) ∙ (subst NamedOnce innermost p.once).0 o.op c named)
           ]
         ]
-      where
-        both : (a b : Bool) → (a && b) ≡ true → b ≡ false → ⊥
-        both true b h g = true≢false (sym h ∙ g)
-        both false b h g = true≢false (sym h)
 
     pub end-holds : MayHold rs i (use_as Writes c)
     end-holds = record {
@@ -201,12 +194,11 @@ module _ (j : Live) (o : IsOnCourse j) (i : ℕ) (run : Run) (out : (at j.region
 
     -- no open group names one
     entry-unopened : (k : ℕ) (by : Operation) → opened (at j.regions k).groups by c ≡ false
-    entry-unopened k by = pick (cases_eq i k)
-      where
-        pick : (i ≡ k) ⊎ (i ≡ k → ⊥) → opened (at j.regions k).groups by c ≡ false
-        pick (inl same) = ap (λ n. opened (at j.regions n).groups by c) (sym same) ∙ opened-none (opened r.groups) by c (group_free r.own (opened r.groups) cs c clean.0 named)
-        pick (inr other) = false_from_ne_true (opened (at j.regions k).groups by c) (λ is.
-            conflicts_writes (Folds by) (holders-agree j.regions o.sound i k (use_as Writes c) (use_as (Folds by) c) entry-holds (group-holds j.regions o.sound k by c is) other refl))
+    entry-unopened k by = elim (cases_eq i k) [
+      | inl same ↦ ap (λ n. opened (at j.regions n).groups by c) (sym same) ∙ opened-none (opened r.groups) by c (group_free r.own (opened r.groups) cs c clean.0 named)
+      | inr other ↦ false_from_ne_true (opened (at j.regions k).groups by c) (λ is.
+          conflicts_writes (Folds by) (holders-agree j.regions o.sound i k (use_as Writes c) (use_as (Folds by) c) entry-holds (group-holds j.regions o.sound k by c is) other refl))
+    ]
 
     -- no piece of another task holds one
     entry-free : (k : ℕ) (x : Run) → (at j.regions k).running ≡ Some x → i ≢ k → (m : Mode) → mode_in x.lease.uses c ≡ Some m → ⊥
@@ -243,10 +235,5 @@ module _ (j : Live) (w : IsWell j) (o : IsOnCourse j) (i : ℕ) (run : Run) (out
   may-open (Some room) names = by (at j.regions i).rest refl names
     where
       by : (b : Body) → (at j.regions i).rest ≡ b → IsRoomFor (group_next b) (Some room) → MayOpen j.owned (loan_in run) j.counts.units room.1
-      by End is names = absurd names
-      by (Next (Set c e) rest) is names = absurd names
-      by (Next (Fold op c e) rest) is names = absurd names
-      by (Next (If e a b) rest) is names = absurd names
-      by (Next (Task d b) rest) is names = absurd names
-      by (Next (Wait w) rest) is names = absurd names
       by (Next (Group op cs b) rest) is names = may-open-uses op cs b rest is room.1 names.1
+      by b is names = absurd names

@@ -1,6 +1,6 @@
 -- What pieces hold beside open groups, at each call of a job: what a fold goes into, and which cells are free where a group begins and ends.
-use Rattle.std.proofs.Common.{◌≡◌, ℕ, zero, suc, ◌+◌, ◌<◌, Bool, true, false, ◌&&◌, List, [], ◌∷◌, length, refl, sym, ap, ◌∙◌, ◌⊎◌, inl, inr, arith, true≢false, eq-zero-or-pos, Option, Some, None, All, Contains, IsSome}
-use Rattle.ot_job.proofs.Common.{cases_eq, All-weaker, End, NamedIn, AreInShape, cell_of, lengths, updated, AreInOrder, is_fold, mode_in, same_fold, Cell, Operation, Mode, Folds, Declared, folds_to, has_cell, or_true, and_left, and_right, Lease, Open, Region, Run, leading, awake, begun, AreHeld, opened, is_claimable, at, parent_of, todo_at, IsBegun, IsKin, IsSound, RunsWell, wholes, Live, IsOnCourse}
+use Rattle.std.proofs.Common.{◌≡◌, ℕ, zero, suc, ◌+◌, ◌<◌, Bool, true, false, ◌&&◌, List, [], ◌∷◌, length, refl, sym, ap, ◌∙◌, inl, inr, arith, true≢false, eq-zero-or-pos, Option, Some, None, All, Contains, IsSome, ⊎_elim}
+use Rattle.ot_job.proofs.Common.{cases_eq, All-weaker, End, NamedIn, AreInShape, cell_of, lengths, updated, AreInOrder, is_fold, mode_in, same_fold, Cell, Operation, Mode, Folds, Declared, folds_to, has_cell, or_true, and_left, and_right, Lease, Open, Region, Run, leading, awake, begun, AreHeld, opened, is_claimable, at, parent_of, todo_at, IsBegun, IsKin, IsSound, RunsWell, wholes, Live, IsOnCourse, none-some, false_from_ne_true}
 use Rattle.ot_model.specs.Names.{IsInShape}
 use Rattle.ot_model.proofs.NamesLemmas.{found_from_in}
 use Rattle.ot_job.proofs.KeptLemmas.{at-updated}
@@ -57,11 +57,9 @@ module _ (rs : List Region) (s : IsSound (wholes rs)) where
 
       going : folds_to (at rs p).own op c ≡ true → (b : Bool) → (at rs p).ended ≡ b → b ≡ false
       going own false e = refl
-      going own true e = up (eq-zero-or-pos p)
-        where
-          up : (p ≡ 0) ⊎ (0 < p) → true ≡ false
-          up (inl root) = absurd (root-folds-none op c (ap (λ m. folds_to (at rs m).own op c) (sym root) ∙ own))
-          up (inr higher) = absurd (true≢false (sym (s.done p higher (ap (λ (r : Region). r.ended) (at-whole rs p) ∙ e) (at ws i).child kin.entry kin.there) ∙ unfinished))
+      going own true e =
+          ⊎_elim (λ root. absurd (root-folds-none op c (ap (λ m. folds_to (at rs m).own op c) (sym root) ∙ own)))
+          (λ higher. absurd (true≢false (sym (s.done p higher (ap (λ (r : Region). r.ended) (at-whole rs p) ∙ e) (at ws i).child kin.entry kin.there) ∙ unfinished))) (eq-zero-or-pos p)
 
   folds-below : (n i : ℕ) → i < n → (op : Operation) (c : Cell) → (at rs i).ended ≡ false → folds_to (at rs i).own op c ≡ true → IsFolded rs op c
   folds-below zero i below op c alive folds = absurd (omega (arith, below))
@@ -83,15 +81,10 @@ module _ (rs : List Region) (s : IsSound (wholes rs)) (lens : List ℕ) (named :
   where
     -- a cell that a piece reads or writes is in no open group
     pub held-unopened : (i : ℕ) (run : Run) → (at rs i).running ≡ Some run → (c : Cell) (m : Mode) → mode_in run.lease.uses c ≡ Some m → is_fold m ≡ false → (k : ℕ) (op : Operation) → opened (at rs k).groups op c ≡ false
-    held-unopened i run out c m held other k op = by (opened (at rs k).groups op c) refl
-      where
-        by : (b : Bool) → opened (at rs k).groups op c ≡ b → b ≡ false
-        by false e = refl
-        by true e = pick (cases_eq i k)
-          where
-            pick : (i ≡ k) ⊎ (i ≡ k → ⊥) → true ≡ false
-            pick (inl same) = sym e ∙ ap (λ n. opened (at rs n).groups op c) (sym same) ∙ own_untouched rs s lens named well started i op c m run out held
-            pick (inr differs) = sym (ap is_fold (folds_alone rs s lens named well started i k op c m run out held e differs)) ∙ other
+    held-unopened i run out c m held other k op = false_from_ne_true (opened (at rs k).groups op c) (λ e. elim (cases_eq i k) [
+      | inl same ↦ true≢false (sym e ∙ ap (λ n. opened (at rs n).groups op c) (sym same) ∙ own_untouched rs s lens named well started i op c m run out held)
+      | inr differs ↦ true≢false (sym (ap is_fold (folds_alone rs s lens named well started i k op c m run out held e differs)) ∙ other)
+    ])
 
     -- a cell of which it holds the fold is in one by that operation
     pub held-folded : (i : ℕ) (run : Run) → (at rs i).running ≡ Some run → (op : Operation) (c : Cell) → mode_in run.lease.uses c ≡ Some (Folds op) → IsFolded rs op c
@@ -104,14 +97,11 @@ module _ (rs : List Region) (s : IsSound (wholes rs)) (lens : List ℕ) (named :
       pub group_free : (k : ℕ) (run : Run) → (at rs k).running ≡ Some run → (c : Cell) → has_cell o.cells c ≡ true → mode_in run.lease.uses c ≡ None
       group_free k run out c is = by (mode_in run.lease.uses c) refl
         where
-          idle : None ≡ Some run → ⊥
-          idle e = cc
-
           by : (m : Option Mode) → mode_in run.lease.uses c ≡ m → m ≡ None
           by None held = refl
           by (Some m) held =
               absurd (none_out rs s lens named well started i k o os innermost (none-in-group (at rs i) o os (claimable-goes rs i can) was innermost) c m run out held
-              (λ same. idle (sym (claimable-idle rs i can) ∙ ap (λ n. (at rs n).running) same ∙ out)) is)
+              (λ same. none-some run (sym (claimable-idle rs i can) ∙ ap (λ n. (at rs n).running) same ∙ out)) is)
 
 -- ---- a piece that is about to be claimed, beside the groups that are open then
 

@@ -1,22 +1,22 @@
 -- Copies are kept of the cells of the open groups and of no others, as tasks go on and as pieces come back.
-use Rattle.std.proofs.Common.{◌≡◌, ◌≢◌, ◌<◌, ◌+◌, ◌↔◌, ◌⊎◌, ℕ, zero, suc, Bool, true, false, ◌&&◌, true≢false, List, [], ◌∷◌, ◌++◌, map, length, get_or, refl, sym, ap, subst, ◌∙◌, inl, inr, arith, Contains, IsPermutation, Option, Some, None, IsSome, is_some, option_map, unwrap_or, replicate, nat_lt, if◌then◌else◌, ◌==◌, All, Any}
-use Rattle.ot_job.proofs.Common.{cases_eq, eqb-true, eq-eqb, option_map_id, map-append, get_or_default, All-contains, Any-from_list_any, list_any-from_Any, Contains-permutation, IsPermutation-refl, IsPermutation-sym, IsPermutation-trans, IsPermutation-cons, same_Some, none-some, cell_of, same_cell, updated, Set, Fold, If, Task, Wait, Group, Body, End, Next, Conflict, is_fold, mode_in, first_of, same_fold, Cell, Operation, Mode, Reads, Writes, Folds, Use, has_cell, true_or, or_right, and_true, all_back, copy_of, lent_from, Loan, Owned, IsFreeFor, Summed, IsNamed, IsSummed, IsSummedBy, begun_for, worth_over, worth, worths, LentCell, permutation_rest, cell_of-worths, passed, awake, group_passed, Open, Region, group_next, with_child, new_region, with_created, stepped, stepped_from, executed, next_task, rest_at, children_at, over, stopped, opened, at, parent_of, AreOpen, left_open, Opens, told_parent, closed, moved_on, settled}
+use Rattle.std.proofs.Common.{◌≡◌, ◌≢◌, ◌<◌, ◌↔◌, ◌⊎◌, ℕ, zero, suc, Bool, true, false, ◌&&◌, true≢false, List, [], ◌∷◌, ◌++◌, map, length, get_or, refl, sym, ap, subst, ◌∙◌, inl, inr, arith, Contains, IsPermutation, Option, Some, None, IsSome, is_some, option_map, unwrap_or, replicate, nat_lt, if◌then◌else◌, ◌==◌, All, Any, ⊎_elim}
+use Rattle.ot_job.proofs.Common.{cases_eq, eqb-true, eq-eqb, option_map_id, map-append, get_or_default, All-contains, Any-from_list_any, list_any-from_Any, Contains-permutation, IsPermutation-refl, IsPermutation-sym, IsPermutation-trans, IsPermutation-cons, same_Some, none-some, cell_of, same_cell, updated, Group, Body, End, Next, Conflict, is_fold, mode_in, first_of, same_fold, Cell, Operation, Mode, Reads, Folds, Use, has_cell, true_or, or_right, and_true, all_back, copy_of, lent_from, Loan, Owned, IsFreeFor, Summed, IsNamed, IsSummed, IsSummedBy, begun_for, worth_over, worth, worths, LentCell, permutation_rest, cell_of-worths, passed, awake, group_passed, Open, Region, group_next, with_child, new_region, stepped, stepped_from, children_at, over, stopped, opened, at, parent_of, AreOpen, IsFor, left_open, Opens, told_parent, moved_on, settled}
 use Rattle.ot_depend.proofs.ReadyLemmas.{same_answer}
 use Rattle.std.proofs.lemmas.List.Elements.{Contains-get_or, Contains-append_left, Contains-append_right, Contains-append_cases, Contains-push_cases}
 use Rattle.std.proofs.lemmas.List.Quantifiers.{position-Some}
 use Rattle.std.proofs.lemmas.List.Sorted.{IsPermutation-middle, IsPermutation-to_front, IsPermutation-append_right}
 use Rattle.ot_model.proofs.EqualLemmas.{cell-decides}
-use Rattle.ot_owner.specs.Back.{taken_back}
-use Rattle.ot_owner.specs.Rows.{is_of, place_in, names, folds_in, folded_in, folded, begun_in, without as without_group}
+use Rattle.ot_owner.specs.Rows.{is_of, place_in, names, without as without_group}
 use Rattle.ot_owner.specs.Worth.{IsCombined}
 use Rattle.ot_owner.proofs.NameLemmas.{place-named as place-of}
+use Rattle.ot_owner.proofs.ShareLemmas.{bares, bares-back, bares-begun}
 use Rattle.ot_owner.proofs.OpenLemmas.{same_worth, worth-unsummed as over-unsummed}
 use Rattle.ot_task.specs.Pieces.{ended_group}
 use Rattle.ot_job.specs.Opened.{numbers_in}
 use Rattle.ot_job.proofs.FoldLemmas.{same-op}
 use Rattle.ot_job.proofs.KeptLemmas.{at-updated, at-updated-other}
-use Rattle.ot_job.proofs.StepLemmas.{tell-field, end-cases}
-use Rattle.ot_job.proofs.EachLemmas.{field-at, field-more}
+use Rattle.ot_job.proofs.StepLemmas.{tell-field}
+use Rattle.ot_job.proofs.EachLemmas.{field-at, field-more, moved-by}
 
 -- ---- what is among the elements
 
@@ -142,14 +142,15 @@ kept-open rs gs i o are among =
 kept-opened : (rs : List Region) (gs : List Summed) (g : Summed) (c : Cell) → AreOpen rs gs → Contains gs g → names c g ≡ true → (i : ℕ) × (opened (at rs i).groups g.op c ≡ true)
 kept-opened rs gs g c are there named =
     let (i, o, among, same) = open-kept rs gs g are there in
-    let opens = one-opened (at rs i).groups o c among (sym (are.cells i o g among there (sym same) c) ∙ named) in
-    (i, ap (λ p. opened (at rs i).groups p c) (are.ops i o g among there (sym same)) ∙ opens)
+    let opens = one-opened (at rs i).groups o c among (sym ((are.same i o g among there (sym same)).1 c) ∙ named) in
+    (i, ap (λ p. opened (at rs i).groups p c) (are.same i o g among there (sym same)).0 ∙ opens)
 
 -- copies are kept of each cell that an open group names, by its operation
 pub open-summed : (rs : List Region) (gs : List Summed) (i : ℕ) (o : Open) (c : Cell) → AreOpen rs gs → Contains (at rs i).groups o → has_cell o.cells c ≡ true → IsSummedBy gs o.op c
 open-summed rs gs i o c are among has =
     let (g, there, same) = kept-open rs gs i o are among in
-    any-of (λ g. (names c g ≡ true) × (g.op ≡ o.op)) gs g there (are.cells i o g among there same c ∙ has, are.ops i o g among there same)
+    let (op, cells) = are.same i o g among there same in
+    any-of (λ g. (names c g ≡ true) × (g.op ≡ o.op)) gs g there (cells c ∙ has, op)
 
 -- and of none that no open group names
 pub not_summed : (rs : List Region) (gs : List Summed) (c : Cell) → AreOpen rs gs → ((i : ℕ) (op : Operation) → opened (at rs i).groups op c ≡ false) → ¬ IsSummed gs c
@@ -187,8 +188,7 @@ open-fewer : (rs now : List Region) (gs new : List Summed) → IsPermutation (gr
     → ((g : Summed) → Contains new g → Contains gs g) → AreOpen rs gs → AreOpen now new
 open-fewer rs now gs new numbers fewer less are = record {
   numbers = numbers;
-  ops = λ i o g among there same. are.ops i o g (fewer i o among) (less g there) same;
-  cells = λ i o g among there same c. are.cells i o g (fewer i o among) (less g there) same c;
+  same = λ i o g among there same. are.same i o g (fewer i o among) (less g there) same;
 }
 
 pub open-same : (rs now : List Region) (gs : List Summed) → ((k : ℕ) → (at now k).groups ≡ (at rs k).groups) → AreOpen rs gs → AreOpen now gs
@@ -232,11 +232,7 @@ without-fewer n (h ∷ gs) g there = by (h.group == n) (λ rest. without-fewer n
   where
     by : (b : Bool) → (Contains (without_group n gs) g → Contains gs g) → Contains (if b then gs else h ∷ without_group n gs) g → Contains (h ∷ gs) g
     by true rest kept = later h g gs kept
-    by false rest kept = pick (one_of h g (without_group n gs) kept)
-      where
-        pick : (h ≡ g) ⊎ Contains (without_group n gs) g → Contains (h ∷ gs) g
-        pick (inl is) = subst (Contains (h ∷ gs)) is (here h gs)
-        pick (inr left) = later h g gs (rest left)
+    by false rest kept = ⊎_elim (λ is. subst (Contains (h ∷ gs)) is (here h gs)) (λ left. later h g gs (rest left)) (one_of h g (without_group n gs) kept)
 
 open-left : (rs : List Region) (gs : List Summed) (i : ℕ) (f : Region → Region) (o : Open) (os : List Open) → i < length rs → (at rs i).groups ≡ o ∷ os → (f (at rs i)).groups ≡ os
     → AreOpen rs gs → AreOpen (updated rs i f) (without_group o.group gs)
@@ -257,13 +253,11 @@ open-left rs gs i f o os within was now are =
         (IsPermutation-trans (groups_of gs) (numbers_in rs) (o.group ∷ numbers_in (updated rs i f)) are.numbers (numbers-left rs i f o os within was now)))
 
     fewer : (k : ℕ) (p : Open) → Contains (at (updated rs i f) k).groups p → Contains (at rs k).groups p
-    fewer k p there = pick (cases_eq k i)
-      where
-        pick : (k ≡ i) ⊎ (k ≡ i → ⊥) → Contains (at rs k).groups p
-        pick (inl is) =
-            let inner : Contains os p = subst (λ ps. Contains ps p) (ap (λ n. (at (updated rs i f) n).groups) is ∙ ap (λ (r : Region). r.groups) (at-updated rs i f within) ∙ now) there in
-            subst (λ ps. Contains ps p) (sym (ap (λ n. (at rs n).groups) is ∙ was)) (later o p os inner)
-        pick (inr apart) = subst (λ (r : Region). Contains r.groups p) (at-updated-other rs i k f apart) there
+    fewer k p there = elim (cases_eq k i) [
+      | inl is ↦ let inner : Contains os p = subst (λ ps. Contains ps p) (ap (λ n. (at (updated rs i f) n).groups) is ∙ ap (λ (r : Region). r.groups) (at-updated rs i f within) ∙ now) there in
+          subst (λ ps. Contains ps p) (sym (ap (λ n. (at rs n).groups) is ∙ was)) (later o p os inner)
+      | inr apart ↦ subst (λ (r : Region). Contains r.groups p) (at-updated-other rs i k f apart) there
+    ]
 
 -- a task goes on, past the end of its innermost open group or not
 pub open-passed : (rs : List Region) (gs : List Summed) (i : ℕ) (f : Region → Region) → i < length rs → ((r : Region) → (f r).groups ≡ (awake r).groups)
@@ -277,69 +271,27 @@ open-passed rs gs i f within goes are = by (at rs i).rest (at rs i).groups refl 
 
 -- ---- rows begin and grow
 
-abbrev pub Head : Type 0
-Head = ℕ × Operation × List Use
+abbrev bare : Summed → Summed
+bare g = record g { rows = [] }
 
-abbrev pub head_of : Summed → Head
-head_of g = (g.group, g.op, g.uses)
-
-abbrev pub heads : List Summed → List Head
-heads gs = map head_of gs
-
-groups-heads : (gs : List Summed) → groups_of gs ≡ map (λ (h : Head). h.0) (heads gs)
-groups-heads [] = refl
-groups-heads (g ∷ gs) = ap (λ ns. g.group ∷ ns) (groups-heads gs)
+groups-bares : (gs : List Summed) → groups_of gs ≡ groups_of (bares gs)
+groups-bares [] = refl
+groups-bares (g ∷ gs) = ap (λ ns. g.group ∷ ns) (groups-bares gs)
 
 -- where the groups are the same but for their rows
-pub open-alike : (rs : List Region) (gs new : List Summed) → heads new ≡ heads gs → AreOpen rs gs → AreOpen rs new
-open-alike rs gs new same are = record {
-  numbers = subst (λ ns. IsPermutation ns (numbers_in rs)) (groups-heads gs ∙ ap (map (λ (h : Head). h.0)) (sym same) ∙ sym (groups-heads new)) are.numbers;
-  ops = ops;
-  cells = cells;
+pub open-alike : (rs : List Region) (gs new : List Summed) → bares gs ≡ bares new → AreOpen rs gs → AreOpen rs new
+open-alike rs gs new alike are = record {
+  numbers = subst (λ ns. IsPermutation ns (numbers_in rs)) (groups-bares gs ∙ ap groups_of alike ∙ sym (groups-bares new)) are.numbers;
+  same = λ i o g among there number.
+      let (before, old, is) = mapped-of bare gs (bare g) (subst (λ bs. Contains bs (bare g)) (sym alike) (mapped bare new g there)) in
+      subst (IsFor o) is (are.same i o before among old (ap (λ (b : Summed). b.group) is ∙ number));
 }
-  where
-    ops : (i : ℕ) (o : Open) (g : Summed) → Contains (at rs i).groups o → Contains new g → g.group ≡ o.group → g.op ≡ o.op
-    ops i o g among there number =
-        let (before, old, is) = mapped-of head_of gs (head_of g) (subst (λ hs. Contains hs (head_of g)) same (mapped head_of new g there)) in
-        sym (ap (λ (h : Head). h.1) is) ∙ are.ops i o before among old (ap (λ (h : Head). h.0) is ∙ number)
-
-    cells : (i : ℕ) (o : Open) (g : Summed) → Contains (at rs i).groups o → Contains new g → g.group ≡ o.group → (c : Cell) → names c g ≡ has_cell o.cells c
-    cells i o g among there number c =
-        let (before, old, is) = mapped-of head_of gs (head_of g) (subst (λ hs. Contains hs (head_of g)) same (mapped head_of new g there)) in
-        sym (ap (λ (h : Head). is_some (place_in h.2 c)) is) ∙ are.cells i o before among old (ap (λ (h : Head). h.0) is ∙ number) c
-
-heads-begun : (worker : ℕ) (uses : List Use) (gs : List Summed) → heads (begun_for worker uses gs) ≡ heads gs
-heads-begun worker uses [] = refl
-heads-begun worker uses (g ∷ gs) = ap (λ h. h ∷ heads (begun_for worker uses gs)) (by (folds_in g.uses uses)) ∙ ap (λ hs. head_of g ∷ hs) (heads-begun worker uses gs)
-  where
-    by : (b : Bool) → head_of (if b then begun_in worker g else g) ≡ head_of g
-    by true = refl
-    by false = refl
-
-heads-folded : (worker : ℕ) (c : Cell) (number : ℕ) (gs : List Summed) → heads (folded worker c number gs) ≡ heads gs
-heads-folded worker c number [] = refl
-heads-folded worker c number (g ∷ gs) = by (place_in g.uses c) (heads-folded worker c number gs)
-  where
-    by : (o : Option ℕ) → heads (folded worker c number gs) ≡ heads gs → heads (if is_some o then folded_in worker number g o ∷ gs else g ∷ folded worker c number gs) ≡ heads (g ∷ gs)
-    by None rest = ap (λ hs. head_of g ∷ hs) rest
-    by (Some p) rest = refl
-
-heads-taken : (worker : ℕ) (l : LentCell) (gs : List Summed) → heads (taken_back worker l gs) ≡ heads gs
-heads-taken worker l gs = by (is_fold l.mode)
-  where
-    by : (b : Bool) → heads (if b then folded worker l.cell l.value gs else gs) ≡ heads gs
-    by true = heads-folded worker l.cell l.value gs
-    by false = refl
-
-heads-back : (worker : ℕ) (lent : List LentCell) (gs : List Summed) → heads (all_back worker lent gs) ≡ heads gs
-heads-back worker [] gs = refl
-heads-back worker (l ∷ lent) gs = heads-back worker lent (taken_back worker l gs) ∙ heads-taken worker l gs
 
 pub open-grown : (rs : List Region) (gs : List Summed) (worker : ℕ) (uses : List Use) → AreOpen rs gs → AreOpen rs (begun_for worker uses gs)
-open-grown rs gs worker uses are = open-alike rs gs (begun_for worker uses gs) (heads-begun worker uses gs) are
+open-grown rs gs worker uses are = open-alike rs gs (begun_for worker uses gs) (bares-begun worker uses gs) are
 
 pub open-back : (rs : List Region) (gs : List Summed) (worker : ℕ) (lent : List LentCell) → AreOpen rs gs → AreOpen rs (all_back worker lent gs)
-open-back rs gs worker lent are = open-alike rs gs (all_back worker lent gs) (heads-back worker lent gs) are
+open-back rs gs worker lent are = open-alike rs gs (all_back worker lent gs) (bares-back worker lent gs) are
 
 -- ---- a group is entered
 
@@ -389,34 +341,20 @@ module _ (rs : List Region) (gs : List Summed) (i : ℕ) (f : Region → Region)
   pub open-entered : AreOpen (updated rs i f) (gs ++ summed_new o.group o.op uses ∷ [])
   open-entered = record {
     numbers = numbers-opened;
-    ops = λ k p g among there same. op-by k p g (open-now k p among) (Contains-push_cases gs (summed_new o.group o.op uses) g there) same;
-    cells = λ k p g among there same c. by k p g (open-now k p among) (Contains-push_cases gs (summed_new o.group o.op uses) g there) same c;
+    same = λ k p g among there same. by k p g (open-now k p among) (Contains-push_cases gs (summed_new o.group o.op uses) g there) same;
   }
     where
-      op-by : (k : ℕ) (p : Open) (g : Summed) → Contains (at rs k).groups p ⊎ (o ≡ p) → Contains gs g ⊎ (summed_new o.group o.op uses ≡ g) → g.group ≡ p.group → g.op ≡ p.op
-      op-by k p g (inl old) (inl kept) same = are.ops k p g old kept same
-      op-by k p g (inl old) (inr fresh) same = let less = old-below k p old in let number = ap (λ (g : Summed). g.group) fresh in absurd (omega (arith, less, same, number))
-      op-by k p g (inr entered) (inl kept) same = let less = kept-below g kept in let number = ap (λ (p : Open). p.group) entered in absurd (omega (arith, less, same, number))
-      op-by k p g (inr entered) (inr fresh) same = sym (ap (λ (g : Summed). g.op) fresh) ∙ ap (λ (p : Open). p.op) entered
-
-      by : (k : ℕ) (p : Open) (g : Summed) → Contains (at rs k).groups p ⊎ (o ≡ p) → Contains gs g ⊎ (summed_new o.group o.op uses ≡ g) → g.group ≡ p.group → (c : Cell) → names c g ≡ has_cell p.cells c
-      by k p g (inl old) (inl kept) same c = are.cells k p g old kept same c
-      by k p g (inl old) (inr fresh) same c = let less = old-below k p old in let number = ap (λ (g : Summed). g.group) fresh in absurd (omega (arith, less, same, number))
-      by k p g (inr entered) (inl kept) same c = let less = kept-below g kept in let number = ap (λ (p : Open). p.group) entered in absurd (omega (arith, less, same, number))
-      by k p g (inr entered) (inr fresh) same c =
-          sym (ap (names c) fresh)
-          ∙ same_answer (is_some (place_in uses c)) (has_cell o.cells c) (λ there. has-cell o.cells c ((named c).0 (of-place uses c there))) (λ has. place-of uses c ((named c).1 (of-cells o.cells c has)))
-          ∙ ap (λ (p : Open). has_cell p.cells c) entered
+      by : (k : ℕ) (p : Open) (g : Summed) → Contains (at rs k).groups p ⊎ (o ≡ p) → Contains gs g ⊎ (summed_new o.group o.op uses ≡ g) → g.group ≡ p.group → IsFor p g
+      by k p g (inl old) (inl kept) same = are.same k p g old kept same
+      by k p g (inl old) (inr fresh) same = let less = old-below k p old in let number = ap (λ (g : Summed). g.group) fresh in absurd (omega (arith, less, same, number))
+      by k p g (inr entered) (inl kept) same = let less = kept-below g kept in let number = ap (λ (p : Open). p.group) entered in absurd (omega (arith, less, same, number))
+      by k p g (inr entered) (inr fresh) same = subst (λ q. IsFor q g) entered (subst (IsFor o) fresh (
+        refl,
+        λ c.
+            same_answer (is_some (place_in uses c)) (has_cell o.cells c) (λ there. has-cell o.cells c ((named c).0 (of-place uses c there))) (λ has. place-of uses c ((named c).1 (of-cells o.cells c has))),
+      ))
 
 -- ---- a piece comes back
-
-groups-created : (i : ℕ) (child : Option (List Use × Body)) (rs : List Region) (k : ℕ) → (at (with_created i child rs) k).groups ≡ (at rs k).groups
-groups-created i None rs k = refl
-groups-created i (Some child) rs k =
-    field-more (λ r. r.groups) (updated rs i (with_child child.0)) (new_region i (children_at rs i) child.0 child.1) refl k ∙ field-at (λ r. r.groups) (with_child child.0) rs i refl k
-
-groups-closed : (i : ℕ) (rs : List Region) (k : ℕ) → (at (closed i rs) k).groups ≡ (at rs k).groups
-groups-closed i rs k = field-at (λ r. r.groups) over (told_parent i rs) i refl k ∙ tell-field (λ r. r.groups) (λ c r. refl) (nat_lt 0 i) (parent_of rs i) (at rs i).child rs k
 
 module _ (taken : Bool) (number i : ℕ) (rs : List Region) (gs new : List Summed) (within : i < length rs) (below : AreBelow rs number) (are : AreOpen rs gs) where
   same-stepped : (b : Body) → (at rs i).rest ≡ b → (stepped_from taken number b (at rs i)).groups ≡ (at rs i).groups → new ≡ gs → AreOpen (updated rs i (stepped taken number)) new
@@ -425,32 +363,23 @@ module _ (taken : Bool) (number i : ℕ) (rs : List Region) (gs new : List Summe
       (open-same rs (updated rs i (stepped taken number)) gs (field-at (λ r. r.groups) (stepped taken number) rs i (ap (λ b. (stepped_from taken number b (at rs i)).groups) was ∙ same)) are)
 
   open-stepped : (b : Body) → (at rs i).rest ≡ b → Opens (group_next b) number gs new → AreOpen (updated rs i (stepped taken number)) new
-  open-stepped End was opens = same-stepped End was refl opens
-  open-stepped (Next (Set c e) rest) was opens = same-stepped (Next (Set c e) rest) was refl opens
-  open-stepped (Next (Fold op c e) rest) was opens = same-stepped (Next (Fold op c e) rest) was refl opens
-  open-stepped (Next (If e a b) rest) was opens = same-stepped (Next (If e a b) rest) was refl opens
-  open-stepped (Next (Task d b) rest) was opens = same-stepped (Next (Task d b) rest) was refl opens
-  open-stepped (Next (Wait w) rest) was opens = same-stepped (Next (Wait w) rest) was refl opens
   open-stepped (Next (Group op cs b) rest) was (uses, named, is) =
       subst (AreOpen (updated rs i (stepped taken number))) (sym is)
       (open-entered rs gs i (stepped taken number) (record { group = number; op = op; cells = cs; behind = rest }) uses within (ap (λ b. (stepped_from taken number b (at rs i)).groups) was) below named are)
+  open-stepped b was opens = same-stepped b was refl opens
 
-  open-executed : Opens (group_next (at rs i).rest) number gs new → AreOpen (executed taken number i rs) new
-  open-executed opens =
-      open-same (updated rs i (stepped taken number)) (executed taken number i rs) new (groups-created i (next_task (rest_at rs i)) (updated rs i (stepped taken number)))
-      (open-stepped (at rs i).rest refl opens)
-
-  open-moved : Opens (group_next (at rs i).rest) number gs new → AreOpen (moved_on taken number i rs) new
-  open-moved opens = elim (end-cases (at rs i).rest (at rs i).groups) [
-    | inl ends ↦ (let is : new ≡ gs = subst (λ b. Opens (group_next b) number gs new) ends.0 opens in
-        subst (λ b. AreOpen (if b then closed i rs else executed taken number i rs) new) (sym ends.2) (open-same rs (closed i rs) new (groups-closed i rs) (subst (AreOpen rs) (sym is) are)))
-    | inr goes ↦ subst (λ b. AreOpen (if b then closed i rs else executed taken number i rs) new) (sym goes) (open-executed opens)
-  ]
+  groups-moved : (k : ℕ) → (at (moved_on taken number i rs) k).groups ≡ (at (updated rs i (stepped taken number)) k).groups
+  groups-moved = moved-by taken number i rs (λ l. (k : ℕ) → (at l k).groups ≡ (at (updated rs i (stepped taken number)) k).groups)
+      (λ was k. field-at (λ r. r.groups) over (told_parent i rs) i refl k ∙ tell-field (λ r. r.groups) (λ c r. refl) (nat_lt 0 i) (parent_of rs i) (at rs i).child rs k
+      ∙ sym (field-at (λ r. r.groups) (stepped taken number) rs i (ap (λ b. (stepped_from taken number b (at rs i)).groups) was) k))
+      (λ k. refl)
+      (λ l child same k. field-more (λ r. r.groups) (updated l i (with_child child.0)) (new_region i (children_at l i) child.0 child.1) refl k ∙ field-at (λ r. r.groups) (with_child child.0) l i refl k ∙ same k)
 
   -- what becomes of the open groups as a piece comes back
   pub open-settled : Opens (group_next (at rs i).rest) number gs new → AreOpen (settled taken number i rs) new
   open-settled opens =
-      open-same (moved_on taken number i rs) (settled taken number i rs) new (field-at (λ r. r.groups) stopped (moved_on taken number i rs) i refl) (open-moved opens)
+      open-same (updated rs i (stepped taken number)) (settled taken number i rs) new (λ k. field-at (λ r. r.groups) stopped (moved_on taken number i rs) i refl k ∙ groups-moved k)
+      (open-stepped (at rs i).rest refl opens)
 
 -- ---- where no group is open
 
@@ -466,8 +395,7 @@ none-open rs (g ∷ gs) none are =
 pub open-none : (rs : List Region) → ((i : ℕ) → (at rs i).groups ≡ []) → AreOpen rs []
 open-none rs none = record {
   numbers = subst (IsPermutation []) (sym (no-numbers rs none)) (IsPermutation-refl []);
-  ops = λ i o g among (k, within, is). absurd (omega (arith, within));
-  cells = λ i o g among (k, within, is). absurd (omega (arith, within));
+  same = λ i o g among (k, within, is). absurd (omega (arith, within));
 }
 
 -- no copy is kept
@@ -495,7 +423,7 @@ module _ (rs : List Region) (gs : List Summed) (i : ℕ) (o : Open) (among : Con
   -- where uses name none of its cells
   pub unused : (uses : List Use) → ((c : Cell) (m : Mode) → mode_in uses c ≡ Some m → has_cell o.cells c ≡ true → ⊥) → All (λ g. g.group ≡ o.group → ¬ Conflict uses g.uses) gs
   unused uses apart = all-of (λ g. g.group ≡ o.group → ¬ Conflict uses g.uses) gs (λ g there same.
-      meets-none uses g.uses (λ c m held named. apart c m held (sym (are.cells i o g among there same c) ∙ place-of g.uses c named)))
+      meets-none uses g.uses (λ c m held named. apart c m held (sym ((are.same i o g among there same).1 c) ∙ place-of g.uses c named)))
 
   -- where no loan is out of one
   pub free-out : (out : List Loan) → All (λ loan. (c : Cell) (m : Mode) → mode_in loan.lease.uses c ≡ Some m → has_cell o.cells c ≡ true → ⊥) out → All (λ g. g.group ≡ o.group → IsFreeFor out g.uses) gs
@@ -507,7 +435,7 @@ module _ (rs : List Region) (gs : List Summed) (i : ℕ) (o : Open) (among : Con
       each : (g : Summed) → Contains gs g → g.group ≡ o.group → All (λ u. IsSome (cell_of cells u.cell)) g.uses
       each g kept same = all-of (λ u. IsSome (cell_of cells u.cell)) g.uses (λ u (k, within, is).
           All-contains (λ c. IsSome (cell_of cells c)) o.cells u.cell all
-          (of-cells o.cells u.cell (sym (are.cells i o g among kept same u.cell) ∙ place-of g.uses u.cell (k, u, within, is, refl))))
+          (of-cells o.cells u.cell (sym ((are.same i o g among kept same).1 u.cell) ∙ place-of g.uses u.cell (k, u, within, is, refl))))
 
 -- ---- what cells are worth
 
@@ -529,8 +457,7 @@ lent-worths owned cells (u ∷ uses) apart =
     now other = sym (worth-unsummed owned cells u.cell (apart 0 u (omega arith) other)) ∙ sym (cell_of-worths owned cells u.cell)
 
     by : (m : Mode) → u.mode ≡ m → copy_of cells u ≡ copy_of (worths owned cells) u
-    by Reads is = ap (λ o. lends (first_of u.mode (unwrap_or o 0))) (now (ap is_fold is))
-    by Writes is = ap (λ o. lends (first_of u.mode (unwrap_or o 0))) (now (ap is_fold is))
     by (Folds op) is =
         ap (λ m. lends (first_of m (unwrap_or (cell_of cells u.cell) 0))) is
         ∙ sym (ap (λ m. lends (first_of m (unwrap_or (cell_of (worths owned cells) u.cell) 0))) is)
+    by m is = ap (λ o. lends (first_of u.mode (unwrap_or o 0))) (now (ap is_fold is))

@@ -1,8 +1,8 @@
 -- How what is left stays fine, step by step, where a group is entered and passed too.
-use Rattle.std.proofs.Common.{◌≡◌, ℕ, Bool, true, false, not, ◌&&◌, ◌||◌, List, [], ◌∷◌, Option, refl, sym, subst, ◌∙◌, true≢false, zero, suc, ap, inl, inr, ⊎_elim, None, Some, slice_get}
+use Rattle.std.proofs.Common.{◌≡◌, ℕ, Bool, true, false, not, ◌&&◌, ◌||◌, List, [], ◌∷◌, Option, refl, sym, subst, ◌∙◌, true≢false, zero, suc, ap, inl, inr, ⊎_elim, None, Some, slice_get, if◌then◌else◌}
 use Rattle.ot_job.proofs.Common.{E, Set, Fold, If, Task, Wait, Group, Body, End, Next, append, Cell, Operation, Use, Sibling, is_in, Declared, awaits, behind_one, IsFine, true_or, or_right, and_left, and_right, and_true, Open, opened, Kids, children_of, kids_behind, IsFineAt, false_from_ne_true, list_any, S, same_fold, Mode, Writes, is_unfinished, use_as, EachTouch, EachTask, allows, clashes, has_cell, opened_by_any, same_cell, ReductionMisuse, ConflictsWithChild, or_true, or_false_left, or_false_right, group_free, groups_inside, opened-none, same_is, clash_free, IsClean, todo, AwaitsAll, unawaited, Region, with_rest, inside, LetsAll, NamedOnce, IsPlaced, grouped_in}
 use Rattle.ot_check.specs.Discipline.{nothing_open, behind, through, AreFewer}
-use Rattle.ot_check.proofs.Cited.{fine-fewer, fine-append, through-append, is_offence-Group, conflicts_writes}
+use Rattle.ot_check.proofs.Cited.{any-more, fine-fewer, fine-append, through-append, is_offence-Group, conflicts_writes}
 use Rattle.ot_job.proofs.KeptLemmas.{todo-next}
 
 -- ---- how what is left stays fine, step by step
@@ -46,35 +46,32 @@ at-fold own kids op c e rest os h = at-step own kids kids (Next (Fold op c e) re
 and_more : (p q r : Bool) → (p ≡ true → q ≡ true) → (p && r) ≡ true → (q && r) ≡ true
 and_more p q r le h = and_true q r (le (and_left p r h)) (and_right p r h)
 
+-- what is true of both bodies of an `if` is true of the one that is taken, and what is true of that one is true of one of them
+pub taken-of : (P : Body → Type 0) (taken : Bool) (a b : Body) → P a → P b → P (if taken then a else b)
+taken-of P true a b p q = p
+taken-of P false a b p q = q
+
+pub taken-or : (test : Body → Bool) (taken : Bool) (a b : Body) → test (if taken then a else b) ≡ true → (test a || test b) ≡ true
+taken-or test true a b h = true_or (test a) (test b) h
+taken-or test false a b h = or_right (test a) (test b) h
+
 -- behind the end of a group: what a child gets through in the body that an `if` takes it gets through in the `if`
-module _ (kids : Kids) (mono : Monotone kids) (e : E) (a b rest : Body) (g : ℕ) where
-  pub behind-one : FewerKids (kids_behind kids (append a rest) g) (kids_behind kids (Next (If e a b) rest) g)
-  behind-one T k = mono _ (λ s. through s.uses (Next (If e a b) rest) && (not (is_in g s) && T s))
-      (λ s. and_more (through s.uses (append a rest)) (through s.uses (Next (If e a b) rest)) (not (is_in g s) && T s) (λ t.
-      let both = sym (through-append s.uses a rest) ∙ t in
-      and_true (through s.uses a || through s.uses b) (through s.uses rest)
-      (true_or (through s.uses a) (through s.uses b) (and_left (through s.uses a) (through s.uses rest) both)) (and_right (through s.uses a) (through s.uses rest) both))) k
+pub behind-branch : (kids : Kids) → Monotone kids → (taken : Bool) (e : E) (a b rest : Body) (g : ℕ) → FewerKids (kids_behind kids (append (if taken then a else b) rest) g) (kids_behind kids (Next (If e a b) rest) g)
+behind-branch kids mono taken e a b rest g T k =
+    let chosen : Body = if taken then a else b in
+    mono _ (λ s. through s.uses (Next (If e a b) rest) && (not (is_in g s) && T s))
+    (λ s. and_more (through s.uses (append chosen rest)) (through s.uses (Next (If e a b) rest)) (not (is_in g s) && T s) (λ t.
+    let both = sym (through-append s.uses chosen rest) ∙ t in
+    and_true (through s.uses a || through s.uses b) (through s.uses rest)
+    (taken-or (through s.uses) taken a b (and_left (through s.uses chosen) (through s.uses rest) both)) (and_right (through s.uses chosen) (through s.uses rest) both))) k
 
-  pub behind-two : FewerKids (kids_behind kids (append b rest) g) (kids_behind kids (Next (If e a b) rest) g)
-  behind-two T k = mono _ (λ s. through s.uses (Next (If e a b) rest) && (not (is_in g s) && T s))
-      (λ s. and_more (through s.uses (append b rest)) (through s.uses (Next (If e a b) rest)) (not (is_in g s) && T s) (λ t.
-      let both = sym (through-append s.uses b rest) ∙ t in
-      and_true (through s.uses a || through s.uses b) (through s.uses rest)
-      (or_right (through s.uses a) (through s.uses b) (and_left (through s.uses b) (through s.uses rest) both)) (and_right (through s.uses b) (through s.uses rest) both))) k
-
-pub at-one : (own : Declared) (kids : Kids) → Monotone kids → (e : E) (a b rest : Body) (os : List Open) → IsFineAt own kids (Next (If e a b) rest) os → IsFineAt own kids (append a rest) os
-at-one own kids mono e a b rest os h =
-    at-step own kids kids (Next (If e a b) rest) (append a rest) os
-    (λ f. fine-append own (opened os) (children_of kids) a rest f.1.0
-    (fine-fewer own (opened os) (behind (children_of kids) a) (behind_one (children_of kids) (If e a b)) (λ T. true_or (behind (children_of kids) a T) (behind (children_of kids) b T)) rest f.2))
-    (λ g o more is. behind-one kids mono e a b rest o.group) h
-
-pub at-two : (own : Declared) (kids : Kids) → Monotone kids → (e : E) (a b rest : Body) (os : List Open) → IsFineAt own kids (Next (If e a b) rest) os → IsFineAt own kids (append b rest) os
-at-two own kids mono e a b rest os h =
-    at-step own kids kids (Next (If e a b) rest) (append b rest) os
-    (λ f. fine-append own (opened os) (children_of kids) b rest f.1.1
-    (fine-fewer own (opened os) (behind (children_of kids) b) (behind_one (children_of kids) (If e a b)) (λ T. or_right (behind (children_of kids) a T) (behind (children_of kids) b T)) rest f.2))
-    (λ g o more is. behind-two kids mono e a b rest o.group) h
+pub at-branch : (own : Declared) (kids : Kids) → Monotone kids → (taken : Bool) (e : E) (a b rest : Body) (os : List Open) → IsFineAt own kids (Next (If e a b) rest) os → IsFineAt own kids (append (if taken then a else b) rest) os
+at-branch own kids mono taken e a b rest os h =
+    let chosen : Body = if taken then a else b in
+    at-step own kids kids (Next (If e a b) rest) (append chosen rest) os
+    (λ f. fine-append own (opened os) (children_of kids) chosen rest (taken-of (IsFine own (opened os) (children_of kids)) taken a b f.1.0 f.1.1)
+    (fine-fewer own (opened os) (behind (children_of kids) chosen) (behind_one (children_of kids) (If e a b)) (λ T. taken-or (λ c. behind (children_of kids) c T) taken a b) rest f.2))
+    (λ g o more is. behind-branch kids mono taken e a b rest o.group) h
 
 -- each child of the one is among the other, and isn't awaited by the wait
 abbrev pub UnawaitedBy : Option (List Use) → Kids → Kids → Type 0
@@ -88,8 +85,7 @@ behind-wait before now mono w rest g le T k =
   where
     turned : (t x n : Bool) → ((t && x) && n) ≡ true → ((n && t) && x) ≡ true
     turned true true n k = and_true (n && true) true (and_true n true k refl) refl
-    turned true false n k = absurd (true≢false (sym k))
-    turned false x n k = absurd (true≢false (sym k))
+    turned t x n k = absurd (true≢false (sym k))
 
 -- a wait: whoever waits goes on only once none is left of those that it awaits
 pub at-wait : (own : Declared) (before now : Kids) → Monotone before → (w : Option (List Use)) (rest : Body) (os : List Open) → UnawaitedBy w now before
@@ -105,10 +101,9 @@ behind-task kids rest g new here T k =
     first_true (kids (λ s. through s.uses rest && (not (is_in g s) && T s))) (through new.uses rest) (is_in g new) (T new) here k
   where
     first_true : (a t i x : Bool) → i ≡ true → (a || (t && (not i && x))) ≡ true → a ≡ true
-    first_true true t i x here k = refl
-    first_true false true true x here k = k
-    first_true false false i x here k = k
     first_true false true false x here k = absurd (true≢false (sym here))
+    first_true true t i x here k = refl
+    first_true a t i x here k = k
 
 pub at-task : (own : Declared) (kids : Kids) (d : List Use) (b rest : Body) (os : List Open) (new : Sibling) → new.uses ≡ d
     → ((o : Open) (more : List Open) → os ≡ o ∷ more → is_in o.group new ≡ true)
@@ -168,25 +163,20 @@ pub kid-none : (kids : List Sibling) (test : Sibling → Bool) (k : ℕ) (s : Si
 kid-none [] test k s free there alive = cc
 kid-none (x ∷ kids) test zero s free there alive =
     let here : x ≡ s = cc in
-    bits (is_unfinished s) (test s) (ap not alive) (subst (λ (y : Sibling). (is_unfinished y && test y) ≡ false) here (or_false_left (is_unfinished x && test x) (list_any (λ s. is_unfinished s && test s) kids) free))
-  where
-    bits : (u t : Bool) → u ≡ true → (u && t) ≡ false → t ≡ false
-    bits true t h g = g
-    bits false t h g = absurd (true≢false (sym h))
+    false_from_ne_true (test s) (λ e. true≢false (sym (and_true (is_unfinished s) (test s) (ap not alive) e)
+    ∙ subst (λ (y : Sibling). (is_unfinished y && test y) ≡ false) here (or_false_left (is_unfinished x && test x) (list_any (λ s. is_unfinished s && test s) kids) free)))
 kid-none (x ∷ kids) test (suc k) s free there alive = kid-none kids test k s (or_false_right (is_unfinished x && test x) (list_any (λ s. is_unfinished s && test s) kids) free) there alive
 
 -- a group names no cell that an unfinished child may use
 pub unused : (cs : List Cell) (kids : List Sibling) (k : ℕ) (s : Sibling) (c : Cell) → list_any (λ c. unawaited None kids (λ s. clashes (use_as Writes c) s.uses)) cs ≡ false
     → slice_get kids k ≡ Some s → s.finished ≡ false → has_cell cs c ≡ true
     → (m : Mode) → allows (Some s.uses) (use_as m c) ≡ false
-unused [] kids k s c free there alive named m = absurd (true≢false (sym named))
-unused (d ∷ cs) kids k s c free there alive named m =
-    elim (or_true (same_cell d c) (has_cell cs c) named) [
-      | inl here ↦
-          let none = kid-none kids (λ s. clashes (use_as Writes d) s.uses) k s (or_false_left (unawaited None kids (λ s. clashes (use_as Writes d) s.uses)) (list_any (λ c. unawaited None kids (λ s. clashes (use_as Writes c) s.uses)) cs) free) there alive in
-          false_from_ne_true (allows (Some s.uses) (use_as m c)) (λ may. conflicts_writes m (clash_free (use_as Writes d) (use_as m c) s.uses none may (same_is d c here)))
-      | inr later ↦ unused cs kids k s c (or_false_right (unawaited None kids (λ s. clashes (use_as Writes d) s.uses)) (list_any (λ c. unawaited None kids (λ s. clashes (use_as Writes c) s.uses)) cs) free) there alive later m
-    ]
+unused cs kids k s c free there alive named m =
+    let taken = λ (d : Cell). unawaited None kids (λ s. clashes (use_as Writes d) s.uses) in
+    let here : taken c ≡ false = false_from_ne_true (taken c) (λ yes.
+    true≢false (sym (any-more (λ d. same_cell d c) taken cs (λ d e. subst (λ x. taken x ≡ true) (sym (same_is d c e)) yes) named) ∙ free)) in
+    false_from_ne_true (allows (Some s.uses) (use_as m c)) (λ may.
+    conflicts_writes m (clash_free (use_as Writes c) (use_as m c) s.uses (kid-none kids (λ s. clashes (use_as Writes c) s.uses) k s here there alive) may refl))
 
 -- a group that is no offence names cells that the body may write, that no open group names, and that no child clashes with
 pub clean-group : (r : Region) (op : Operation) (cs : List Cell) (b : Body) → r.waiting ≡ None → IsClean r.own (opened r.groups) (children_of (unawaited r.waiting r.children)) (Group op cs b)
@@ -244,7 +234,7 @@ module _ (r : Region) (p : IsPlaced r) where
     within = p.within;
     apart = p.apart;
     over = λ e. sym same ∙ p.over e;
-    shut = λ e. absurd (some-groups (sym here ∙ p.shut e));
+    shut = λ e. let none : o ∷ os ≡ [] = sym here ∙ p.shut e in cc;
     once = (subst NamedOnce here p.once).1;
     writes = λ by c h. p.writes by c (ap (λ gs. opened gs by c) here ∙ true_or (opened os by c) (same_fold o.op by && has_cell o.cells c) h);
     grouped = λ k s there alive by c folds. ⊎_elim (λ e. inl e)
@@ -256,10 +246,6 @@ module _ (r : Region) (p : IsPlaced r) where
       same : todo r.rest r.groups ≡ todo o.behind os
       same = ap (λ x. todo x r.groups) was ∙ ap (todo End) here
 
-      some-groups : o ∷ os ≡ [] → ⊥
-      some-groups e = cc
-
       outer : (a i b : Bool) → i ≡ false → ((a && i) || b) ≡ true → b ≡ true
       outer true true b h g = absurd (true≢false h)
-      outer true false b h g = g
-      outer false i b h g = g
+      outer a i b h g = g

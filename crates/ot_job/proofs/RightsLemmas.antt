@@ -1,15 +1,15 @@
 -- Two pieces that are out hold nothing that conflicts.
-use Rattle.std.proofs.Common.{◌≡◌, ℕ, ◌<◌, Bool, true, false, refl, sym, ap, subst, ◌∙◌, ◌⊎◌, inl, inr, ⊎_elim, List, [], ◌∷◌, ◌&&◌, true≢false, arith, Some, ◌≢◌, zero, suc, length, get_or, None, slice_get, if◌then◌else◌, IsTrue, Any}
-use Rattle.ot_job.proofs.Common.{Body, conflicts, Cell, Operation, Mode, Reads, Writes, Folds, Use, use_as, Declared, Openings, allows, covers, folds_by, folds_to, clashes, Children, IsHarmless, same_cell, Agree, ReductionMisuse, ConflictsWithChild, or_true, true_or, or_right, or_false_left, or_false_right, opened-none, clash_free, IsRight, NotDeclared, Set, Fold, If, Task, Wait, Group, End, Next, append, NamedIn, Precedes, AreInOrder, Conflict, mode_in, Sibling, IsFine, AreAssigns, not_false, harmless, harmless_if, same_is, Open, todo, opened, children_of, IsFineAt, unawaited, Kids, same_self, Region, Run, at, parent_of, parents, IsPlaced, IsSound, test_of, piece_touches, assign_touches, test_touches, RunsWell, assigns_out, whole, wholes}
+use Rattle.std.proofs.Common.{◌≡◌, ℕ, ◌<◌, Bool, true, false, refl, sym, ap, subst, ◌∙◌, ◌⊎◌, inl, inr, ⊎_elim, List, [], ◌∷◌, ◌&&◌, true≢false, arith, Some, ◌≢◌, suc, length, None, slice_get, if◌then◌else◌, IsTrue, Any}
+use Rattle.ot_job.proofs.Common.{Body, conflicts, Cell, Operation, Mode, Reads, Writes, Folds, Use, use_as, Declared, Openings, allows, covers, folds_by, folds_to, clashes, Children, IsHarmless, same_cell, Agree, ReductionMisuse, ConflictsWithChild, opened-none, clash_free, IsRight, NotDeclared, Set, Fold, If, End, Next, append, NamedIn, Precedes, AreInOrder, Conflict, mode_in, Sibling, IsFine, AreAssigns, not_false, harmless, harmless_if, same_is, Open, todo, opened, children_of, IsFineAt, unawaited, Kids, same_self, Region, Run, at, parent_of, parents, IsPlaced, IsSound, test_of, piece_touches, assign_touches, test_touches, RunsWell, assigns_out, whole, wholes}
 use Rattle.ot_check.proofs.Cited.{conflicts_folds}
 use Rattle.ot_model.proofs.OrderLemmas.{precedes_trans}
-use Rattle.ot_job.proofs.FoldLemmas.{turned, held-alike}
-use Rattle.ot_job.proofs.Order.{IsBefore, branch, Each, Ordered, order, order-ordered}
-use Rattle.ot_job.proofs.Kept.{Sound, Uses, up_to, alive_up, begun_anc, In}
+use Rattle.ot_job.proofs.FoldLemmas.{turned, held-alike, any-but}
+use Rattle.ot_job.proofs.Order.{IsBefore, branch, Ordered, order, order-ordered}
+use Rattle.ot_job.proofs.Kept.{Sound, Uses, up_to, alive_up, begun_anc, In, Each-at}
 use Rattle.ot_job.proofs.KeptLemmas.{here, family_of}
 use Rattle.ot_job.proofs.CreatedLemmas.{grouped-opened}
 use Rattle.ot_job.proofs.PlaceLemmas.{kid-none}
-use Rattle.ot_job.proofs.HoldsLemmas.{Among, among-split, held-right, each-assign, each-test}
+use Rattle.ot_job.proofs.HoldsLemmas.{Among, among-split, held-right, each-assign, each-test, among}
 
 -- ---- two pieces that may be out at once hold no rights that conflict
 
@@ -18,20 +18,14 @@ Allowed own u = allows own u ≡ true
 
 -- a use that is declared as Writes or as Folds lets the body fold; nobody else does
 folds_or_clashes : (o : Operation) (c : Cell) (uses : List Use) → allows (Some uses) (use_as (Folds o) c) ≡ true → clashes (use_as (Folds o) c) uses ≡ false → folds_to (Some uses) o c ≡ true
-folds_or_clashes o c [] may free = may
-folds_or_clashes o c (d ∷ uses) may free =
-    elim (or_true (same_cell d.cell c && covers d.mode (Folds o)) (allows (Some uses) (use_as (Folds o) c)) may) [
-      | inl here ↦ true_or (same_cell d.cell c && folds_by o d.mode) (folds_to (Some uses) o c)
-          (one (same_cell d.cell c) d.mode here (or_false_left (same_cell d.cell c && conflicts d.mode (Folds o)) (clashes (use_as (Folds o) c) uses) free))
-      | inr later ↦ or_right (same_cell d.cell c && folds_by o d.mode) (folds_to (Some uses) o c)
-          (folds_or_clashes o c uses later (or_false_right (same_cell d.cell c && conflicts d.mode (Folds o)) (clashes (use_as (Folds o) c) uses) free))
-    ]
+folds_or_clashes o c uses may free =
+    any-but (λ d. same_cell d.cell c && covers d.mode (Folds o)) (λ d. same_cell d.cell c && conflicts d.mode (Folds o)) (λ d. same_cell d.cell c && folds_by o d.mode) uses
+    (λ d. one (same_cell d.cell c) d.mode) may free
   where
     one : (b : Bool) (m : Mode) → (b && covers m (Folds o)) ≡ true → (b && conflicts m (Folds o)) ≡ false → (b && folds_by o m) ≡ true
-    one true Reads h g = cc
-    one true Writes h g = cc
     one true (Folds p) h g = h
-    one false m h g = cc
+    one true Writes h g = cc
+    one b m h g = cc
 
 -- A piece without an offence, and a child that hasn't ended, each of whose folds is one of the body's own or of a group that
 -- is open in it: what the piece holds and what the child may do don't conflict.
@@ -89,16 +83,11 @@ module _ (par : ℕ → ℕ) (may : ℕ → Uses) (todo : ℕ → Body) (ended :
 
 -- ---- who stands where
 
-at-each : (P : ℕ → Type 0) (xs : List ℕ) (j : ℕ) → Each P xs → In j xs → P j
-at-each P [] j h k = absurd k
-at-each P (x ∷ xs) j h (inl e) = subst P (sym e) h.0
-at-each P (x ∷ xs) j h (inr k) = at-each P xs j h.1 k
-
 pair-ordered : (R : ℕ → ℕ → Type 0) (xs : List ℕ) (i j : ℕ) → Ordered R xs → In i xs → In j xs → i ≢ j → R i j ⊎ R j i
 pair-ordered R [] i j o a b n = absurd a
 pair-ordered R (x ∷ xs) i j o (inl a) (inl b) n = absurd (n (a ∙ sym b))
-pair-ordered R (x ∷ xs) i j o (inl a) (inr b) n = inl (subst (λ k. R k j) (sym a) (at-each (R x) xs j o.0 b))
-pair-ordered R (x ∷ xs) i j o (inr a) (inl b) n = inr (subst (λ k. R k i) (sym b) (at-each (R x) xs i o.0 a))
+pair-ordered R (x ∷ xs) i j o (inl a) (inr b) n = inl (subst (λ k. R k j) (sym a) (Each-at (R x) j xs o.0 b))
+pair-ordered R (x ∷ xs) i j o (inr a) (inl b) n = inr (subst (λ k. R k i) (sym b) (Each-at (R x) i xs o.0 a))
 pair-ordered R (x ∷ xs) i j o (inr a) (inr b) n = pair-ordered R xs i j o.1 a b n
 
 pub total : (ws : List Region) (s : IsSound ws) (i j : ℕ) → i < length ws → j < length ws → i ≢ j → IsBefore (parent_of ws) j i ⊎ IsBefore (parent_of ws) i j
@@ -131,12 +120,7 @@ mode-once (v ∷ us) o u (inr h) = by (same_cell u.cell v.cell) refl (mode-once 
     by false e m = rw e m
 
 pub any-among : (us : List Use) (P : Use → Type 0) → Any P us → (u : Use) × Among u us × P u
-any-among us P (k, u, within, is, p) = (u, at-k us k within is, p)
-  where
-    at-k : (us : List Use) (k : ℕ) → k < length us → get_or us k u ≡ u → Among u us
-    at-k [] k w e = absurd (omega (arith, w))
-    at-k (x ∷ us) zero w e = inl e
-    at-k (x ∷ us) (suc k) w e = inr (at-k us k (omega (arith, w)) e)
+any-among us P (k, u, within, is, p) = (u, among u us (k, within, is), p)
 
 -- uses that agree don't conflict
 pub none-conflict : (us vs : List Use) → AreInOrder us → AreInOrder vs
@@ -150,49 +134,39 @@ none-conflict us vs ou ov agree c =
 
 allowed-writes : (own : Declared) (o : Operation) (c : Cell) → allows own (use_as (Folds o) c) ≡ true → folds_to own o c ≡ false → allows own (use_as Writes c) ≡ true
 allowed-writes None o c may none = refl
-allowed-writes (Some []) o c may none = may
-allowed-writes (Some (d ∷ us)) o c may none =
-    elim (or_true (same_cell d.cell c && covers d.mode (Folds o)) (allows (Some us) (use_as (Folds o) c)) may) [
-      | inl h ↦ true_or (same_cell d.cell c && covers d.mode Writes) (allows (Some us) (use_as Writes c)) (one (same_cell d.cell c) d.mode h (or_false_left (same_cell d.cell c && folds_by o d.mode) (folds_to (Some us) o c) none))
-      | inr h ↦ or_right (same_cell d.cell c && covers d.mode Writes) (allows (Some us) (use_as Writes c)) (allowed-writes (Some us) o c h (or_false_right (same_cell d.cell c && folds_by o d.mode) (folds_to (Some us) o c) none))
-    ]
+allowed-writes (Some uses) o c may none =
+    any-but (λ d. same_cell d.cell c && covers d.mode (Folds o)) (λ d. same_cell d.cell c && folds_by o d.mode) (λ d. same_cell d.cell c && covers d.mode Writes) uses
+    (λ d. one (same_cell d.cell c) d.mode) may none
   where
     one : (b : Bool) (m : Mode) → (b && covers m (Folds o)) ≡ true → (b && folds_by o m) ≡ false → (b && covers m Writes) ≡ true
-    one true Reads h n = absurd (true≢false (sym h))
-    one true Writes h n = refl
     one true (Folds p) h n = absurd (true≢false (sym h ∙ n))
-    one false m h n = h
+    one b m h n = h
 
 -- ---- a piece's touches are no offence
 
+pub named-half : (lens : List ℕ) (a b : Body) → NamedIn lens (append a b) → NamedIn lens a
+named-half lens End b n = tt
+named-half lens (Next x a) b n = (n.0, named-half lens a b n.1)
+
+pub named-back : (lens : List ℕ) (a b : Body) → NamedIn lens (append a b) → NamedIn lens b
+named-back lens End b n = n
+named-back lens (Next x a) b n = named-back lens a b n.1
+
 module _ (lens : List ℕ) (own : Declared) (groups : Openings) (ch : Children) where
   test-safe : (b : Body) → NamedIn lens b → IsFine own groups ch b → (u : Use) → Among u (test_touches (test_of b)) → IsHarmless own groups ch u
-  test-safe End n f u k = absurd k
-  test-safe (Next (Set c e) rest) n f u k = absurd k
-  test-safe (Next (Fold op c e) rest) n f u k = absurd k
   test-safe (Next (If e a b) rest) n f u k = each-test (IsHarmless own groups ch) e (harmless_if lens own groups ch e a b rest n.0.0 f) u k
-  test-safe (Next (Task d b) rest) n f u k = absurd k
-  test-safe (Next (Wait w) rest) n f u k = absurd k
-  test-safe (Next (Group op cs b) rest) n f u k = absurd k
+  test-safe b n f u k = absurd k
 
   pub fine-behind : (piece rest : Body) → AreAssigns piece → IsFine own groups ch (append piece rest) → IsFine own groups ch rest
   fine-behind End rest only f = f
   fine-behind (Next (Set c e) more) rest only f = fine-behind more rest only f.2
   fine-behind (Next (Fold op c e) more) rest only f = fine-behind more rest only f.2
-  fine-behind (Next (If e a b) more) rest only f = absurd only
-  fine-behind (Next (Task d b) more) rest only f = absurd only
-  fine-behind (Next (Wait w) more) rest only f = absurd only
-  fine-behind (Next (Group op cs b) more) rest only f = absurd only
-
-  pub named-both : (piece rest : Body) → NamedIn lens (append piece rest) → NamedIn lens piece × NamedIn lens rest
-  named-both End rest n = (tt, n)
-  named-both (Next x more) rest n = let w = named-both more rest n.1 in ((n.0, w.0), w.1)
+  fine-behind (Next x more) rest only f = absurd only
 
   pub piece-safe : (piece rest : Body) → AreAssigns piece → NamedIn lens (append piece rest) → IsFine own groups ch (append piece rest) → (u : Use) → Among u (piece_touches piece (test_of rest)) → IsHarmless own groups ch u
   piece-safe piece rest only n f u k =
-      let w = named-both piece rest n in
-      ⊎_elim (each-assign (IsHarmless own groups ch) piece (harmless lens own groups ch piece rest only w.0 f) u)
-      (test-safe rest w.1 (fine-behind piece rest only f) u)
+      ⊎_elim (each-assign (IsHarmless own groups ch) piece (harmless lens own groups ch piece rest only (named-half lens piece rest n) f) u)
+      (test-safe rest (named-back lens piece rest n) (fine-behind piece rest only f) u)
       (among-split u (assign_touches piece) (test_touches (test_of rest)) k)
 
 pub fine-innermost : (own : Declared) (kids : Kids) (rest : Body) (gs : List Open) → IsFineAt own kids rest gs → IsFine own (opened gs) (children_of kids) rest
@@ -200,21 +174,12 @@ fine-innermost own kids rest [] f = f
 fine-innermost own kids rest (o ∷ os) f = f.0
 
 pub at-whole : (rs : List Region) (i : ℕ) → at (wholes rs) i ≡ whole (at rs i)
-at-whole [] i = refl
-at-whole (r ∷ rs) zero = refl
 at-whole (r ∷ rs) (suc i) = at-whole rs i
-
-pub named-half : (lens : List ℕ) (a b : Body) → NamedIn lens (append a b) → NamedIn lens a
-named-half lens End b n = tt
-named-half lens (Next x a) b n = (n.0, named-half lens a b n.1)
+at-whole rs i = refl
 
 pub named-front : (lens : List ℕ) (rest : Body) (gs : List Open) → NamedIn lens (todo rest gs) → NamedIn lens rest
 named-front lens rest [] n = n
 named-front lens rest (o ∷ os) n = named-half lens rest (todo o.behind os) n
-
-pub named-back : (lens : List ℕ) (a b : Body) → NamedIn lens (append a b) → NamedIn lens b
-named-back lens End b n = n
-named-back lens (Next x a) b n = named-back lens a b n.1
 
 -- ---- one piece, and the children of its task
 

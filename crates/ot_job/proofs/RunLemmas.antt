@@ -1,11 +1,10 @@
 -- A piece that is claimed may be run on its copies.
-use Rattle.std.proofs.Common.{◌≡◌, ◌<◌, ℕ, ◌+◌, ◌%◌, Bool, true, false, cond, List, [], ◌∷◌, map, refl, sym, ap, subst, ◌∙◌, inl, arith, Option, Some, None, option_map, if◌then◌else◌, find, IfSome, IsSome}
-use Rattle.ot_job.proofs.Common.{range_with_len, E, Literal, CellAt, Apply, PickFrom, Set, Fold, If, Task, Wait, Group, Body, End, Next, append, NamedIn, ValueNamedIn, cell_at, cells_named, same_cell, mode_in, Cell, Operation, Mode, Reads, Writes, Folds, Use, use_as, touches, Declared, Openings, allows, folds_to, EachRead, EachTouch, Children, IsFine, AreAssigns, NotDeclared, is_at, uses_of, LentCell, IsRight, OnlyFolds, test_of, assign_touches, test_touches, piece_touches, held, held_as, mode_held, reads-append, not_false, HasAll, lengths, lent_from, first_at, value_at, CanAssign, CanRun, Region, at, leading, behind, awake, AreHeld, Live, IsOnCourse, Lease, lease_of, use_of, Look, assigned}
+use Rattle.std.proofs.Common.{◌≡◌, ℕ, Bool, true, false, cond, List, [], ◌∷◌, map, refl, sym, ap, subst, ◌∙◌, inl, Option, Some, None, option_map, if◌then◌else◌, find, IfSome, IsSome}
+use Rattle.ot_job.proofs.Common.{E, Set, Fold, If, Body, End, Next, append, NamedIn, ValueNamedIn, cells_named, same_cell, mode_in, Cell, Operation, Mode, Reads, Writes, Folds, Use, use_as, touches, Declared, Openings, allows, folds_to, EachRead, EachTouch, Children, IsFine, AreAssigns, NotDeclared, is_at, uses_of, LentCell, IsRight, OnlyFolds, test_of, assign_touches, test_touches, piece_touches, held, held_as, mode_held, not_false, HasAll, lengths, lent_from, first_at, value_at, CanAssign, CanRun, Region, at, leading, behind, awake, AreHeld, Live, IsOnCourse, Lease, lease_of, use_of, Look, assigned}
 use Rattle.ot_check.proofs.Cited.{one_op}
-use Rattle.std.proofs.Math.Nat.{mod-lt}
 use Rattle.ot_task.proofs.AssignLemmas.{all-kept, assigned-same}
 use Rattle.ot_job.proofs.CopiesLemmas.{Lets, LetsMode, mode_at}
-use Rattle.ot_job.proofs.CoverLemmas.{Covers, covered, flip, in-section, among-left, among-right, piece-can, piece-reads, lent-fresh}
+use Rattle.ot_job.proofs.CoverLemmas.{read-from, Covers, covered, flip, among-left, among-right, piece-can, piece-reads, lent-fresh}
 use Rattle.ot_job.proofs.FoldLemmas.{held-alike, only-unread, only-unwritten}
 use Rattle.ot_job.proofs.RightsLemmas.{piece-safe, named-half, named-back}
 use Rattle.ot_job.proofs.HoldsLemmas.{Among, held-right}
@@ -15,24 +14,6 @@ use Rattle.ot_job.proofs.WellLemmas.{leading-assigns, named-awake}
 -- ---- the copies that a piece was lent let each of its touches be made as it is meant: what is read is no fold, what is written is lent to be written
 
 -- ---- from each touch in the list to each touch of the body
-
-read-from : (Q : Cell → Type 0) (lens : List ℕ) (e : E) → ValueNamedIn lens e → ((c : Cell) → Among (use_as Reads c) (map (use_as Reads) (cells_named e)) → Q c) → EachRead Q e
-read-from Q lens (Literal n) h f = tt
-read-from Q lens (CellAt c) h f = f c (inl refl)
-read-from Q lens (Apply o a b) h f = (
-  read-from Q lens a h.0 (λ c k. f c (subst (Among (use_as Reads c)) (sym (reads-append (cells_named a) (cells_named b))) (among-left (use_as Reads c) (map (use_as Reads) (cells_named a)) (map (use_as Reads) (cells_named b)) k))),
-  read-from Q lens b h.1 (λ c k. f c (subst (Among (use_as Reads c)) (sym (reads-append (cells_named a) (cells_named b))) (among-right (use_as Reads c) (map (use_as Reads) (cells_named a)) (map (use_as Reads) (cells_named b)) k))),
-)
-read-from Q lens (PickFrom s e) h f =
-    let cells = map (cell_at s) (range_with_len 0 s.len) in
-    let back = λ (c : Cell). subst (Among (use_as Reads c)) (sym (reads-append cells (cells_named e))) in (
-      (λ k.
-          let l : k % s.len < s.len = mod-lt k h.0.some in
-          let z : 0 + k % s.len ≡ k % s.len = omega arith in
-          f (cell_at s (k % s.len)) (back (cell_at s (k % s.len)) (among-left (use_as Reads (cell_at s (k % s.len))) (map (use_as Reads) cells) (map (use_as Reads) (cells_named e))
-          (subst (λ m. Among (use_as Reads (cell_at s m)) (map (use_as Reads) cells)) z (in-section s 0 s.len (k % s.len) l))))),
-      read-from Q lens e h.1 (λ c k. f c (back c (among-right (use_as Reads c) (map (use_as Reads) cells) (map (use_as Reads) (cells_named e)) k))),
-    )
 
 touch-from : (P : Use → Type 0) (lens : List ℕ) (b : Body) → AreAssigns b → NamedIn lens b → ((u : Use) → Among u (assign_touches b) → P u) → EachTouch P b
 touch-from P lens End only n f = tt
@@ -54,10 +35,7 @@ touch-from P lens (Next (Fold op c e) rest) only n f =
       ),
       touch-from P lens rest only n.1 (λ u k. f u (among-right u (touches (Fold op c e)) (assign_touches rest) k)),
     )
-touch-from P lens (Next (If e a b) rest) only n f = absurd only
-touch-from P lens (Next (Task d b) rest) only n f = absurd only
-touch-from P lens (Next (Wait w) rest) only n f = absurd only
-touch-from P lens (Next (Group op cs b) rest) only n f = absurd only
+touch-from P lens (Next x rest) only n f = absurd only
 
 -- ---- the mode of a copy
 
@@ -124,13 +102,8 @@ module _ (lens : List ℕ) (own : Declared) (opened : Openings) (children : Chil
       (λ c k. lets (use_as Reads c) (among-right (use_as Reads c) (assign_touches piece) (test_touches (test_of rest)) (subst (λ o. Among (use_as Reads c) (test_touches o)) (sym is) k)))
     where
       value-named : (b : Body) → test_of b ≡ Some e → NamedIn lens b → ValueNamedIn lens e
-      value-named End is n = cc
-      value-named (Next (Set c x) r) is n = cc
-      value-named (Next (Fold op c x) r) is n = cc
       value-named (Next (If x a b) r) is n = let same : x ≡ e = cc in subst (ValueNamedIn lens) same n.0.0
-      value-named (Next (Task d b) r) is n = cc
-      value-named (Next (Wait w) r) is n = cc
-      value-named (Next (Group op cs b) r) is n = cc
+      value-named b is n = cc
 
 -- ---- a piece that is claimed may be run on its copies
 
@@ -146,13 +119,8 @@ module _ (j : Live) (o : IsOnCourse j) (i : ℕ) (lent : List LentCell) (are : A
 
   readable : (b : Body) → NamedIn (lengths j.cells) b → ((c : Cell) → mode_in (uses_of lent) c ≡ held r.own (piece_touches (leading ahead) (test_of b)) c)
       → IfSome (test_of b) (λ e. HasAll (value_at (lent_from cells (uses_of lent))) e)
-  readable End n modes = tt
-  readable (Next (Set c e) rest) n modes = tt
-  readable (Next (Fold op c e) rest) n modes = tt
   readable (Next (If e a b) rest) n modes = piece-reads (lengths j.cells) r.own cells (uses_of lent) (leading ahead) e n.0.0 modes
-  readable (Next (Task d b) rest) n modes = tt
-  readable (Next (Wait w) rest) n modes = tt
-  readable (Next (Group op cs b) rest) n modes = tt
+  readable b n modes = tt
 
   pub claim-can : CanRun (leading ahead) (test_of (behind ahead)) lent
   claim-can = record {

@@ -1,6 +1,6 @@
 -- A job's regions make it sound.
-use Rattle.std.proofs.Common.{◌≡◌, ℕ, zero, suc, ◌<◌, ◌≤◌, true, false, List, [], ◌∷◌, length, refl, sym, ap, subst, ◌∙◌, ◌⊎◌, inl, inr, arith, ◌&&◌, true≢false, Some, slice_get}
-use Rattle.ot_job.proofs.Common.{cases_lt, same_Some, Any-from_list_any, list_any-from_Any, and_left, and_right, and_true, same_is, same_self, conflicts, Cell, Operation, Mode, Reads, Writes, Folds, Use, Sibling, IsReady, use_as, Declared, allows, covers, folds_by, same_cell, Agree, Region, at, gone, parent_of, todo_at, ended_at, may_at, IsBegun, DontMix, IsSound}
+use Rattle.std.proofs.Common.{◌≡◌, ℕ, zero, suc, ◌<◌, ◌≤◌, true, false, List, [], ◌∷◌, length, refl, sym, ap, subst, ◌∙◌, ◌⊎◌, inl, inr, arith, ◌&&◌, true≢false, Some, slice_get, ⊎_elim}
+use Rattle.ot_job.proofs.Common.{cases_lt, same_Some, Any-from_list_any, list_any-from_Any, and_left, and_right, and_true, same_is, same_self, conflicts, Cell, Operation, Mode, Reads, Writes, Folds, Use, Sibling, use_as, Declared, allows, covers, folds_by, same_cell, Agree, Region, at, gone, parent_of, todo_at, ended_at, may_at, IsBegun, DontMix, IsSound}
 use Rattle.ot_model.specs.Uses.{DependsOn, one_writes}
 use Rattle.ot_job.proofs.FoldLemmas.{same-op, both-fold, covered-fold}
 use Rattle.ot_job.proofs.Kept.{Sound}
@@ -30,18 +30,12 @@ agree-siblings us vs free one two u v mu mv same =
   where
     modes : (d e m n : Mode) → covers d m ≡ true → covers e n ≡ true → (one_writes e d ≡ true → ⊥)
         → ((o : Operation) → folds_by o d ≡ true → n ≡ Folds o) → ((o : Operation) → folds_by o e ≡ true → m ≡ Folds o) → conflicts m n ≡ false
-    modes Writes Reads m n p q f g h = absurd (f refl)
-    modes Writes Writes m n p q f g h = absurd (f refl)
-    modes Writes (Folds o) m n p q f g h = absurd (f refl)
-    modes Reads Writes m n p q f g h = absurd (f refl)
-    modes (Folds o) Writes m n p q f g h = absurd (f refl)
-    modes Reads (Folds o) m n p q f g h = both-fold o m n (h o (same-op o)) (covered-fold o n q)
     modes (Folds o) e m n p q f g h = both-fold o m n (covered-fold o m p) (g o (same-op o))
+    modes Reads (Folds o) m n p q f g h = both-fold o m n (h o (same-op o)) (covered-fold o n q)
     modes Reads Reads Reads Reads p q f g h = refl
-    modes Reads Reads Reads Writes p q f g h = cc
-    modes Reads Reads Reads (Folds o) p q f g h = cc
-    modes Reads Reads Writes n p q f g h = cc
-    modes Reads Reads (Folds o) n p q f g h = cc
+    modes Reads Reads m n p q f g h = cc
+    modes Writes Reads m n p q f g h = absurd (f refl)
+    modes d e m n p q f g h = absurd (f refl)
 
 module _ (rs : List Region) (s : IsSound rs) where
   inside_or : (i : ℕ) → (i < length rs) ⊎ (length rs ≤ i)
@@ -51,13 +45,11 @@ module _ (rs : List Region) (s : IsSound rs) where
   past_parent i h = ap (λ (r : Region). r.parent) (at-past rs i h)
 
   within : (i : ℕ) → 0 < i → (u : Use) → may_at rs i u → may_at rs (parent_of rs i) u
-  within i pos u may = at_place (inside_or i)
-    where
-      at_place : (i < length rs) ⊎ (length rs ≤ i) → may_at rs (parent_of rs i) u
-      at_place (inl h) =
-          let kin = s.kin i pos h in
-          (s.placed (parent_of rs i)).within (at rs i).child kin.entry kin.there u (ap (λ (o : Declared). allows o u) (sym kin.uses) ∙ may)
-      at_place (inr h) = ap (λ n. allows (at rs n).own u) (past_parent i h) ∙ ap (λ (o : Declared). allows o u) s.root
+  within i pos u may = elim (inside_or i) [
+    | inl h ↦ let kin = s.kin i pos h in
+        (s.placed (parent_of rs i)).within (at rs i).child kin.entry kin.there u (ap (λ (o : Declared). allows o u) (sym kin.uses) ∙ may)
+    | inr h ↦ ap (λ n. allows (at rs n).own u) (past_parent i h) ∙ ap (λ (o : Declared). allows o u) s.root
+  ]
 
   alive : (i : ℕ) → 0 < parent_of rs i → ended_at rs (parent_of rs i) ≡ true → ended_at rs i ≡ true
   alive i pos over = at_place (inside_or i)
@@ -95,11 +87,7 @@ module _ (rs : List Region) (s : IsSound rs) where
       (ap (λ (o : Declared). allows o u) (sym ka.uses) ∙ mu) (ap (λ (o : Declared). allows o v) (sym kb.uses) ∙ mv)
 
   begun_up : (i : ℕ) → 0 < i → IsBegun rs (parent_of rs i)
-  begun_up i pos up = at_place (inside_or i)
-    where
-      at_place : (i < length rs) ⊎ (length rs ≤ i) → (parent_of rs i < length rs) × IsReady (at rs (parent_of rs (parent_of rs i))).children (at rs (parent_of rs i)).child
-      at_place (inl h) = s.begun i pos h up
-      at_place (inr h) = absurd (omega (arith, up, past_parent i h))
+  begun_up i pos up = ⊎_elim (λ h. s.begun i pos h up) (λ h. absurd (omega (arith, up, past_parent i h))) (inside_or i)
 
   pub sound : Sound (parent_of rs) (may_at rs) (todo_at rs) (ended_at rs) (IsBegun rs)
   sound = record {

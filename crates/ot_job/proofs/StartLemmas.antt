@@ -1,102 +1,49 @@
 -- A job begins well, and where it has ended its cells and counts are the serial meaning of its program.
 use Rattle.std.proofs.Common.{◌≡◌, ℕ, zero, suc, ◌+◌, ◌*◌, ◌<◌, ◌≤◌, Bool, true, false, List, [], ◌∷◌, length, refl, sym, ap, subst, ◌∙◌, arith, true≢false, ◌==◌, Option, option_map, is_some, ◌||◌, Some, None, slice_get, if◌then◌else◌, IsPermutation, Contains, All}
-use Rattle.ot_job.proofs.Common.{All-nil, IsPermutation-refl, IsPermutation-sym, IsPermutation-trans, Contains-permutation, false_from_ne_true, Body, End, Next, size, weight_of, cell_of, lengths, updated, NamedIn, AreInShape, Expanded, State, serial, serial_run, state_of, length-updated, Sibling, allows, and_left, and_right, Owned, loan_of, lease_of, lent_from, worths, worth_over, worths-same, permutation_rest, Holds, touches_out, left, children_left, Open, Region, Run, root_region, stopped, at, gone, parent_of, todo_at, parents, left_of, IsPlaced, IsSound, wholes, loans_out, AreOpen, Live, IsWell, all_ended, any_out, state_in, Working, Failing, Ended, Failed, Came, IsOut}
+use Rattle.ot_job.proofs.Common.{All-nil, IsPermutation-refl, IsPermutation-sym, IsPermutation-trans, Contains-permutation, false_from_ne_true, Body, End, Next, size, weight_of, cell_of, lengths, updated, NamedIn, AreInShape, Expanded, State, serial, serial_run, state_of, length-updated, Sibling, allows, and_left, and_right, Owned, loan_of, lease_of, lent_from, worths, worth_over, worths-same, permutation_rest, Holds, touches_out, left, children_left, Open, Region, Run, root_region, stopped, at, gone, todo_at, parents, left_of, IsPlaced, IsSound, wholes, loans_out, AreOpen, Live, IsWell, all_ended, any_out, state_in, Working, Failing, Ended, Failed, Came, IsOut, IsBegun, none-some, todo}
 use Rattle.ot_job.proofs.WeighingLemmas.{weight-few, weight-stopped}
 use Rattle.ot_check.specs.Discipline.{IsDisciplined}
 use Rattle.ot_check.proofs.Cited.{disciplined-fine, inside}
 use Rattle.ot_owner.proofs.WorthLemmas.{worths-combined}
 use Rattle.ot_job.proofs.Kept.{touch-all}
+use Rattle.ot_job.proofs.ChangedLemmas.{placed-bare}
 use Rattle.ot_job.proofs.RightsLemmas.{at-whole}
 use Rattle.ot_job.proofs.OpeningLemmas.{none-open, open-none, none-combined}
 use Rattle.ot_job.proofs.SettleLemmas.{run_of, runs-within}
 use Rattle.ot_job.proofs.WellLemmas.{out-contained}
 use Rattle.ot_job.proofs.MovesLemmas.{one-less, stopped-others}
+use Rattle.ot_job.specs.Sound.{HasTask}
 
 -- ---- the root alone
 
 placed-gone : IsPlaced gone
-placed-gone = record {
-  fine = tt;
-  inside = tt;
-  tasks = tt;
-  awaits = λ uses is. cc;
-  within = λ k s h. cc;
-  apart = λ k l s t h. cc;
-  over = λ e. refl;
-  shut = λ e. refl;
-  once = tt;
-  writes = λ o c h. absurd (true≢false (sym h));
-  grouped = λ k s h. cc;
-  reduced = λ k s h. cc;
-  exclusive = λ o c h. absurd (true≢false (sym h));
-}
+placed-gone = placed-bare 0 0 None End true tt tt tt (λ uses is. cc) (λ e. refl) (λ o c h. absurd (true≢false (sym h)))
+
+root-each : (P : Region → Type 0) (body : Body) → P (root_region body) → P gone → (i : ℕ) → P (at (root_region body ∷ []) i)
+root-each P body here past zero = here
+root-each P body here past (suc i) = past
 
 module _ (program : Expanded) (disciplined : IsDisciplined program) (lens : List ℕ) (named : NamedIn lens program.body) where
   abbrev root : List Region
   root = root_region program.body ∷ []
 
   placed-root : IsPlaced (root_region program.body)
-  placed-root = record {
-    fine = disciplined-fine program.body disciplined;
-    inside = touch-all (λ u. allows None u ≡ true) (λ u. refl) program.body;
-    tasks = inside lens program.body named disciplined;
-    awaits = λ uses is. cc;
-    within = λ k s h. cc;
-    apart = λ k l s t h. cc;
-    over = λ e. absurd (true≢false (sym e));
-    shut = λ e. refl;
-    once = tt;
-    writes = λ o c h. absurd (true≢false (sym h));
-    grouped = λ k s h. cc;
-    reduced = λ k s h. cc;
-    exclusive = λ o c h. absurd (true≢false (sym h));
-  }
-
-  placed-each : (i : ℕ) → IsPlaced (at root i)
-  placed-each zero = placed-root
-  placed-each (suc i) = placed-gone
-
-  no-entry : {P : Type 0} (p k : ℕ) (s : Sibling) → slice_get (at root p).children k ≡ Some s → P
-  no-entry zero k s there = cc
-  no-entry (suc p) k s there = cc
-
-  no-group : {P : Type 0} (i : ℕ) (o : Open) (os : List Open) → (at root i).groups ≡ o ∷ os → P
-  no-group zero o os is = cc
-  no-group (suc i) o os is = cc
-
-  down : (i : ℕ) → 0 < i → parent_of root i < i
-  down zero pos = absurd (omega (arith, pos))
-  down (suc i) pos = pos
+  placed-root = placed-bare 0 0 None program.body false (disciplined-fine program.body disciplined) (touch-all (λ u. allows None u ≡ true) (λ u. refl) program.body)
+      (inside lens program.body named disciplined) (λ uses is. cc) (λ e. absurd (true≢false (sym e))) (λ o c h. absurd (true≢false (sym h)))
 
   pub sound-root : IsSound root
   sound-root = record {
     root = refl;
     top = refl;
-    down = down;
+    down = λ i pos. omega (arith, pos, root-each (λ r. r.parent ≡ 0) program.body refl refl i);
     kin = λ i pos below. absurd (omega (arith, pos, below));
-    entries = λ p k s there. no-entry p k s there;
+    entries = λ p. root-each (λ r. (k : ℕ) (s : Sibling) → slice_get r.children k ≡ Some s → HasTask root p k) program.body (λ k s there. cc) (λ k s there. cc) p;
     older = λ a b pos lt below same. absurd (omega (arith, pos, lt, below));
     begun = λ i pos below. absurd (omega (arith, pos, below));
-    entered = λ i o os is. no-group i o os is;
-    placed = placed-each;
-    done = λ i pos over k s there. no-entry i k s there;
+    entered = λ i. root-each (λ r. (o : Open) (os : List Open) → r.groups ≡ o ∷ os → IsBegun root i) program.body (λ o os is. cc) (λ o os is. cc) i;
+    placed = root-each IsPlaced program.body placed-root placed-gone;
+    done = λ i pos over. root-each (λ r. (k : ℕ) (s : Sibling) → slice_get r.children k ≡ Some s → s.finished ≡ true) program.body (λ k s there. cc) (λ k s there. cc) i;
   }
-
-  named-each : (i : ℕ) → NamedIn lens (todo_at root i)
-  named-each zero = named
-  named-each (suc i) = tt
-
-  none-yet : (i : ℕ) → (at root i).groups ≡ []
-  none-yet zero = refl
-  none-yet (suc i) = refl
-
-  each-open : (P : Open → Type 0) (i : ℕ) → All P (at root i).groups
-  each-open P zero = All-nil P
-  each-open P (suc i) = All-nil P
-
-  idle : {P : Type 0} (i : ℕ) (run : Run) → (at root i).running ≡ Some run → P
-  idle zero run is = cc
-  idle (suc i) run is = cc
 
 pub root-light : (body : Body) → weight_of (root_region body ∷ []) ≤ 2 * size body + 1
 root-light End = omega arith
@@ -111,22 +58,31 @@ starts-well j disciplined named out groups regions cells tasks units = record {
   lengths = ap lengths cells;
   created = subst (λ rs. length rs ≡ 1 + j.counts.tasks) (sym regions) (omega (arith, tasks));
   light = subst (λ rs. weight_of rs ≤ 2 * size j.program.body + 1) (sym regions) (root-light j.program.body);
-  holds = λ i run is. idle j.program disciplined (lengths j.cells) named i run (ap (λ rs. (at rs i).running) (sym regions) ∙ is);
-  present = λ i run is. idle j.program disciplined (lengths j.cells) named i run (ap (λ rs. (at rs i).running) (sym regions) ∙ is);
-  apart = λ i k one two other is also. idle j.program disciplined (lengths j.cells) named i one (ap (λ rs. (at rs i).running) (sym regions) ∙ is);
+  holds = λ i run is. absurd (idle i run is);
+  present = λ i run is. absurd (idle i run is);
+  apart = λ i k one two other is also. absurd (idle i one is);
   course = λ working. record {
     some = subst (λ rs. 0 < length rs) (sym regions) (omega arith);
     sound = subst (λ rs. IsSound (wholes rs)) (sym regions) (sound-root j.program disciplined (lengths j.cells) named);
-    named = subst (λ rs. (i : ℕ) → NamedIn (lengths j.cells) (todo_at (wholes rs) i)) (sym regions) (named-each j.program disciplined (lengths j.cells) named);
-    runs = λ i run is. idle j.program disciplined (lengths j.cells) named i run (ap (λ rs. (at rs i).running) (sym regions) ∙ is);
-    begun = λ i run is. idle j.program disciplined (lengths j.cells) named i run (ap (λ rs. (at rs i).running) (sym regions) ∙ is);
-    copies = subst (λ rs. AreOpen rs j.owned.groups) (sym regions) (subst (AreOpen (root_region j.program.body ∷ [])) (sym groups) (open-none (root_region j.program.body ∷ []) (none-yet j.program disciplined (lengths j.cells) named)));
-    older = λ i. subst (λ rs. All (λ g. g.group < j.counts.units) (at rs i).groups) (sym regions) (each-open j.program disciplined (lengths j.cells) named (λ g. g.group < j.counts.units) i);
-    there = λ i. subst (λ rs. All (λ g. AreInShape (lengths j.cells) g.cells) (at rs i).groups) (sym regions) (each-open j.program disciplined (lengths j.cells) named (λ g. AreInShape (lengths j.cells) g.cells) i);
+    named = subst (λ rs. (i : ℕ) → NamedIn (lengths j.cells) (todo_at (wholes rs) i)) (sym regions) (root-each (λ r. NamedIn (lengths j.cells) (todo r.rest r.groups)) j.program.body named tt);
+    runs = λ i run is. absurd (idle i run is);
+    begun = λ i run is. absurd (idle i run is);
+    copies = subst (λ rs. AreOpen rs j.owned.groups) (sym regions) (subst (AreOpen (root_region j.program.body ∷ [])) (sym groups) (open-none (root_region j.program.body ∷ []) (root-each (λ r. r.groups ≡ []) j.program.body refl refl)));
+    older = λ i. subst (λ rs. All young (at rs i).groups) (sym regions) (root-each (λ r. All young r.groups) j.program.body (All-nil young) (All-nil young) i);
+    there = λ i. subst (λ rs. All shape (at rs i).groups) (sym regions) (root-each (λ r. All shape r.groups) j.program.body (All-nil shape) (All-nil shape) i);
     kept = ap (λ rs. left_of (wholes rs) (state_of (worths j.owned j.cells) j.counts)) regions ∙ ap (serial j.program.body) begins;
   };
 }
   where
+    young : Open → Type 0
+    young g = g.group < j.counts.units
+
+    shape : Open → Type 0
+    shape g = AreInShape (lengths j.cells) g.cells
+
+    idle : (i : ℕ) (run : Run) → (at j.regions i).running ≡ Some run → ⊥
+    idle i run is = none-some run (sym (root-each (λ r. r.running ≡ None) j.program.body refl refl i) ∙ ap (λ rs. (at rs i).running) (sym regions) ∙ is)
+
     begins : state_of (worths j.owned j.cells) j.counts ≡ record { cells = j.before; tasks = 0; units = 0 }
     begins =
         ap (λ c. let s : State = record { cells = c; tasks = j.counts.tasks; units = j.counts.units } in s) (worths-combined j.owned j.cells (none-combined j.owned groups) ∙ cells)
@@ -200,29 +156,24 @@ fails-well j d owned w out ended groups = record {
 
 -- where a job stands, by what is known of it
 pub state-is-failing : (j : Live) → j.failing ≡ true → any_out j.regions ≡ true → Failing ≡ state_in j
-state-is-failing j fails out =
-    sym (ap (λ b. if b then (if any_out j.regions then Failing else Failed) else if all_ended j.regions then Ended else Working) fails ∙ ap (λ b. if b then Failing else Failed) out)
+state-is-failing j fails out = rw (fails, out)
 
 pub state-is-failed : (j : Live) → j.failing ≡ true → any_out j.regions ≡ false → Failed ≡ state_in j
-state-is-failed j fails out =
-    sym (ap (λ b. if b then (if any_out j.regions then Failing else Failed) else if all_ended j.regions then Ended else Working) fails ∙ ap (λ b. if b then Failing else Failed) out)
+state-is-failed j fails out = rw (fails, out)
 
 pub state-is-ended : (j : Live) → j.failing ≡ false → all_ended j.regions ≡ true → Ended ≡ state_in j
-state-is-ended j fails ended =
-    sym (ap (λ b. if b then (if any_out j.regions then Failing else Failed) else if all_ended j.regions then Ended else Working) fails ∙ ap (λ b. if b then Ended else Working) ended)
+state-is-ended j fails ended = rw (fails, ended)
 
 pub state-is-working : (j : Live) → j.failing ≡ false → all_ended j.regions ≡ false → Working ≡ state_in j
-state-is-working j fails ended =
-    sym (ap (λ b. if b then (if any_out j.regions then Failing else Failed) else if all_ended j.regions then Ended else Working) fails ∙ ap (λ b. if b then Ended else Working) ended)
+state-is-working j fails ended = rw (fails, ended)
 
 pub state-ended : (j : Live) → state_in j ≡ Ended → (j.failing ≡ false) × (all_ended j.regions ≡ true)
 state-ended j h = by j.failing (any_out j.regions) (all_ended j.regions) h
   where
     by : (f a e : Bool) → (if f then (if a then Failing else Failed) else if e then Ended else Working) ≡ Ended → (f ≡ false) × (e ≡ true)
-    by true true e h = cc
-    by true false e h = cc
     by false a true h = (refl, refl)
-    by false a false h = cc
+    by true true e h = cc
+    by f a e h = cc
 
 -- a task with a piece out has not ended
 pub one-out : (rs : List Region) → any_out rs ≡ true → (i : ℕ) × (run : Run) × ((at rs i).running ≡ Some run)

@@ -1,13 +1,13 @@
 -- A control statement is executed: what it leaves of the region and what holds of it.
-use Rattle.std.proofs.Common.{◌++◌, get_or, set, sym, length, length-append, true, false, ◌≡◌, ◌<◌, ℕ, zero, suc, Bool, List, [], ◌∷◌, refl, ap, ◌∙◌, arith, ◌+◌, ◌⊎◌, inl, inr, Option, Some, None, option_map, nat_lt, if◌then◌else◌, ◌&&◌, subst, true≢false, not}
-use Rattle.ot_job.proofs.Common.{length-updated, updated-updated, Set, Fold, If, Wait, Group, Body, End, Next, append, updated, Use, Region, with_child, new_region, children_at, stepped, stepped_from, next_task, rest_at, with_created, executed, tasks_next, over, without, Waiting, Open, is_at_end, none-some, same_Some, told_parent, closed, moved_on, at, parent_of, Sibling, Cell, Operation, E, allows, EachTouch, EachTask, todo, IsFineAt, AwaitsAll, unawaited, with_rest, inside, LetsAll, IsBegun, IsPlaced, IsSound, awaits}
+use Rattle.std.proofs.Common.{◌++◌, get_or, set, sym, length, length-append, true, false, ◌≡◌, ◌<◌, ℕ, suc, Bool, List, [], ◌∷◌, refl, ap, ◌∙◌, arith, ◌+◌, ◌⊎◌, inl, inr, Option, Some, None, option_map, nat_lt, if◌then◌else◌, ◌&&◌, subst, true≢false, not}
+use Rattle.ot_job.proofs.Common.{length-updated, updated-updated, If, Wait, Group, Body, End, Next, append, updated, Use, Region, with_child, new_region, children_at, stepped, stepped_from, next_task, rest_at, with_created, executed, tasks_next, over, without, Waiting, Open, is_at_end, none-some, same_Some, told_parent, closed, moved_on, at, parent_of, Sibling, Cell, Operation, E, allows, EachTouch, EachTask, todo, IsFineAt, AwaitsAll, unawaited, with_rest, inside, LetsAll, IsBegun, IsPlaced, IsSound, awaits}
 use Rattle.ot_model.specs.Tree.{Task as Fork}
 use Rattle.ot_task.specs.Regions.{child_of, with_noted}
 use Rattle.ot_job.proofs.ViewLemmas.{set-changed}
 use Rattle.ot_job.proofs.ClaimableLemmas.{at-here}
-use Rattle.ot_job.proofs.EachLemmas.{field-kept, field-more}
-use Rattle.ot_job.proofs.PlaceLemmas.{at-one, at-two, at-wait, at-enter, touch-append, task-append, placed-enter}
-use Rattle.ot_job.proofs.AwaitsLemmas.{monotone, executed-wait, awaits-one, awaits-two, awaits-wait, awaits-enter}
+use Rattle.ot_job.proofs.EachLemmas.{field-kept, field-more, moved-by}
+use Rattle.ot_job.proofs.PlaceLemmas.{at-branch, taken-of, at-wait, at-enter, touch-append, task-append, placed-enter}
+use Rattle.ot_job.proofs.AwaitsLemmas.{monotone, executed-wait, awaits-branch, awaits-wait, awaits-enter}
 use Rattle.ot_job.proofs.KeptLemmas.{todo-append, todo-next}
 use Rattle.ot_job.proofs.RightsLemmas.{fine-innermost}
 use Rattle.ot_job.proofs.ChangedLemmas.{sound-changed, placed-as}
@@ -20,13 +20,11 @@ pub stepped-field : {A : Type 0} (g : Region → A) → ((r : Region) (rest : Bo
 stepped-field g same taken number r = by r.rest
   where
     by : (b : Body) → g (stepped_from taken number b r) ≡ g r
-    by End = refl
-    by (Next (Set c e) rest) = refl
-    by (Next (Fold op c e) rest) = refl
     by (Next (If e a b) rest) = same r (append (if taken then a else b) rest) r.groups r.waiting
     by (Next (Fork d b) rest) = same r rest r.groups r.waiting
     by (Next (Wait w) rest) = same r rest r.groups (Some w)
     by (Next (Group op cs b) rest) = same r b (record { group = number; op = op; cells = cs; behind = rest } ∷ r.groups) r.waiting
+    by b = refl
 
 pub stepped-children : (taken : Bool) (number : ℕ) (r : Region) → (stepped taken number r).children ≡ r.children
 stepped-children = stepped-field (λ r. r.children) (λ r rest groups waiting. refl)
@@ -37,32 +35,20 @@ stepped-running = stepped-field (λ r. r.running) (λ r rest groups waiting. ref
 -- ---- the task that comes next
 
 pub children-here : (rs : List Region) (i : ℕ) → children_at rs i ≡ length (at rs i).children
-children-here [] i = refl
-children-here (r ∷ rs) zero = refl
 children-here (r ∷ rs) (suc i) = children-here rs i
+children-here rs i = refl
 
 pub rest-here : (rs : List Region) (i : ℕ) → rest_at rs i ≡ (at rs i).rest
-rest-here [] i = refl
-rest-here (r ∷ rs) zero = refl
 rest-here (r ∷ rs) (suc i) = rest-here rs i
+rest-here rs i = refl
 
 none-next : (b : Body) → tasks_next b ≡ 0 → next_task b ≡ None
-none-next End h = refl
-none-next (Next (Set c e) rest) h = refl
-none-next (Next (Fold op c e) rest) h = refl
-none-next (Next (If e a b) rest) h = refl
 none-next (Next (Fork d b) rest) h = absurd (omega (arith, h))
-none-next (Next (Wait w) rest) h = refl
-none-next (Next (Group op cs b) rest) h = refl
+none-next b h = refl
 
 some-next : (b : Body) → (tasks_next b ≡ 0 → ⊥) → (child : List Use × Body) × (next_task b ≡ Some child)
-some-next End h = absurd (h refl)
-some-next (Next (Set c e) rest) h = absurd (h refl)
-some-next (Next (Fold op c e) rest) h = absurd (h refl)
-some-next (Next (If e a b) rest) h = absurd (h refl)
 some-next (Next (Fork d b) rest) h = ((d, b), refl)
-some-next (Next (Wait w) rest) h = absurd (h refl)
-some-next (Next (Group op cs b) rest) h = absurd (h refl)
+some-next b h = absurd (h refl)
 
 -- where no task comes next, none is created
 pub executed-none : (taken : Bool) (g i : ℕ) (rs : List Region) → tasks_next (at rs i).rest ≡ 0 → executed taken g i rs ≡ updated rs i (stepped taken g)
@@ -127,19 +113,14 @@ tell-long true p c rs = length-updated rs p (without c)
 -- it stands at its body's end, or it doesn't
 pub end-cases : (b : Body) (gs : List Open) → ((b ≡ End) × (gs ≡ []) × (is_at_end b gs ≡ true)) ⊎ (is_at_end b gs ≡ false)
 end-cases End [] = inl (refl, refl, refl)
-end-cases End (o ∷ os) = inr refl
-end-cases (Next x rest) gs = inr refl
-
-pub created-running : (i : ℕ) (o : Option (List Use × Body)) (rs : List Region) (k : ℕ) → (at (with_created i o rs) k).running ≡ (at rs k).running
-created-running i None rs k = refl
-created-running i (Some child) rs k =
-    field-more (λ r. r.running) (updated rs i (with_child child.0)) (new_region i (children_at rs i) child.0 child.1) refl k ∙ field-kept (λ r. r.running) (with_child child.0) (λ r. refl) rs i k
+end-cases b gs = inr refl
 
 -- what is out is out still
-pub moved-running : (b taken : Bool) (g i : ℕ) (rs : List Region) (k : ℕ) → (at (if b then closed i rs else executed taken g i rs) k).running ≡ (at rs k).running
-moved-running true taken g i rs k = field-kept (λ r. r.running) over (λ r. refl) (told_parent i rs) i k ∙ tell-field (λ r. r.running) (λ c r. refl) (nat_lt 0 i) (parent_of rs i) (at rs i).child rs k
-moved-running false taken g i rs k =
-    created-running i (next_task (rest_at rs i)) (updated rs i (stepped taken g)) k ∙ field-kept (λ r. r.running) (stepped taken g) (stepped-running taken g) rs i k
+pub moved-running : (taken : Bool) (g i : ℕ) (rs : List Region) (k : ℕ) → (at (moved_on taken g i rs) k).running ≡ (at rs k).running
+moved-running taken g i rs k = moved-by taken g i rs (λ l. (at l k).running ≡ (at rs k).running)
+    (λ was. field-kept (λ r. r.running) over (λ r. refl) (told_parent i rs) i k ∙ tell-field (λ r. r.running) (λ c r. refl) (nat_lt 0 i) (parent_of rs i) (at rs i).child rs k)
+    (field-kept (λ r. r.running) (stepped taken g) (stepped-running taken g) rs i k)
+    (λ l child h. field-more (λ r. r.running) (updated l i (with_child child.0)) (new_region i (children_at l i) child.0 child.1) refl k ∙ field-kept (λ r. r.running) (with_child child.0) (λ r. refl) l i k ∙ h)
 
 -- how many tasks there are
 pub moved-long : (taken : Bool) (g i : ℕ) (rs : List Region) → length (moved_on taken g i rs) ≡ length rs + tasks_next (at rs i).rest
@@ -152,16 +133,11 @@ moved-long taken g i rs = elim (end-cases (at rs i).rest (at rs i).groups) [
 ]
   where
     created : (b : Body) → length (with_created i (next_task b) (updated rs i (stepped taken g))) ≡ length rs + tasks_next b
-    created End = omega (arith, length-updated rs i (stepped taken g))
-    created (Next (Set c e) rest) = omega (arith, length-updated rs i (stepped taken g))
-    created (Next (Fold op c e) rest) = omega (arith, length-updated rs i (stepped taken g))
-    created (Next (If e a b) rest) = omega (arith, length-updated rs i (stepped taken g))
-    created (Next (Wait w) rest) = omega (arith, length-updated rs i (stepped taken g))
-    created (Next (Group op cs b) rest) = omega (arith, length-updated rs i (stepped taken g))
     created (Next (Fork d b) rest) =
         let xs = updated rs i (stepped taken g) in
         let more = length-append (updated xs i (with_child d)) (new_region i (children_at xs i) d b ∷ []) in
         omega (arith, more, length-updated rs i (stepped taken g), length-updated xs i (with_child d))
+    created b = omega (arith, length-updated rs i (stepped taken g))
 
 -- ---- an `if` and a wait are executed: what holds of the region stays
 
@@ -173,31 +149,17 @@ module _ (r : Region) (p : IsPlaced r) (alive : r.ended ≡ false) where
   ends next e = absurd (true≢false (sym e ∙ alive))
 
   pub placed-branch : (taken : Bool) (e : E) (a b rest : Body) → r.rest ≡ Next (If e a b) rest → IsPlaced (with_rest (append (if taken then a else b) rest) r)
-  placed-branch taken e a b rest was = by taken
-    where
-      P : Use → Type 0
-      P u = allows r.own u ≡ true
-
-      each : EachTask LetsAll (Next (If e a b) (todo rest r.groups))
-      each = subst (EachTask LetsAll) (ap (λ x. todo x r.groups) was ∙ todo-next (If e a b) rest r.groups) p.tasks
-
-      await : (uses : List Use) → r.own ≡ Some uses → AwaitsAll (unawaited r.waiting r.children) (Next (If e a b) rest) r.groups
-      await uses own = subst (λ x. AwaitsAll (unawaited r.waiting r.children) x r.groups) was (p.awaits uses own)
-
-      fine : IsFineAt r.own (unawaited r.waiting r.children) (Next (If e a b) rest) r.groups
-      fine = subst (λ x. IsFineAt r.own (unawaited r.waiting r.children) x r.groups) was p.fine
-
-      by : (t : Bool) → IsPlaced (with_rest (append (if t then a else b) rest) r)
-      by true = let t = subst (EachTouch (λ u. allows r.own u ≡ true)) (ap (λ x. todo x r.groups) was ∙ todo-next (If e a b) rest r.groups) p.inside in
-          placed-as r p (append a rest) r.waiting r.ended (at-one r.own (unawaited r.waiting r.children) (monotone r.waiting r.children) e a b rest r.groups fine)
-          (subst (EachTouch (λ u. allows r.own u ≡ true)) (sym (todo-append a rest r.groups)) (touch-append (λ u. allows r.own u ≡ true) a (todo rest r.groups) t.0.1 t.1))
-          (subst (EachTask LetsAll) (sym (todo-append a rest r.groups)) (task-append LetsAll a (todo rest r.groups) each.0.0 each.1))
-          (λ uses own. awaits-one (unawaited r.waiting r.children) (monotone r.waiting r.children) e a b rest r.groups (await uses own)) (ends (append a rest)) p.shut
-      by false = let t = subst (EachTouch (λ u. allows r.own u ≡ true)) (ap (λ x. todo x r.groups) was ∙ todo-next (If e a b) rest r.groups) p.inside in
-          placed-as r p (append b rest) r.waiting r.ended (at-two r.own (unawaited r.waiting r.children) (monotone r.waiting r.children) e a b rest r.groups fine)
-          (subst (EachTouch (λ u. allows r.own u ≡ true)) (sym (todo-append b rest r.groups)) (touch-append (λ u. allows r.own u ≡ true) b (todo rest r.groups) t.0.2 t.1))
-          (subst (EachTask LetsAll) (sym (todo-append b rest r.groups)) (task-append LetsAll b (todo rest r.groups) each.0.1 each.1))
-          (λ uses own. awaits-two (unawaited r.waiting r.children) (monotone r.waiting r.children) e a b rest r.groups (await uses own)) (ends (append b rest)) p.shut
+  placed-branch taken e a b rest was =
+      let chosen : Body = if taken then a else b in
+      let P : Use → Type 0 = λ u. allows r.own u ≡ true in
+      let t = subst (EachTouch P) (ap (λ x. todo x r.groups) was ∙ todo-next (If e a b) rest r.groups) p.inside in
+      let each = subst (EachTask LetsAll) (ap (λ x. todo x r.groups) was ∙ todo-next (If e a b) rest r.groups) p.tasks in
+      placed-as r p (append chosen rest) r.waiting r.ended
+      (at-branch r.own (unawaited r.waiting r.children) (monotone r.waiting r.children) taken e a b rest r.groups (subst (λ x. IsFineAt r.own (unawaited r.waiting r.children) x r.groups) was p.fine))
+      (subst (EachTouch P) (sym (todo-append chosen rest r.groups)) (touch-append P chosen (todo rest r.groups) (taken-of (EachTouch P) taken a b t.0.1 t.0.2) t.1))
+      (subst (EachTask LetsAll) (sym (todo-append chosen rest r.groups)) (task-append LetsAll chosen (todo rest r.groups) (taken-of (EachTask LetsAll) taken a b each.0.0 each.0.1) each.1))
+      (λ uses own. awaits-branch (unawaited r.waiting r.children) (monotone r.waiting r.children) taken e a b rest r.groups
+      (subst (λ x. AwaitsAll (unawaited r.waiting r.children) x r.groups) was (p.awaits uses own))) (ends (append chosen rest)) p.shut
 
   pub placed-wait : (w : Option (List Use)) (rest : Body) → r.rest ≡ Next (Wait w) rest → r.waiting ≡ None → IsPlaced (waits w rest r)
   placed-wait w rest was calm =

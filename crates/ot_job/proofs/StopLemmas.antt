@@ -1,13 +1,13 @@
 -- A piece comes back: a settle is first the piece and then the control statement.
 use Rattle.std.proofs.Common.{◌≡◌, ℕ, ◌<◌, ◌≤◌, true, false, List, length, refl, sym, ap, subst, ◌∙◌, ◌⊎◌, inl, inr, true≢false, None, Some, slice_get, zero, suc, Bool, [], ◌∷◌, ◌++◌, arith, Option}
-use Rattle.ot_job.proofs.Common.{cases_lt, E, Set, Fold, If, Task, Wait, Group, Body, End, Next, append, NamedIn, updated, Use, Sibling, Declared, allows, clashes, EachTouch, EachTask, Agree, ConflictsWithChild, touch-weaker, harmless, harmless_if, clash_free, Open, todo, opened, children_of, IsFineAt, AwaitsAll, unawaited, Kids, IsHarmless, AreAssigns, Region, with_rest, at, parent_of, ended_at, may_at, IsBegun, LetsAll, IsPlaced, IsSound, map-append, length-map, length-updated, updated-updated, with_child, new_region, with_created, stepped, stepped_from, executed, next_task, rest_at, children_at, stopped, whole, wholes}
+use Rattle.ot_job.proofs.Common.{cases_lt, E, Set, Fold, If, Body, End, Next, append, NamedIn, updated, Use, Sibling, Declared, allows, clashes, EachTouch, EachTask, Agree, ConflictsWithChild, touch-weaker, harmless, harmless_if, clash_free, Open, todo, opened, children_of, IsFineAt, AwaitsAll, unawaited, Kids, IsHarmless, AreAssigns, Region, with_rest, at, parent_of, ended_at, may_at, IsBegun, LetsAll, IsPlaced, IsSound, map-append, length-map, length-updated, updated-updated, with_child, new_region, with_created, stepped, stepped_from, executed, next_task, rest_at, children_at, stopped, whole, wholes}
 use Rattle.ot_job.proofs.PlaceLemmas.{at-set, at-fold, kid-none}
 use Rattle.ot_job.proofs.AwaitsLemmas.{awaits-piece}
 use Rattle.ot_job.proofs.Kept.{MayRun}
 use Rattle.ot_job.proofs.KeptLemmas.{todo-append, todo-next, at-updated}
 use Rattle.ot_job.proofs.SoundLemmas.{at-past}
 use Rattle.ot_job.proofs.ChangedLemmas.{sound-changed, placed-as}
-use Rattle.ot_job.proofs.RightsLemmas.{fine-innermost, named-both}
+use Rattle.ot_job.proofs.RightsLemmas.{fine-innermost, named-half}
 use Rattle.ot_job.proofs.StepLemmas.{rest-here}
 
 -- ---- a piece comes back: its assigns are behind the place
@@ -16,10 +16,7 @@ fine-piece : (own : Declared) (kids : Kids) (piece rest : Body) (gs : List Open)
 fine-piece own kids End rest gs only f = f
 fine-piece own kids (Next (Set c e) more) rest gs only f = fine-piece own kids more rest gs only (at-set own kids c e (append more rest) gs f)
 fine-piece own kids (Next (Fold op c e) more) rest gs only f = fine-piece own kids more rest gs only (at-fold own kids op c e (append more rest) gs f)
-fine-piece own kids (Next (If e a b) more) rest gs only f = absurd only
-fine-piece own kids (Next (Task d b) more) rest gs only f = absurd only
-fine-piece own kids (Next (Wait w) more) rest gs only f = absurd only
-fine-piece own kids (Next (Group op cs b) more) rest gs only f = absurd only
+fine-piece own kids (Next x more) rest gs only f = absurd only
 
 touch-front : (P : Use → Type 0) (a b : Body) → EachTouch P (append a b) → EachTouch P a
 touch-front P End b t = tt
@@ -52,7 +49,7 @@ module _ (r : Region) (p : IsPlaced r) (piece rest : Body) (was : r.rest ≡ app
 
   pub piece-harmless : (lens : List ℕ) → NamedIn lens r.rest → EachTouch (IsHarmless r.own (opened r.groups) (children_of (unawaited r.waiting r.children))) piece
   piece-harmless lens named =
-      harmless lens r.own (opened r.groups) (children_of (unawaited r.waiting r.children)) piece rest only (named-both lens r.own (opened r.groups) (children_of (unawaited r.waiting r.children)) piece rest (subst (NamedIn lens) was named)).0
+      harmless lens r.own (opened r.groups) (children_of (unawaited r.waiting r.children)) piece rest only (named-half lens piece rest (subst (NamedIn lens) was named))
       (fine-innermost r.own (unawaited r.waiting r.children) (append piece rest) r.groups (subst (λ b. IsFineAt r.own (unawaited r.waiting r.children) b r.groups) was p.fine))
 
 -- touches that are no offence agree with all that an unfinished child may do
@@ -116,13 +113,8 @@ module _ (ws : List Region) (s : IsSound ws) (i : ℕ) (e : E) (a b rest : Body)
 
 -- a step sees no piece that is out
 step-stopped : (taken : Bool) (g : ℕ) (b : Body) (r : Region) → r.rest ≡ b → stopped (stepped_from taken g b r) ≡ stepped_from taken g b (stopped r)
-step-stopped taken g End r is = refl
 step-stopped taken g (Next (Set c e) rest) r is = refl
-step-stopped taken g (Next (Fold op c e) rest) r is = refl
-step-stopped taken g (Next (If e a b) rest) r is = refl
-step-stopped taken g (Next (Task d b) rest) r is = refl
-step-stopped taken g (Next (Wait w) rest) r is = refl
-step-stopped taken g (Next (Group op cs b) rest) r is = refl
+step-stopped taken g b r is = refl
 
 pub changed : (rs : List Region) (i : ℕ) (f F : Region → Region) → whole (f (at rs i)) ≡ F (whole (at rs i)) → wholes (updated rs i f) ≡ updated (wholes rs) i F
 changed [] i f F same = refl

@@ -1,6 +1,6 @@
 -- A job that hasn't ended, and of which no piece is out, has a task that may be claimed.
 use Rattle.std.proofs.Common.{◌≡◌, ℕ, zero, suc, ◌+◌, ◌<◌, ◌≤◌, true, false, List, [], ◌∷◌, length, refl, sym, ap, subst, ◌∙◌, ◌⊎◌, inl, inr, arith, true≢false, Some, slice_get, Bool, not, ◌&&◌, ◌||◌, get_or, ◌==◌, None, is_some, count_by, IsTrue, if◌then◌else◌, All}
-use Rattle.ot_job.proofs.Common.{cases_Bool, Sibling, IsReady, Region, at, parent_of, ended_at, IsBegun, IsKin, IsSound, nat_tests, length-map, Body, End, Next, is_ready, is_unfinished, is_unfinished_in, and_true, or_false_left, or_false_right, Open, whole, wholes, is_claimable, claimable_of, is_held, is_let_go, end_lets_go, Live, IsWell, any_out, all_ended, state_in, Working, Failing, Ended, Failed}
+use Rattle.ot_job.proofs.Common.{cases_Bool, Sibling, IsReady, Region, at, parent_of, ended_at, IsBegun, IsKin, IsSound, nat_tests, length-map, Body, End, Next, is_ready, is_unfinished, is_unfinished_in, and_true, or_false_left, or_false_right, Open, whole, wholes, is_claimable, claimable_of, is_held, is_let_go, end_lets_go, Live, IsWell, any_out, all_ended, state_in, Working, Failing, Ended, Failed, or_right, same_Some}
 use Rattle.ot_depend.proofs.CountLemmas.{none_unfinished, none_unfinished_in}
 use Rattle.ot_depend.proofs.ReadyLemmas.{is_ready-told}
 use Rattle.ot_roster.proofs.ListedLemmas.{passing-some}
@@ -55,16 +55,13 @@ module _ (rs : List Region) (s : IsSound rs) where
       let o = s.entries p k l.entry l.there in
       let kin = s.kin o.task o.below o.known in
       let there : slice_get (at rs p).children k ≡ Some kin.entry = ap (λ n. slice_get (at rs n).children k) (sym o.of) ∙ ap (slice_get (at rs (parent_of rs o.task)).children) (sym o.is) ∙ kin.there in
-      let same : kin.entry ≡ l.entry = some_same kin.entry l.entry (sym there ∙ l.there) in (
+      let same : kin.entry ≡ l.entry = same_Some kin.entry l.entry (sym there ∙ l.there) in (
         o.task,
         omega (arith, s.down o.task o.below, o.of),
         o.known,
         sym kin.finished ∙ ap (λ (y : Sibling). y.finished) same ∙ l.unfinished,
         λ pos. (o.known, subst (λ n. IsReady (at rs n).children (at rs o.task).child) (sym o.of) (subst (IsReady (at rs p).children) (sym o.is) (ready-least (at rs p).children k l))),
       )
-    where
-      some_same : (a b : Sibling) → Some a ≡ Some b → a ≡ b
-      some_same a b h = cc
 
   go : (fuel i : ℕ) → length rs ≤ i + fuel → i < length rs → ended_at rs i ≡ false → IsBegun rs i → (j : ℕ) × Free rs j
   go zero i enough within alive begun = absurd (omega (arith, enough, within))
@@ -155,11 +152,7 @@ module _ (rs : List Region) (out : any_out rs ≡ false) (i : ℕ) (f : Free (wh
           let told : is_ready (at rs (at rs i).parent).children (at rs i).child ≡ true =
           ap (λ kids. is_ready kids (at rs i).child) (sym table) ∙ ap (is_ready (at (wholes rs) (parent_of (wholes rs) i)).children) (sym child)
           ∙ sym (is_ready-told true (at (wholes rs) (parent_of (wholes rs) i)).children (at (wholes rs) i).child ((λ t. ready), λ t. refl)) in
-          by (i == 0) told
-        where
-          by : (a : Bool) {b : Bool} → b ≡ true → (a || b) ≡ true
-          by true h = refl
-          by false h = h
+          or_right (i == 0) (is_ready (at rs (at rs i).parent).children (at rs i).child) told
 
 pub has-claimable : (j : Live) → IsWell j → j.failing ≡ false → all_ended j.regions ≡ false → any_out j.regions ≡ false → 0 < length (claimable_of j.regions)
 has-claimable j w working left out =
@@ -172,7 +165,6 @@ pub state-working : (j : Live) → state_in j ≡ Working → (j.failing ≡ fal
 state-working j h = by j.failing (any_out j.regions) (all_ended j.regions) h
   where
     by : (f a e : Bool) → (if f then (if a then Failing else Failed) else if e then Ended else Working) ≡ Working → (f ≡ false) × (e ≡ false)
-    by true true e h = cc
-    by true false e h = cc
-    by false a true h = cc
     by false a false h = (refl, refl)
+    by true true e h = cc
+    by f a e h = cc

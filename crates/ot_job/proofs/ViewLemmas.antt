@@ -1,5 +1,5 @@
 -- What the code does to its lists, told of the regions and numbers in them.
-use Rattle.std.proofs.Common.{◌≡◌, ℕ, List, [], get_or, set, ◌∙◌, ap, Result, Ok, Err, OnErr, OnOk}
+use Rattle.std.proofs.Common.{◌≡◌, ℕ, List, get_or, set, ◌∙◌, ap, Result, Ok, Err, OnErr, OnOk}
 use Rattle.ot_job.proofs.Common.{updated, Region}
 use Rattle.ot_model.proofs.CellsLemmas.{set-updated}
 

@@ -3,6 +3,7 @@ use Rattle.std.proofs.Common.{◌≡◌, ℕ, zero, suc, ◌+◌, ◌*◌, ◌<�
 use Rattle.ot_job.proofs.Common.{Set, Fold, If, Task, Wait, Group, Body, End, Next, append, size, updated, Use, length-updated, updated-updated, Lease, Open, Region, Run, with_child, new_region, with_created, stepped, stepped_from, executed, next_task, rest_at, children_at, over, stopped, without, at, parent_of, leading, behind, passed, begun, closed, settled, is_at_end, weight_left, region_weight, weight_of}
 use Rattle.ot_parts.proofs.WeightLemmas.{weight-behind}
 use Rattle.ot_task.specs.Weighing.{weight, weight_behind}
+use Rattle.ot_job.proofs.EachLemmas.{told-by}
 use Rattle.ot_job.proofs.StopLemmas.{front}
 use Rattle.ot_job.proofs.StepLemmas.{tell, tell-field, tell-long, rest-here}
 
@@ -21,10 +22,8 @@ weight-few (Next (Wait w) rest) = omega (arith, weight-few rest)
 weight-few (Next (Group op cs b) rest) = omega (arith, weight-few rest, weight-few b)
 
 left-≤ : (out : Bool) (rest : Body) (os : List Open) → weight_left out rest os ≤ weight rest + weight_behind os
-left-≤ true rest os = omega arith
 left-≤ false End [] = omega arith
-left-≤ false End (o ∷ os) = omega arith
-left-≤ false (Next x rest) os = omega arith
+left-≤ out rest os = omega arith
 
 -- ---- one region among all
 
@@ -133,12 +132,8 @@ module _ (taken : Bool) (g i : ℕ) (rs : List Region) (run : Run) (h : i < leng
       let w = weight-updated told i (λ r. stopped (over r)) (omega (arith, h, tell-long some p c rs)) in
       let one = ap weight_of (updated-updated told i over stopped) in
       let here = tell-field region_weight (λ c r. refl) some p c rs i in
-      let all = tells some in
+      let all = told-by i rs (λ l. weight_of l ≡ weight_of rs) (λ z. refl) (λ pos. weight-same rs p (without c) (λ r. refl)) in
       omega (arith, w, one, here, all, now-weight)
-    where
-      tells : (some : Bool) → weight_of (tell some (parent_of rs i) (at rs i).child rs) ≡ weight_of rs
-      tells true = weight-same rs (parent_of rs i) (without (at rs i).child) (λ r. refl)
-      tells false = refl
 
   executed-lighter : is_at_end (at rs i).rest (at rs i).groups ≡ false → weight_of (updated (executed taken g i rs) i stopped) < weight_of rs
   executed-lighter goes =

@@ -1,6 +1,6 @@
 -- A claim is free to be made, and leaves a job well.
-use Rattle.std.proofs.Common.{◌≡◌, ◌≢◌, ℕ, zero, suc, ◌<◌, true, false, not, ◌&&◌, ◌||◌, List, [], ◌∷◌, length, refl, sym, ap, subst, ◌∙◌, ◌⊎◌, inl, inr, ⊎_elim, arith, true≢false, Option, Some, None, is_some, slice_get, ◌==◌, All, Contains, IsSome, IsPermutation}
-use Rattle.ot_job.proofs.Common.{cases_eq, nat_tests, same_Some, length-map, Contains-permutation, All-permutation, IsPermutation-sym, IsPermutation-trans, IsPermutation-cons, Set, Fold, If, Task, Wait, Group, Body, End, Next, append, NamedIn, AreInShape, updated, lengths, cell_of, AreInOrder, Conflict, Use, State, IsReady, IsUnfinished, is_ready, and_left, and_right, or_true, not_true, Lease, lease_of, lent_from, Owned, IsFreeFor, begun_for, left, Open, todo, AreAssigns, Region, Run, at, parent_of, todo_at, parents, left_of, IsBegun, IsSound, length-updated, leading, behind, test_of, passed, awake, begun, group_passed, assigns_out, whole, wholes, loan_in, with_loan, loans_out, AreOpen, left_open, RunsWell, IsWell, IsOnCourse, MaySettle, worths, AreWorthSame, worths-same, state_of, Live, AreHeld, piece_touches, assign_touches, test_touches, is_claimable, Holds, touches_out, is_let_go}
+use Rattle.std.proofs.Common.{◌≡◌, ◌≢◌, ℕ, zero, suc, ◌<◌, true, false, not, ◌&&◌, ◌||◌, List, [], ◌∷◌, length, refl, sym, ap, subst, ◌∙◌, ⊎_elim, arith, true≢false, Option, Some, None, is_some, slice_get, ◌==◌, All, Contains, IsSome, IsPermutation}
+use Rattle.ot_job.proofs.Common.{cases_eq, nat_tests, same_Some, length-map, Contains-permutation, All-permutation, IsPermutation-sym, IsPermutation-trans, IsPermutation-cons, Set, Fold, If, Body, End, Next, append, NamedIn, AreInShape, updated, lengths, cell_of, AreInOrder, Conflict, Use, State, IsReady, IsUnfinished, is_ready, and_left, and_right, or_true, not_true, Lease, lease_of, lent_from, Owned, IsFreeFor, begun_for, left, Open, todo, AreAssigns, Region, Run, at, parent_of, todo_at, parents, left_of, IsBegun, IsSound, length-updated, leading, behind, test_of, passed, awake, begun, group_passed, assigns_out, whole, wholes, loan_in, with_loan, loans_out, AreOpen, left_open, RunsWell, IsWell, IsOnCourse, MaySettle, worths, AreWorthSame, worths-same, state_of, Live, AreHeld, piece_touches, assign_touches, test_touches, is_claimable, Holds, touches_out, is_let_go}
 use Rattle.ot_parts.proofs.LeadingLemmas.{leading-behind}
 use Rattle.ot_model.specs.declared.fold.Fold.TheVariants.{Plus}
 use Rattle.ot_job.proofs.WeighingLemmas.{weight-begun}
@@ -17,19 +17,14 @@ use Rattle.ot_job.proofs.OpenLemmas.{pieces_apart}
 use Rattle.ot_task.proofs.HeldLemmas.{AllIn, all-append, reads-in, held-there}
 
 pub leading-assigns : (b : Body) → AreAssigns (leading b)
-leading-assigns End = tt
 leading-assigns (Next (Set c e) rest) = leading-assigns rest
 leading-assigns (Next (Fold op c e) rest) = leading-assigns rest
-leading-assigns (Next (If e a b) rest) = tt
-leading-assigns (Next (Task d b) rest) = tt
-leading-assigns (Next (Wait w) rest) = tt
-leading-assigns (Next (Group op cs b) rest) = tt
+leading-assigns b = tt
 
 -- passing a group's end leaves what is left
 todo-passed : (rest : Body) (gs : List Open) → todo (passed rest gs).rest (passed rest gs).groups ≡ todo rest gs
 todo-passed End [] = refl
-todo-passed End (o ∷ os) = refl
-todo-passed (Next x b) gs = refl
+todo-passed b gs = refl
 
 idle-whole : (r : Region) → r.running ≡ None → whole r ≡ record r { running = None }
 idle-whole r idle = ap (λ o. record r { rest = append (assigns_out o) r.rest; running = None }) idle
@@ -117,11 +112,9 @@ module _ (lens : List ℕ) (rs : List Region) (s : IsSound (wholes rs)) (named :
   kept-begun k b = subst (λ l. IsBegun l k) (sym wholes-now) (begun-changed (wholes rs) i awake hw (record { parent = λ r. refl; child = λ r. refl; own = λ r. refl; children = λ r. refl; ended = λ r. refl }) k b)
 
   pub started-now : (k : ℕ) (run : Run) → (at rs' k).running ≡ Some run → IsBegun (wholes rs') k
-  started-now k run is = pick (cases_eq k i)
-    where
-      pick : (k ≡ i) ⊎ (k ≡ i → ⊥) → IsBegun (wholes rs') k
-      pick (inl e) = kept-begun k (subst (IsBegun (wholes rs)) (sym e) begun-here)
-      pick (inr e) = kept-begun k (started k run (sym (ap (λ (x : Region). x.running) (at-updated-other rs i k (begun worker lease) e)) ∙ is))
+  started-now k run is =
+      ⊎_elim (λ e. kept-begun k (subst (IsBegun (wholes rs)) (sym e) begun-here))
+      (λ e. kept-begun k (started k run (sym (ap (λ (x : Region). x.running) (at-updated-other rs i k (begun worker lease) e)) ∙ is))) (cases_eq k i)
 
   -- what is left of the job stays
   pub kept-now : (t : State) → left_of (wholes rs') t ≡ left_of (wholes rs) t
@@ -236,19 +229,11 @@ piece-named : (lens : List ℕ) (piece : Body) → AreAssigns piece → NamedIn 
 piece-named lens End only n = tt
 piece-named lens (Next (Set c e) rest) only n = all-append lens _ _ (all-append lens _ _ (reads-in lens e n.0.1) (n.0.0, tt)) (piece-named lens rest only n.1)
 piece-named lens (Next (Fold op c e) rest) only n = all-append lens _ _ (all-append lens _ _ (reads-in lens e n.0.1) (n.0.0, tt)) (piece-named lens rest only n.1)
-piece-named lens (Next (If e a b) rest) only n = absurd only
-piece-named lens (Next (Task d b) rest) only n = absurd only
-piece-named lens (Next (Wait w) rest) only n = absurd only
-piece-named lens (Next (Group op cs b) rest) only n = absurd only
+piece-named lens (Next x rest) only n = absurd only
 
 test-named : (lens : List ℕ) (b : Body) → NamedIn lens b → AllIn lens (test_touches (test_of b))
-test-named lens End n = tt
-test-named lens (Next (Set c e) rest) n = tt
-test-named lens (Next (Fold op c e) rest) n = tt
 test-named lens (Next (If e a b) rest) n = reads-in lens e n.0.0
-test-named lens (Next (Task d b) rest) n = tt
-test-named lens (Next (Wait w) rest) n = tt
-test-named lens (Next (Group op cs b) rest) n = tt
+test-named lens b n = tt
 
 pub settle-may : (j : Live) → IsWell j → IsOnCourse j → MaySettle j
 settle-may j v w = record { out = out; kin = kin }

@@ -1,15 +1,11 @@
 -- A claim leaves the regions as they are where pieces that are out count as not begun, but that the task goes on.
 use Rattle.std.proofs.Common.{◌≡◌, ℕ, zero, suc, ◌<◌, List, [], ◌∷◌, length, refl, sym, ap, subst, ◌∙◌, arith, Option, Some, None, All, IsPermutation}
-use Rattle.ot_job.proofs.Common.{All-nil, All-cons, IsPermutation-refl, IsPermutation-trans, IsPermutation-cons, IsPermutation-swap, Set, Fold, If, Task, Wait, Group, Body, End, Next, append, updated, Lease, Loan, Region, Run, at, leading, behind, passed, awake, begun, assigns_out, whole, wholes, loan_in, with_loan, loans_out}
+use Rattle.ot_job.proofs.Common.{All-nil, All-cons, IsPermutation-refl, IsPermutation-trans, IsPermutation-cons, IsPermutation-swap, Set, Fold, Body, Next, append, updated, Lease, Loan, Region, Run, at, leading, behind, passed, awake, begun, assigns_out, whole, wholes, loan_in, with_loan, loans_out}
 
 pub whole-again : (b : Body) → append (leading b) (behind b) ≡ b
-whole-again End = refl
 whole-again (Next (Set c e) rest) = ap (Next (Set c e)) (whole-again rest)
 whole-again (Next (Fold op c e) rest) = ap (Next (Fold op c e)) (whole-again rest)
-whole-again (Next (If e a b) rest) = refl
-whole-again (Next (Task d b) rest) = refl
-whole-again (Next (Wait w) rest) = refl
-whole-again (Next (Group op cs b) rest) = refl
+whole-again b = refl
 
 -- the region that begins a piece goes on as a whole
 whole-begun : (worker : ℕ) (lease : Lease) (r : Region) → r.running ≡ None → whole (begun worker lease r) ≡ awake (whole r)

@@ -14,11 +14,14 @@ abbrev pub numbers_in : List Region → List ℕ
 numbers_in [] = []
 numbers_in (r ∷ rs) = map (λ o. o.group) r.groups ++ numbers_in rs
 
--- copies are kept for each open group of a task and for no other, by its operation, of the cells that it names
+-- copies are kept by the operation of the open group, and of the cells that it names
+abbrev pub IsFor : Open → Summed → Type 0
+IsFor o g = (g.op ≡ o.op) × ((c : Cell) → names c g ≡ has_cell o.cells c)
+
+-- copies are kept for each open group of a task and for no other
 pub record AreOpen (rs : List Region) (gs : List Summed) : Type 0 where
   pub numbers : IsPermutation (map (λ g. g.group) gs) (numbers_in rs)
-  pub ops : (i : ℕ) (o : Open) (g : Summed) → Contains (at rs i).groups o → Contains gs g → g.group ≡ o.group → g.op ≡ o.op
-  pub cells : (i : ℕ) (o : Open) (g : Summed) → Contains (at rs i).groups o → Contains gs g → g.group ≡ o.group → (c : Cell) → names c g ≡ has_cell o.cells c
+  pub same : (i : ℕ) (o : Open) (g : Summed) → Contains (at rs i).groups o → Contains gs g → g.group ≡ o.group → IsFor o g
 
 -- the room is for the operation of the group that comes next, and names its cells; there is one where one comes next
 abbrev pub IsRoomFor : Option (Operation × List Cell) → Option (Operation × List Use) → Type 0

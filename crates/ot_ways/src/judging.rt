@@ -30,18 +30,10 @@ pub fn any_way(alloc: Global, order: Order, program: &Program) -> Result<Verdict
     }
 }
 
-ghost use Rattle.std.specs.Prelude.{◌≡◌, ◌<◌, ◌*◌, ◌^◌, ◌&&◌, true, false, nat_lt, nat_le, MatchOption};
+ghost use Rattle.std.specs.Prelude.{◌≡◌, ◌<◌, ◌*◌, ◌^◌, ◌&&◌, nat_lt, nat_le, MatchOption};
 ghost use Rattle.ot_model.specs.Counts.{size};
 ghost use Rattle.ot_ways.specs.Ways.{ways};
 ghost use Rattle.ot_ways.specs.Verdicts.{AreFew};
-
-/// Whether the ways through a program are so few that they are judged.
-pub fn has_few_ways(program: &Program) -> bool
-    ensures few { result ≡ true → AreFew (stmts_of program.now.body.items) }
-    ensures many { result ≡ false → AreFew (stmts_of program.now.body.items) → ⊥ }
-{
-    few_ways(&program.body).is_some()
-}
 
 /// The number of ways through a body, where they are judged.
 fn few_ways(body: &Vec<Stmt>) -> Option<u32>

@@ -9,5 +9,5 @@ mod naming;
 mod reads;
 mod verdict;
 
-pub use judging::{any_way, has_few_ways};
+pub use judging::any_way;
 pub use verdict::{Turn, Verdict};

@@ -8,14 +8,14 @@ use crate::table::look_up;
 use crate::word::IntegerType;
 
 #[derive(Clone, Copy)]
-pub(crate) enum Base {
+pub enum Base {
     Decimal,
     Hexadecimal,
 }
 
 /// What stands behind the digits of a number.
 #[derive(Clone, Copy)]
-pub(crate) enum Suffix {
+pub enum Suffix {
     Plain,
     Unsigned,
     Long,

@@ -16,14 +16,14 @@ use crate::word::IntegerType;
 
 /// What stands before a byte on its line: white space alone, also words, or words of a directive.
 #[derive(Clone, Copy)]
-pub(crate) enum Line {
+pub enum Line {
     Fresh,
     Inside,
     Directive,
 }
 
 #[derive(Clone, Copy)]
-pub(crate) enum Piece {
+pub enum Piece {
     /// White space, or a comment.
     Nothing,
     /// The end of a line.

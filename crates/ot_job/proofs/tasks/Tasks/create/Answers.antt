@@ -51,15 +51,12 @@ invariant_of-self-2 c =
 
 pub returns-in_err-make_room : goal.returns-in_err-make_room
 returns-in_err-make_room c =
-    let told = c.from_residual.result in
-    let err = c.from_residual.ensures.0 in
-    record { ordered = IfOk-from_err told _ err; executed = IfOk-from_err told _ err; refused = on_err_always told c.self.view_is }
+    let err = c.from_residual.ensures.0 in record { ordered = IfOk-from_err _ _ err; executed = IfOk-from_err _ _ err; refused = on_err_always _ c.self.view_is }
 
 pub returns-in_err-execute : goal.returns-in_err-execute
 returns-in_err-execute c =
-    let told = c.from_residual-in_err-execute.result in
     let err = c.from_residual-in_err-execute.ensures.0 in
-    record { ordered = IfOk-from_err told _ err; executed = IfOk-from_err told _ err; refused = on_err_always told (c.in_err-execute.ensures.refused ∙ c.self.view_is) }
+    record { ordered = IfOk-from_err _ _ err; executed = IfOk-from_err _ _ err; refused = on_err_always _ (c.in_err-execute.ensures.refused ∙ c.self.view_is) }
 
 pub returns-clause-executed : goal.returns-clause-executed
 returns-clause-executed c = c.in_ok-execute.ensures.executed ∙ ap (λ (l : List Region). executed c.args.taken c.args.group c.args.i l) c.self.view_is
