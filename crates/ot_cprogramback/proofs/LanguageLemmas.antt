@@ -1,6 +1,6 @@
 -- The arrays of a program of the language, as they are in C.
-use Rattle.std.proofs.Common.{◌≡◌, ◌≢◌, inl, inr, ℕ, zero, suc, ◌+◌, ◌<◌, ◌≤◌, ◌^◌, List, [], ◌∷◌, ◌++◌, length, map, Bool, true, false, not, ◌&&◌, ◌||◌, Some, None, refl, sym, ap, ◌∙◌, subst, arith, true≢false}
-use Rattle.std.specs.Prelude.{◌==◌, nat_le, nat_lt, if◌then◌else◌, slice_get, slice_index, option_map, unwrap_or, replicate, String}
+use Rattle.std.proofs.Common.{◌≡◌, ◌≢◌, inl, inr, ℕ, zero, suc, ◌+◌, ◌<◌, ◌≤◌, List, [], ◌∷◌, length, map, Bool, true, false, not, ◌&&◌, Some, refl, sym, ap, ◌∙◌, subst, arith, true≢false}
+use Rattle.std.specs.Prelude.{◌==◌, nat_le, nat_lt, if◌then◌else◌, slice_get, option_map, unwrap_or, String}
 use Rattle.std.specs.List.{list_all, position_or_len}
 use Rattle.std.specs.Str.{bytes_eq}
 use Rattle.std.specs.declared.alloc.Global.{Global}
@@ -25,8 +25,7 @@ use Rattle.ot_c.proofs.NameLemmas.{names_law}
 use Rattle.ot_cfileback.specs.Files.{names_of}
 use Rattle.ot_ctextback.specs.Fits.{LengthsFit}
 use Rattle.ot_ctextback.specs.Fits as texts
-use Rattle.ot_cdeclare.specs.Arrays.{Arr}
-use Rattle.ot_cprogramback.specs.Programs.{IsWord, IsApart, DeclarationFits, DeclarationsFit, IsDeclared, HasCell, begun}
+use Rattle.ot_cprogramback.specs.Programs.{IsWord, IsApart, DeclarationsFit, IsDeclared, HasCell, begun}
 use Rattle.ot_cprogramback.specs.Texts.{ArraysFit, begins}
 
 -- ---- names
@@ -168,8 +167,7 @@ module _ (p : Expanded) where
             → DeclarationsFit number words (if b then declared (name_in_c a.0, a.1) ns ∷ from (k + 1) arrays numbers else from (k + 1) arrays numbers)
         by true word rest =
             let few = few_numbers ns in
-            let most = fit.3 in
-            (
+            let most = fit.3 in (
               record {
                 free = are.free 0 (omega arith);
                 word = word (name_in_c a.0) (inl refl);

@@ -12,7 +12,7 @@ use Rattle.ot_model.specs.Tree.{S, Set, Fold, If, Task, Wait, Group, Body, End, 
 use Rattle.ot_model.specs.declared.expr.Cell.{Cell}
 use Rattle.ot_model.specs.declared.fold.Fold.{Fold as Operation}
 use Rattle.ot_model.specs.declared.stmt.Use.{Use}
-use Rattle.ot_print.specs.Shown.{Text, name}
+use Rattle.ot_print.specs.Shown.{Text}
 use Rattle.ot_c.specs.Arrays.{Declared, up_to_last}
 use Rattle.ot_c.specs.Clauses.{pointer}
 use Rattle.ot_c.specs.Statements.{each_once}
@@ -30,7 +30,7 @@ use Rattle.ot_cback.specs.Clauses.{Clause, all_clause_words, clauses}
 use Rattle.ot_cback.specs.Groups.{block, headed, pointer_words, all_pointer_words, grouped, combining}
 use Rattle.ot_cback.specs.Values.{words}
 use Rattle.ot_cback.specs.Numbering.{place}
-use Rattle.ot_cfileback.specs.Parts.{Part, Declares, Runs, part_words, all_part_words, initial_words, declaration_words, region_words}
+use Rattle.ot_cfileback.specs.Parts.{Part, Declares, Runs, all_part_words, initial_words, declaration_words, region_words}
 use Rattle.ot_clowerback.specs.Reductions.{Grouped}
 use Rattle.ot_cprogramback.specs.Programs.{IsWord, IsDeclared, pointers_in, pointers_of, IsAmong, pointer_to}
 use Rattle.ot_cprogramback.proofs.MeaningLemmas.{split_among}

@@ -1,6 +1,6 @@
 -- The text of a program becomes the program.
-use Rattle.std.proofs.Common.{◌≡◌, ℕ, suc, ◌+◌, ◌<◌, ◌≤◌, List, [], ◌∷◌, ◌++◌, length, map, true, Ok, Err, refl, sym, ap, ◌∙◌, subst, arith}
-use Rattle.std.specs.Prelude.{String, slice_get, unwrap_or, option_map}
+use Rattle.std.proofs.Common.{◌≡◌, ℕ, ◌+◌, ◌<◌, List, [], ◌∷◌, ◌++◌, length, map, true, Ok, Err, sym, ap, ◌∙◌, subst, arith}
+use Rattle.std.specs.Prelude.{String}
 use Rattle.std.specs.declared.alloc.Global.{Global}
 use Rattle.std.proofs.lemmas.List.{length-map}
 use Rattle.serde_json.specs.Data.{string}
@@ -15,25 +15,23 @@ use Rattle.ot_c.specs.Laws.{AreIdentifiers, normal}
 use Rattle.ot_c.specs.Named.{body_names, names as program_names}
 use Rattle.ot_c.specs.Programs.{declared_from, whole}
 use Rattle.ot_cnames.specs.Names.{name_in_c, own_name}
-use Rattle.ot_words.specs.Names.{known_of}
 use Rattle.ot_words.specs.declared.word.Word.{Word}
 use Rattle.ot_words.specs.Words.{Spoken, Read, texts, all_spoken, words_in, AreBelow}
 use Rattle.ot_words.specs.Words as spoken
 use Rattle.ot_cfile.specs.Files.{file_at}
 use Rattle.ot_cfile.specs.Program.{Whole}
-use Rattle.ot_cdeclare.specs.Arrays.{Arr}
 use Rattle.ot_clower.specs.Files.{reductions_of, lowered}
 use Rattle.ot_cback.specs.Numbering.{place}
 use Rattle.ot_cfileback.specs.Files.{names_of, parts, shown, return_words, main_words, file_words, file_tree}
 use Rattle.ot_cfileback.specs.Functions.{all_front_words}
-use Rattle.ot_cfileback.specs.Parts.{Runs, Marks, acts, all_part_words}
+use Rattle.ot_cfileback.specs.Parts.{Runs, Marks, all_part_words}
 use Rattle.ot_ctextback.specs.Fits as text
 use Rattle.ot_ctextback.specs.Laws.{TextHasWords, TextReadsAsFile, fronts}
 use Rattle.ot_clowerback.specs.Bodies.{AreFound}
 use Rattle.ot_clowerback.specs.Reductions.{Grouped}
 use Rattle.ot_clowerback.proofs.ValueLemmas.{or_right}
-use Rattle.ot_cprogramback.specs.Programs.{IsWord, DeclarationsFit, IsDeclared, begun, pointers_of, IsAmong, pointer_to, PointersFit, act_places, act_taking, BecomesProgram}
-use Rattle.ot_cprogramback.specs.Texts.{IsWritten, begins, TextBecomesProgram}
+use Rattle.ot_cprogramback.specs.Programs.{IsWord, IsDeclared, pointers_of, IsAmong, pointer_to, PointersFit, act_places, act_taking, BecomesProgram}
+use Rattle.ot_cprogramback.specs.Texts.{IsWritten, begins}
 use Rattle.ot_cprogramback.proofs.ApartLemmas.{pointers_fit, same_cells}
 use Rattle.ot_cprogramback.proofs.DeclarationLemmas.{free_known}
 use Rattle.ot_cprogramback.proofs.FileLemmas.{file_lowered}
@@ -81,7 +79,7 @@ module _ (has_words : TextHasWords) (reads : TextReadsAsFile) (shape : Arrays) (
       is_word names ws x below
       (ap (is_said x) same
       ∙ (back_says x (all_front_words (fronts p)) (main_words called (parts ds p))
-        (next_says x _ _ (next_says x _ _ (next_says x _ _ (next_says x _ _ (next_says x _ _ (next_says x _ _ (front_says x (all_part_words called (parts ds p)) return_words says)))))))).said)
+      (next_says x _ _ (next_says x _ _ (next_says x _ _ (next_says x _ _ (next_says x _ _ (next_says x _ _ (front_says x (all_part_words called (parts ds p)) return_words says)))))))).said)
 
   declared_word : (x : Text) → IsDeclared x ds → IsWord number names x
   declared_word x is = says_word x (declared_says called ds (Runs p.body ∷ Marks ∷ (shown p.shows ++ (Marks ∷ []))) x is (free_known x (free_from p 0 shape.arrays numbers x are is)))
@@ -136,5 +134,5 @@ module _ (has_words : TextHasWords) (reads : TextReadsAsFile) (shape : Arrays) (
         file,
         reads in_c numbers p fits written.readable written.low names starts ws names_are below read,
         subst (λ arrays. BecomesProgram shape (lowered names starts file) arrays (act_places starts file.main) (reductions_of (act_taking starts file.main)) (Next (Group Plus [] (normal [] p.body)) End)) (own_arrays p 0 shape.arrays numbers written.arrays)
-        (file_lowered number names starts called shape ds p (length return_words) (fits_from p number names 0 shape.arrays numbers written.arrays are declared_word) declared text_is found written.body written.reduces pointers (omega (arith, few, places))),
+            (file_lowered number names starts called shape ds p (length return_words) (fits_from p number names 0 shape.arrays numbers written.arrays are declared_word) declared text_is found written.body written.reduces pointers (omega (arith, few, places))),
       )

@@ -1,5 +1,5 @@
 -- What becomes of the text that is written in C of a program of the language.
-use Rattle.std.specs.Prelude.{◌≡◌, ℕ, ◌+◌, ◌-◌, ◌<◌, ◌≤◌, true, List, [], ◌∷◌, ◌++◌, length, map, replicate, Ok, String}
+use Rattle.std.specs.Prelude.{◌≡◌, ℕ, ◌-◌, ◌<◌, ◌≤◌, true, List, [], ◌∷◌, ◌++◌, length, map, replicate, Ok, String}
 use Rattle.std.specs.declared.alloc.Global.{Global}
 use Rattle.ot_model.specs.Counts.{size}
 use Rattle.ot_model.specs.Names.{IsInShape}
@@ -21,7 +21,7 @@ use Rattle.ot_cfile.specs.Program.{Whole}
 use Rattle.ot_cdeclare.specs.Arrays.{Arr}
 use Rattle.ot_clower.specs.Files.{reductions_of, lowered}
 use Rattle.ot_cback.specs.Bodies.{levels, BodyFits as IsReadable}
-use Rattle.ot_cfileback.specs.Files.{names_of, file_tree}
+use Rattle.ot_cfileback.specs.Files.{names_of}
 use Rattle.ot_ctextback.specs.Fits.{ShowsFit, BodyFits as IsWritable}
 use Rattle.ot_clowerback.specs.Bodies.{BodyFits}
 use Rattle.ot_clowerback.specs.Reductions.{Grouped, BodyReduces}
