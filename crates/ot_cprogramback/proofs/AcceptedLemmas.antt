@@ -1,13 +1,14 @@
 -- A body without an offence leaves the cells of groups to tasks that fold them.
-use Rattle.std.proofs.Common.{◌≡◌, ◌⊎◌, inl, inr, ℕ, List, [], ◌∷◌, ◌++◌, map, Bool, true, false, not, ◌||◌, ◌&&◌, if◌then◌else◌, Option, Some, None, refl, sym, ap, ◌∙◌, subst, arith, true≢false}
+use Rattle.std.proofs.Common.{◌≡◌, ◌⊎◌, inl, inr, List, [], ◌∷◌, ◌++◌, map, Bool, true, false, not, ◌||◌, ◌&&◌, if◌then◌else◌, Option, Some, None, refl, sym, ap, ◌∙◌, arith, true≢false}
 use Rattle.std.specs.List.{list_any}
 use Rattle.std.proofs.lemmas.Bool.Decides.{nat_tests}
+use Rattle.std.proofs.lemmas.List.Folds.{list_any_at}
 use Rattle.ot_model.specs.Cells.{same_cell, is_before}
+use Rattle.ot_model.specs.Signs.{folds}
 use Rattle.ot_model.specs.Tree.{E, Literal, CellAt, Apply, PickFrom, S, Set, Fold, If, Task, Wait, Group, Body, End, Next}
 use Rattle.ot_model.specs.Uses.{mode_in, is_fold, same_fold}
 use Rattle.ot_model.specs.Value.{cells_of, cells_named}
 use Rattle.ot_model.specs.declared.expr.Cell.{Cell}
-use Rattle.ot_model.specs.declared.expr.Section.{Section}
 use Rattle.ot_model.specs.declared.fold.Fold.{Fold as Operation}
 use Rattle.ot_model.specs.declared.fold.Fold.TheVariants as f
 use Rattle.ot_model.specs.declared.stmt.Mode.{Mode}
@@ -21,11 +22,10 @@ use Rattle.ot_c.specs.Statements.{is_mode, only_folds, put, put_all, each_once}
 use Rattle.ot_check.specs.Discipline.{Children, nothing_open, nobody, behind_one, with_group, IsClean, IsFineInside, IsFine, OffendsNowhere, marks, may_break}
 use Rattle.ot_check.proofs.FineLemmas.{disciplined-fine}
 use Rattle.ot_check.specs.Offences.{Openings, covers, allows, exceeds, opened_by_any, misfits, misfits_as, has_cell}
-use Rattle.ot_check.specs.Paths.{Mark, Touch}
+use Rattle.ot_check.specs.Paths.{Touch}
 use Rattle.ot_check.specs.declared.fault.Offence.{Offence}
 use Rattle.ot_check.specs.declared.fault.Offence.TheVariants.{NotDeclared, ChildBeyond, ReductionMisuse}
 use Rattle.ot_cback.specs.Bodies.{BodyFits as IsReadable, StatementFits as IsReadableOne}
-use Rattle.ot_clowerback.specs.Bodies.{StatementFits, BodyFits}
 use Rattle.ot_clowerback.specs.Reductions as reductions
 use Rattle.ot_clowerback.specs.Reductions.{Grouped, grouped_by, IsFree, AreFree, ReadsFree, IsGrouped, AreGrouped, StatementReduces, BodyReduces}
 
@@ -65,52 +65,13 @@ both_all P Q R (x ∷ xs) step one two = (step x one.0 two.0, both_all P Q R xs 
 
 opened_one : (opened : Openings) (op : Operation) (c : Cell) → opened op c ≡ true → opened_by_any opened c ≡ true
 unfolding opened_by_any
-opened_one opened f.Plus c is = rw is refl
-opened_one opened f.Times c is = rw is (or_true (opened f.Plus c))
-  where
-    or_true : (a : Bool) → (a || true) ≡ true
-    or_true true = refl
-    or_true false = refl
-opened_one opened f.And c is = rw is (or2 (opened f.Plus c) (opened f.Times c))
-  where
-    or2 : (a b : Bool) → (a || (b || true)) ≡ true
-    or2 true b = refl
-    or2 false true = refl
-    or2 false false = refl
-opened_one opened f.Or c is = rw is (or3 (opened f.Plus c) (opened f.Times c) (opened f.And c))
-  where
-    or3 : (a b d : Bool) → (a || (b || (d || true))) ≡ true
-    or3 true b d = refl
-    or3 false true d = refl
-    or3 false false true = refl
-    or3 false false false = refl
-opened_one opened f.Xor c is = rw is (or4 (opened f.Plus c) (opened f.Times c) (opened f.And c) (opened f.Or c))
-  where
-    or4 : (a b d e : Bool) → (a || (b || (d || (e || true)))) ≡ true
-    or4 true b d e = refl
-    or4 false true d e = refl
-    or4 false false true e = refl
-    or4 false false false true = refl
-    or4 false false false false = refl
-opened_one opened f.Min c is = rw is (or5 (opened f.Plus c) (opened f.Times c) (opened f.And c) (opened f.Or c) (opened f.Xor c))
-  where
-    or5 : (a b d e g : Bool) → (a || (b || (d || (e || (g || true))))) ≡ true
-    or5 true b d e g = refl
-    or5 false true d e g = refl
-    or5 false false true e g = refl
-    or5 false false false true g = refl
-    or5 false false false false true = refl
-    or5 false false false false false = refl
-opened_one opened f.Max c is = rw is (or6 (opened f.Plus c) (opened f.Times c) (opened f.And c) (opened f.Or c) (opened f.Xor c) (opened f.Min c))
-  where
-    or6 : (a b d e g h : Bool) → (a || (b || (d || (e || (g || (h || true)))))) ≡ true
-    or6 true b d e g h = refl
-    or6 false true d e g h = refl
-    or6 false false true e g h = refl
-    or6 false false false true g h = refl
-    or6 false false false false true h = refl
-    or6 false false false false false true = refl
-    or6 false false false false false false = refl
+opened_one opened f.Plus c is = list_any_at (λ o. opened o c) folds 0 f.Plus (omega arith) is
+opened_one opened f.Times c is = list_any_at (λ o. opened o c) folds 1 f.Plus (omega arith) is
+opened_one opened f.And c is = list_any_at (λ o. opened o c) folds 2 f.Plus (omega arith) is
+opened_one opened f.Or c is = list_any_at (λ o. opened o c) folds 3 f.Plus (omega arith) is
+opened_one opened f.Xor c is = list_any_at (λ o. opened o c) folds 4 f.Plus (omega arith) is
+opened_one opened f.Min c is = list_any_at (λ o. opened o c) folds 5 f.Plus (omega arith) is
+opened_one opened f.Max c is = list_any_at (λ o. opened o c) folds 6 f.Plus (omega arith) is
 
 -- ---- cells of groups around
 
@@ -276,8 +237,8 @@ module _ (gs : List Grouped) (own : Declared) (opened : Openings) (stands : Stan
   and_false false = refl
 
   none_allowed : (wanted : Mode) (us : List Use) (op : Operation) (c : Cell) → ((p : Operation) → covers (modes.Folds p) wanted ≡ false) → grouped_by gs c ≡ Some op → AllOf (λ u. misfits own opened u ≡ false) us → AllOf (λ u. exceeds own u ≡ false) us → allows (Some us) (use_as wanted c) ≡ false
-  none_allowed wanted [] op c folds is fit within = refl
-  none_allowed wanted (u ∷ us) op c folds is fit within = ap (λ b. b || allows (Some us) (use_as wanted c)) (by (same_cell u.cell c) refl u.mode fit.0 within.0) ∙ none_allowed wanted us op c folds is fit.1 within.1
+  none_allowed wanted [] op c uncovered is fit within = refl
+  none_allowed wanted (u ∷ us) op c uncovered is fit within = ap (λ b. b || allows (Some us) (use_as wanted c)) (by (same_cell u.cell c) refl u.mode fit.0 within.0) ∙ none_allowed wanted us op c uncovered is fit.1 within.1
     where
       never : (m : Mode) → u.cell ≡ c → opened_by_any opened u.cell ≡ false → ((allows own (use_as modes.Reads c) ≡ false) × (allows own (use_as modes.Writes c) ≡ false) → ⊥) → ⊥
       never m same closed none = cases (stands.kept op c is)
@@ -294,7 +255,7 @@ module _ (gs : List Grouped) (own : Declared) (opened : Openings) (stands : Stan
       by true same modes.Writes fit_one inside =
           let one = (cell-decides u.cell c).0 same in
           absurd (never modes.Writes one fit_one (λ both. true≢false (sym (not_false (allows own (use_as modes.Writes u.cell)) inside) ∙ ap (λ x. allows own (use_as modes.Writes x)) one ∙ both.1)))
-      by true same (modes.Folds p) fit_one inside = folds p
+      by true same (modes.Folds p) fit_one inside = uncovered p
 
   folded_grouped : (us : List Use) (op : Operation) (c : Cell) → AreGrouped gs us → folds_to (Some us) op c ≡ true → grouped_by gs c ≡ Some op
   folded_grouped [] op c all is = absurd (true≢false (sym is))
