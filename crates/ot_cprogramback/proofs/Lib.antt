@@ -4,3 +4,7 @@ mod PointerLemmas
 mod MeaningLemmas
 mod ApartLemmas
 mod FileLemmas
+mod SaidLemmas
+mod LanguageLemmas
+mod SizeLemmas
+mod TextLemmas

@@ -1,12 +1,18 @@
 //! Laws of what becomes of files that are written in C. Each is the contract of a function that does nothing.
 ghost use Rattle.ot_cprogramback.specs.Laws.{FileTreeIsLowered, FileWordsBecomeProgram};
+ghost use Rattle.ot_cprogramback.specs.Texts.{TextBecomesProgram};
 
-/// The tree of a file whose program reduces nothing becomes its arrays and its body, in a group over no cell.
+/// The tree of a file becomes its arrays and its body, in a group over no cell.
 pub fn file_tree_is_lowered()
     ensures { FileTreeIsLowered }
 {}
 
-/// The words of a file whose program reduces nothing become its arrays and its body, in a group over no cell.
+/// The words of a file become its arrays and its body, in a group over no cell.
 pub fn file_words_become_program()
     ensures { FileWordsBecomeProgram }
+{}
+
+/// The text of a program becomes its arrays, and the program.
+pub fn text_becomes_program()
+    ensures { TextBecomesProgram }
 {}
