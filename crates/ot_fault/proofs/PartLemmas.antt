@@ -101,11 +101,6 @@ indexed_told shape variables name index t0 t1 t2 t3 t4 named len at test named_i
 
 -- ---- cells and sections
 
-pub cell_whys-three : (shape : Arrays) (variables : Bindings) (xs : List Value) (t a b : Value) → length xs ≡ 3 → t ≡ get_or xs 0 t → a ≡ get_or xs 1 a → b ≡ get_or xs 2 b
-    → cell_whys shape variables (array (items_view xs))
-    ≡ unless (is_word (view t) (codes "c")) (Form (array (items_view xs)) wanted.Cell) ++ indexed_whys shape variables (view a) (view b)
-cell_whys-three shape variables xs t a b three p q r = rw (three_items xs t a b three p q r) refl
-
 le-capped : (n len : ℕ) → len < 2 ^ 32 → nat_le (min n (2 ^ 64 - 1)) len ≡ nat_le n len
 le-capped n len short = grind (arith, common_steps)
 
@@ -121,14 +116,6 @@ pub section_told : (shape : Arrays) (variables : Bindings) (a b c : Data) (t0 t1
 section_told shape variables a b c t0 t1 t2 t3 t4 t5 t6 t7 named len from count sum fits some named_is len_is short h from_is j count_is k sum_is fits_is l some_is m n o =
     let test : fits ≡ nat_le (from + count) len = fits_is ∙ ap (λ (s : ℕ). nat_le s len) sum_is ∙ le-capped (from + count) len short in
     rw (o, n, m, l, test, some_is, k, j, h, from_is, count_is, len_is, named_is) (simp after-append)
-
-pub section_whys-three : (shape : Arrays) (variables : Bindings) (xs : List Value) (a b c : Value) → length xs ≡ 3 → a ≡ get_or xs 0 a → b ≡ get_or xs 1 b → c ≡ get_or xs 2 c
-    → section_whys shape variables (array (items_view xs)) ≡ section_of_whys shape variables (view a) (view b) (view c)
-section_whys-three shape variables xs a b c three p q r = rw (three_items xs a b c three p q r) refl
-
-pub section_len-three : (shape : Arrays) (variables : Bindings) (xs : List Value) (a b c : Value) → length xs ≡ 3 → a ≡ get_or xs 0 a → b ≡ get_or xs 1 b → c ≡ get_or xs 2 c
-    → (section shape variables (array (items_view xs))).len ≡ size variables (view c)
-section_len-three shape variables xs a b c three p q r = rw (three_items xs a b c three p q r) refl
 
 -- ---- values
 
