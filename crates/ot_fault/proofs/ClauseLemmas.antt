@@ -1,17 +1,15 @@
 -- What is told of a clause, by how many items it has.
-use Rattle.std.proofs.Common.{◌≡◌, ◌≢◌, Bool, true, false, cond, List, [], ◌∷◌, ◌++◌, length, get_or, Some, None, true≢false, codes, refl, sym, arith}
+use Rattle.std.proofs.Common.{◌≡◌, ◌≢◌, true, false, List, [], ◌∷◌, length, refl, arith}
 use Rattle.serde_json.specs.Data.{Data, array, no_items, item}
-use Rattle.serde_json.specs.View.{view, items_view}
+use Rattle.serde_json.specs.View.{items_view}
 use Rattle.serde_json.specs.declared.value.Value.{Value}
 use Rattle.ot_model.specs.Shapes.{Arrays}
 use Rattle.ot_program.specs.Meanings.{Bindings, size, section, clause, wait_clause}
-use Rattle.ot_program.specs.Names.{is_word}
-use Rattle.ot_program.specs.Profiles.{is_two, profile_of}
+use Rattle.ot_program.specs.Profiles.{is_two}
 use Rattle.ot_place.specs.Texts.{Profile}
 use Rattle.ot_fault.specs.Why.{Form}
-use Rattle.ot_fault.specs.Whys.{unless, is_mode, red_whys, clause_whys, section_whys}
+use Rattle.ot_fault.specs.Whys.{clause_whys}
 use Rattle.ot_fault.specs.declared.why.Wanted.TheVariants as wanted
-use Rattle.ot_fault.proofs.AfterLemmas.{two_items, three_items}
 
 -- which section a clause of three items has depends on the profile
 pub section-three : (shape : Arrays) (profile : Profile) (variables : Bindings) (t op a : Data) → is_two profile ≡ true

@@ -1,18 +1,16 @@
 -- What a program is refused for is what is told of its first fault.
-use Rattle.std.proofs.Common.{◌≡◌, ℕ, zero, suc, ◌+◌, ◌-◌, ◌^◌, ◌<◌, Bool, true, false, cond, ◌&&◌, List, [], ◌∷◌, ◌++◌, map, length, Option, Some, None, codes, refl, sym, ap, ◌∙◌, append_assoc, arith, inl, inr}
+use Rattle.std.proofs.Common.{◌≡◌, ℕ, ◌^◌, ◌<◌, Bool, true, false, cond, List, [], ◌∷◌, ◌++◌, map, length, Option, Some, None, refl, sym, ap, ◌∙◌, append_assoc, arith, inl, inr}
 use Rattle.std.specs.Prelude.{nat_lt, nat_le, option_map, fold}
 use Rattle.std.specs.Option.{option_or}
 use Rattle.std.proofs.lemmas.Bool.{cases_lt, leb-true}
 use Rattle.std.proofs.lemmas.List.{map-append}
-use Rattle.serde_json.specs.Data.{Data, array, Items, no_items, item}
+use Rattle.serde_json.specs.Data.{Data, array, no_items, item}
 use Rattle.ot_model.specs.Programs.{Expanded}
 use Rattle.ot_model.specs.Shapes.{Arrays}
-use Rattle.ot_program.specs.Copies.{Text, SetText, AddText, FoldText, IfText, ForText, Turn, TaskText, WaitText, WaitForText, GroupText, GroupByText, ProgramText, NoForm as NoFormText, Placed, Copy, Copies, Done, at, turns, copies, copies_of, copy, in_copy, in_order}
+use Rattle.ot_program.specs.Copies.{Placed, in_copy}
 use Rattle.ot_program.specs.Faults as told
 use Rattle.ot_program.specs.Limits.{max_statements, max_turns, max_nodes, max_cells, Tally, total}
-use Rattle.ot_program.specs.Meanings.{letters, Bindings, size}
-use Rattle.ot_program.specs.Names.{is_word}
-use Rattle.ot_program.specs.Profiles.{is_one, is_two, profile_of}
+use Rattle.ot_program.specs.Profiles.{profile_of}
 use Rattle.ot_program.specs.Programs.{foremost, faults_behind, told as refusal_told, told_or, program_copy, program_in, program_of}
 use Rattle.ot_program.specs.Refusals.{rank, least}
 use Rattle.ot_program.specs.declared.fault.Refusal.{Refusal}
@@ -22,10 +20,9 @@ use Rattle.ot_place.specs.Spots.{program_spots}
 use Rattle.ot_place.specs.Texts.{Profile}
 use Rattle.ot_fault.specs.Counting.{counts_of, past_limits}
 use Rattle.ot_fault.specs.Entries.{mixed_whys, whys_behind, first_behind, first_among, first_fault}
-use Rattle.ot_fault.specs.Laws.{HasProfile, refused}
-use Rattle.ot_fault.specs.Why.{Why, TooMany, long, short, refusal_of, earlier, after, TooManyTasks as ManyTasks}
-use Rattle.ot_fault.specs.Whys.{unless, text_whys}
-use Rattle.ot_fault.specs.declared.why.Count.TheVariants.{Statements, Turns, Nodes, Cells}
+use Rattle.ot_fault.specs.Laws.{refused}
+use Rattle.ot_fault.specs.Why.{Why, long, short, refusal_of, earlier, after}
+use Rattle.ot_fault.specs.Whys.{text_whys}
 use Rattle.ot_fault.proofs.FirstLemmas.{placed_of, program_placed, none_among}
 use Rattle.ot_fault.proofs.RefusalLemmas.{Are, unless_is, text_is}
 

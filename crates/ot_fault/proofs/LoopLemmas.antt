@@ -4,14 +4,13 @@ use Rattle.std.proofs.Math.Seq.{drop-cons}
 use Rattle.std.proofs.lemmas.List.{drop_all}
 use Rattle.std.proofs.lemmas.List.Sums.{sum_by-cons}
 use Rattle.std.specs.Prelude.{flat_map}
-use Rattle.serde_json.specs.Data.{Data, Items, array}
+use Rattle.serde_json.specs.Data.{Data}
 use Rattle.serde_json.specs.View.{view, items_view}
 use Rattle.serde_json.specs.declared.value.Value.{Value, the_lemmas, Array as JsonArray}
 use Rattle.ot_model.specs.declared.expr.Section.{Section}
 use Rattle.ot_program.specs.Limits.{cells_in}
 use Rattle.ot_program.specs.Meanings.{items, each, Clause}
 use Rattle.ot_fault.specs.Why.{Why, after, long}
-use Rattle.ot_fault.specs.Whys.{no_list, list_whys}
 use Rattle.ot_fault.proofs.AfterLemmas.{after-append}
 
 each-next : (vs : List Value) (i : ℕ) (v : Value) → i < length vs → v ≡ get_or vs i v

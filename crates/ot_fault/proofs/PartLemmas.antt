@@ -1,5 +1,5 @@
 -- What is told of a part, from what is told of its parts one after the other.
-use Rattle.std.proofs.Common.{◌≡◌, ℕ, ◌+◌, ◌-◌, ◌^◌, ◌<◌, min, Bool, true, false, cond, ◌||◌, nat_lt, nat_le, List, [], ◌∷◌, ◌++◌, length, get_or, drop, Option, Some, None, codes, refl, sym, ap, ◌∙◌, arith}
+use Rattle.std.proofs.Common.{◌≡◌, ℕ, ◌+◌, ◌-◌, ◌^◌, ◌<◌, min, Bool, true, false, cond, ◌||◌, nat_lt, nat_le, List, [], ◌∷◌, ◌++◌, length, get_or, drop, Option, Some, None, codes, refl, ap, ◌∙◌, arith}
 use Rattle.std.proofs.Math.Seq.{drop-cons}
 use Rattle.std.proofs.lemmas.Grind.{common_steps}
 use Rattle.std.specs.Prelude.{find, is_some, unwrap_or, option_map, bytes_eq, string_bytes, not, ◌==◌}
@@ -14,12 +14,12 @@ use Rattle.ot_model.specs.declared.expr.Op.{Op}
 use Rattle.ot_model.specs.declared.expr.Op.TheVariants.{Plus}
 use Rattle.ot_model.specs.declared.shape.ArrayShape.{ArrayShape}
 use Rattle.ot_program.specs.Limits.{size_depth}
-use Rattle.ot_program.specs.Meanings.{Bindings, letters, bound, sign_of, in_range, exact, size, is_called, length_of, op_of, indexed, section, value}
+use Rattle.ot_program.specs.Meanings.{Bindings, letters, bound, sign_of, in_range, exact, size, length_of, op_of, indexed, section, value}
 use Rattle.ot_program.specs.Names.{whole_number, is_word}
 use Rattle.ot_fault.specs.Why.{Why, Form, TooGreat, NotExact, Unknown, NoCell, NoCells, Empty, after}
-use Rattle.ot_fault.specs.Whys.{unless, name_whys, variable_whys, size_whys, deep, array_whys, indexed_whys, cell_whys, section_of_whys, section_whys, value_whys}
+use Rattle.ot_fault.specs.Whys.{unless, name_whys, variable_whys, size_whys, deep, array_whys, indexed_whys, section_of_whys, section_whys, value_whys}
 use Rattle.ot_fault.specs.declared.why.Wanted.TheVariants as wanted
-use Rattle.ot_fault.proofs.AfterLemmas.{told_two, after-append, three_items}
+use Rattle.ot_fault.proofs.AfterLemmas.{after-append, three_items}
 
 -- ---- sizes
 

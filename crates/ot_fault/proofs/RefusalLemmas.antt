@@ -1,6 +1,6 @@
 -- The faults of parts, each with what is compared, have the refusals that `ot_program`'s faults of these parts are.
-use Rattle.std.proofs.Common.{◌≡◌, ℕ, ◌+◌, Bool, true, false, cond, ◌&&◌, ◌||◌, List, [], ◌∷◌, ◌++◌, map, Option, Some, None, Bor, codes, refl, sym, ap, ◌∙◌, append_assoc, append-nil, arith, if◌then◌else◌}
-use Rattle.std.specs.Prelude.{◌==◌, not, nat_lt, nat_le, flat_map, is_some, option_map, find, unwrap_or}
+use Rattle.std.proofs.Common.{◌≡◌, ℕ, Bool, true, false, cond, ◌&&◌, ◌||◌, List, [], ◌∷◌, ◌++◌, map, Option, Some, None, Bor, codes, refl, sym, ap, ◌∙◌, append_assoc, append-nil, arith, if◌then◌else◌}
+use Rattle.std.specs.Prelude.{not, flat_map, is_some, option_map, find}
 use Rattle.std.specs.Option.{option_to_list}
 use Rattle.std.specs.List.{list_any}
 use Rattle.std.proofs.Math.Bool.{or_assoc, or-false}
@@ -9,18 +9,15 @@ use Rattle.serde_json.specs.Data.{Data, Items, number, string, array, no_items, 
 use Rattle.serde_json.specs.View.{view}
 use Rattle.serde_json.specs.declared.value.Value.{Value}
 use Rattle.ot_model.specs.Shapes.{Arrays}
-use Rattle.ot_model.specs.declared.expr.Op.TheVariants.{Plus}
 use Rattle.ot_model.specs.declared.fold.Fold.{Fold}
-use Rattle.ot_model.specs.declared.fold.Fold.TheVariants as by
 use Rattle.ot_model.specs.declared.stmt.Mode.{Mode}
-use Rattle.ot_model.specs.declared.stmt.Mode.TheVariants.{Reads, Writes, Folds}
+use Rattle.ot_model.specs.declared.stmt.Mode.TheVariants.{Folds}
 use Rattle.ot_model.specs.declared.expr.Cell.{Cell}
 use Rattle.ot_program.specs.Copies.{Text, SetText, AddText, FoldText, IfText, ForText, Turn, TaskText, WaitText, WaitForText, GroupText, GroupByText, ProgramText, NoForm as NoStatementForm}
 use Rattle.ot_program.specs.Declarations.{named_cells, is_mixed}
 use Rattle.ot_program.specs.Faults as told
 use Rattle.ot_program.specs.Faults.{size_faults, value_faults}
-use Rattle.ot_program.specs.Limits.{max_nesting, max_depth, size_depth, depth_of}
-use Rattle.ot_program.specs.Meanings.{items, letters, Bindings, bound, sign_of, in_range, exact, size, is_called, length_of, op_of, fold_of, value, mode_of, red_of, red_by, clause}
+use Rattle.ot_program.specs.Meanings.{items, Bindings, fold_of, mode_of, red_of, red_by, clause}
 use Rattle.ot_program.specs.Names.{whole_number, is_name, is_word}
 use Rattle.ot_program.specs.Profiles.{is_one, is_two}
 use Rattle.ot_program.specs.declared.fault.Refusal.{Refusal}
@@ -30,10 +27,9 @@ use Rattle.ot_place.specs.declared.text.Text.{Text as CodeText}
 use Rattle.ot_place.specs.declared.text.Text.TheVariants as t
 use Rattle.ot_mixed.specs.Mixed.{first_mixed, named, mixed_of, faults_of}
 use Rattle.ot_fault.specs.Entries.{mixed_why, mixed_whys}
-use Rattle.ot_fault.specs.Why.{Why, Form as NoForm, Unbound, TooGreat, NotExact, Unknown, NoCell, NoCells, Empty, Nested, Deep, refusal_of, short, long}
+use Rattle.ot_fault.specs.Why.{Why, Form as NoForm, refusal_of}
 use Rattle.ot_fault.specs.declared.why.Wanted.TheVariants as wanted
-use Rattle.ot_fault.specs.Whys.{unless, no_list, list_whys, deep, name_whys, variable_whys, size_whys, array_whys, indexed_whys, cell_whys, section_of_whys, section_whys, value_whys, expression_whys, target_whys, fold_whys, is_depend, is_mode, red_whys, clause_whys, wait_clause_whys, nested, group_whys, text_whys}
-use Rattle.ot_fault.specs.Laws.{HasProfile}
+use Rattle.ot_fault.specs.Whys.{unless, no_list, list_whys, name_whys, variable_whys, size_whys, array_whys, indexed_whys, cell_whys, section_whys, value_whys, expression_whys, target_whys, is_mode, clause_whys, wait_clause_whys, nested, group_whys, text_whys}
 
 -- they have these refusals
 abbrev pub Are : List Why → List Refusal → Type 0
