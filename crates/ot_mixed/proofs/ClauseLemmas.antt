@@ -1,5 +1,5 @@
 -- A clause without a fault: its section is there, and by what it folds.
-use Rattle.std.proofs.Common.{◌≡◌, ◌≢◌, ℕ, zero, suc, ◌+◌, ◌*◌, ◌^◌, ◌<◌, ◌≤◌, Bool, true, false, cond, ◌||◌, min, List, [], ◌∷◌, ◌++◌, length, get_or, Option, Some, None, codes, true≢false, refl, sym, ap, ◌∙◌, arith}
+use Rattle.std.proofs.Common.{◌≡◌, ◌≢◌, ℕ, zero, suc, ◌+◌, ◌*◌, ◌^◌, ◌<◌, ◌≤◌, Bool, true, false, cond, ◌||◌, min, List, [], ◌∷◌, ◌++◌, length, get_or, Option, Some, None, codes, refl, sym, ap, ◌∙◌, arith}
 use Rattle.std.specs.Prelude.{◌==◌, not, nat_le, find, slice_get, bytes_eq, is_some, option_map, unwrap_or}
 use Rattle.std.specs.List.{list_any, position_or_len}
 use Rattle.std.proofs.lemmas.Bool.{leb-true}
@@ -10,14 +10,12 @@ use Rattle.serde_json.specs.declared.value.Value.{Value}
 use Rattle.ot_model.specs.Shapes.{Arrays}
 use Rattle.ot_model.specs.declared.fold.Fold.{Fold}
 use Rattle.ot_model.specs.declared.fold.Fold.TheVariants as by
-use Rattle.ot_model.specs.declared.stmt.Mode.{Mode}
-use Rattle.ot_model.specs.declared.stmt.Mode.TheVariants.{Reads, Writes, Folds}
+use Rattle.ot_model.specs.declared.stmt.Mode.TheVariants.{Reads, Folds}
 use Rattle.ot_program.specs.Declarations.{operation_in}
 use Rattle.ot_program.specs.Faults.{unless, deep, array_faults, size_faults, section_faults, clause_faults}
 use Rattle.ot_program.specs.Limits.{size_depth}
-use Rattle.ot_program.specs.Meanings.{letters, Bindings, size, is_called, position_of, length_of, section, fold_of, mode_of, red_of, red_by, clause}
+use Rattle.ot_program.specs.Meanings.{letters, Bindings, size, is_called, position_of, length_of, section, fold_of, mode_of, red_by, clause}
 use Rattle.ot_program.specs.Names.{is_word}
-use Rattle.ot_program.specs.Profiles.{profile_of}
 use Rattle.ot_program.specs.declared.fault.Refusal.{Refusal}
 use Rattle.ot_program.specs.declared.fault.Refusal.TheVariants.{Form, UnknownArray, OutOfRange, EmptySection}
 use Rattle.ot_place.specs.Texts.{Profile}
@@ -29,11 +27,11 @@ pub no_fault : (b : Bool) (c : Refusal) → unless b c ≡ [] → b ≡ true
 no_fault true c h = refl
 no_fault false c h = absurd cc
 
-pub none_first : (xs ys : List Refusal) → xs ++ ys ≡ [] → xs ≡ []
+pub none_first : {A : Type 0} (xs ys : List A) → xs ++ ys ≡ [] → xs ≡ []
 none_first [] ys h = refl
 none_first (x ∷ xs) ys h = absurd cc
 
-pub none_second : (xs ys : List Refusal) → xs ++ ys ≡ [] → ys ≡ []
+pub none_second : {A : Type 0} (xs ys : List A) → xs ++ ys ≡ [] → ys ≡ []
 none_second [] ys h = h
 none_second (x ∷ xs) ys h = absurd cc
 
