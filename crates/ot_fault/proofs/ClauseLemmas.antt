@@ -36,7 +36,5 @@ no_clause_len shape profile variables (a ∷ b ∷ c ∷ d ∷ ds) other more = 
 
 pub wait_clause_section-other : (shape : Arrays) (variables : Bindings) (xs : List Value) → length xs ≢ 2
     → (wait_clause shape variables (array (items_view xs))).section ≡ section shape variables (array (items_view xs))
-wait_clause_section-other shape variables [] other = refl
-wait_clause_section-other shape variables (a ∷ []) other = refl
 wait_clause_section-other shape variables (a ∷ b ∷ []) other = absurd (other refl)
-wait_clause_section-other shape variables (a ∷ b ∷ c ∷ ds) other = refl
+wait_clause_section-other shape variables _ other = refl

@@ -19,7 +19,8 @@ use Rattle.ot_program.specs.Names.{whole_number, is_word}
 use Rattle.ot_fault.specs.Why.{Why, Form, TooGreat, NotExact, Unknown, NoCell, NoCells, Empty, after}
 use Rattle.ot_fault.specs.Whys.{unless, name_whys, variable_whys, size_whys, deep, array_whys, indexed_whys, section_of_whys, section_whys, value_whys}
 use Rattle.ot_fault.specs.declared.why.Wanted.TheVariants as wanted
-use Rattle.ot_fault.proofs.AfterLemmas.{after-append, three_items}
+use Rattle.ot_mixed.proofs.ClauseLemmas.{three_items}
+use Rattle.ot_fault.proofs.AfterLemmas.{after-append}
 
 -- ---- sizes
 

@@ -25,6 +25,7 @@ use Rattle.ot_program.specs.declared.fault.Refusal.TheVariants.{Form, MixedReduc
 use Rattle.ot_place.specs.Texts.{Profile, text_by}
 use Rattle.ot_place.specs.declared.text.Text.{Text as CodeText}
 use Rattle.ot_place.specs.declared.text.Text.TheVariants as t
+use Rattle.ot_mixed.proofs.ClauseLemmas.{none_first, none_second}
 use Rattle.ot_mixed.specs.Mixed.{first_mixed, named, mixed_of, faults_of}
 use Rattle.ot_fault.specs.Entries.{mixed_why, mixed_whys}
 use Rattle.ot_fault.specs.Why.{Why, Form as NoForm, refusal_of}
@@ -181,14 +182,6 @@ module _ (shape : Arrays) (level : ℕ) (variables : Bindings) where
   text_is (GroupByText op a b) = simp (group_is a b, unless_is, map-append, append-nil)
   text_is (ProgramText a b) = simp (group_is a b, append-nil)
   text_is NoStatementForm = refl
-
-none_first : (vs ws : List Why) → vs ++ ws ≡ [] → vs ≡ []
-none_first [] ws h = refl
-none_first (v ∷ vs) ws h = absurd cc
-
-none_second : (vs ws : List Why) → vs ++ ws ≡ [] → ws ≡ []
-none_second [] ws h = h
-none_second (v ∷ vs) ws h = absurd cc
 
 -- the clauses of a task without a fault have none
 pub task_faultless : (shape : Arrays) (profile : Profile) (level : ℕ) (variables : Bindings) (text : CodeText) (a b : Bor Value)

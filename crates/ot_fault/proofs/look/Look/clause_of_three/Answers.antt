@@ -6,7 +6,8 @@ use Rattle.ot_program.specs.Profiles.{is_two}
 use Rattle.ot_fault.specs.Why.{after}
 use Rattle.ot_fault.specs.Whys.{clause_whys}
 use Rattle.ot_fault.specs.First.{told_by, shape_by, variables_by}
-use Rattle.ot_fault.proofs.AfterLemmas.{after-append, three_items}
+use Rattle.ot_mixed.proofs.ClauseLemmas.{three_items}
+use Rattle.ot_fault.proofs.AfterLemmas.{after-append}
 use Rattle.ot_fault.proofs.ClauseLemmas.{section-three, len-three}
 use Rattle.ot_fault.proofs.look.Look.clause_of_three.Goals as goal
 
