@@ -2,7 +2,7 @@
 use Rattle.std.proofs.Common.{◌≡◌, ℕ, ◌^◌, ◌<◌, Bool, true, false, cond, List, [], ◌∷◌, ◌++◌, map, length, Option, Some, None, refl, sym, ap, ◌∙◌, append_assoc, arith, inl, inr}
 use Rattle.std.specs.Prelude.{nat_lt, nat_le, option_map, fold}
 use Rattle.std.specs.Option.{option_or}
-use Rattle.std.proofs.lemmas.Bool.{cases_lt, leb-true}
+use Rattle.std.proofs.lemmas.Bool.{cases_lt, lt-leb}
 use Rattle.std.proofs.lemmas.List.{map-append}
 use Rattle.serde_json.specs.Data.{Data, array, no_items, item}
 use Rattle.ot_model.specs.Programs.{Expanded}
@@ -28,17 +28,10 @@ use Rattle.ot_fault.proofs.RefusalLemmas.{Are, unless_is, text_is}
 
 -- ---- counts past their limits
 
-not_le : (a b : ℕ) → b < a → nat_le a b ≡ false
-not_le a b h = by (nat_le a b) refl
-  where
-    by : (t : Bool) → nat_le a b ≡ t → t ≡ false
-    by true is = absurd (let l = leb-true a b is in omega (arith, l, h))
-    by false is = refl
-
 le-long : (n max : ℕ) → max < 2 ^ 32 → nat_le (long n) max ≡ nat_le n max
 le-long n max small =
     elim (cases_lt max n) [
-      | inl past ↦ not_le (long n) max (omega (arith, past, small)) ∙ sym (not_le n max past)
+      | inl past ↦ lt-leb (long n) max (omega (arith, past, small)) ∙ sym (lt-leb n max past)
       | inr within ↦ let e : long n ≡ n = omega (arith, within, small) in ap (λ (m : ℕ). nat_le m max) e
     ]
 
