@@ -21,7 +21,7 @@ use Rattle.ot_print.proofs.SectionLemmas.{come_back}
 use Rattle.ot_print.proofs.ClauseLemmas.{same_uses}
 use Rattle.ot_c.specs.Clauses.{short, listed, iterations, dependences, pointer_word, pointer, pointed, reduction, folded, declared}
 use Rattle.ot_c.specs.Laws.{all_identifier, AreIdentifiers, UsesFit, DeclarationIsDetermined}
-use Rattle.ot_c.proofs.WordLemmas.{starts, split, all_digits, only_digits, number_word, word_append, same_number, name_word, same_array}
+use Rattle.ot_c.proofs.WordLemmas.{starts, split, all_digits, only_digits, number_word, word_append, same_number, name_word, same_array, one_cell}
 use Rattle.ot_c.proofs.OrderLemmas.{long, AreSorted, sorted_in, by_parts}
 use Rattle.ot_c.proofs.DependenceLemmas.{quiet, all_quiet, word_quiet, quiet_append, number_quiet, name_quiet, keep, keep_copying, kind_text, cells_text, listed_cells, SectionFits, SectionsFit, one_iterated, all_iterated, short_fit, long_fit, cells_fit, sections_fit, small_in, cells_are_small, deps_are, cells_quiet, listed_shown, iterated_rest, iterated_shown, keep_deps, Outside}
 
@@ -316,13 +316,6 @@ cells_shown names w c cs t = parts w (name names c.array) (decimal c.index) (cel
   where
     parts : (w x d y t : Text) → ((w ++ (x ++ (91 ∷ []) ++ d ++ (93 ∷ []))) ++ y) ++ t ≡ w ++ (x ++ (91 ∷ (d ++ (93 ∷ (y ++ t)))))
     parts w x d y t = simp append_assoc refl
-
-pub one_cell : (names : List Text) → AreIdentifiers names → (c d : Cell) (t u : Text) → c.array < length names → c.index < 2 ^ 64 → d.array < length names → d.index < 2 ^ 64
-    → name names c.array ++ (91 ∷ (decimal c.index ++ (93 ∷ t))) ≡ name names d.array ++ (91 ∷ (decimal d.index ++ (93 ∷ u))) → (c ≡ d) × (t ≡ u)
-one_cell names are c d t u hc ic hd id is =
-    let arrays = same_array names are c.array d.array (91 ∷ (decimal c.index ++ (93 ∷ t))) (91 ∷ (decimal d.index ++ (93 ∷ u))) hc hd refl refl is in
-    let places = same_number c.index d.index (93 ∷ t) (93 ∷ u) ic id refl refl (ap tail_of arrays.1) in
-    (same_cell c d arrays.0 places.0, ap tail_of places.1)
 
 first_cells : (names : List Text) → AreIdentifiers names → (w : Text) (c d : Cell) (cs ds : List Cell) (t u : Text) → CellsFit names (c ∷ cs) → CellsFit names (d ∷ ds) → cells_text names w (c ∷ cs) ++ t ≡ cells_text names w (d ∷ ds) ++ u
     → (c ≡ d) × (cells_text names (codes ", ") cs ++ t ≡ cells_text names (codes ", ") ds ++ u)

@@ -19,9 +19,8 @@ use Rattle.ot_c.specs.Statements.{line, deeper, block, body}
 use Rattle.ot_c.specs.Values.{constant}
 use Rattle.ot_c.specs.declared.named.Call.TheVariants as call
 use Rattle.ot_c.proofs.NameLemmas.{is_one}
-use Rattle.ot_c.proofs.WordLemmas.{starts, split, same_number, name_word}
+use Rattle.ot_c.proofs.WordLemmas.{starts, split, same_number, name_word, one_cell}
 use Rattle.ot_c.proofs.ValueLemmas.{same_literal, constant_is}
-use Rattle.ot_c.proofs.ClauseLemmas.{one_cell}
 use Rattle.ot_c.proofs.WriteLemmas.{apart}
 use Rattle.ot_c.proofs.StatementLemmas.{same_blocks}
 

@@ -4,9 +4,11 @@ use Rattle.std.specs.Prelude.{decimal}
 use Rattle.std.proofs.lemmas.Bool.Decides.{nat_tests}
 use Rattle.std.proofs.lemmas.Fmt.{decimal_by_steps, decimal_injective}
 use Rattle.std.proofs.Common.{◌+◌, ◌%◌}
+use Rattle.ot_model.specs.declared.expr.Cell.{Cell}
 use Rattle.ot_print.specs.Shown.{Text, name}
 use Rattle.ot_print.specs.Laws.{is_digit}
 use Rattle.ot_print.proofs.WordLemmas.{and_true, or_false, head_of, tail_of, digits_are}
+use Rattle.ot_print.proofs.ValueLemmas.{same_cell}
 use Rattle.ot_c.specs.Laws.{in_identifier, all_identifier, is_identifier, AreIdentifiers}
 use Rattle.ot_c.proofs.NameLemmas.{all_words}
 
@@ -108,3 +110,11 @@ pub same_array : (names : List Text) → AreIdentifiers names → (i j : ℕ) (t
 same_array names are i j t u hi hj ht hu is =
     let both = split (name names i) (name names j) t u (name_word (name names i) (are.each i hi)) (name_word (name names j) (are.each j hj)) ht hu is in
     (are.differ i j hi hj both.0, both.1)
+
+-- a cell behind its array and its place
+pub one_cell : (names : List Text) → AreIdentifiers names → (c d : Cell) (t u : Text) → c.array < length names → c.index < 2 ^ 64 → d.array < length names → d.index < 2 ^ 64
+    → name names c.array ++ (91 ∷ (decimal c.index ++ (93 ∷ t))) ≡ name names d.array ++ (91 ∷ (decimal d.index ++ (93 ∷ u))) → (c ≡ d) × (t ≡ u)
+one_cell names are c d t u hc ic hd id is =
+    let arrays = same_array names are c.array d.array (91 ∷ (decimal c.index ++ (93 ∷ t))) (91 ∷ (decimal d.index ++ (93 ∷ u))) hc hd refl refl is in
+    let places = same_number c.index d.index (93 ∷ t) (93 ∷ u) ic id refl refl (ap tail_of arrays.1) in
+    (same_cell c d arrays.0 places.0, ap tail_of places.1)

@@ -20,9 +20,9 @@ use Rattle.ot_c.specs.Laws.{in_identifier, AreIdentifiers, normal_fold}
 use Rattle.ot_c.specs.Statements.{only_folds, fold}
 use Rattle.ot_c.specs.Values.{value}
 use Rattle.ot_c.proofs.NameLemmas.{name_of, names_law}
-use Rattle.ot_c.proofs.WordLemmas.{starts}
+use Rattle.ot_c.proofs.WordLemmas.{starts, one_cell}
 use Rattle.ot_c.proofs.ValueLemmas.{determined}
-use Rattle.ot_c.proofs.ClauseLemmas.{one_cell, same_pointer}
+use Rattle.ot_c.proofs.ClauseLemmas.{same_pointer}
 
 -- ---- pointers are no arrays
 
