@@ -1,6 +1,7 @@
 -- In C, dependences by the cells that are listed and by the sections that have an iterator; a line's reductions alone.
-use Rattle.std.proofs.Common.{◌≡◌, ℕ, zero, suc, ◌+◌, ◌<◌, ◌^◌, ◌==◌, List, [], ◌∷◌, ◌++◌, length, Bool, true, false, not, ◌&&◌, if◌then◌else◌, refl, sym, ap, ◌∙◌, append_assoc, arith, true≢false}
+use Rattle.std.proofs.Common.{◌≡◌, ℕ, zero, suc, ◌+◌, ◌<◌, ◌^◌, ◌==◌, List, [], ◌∷◌, ◌++◌, length, Bool, true, false, not, ◌&&◌, if◌then◌else◌, refl, sym, ap, subst, ◌∙◌, append_assoc, arith}
 use Rattle.std.specs.Prelude.{codes, decimal}
+use Rattle.std.proofs.lemmas.Bool.{not-true}
 use Rattle.std.proofs.lemmas.Bool.Decides.{nat_tests}
 use Rattle.ot_model.specs.declared.expr.Cell.{Cell}
 use Rattle.ot_model.specs.declared.expr.Section.{Section}
@@ -65,14 +66,10 @@ keep One (b ∷ t) = if b == 40 then keep Two t else (if b == 41 then keep Outsi
 keep Two (b ∷ t) = if b == 41 then keep One t else keep Two t
 keep Copying (b ∷ t) = b ∷ (if b == 41 then keep Outside t else keep Copying t)
 
-pub not_true : (b : Bool) → not b ≡ true → b ≡ false
-not_true true h = absurd (true≢false (sym h))
-not_true false h = refl
-
 pub no_bracket : (b : ℕ) → quiet b ≡ true → ((b == 40) ≡ false) × ((b == 41) ≡ false)
 no_bracket b h =
     let both = and_true (not (b == 40)) (not (b == 41)) (and_true (not (b == 40) && not (b == 41)) (not (b == 10)) h).0 in
-    (not_true (b == 40) both.0, not_true (b == 41) both.1)
+    (not-true (b == 40) both.0, not-true (b == 41) both.1)
 
 pub keep_one : (x t : Text) → all_quiet x ≡ true → keep One (x ++ t) ≡ keep One t
 keep_one [] t h = refl
@@ -163,21 +160,19 @@ iterations_are names k (s ∷ ss) = at_once (is_long s) refl (iterations_are nam
 
 -- ---- what fits
 
-pub short_fit : (names : List Text) (ss : List Section) → SectionsFit names ss → SectionsFit names (short ss)
-short_fit names [] fit = tt
-short_fit names (s ∷ ss) fit = at_once (is_long s) refl (short_fit names ss fit.1)
+parts_fit : (names : List Text) (ss : List Section) → SectionsFit names ss → SectionsFit names (short ss) × SectionsFit names (long ss)
+parts_fit names [] fit = (tt, tt)
+parts_fit names (s ∷ ss) fit = at_once (is_long s) refl (parts_fit names ss fit.1)
   where
-    at_once : (b : Bool) → is_long s ≡ b → SectionsFit names (short ss) → SectionsFit names (short (s ∷ ss))
-    at_once true h rest = rw h rest
-    at_once false h rest = rw h (fit.0, rest)
+    at_once : (b : Bool) → is_long s ≡ b → SectionsFit names (short ss) × SectionsFit names (long ss) → SectionsFit names (short (s ∷ ss)) × SectionsFit names (long (s ∷ ss))
+    at_once true h rest = rw h (rest.0, (fit.0, rest.1))
+    at_once false h rest = rw h ((fit.0, rest.0), rest.1)
+
+pub short_fit : (names : List Text) (ss : List Section) → SectionsFit names ss → SectionsFit names (short ss)
+short_fit names ss fit = (parts_fit names ss fit).0
 
 pub long_fit : (names : List Text) (ss : List Section) → SectionsFit names ss → SectionsFit names (long ss)
-long_fit names [] fit = tt
-long_fit names (s ∷ ss) fit = at_once (is_long s) refl (long_fit names ss fit.1)
-  where
-    at_once : (b : Bool) → is_long s ≡ b → SectionsFit names (long ss) → SectionsFit names (long (s ∷ ss))
-    at_once true h rest = rw h (fit.0, rest)
-    at_once false h rest = rw h rest
+long_fit names ss fit = (parts_fit names ss fit).1
 
 pub fit_append : (names : List Text) (xs ys : List Cell) → CellsFit names xs → CellsFit names ys → CellsFit names (xs ++ ys)
 fit_append names [] ys p q = q
@@ -231,6 +226,28 @@ deps_are names k us mode fit =
     ap (λ t. t ++ iterations names (codes " depend(iterator(at = ") (kind_text k) ss) (listed_is names k (short ss) (short_fit names ss ok))
     ∙ ap (λ t. listed_cells names k (cells_of (short ss)) ++ t) (iterations_are names k ss)
 
+-- what holds of clauses, each alone and side by side
+pub record HoldOfClauses (names : List Text) (P : Text → Type 0) : Type 0 where
+  pub none : P []
+  pub both : (x y : Text) → P x → P y → P (x ++ y)
+  pub list : (k : Bool) (c : Cell) (cs : List Cell) → CellsFit names (c ∷ cs) → P (listed_cells names k (c ∷ cs))
+  pub iterator : (k : Bool) (s : Section) → SectionFits names s → P (one_iterated names k s)
+
+-- holds of a mode's dependences
+pub in_deps : (names : List Text) (P : Text → Type 0) → HoldOfClauses names P → (k : Bool) (us : List Use) (mode : Mode) → UsesFit names us → P (dependences names (kind_text k) us mode)
+in_deps names P h k us mode fit =
+    let ss = sections_of (cells_in us mode) in
+    let ok = sections_fit names (cells_in us mode) (small_in names us mode fit) in
+    subst P (sym (deps_are names k us mode fit)) (h.both (listed_cells names k (cells_of (short ss))) (all_iterated names k (long ss)) (lists (cells_of (short ss)) (cells_fit names (short ss) (short_fit names ss ok))) (iterators (long ss) (long_fit names ss ok)))
+  where
+    lists : (cs : List Cell) → CellsFit names cs → P (listed_cells names k cs)
+    lists [] f = h.none
+    lists (c ∷ cs) f = h.list k c cs f
+
+    iterators : (ss : List Section) → SectionsFit names ss → P (all_iterated names k ss)
+    iterators [] f = h.none
+    iterators (s ∷ ss) f = h.both (one_iterated names k s) (all_iterated names k ss) (h.iterator k s f.0) (iterators ss f.1)
+
 -- ---- no dependence is kept
 
 pub item_quiet : (names : List Text) → AreIdentifiers names → (w : Text) (c : Cell) → all_quiet w ≡ true → c.array < length names → c.index < 2 ^ 64 → all_quiet (item names w c.array c.index) ≡ true
@@ -280,16 +297,13 @@ keep_iterated names are k s t fit =
     ∙ keep_one (kind_text k) behind_kind (kind_quiet k)
     ∙ keep_one (name names s.array) behind_name (name_quiet names are s.array fit.0)
 
-pub keep_all_iterated : (names : List Text) → AreIdentifiers names → (k : Bool) (ss : List Section) (t : Text) → SectionsFit names ss → keep Outside (all_iterated names k ss ++ t) ≡ keep Outside t
-keep_all_iterated names are k [] t fit = refl
-keep_all_iterated names are k (s ∷ ss) t fit =
-    ap (keep Outside) (append_assoc (one_iterated names k s) (all_iterated names k ss) t) ∙ keep_iterated names are k s (all_iterated names k ss ++ t) fit.0 ∙ keep_all_iterated names are k ss t fit.1
-
 pub keep_deps : (names : List Text) → AreIdentifiers names → (k : Bool) (us : List Use) (mode : Mode) (t : Text) → UsesFit names us → keep Outside (dependences names (kind_text k) us mode ++ t) ≡ keep Outside t
-keep_deps names are k us mode t fit =
-    let ss = sections_of (cells_in us mode) in
-    let ok = sections_fit names (cells_in us mode) (small_in names us mode fit) in
-    let one = listed_cells names k (cells_of (short ss)) in
-    let two = all_iterated names k (long ss) in
-    ap (λ x. keep Outside (x ++ t)) (deps_are names k us mode fit) ∙ ap (keep Outside) (append_assoc one two t)
-    ∙ keep_listed names are k (cells_of (short ss)) (two ++ t) (cells_fit names (short ss) (short_fit names ss ok)) ∙ keep_all_iterated names are k (long ss) t (long_fit names ss ok)
+keep_deps names are k us mode t fit = in_deps names (λ x. (t : Text) → keep Outside (x ++ t) ≡ keep Outside t) holds k us mode fit t
+  where
+    holds : HoldOfClauses names (λ x. (t : Text) → keep Outside (x ++ t) ≡ keep Outside t)
+    holds = record {
+      none = λ t. refl;
+      both = λ x y p q t. ap (keep Outside) (append_assoc x y t) ∙ p (y ++ t) ∙ q t;
+      list = λ k c cs f t. keep_listed names are k (c ∷ cs) t f;
+      iterator = λ k s f t. keep_iterated names are k s t f;
+    }

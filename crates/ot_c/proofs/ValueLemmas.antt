@@ -1,6 +1,7 @@
 -- In C, a value's text determines the value.
 use Rattle.std.proofs.Common.{◌≡◌, ℕ, ◌<◌, ◌^◌, ◌==◌, List, [], ◌∷◌, ◌++◌, Bool, true, false, not, if◌then◌else◌, refl, sym, ap, ◌∙◌, append_assoc, arith, true≢false}
 use Rattle.std.specs.Prelude.{codes, decimal, nat_lt}
+use Rattle.std.proofs.lemmas.Bool.{not-true}
 use Rattle.std.proofs.lemmas.Bool.Decides.{nat_tests}
 use Rattle.std.proofs.lemmas.List.{append_cancel_left}
 use Rattle.ot_model.specs.declared.expr.Cell.{Cell}
@@ -153,10 +154,6 @@ inside_word (b ∷ bs) t h = rw ((and_true (in_identifier b) (all_identifier bs)
 no_bracket : (b : ℕ) → in_identifier b ≡ true → (b == 40) ≡ false
 no_bracket b h = grind (arith, nat_tests)
 
-not_true : (b : Bool) → not b ≡ true → b ≡ false
-not_true true h = absurd (true≢false (sym h))
-not_true false h = refl
-
 neither : (d e : Bool) (x y : ℕ) → d ≡ false → e ≡ false → (if d then 0 else (if e then y else x)) ≡ x
 neither d e x y p q = rw (p, q) refl
 
@@ -164,7 +161,7 @@ kind_name : (w t : Text) → is_identifier w ≡ true → kind (w ++ (91 ∷ t))
 kind_name [] t h = absurd (true≢false (sym h))
 kind_name (b ∷ bs) t h =
     let both = and_true (not (is_digit b)) (all_identifier (b ∷ bs)) h in
-    let no_digit = not_true (is_digit b) both.0 in
+    let no_digit = not-true (is_digit b) both.0 in
     let no_open = no_bracket b (and_true (in_identifier b) (all_identifier bs) both.1).0 in
     neither (is_digit b) (b == 40) (behind (b ∷ (bs ++ (91 ∷ t)))) (inside (bs ++ (91 ∷ t))) no_digit no_open ∙ behind_word (b ∷ bs) t both.1
 
@@ -405,17 +402,17 @@ same_value names are false false a b h k by inner one two r s hr hs is =
     by b r s two (no_start r hr) (no_start s hs) (ap (λ t. t ++ r) (plain_operand names a h) ∙ is ∙ sym (ap (λ t. t ++ s) (plain_operand names b k)))
 same_value names are false true a (Apply op x y) h k by inner one two r s hr hs is =
     let right = sign op ++ (operand names y ++ s) in
-    let front = blank op (operand names y ++ s) (not_true (is_call op) k) in
+    let front = blank op (operand names y ++ s) (not-true (is_call op) k) in
     let both = same_left names are a beside x y r right by one two.0 (no_start r hr) (blank_stops right front)
-    (ap (λ t. t ++ r) (sym (as_left names a) ∙ plain_operand names a h) ∙ is ∙ infix_shown names op x y s (not_true (is_call op) k)) in
+    (ap (λ t. t ++ r) (sym (as_left names a) ∙ plain_operand names a h) ∙ is ∙ infix_shown names op x y s (not-true (is_call op) k)) in
     absurd (blank_goes r (ap head_of both.1 ∙ front) hr)
 same_value names are true false (Apply op x y) b h k by inner one two r s hr hs is =
     let left = sign op ++ (operand names y ++ r) in
-    let front = blank op (operand names y ++ r) (not_true (is_call op) h) in
+    let front = blank op (operand names y ++ r) (not-true (is_call op) h) in
     let both = same_left names are x y b beside left s inner.0.operand one.0 two (blank_stops left front) (no_start s hs)
-    (sym (infix_shown names op x y r (not_true (is_call op) h)) ∙ is ∙ ap (λ t. t ++ s) (sym (plain_operand names b k) ∙ as_left names b)) in
+    (sym (infix_shown names op x y r (not-true (is_call op) h)) ∙ is ∙ ap (λ t. t ++ s) (sym (plain_operand names b k) ∙ as_left names b)) in
     absurd (blank_goes s (sym (ap head_of both.1) ∙ front) hs)
-same_value names are true true (Apply op a b) (Apply other x y) h k by inner one two r s hr hs is = same_infix names are op other a b x y (not_true (is_call op) h) (not_true (is_call other) k) inner one two r s hr hs is
+same_value names are true true (Apply op a b) (Apply other x y) h k by inner one two r s hr hs is = same_infix names are op other a b x y (not-true (is_call op) h) (not-true (is_call other) k) inner one two r s hr hs is
 same_value names are _ _ _ _ h k by inner one two r s hr hs is = absurd (cc)
 
 of_inner : (names : List Text) → AreIdentifiers names → (a : E) → Fits names a → Inner names a → Determined names a
