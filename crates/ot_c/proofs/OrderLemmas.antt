@@ -1,5 +1,6 @@
 -- Cells in order are determined by their short and their long sections.
 use Rattle.std.proofs.Common.{◌≡◌, List, [], ◌∷◌, ◌++◌, Bool, true, false, ◌||◌, if◌then◌else◌, refl, sym, ap, ◌∙◌, arith, true≢false}
+use Rattle.std.proofs.Math.Bool.{or_assoc}
 use Rattle.std.proofs.lemmas.Bool.Decides.{nat_tests}
 use Rattle.ot_model.specs.Cells.{same_cell, is_before}
 use Rattle.ot_model.specs.Uses.{Precedes, AreInOrder, same_mode}
@@ -17,10 +18,6 @@ use Rattle.ot_c.specs.Clauses.{is_long, short}
 abbrev pub has : Cell → List Cell → Bool
 has c [] = false
 has c (d ∷ ds) = same_cell c d || has c ds
-
-or_assoc : (a b c : Bool) → ((a || b) || c) ≡ (a || (b || c))
-or_assoc true b c = refl
-or_assoc false b c = refl
 
 or_swap : (a b c : Bool) → (a || (b || c)) ≡ (b || (a || c))
 or_swap true true c = refl

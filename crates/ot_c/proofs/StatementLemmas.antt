@@ -13,24 +13,21 @@ use Rattle.ot_model.specs.Tree.{E, CellAt, S, Set, Fold, If, Task, Wait, Group, 
 use Rattle.ot_print.specs.Shown.{Text, name, cell}
 use Rattle.ot_print.specs.Laws.{Fits, CellsFit}
 use Rattle.ot_print.proofs.WordLemmas.{and_true, head_of, tail_of}
-use Rattle.ot_model.specs.declared.expr.Section.{Section}
-use Rattle.ot_model.specs.declared.stmt.Mode.{Mode}
-use Rattle.ot_model.specs.declared.stmt.Mode.TheVariants as m
-use Rattle.ot_print.specs.Sections.{cells_in, sections_of}
 use Rattle.ot_cnames.specs.Names.{name_in_c}
-use Rattle.ot_c.specs.Clauses.{is_long, short, listed, iterations, dependences, declared, pointer, reduction}
+use Rattle.ot_c.specs.Clauses.{declared, pointer, reduction}
 use Rattle.ot_c.specs.Laws.{in_identifier, all_identifier, is_identifier, AreIdentifiers, normal_fold, is_nothing, normal_statement, normal, UsesFit, StatementFits, BodyFits, BodyIsDetermined, CalledFoldIsWrittenAsSet}
 use Rattle.ot_c.specs.Statements.{fold, deeper, block, otherwise, put, put_all, each_once, pointers, statement, body}
 use Rattle.ot_c.specs.Values.{value}
 use Rattle.ot_c.proofs.WordLemmas.{name_word}
-use Rattle.ot_c.proofs.ClauseLemmas.{all_folded, operations, declared_shown, same_line, declared_line, pointer_is_word, declaration_law}
+use Rattle.ot_c.proofs.DependenceLemmas.{HoldOfClauses}
+use Rattle.ot_c.proofs.ClauseLemmas.{in_declared, same_line, declared_line, pointer_is_word, declaration_law}
 use Rattle.ot_c.proofs.WriteLemmas.{AreApart, apart, Write, of_plain, of_own, of_call, set_write, fold_write, same_write, same_pointers, same_value, other_called}
 
 -- ---- groups: cells in order, each once
 
-abbrev is_some : List Cell → Bool
+abbrev is_some : {A : Type 0} → List A → Bool
 is_some [] = false
-is_some (c ∷ cs) = true
+is_some (x ∷ xs) = true
 
 put_some : (ds : List Cell) (c : Cell) → is_some (put ds c) ≡ true
 put_some [] c = refl
@@ -118,11 +115,7 @@ word_behind (b ∷ bs) t h = rw ((and_true (in_identifier b) (all_identifier bs)
 no_sign : (b : ℕ) → in_identifier b ≡ true → ((b == 35) ≡ false) × ((b == 123) ≡ false)
 no_sign b h = (grind (arith, nat_tests), grind (arith, nat_tests))
 
-abbrev some_word : Text → Bool
-some_word [] = false
-some_word (b ∷ bs) = true
-
-write_kind : (w t : Text) → all_identifier w ≡ true → some_word w ≡ true → kind_of (w ++ (91 ∷ t)) ≡ 0
+write_kind : (w t : Text) → all_identifier w ≡ true → is_some w ≡ true → kind_of (w ++ (91 ∷ t)) ≡ 0
 unfolding kind_of
 write_kind [] t h k = absurd (true≢false (sym k))
 write_kind (b ∷ bs) t h k =
@@ -134,44 +127,16 @@ abbrev calm : Text → Bool
 calm [] = false
 calm (b ∷ t) = b == 32 || b == 10
 
-calm_listed : (names : List Text) (k : Text) (ss : List Section) (t : Text) → calm t ≡ true → calm (listed names (codes " depend(") k ss ++ t) ≡ true
-calm_listed names k [] t h = h
-calm_listed names k (s ∷ ss) t h = refl
-
-calm_iterations : (names : List Text) (k : Text) (ss : List Section) (t : Text) → calm t ≡ true → calm (iterations names (codes " depend(iterator(at = ") k ss ++ t) ≡ true
-calm_iterations names k [] t h = h
-calm_iterations names k (s ∷ ss) t h = at_once (is_long s) refl (calm_iterations names k ss t h)
+calm_declared : (names : List Text) (us : List Use) (t : Text) → UsesFit names us → calm (declared names us ++ (10 ∷ t)) ≡ true
+calm_declared names us t fit = in_declared names (λ x. (t : Text) → calm t ≡ true → calm (x ++ t) ≡ true) holds (λ op c cs f t h. refl) us fit (10 ∷ t) refl
   where
-    at_once : (b : Bool) → is_long s ≡ b → calm (iterations names (codes " depend(iterator(at = ") k ss ++ t) ≡ true → calm (iterations names (codes " depend(iterator(at = ") k (s ∷ ss) ++ t) ≡ true
-    at_once true g rest = rw g refl
-    at_once false g rest = rw g rest
-
-calm_deps : (names : List Text) (k : Text) (us : List Use) (mode : Mode) (t : Text) → calm t ≡ true → calm (dependences names k us mode ++ t) ≡ true
-calm_deps names k us mode t h =
-    let ss = sections_of (cells_in us mode) in
-    let one = listed names (codes " depend(") k (short ss) in
-    let two = iterations names (codes " depend(iterator(at = ") k ss in
-    ap calm (append_assoc one two t) ∙ calm_listed names k (short ss) (two ++ t) (calm_iterations names k ss t h)
-
-calm_reduction : (names : List Text) (op : Operation) (cs : List Cell) (t : Text) → calm t ≡ true → calm (reduction names (codes " in_reduction(") op cs ++ t) ≡ true
-calm_reduction names op [] t h = h
-calm_reduction names op (c ∷ cs) t h = refl
-
-calm_folded : (names : List Text) (us : List Use) (ops : List Operation) (t : Text) → calm t ≡ true → calm (all_folded names us ops ++ t) ≡ true
-calm_folded names us [] t h = h
-calm_folded names us (op ∷ ops) t h =
-    let one = dependences names (codes "in") us (m.Folds op) in
-    let two = reduction names (codes " in_reduction(") op (cells_in us (m.Folds op)) in
-    let rest = all_folded names us ops in
-    ap calm (append_assoc (one ++ two) rest t ∙ append_assoc one two (rest ++ t)) ∙ calm_deps names (codes "in") us (m.Folds op) (two ++ (rest ++ t)) (calm_reduction names op (cells_in us (m.Folds op)) (rest ++ t) (calm_folded names us ops t h))
-
-calm_declared : (names : List Text) (us : List Use) (t : Text) → calm (declared names us ++ (10 ∷ t)) ≡ true
-calm_declared names us t =
-    let one = dependences names (codes "in") us m.Reads in
-    let two = dependences names (codes "out") us m.Writes in
-    let rest = all_folded names us operations in
-    ap (λ x. calm (x ++ (10 ∷ t))) (declared_shown names us) ∙ ap calm (append_assoc (one ++ two) rest (10 ∷ t) ∙ append_assoc one two (rest ++ (10 ∷ t)))
-    ∙ calm_deps names (codes "in") us m.Reads (two ++ (rest ++ (10 ∷ t))) (calm_deps names (codes "out") us m.Writes (rest ++ (10 ∷ t)) (calm_folded names us operations (10 ∷ t) refl))
+    holds : HoldOfClauses names (λ x. (t : Text) → calm t ≡ true → calm (x ++ t) ≡ true)
+    holds = record {
+      none = λ t h. h;
+      both = λ x y p q t h. ap calm (append_assoc x y t) ∙ p (y ++ t) (q t h);
+      list = λ k c cs f t h. refl;
+      iterator = λ k s f t h. refl;
+    }
 
 no_letter : (b : ℕ) → (b == 32 || b == 10) ≡ true → ((b == 119) ≡ false) × ((b == 103) ≡ false)
 no_letter b h = (grind (arith, nat_tests), grind (arith, nat_tests))
@@ -246,21 +211,20 @@ number (Task us b) = 2
 number (Wait w) = 3
 number (Group op cs b) = group_number cs
 
-some_name : (w : Text) → is_identifier w ≡ true → some_word w ≡ true
+group_above : (cs : List Cell) → 3 < group_number cs
+group_above [] = omega arith
+group_above (c ∷ cs) = omega arith
+
+some_name : (w : Text) → is_identifier w ≡ true → is_some w ≡ true
 some_name [] h = h
 some_name (b ∷ bs) h = refl
 
 cell_kind : (names : List Text) → AreIdentifiers names → (c : Cell) (t : Text) → Fits names (CellAt c) → kind_of (name names c.array ++ (91 ∷ t)) ≡ 0
 cell_kind names are c t fit = write_kind (name names c.array) t (name_word (name names c.array) (are.each c.array fit.0)) (some_name (name names c.array) (are.each c.array fit.0))
 
-some_pointer : (names : List Text) (op : Operation) (c : Cell) → some_word (pointer names op c) ≡ true
+some_pointer : (names : List Text) (op : Operation) (c : Cell) → is_some (pointer names op c) ≡ true
 some_pointer names f.Plus c = refl
-some_pointer names f.Times c = refl
-some_pointer names f.And c = refl
-some_pointer names f.Or c = refl
-some_pointer names f.Xor c = refl
-some_pointer names f.Min c = refl
-some_pointer names f.Max c = refl
+some_pointer names _ c = refl
 
 pointer_kind : (names : List Text) → AreIdentifiers names → (op : Operation) (c : Cell) (t : Text) → Fits names (CellAt c) → kind_of (pointer names op c ++ (91 ∷ t)) ≡ 0
 pointer_kind names are op c t fit = write_kind (pointer names op c) t (pointer_is_word names are op c fit.0 fit.1) (some_pointer names op c)
@@ -274,7 +238,7 @@ kinds : (names : List Text) → AreIdentifiers names → (margin : Text) (own : 
 kinds names are margin own (Set c e) r fit = of_write names are (Set c e) (λ t. (cell names c ++ codes " = " ++ value names e ++ codes ";\n") ++ t) r (set_write names c e fit.0 fit.1)
 kinds names are margin own (Fold op c e) r fit = of_write names are (normal_fold own op c e) (λ t. fold names own op c e ++ t) r (fold_write names own op c e fit.0 fit.1)
 kinds names are margin own (If e a b) r fit = if_kind (if_rest names margin own e a b r)
-kinds names are margin own (Task us b) r fit = calm_task (task_rest names margin us b r) (calm_declared names us (margin ++ (123 ∷ 10 ∷ (body names (deeper margin) us b ++ (margin ++ (125 ∷ 10 ∷ r))))))
+kinds names are margin own (Task us b) r fit = calm_task (task_rest names margin us b r) (calm_declared names us (block_rest names margin us b r) fit.1)
 kinds names are margin own (Wait w) r fit = wait_kind (declared names (uses_of w) ++ (10 ∷ r))
 kinds names are margin own (Group op [] b) r fit = group_kind (10 ∷ block_rest names margin own b r)
 kinds names are margin own (Group op (c ∷ cs) b) r fit = block_kind (10 ∷ group_rest names margin own op (each_once (c ∷ cs)) b r)
@@ -387,10 +351,7 @@ record SameLines (op other : Operation) (cs ds : List Cell) (t u : Text) : Type 
 
 same_pointer_lines : (names : List Text) → AreIdentifiers names → (margin : Text) (op other : Operation) (cs ds : List Cell) (t u : Text) → CellsFit names cs → CellsFit names ds
     → pointers names margin op cs ++ (margin ++ (35 ∷ t)) ≡ pointers names margin other ds ++ (margin ++ (35 ∷ u)) → SameLines op other cs ds t u
-same_pointer_lines names are margin op other [] [] t u fc fd is = record { cells = refl; rest = ap tail_of (append_cancel_left margin (35 ∷ t) (35 ∷ u) is); ops = λ h. absurd (none h) }
-  where
-    none : is_some [] ≡ true → ⊥
-    none h = true≢false (sym h)
+same_pointer_lines names are margin op other [] [] t u fc fd is = record { cells = refl; rest = ap tail_of (append_cancel_left margin (35 ∷ t) (35 ∷ u) is); ops = λ h. absurd (true≢false (sym h)) }
 same_pointer_lines names are margin op other [] (d ∷ ds) t u fc fd is =
     let line = codes "uint64_t *" ++ (pointer names other d ++ (32 ∷ 61 ∷ 32 ∷ 38 ∷ (cell names d ++ (59 ∷ 10 ∷ (pointers names margin other ds ++ (margin ++ (35 ∷ u))))))) in
     absurd (omega (arith, ap head_of (append_cancel_left margin (35 ∷ t) line (is ∙ pointer_line names margin other d ds (margin ++ (35 ∷ u))))))
@@ -436,11 +397,10 @@ both_groups : (names : List Text) → AreIdentifiers names → (op : Operation) 
 both_groups names are op [] a other [] b f_cs by fit k own margin r u is =
     let both = same_block names a b by fit.1 own margin r u (ap tail_of (append_cancel_left (codes "#pragma omp taskgroup") (10 ∷ block_rest names margin own a r) (10 ∷ block_rest names margin own b u) is)) in
     (ap (Group f.Plus []) both.0, both.1)
-both_groups names are op [] a other (d ∷ ds) b f_cs by fit k own margin r u is = absurd (omega (arith, k))
-both_groups names are op (c ∷ cs) a other [] b f_cs by fit k own margin r u is = absurd (omega (arith, k))
 both_groups names are op (c ∷ cs) a other (d ∷ ds) b f_cs by fit k own margin r u is =
     same_group names are op other (each_once (c ∷ cs)) (each_once (d ∷ ds)) a b (some_once c cs) (once_fit names (c ∷ cs) f_cs) (once_fit names (d ∷ ds) fit.0) by fit.1 own margin r u
     (tails (group_rest names margin own op (each_once (c ∷ cs)) a r) (group_rest names margin own other (each_once (d ∷ ds)) b u) 123 10 123 10 is)
+both_groups names are op _ a other _ b f_cs by fit k own margin r u is = absurd (omega (arith, k))
 
 -- ---- a statement beside any other
 
@@ -448,51 +408,11 @@ both_groups names are op (c ∷ cs) a other (d ∷ ds) b f_cs by fit k own margi
 write_of : (names : List Text) (own : List Use) (s : S) → number s ≡ 0 → StatementFits names s → (margin : Text) → Write names (normal_statement own s) (after names margin own s)
 write_of names own (Set c e) h fit margin = set_write names c e fit.0 fit.1
 write_of names own (Fold op c e) h fit margin = fold_write names own op c e fit.0 fit.1
-write_of names own (If e a b) h fit margin = absurd (omega (arith, h))
-write_of names own (Task us b) h fit margin = absurd (omega (arith, h))
-write_of names own (Wait w) h fit margin = absurd (omega (arith, h))
-write_of names own (Group op [] b) h fit margin = absurd (omega (arith, h))
-write_of names own (Group op (c ∷ cs) b) h fit margin = absurd (omega (arith, h))
+write_of names own _ h fit margin = absurd (omega (arith, h, group_above))
 
 both_writes : (names : List Text) → AreApart names → (s t : S) → number s ≡ 0 → number t ≡ 0 → StatementFits names s → StatementFits names t → IsAfter names s t
 both_writes names are s t h k f_s f_t own margin r u is =
     same_write names are (normal_statement own s) (normal_statement own t) (after names margin own s) (after names margin own t) r u (write_of names own s h f_s margin) (write_of names own t k f_t margin) is
-
-group_some : (cs : List Cell) (n : ℕ) → n < 4 → group_number cs ≡ n → ⊥
-group_some [] n small h = omega (arith, h, small)
-group_some (c ∷ cs) n small h = omega (arith, h, small)
-
-if_beside : (names : List Text) → AreIdentifiers names → (d : E) (a b : Body) → Fits names d → IsByBody names a → IsByBody names b → (t : S) → 1 ≡ number t → StatementFits names t → IsAfter names (If d a b) t
-if_beside names are d a b fd by_a by_b (If e x y) k fit = both_if names are d a b e x y fd by_a by_b fit
-if_beside names are d a b fd by_a by_b (Set c e) k fit = absurd (omega (arith, k))
-if_beside names are d a b fd by_a by_b (Fold op c e) k fit = absurd (omega (arith, k))
-if_beside names are d a b fd by_a by_b (Task us x) k fit = absurd (omega (arith, k))
-if_beside names are d a b fd by_a by_b (Wait w) k fit = absurd (omega (arith, k))
-if_beside names are d a b fd by_a by_b (Group op cs x) k fit = absurd (group_some cs 1 (omega arith) (sym k))
-
-task_beside : (names : List Text) → AreIdentifiers names → (us : List Use) (a : Body) → AreInOrder us → UsesFit names us → IsByBody names a → (t : S) → 2 ≡ number t → StatementFits names t → IsAfter names (Task us a) t
-task_beside names are us a order f_us by (Task vs b) k fit = both_tasks names are us a vs b order f_us by fit
-task_beside names are us a order f_us by (Set c e) k fit = absurd (omega (arith, k))
-task_beside names are us a order f_us by (Fold op c e) k fit = absurd (omega (arith, k))
-task_beside names are us a order f_us by (If e x y) k fit = absurd (omega (arith, k))
-task_beside names are us a order f_us by (Wait w) k fit = absurd (omega (arith, k))
-task_beside names are us a order f_us by (Group op cs x) k fit = absurd (group_some cs 2 (omega arith) (sym k))
-
-wait_beside : (names : List Text) → AreIdentifiers names → (v : Option (List Use)) → is_nothing (Wait v) ≡ false → StatementFits names (Wait v) → (t : S) → is_nothing t ≡ false → 3 ≡ number t → StatementFits names t → IsAfter names (Wait v) t
-wait_beside names are v h f_v (Wait w) g k fit = both_waits names are v w h g f_v fit
-wait_beside names are v h f_v (Set c e) g k fit = absurd (omega (arith, k))
-wait_beside names are v h f_v (Fold op c e) g k fit = absurd (omega (arith, k))
-wait_beside names are v h f_v (If e x y) g k fit = absurd (omega (arith, k))
-wait_beside names are v h f_v (Task us x) g k fit = absurd (omega (arith, k))
-wait_beside names are v h f_v (Group op cs x) g k fit = absurd (group_some cs 3 (omega arith) (sym k))
-
-group_beside : (names : List Text) → AreIdentifiers names → (op : Operation) (cs : List Cell) (a : Body) → CellsFit names cs → IsByBody names a → (t : S) → group_number cs ≡ number t → StatementFits names t → IsAfter names (Group op cs a) t
-group_beside names are op cs a f_cs by (Group other ds b) k fit = both_groups names are op cs a other ds b f_cs by fit k
-group_beside names are op cs a f_cs by (Set c e) k fit = absurd (group_some cs 0 (omega arith) k)
-group_beside names are op cs a f_cs by (Fold p c e) k fit = absurd (group_some cs 0 (omega arith) k)
-group_beside names are op cs a f_cs by (If e x y) k fit = absurd (group_some cs 1 (omega arith) k)
-group_beside names are op cs a f_cs by (Task us x) k fit = absurd (group_some cs 2 (omega arith) k)
-group_beside names are op cs a f_cs by (Wait w) k fit = absurd (group_some cs 3 (omega arith) k)
 
 -- from what stands behind the margin
 behind_margin : (names : List Text) → AreApart names → (s : S) → is_nothing s ≡ false → StatementFits names s → ((t : S) → is_nothing t ≡ false → number s ≡ number t → StatementFits names t → IsAfter names s t) → IsByStatement names s
@@ -505,14 +425,8 @@ behind_margin names are s h f_s by own margin t r u k f_t is =
 -- ---- bodies
 
 nothing_text : (names : List Text) (margin : Text) (own : List Use) (t : S) → is_nothing t ≡ true → statement names margin own t ≡ []
-nothing_text names margin own (Set c e) h = absurd (true≢false (sym h))
-nothing_text names margin own (Fold op c e) h = absurd (true≢false (sym h))
-nothing_text names margin own (If e a b) h = absurd (true≢false (sym h))
-nothing_text names margin own (Task us b) h = absurd (true≢false (sym h))
-nothing_text names margin own (Wait None) h = absurd (true≢false (sym h))
 nothing_text names margin own (Wait (Some [])) h = refl
-nothing_text names margin own (Wait (Some (u ∷ us))) h = absurd (true≢false (sym h))
-nothing_text names margin own (Group op cs b) h = absurd (true≢false (sym h))
+nothing_text names margin own _ h = absurd (true≢false (sym h))
 
 passed : (own : List Use) (t : S) (more : Body) → is_nothing t ≡ true → normal own (Next t more) ≡ normal own more
 passed own t more h = rw h refl
@@ -533,18 +447,15 @@ end_apart names own margin t x r h is =
     let inner = append_cancel_left margin (125 ∷ x) (codes "    " ++ rest) (is ∙ shown names (deeper margin) own t r h ∙ append_assoc margin (codes "    ") rest) in
     omega (arith, ap head_of inner)
 
-end_beside : (names : List Text) (own : List Use) (margin : Text) (b : Body) (x y : Text) → margin ++ (125 ∷ x) ≡ body names (deeper margin) own b ++ (margin ++ (125 ∷ y)) → (End ≡ normal own b) × (x ≡ y)
-end_beside names own margin End x y is = (refl, ap tail_of (append_cancel_left margin (125 ∷ x) (125 ∷ y) is))
-end_beside names own margin (Next t more) x y is = at_once (is_nothing t) refl (end_beside names own margin more x y)
+end_beside : (names : List Text) (own : List Use) (margin : Text) (b : Body) (x y : Text) → BodyFits names b → margin ++ (125 ∷ x) ≡ body names (deeper margin) own b ++ (margin ++ (125 ∷ y)) → (End ≡ normal own b) × (x ≡ y)
+end_beside names own margin End x y fit is = (refl, ap tail_of (append_cancel_left margin (125 ∷ x) (125 ∷ y) is))
+end_beside names own margin (Next t more) x y fit is = at_once (is_nothing t) refl (end_beside names own margin more x y fit.1)
   where
     at_once : (b : Bool) → is_nothing t ≡ b → (margin ++ (125 ∷ x) ≡ body names (deeper margin) own more ++ (margin ++ (125 ∷ y)) → (End ≡ normal own more) × (x ≡ y)) → (End ≡ normal own (Next t more)) × (x ≡ y)
     at_once true h rest =
         let both = rest (is ∙ passed_text names (deeper margin) own t more (margin ++ (125 ∷ y)) h) in
         (both.0 ∙ sym (passed own t more h), both.1)
     at_once false h rest = absurd (end_apart names own margin t x (body names (deeper margin) own more ++ (margin ++ (125 ∷ y))) h (is ∙ told_text names (deeper margin) own t more (margin ++ (125 ∷ y))))
-
-end_of : (names : List Text) → IsByBody names End
-end_of names own margin b x y fit is = end_beside names own margin b x y is
 
 next_eq : (s t : S) (a b : Body) → s ≡ t → a ≡ b → Next s a ≡ Next t b
 next_eq s t a b i j = ap (λ x. Next x a) i ∙ ap (Next t) j
@@ -579,27 +490,18 @@ next_of names s rest by by_rest true h own margin b x y fit is =
 next_of names s rest by by_rest false h own margin b x y fit is = next_beside names s rest h (by h) by_rest own margin b x y fit is
 
 mutual
-  by_statement : (names : List Text) → AreApart names → (s : S) → StatementFits names s → is_nothing s ≡ false → IsByStatement names s
-  by_statement names are (Set c e) fit h = behind_margin names are (Set c e) h fit (λ t g k f_t. both_writes names are (Set c e) t refl (sym k) fit f_t)
-  by_statement names are (Fold op c e) fit h = behind_margin names are (Fold op c e) h fit (λ t g k f_t. both_writes names are (Fold op c e) t refl (sym k) fit f_t)
-  by_statement names are (If e a b) fit h =
-      let one = by_body names are a fit.1 in
-      let two = by_body names are b fit.2 in
-      behind_margin names are (If e a b) h fit (λ t g k f_t. if_beside names are.are e a b fit.0 one two t k f_t)
-  by_statement names are (Task us b) fit h =
-      let one = by_body names are b fit.2 in
-      behind_margin names are (Task us b) h fit (λ t g k f_t. task_beside names are.are us b fit.0 fit.1 one t k f_t)
-  by_statement names are (Wait w) fit h = behind_margin names are (Wait w) h fit (λ t g k f_t. wait_beside names are.are w h fit t g k f_t)
-  by_statement names are (Group op cs b) fit h =
-      let one = by_body names are b fit.1 in
-      behind_margin names are (Group op cs b) h fit (λ t g k f_t. group_beside names are.are op cs b fit.0 one t k f_t)
+  by_statement : (names : List Text) → AreApart names → (s t : S) → StatementFits names s → StatementFits names t → is_nothing s ≡ false → is_nothing t ≡ false → number s ≡ number t → IsAfter names s t
+  by_statement names are (Set c e) t f_s f_t h g k = both_writes names are (Set c e) t refl (sym k) f_s f_t
+  by_statement names are (Fold op c e) t f_s f_t h g k = both_writes names are (Fold op c e) t refl (sym k) f_s f_t
+  by_statement names are (If d a b) (If e x y) f_s f_t h g k = both_if names are.are d a b e x y f_s.0 (by_body names are a f_s.1) (by_body names are b f_s.2) f_t
+  by_statement names are (Task us a) (Task vs b) f_s f_t h g k = both_tasks names are.are us a vs b f_s.0 f_s.1 (by_body names are a f_s.2) f_t
+  by_statement names are (Wait v) (Wait w) f_s f_t h g k = both_waits names are.are v w h g f_s f_t
+  by_statement names are (Group op cs a) (Group other ds b) f_s f_t h g k = both_groups names are.are op cs a other ds b f_s.0 (by_body names are a f_s.1) f_t k
+  by_statement names are _ _ f_s f_t h g k = absurd (omega (arith, k, group_above))
 
   pub by_body : (names : List Text) → AreApart names → (a : Body) → BodyFits names a → IsByBody names a
-  by_body names are End fit = end_of names
-  by_body names are (Next s rest) fit =
-      let one = by_body names are rest fit.1 in
-      let two : is_nothing s ≡ false → IsByStatement names s = λ h. by_statement names are s fit.0 h in
-      next_of names s rest two one (is_nothing s) refl
+  by_body names are End fit = end_beside names
+  by_body names are (Next s rest) fit = next_of names s rest (λ h. behind_margin names are s h fit.0 (λ t g k f_t. by_statement names are s t fit.0 f_t h g k)) (by_body names are rest fit.1) (is_nothing s) refl
 
 block_shown : (m b r : Text) → ((m ++ (123 ∷ []) ++ (10 ∷ [])) ++ b ++ (m ++ (125 ∷ []) ++ (10 ∷ []))) ++ r ≡ m ++ (123 ∷ 10 ∷ (b ++ (m ++ (125 ∷ 10 ∷ r))))
 block_shown m b r = simp append_assoc refl
@@ -622,8 +524,4 @@ as_set_text m c sg v = simp append_assoc refl
 pub as_set_law : CalledFoldIsWrittenAsSet
 as_set_law names margin own c e f.Min h k = ap (λ t. margin ++ t) (other_called names own f.Min c e h k) ∙ as_set_text margin (cell names c) (codes "min(") (value names e)
 as_set_law names margin own c e f.Max h k = ap (λ t. margin ++ t) (other_called names own f.Max c e h k) ∙ as_set_text margin (cell names c) (codes "max(") (value names e)
-as_set_law names margin own c e f.Plus h k = absurd (true≢false (sym h))
-as_set_law names margin own c e f.Times h k = absurd (true≢false (sym h))
-as_set_law names margin own c e f.And h k = absurd (true≢false (sym h))
-as_set_law names margin own c e f.Or h k = absurd (true≢false (sym h))
-as_set_law names margin own c e f.Xor h k = absurd (true≢false (sym h))
+as_set_law names margin own c e _ h k = absurd (true≢false (sym h))

@@ -34,12 +34,7 @@ is_pointer (b ∷ c ∷ t) = (nat_le 65 b && nat_le b 90) && not (c == 95)
 
 pub pointer_there : (names : List Text) (op : Operation) (c : Cell) (t : Text) → is_pointer (pointer names op c ++ t) ≡ true
 pointer_there names f.Plus c t = refl
-pointer_there names f.Times c t = refl
-pointer_there names f.And c t = refl
-pointer_there names f.Or c t = refl
-pointer_there names f.Xor c t = refl
-pointer_there names f.Min c t = refl
-pointer_there names f.Max c t = refl
+pointer_there names _ c t = refl
 
 -- names of arrays that differ in C, and from pointers
 pub record AreApart (names : List Text) : Type 0 where
@@ -76,12 +71,7 @@ word_op (b ∷ c ∷ t) = if b == 83 then f.Plus else if b == 80 then f.Times el
 op_there : (names : List Text) (op : Operation) (c : Cell) (t : Text) → word_op (pointer names op c ++ t) ≡ op
 unfolding word_op
 op_there names f.Plus c t = refl
-op_there names f.Times c t = refl
-op_there names f.And c t = refl
-op_there names f.Or c t = refl
-op_there names f.Xor c t = refl
-op_there names f.Min c t = refl
-op_there names f.Max c t = refl
+op_there names _ c t = refl
 
 -- two pointers, whatever they reduce by
 pub same_pointers : (names : List Text) → AreIdentifiers names → (op other : Operation) (c d : Cell) (t u : Text) → Fits names (CellAt c) → Fits names (CellAt d) → starts t ≡ false → starts u ≡ false
@@ -134,13 +124,9 @@ pub set_write : (names : List Text) (c : Cell) (e : E) → Fits names (CellAt c)
 set_write names c e f g = of_plain None c e tt f g refl (λ r. plain_text (name names c.array) (decimal c.index) (codes " = ") (value names e) r)
 
 as_signed : (op : Operation) (c : Cell) (e : E) → is_called op ≡ false → fold_as_shown op c e ≡ Fold op c e
-as_signed f.Plus c e h = refl
-as_signed f.Times c e h = refl
-as_signed f.And c e h = refl
-as_signed f.Or c e h = refl
-as_signed f.Xor c e h = refl
 as_signed f.Min c e h = absurd (true≢false h)
 as_signed f.Max c e h = absurd (true≢false h)
+as_signed _ c e h = refl
 
 told_signed : (own : List Use) (op : Operation) (c : Cell) (e : E) → is_called op ≡ false → (b : Bool) → only_folds own op c ≡ b → normal_fold own op c e ≡ Fold op c e
 told_signed own op c e sign true h = rw h refl
@@ -173,26 +159,24 @@ signed names own op c e sign fc fe true h = of_own op c e sign fc fe (told_signe
 signed names own op c e sign fc fe false h =
     of_plain (Some op) c e sign fc fe (told_signed own op c e sign false h) (λ r. ap (λ t. t ++ r) (other_signed names own op c e sign h) ∙ plain_text (name names c.array) (decimal c.index) (fold_sign op) (value names e) r)
 
-called_min : (names : List Text) (own : List Use) (c : Cell) (e : E) → Fits names (CellAt c) → Fits names e → (b : Bool) → only_folds own f.Min c ≡ b → Write names (normal_fold own f.Min c e) (λ r. fold names own f.Min c e ++ r)
-called_min names own c e fc fe true h = of_call f.Min c e refl fc fe (told_own own f.Min c e h) (λ r. ap (λ t. t ++ r) (own_called names own f.Min c e refl h) ∙ call_text (pointer names f.Min c) (codes "min(") (pointer names f.Min c) (value names e) r)
-called_min names own c e fc fe false h =
+-- an operation that is a function
+called : (names : List Text) (own : List Use) (op : Operation) (c : Cell) (e : E) → is_called op ≡ true → Fits names (CellAt c) → Fits names e → (b : Bool) → only_folds own op c ≡ b → Write names (normal_fold own op c e) (λ r. fold names own op c e ++ r)
+called names own op c e sign fc fe true h =
+    of_call op c e sign fc fe (told_own own op c e h) (λ r. ap (λ t. t ++ r) (own_called names own op c e sign h) ∙ call_text (pointer names op c) (fold_sign op) (pointer names op c) (value names e) r)
+called names own f.Min c e sign fc fe false h =
     of_plain None c (Apply o.Min (CellAt c) e) tt fc (fc, fe) (told_other own f.Min c e h)
     (λ r. ap (λ t. t ++ r) (other_called names own f.Min c e refl h) ∙ set_call_text (name names c.array) (decimal c.index) (codes "min(") (value names e) r)
-
-called_max : (names : List Text) (own : List Use) (c : Cell) (e : E) → Fits names (CellAt c) → Fits names e → (b : Bool) → only_folds own f.Max c ≡ b → Write names (normal_fold own f.Max c e) (λ r. fold names own f.Max c e ++ r)
-called_max names own c e fc fe true h = of_call f.Max c e refl fc fe (told_own own f.Max c e h) (λ r. ap (λ t. t ++ r) (own_called names own f.Max c e refl h) ∙ call_text (pointer names f.Max c) (codes "max(") (pointer names f.Max c) (value names e) r)
-called_max names own c e fc fe false h =
+called names own f.Max c e sign fc fe false h =
     of_plain None c (Apply o.Max (CellAt c) e) tt fc (fc, fe) (told_other own f.Max c e h)
     (λ r. ap (λ t. t ++ r) (other_called names own f.Max c e refl h) ∙ set_call_text (name names c.array) (decimal c.index) (codes "max(") (value names e) r)
+called names own _ c e sign fc fe false h = absurd (true≢false (sym sign))
 
 pub fold_write : (names : List Text) (own : List Use) (op : Operation) (c : Cell) (e : E) → Fits names (CellAt c) → Fits names e → Write names (normal_fold own op c e) (λ r. fold names own op c e ++ r)
-fold_write names own f.Plus c e fc fe = signed names own f.Plus c e refl fc fe (only_folds own f.Plus c) refl
-fold_write names own f.Times c e fc fe = signed names own f.Times c e refl fc fe (only_folds own f.Times c) refl
-fold_write names own f.And c e fc fe = signed names own f.And c e refl fc fe (only_folds own f.And c) refl
-fold_write names own f.Or c e fc fe = signed names own f.Or c e refl fc fe (only_folds own f.Or c) refl
-fold_write names own f.Xor c e fc fe = signed names own f.Xor c e refl fc fe (only_folds own f.Xor c) refl
-fold_write names own f.Min c e fc fe = called_min names own c e fc fe (only_folds own f.Min c) refl
-fold_write names own f.Max c e fc fe = called_max names own c e fc fe (only_folds own f.Max c) refl
+fold_write names own op c e fc fe = by_sign (is_called op) refl
+  where
+    by_sign : (b : Bool) → is_called op ≡ b → Write names (normal_fold own op c e) (λ r. fold names own op c e ++ r)
+    by_sign true h = called names own op c e h fc fe (only_folds own op c) refl
+    by_sign false h = signed names own op c e h fc fe (only_folds own op c) refl
 
 -- ---- two writes
 
