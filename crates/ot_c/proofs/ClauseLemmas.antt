@@ -92,11 +92,7 @@ abbrev pub depends : List Text → List Use → Text
 depends names us = dependences names (codes "in") us m.Reads ++ dependences names (codes "out") us m.Writes
 
 pub declared_shown : (names : List Text) (us : List Use) → declared names us ≡ depends names us ++ all_folded names us operations
-declared_shown names us =
-    parts (dependences names (codes "in") us m.Reads) (dependences names (codes "out") us m.Writes) (folded names us f.Plus) (folded names us f.Times) (folded names us f.And) (folded names us f.Or) (folded names us f.Xor) (folded names us f.Min) (folded names us f.Max)
-  where
-    parts : (i o x1 x2 x3 x4 x5 x6 x7 : Text) → i ++ o ++ x1 ++ x2 ++ x3 ++ x4 ++ x5 ++ x6 ++ x7 ≡ (i ++ o) ++ (x1 ++ (x2 ++ (x3 ++ (x4 ++ (x5 ++ (x6 ++ (x7 ++ [])))))))
-    parts i o x1 x2 x3 x4 x5 x6 x7 = simp (append_assoc, append-nil) refl
+declared_shown names us = simp (append_assoc, append-nil) refl
 
 keep_declared : (names : List Text) → AreIdentifiers names → (us : List Use) → UsesFit names us → keep Outside (declared names us) ≡ reductions names us operations
 keep_declared names are us fit =
@@ -182,16 +178,10 @@ same_ends (x ∷ xs) (y ∷ ys) d e hd he is =
     (ap (λ b. b ∷ xs) (ap head_of is) ∙ ap (λ bs. y ∷ bs) inner.0, inner.1)
 
 pointer_shown : (names : List Text) (w : Text) (op : Operation) (c : Cell) (cs : List Cell) (t : Text) → pointed names w op (c ∷ cs) ++ t ≡ w ++ (pointer names op c ++ (91 ∷ 48 ∷ 58 ∷ 49 ∷ 93 ∷ (pointed names (codes ", ") op cs ++ t)))
-pointer_shown names w op c cs t = parts w (pointer names op c) (pointed names (codes ", ") op cs) t
-  where
-    parts : (w p x t : Text) → (w ++ p ++ (91 ∷ 48 ∷ 58 ∷ 49 ∷ 93 ∷ []) ++ x) ++ t ≡ w ++ (p ++ (91 ∷ 48 ∷ 58 ∷ 49 ∷ 93 ∷ (x ++ t)))
-    parts w p x t = simp append_assoc refl
+pointer_shown names w op c cs t = simp append_assoc refl
 
 pointer_parts : (names : List Text) (op : Operation) (c : Cell) → pointer names op c ≡ pointer_word op ++ (name names c.array ++ (95 ∷ decimal c.index))
-pointer_parts names op c = parts (pointer_word op) (name names c.array) (decimal c.index)
-  where
-    parts : (w x d : Text) → w ++ x ++ (95 ∷ []) ++ d ≡ w ++ (x ++ (95 ∷ d))
-    parts w x d = simp append_assoc refl
+pointer_parts names op c = simp append_assoc refl
 
 pub same_pointer : (names : List Text) → AreIdentifiers names → (op : Operation) (c d : Cell) (t u : Text) → c.array < length names → c.index < 2 ^ 64 → d.array < length names → d.index < 2 ^ 64 → starts t ≡ false → starts u ≡ false
     → pointer names op c ++ t ≡ pointer names op d ++ u → (c ≡ d) × (t ≡ u)
@@ -288,10 +278,7 @@ first_iterator names k s t = ap clause_of (iterated_shown names k s t) ∙ itera
 -- ---- lists
 
 cells_shown : (names : List Text) (w : Text) (c : Cell) (cs : List Cell) (t : Text) → cells_text names w (c ∷ cs) ++ t ≡ w ++ (name names c.array ++ (91 ∷ (decimal c.index ++ (93 ∷ (cells_text names (codes ", ") cs ++ t)))))
-cells_shown names w c cs t = parts w (name names c.array) (decimal c.index) (cells_text names (codes ", ") cs) t
-  where
-    parts : (w x d y t : Text) → ((w ++ (x ++ (91 ∷ []) ++ d ++ (93 ∷ []))) ++ y) ++ t ≡ w ++ (x ++ (91 ∷ (d ++ (93 ∷ (y ++ t)))))
-    parts w x d y t = simp append_assoc refl
+cells_shown names w c cs t = simp append_assoc refl
 
 first_cells : (names : List Text) → AreIdentifiers names → (w : Text) (c d : Cell) (cs ds : List Cell) (t u : Text) → CellsFit names (c ∷ cs) → CellsFit names (d ∷ ds) → cells_text names w (c ∷ cs) ++ t ≡ cells_text names w (d ∷ ds) ++ u
     → (c ≡ d) × (cells_text names (codes ", ") cs ++ t ≡ cells_text names (codes ", ") ds ++ u)

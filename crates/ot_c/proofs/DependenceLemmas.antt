@@ -262,10 +262,7 @@ cells_quiet names are w (c ∷ cs) h fit =
     quiet_append (item names w c.array c.index) (cells_text names (codes ", ") cs) (item_quiet names are w c h fit.0.0 fit.0.1) (cells_quiet names are (codes ", ") cs refl fit.1)
 
 pub listed_shown : (names : List Text) (k : Bool) (c : Cell) (cs : List Cell) (t : Text) → listed_cells names k (c ∷ cs) ++ t ≡ codes " depend(" ++ (kind_text k ++ (cells_text names (codes ": ") (c ∷ cs) ++ (41 ∷ t)))
-listed_shown names k c cs t = parts (codes " depend(") (kind_text k) (cells_text names (codes ": ") (c ∷ cs)) t
-  where
-    parts : (a b x t : Text) → (a ++ (b ++ (x ++ (41 ∷ [])))) ++ t ≡ a ++ (b ++ (x ++ (41 ∷ t)))
-    parts a b x t = simp append_assoc refl
+listed_shown names k c cs t = simp append_assoc refl
 
 pub keep_listed : (names : List Text) → AreIdentifiers names → (k : Bool) (cs : List Cell) (t : Text) → CellsFit names cs → keep Outside (listed_cells names k cs ++ t) ≡ keep Outside t
 keep_listed names are k [] t fit = refl
@@ -278,11 +275,7 @@ abbrev pub iterated_rest : List Text → Bool → Section → Text → Text
 iterated_rest names k s t = decimal s.start ++ (58 ∷ (decimal (s.start + s.len) ++ (41 ∷ 44 ∷ 32 ∷ (kind_text k ++ (58 ∷ 32 ∷ (name names s.array ++ (91 ∷ 97 ∷ 116 ∷ 93 ∷ 41 ∷ t)))))))
 
 pub iterated_shown : (names : List Text) (k : Bool) (s : Section) (t : Text) → one_iterated names k s ++ t ≡ codes " depend(iterator(at = " ++ iterated_rest names k s t
-iterated_shown names k s t = parts (codes " depend(iterator(at = ") (decimal s.start) (decimal (s.start + s.len)) (kind_text k) (name names s.array) t
-  where
-    parts : (o ds es ks w t : Text) → (o ++ ds ++ (58 ∷ []) ++ es ++ (41 ∷ 44 ∷ 32 ∷ []) ++ ks ++ (58 ∷ 32 ∷ []) ++ w ++ (91 ∷ 97 ∷ 116 ∷ 93 ∷ 41 ∷ [])) ++ t
-        ≡ o ++ (ds ++ (58 ∷ (es ++ (41 ∷ 44 ∷ 32 ∷ (ks ++ (58 ∷ 32 ∷ (w ++ (91 ∷ 97 ∷ 116 ∷ 93 ∷ 41 ∷ t))))))))
-    parts o ds es ks w t = simp append_assoc refl
+iterated_shown names k s t = simp append_assoc refl
 
 pub keep_iterated : (names : List Text) → AreIdentifiers names → (k : Bool) (s : Section) (t : Text) → SectionFits names s → keep Outside (one_iterated names k s ++ t) ≡ keep Outside t
 keep_iterated names are k s t fit =

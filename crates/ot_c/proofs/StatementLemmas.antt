@@ -164,40 +164,16 @@ after names margin own (Task us b) r = codes "#pragma omp task" ++ task_rest nam
 after names margin own (Wait w) r = codes "#pragma omp taskwait" ++ (declared names (uses_of w) ++ (10 ∷ r))
 after names margin own (Group op cs b) r = group_after names margin own op cs b r
 
-set_shown : (m c e v t r : Text) → (m ++ c ++ e ++ v ++ t) ++ r ≡ m ++ ((c ++ e ++ v ++ t) ++ r)
-set_shown m c e v t r = simp append_assoc refl
-
-if_shown : (m w v a o r : Text) → ((m ++ w ++ v ++ (41 ∷ 32 ∷ 123 ∷ 10 ∷ [])) ++ a ++ o ++ (m ++ (125 ∷ []) ++ (10 ∷ []))) ++ r ≡ m ++ (w ++ (v ++ (41 ∷ 32 ∷ 123 ∷ 10 ∷ (a ++ (o ++ (m ++ (125 ∷ 10 ∷ r)))))))
-if_shown m w v a o r = simp append_assoc refl
-
-task_shown : (m w d b r : Text) → ((m ++ w ++ d ++ (10 ∷ [])) ++ ((m ++ (123 ∷ []) ++ (10 ∷ [])) ++ b ++ (m ++ (125 ∷ []) ++ (10 ∷ [])))) ++ r ≡ m ++ (w ++ (d ++ (10 ∷ (m ++ (123 ∷ 10 ∷ (b ++ (m ++ (125 ∷ 10 ∷ r))))))))
-task_shown m w d b r = simp append_assoc refl
-
-line_shown : (m w r : Text) → (m ++ w ++ (10 ∷ [])) ++ r ≡ m ++ (w ++ (10 ∷ r))
-line_shown m w r = simp append_assoc refl
-
-directive_shown : (m w d r : Text) → (m ++ w ++ d ++ (10 ∷ [])) ++ r ≡ m ++ (w ++ (d ++ (10 ∷ r)))
-directive_shown m w d r = simp append_assoc refl
-
-group_shown : (m w b r : Text) → ((m ++ w ++ (10 ∷ [])) ++ ((m ++ (123 ∷ []) ++ (10 ∷ [])) ++ b ++ (m ++ (125 ∷ []) ++ (10 ∷ [])))) ++ r ≡ m ++ (w ++ (10 ∷ (m ++ (123 ∷ 10 ∷ (b ++ (m ++ (125 ∷ 10 ∷ r)))))))
-group_shown m w b r = simp append_assoc refl
-
-reduced_shown : (m n ps w d b r : Text)
-    → ((m ++ (123 ∷ []) ++ (10 ∷ [])) ++ (ps ++ n ++ w ++ d ++ (10 ∷ [])) ++ ((n ++ (123 ∷ []) ++ (10 ∷ [])) ++ b ++ (n ++ (125 ∷ []) ++ (10 ∷ []))) ++ (m ++ (125 ∷ []) ++ (10 ∷ []))) ++ r
-    ≡ m ++ (123 ∷ 10 ∷ (ps ++ (n ++ (w ++ (d ++ (10 ∷ (n ++ (123 ∷ 10 ∷ (b ++ (n ++ (125 ∷ 10 ∷ (m ++ (125 ∷ 10 ∷ r)))))))))))))
-reduced_shown m n ps w d b r = simp append_assoc refl
-
 shown : (names : List Text) (margin : Text) (own : List Use) (s : S) (r : Text) → is_nothing s ≡ false → statement names margin own s ++ r ≡ margin ++ after names margin own s r
-shown names margin own (Set c e) r h = set_shown margin (cell names c) (codes " = ") (value names e) (codes ";\n") r
+shown names margin own (Set c e) r h = simp append_assoc refl
 shown names margin own (Fold op c e) r h = append_assoc margin (fold names own op c e) r
-shown names margin own (If e a b) r h = if_shown margin (codes "if (") (value names e) (body names (deeper margin) own a) (otherwise margin b (body names (deeper margin) own b)) r
-shown names margin own (Task us b) r h = task_shown margin (codes "#pragma omp task") (declared names us) (body names (deeper margin) us b) r
-shown names margin own (Wait None) r h = line_shown margin (codes "#pragma omp taskwait") r
+shown names margin own (If e a b) r h = simp append_assoc refl
+shown names margin own (Task us b) r h = simp append_assoc refl
+shown names margin own (Wait None) r h = simp append_assoc refl
 shown names margin own (Wait (Some [])) r h = absurd (true≢false h)
-shown names margin own (Wait (Some (u ∷ us))) r h = directive_shown margin (codes "#pragma omp taskwait") (declared names (u ∷ us)) r
-shown names margin own (Group op [] b) r h = group_shown margin (codes "#pragma omp taskgroup") (body names (deeper margin) own b) r
-shown names margin own (Group op (c ∷ cs) b) r h =
-    reduced_shown margin (deeper margin) (pointers names (deeper margin) op (each_once (c ∷ cs))) (codes "#pragma omp taskgroup") (reduction names (codes " task_reduction(") op (each_once (c ∷ cs))) (body names (deeper (deeper margin)) own b) r
+shown names margin own (Wait (Some (u ∷ us))) r h = simp append_assoc refl
+shown names margin own (Group op [] b) r h = simp append_assoc refl
+shown names margin own (Group op (c ∷ cs) b) r h = simp append_assoc refl
 
 abbrev group_number : List Cell → ℕ
 group_number [] = 4
@@ -275,10 +251,7 @@ else_rest names margin own (Next s rest) r = codes " else {\n" ++ (body names (d
 
 else_shown : (names : List Text) (margin : Text) (own : List Use) (b : Body) (r : Text) → otherwise margin b (body names (deeper margin) own b) ++ (margin ++ (125 ∷ 10 ∷ r)) ≡ margin ++ (125 ∷ else_rest names margin own b r)
 else_shown names margin own End r = refl
-else_shown names margin own (Next s rest) r = parts margin (codes "} else {") (body names (deeper margin) own (Next s rest)) (margin ++ (125 ∷ 10 ∷ r))
-  where
-    parts : (m w b t : Text) → ((m ++ w ++ (10 ∷ [])) ++ b) ++ t ≡ m ++ (w ++ (10 ∷ (b ++ t)))
-    parts m w b t = simp append_assoc refl
+else_shown names margin own (Next s rest) r = simp append_assoc refl
 
 same_else : (names : List Text) (a b : Body) → IsByBody names a → BodyFits names b → (own : List Use) (margin : Text) (r u : Text) → else_rest names margin own a r ≡ else_rest names margin own b u → (normal own a ≡ normal own b) × (r ≡ u)
 same_else names End End by fit own margin r u is = (refl, ap tail_of is)
@@ -339,10 +312,7 @@ both_waits names are v w h k f_v f_w own margin r u is =
 -- a pointer's declaration, and what follows
 pointer_line : (names : List Text) (m : Text) (op : Operation) (c : Cell) (cs : List Cell) (t : Text)
     → pointers names m op (c ∷ cs) ++ t ≡ m ++ (codes "uint64_t *" ++ (pointer names op c ++ (32 ∷ 61 ∷ 32 ∷ 38 ∷ (cell names c ++ (59 ∷ 10 ∷ (pointers names m op cs ++ t))))))
-pointer_line names m op c cs t = parts m (codes "uint64_t *") (pointer names op c) (cell names c) (pointers names m op cs) t
-  where
-    parts : (m w p c x t : Text) → ((m ++ w ++ p ++ (32 ∷ 61 ∷ 32 ∷ 38 ∷ []) ++ c ++ (59 ∷ 10 ∷ [])) ++ x) ++ t ≡ m ++ (w ++ (p ++ (32 ∷ 61 ∷ 32 ∷ 38 ∷ (c ++ (59 ∷ 10 ∷ (x ++ t))))))
-    parts m w p c x t = simp append_assoc refl
+pointer_line names m op c cs t = simp append_assoc refl
 
 record SameLines (op other : Operation) (cs ds : List Cell) (t u : Text) : Type 0 where
   pub cells : cs ≡ ds
@@ -503,14 +473,14 @@ mutual
   by_body names are End fit = end_beside names
   by_body names are (Next s rest) fit = next_of names s rest (λ h. behind_margin names are s h fit.0 (λ t g k f_t. by_statement names are s t fit.0 f_t h g k)) (by_body names are rest fit.1) (is_nothing s) refl
 
-block_shown : (m b r : Text) → ((m ++ (123 ∷ []) ++ (10 ∷ [])) ++ b ++ (m ++ (125 ∷ []) ++ (10 ∷ []))) ++ r ≡ m ++ (123 ∷ 10 ∷ (b ++ (m ++ (125 ∷ 10 ∷ r))))
-block_shown m b r = simp append_assoc refl
+block_shown : (names : List Text) (margin : Text) (own : List Use) (b : Body) (r : Text) → block margin (body names (deeper margin) own b) ++ r ≡ block_rest names margin own b r
+block_shown names margin own b r = simp append_assoc refl
 
 -- blocks, with what follows
 pub same_blocks : (names : List Text) → AreApart names → (own : List Use) (margin : Text) (a b : Body) (r u : Text) → BodyFits names a → BodyFits names b
     → block margin (body names (deeper margin) own a) ++ r ≡ block margin (body names (deeper margin) own b) ++ u → (normal own a ≡ normal own b) × (r ≡ u)
 same_blocks names are own margin a b r u f_a f_b is =
-    same_block names a b (by_body names are a f_a) f_b own margin r u (sym (block_shown margin (body names (deeper margin) own a) r) ∙ is ∙ block_shown margin (body names (deeper margin) own b) u)
+    same_block names a b (by_body names are a f_a) f_b own margin r u (sym (block_shown names margin own a r) ∙ is ∙ block_shown names margin own b u)
 
 pub body_law : BodyIsDetermined
 body_law names are own margin a b f_a f_b is =

@@ -53,12 +53,6 @@ shape_called _ = refl
 
 -- ---- texts, ended by what stands behind them
 
-cell_text : (w ds r : Text) → (w ++ (91 ∷ []) ++ ds ++ (93 ∷ [])) ++ r ≡ w ++ (91 ∷ (ds ++ (93 ∷ r)))
-cell_text w ds r = simp append_assoc refl
-
-pick_text : (w fs x es r : Text) → (w ++ (91 ∷ []) ++ fs ++ x ++ (32 ∷ 37 ∷ 32 ∷ []) ++ es ++ (93 ∷ [])) ++ r ≡ w ++ (91 ∷ (fs ++ (x ++ (32 ∷ 37 ∷ 32 ∷ (es ++ (93 ∷ r))))))
-pick_text w fs x es r = simp append_assoc refl
-
 call_text : (sg v w r : Text) → (sg ++ v ++ (44 ∷ 32 ∷ []) ++ w ++ (41 ∷ [])) ++ r ≡ sg ++ (v ++ (44 ∷ 32 ∷ (w ++ (41 ∷ r))))
 call_text sg v w r = simp append_assoc refl
 
@@ -106,10 +100,10 @@ abbrev chosen : List Text → Section → E → Text → Text
 chosen names t e r = first_of t.start ++ (operand names e ++ (32 ∷ 37 ∷ 32 ∷ (decimal t.len ++ (93 ∷ r))))
 
 cell_shown : (names : List Text) (c : Cell) (r : Text) → operand names (CellAt c) ++ r ≡ name names c.array ++ (91 ∷ (decimal c.index ++ (93 ∷ r)))
-cell_shown names c r = cell_text (name names c.array) (decimal c.index) r
+cell_shown names c r = simp append_assoc refl
 
 pick_shown : (names : List Text) (t : Section) (e : E) (r : Text) → operand names (PickFrom t e) ++ r ≡ name names t.array ++ (91 ∷ chosen names t e r)
-pick_shown names t e r = pick_text (name names t.array) (first_of t.start) (operand names e) (decimal t.len) r
+pick_shown names t e r = simp append_assoc refl
 
 -- ---- constants
 
