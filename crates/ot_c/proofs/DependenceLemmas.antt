@@ -66,31 +66,23 @@ keep One (b ∷ t) = if b == 40 then keep Two t else (if b == 41 then keep Outsi
 keep Two (b ∷ t) = if b == 41 then keep One t else keep Two t
 keep Copying (b ∷ t) = b ∷ (if b == 41 then keep Outside t else keep Copying t)
 
-pub no_bracket : (b : ℕ) → quiet b ≡ true → ((b == 40) ≡ false) × ((b == 41) ≡ false)
-no_bracket b h =
-    let both = and_true (not (b == 40)) (not (b == 41)) (and_true (not (b == 40) && not (b == 41)) (not (b == 10)) h).0 in
-    (not-true (b == 40) both.0, not-true (b == 41) both.1)
+quiet_front : (b : ℕ) (bs : Text) → all_quiet (b ∷ bs) ≡ true → ((b == 40) ≡ false) × ((b == 41) ≡ false) × (all_quiet bs ≡ true)
+quiet_front b bs h =
+    let all = and_true (quiet b) (all_quiet bs) h in
+    let both = and_true (not (b == 40)) (not (b == 41)) (and_true (not (b == 40) && not (b == 41)) (not (b == 10)) all.0).0 in
+    (not-true (b == 40) both.0, not-true (b == 41) both.1, all.1)
 
-pub keep_one : (x t : Text) → all_quiet x ≡ true → keep One (x ++ t) ≡ keep One t
+keep_one : (x t : Text) → all_quiet x ≡ true → keep One (x ++ t) ≡ keep One t
 keep_one [] t h = refl
-keep_one (b ∷ bs) t h =
-    let both = and_true (quiet b) (all_quiet bs) h in
-    let none = no_bracket b both.0 in
-    rw (none.0, none.1) (keep_one bs t both.1)
+keep_one (b ∷ bs) t h = let front = quiet_front b bs h in rw (front.0, front.1) (keep_one bs t front.2)
 
-pub keep_two : (x t : Text) → all_quiet x ≡ true → keep Two (x ++ t) ≡ keep Two t
+keep_two : (x t : Text) → all_quiet x ≡ true → keep Two (x ++ t) ≡ keep Two t
 keep_two [] t h = refl
-keep_two (b ∷ bs) t h =
-    let both = and_true (quiet b) (all_quiet bs) h in
-    let none = no_bracket b both.0 in
-    rw none.1 (keep_two bs t both.1)
+keep_two (b ∷ bs) t h = let front = quiet_front b bs h in rw front.1 (keep_two bs t front.2)
 
 pub keep_copying : (x t : Text) → all_quiet x ≡ true → keep Copying (x ++ t) ≡ x ++ keep Copying t
 keep_copying [] t h = refl
-keep_copying (b ∷ bs) t h =
-    let both = and_true (quiet b) (all_quiet bs) h in
-    let none = no_bracket b both.0 in
-    rw none.1 (ap (λ u. b ∷ u) (keep_copying bs t both.1))
+keep_copying (b ∷ bs) t h = let front = quiet_front b bs h in rw front.1 (ap (λ u. b ∷ u) (keep_copying bs t front.2))
 
 -- ---- dependences, by their cells and their long sections
 

@@ -63,11 +63,8 @@ not_below : (c : Cell) (ds : List Cell) → Below c ds → has c ds ≡ false
 not_below c [] h = refl
 not_below c (d ∷ ds) h = rw (other_cell c d h.0 (same_cell c d) refl) (not_below c ds h.1)
 
-same_itself : (c : Cell) → same_cell c c ≡ true
-same_itself c = (cell-decides c c).1 refl
-
 has_first : (c : Cell) (cs : List Cell) → has c (c ∷ cs) ≡ true
-has_first c cs = rw (same_itself c) refl
+has_first c cs = rw ((cell-decides c c).1 refl) refl
 
 first_or_later : (c d : Cell) (ds : List Cell) → AreSorted (d ∷ ds) → Precedes c d → has c (d ∷ ds) ≡ false
 first_or_later c d ds sorted p = rw (other_cell c d p (same_cell c d) refl) (not_below c ds (below_trans c d ds p sorted.0))

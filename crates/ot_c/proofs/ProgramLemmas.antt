@@ -235,7 +235,10 @@ open_line = line (codes "    ") (codes "printf(\"[\");")
 
 region_shown : (names : List Text) (p : Expanded) (t : Text)
     → region names (codes "    ") p ++ t ≡ block (codes "    ") (body names (deeper (codes "    ")) [] p.body) ++ (10 ∷ (open_line ++ (lists names (codes "    ") p.shows ++ (end_line ++ t))))
-region_shown names p t = simp append_assoc refl
+region_shown names p t = parts (block (codes "    ") (body names (deeper (codes "    ")) [] p.body)) open_line (lists names (codes "    ") p.shows) end_line t
+  where
+    parts : (b o l e t : Text) → (b ++ (10 ∷ []) ++ (o ++ l ++ e)) ++ t ≡ b ++ (10 ∷ (o ++ (l ++ (e ++ t))))
+    parts b o l e t = simp append_assoc refl
 
 -- ---- what fits
 

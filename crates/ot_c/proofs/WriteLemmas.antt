@@ -105,23 +105,13 @@ pub data Write (names : List Text) (told : S) (t : Text → Text) : Type 0 where
   of_own : (op : Operation) (c : Cell) (e : E) → is_called op ≡ false → Fits names (CellAt c) → Fits names e → told ≡ Fold op c e → ((r : Text) → t r ≡ own_fold names op c e r) → Write names told t
   of_call : (op : Operation) (c : Cell) (e : E) → is_called op ≡ true → Fits names (CellAt c) → Fits names e → told ≡ Fold op c e → ((r : Text) → t r ≡ own_call names op c e r) → Write names told t
 
-plain_text : (w d sg v r : Text) → (w ++ (91 ∷ []) ++ d ++ (93 ∷ []) ++ sg ++ v ++ (59 ∷ 10 ∷ [])) ++ r ≡ w ++ (91 ∷ (d ++ (93 ∷ (sg ++ (v ++ (59 ∷ 10 ∷ r))))))
-plain_text w d sg v r = simp append_assoc refl
-
-own_text : (p sg v r : Text) → (p ++ (91 ∷ 48 ∷ 93 ∷ []) ++ sg ++ v ++ (59 ∷ 10 ∷ [])) ++ r ≡ p ++ (91 ∷ 48 ∷ 93 ∷ (sg ++ (v ++ (59 ∷ 10 ∷ r))))
-own_text p sg v r = simp append_assoc refl
-
-call_text : (p sg q v r : Text) → (p ++ (91 ∷ 48 ∷ 93 ∷ []) ++ (32 ∷ 61 ∷ 32 ∷ []) ++ sg ++ (q ++ (91 ∷ 48 ∷ 93 ∷ [])) ++ (44 ∷ 32 ∷ []) ++ v ++ (41 ∷ 59 ∷ 10 ∷ [])) ++ r
-    ≡ p ++ (91 ∷ 48 ∷ 93 ∷ 32 ∷ 61 ∷ 32 ∷ (sg ++ (q ++ (91 ∷ 48 ∷ 93 ∷ 44 ∷ 32 ∷ (v ++ (41 ∷ 59 ∷ 10 ∷ r))))))
-call_text p sg q v r = simp append_assoc refl
-
 -- `a = max(a, v)`: the call is a value
 set_call_text : (w d sg v r : Text) → (w ++ (91 ∷ []) ++ d ++ (93 ∷ []) ++ (32 ∷ 61 ∷ 32 ∷ []) ++ sg ++ (w ++ (91 ∷ []) ++ d ++ (93 ∷ [])) ++ (44 ∷ 32 ∷ []) ++ v ++ (41 ∷ 59 ∷ 10 ∷ [])) ++ r
     ≡ w ++ (91 ∷ (d ++ (93 ∷ 32 ∷ 61 ∷ 32 ∷ ((sg ++ (w ++ (91 ∷ []) ++ d ++ (93 ∷ [])) ++ (44 ∷ 32 ∷ []) ++ v ++ (41 ∷ [])) ++ (59 ∷ 10 ∷ r)))))
 set_call_text w d sg v r = simp append_assoc refl
 
 pub set_write : (names : List Text) (c : Cell) (e : E) → Fits names (CellAt c) → Fits names e → Write names (Set c e) (λ r. (cell names c ++ codes " = " ++ value names e ++ codes ";\n") ++ r)
-set_write names c e f g = of_plain None c e tt f g refl (λ r. plain_text (name names c.array) (decimal c.index) (codes " = ") (value names e) r)
+set_write names c e f g = of_plain None c e tt f g refl (λ r. simp append_assoc refl)
 
 as_signed : (op : Operation) (c : Cell) (e : E) → is_called op ≡ false → fold_as_shown op c e ≡ Fold op c e
 as_signed f.Min c e h = absurd (true≢false h)
@@ -132,42 +122,26 @@ told_signed : (own : List Use) (op : Operation) (c : Cell) (e : E) → is_called
 told_signed own op c e sign true h = rw h refl
 told_signed own op c e sign false h = rw h (as_signed op c e sign)
 
-told_own : (own : List Use) (op : Operation) (c : Cell) (e : E) → only_folds own op c ≡ true → normal_fold own op c e ≡ Fold op c e
-told_own own op c e h = rw h refl
-
-told_other : (own : List Use) (op : Operation) (c : Cell) (e : E) → only_folds own op c ≡ false → normal_fold own op c e ≡ fold_as_shown op c e
-told_other own op c e h = rw h refl
-
 -- the text of a fold, by what it is
-own_signed : (names : List Text) (own : List Use) (op : Operation) (c : Cell) (e : E) → is_called op ≡ false → only_folds own op c ≡ true → fold names own op c e ≡ (pointer names op c ++ codes "[0]") ++ fold_sign op ++ value names e ++ codes ";\n"
-own_signed names own op c e sign h = rw (sign, h) refl
-
-other_signed : (names : List Text) (own : List Use) (op : Operation) (c : Cell) (e : E) → is_called op ≡ false → only_folds own op c ≡ false → fold names own op c e ≡ cell names c ++ fold_sign op ++ value names e ++ codes ";\n"
-other_signed names own op c e sign h = rw (sign, h) refl
-
-own_called : (names : List Text) (own : List Use) (op : Operation) (c : Cell) (e : E) → is_called op ≡ true → only_folds own op c ≡ true
-    → fold names own op c e ≡ (pointer names op c ++ codes "[0]") ++ codes " = " ++ fold_sign op ++ (pointer names op c ++ codes "[0]") ++ codes ", " ++ value names e ++ codes ");\n"
-own_called names own op c e sign h = rw (sign, h) refl
-
 pub other_called : (names : List Text) (own : List Use) (op : Operation) (c : Cell) (e : E) → is_called op ≡ true → only_folds own op c ≡ false
     → fold names own op c e ≡ cell names c ++ codes " = " ++ fold_sign op ++ cell names c ++ codes ", " ++ value names e ++ codes ");\n"
 other_called names own op c e sign h = rw (sign, h) refl
 
 -- an operation with a sign
 signed : (names : List Text) (own : List Use) (op : Operation) (c : Cell) (e : E) → is_called op ≡ false → Fits names (CellAt c) → Fits names e → (b : Bool) → only_folds own op c ≡ b → Write names (normal_fold own op c e) (λ r. fold names own op c e ++ r)
-signed names own op c e sign fc fe true h = of_own op c e sign fc fe (told_signed own op c e sign true h) (λ r. ap (λ t. t ++ r) (own_signed names own op c e sign h) ∙ own_text (pointer names op c) (fold_sign op) (value names e) r)
+signed names own op c e sign fc fe true h = of_own op c e sign fc fe (told_signed own op c e sign true h) (λ r. rw (sign, h) (simp append_assoc refl))
 signed names own op c e sign fc fe false h =
-    of_plain (Some op) c e sign fc fe (told_signed own op c e sign false h) (λ r. ap (λ t. t ++ r) (other_signed names own op c e sign h) ∙ plain_text (name names c.array) (decimal c.index) (fold_sign op) (value names e) r)
+    of_plain (Some op) c e sign fc fe (told_signed own op c e sign false h) (λ r. rw (sign, h) (simp append_assoc refl))
 
 -- an operation that is a function
 called : (names : List Text) (own : List Use) (op : Operation) (c : Cell) (e : E) → is_called op ≡ true → Fits names (CellAt c) → Fits names e → (b : Bool) → only_folds own op c ≡ b → Write names (normal_fold own op c e) (λ r. fold names own op c e ++ r)
 called names own op c e sign fc fe true h =
-    of_call op c e sign fc fe (told_own own op c e h) (λ r. ap (λ t. t ++ r) (own_called names own op c e sign h) ∙ call_text (pointer names op c) (fold_sign op) (pointer names op c) (value names e) r)
+    of_call op c e sign fc fe (rw h refl) (λ r. rw (sign, h) (simp append_assoc refl))
 called names own f.Min c e sign fc fe false h =
-    of_plain None c (Apply o.Min (CellAt c) e) tt fc (fc, fe) (told_other own f.Min c e h)
+    of_plain None c (Apply o.Min (CellAt c) e) tt fc (fc, fe) (rw h refl)
     (λ r. ap (λ t. t ++ r) (other_called names own f.Min c e refl h) ∙ set_call_text (name names c.array) (decimal c.index) (codes "min(") (value names e) r)
 called names own f.Max c e sign fc fe false h =
-    of_plain None c (Apply o.Max (CellAt c) e) tt fc (fc, fe) (told_other own f.Max c e h)
+    of_plain None c (Apply o.Max (CellAt c) e) tt fc (fc, fe) (rw h refl)
     (λ r. ap (λ t. t ++ r) (other_called names own f.Max c e refl h) ∙ set_call_text (name names c.array) (decimal c.index) (codes "max(") (value names e) r)
 called names own _ c e sign fc fe false h = absurd (true≢false (sym sign))
 
