@@ -21,7 +21,7 @@ use Rattle.ot_print.proofs.SectionLemmas.{come_back}
 use Rattle.ot_print.proofs.ClauseLemmas.{same_uses}
 use Rattle.ot_c.specs.Clauses.{short, listed, iterations, dependences, pointer_word, pointer, pointed, reduction, folded, declared}
 use Rattle.ot_c.specs.Laws.{all_identifier, AreIdentifiers, UsesFit, DeclarationIsDetermined}
-use Rattle.ot_c.proofs.WordLemmas.{starts, split, all_digits, only_digits, number_word, word_append, same_number, name_word, same_array, one_cell}
+use Rattle.ot_c.proofs.WordLemmas.{all_of, all_append, split_by, starts, split, all_digits, only_digits, number_word, word_append, same_number, name_word, same_array, one_cell}
 use Rattle.ot_c.proofs.OrderLemmas.{long, AreSorted, sorted_in, by_parts}
 use Rattle.ot_c.proofs.DependenceLemmas.{quiet, all_quiet, word_quiet, quiet_append, number_quiet, name_quiet, keep, keep_copying, kind_text, cells_text, listed_cells, SectionFits, SectionsFit, one_iterated, all_iterated, short_fit, long_fit, cells_fit, sections_fit, small_in, cells_are_small, deps_are, cells_quiet, listed_shown, iterated_rest, iterated_shown, keep_deps, HoldOfClauses, in_deps, Outside}
 
@@ -459,12 +459,10 @@ abbrev no_end : ℕ → Bool
 no_end b = not (b == 10)
 
 abbrev pub is_line : Text → Bool
-is_line [] = true
-is_line (b ∷ bs) = no_end b && is_line bs
+is_line t = all_of no_end t
 
 pub line_append : (xs ys : Text) → is_line xs ≡ true → is_line ys ≡ true → is_line (xs ++ ys) ≡ true
-line_append [] ys hx hy = hy
-line_append (x ∷ xs) ys hx hy = rw ((and_true (no_end x) (is_line xs) hx).0) (line_append xs ys (and_true (no_end x) (is_line xs) hx).1 hy)
+line_append = all_append no_end
 
 quiet_line : (w : Text) → all_quiet w ≡ true → is_line w ≡ true
 quiet_line [] h = refl
@@ -474,12 +472,7 @@ quiet_line (b ∷ bs) h =
 
 -- two lines, each ended
 pub same_line : (v w t u : Text) → is_line v ≡ true → is_line w ≡ true → v ++ (10 ∷ t) ≡ w ++ (10 ∷ u) → (v ≡ w) × (t ≡ u)
-same_line [] [] t u hv hw is = (refl, ap tail_of is)
-same_line [] (y ∷ ys) t u hv hw is = absurd (true≢false (sym (and_true (no_end y) (is_line ys) hw).0 ∙ sym (ap (λ x. no_end (head_of x)) is)))
-same_line (x ∷ xs) [] t u hv hw is = absurd (true≢false (sym (and_true (no_end x) (is_line xs) hv).0 ∙ ap (λ x. no_end (head_of x)) is))
-same_line (x ∷ xs) (y ∷ ys) t u hv hw is =
-    let inner = same_line xs ys t u (and_true (no_end x) (is_line xs) hv).1 (and_true (no_end y) (is_line ys) hw).1 (ap tail_of is) in
-    (ap (λ b. b ∷ xs) (ap head_of is) ∙ ap (λ bs. y ∷ bs) inner.0, inner.1)
+same_line v w t u hv hw is = let both = split_by no_end v w (10 ∷ t) (10 ∷ u) hv hw refl refl is in (both.0, ap tail_of both.1)
 
 kind_line : (k : Bool) → is_line (kind_text k) ≡ true
 kind_line true = refl

@@ -15,7 +15,7 @@ use Rattle.ot_print.proofs.WordLemmas.{and_true}
 use Rattle.ot_print.proofs.SectionLemmas.{goes_on_is}
 use Rattle.ot_c.specs.Clauses.{item, row, items, is_long, short, listed, iterated, iterations, dependences}
 use Rattle.ot_c.specs.Laws.{in_identifier, all_identifier, AreIdentifiers, UsesFit}
-use Rattle.ot_c.proofs.WordLemmas.{number_word, name_word}
+use Rattle.ot_c.proofs.WordLemmas.{all_of, all_append, number_word, name_word}
 use Rattle.ot_c.proofs.OrderLemmas.{long}
 
 -- ---- bytes that are no bracket, and end no line
@@ -24,8 +24,7 @@ abbrev pub quiet : ℕ → Bool
 quiet b = (not (b == 40) && not (b == 41)) && not (b == 10)
 
 abbrev pub all_quiet : Text → Bool
-all_quiet [] = true
-all_quiet (b ∷ bs) = quiet b && all_quiet bs
+all_quiet t = all_of quiet t
 
 pub quiet_word : (b : ℕ) → in_identifier b ≡ true → quiet b ≡ true
 quiet_word b h = grind (arith, nat_tests)
@@ -37,8 +36,7 @@ word_quiet (b ∷ bs) h =
     rw (quiet_word b both.0) (word_quiet bs both.1)
 
 pub quiet_append : (xs ys : Text) → all_quiet xs ≡ true → all_quiet ys ≡ true → all_quiet (xs ++ ys) ≡ true
-quiet_append [] ys hx hy = hy
-quiet_append (x ∷ xs) ys hx hy = rw ((and_true (quiet x) (all_quiet xs) hx).0) (quiet_append xs ys (and_true (quiet x) (all_quiet xs) hx).1 hy)
+quiet_append = all_append quiet
 
 pub number_quiet : (n : ℕ) → n < 2 ^ 64 → all_quiet (decimal n) ≡ true
 number_quiet n small = word_quiet (decimal n) (number_word n small)

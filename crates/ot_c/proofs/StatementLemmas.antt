@@ -21,7 +21,7 @@ use Rattle.ot_c.specs.Values.{value}
 use Rattle.ot_c.proofs.WordLemmas.{name_word}
 use Rattle.ot_c.proofs.DependenceLemmas.{HoldOfClauses}
 use Rattle.ot_c.proofs.ClauseLemmas.{in_declared, same_line, declared_line, pointer_is_word, declaration_law}
-use Rattle.ot_c.proofs.WriteLemmas.{AreApart, apart, Write, of_plain, of_own, of_call, set_write, fold_write, same_write, same_pointers, same_value, other_called}
+use Rattle.ot_c.proofs.WriteLemmas.{AreApart, apart, Write, of_plain, of_own, of_call, set_write, fold_write, same_write, same_pointers, same_value}
 
 -- ---- groups: cells in order, each once
 
@@ -263,9 +263,6 @@ same_else names (Next s rest) (Next t more) by fit own margin r u is =
     let both = by own margin (Next t more) (10 ∷ r) (10 ∷ u) fit (append_cancel_left (codes " else {\n") x y is) in
     (both.0, ap tail_of both.1)
 
-if_eq : (d e : E) (a b x y : Body) → d ≡ e → a ≡ x → b ≡ y → If d a b ≡ If e x y
-if_eq d e a b x y i j k = ap (λ v. If v a b) i ∙ ap (λ v. If e v b) j ∙ ap (If e x) k
-
 both_if : (names : List Text) → AreIdentifiers names → (d : E) (a b : Body) (e : E) (x y : Body) → Fits names d → IsByBody names a → IsByBody names b → StatementFits names (If e x y) → IsAfter names (If d a b) (If e x y)
 both_if names are d a b e x y fd by_a by_b fit own margin r u is =
     let left = body names (deeper margin) own a ++ (otherwise margin b (body names (deeper margin) own b) ++ (margin ++ (125 ∷ 10 ∷ r))) in
@@ -276,10 +273,7 @@ both_if names are d a b e x y fd by_a by_b fit own margin r u is =
     let first = by_a own margin x (else_rest names margin own b r) (else_rest names margin own y u) fit.1
     (sym (ap (λ t. body names (deeper margin) own a ++ t) (else_shown names margin own b r)) ∙ bodies ∙ ap (λ t. body names (deeper margin) own x ++ t) (else_shown names margin own y u)) in
     let second = same_else names b y by_b fit.2 own margin r u first.1 in
-    (if_eq d e (normal own a) (normal own b) (normal own x) (normal own y) values.0 first.0 second.0, second.1)
-
-task_eq : (us vs : List Use) (a b : Body) → us ≡ vs → a ≡ b → Task us a ≡ Task vs b
-task_eq us vs a b i j = ap (λ ws. Task ws a) i ∙ ap (Task vs) j
+    (cc (values.0, first.0, second.0), second.1)
 
 both_tasks : (names : List Text) → AreIdentifiers names → (us : List Use) (a : Body) (vs : List Use) (b : Body) → AreInOrder us → UsesFit names us → IsByBody names a → StatementFits names (Task vs b) → IsAfter names (Task us a) (Task vs b)
 both_tasks names are us a vs b order f_us by fit own margin r u is =
@@ -287,7 +281,7 @@ both_tasks names are us a vs b order f_us by fit own margin r u is =
     (append_cancel_left (codes "#pragma omp task") (task_rest names margin us a r) (task_rest names margin vs b u) is) in
     let uses : us ≡ vs = declaration_law names are us vs order fit.0 f_us fit.1 lines.0 in
     let both = same_block names a b by fit.2 us margin r u (lines.1 ∙ ap (λ ws. block_rest names margin ws b u) (sym uses)) in
-    (task_eq us vs (normal us a) (normal vs b) uses (both.0 ∙ ap (λ ws. normal ws b) uses), both.1)
+    (cc (uses, both.0), both.1)
 
 waits_fit : (names : List Text) (w : Option (List Use)) → StatementFits names (Wait w) → AreInOrder (uses_of w) × UsesFit names (uses_of w)
 waits_fit names None fit = (tt, tt)
@@ -343,9 +337,6 @@ same_pointer_lines names are margin op other (c ∷ cs) (d ∷ ds) t u fc fd is 
     let more = same_pointer_lines names are margin op other cs ds t u fc.1 fd.1 (tails rest_c rest_d 59 10 59 10 behind) in
     record { cells = ap (λ z. z ∷ cs) one.1 ∙ ap (λ zs. d ∷ zs) more.cells; rest = more.rest; ops = λ h. one.0 }
 
-group_eq : (p q : Operation) (cs ds : List Cell) (a b : Body) → p ≡ q → cs ≡ ds → a ≡ b → Group p cs a ≡ Group q ds b
-group_eq p q cs ds a b i j k = ap (λ x. Group x cs a) i ∙ ap (λ x. Group q x a) j ∙ ap (Group q ds) k
-
 -- a group's text behind its first bracket
 same_group : (names : List Text) → AreIdentifiers names → (op other : Operation) (es fs : List Cell) (a b : Body) → is_some es ≡ true → CellsFit names es → CellsFit names fs → IsByBody names a → BodyFits names b → (own : List Use) (margin : Text) (r u : Text)
     → group_rest names margin own op es a r ≡ group_rest names margin own other fs b u → (Group op es (normal own a) ≡ Group other fs (normal own b)) × (r ≡ u)
@@ -361,7 +352,7 @@ same_group names are op other es fs a b some fe ff by fit own margin r u is =
     let same : clause other fs ≡ clause op es = ap (λ p. clause p fs) (sym ops) ∙ ap (clause op) (sym lines.cells) in
     let blocks = append_cancel_left (clause op es) (10 ∷ block_a) (10 ∷ block_b) (clauses ∙ ap (λ t. t ++ (10 ∷ block_b)) same) in
     let both = same_block names a b by fit own inner (margin ++ (125 ∷ 10 ∷ r)) (margin ++ (125 ∷ 10 ∷ u)) (ap tail_of blocks) in
-    (group_eq op other es fs (normal own a) (normal own b) ops lines.cells both.0, tails r u 125 10 125 10 (append_cancel_left margin (125 ∷ 10 ∷ r) (125 ∷ 10 ∷ u) both.1))
+    (cc (ops, lines.cells, both.0), tails r u 125 10 125 10 (append_cancel_left margin (125 ∷ 10 ∷ r) (125 ∷ 10 ∷ u) both.1))
 
 both_groups : (names : List Text) → AreIdentifiers names → (op : Operation) (cs : List Cell) (a : Body) (other : Operation) (ds : List Cell) (b : Body) → CellsFit names cs → IsByBody names a → StatementFits names (Group other ds b) → group_number cs ≡ group_number ds → IsAfter names (Group op cs a) (Group other ds b)
 both_groups names are op [] a other [] b f_cs by fit k own margin r u is =
@@ -488,10 +479,7 @@ body_law names are own margin a b f_a f_b is =
 
 -- ---- a fold that is written as a set
 
-as_set_text : (m c sg v : Text) → m ++ (c ++ (32 ∷ 61 ∷ 32 ∷ []) ++ sg ++ c ++ (44 ∷ 32 ∷ []) ++ v ++ (41 ∷ 59 ∷ 10 ∷ [])) ≡ m ++ c ++ (32 ∷ 61 ∷ 32 ∷ []) ++ (sg ++ c ++ (44 ∷ 32 ∷ []) ++ v ++ (41 ∷ [])) ++ (59 ∷ 10 ∷ [])
-as_set_text m c sg v = simp append_assoc refl
-
 pub as_set_law : CalledFoldIsWrittenAsSet
-as_set_law names margin own c e f.Min h k = ap (λ t. margin ++ t) (other_called names own f.Min c e h k) ∙ as_set_text margin (cell names c) (codes "min(") (value names e)
-as_set_law names margin own c e f.Max h k = ap (λ t. margin ++ t) (other_called names own f.Max c e h k) ∙ as_set_text margin (cell names c) (codes "max(") (value names e)
+as_set_law names margin own c e f.Min h k = rw k (simp append_assoc refl)
+as_set_law names margin own c e f.Max h k = rw k (simp append_assoc refl)
 as_set_law names margin own c e _ h k = absurd (true≢false (sym h))

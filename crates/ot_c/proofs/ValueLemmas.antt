@@ -51,47 +51,27 @@ shape_called : (op : Op) → is_call op ≡ (shape_of op == 3)
 shape_called o.Min = refl
 shape_called _ = refl
 
--- ---- texts, ended by what stands behind them
-
-call_text : (sg v w r : Text) → (sg ++ v ++ (44 ∷ 32 ∷ []) ++ w ++ (41 ∷ [])) ++ r ≡ sg ++ (v ++ (44 ∷ 32 ∷ (w ++ (41 ∷ r))))
-call_text sg v w r = simp append_assoc refl
-
-infix_text : (x sg y r : Text) → (x ++ sg ++ y) ++ r ≡ x ++ (sg ++ (y ++ r))
-infix_text x sg y r = simp append_assoc refl
-
 -- ---- operations
-
-call_value : (names : List Text) (op : Op) (a b : E) → is_call op ≡ true → value names (Apply op a b) ≡ sign op ++ value names a ++ (44 ∷ 32 ∷ []) ++ value names b ++ (41 ∷ [])
-call_value names op a b h = rw h refl
-
-infix_value : (names : List Text) (op : Op) (a b : E) → is_call op ≡ false → value names (Apply op a b) ≡ left_side names a b ++ sign op ++ operand names b
-infix_value names op a b h = rw h refl
 
 call_plain : (op : Op) → is_call op ≡ true → is_comparison op ≡ false
 call_plain o.Min h = refl
 call_plain o.Max h = refl
 call_plain _ h = absurd (true≢false (sym h))
 
-operand_call : (names : List Text) (op : Op) (a b : E) → is_call op ≡ true → operand names (Apply op a b) ≡ value names (Apply op a b)
-operand_call names op a b h = rw (call_plain op h, h) refl
-
 -- what stands before an operation that is a side
 abbrev opening : ℕ → Text
 opening n = if n == 4 then codes "(uint64_t)(" else codes "("
 
-enclosed : (names : List Text) (op : Op) (a b : E) → is_call op ≡ false → operand names (Apply op a b) ≡ opening (shape_of op) ++ value names (Apply op a b) ++ codes ")"
-enclosed names o.Min a b h = absurd (true≢false h)
-enclosed names o.Max a b h = absurd (true≢false h)
-enclosed names _ a b h = refl
-
 call_shown : (names : List Text) (op : Op) (a b : E) (r : Text) → is_call op ≡ true → operand names (Apply op a b) ++ r ≡ sign op ++ (value names a ++ (44 ∷ 32 ∷ (value names b ++ (41 ∷ r))))
-call_shown names op a b r h = ap (λ t. t ++ r) (operand_call names op a b h ∙ call_value names op a b h) ∙ call_text (sign op) (value names a) (value names b) r
+call_shown names op a b r h = rw (call_plain op h, h) (simp append_assoc refl)
 
 infix_shown : (names : List Text) (op : Op) (a b : E) (r : Text) → is_call op ≡ false → value names (Apply op a b) ++ r ≡ left_side names a b ++ (sign op ++ (operand names b ++ r))
-infix_shown names op a b r h = ap (λ t. t ++ r) (infix_value names op a b h) ∙ infix_text (left_side names a b) (sign op) (operand names b) r
+infix_shown names op a b r h = rw h (simp append_assoc refl)
 
 enclosed_shown : (names : List Text) (op : Op) (a b : E) (r : Text) → is_call op ≡ false → operand names (Apply op a b) ++ r ≡ opening (shape_of op) ++ (value names (Apply op a b) ++ (41 ∷ r))
-enclosed_shown names op a b r h = ap (λ t. t ++ r) (enclosed names op a b h) ∙ infix_text (opening (shape_of op)) (value names (Apply op a b)) (41 ∷ []) r
+enclosed_shown names o.Min a b r h = absurd (true≢false h)
+enclosed_shown names o.Max a b r h = absurd (true≢false h)
+enclosed_shown names _ a b r h = simp append_assoc refl
 
 -- ---- cells and picks
 

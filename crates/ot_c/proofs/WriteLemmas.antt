@@ -105,11 +105,6 @@ pub data Write (names : List Text) (told : S) (t : Text → Text) : Type 0 where
   of_own : (op : Operation) (c : Cell) (e : E) → is_called op ≡ false → Fits names (CellAt c) → Fits names e → told ≡ Fold op c e → ((r : Text) → t r ≡ own_fold names op c e r) → Write names told t
   of_call : (op : Operation) (c : Cell) (e : E) → is_called op ≡ true → Fits names (CellAt c) → Fits names e → told ≡ Fold op c e → ((r : Text) → t r ≡ own_call names op c e r) → Write names told t
 
--- `a = max(a, v)`: the call is a value
-set_call_text : (w d sg v r : Text) → (w ++ (91 ∷ []) ++ d ++ (93 ∷ []) ++ (32 ∷ 61 ∷ 32 ∷ []) ++ sg ++ (w ++ (91 ∷ []) ++ d ++ (93 ∷ [])) ++ (44 ∷ 32 ∷ []) ++ v ++ (41 ∷ 59 ∷ 10 ∷ [])) ++ r
-    ≡ w ++ (91 ∷ (d ++ (93 ∷ 32 ∷ 61 ∷ 32 ∷ ((sg ++ (w ++ (91 ∷ []) ++ d ++ (93 ∷ [])) ++ (44 ∷ 32 ∷ []) ++ v ++ (41 ∷ [])) ++ (59 ∷ 10 ∷ r)))))
-set_call_text w d sg v r = simp append_assoc refl
-
 pub set_write : (names : List Text) (c : Cell) (e : E) → Fits names (CellAt c) → Fits names e → Write names (Set c e) (λ r. (cell names c ++ codes " = " ++ value names e ++ codes ";\n") ++ r)
 set_write names c e f g = of_plain None c e tt f g refl (λ r. simp append_assoc refl)
 
@@ -118,31 +113,18 @@ as_signed f.Min c e h = absurd (true≢false h)
 as_signed f.Max c e h = absurd (true≢false h)
 as_signed _ c e h = refl
 
-told_signed : (own : List Use) (op : Operation) (c : Cell) (e : E) → is_called op ≡ false → (b : Bool) → only_folds own op c ≡ b → normal_fold own op c e ≡ Fold op c e
-told_signed own op c e sign true h = rw h refl
-told_signed own op c e sign false h = rw h (as_signed op c e sign)
-
--- the text of a fold, by what it is
-pub other_called : (names : List Text) (own : List Use) (op : Operation) (c : Cell) (e : E) → is_called op ≡ true → only_folds own op c ≡ false
-    → fold names own op c e ≡ cell names c ++ codes " = " ++ fold_sign op ++ cell names c ++ codes ", " ++ value names e ++ codes ");\n"
-other_called names own op c e sign h = rw (sign, h) refl
-
 -- an operation with a sign
 signed : (names : List Text) (own : List Use) (op : Operation) (c : Cell) (e : E) → is_called op ≡ false → Fits names (CellAt c) → Fits names e → (b : Bool) → only_folds own op c ≡ b → Write names (normal_fold own op c e) (λ r. fold names own op c e ++ r)
-signed names own op c e sign fc fe true h = of_own op c e sign fc fe (told_signed own op c e sign true h) (λ r. rw (sign, h) (simp append_assoc refl))
+signed names own op c e sign fc fe true h = of_own op c e sign fc fe (rw h refl) (λ r. rw (sign, h) (simp append_assoc refl))
 signed names own op c e sign fc fe false h =
-    of_plain (Some op) c e sign fc fe (told_signed own op c e sign false h) (λ r. rw (sign, h) (simp append_assoc refl))
+    of_plain (Some op) c e sign fc fe (rw h (as_signed op c e sign)) (λ r. rw (sign, h) (simp append_assoc refl))
 
 -- an operation that is a function
 called : (names : List Text) (own : List Use) (op : Operation) (c : Cell) (e : E) → is_called op ≡ true → Fits names (CellAt c) → Fits names e → (b : Bool) → only_folds own op c ≡ b → Write names (normal_fold own op c e) (λ r. fold names own op c e ++ r)
 called names own op c e sign fc fe true h =
     of_call op c e sign fc fe (rw h refl) (λ r. rw (sign, h) (simp append_assoc refl))
-called names own f.Min c e sign fc fe false h =
-    of_plain None c (Apply o.Min (CellAt c) e) tt fc (fc, fe) (rw h refl)
-    (λ r. ap (λ t. t ++ r) (other_called names own f.Min c e refl h) ∙ set_call_text (name names c.array) (decimal c.index) (codes "min(") (value names e) r)
-called names own f.Max c e sign fc fe false h =
-    of_plain None c (Apply o.Max (CellAt c) e) tt fc (fc, fe) (rw h refl)
-    (λ r. ap (λ t. t ++ r) (other_called names own f.Max c e refl h) ∙ set_call_text (name names c.array) (decimal c.index) (codes "max(") (value names e) r)
+called names own f.Min c e sign fc fe false h = of_plain None c (Apply o.Min (CellAt c) e) tt fc (fc, fe) (rw h refl) (λ r. rw h (simp append_assoc refl))
+called names own f.Max c e sign fc fe false h = of_plain None c (Apply o.Max (CellAt c) e) tt fc (fc, fe) (rw h refl) (λ r. rw h (simp append_assoc refl))
 called names own _ c e sign fc fe false h = absurd (true≢false (sym sign))
 
 pub fold_write : (names : List Text) (own : List Use) (op : Operation) (c : Cell) (e : E) → Fits names (CellAt c) → Fits names e → Write names (normal_fold own op c e) (λ r. fold names own op c e ++ r)
@@ -167,9 +149,6 @@ same_plain names are k l c d a b r s hk hl fc fd fa fb is =
     let values = same_value names are a b (10 ∷ r) (10 ∷ s) fa fb 59 59 refl refl (append_cancel_left (write_sign k) x y (cells.1 ∙ ap (λ q. write_sign q ++ y) (sym kinds))) in
     (ap (λ q. as_write q c a) kinds ∙ ap (λ z. as_write l z a) cells.0 ∙ ap (as_write l d) values.0, ap (λ t. tail_of (tail_of t)) values.1)
 
-fold_eq : (p q : Operation) (c d : Cell) (a b : E) → p ≡ q → c ≡ d → a ≡ b → Fold p c a ≡ Fold q d b
-fold_eq p q c d a b i j k = ap (λ x. Fold x c a) i ∙ ap (λ x. Fold q x a) j ∙ ap (Fold q d) k
-
 same_own : (names : List Text) → AreIdentifiers names → (op other : Operation) (c d : Cell) (a b : E) (r s : Text) → Fits names (CellAt c) → Fits names (CellAt d) → Fits names a → Fits names b
     → own_fold names op c a r ≡ own_fold names other d b s → (Fold op c a ≡ Fold other d b) × (r ≡ s)
 same_own names are op other c d a b r s fc fd fa fb is =
@@ -178,7 +157,7 @@ same_own names are op other c d a b r s fc fd fa fb is =
     let one = same_pointers names are op other c d (91 ∷ 48 ∷ 93 ∷ (fold_sign op ++ x)) (91 ∷ 48 ∷ 93 ∷ (fold_sign other ++ y)) fc fd refl refl is in
     let rest : fold_sign op ++ x ≡ fold_sign other ++ y = ap (λ t. tail_of (tail_of (tail_of t))) one.2 in
     let values = same_value names are a b (10 ∷ r) (10 ∷ s) fa fb 59 59 refl refl (append_cancel_left (fold_sign op) x y (rest ∙ ap (λ q. fold_sign q ++ y) (sym one.0))) in
-    (fold_eq op other c d a b one.0 one.1 values.0, ap (λ t. tail_of (tail_of t)) values.1)
+    (cc (one.0, one.1, values.0), ap (λ t. tail_of (tail_of t)) values.1)
 
 same_call : (names : List Text) → AreIdentifiers names → (op other : Operation) (c d : Cell) (a b : E) (r s : Text) → Fits names (CellAt c) → Fits names (CellAt d) → Fits names a → Fits names b
     → own_call names op c a r ≡ own_call names other d b s → (Fold op c a ≡ Fold other d b) × (r ≡ s)
@@ -191,7 +170,7 @@ same_call names are op other c d a b r s fc fd fa fb is =
     let rest : fold_sign op ++ p ≡ fold_sign other ++ q = ap (λ t. tail_of (tail_of (tail_of (tail_of (tail_of (tail_of t)))))) one.2 in
     let again = same_pointers names are op other c d x y fc fd refl refl (append_cancel_left (fold_sign op) p q (rest ∙ ap (λ z. fold_sign z ++ q) (sym one.0))) in
     let values = same_value names are a b (59 ∷ 10 ∷ r) (59 ∷ 10 ∷ s) fa fb 41 41 refl refl (ap (λ t. tail_of (tail_of (tail_of (tail_of (tail_of t))))) again.2) in
-    (fold_eq op other c d a b one.0 one.1 values.0, ap (λ t. tail_of (tail_of (tail_of t))) values.1)
+    (cc (one.0, one.1, values.0), ap (λ t. tail_of (tail_of (tail_of t))) values.1)
 
 -- a write into an array is none into a pointer
 plain_pointer : (names : List Text) → AreApart names → (k : Option Operation) (c : Cell) (e : E) (r : Text) (op : Operation) (d : Cell) (t : Text) → Fits names (CellAt c) → plain names k c e r ≡ pointer names op d ++ t → ⊥
