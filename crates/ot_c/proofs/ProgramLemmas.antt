@@ -115,11 +115,6 @@ same_initial (m ∷ ms) (n ∷ ns) t u f g is =
 declaration_shown : (d : Declared) (t : Text) → declaration (codes "    ") d ++ t ≡ codes "    static uint64_t " ++ (d.name ++ (91 ∷ (decimal d.len ++ (93 ∷ (initial (up_to_last d.numbers) ++ (59 ∷ 10 ∷ t))))))
 declaration_shown d t = simp append_assoc refl
 
-told_eq : (d e : Declared) → d.name ≡ e.name → d.len ≡ e.len → up_to_last d.numbers ≡ up_to_last e.numbers → told_array d ≡ told_array e
-told_eq d e i j k =
-    let at : Text → ℕ → List ℕ → Declared = λ x l ns. record { name = x; len = l; numbers = ns } in
-    ap (λ x. at x d.len (up_to_last d.numbers)) i ∙ ap (λ l. at e.name l (up_to_last d.numbers)) j ∙ ap (at e.name e.len) k
-
 same_declaration : (d e : Declared) (t u : Text) → DeclaredFits d → DeclaredFits e → declaration (codes "    ") d ++ t ≡ declaration (codes "    ") e ++ u → (told_array d ≡ told_array e) × (t ≡ u)
 same_declaration d e t u f g is =
     let x = initial (up_to_last d.numbers) ++ (59 ∷ 10 ∷ t) in
@@ -130,7 +125,7 @@ same_declaration d e t u f g is =
     (append_cancel_left (codes "    static uint64_t ") left right (sym (declaration_shown d t) ∙ is ∙ declaration_shown e u)) in
     let lens = same_number d.len e.len (93 ∷ x) (93 ∷ y) f.1 g.1 refl refl (ap tail_of names_are.1) in
     let numbers = same_initial (up_to_last d.numbers) (up_to_last e.numbers) (10 ∷ t) (10 ∷ u) (up_fits d.numbers f.2) (up_fits e.numbers g.2) (ap tail_of lens.1) in
-    (told_eq d e names_are.0 lens.0 numbers.0, ap tail_of numbers.1)
+    (cc (names_are.0, lens.0, numbers.0), ap tail_of numbers.1)
 
 -- the fifth byte: `s` of `static`, behind a margin
 abbrev fifth : Text → ℕ

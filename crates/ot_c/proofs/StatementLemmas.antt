@@ -21,7 +21,7 @@ use Rattle.ot_c.specs.Values.{value}
 use Rattle.ot_c.proofs.WordLemmas.{name_word}
 use Rattle.ot_c.proofs.DependenceLemmas.{HoldOfClauses}
 use Rattle.ot_c.proofs.ClauseLemmas.{in_declared, same_line, declared_line, pointer_is_word, declaration_law}
-use Rattle.ot_c.proofs.WriteLemmas.{AreApart, apart, Write, of_plain, of_own, of_call, set_write, fold_write, same_write, same_pointers, same_value}
+use Rattle.ot_c.proofs.WriteLemmas.{AreApart, apart, Write, of_plain, of_own, set_write, fold_write, same_write, same_pointers, same_value}
 
 -- ---- groups: cells in order, each once
 
@@ -207,8 +207,7 @@ pointer_kind names are op c t fit = write_kind (pointer names op c) t (pointer_i
 
 of_write : (names : List Text) → AreIdentifiers names → (told : S) (t : Text → Text) (r : Text) → Write names told t → kind_of (t r) ≡ 0
 of_write names are told t r (of_plain k c e hk fc fe is text) = ap kind_of (text r) ∙ cell_kind names are c _ fc
-of_write names are told t r (of_own op c e h fc fe is text) = ap kind_of (text r) ∙ pointer_kind names are op c _ fc
-of_write names are told t r (of_call op c e h fc fe is text) = ap kind_of (text r) ∙ pointer_kind names are op c _ fc
+of_write names are told t r (of_own op c e fc fe is text) = ap kind_of (text r) ∙ pointer_kind names are op c _ fc
 
 kinds : (names : List Text) → AreIdentifiers names → (margin : Text) (own : List Use) (s : S) (r : Text) → StatementFits names s → kind_of (after names margin own s r) ≡ number s
 kinds names are margin own (Set c e) r fit = of_write names are (Set c e) (λ t. (cell names c ++ codes " = " ++ value names e ++ codes ";\n") ++ t) r (set_write names c e fit.0 fit.1)
@@ -289,11 +288,8 @@ waits_fit names (Some us) fit = fit
 
 same_wait : (v w : Option (List Use)) → is_nothing (Wait v) ≡ false → is_nothing (Wait w) ≡ false → uses_of v ≡ uses_of w → v ≡ w
 same_wait None None h k is = refl
-same_wait None (Some []) h k is = absurd (true≢false k)
-same_wait None (Some (u ∷ us)) h k is = absurd (cc)
-same_wait (Some []) w h k is = absurd (true≢false h)
-same_wait (Some (u ∷ us)) None h k is = absurd (cc)
 same_wait (Some (u ∷ us)) (Some vs) h k is = ap Some is
+same_wait _ _ h k is = absurd (cc)
 
 both_waits : (names : List Text) → AreIdentifiers names → (v w : Option (List Use)) → is_nothing (Wait v) ≡ false → is_nothing (Wait w) ≡ false → StatementFits names (Wait v) → StatementFits names (Wait w) → IsAfter names (Wait v) (Wait w)
 both_waits names are v w h k f_v f_w own margin r u is =

@@ -87,13 +87,13 @@ same_pointers names are op other c d t u f g ht hu is =
 abbrev plain : List Text → Option Operation → Cell → E → Text → Text
 plain names k c e r = name names c.array ++ (91 ∷ (decimal c.index ++ (93 ∷ (write_sign k ++ (value names e ++ (59 ∷ 10 ∷ r))))))
 
--- a fold into the task's own copy
-abbrev own_fold : List Text → Operation → Cell → E → Text → Text
-own_fold names op c e r = pointer names op c ++ (91 ∷ 48 ∷ 93 ∷ (fold_sign op ++ (value names e ++ (59 ∷ 10 ∷ r))))
+-- behind the copy of a cell that is the task's own: what is folded into it, by a function or by a sign
+abbrev own_rest : List Text → Bool → Operation → Cell → E → Text → Text
+own_rest names true op c e r = 32 ∷ 61 ∷ 32 ∷ (fold_sign op ++ (pointer names op c ++ (91 ∷ 48 ∷ 93 ∷ 44 ∷ 32 ∷ (value names e ++ (41 ∷ 59 ∷ 10 ∷ r)))))
+own_rest names false op c e r = fold_sign op ++ (value names e ++ (59 ∷ 10 ∷ r))
 
--- the same by an operation that is a function
-abbrev own_call : List Text → Operation → Cell → E → Text → Text
-own_call names op c e r = pointer names op c ++ (91 ∷ 48 ∷ 93 ∷ 32 ∷ 61 ∷ 32 ∷ (fold_sign op ++ (pointer names op c ++ (91 ∷ 48 ∷ 93 ∷ 44 ∷ 32 ∷ (value names e ++ (41 ∷ 59 ∷ 10 ∷ r))))))
+abbrev own_fold : List Text → Operation → Cell → E → Text → Text
+own_fold names op c e r = pointer names op c ++ (91 ∷ 48 ∷ 93 ∷ own_rest names (is_called op) op c e r)
 
 abbrev as_write : Option Operation → Cell → E → S
 as_write None c e = Set c e
@@ -102,8 +102,7 @@ as_write (Some op) c e = Fold op c e
 -- what a write is told as, with its text
 pub data Write (names : List Text) (told : S) (t : Text → Text) : Type 0 where
   of_plain : (k : Option Operation) (c : Cell) (e : E) → HasSign k → Fits names (CellAt c) → Fits names e → told ≡ as_write k c e → ((r : Text) → t r ≡ plain names k c e r) → Write names told t
-  of_own : (op : Operation) (c : Cell) (e : E) → is_called op ≡ false → Fits names (CellAt c) → Fits names e → told ≡ Fold op c e → ((r : Text) → t r ≡ own_fold names op c e r) → Write names told t
-  of_call : (op : Operation) (c : Cell) (e : E) → is_called op ≡ true → Fits names (CellAt c) → Fits names e → told ≡ Fold op c e → ((r : Text) → t r ≡ own_call names op c e r) → Write names told t
+  of_own : (op : Operation) (c : Cell) (e : E) → Fits names (CellAt c) → Fits names e → told ≡ Fold op c e → ((r : Text) → t r ≡ own_fold names op c e r) → Write names told t
 
 pub set_write : (names : List Text) (c : Cell) (e : E) → Fits names (CellAt c) → Fits names e → Write names (Set c e) (λ r. (cell names c ++ codes " = " ++ value names e ++ codes ";\n") ++ r)
 set_write names c e f g = of_plain None c e tt f g refl (λ r. simp append_assoc refl)
@@ -115,14 +114,14 @@ as_signed _ c e h = refl
 
 -- an operation with a sign
 signed : (names : List Text) (own : List Use) (op : Operation) (c : Cell) (e : E) → is_called op ≡ false → Fits names (CellAt c) → Fits names e → (b : Bool) → only_folds own op c ≡ b → Write names (normal_fold own op c e) (λ r. fold names own op c e ++ r)
-signed names own op c e sign fc fe true h = of_own op c e sign fc fe (rw h refl) (λ r. rw (sign, h) (simp append_assoc refl))
+signed names own op c e sign fc fe true h = of_own op c e fc fe (rw h refl) (λ r. rw (sign, h) (simp append_assoc refl))
 signed names own op c e sign fc fe false h =
     of_plain (Some op) c e sign fc fe (rw h (as_signed op c e sign)) (λ r. rw (sign, h) (simp append_assoc refl))
 
 -- an operation that is a function
 called : (names : List Text) (own : List Use) (op : Operation) (c : Cell) (e : E) → is_called op ≡ true → Fits names (CellAt c) → Fits names e → (b : Bool) → only_folds own op c ≡ b → Write names (normal_fold own op c e) (λ r. fold names own op c e ++ r)
 called names own op c e sign fc fe true h =
-    of_call op c e sign fc fe (rw h refl) (λ r. rw (sign, h) (simp append_assoc refl))
+    of_own op c e fc fe (rw h refl) (λ r. rw (sign, h) (simp append_assoc refl))
 called names own f.Min c e sign fc fe false h = of_plain None c (Apply o.Min (CellAt c) e) tt fc (fc, fe) (rw h refl) (λ r. rw h (simp append_assoc refl))
 called names own f.Max c e sign fc fe false h = of_plain None c (Apply o.Max (CellAt c) e) tt fc (fc, fe) (rw h refl) (λ r. rw h (simp append_assoc refl))
 called names own _ c e sign fc fe false h = absurd (true≢false (sym sign))
@@ -149,53 +148,37 @@ same_plain names are k l c d a b r s hk hl fc fd fa fb is =
     let values = same_value names are a b (10 ∷ r) (10 ∷ s) fa fb 59 59 refl refl (append_cancel_left (write_sign k) x y (cells.1 ∙ ap (λ q. write_sign q ++ y) (sym kinds))) in
     (ap (λ q. as_write q c a) kinds ∙ ap (λ z. as_write l z a) cells.0 ∙ ap (as_write l d) values.0, ap (λ t. tail_of (tail_of t)) values.1)
 
+same_rest : (names : List Text) → AreIdentifiers names → (called : Bool) (op : Operation) (c : Cell) (a b : E) (r s : Text) → Fits names a → Fits names b → own_rest names called op c a r ≡ own_rest names called op c b s → (a ≡ b) × (r ≡ s)
+same_rest names are true op c a b r s fa fb is =
+    let x = value names a ++ (41 ∷ 59 ∷ 10 ∷ r) in
+    let y = value names b ++ (41 ∷ 59 ∷ 10 ∷ s) in
+    let p = pointer names op c in
+    let values = same_value names are a b (59 ∷ 10 ∷ r) (59 ∷ 10 ∷ s) fa fb 41 41 refl refl
+    (append_cancel_left (codes "[0], ") x y (append_cancel_left p (codes "[0], " ++ x) (codes "[0], " ++ y) (append_cancel_left (fold_sign op) (p ++ (codes "[0], " ++ x)) (p ++ (codes "[0], " ++ y)) (append_cancel_left (codes " = ") (fold_sign op ++ (p ++ (codes "[0], " ++ x))) (fold_sign op ++ (p ++ (codes "[0], " ++ y))) is)))) in
+    (values.0, ap (λ t. tail_of (tail_of (tail_of t))) values.1)
+same_rest names are false op c a b r s fa fb is =
+    let values = same_value names are a b (10 ∷ r) (10 ∷ s) fa fb 59 59 refl refl (append_cancel_left (fold_sign op) (value names a ++ (59 ∷ 10 ∷ r)) (value names b ++ (59 ∷ 10 ∷ s)) is) in
+    (values.0, ap (λ t. tail_of (tail_of t)) values.1)
+
 same_own : (names : List Text) → AreIdentifiers names → (op other : Operation) (c d : Cell) (a b : E) (r s : Text) → Fits names (CellAt c) → Fits names (CellAt d) → Fits names a → Fits names b
     → own_fold names op c a r ≡ own_fold names other d b s → (Fold op c a ≡ Fold other d b) × (r ≡ s)
 same_own names are op other c d a b r s fc fd fa fb is =
-    let x = value names a ++ (59 ∷ 10 ∷ r) in
-    let y = value names b ++ (59 ∷ 10 ∷ s) in
-    let one = same_pointers names are op other c d (91 ∷ 48 ∷ 93 ∷ (fold_sign op ++ x)) (91 ∷ 48 ∷ 93 ∷ (fold_sign other ++ y)) fc fd refl refl is in
-    let rest : fold_sign op ++ x ≡ fold_sign other ++ y = ap (λ t. tail_of (tail_of (tail_of t))) one.2 in
-    let values = same_value names are a b (10 ∷ r) (10 ∷ s) fa fb 59 59 refl refl (append_cancel_left (fold_sign op) x y (rest ∙ ap (λ q. fold_sign q ++ y) (sym one.0))) in
-    (cc (one.0, one.1, values.0), ap (λ t. tail_of (tail_of t)) values.1)
-
-same_call : (names : List Text) → AreIdentifiers names → (op other : Operation) (c d : Cell) (a b : E) (r s : Text) → Fits names (CellAt c) → Fits names (CellAt d) → Fits names a → Fits names b
-    → own_call names op c a r ≡ own_call names other d b s → (Fold op c a ≡ Fold other d b) × (r ≡ s)
-same_call names are op other c d a b r s fc fd fa fb is =
-    let x = 91 ∷ 48 ∷ 93 ∷ 44 ∷ 32 ∷ (value names a ++ (41 ∷ 59 ∷ 10 ∷ r)) in
-    let y = 91 ∷ 48 ∷ 93 ∷ 44 ∷ 32 ∷ (value names b ++ (41 ∷ 59 ∷ 10 ∷ s)) in
-    let p = pointer names op c ++ x in
-    let q = pointer names other d ++ y in
-    let one = same_pointers names are op other c d (91 ∷ 48 ∷ 93 ∷ 32 ∷ 61 ∷ 32 ∷ (fold_sign op ++ p)) (91 ∷ 48 ∷ 93 ∷ 32 ∷ 61 ∷ 32 ∷ (fold_sign other ++ q)) fc fd refl refl is in
-    let rest : fold_sign op ++ p ≡ fold_sign other ++ q = ap (λ t. tail_of (tail_of (tail_of (tail_of (tail_of (tail_of t)))))) one.2 in
-    let again = same_pointers names are op other c d x y fc fd refl refl (append_cancel_left (fold_sign op) p q (rest ∙ ap (λ z. fold_sign z ++ q) (sym one.0))) in
-    let values = same_value names are a b (59 ∷ 10 ∷ r) (59 ∷ 10 ∷ s) fa fb 41 41 refl refl (ap (λ t. tail_of (tail_of (tail_of (tail_of (tail_of t))))) again.2) in
-    (cc (one.0, one.1, values.0), ap (λ t. tail_of (tail_of (tail_of t))) values.1)
+    let rest : Operation → Cell → Text = λ q z. own_rest names (is_called q) q z b s in
+    let one = same_pointers names are op other c d (91 ∷ 48 ∷ 93 ∷ own_rest names (is_called op) op c a r) (91 ∷ 48 ∷ 93 ∷ rest other d) fc fd refl refl is in
+    let values = same_rest names are (is_called op) op c a b r s fa fb (ap (λ t. tail_of (tail_of (tail_of t))) one.2 ∙ ap (λ q. rest q d) (sym one.0) ∙ ap (rest op) (sym one.1)) in
+    (cc (one.0, one.1, values.0), values.1)
 
 -- a write into an array is none into a pointer
 plain_pointer : (names : List Text) → AreApart names → (k : Option Operation) (c : Cell) (e : E) (r : Text) (op : Operation) (d : Cell) (t : Text) → Fits names (CellAt c) → plain names k c e r ≡ pointer names op d ++ t → ⊥
 plain_pointer names are k c e r op d t f is =
     true≢false (sym (pointer_there names op d t) ∙ sym (ap is_pointer is) ∙ are.array c.array (decimal c.index ++ (93 ∷ (write_sign k ++ (value names e ++ (59 ∷ 10 ∷ r))))) f.0)
 
--- one is called and the other isn't
-not_both : (op other : Operation) → op ≡ other → is_called op ≡ false → is_called other ≡ true → ⊥
-not_both op other e h k = true≢false (sym k ∙ sym (ap is_called e) ∙ h)
-
 pub same_write : (names : List Text) → AreApart names → (p q : S) (t u : Text → Text) (r s : Text) → Write names p t → Write names q u → t r ≡ u s → (p ≡ q) × (r ≡ s)
 same_write names are p q t u r s (of_plain k c a hk fc fa ip it) (of_plain l d b hl fd fb iq iu) is =
     let both = same_plain names are.are k l c d a b r s hk hl fc fd fa fb (sym (it r) ∙ is ∙ iu s) in
     (ip ∙ both.0 ∙ sym iq, both.1)
-same_write names are p q t u r s (of_own op c a h fc fa ip it) (of_own other d b k fd fb iq iu) is =
+same_write names are p q t u r s (of_own op c a fc fa ip it) (of_own other d b fd fb iq iu) is =
     let both = same_own names are.are op other c d a b r s fc fd fa fb (sym (it r) ∙ is ∙ iu s) in
     (ip ∙ both.0 ∙ sym iq, both.1)
-same_write names are p q t u r s (of_call op c a h fc fa ip it) (of_call other d b k fd fb iq iu) is =
-    let both = same_call names are.are op other c d a b r s fc fd fa fb (sym (it r) ∙ is ∙ iu s) in
-    (ip ∙ both.0 ∙ sym iq, both.1)
-same_write names are p q t u r s (of_plain k c a hk fc fa ip it) (of_own other d b l fd fb iq iu) is = absurd (plain_pointer names are k c a r other d _ fc (sym (it r) ∙ is ∙ iu s))
-same_write names are p q t u r s (of_plain k c a hk fc fa ip it) (of_call other d b l fd fb iq iu) is = absurd (plain_pointer names are k c a r other d _ fc (sym (it r) ∙ is ∙ iu s))
-same_write names are p q t u r s (of_own other d b l fd fb ip it) (of_plain k c a hk fc fa iq iu) is = absurd (plain_pointer names are k c a s other d _ fc (sym (iu s) ∙ sym is ∙ it r))
-same_write names are p q t u r s (of_call other d b l fd fb ip it) (of_plain k c a hk fc fa iq iu) is = absurd (plain_pointer names are k c a s other d _ fc (sym (iu s) ∙ sym is ∙ it r))
-same_write names are p q t u r s (of_own op c a h fc fa ip it) (of_call other d b k fd fb iq iu) is =
-    absurd (not_both op other (same_pointers names are.are op other c d _ _ fc fd refl refl (sym (it r) ∙ is ∙ iu s)).0 h k)
-same_write names are p q t u r s (of_call other d b k fd fb ip it) (of_own op c a h fc fa iq iu) is =
-    absurd (not_both op other (sym (same_pointers names are.are other op d c _ _ fd fc refl refl (sym (it r) ∙ is ∙ iu s)).0) h k)
+same_write names are p q t u r s (of_plain k c a hk fc fa ip it) (of_own other d b fd fb iq iu) is = absurd (plain_pointer names are k c a r other d _ fc (sym (it r) ∙ is ∙ iu s))
+same_write names are p q t u r s (of_own other d b fd fb ip it) (of_plain k c a hk fc fa iq iu) is = absurd (plain_pointer names are k c a s other d _ fc (sym (iu s) ∙ sym is ∙ it r))
