@@ -8,3 +8,4 @@ mod SaidLemmas
 mod LanguageLemmas
 mod SizeLemmas
 mod TextLemmas
+mod AcceptedLemmas

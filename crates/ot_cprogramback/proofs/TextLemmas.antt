@@ -32,6 +32,7 @@ use Rattle.ot_clowerback.specs.Reductions.{Grouped}
 use Rattle.ot_clowerback.proofs.ValueLemmas.{or_right}
 use Rattle.ot_cprogramback.specs.Programs.{IsWord, IsDeclared, pointers_of, IsAmong, pointer_to, PointersFit, act_places, act_taking, BecomesProgram}
 use Rattle.ot_cprogramback.specs.Texts.{IsWritten, begins}
+use Rattle.ot_cprogramback.proofs.AcceptedLemmas.{accepted_reduces}
 use Rattle.ot_cprogramback.proofs.ApartLemmas.{pointers_fit, same_cells}
 use Rattle.ot_cprogramback.proofs.DeclarationLemmas.{free_known}
 use Rattle.ot_cprogramback.proofs.FileLemmas.{file_lowered}
@@ -134,5 +135,5 @@ module _ (has_words : TextHasWords) (reads : TextReadsAsFile) (shape : Arrays) (
         file,
         reads in_c numbers p fits written.readable written.low names starts ws names_are below read,
         subst (λ arrays. BecomesProgram shape (lowered names starts file) arrays (act_places starts file.main) (reductions_of (act_taking starts file.main)) (Next (Group Plus [] (normal [] p.body)) End)) (own_arrays p 0 shape.arrays numbers written.arrays)
-            (file_lowered number names starts called shape ds p (length return_words) (fits_from p number names 0 shape.arrays numbers written.arrays are declared_word) declared text_is found written.body written.reduces pointers (omega (arith, few, places))),
+            (file_lowered number names starts called shape ds p (length return_words) (fits_from p number names 0 shape.arrays numbers written.arrays are declared_word) declared text_is found written.body (accepted_reduces called p.body written.accepted written.readable) pointers (omega (arith, few, places))),
       )

@@ -5,7 +5,7 @@ use Rattle.ot_model.specs.Counts.{size}
 use Rattle.ot_model.specs.Names.{IsInShape}
 use Rattle.ot_model.specs.Programs.{Expanded}
 use Rattle.ot_model.specs.Shapes.{Arrays, array_lengths}
-use Rattle.ot_model.specs.Tree.{Group, End, Next}
+use Rattle.ot_model.specs.Tree.{Body, Group, End, Next}
 use Rattle.ot_model.specs.declared.fold.Fold.TheVariants.{Plus}
 use Rattle.ot_print.specs.Laws.{AreNames}
 use Rattle.ot_print.specs.Shown.{Text}
@@ -16,6 +16,7 @@ use Rattle.ot_c.specs.Programs.{declared_from, whole}
 use Rattle.ot_words.specs.declared.word.Word.{Word}
 use Rattle.ot_words.specs.Words.{all_spoken, words_in, AreBelow}
 use Rattle.ot_words.specs.Words as words
+use Rattle.ot_check.specs.Discipline.{OffendsNowhere}
 use Rattle.ot_cfile.specs.Files.{file_at}
 use Rattle.ot_cfile.specs.Program.{Whole}
 use Rattle.ot_cdeclare.specs.Arrays.{Arr}
@@ -35,7 +36,7 @@ ArraysFit (a ∷ arrays) [] = ⊥
 ArraysFit (a ∷ arrays) (ns ∷ numbers) = (is_name a.0 ≡ true) × (0 < a.1) × (a.1 ≤ 65536) × (length ns ≤ a.1) × ArraysFit arrays numbers
 
 -- A program over these arrays, which begin with these numbers: names differ, numbers and places fit, values and bodies nest no deeper than C is
--- read, the cells of groups are there and are left to tasks that fold them, and there are at most 20,000 statements.
+-- read, the cells of groups are there, no statement is an offence, and there are at most 20,000 statements.
 pub record IsWritten (shape : Arrays) (numbers : List (List ℕ)) (p : Expanded) : Type 0 where
   pub names : AreNames (map (λ a. a.0) shape.arrays)
   pub arrays : ArraysFit shape.arrays numbers
@@ -45,9 +46,13 @@ pub record IsWritten (shape : Arrays) (numbers : List (List ℕ)) (p : Expanded)
   pub shows : ShowsFit (names_of (arrays_in_c shape.arrays)) p.shows
   pub readable : IsReadable (names_of (arrays_in_c shape.arrays)) p.body
   pub low : levels p.body ≤ 47
-  pub reduces : BodyReduces [] [] p.body
+  pub accepted : OffendsNowhere p.body
   pub cells : (g : Grouped) → IsAmong g (pointers_of p.body) → IsInShape (array_lengths shape) g.cell
   pub few : size p.body < 20000
+
+-- a body without an offence, whose waits fold nothing, leaves the cells of groups to tasks that fold them
+abbrev pub AcceptedBodyReduces : Type 0
+AcceptedBodyReduces = (names : List Text) (b : Body) → OffendsNowhere b → IsReadable names b → BodyReduces [] [] b
 
 -- an array as it begins, by the name that it has
 abbrev pub begins : Declared → Arr
