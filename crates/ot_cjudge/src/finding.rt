@@ -72,7 +72,8 @@ fn find_on_ways(alloc: Global, order: Order, program: &Program) -> Result<Findin
     ensures { (cells : List (List ℕ)) → NothingRaces (events_by order (stmts_of program.now.body.items) cells) → (IsAccepted order (stmts_of program.now.body.items) → ⊥)
         → IfOk result (Finds order (stmts_of program.now.body.items) cells) }
 {
-    if is_straight(&program.body) {
+    let straight = is_straight(&program.body);
+    if straight {
         straight_ways_are_runs();
         return Ok(Finding::Nowhere);
     }
