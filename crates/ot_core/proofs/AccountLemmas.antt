@@ -10,7 +10,7 @@ use Rattle.std.proofs.lemmas.List.{length-map, length-take, length-append, map-a
 use Rattle.ot_model.specs.Programs.{expanded_of}
 use Rattle.ot_check.specs.Jobs.{Spec}
 use Rattle.ot_book.specs.Answers.{State, opening, answers, answer_or_lost, is_checkpoint}
-use Rattle.ot_book.specs.Books.{Register, IsOpenFor, max_number, appended, cleared, logged, opened, open_line, refused, state_in}
+use Rattle.ot_book.specs.Books.{Register, IsOpenFor, max_number, appended, cleared, logged, opened, open_line, state_in}
 use Rattle.ot_book.specs.Opening.{IsFullFor, AnswersNow, OpensLine}
 use Rattle.ot_book.specs.declared.book.Opened.{Opened}
 use Rattle.ot_book.specs.declared.book.Opened.TheVariants.{Full, Answered, ToRun}
@@ -39,6 +39,9 @@ answered-≤ a sound = sound.within
 
 pub length-told : (a : Account) → length (told a) ≡ answered a
 length-told a = omega (arith, length-append a.kept (map (λ (e : List ℕ × Told). e.1) a.book.log), length-map a.book.log (λ (e : List ℕ × Told). e.1))
+
+next-asked : (a : Account) → answered a < length a.asked → slice_get a.asked (answered a) ≡ Some (next_line a)
+next-asked a below = slice_get-get_or a.asked (answered a) [] below ∙ ap Some (sym (unwrap_or-slice_get a.asked (answered a) []))
 
 line-next : (a : Account) (line : List ℕ) → slice_get a.asked (answered a) ≡ Some line → next_line a ≡ line
 line-next a line is = ap (λ o. unwrap_or o []) is
@@ -103,16 +106,12 @@ taken-more : (a : Account) → answered a < length a.asked → take (answered a 
 taken-more a below =
     take_more a.asked (answered a) [] below ∙ ap (λ l. take (answered a) a.asked ++ l ∷ []) (sym (unwrap_or-slice_get a.asked (answered a) []))
 
-limits-replied : (a : Account) (lost : Bool) → (with_reply a lost).book.limits ≡ a.book.limits
-limits-replied a lost =
-    logged-by (λ r. r.limits ≡ a.book.limits) a.book (next_line a) lost (is_checkpoint (next_line a)) refl (λ _. refl) (λ _. refl)
-
-pending-replied : (a : Account) (lost : Bool) → (with_reply a lost).book.pending ≡ None
-pending-replied a lost =
-    logged-by (λ r. r.pending ≡ None) a.book (next_line a) lost (is_checkpoint (next_line a)) refl (λ _. refl) (λ _. refl)
+book-replied : (a : Account) (lost : Bool) → ((with_reply a lost).book.limits ≡ a.book.limits) × ((with_reply a lost).book.pending ≡ None)
+book-replied a lost =
+    logged-by (λ r. (r.limits ≡ a.book.limits) × (r.pending ≡ None)) a.book (next_line a) lost (is_checkpoint (next_line a)) refl (λ _. (refl, refl)) (λ _. (refl, refl))
 
 entries-replied : (a : Account) (lost : Bool) → (room_asked (with_reply a lost)).entries ≡ (room_asked a).entries
-entries-replied a lost = ap (λ l. (room_after (empty_room l) a.asked).entries) (limits-replied a lost)
+entries-replied a lost = ap (λ l. (room_after (empty_room l) a.asked).entries) (book-replied a lost).0
 
 -- an open request is no checkpoint
 pub open-other : (b : Register) (s : Spec) → IsOpenFor b s → is_checkpoint (open_line b) ≡ false
@@ -129,7 +128,8 @@ sound-replied a lost sound below =
     let count : answered b ≡ n + 1 = answered-replied a lost in
     let lines : take (answered b) a.asked ≡ take n a.asked ++ line ∷ [] = ap (λ k. take k a.asked) count ∙ taken-more a below in
     let many : length (take n a.asked) ≡ length (told a) = omega (arith, sound.within, length-take n a.asked, length-told a) in
-    let now : b.book.limits ≡ limits = limits-replied a lost in record {
+    let now : b.book.limits ≡ limits = (book-replied a lost).0 in
+    let pending = (book-replied a lost).1 in record {
       whole =
           ap (λ l. answers l (opening a.base) (marked (take (answered b) a.asked) (told b))) now
           ∙ ap (λ ls. answers limits (opening a.base) (marked ls (told b))) lines
@@ -149,8 +149,8 @@ sound-replied a lost sound below =
           ∙ ap (λ l. room_after (empty_room l) (take (answered b) a.asked)) (sym now);
       taken = subst (λ l. TakesAll (empty_room l) a.asked) (sym now) sound.taken;
       few = sound.few;
-      next = λ l is. absurd (none-some l (sym (pending-replied a lost) ∙ is));
-      open_both = ((λ some. absurd (true≢false (sym some ∙ ap is_some (pending-replied a lost)))), (λ some. absurd (true≢false (sym some))));
+      next = λ l is. absurd (none-some l (sym pending ∙ is));
+      open_both = ((λ some. absurd (true≢false (sym some ∙ ap is_some pending))), (λ some. absurd (true≢false (sym some))));
       waits = λ s is. absurd (none-some s is);
     }
 
@@ -173,7 +173,7 @@ sound-opened a s sound below runs = record {
   room = sound.room;
   taken = sound.taken;
   few = sound.few;
-  next = λ l is. slice_get-get_or a.asked (answered a) [] below ∙ ap Some (sym (unwrap_or-slice_get a.asked (answered a) [])) ∙ is;
+  next = λ l is. next-asked a below ∙ is;
   open_both = ((λ _. refl), (λ _. refl));
   waits = λ t is. subst (IsOpenFor (opened a.book (next_line a))) (same_Some s t is) runs;
 }
@@ -181,8 +181,7 @@ sound-opened a s sound below runs = record {
 -- the book takes the next line
 pub free-next : (a : Account) → IsSound a → IsUnopened a → ¬ (IsFullFor a.book (next_line a))
 free-next a sound unopened =
-    let at : slice_get a.asked (answered a) ≡ Some (next_line a) =
-    slice_get-get_or a.asked (answered a) [] unopened.0 ∙ ap Some (sym (unwrap_or-slice_get a.asked (answered a) [])) in
+    let at = next-asked a unopened.0 in
     let closed : a.book.pending ≡ None = none-from a.book.pending (λ some. absurd (true≢false (sym (sound.open_both.0 some) ∙ ap is_some unopened.1))) in
     takes-free a.book (next_line a) closed (ap (λ r. takes r (next_line a)) sound.room ∙ takes_all-at (first_room a) a.asked (answered a) (next_line a) sound.taken at)
 
@@ -233,10 +232,6 @@ opened-is a book line s at is = ap (λ b. record a { book = b; spec = Some s }) 
 pub never-waits : (a b : Account) (s : Spec) (lost : Bool) → Waits a s b → is_checkpoint (next_line a) ≡ true → lost ≡ false
 never-waits a b s lost waits asks = absurd (true≢false (sym asks ∙ open-other (opened a.book (next_line a)) waits.spec waits.runs))
 
--- a request that was opened is answered for want of memory
-pub lost-again : (a : Account) (line : List ℕ) (new book : Register) → new ≡ opened a.book line → book ≡ refused new → book ≡ logged a.book line true
-lost-again a line new book is refuses = refuses ∙ ap refused is
-
 -- ---- a line is asked
 
 -- one line more, where the room is counted by what was asked since the last checkpoint
@@ -264,13 +259,13 @@ test-takes a line log since checkpoint test left is logs sinces asks =
     rw (is, logs, sinces, asks) (sym (takes-is a line left))
 
 -- a line more may be counted
-entry_by-≤ : (t : Bool) (n : ℕ) → (if t then 1 else n + 1) ≤ n + 1
-entry_by-≤ true n = omega arith
-entry_by-≤ false n = omega arith
-
 entries-≤ : (r : Room) (ls : List (List ℕ)) → (room_after r ls).entries ≤ r.entries + length ls
 entries-≤ r [] = omega arith
-entries-≤ r (l ∷ ls) = omega (arith, entries-≤ (with_entry r l) ls, entry_by-≤ (is_checkpoint l) r.entries)
+entries-≤ r (l ∷ ls) = omega (arith, entries-≤ (with_entry r l) ls, one (is_checkpoint l))
+  where
+    one : (t : Bool) → (if t then 1 else r.entries + 1) ≤ r.entries + 1
+    one true = omega arith
+    one false = omega arith
 
 pub entries-asked : (a : Account) → (room_asked a).entries ≤ length a.asked
 entries-asked a = omega (arith, entries-≤ (first_room a) a.asked)

@@ -65,15 +65,12 @@ settled-less j k working less after = elim after [
 failed-less : (j k : Live) → ((state_of j ≡ Working) × (out_of j ≤ weight_of j)) ⊎ (state_of j ≡ Failing) → out_of k + 1 ≡ out_of j → (state_of k ≡ Failing) ⊎ (state_of k ≡ Failed)
     → toil_by (state_of k) k + 1 < toil_by (state_of j) j
 failed-less j k before out after = elim before [
-  | inl working ↦ elim after [
-    | inl failing ↦ rw (failing, working.0) (omega (arith, working.1, out))
-    | inr over ↦ rw (over, working.0) (omega (arith, working.1, out))
-  ]
-  | inr was ↦ elim after [
-    | inl failing ↦ rw (failing, was) (omega (arith, out))
-    | inr over ↦ rw (over, was) (omega (arith, out))
-  ]
+  | inl working ↦ rw working.0 (omega (arith, working.1, out, most))
+  | inr was ↦ rw was (omega (arith, out, most))
 ]
+  where
+    most : toil_by (state_of k) k ≤ 1 + 2 * out_of k
+    most = elim after [ inl failing ↦ rw failing (omega arith) | inr over ↦ rw over (omega arith) ]
 
 after-failing : (n : ℕ) → (after_failure n ≡ Failing) ⊎ (after_failure n ≡ Failed)
 after-failing n = elim (cases_eq n 0) [
@@ -228,8 +225,7 @@ calm s scene free t j job = λ k. none-from (work_at j k) (λ some.
 state-of : (j : Live) → IsLively j → NoneOut j → (st : State) → state_of j ≡ st → 0 < over_by (state_of j) + length (claimable_in j)
 state-of j lively none Working is = omega (arith, lively.works is none)
 state-of j lively none Failing is = absurd (lively.fails is none)
-state-of j lively none Ended is = omega (arith, ap over_by is)
-state-of j lively none Failed is = omega (arith, ap over_by is)
+state-of j lively none over is = omega (arith, ap over_by is)
 
 no-job : (s : Scene) (t : ℕ) (o : Option Live) → IsScene s → ((w : ℕ) → hand_of s.hands w ≡ None) → job_of s.floor.jobs t ≡ o → LivelyAt o → over_of o ≡ 0 → claimable_of o ≡ 0 → o ≡ None
 no-job s t None scene free is lively over none = refl

@@ -1,11 +1,11 @@
 use Rattle.std.proofs.Common.{sym, ap, ◌∙◌, subst, true, Some}
 use Rattle.ot_book.specs.Answers.{is_checkpoint}
-use Rattle.ot_book.specs.Books.{IsOpenFor, opened}
+use Rattle.ot_book.specs.Books.{IsOpenFor, opened, refused}
 use Rattle.ot_book.specs.Opening.{IsFullFor, OpensLine, AnswersNow}
 use Rattle.ot_core.specs.Accounts.{IsSound, room_asked}
 use Rattle.ot_core.specs.AccountView.{account_of}
 use Rattle.ot_core.specs.Asking.{next_line, IsUnopened, Waits}
-use Rattle.ot_core.proofs.AccountLemmas.{free-next, tenant-replied, read-next, sound-opened, answered-is, opened-is, lost-again}
+use Rattle.ot_core.proofs.AccountLemmas.{free-next, tenant-replied, read-next, sound-opened, answered-is, opened-is}
 use Rattle.ot_core.proofs.tenant.Tenant.open.Goals as goal
 
 pub open_checkpoint-requires-clause-checkpoint : goal.open_checkpoint-requires-clause-checkpoint
@@ -36,9 +36,8 @@ invariant_of-self-in_default c =
     let a = account_of c.self.inside in
     let free : IsUnopened a = subst IsUnopened (sym c.self.view_is) c.requires in
     let now = subst (OpensLine a.book c.line_at-line.result.now c.open.new.self) c.in-ToRun.is c.in_ok-open.ensures.opened in
-    let lost = lost-again a c.line_at-line.result.now c.open.new.self c.close_refused.new.self now.1 c.close_refused.ensures in
     tenant-replied a true _ c.self.invariant.sound free.0 c.self.invariant.since
-    (answered-is a _ _ true (sym c.in_ok-is_checkpoint.ensures ∙ c.if-branch.false) (read-next a _ _ _ c.self.view_is c.line_at-line.ensures c.answered-next.ensures) lost free.1)
+    (answered-is a _ _ true (sym c.in_ok-is_checkpoint.ensures ∙ c.if-branch.false) (read-next a _ _ _ c.self.view_is c.line_at-line.ensures c.answered-next.ensures) (c.close_refused.ensures ∙ ap refused now.1) free.1)
 
 pub returns-in_default-clause-sound : goal.returns-in_default-clause-sound
 returns-in_default-clause-sound c = (invariant_of-self-in_default c).sound
