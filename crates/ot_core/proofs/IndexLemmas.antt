@@ -96,6 +96,12 @@ indexes-fewer old new keys t key index within mine others = record {
   ];
 }
 
+-- and its job is there
+pub jobs-more : (old new : Slab Live) (keys : List (Option ℕ)) (t key : ℕ) (job : Live) (jobs : List (Option Live)) → Indexes old keys → get old key ≡ None
+    → get new key ≡ Some job → ((k : ℕ) → k ≢ key → get new k ≡ get old k) → map (job_at old) keys ≡ jobs → map (job_at new) (set keys t (Some key)) ≡ set jobs t (Some job)
+jobs-more old new keys t key job jobs index vacant is others was =
+    jobs-changed old new keys t key (Some key) others (λ u _. not_vacant old keys key index vacant u) ∙ ap (set _ t) is ∙ ap (λ l. set l t (Some job)) was
+
 -- where a tenant has a job, it has a key
 pub at_key : (slab : Slab Live) (keys : List (Option ℕ)) (t key : ℕ) (p : Option ℕ) → IsSome (get_or (map (job_at slab) keys) t None) → p ≡ get_or keys t p → p ≡ Some key
     → (t < length keys) × (key_of keys t ≡ Some key)

@@ -7,13 +7,11 @@ use Rattle.ot_core.proofs.marks.Marks.put.Goals.{After-with_bit}
 
 pub index-requires : goal.index-requires
 index-requires c =
-    let inside = c.self.inside in
-    omega (arith, within-words inside.words.items inside.count c.args.number c.self.invariant.many (below-count inside.words.items inside.count c.args.number _ c.self.view_is c.requires), inside.words.ok.0)
+    omega (arith, within-words _ _ c.args.number c.self.invariant.many (below-count _ _ c.args.number _ c.self.view_is c.requires), c.self.inside.words.ok.0)
 
 pub index_mut-requires : goal.index_mut-requires
 index_mut-requires c =
-    let inside = c.self.inside in
-    omega (arith, within-words inside.words.items inside.count c.args.number c.self.invariant.many (below-count inside.words.items inside.count c.args.number _ c.self.view_is c.requires), inside.words.ok.0)
+    omega (arith, within-words _ _ c.args.number c.self.invariant.many (below-count _ _ c.args.number _ c.self.view_is c.requires), c.self.inside.words.ok.0)
 
 puts : (c : After-with_bit) → (c.args.number < c.self.inside.count) × Puts c.self.inside.words.items c.args.number c.with_bit.result c.args.is_set
 puts c =
