@@ -63,7 +63,7 @@ runs-short f now t job next (Err e) is at working some same = record {
 pub fails-in : (f now : Floor) (t : ℕ) (done : Done) (job next : Live) → f ≡ now → job_of f.jobs t ≡ Some job → HasFailed job done next
     → FailsIn now t done (job_of now.jobs t) (with_job f t (Some next))
 fails-in f now t done job next is at failed =
-    let does : FailsIn f t done (Some job) (with_job f t (Some next)) = (next, failed, refl) in
+    let does : FailsIn f t done (Some job) (with_job f t (Some next)) = record { next = next; failed = failed; new_is = refl } in
     subst (λ (o : Floor). FailsIn o t done (job_of o.jobs t) (with_job f t (Some next))) is (subst (λ o. FailsIn f t done o (with_job f t (Some next))) (sym at) does)
 
 pub aborts-job : (f now : Floor) (t : ℕ) (job next : Live) → f ≡ now → job_of f.jobs t ≡ Some job → next ≡ aborted job → AbortsJob now t (with_job f t (Some next))

@@ -181,7 +181,7 @@ breaks-of : (f : Floor) (t : ℕ) (done back : Done) (j : Live) (floor : Floor) 
     → back ≡ done → FailsIn f t back (job_of f.jobs t) floor → BreaksJob f t done floor
 breaks-of f t done back j floor job out same fails =
     let does = subst (λ d. FailsIn f t d (Some j) floor) same (subst (λ o. FailsIn f t back o floor) job fails) in
-    record { job = j; is = job; next = does.0; failed = fails-by j does.0 done out does.1; new_is = does.2 }
+    record { job = j; is = job; next = does.next; failed = fails-by j does.next done out does.failed; new_is = does.new_is }
 
 pub broken : (s now : Scene) (w : ℕ) (h : Held) (done back : Done) (mid floor : Floor) (hand : Option Held) → s ≡ now → IsScene s → w < 16 → hand_of s.hands w ≡ Some h
     → done.task ≡ h.piece.task → brought done ≡ held_work h → mid ≡ s.floor → back ≡ done

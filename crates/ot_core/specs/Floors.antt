@@ -91,10 +91,15 @@ abbrev pub RefusesIn : Option Live → Done → Refused → Type 0
 RefusesIn None done why = why ≡ Stranger
 RefusesIn (Some j) done why = Refuses j done why
 
--- a piece comes back to the tenant's job, if there is one, and fails it
+-- a piece comes back to the tenant's job, and fails it
+pub record FailsJob (old : Floor) (t : ℕ) (done : Done) (job : Live) (new : Floor) : Type 0 where
+  pub next : Live
+  pub failed : HasFailed job done next
+  pub new_is : new ≡ with_job old t (Some next)
+
 abbrev pub FailsIn : Floor → ℕ → Done → Option Live → Floor → Type 0
 FailsIn old t done None new = new ≡ old
-FailsIn old t done (Some job) new = (next : Live) × HasFailed job done next × (new ≡ with_job old t (Some next))
+FailsIn old t done (Some job) new = FailsJob old t done job new
 
 -- the tenant's job fails
 pub record AbortsJob (old : Floor) (t : ℕ) (new : Floor) : Type 0 where
