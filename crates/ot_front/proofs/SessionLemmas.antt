@@ -9,7 +9,6 @@ use Rattle.std.proofs.lemmas.List.{take-append-le}
 use Rattle.ot_book.specs.Books.{Register, next_number, logged}
 use Rattle.ot_book.specs.Room.{room_in, takes, room_after}
 use Rattle.ot_book.proofs.RoomLemmas.{full-takes, free-takes}
-use Rattle.ot_check.proofs.RowLemmas.{slice_get-last}
 use Rattle.ot_check.proofs.SetLemmas.{slice_get-more}
 use Rattle.ot_front.specs.Device.{AppendsFront}
 use Rattle.ot_front.specs.Heard.{Heard, hear, with_line, is_bye, max_line, HasNoEnd}
@@ -23,7 +22,7 @@ use Rattle.ot_front.specs.declared.fault.FrontFault.TheVariants as fault
 use Rattle.ot_front.specs.declared.stop.Stop.{Stop}
 use Rattle.ot_front.specs.declared.stop.Stop.TheVariants.{Bye, Full, LongLine, Closed, Stranger, WriteFailed, Memory}
 use Rattle.ot_front.proofs.HeardLemmas.{heard-more, at_line, with_line-bye, with_line-full, with_line-request, heard-append, heard_ended, lines_grow, heard-piece, heard-long}
-use Rattle.ot_front.proofs.ToldLemmas.{length-texts, length-marks, texts-more, marked-texts, marked-append, length-marked, after-more, told-more, told-append, told-take, room-after, next-after, pending-after}
+use Rattle.ot_front.proofs.ToldLemmas.{length-texts, length-marks, texts-more, marked-texts, marked-append, length-marked, after-more, told-more, told-append, told-take, room-after, next-after, pending-after, slice_get-seam}
 
 -- ---- the marks of logged lines
 
@@ -258,7 +257,7 @@ leaves_run {first} {start} {bytes} {line} going bye free runs =
     let logged_is = sym (logged_lines-marks first (bytes ++ 10 ∷ []) lines (line ∷ []) hears) in
     let place : length (marks lines) ≡ length (texts lines) = length-marks lines ∙ sym (length-texts lines) in record {
       next = line;
-      is_next = ap (λ ls. slice_get ls (length (marks lines))) hears ∙ ap (slice_get (texts lines ++ line ∷ [])) place ∙ slice_get-last (texts lines) line;
+      is_next = ap (λ ls. slice_get ls (length (marks lines))) hears ∙ ap (slice_get (texts lines ++ line ∷ [])) place ∙ slice_get-seam (texts lines) line [];
       runs = subst (λ b. RunsProgram b line) (going.logs ∙ ap (after first) logged_is) runs;
       tells = ap (told first) logged_is;
     }

@@ -1,8 +1,10 @@
 -- A book after more lines, and the replies to them.
 use Rattle.std.proofs.Common.{◌≡◌, ℕ, suc, ◌+◌, ◌≤◌, ◌<◌, List, [], ◌∷◌, ◌++◌, length, take, drop, refl, sym, ap, ◌∙◌, arith, append_assoc, append-nil, length-append, Bool, true, false, true≢false}
-use Rattle.std.specs.Prelude.{None}
+use Rattle.std.specs.Prelude.{Some, None, slice_get}
 use Rattle.std.proofs.Math.ListN.{length-map, take-append-drop}
+use Rattle.std.proofs.Math.Seq.{get_or-append_seam}
 use Rattle.std.proofs.lemmas.List.{map-append}
+use Rattle.std.proofs.lemmas.Option.{slice_get-get_or}
 use Rattle.ot_book.specs.Books.{Register, next_number, state_in, logged}
 use Rattle.ot_book.specs.Answers.{is_checkpoint, answer_or_lost}
 use Rattle.ot_book.specs.Room.{Room, room_in, room_after}
@@ -91,3 +93,9 @@ pending-logged book line lost = logged-by (λ b. b.pending ≡ None) book line l
 pub pending-after : (book : Register) (lines : Lines) → book.pending ≡ None → (after book lines).pending ≡ None
 pending-after book [] closed = closed
 pending-after book (l ∷ lines) closed = pending-after (logged book l.0 l.1) lines (pending-logged book l.0 l.1)
+
+-- ---- places of a list
+
+pub slice_get-seam : {A : Type 0} (xs : List A) (y : A) (ys : List A) → slice_get (xs ++ y ∷ ys) (length xs) ≡ Some y
+slice_get-seam xs y ys =
+    slice_get-get_or (xs ++ y ∷ ys) (length xs) y (omega (arith, length-append xs (y ∷ ys))) ∙ ap Some (get_or-append_seam xs y ys y)
