@@ -29,11 +29,12 @@ const POINTERS: &str =
 "#;
 
 /// What only another way has, in this order: a task in a body that the run leaves out; the same with a wait; the same before a
-/// group that combines over its cell.
+/// group that combines over its cell; with no branches, a pick over a section of which a task writes the cell that the run doesn't read.
 const WAYS: &str =
     r#"[["if",["c","x",0],[["task",[["out",["a",0,1]]],[["set",["c","a",0],7]]]],[]],["set",["c","a",0],5]]|4 a[0] 3
 [["if",["c","x",0],[["task",[["out",["a",0,1]]],[["set",["c","a",0],7]]],["wait"]],[]],["set",["c","a",0],5]]|
 [["if",["c","x",0],[["task",[["out",["x",0,1]]],[["set",["c","x",0],5]]]],[]],["group","+",[["x",0,1]],[["task",[["red","+",["x",0,1]]],[["fold","+",["c","x",0],1]]]]]]|6 x 3
+[["task",[["out",["a",1,1]]],[["set",["c","a",1],5]]],["set",["c","x",0],["pick",["a",0,2],["c","x",0]]]]|3 a[1] 2
 "#;
 
 /// More ways than are judged, and more statements on them. A server takes these programs.
@@ -194,7 +195,7 @@ fn ways(rt: HostRuntime) -> Result<(), Fail> {
             rows = rows.wrapping_add(1);
         }
     }
-    assert!(rt; rows == 3);
+    assert!(rt; rows == 4);
     Ok(())
 }
 

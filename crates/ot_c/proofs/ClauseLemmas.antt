@@ -1,5 +1,5 @@
 -- In C, the clauses of a task or a wait determine what it declares.
-use Rattle.std.proofs.Common.{◌≡◌, ℕ, ◌+◌, ◌<◌, ◌^◌, ◌==◌, List, [], ◌∷◌, ◌++◌, length, drop, Bool, true, false, not, ◌&&◌, if◌then◌else◌, refl, sym, ap, subst, ◌∙◌, append_assoc, arith, true≢false}
+use Rattle.std.proofs.Common.{◌≡◌, ℕ, suc, ◌+◌, ◌<◌, ◌^◌, ◌==◌, List, [], ◌∷◌, ◌++◌, length, drop, Bool, true, false, not, ◌&&◌, if◌then◌else◌, refl, sym, ap, subst, ◌∙◌, append_assoc, arith, true≢false}
 use Rattle.std.specs.Prelude.{codes, decimal}
 use Rattle.std.proofs.lemmas.Fmt.{decimal_injective}
 use Rattle.std.proofs.lemmas.List.{append_cancel_left, append_cancel_right, append-nil}
@@ -21,29 +21,19 @@ use Rattle.ot_print.proofs.SectionLemmas.{come_back}
 use Rattle.ot_print.proofs.ClauseLemmas.{same_uses}
 use Rattle.ot_c.specs.Clauses.{short, listed, iterations, dependences, pointer_word, pointer, pointed, reduction, folded, declared}
 use Rattle.ot_c.specs.Laws.{all_identifier, AreIdentifiers, UsesFit, DeclarationIsDetermined}
-use Rattle.ot_c.proofs.WordLemmas.{starts, split, all_digits, only_digits, number_word, word_append, same_number, name_word, same_array}
+use Rattle.ot_c.proofs.WordLemmas.{all_of, all_append, split_by, starts, split, all_digits, only_digits, number_word, word_append, same_number, name_word, same_array, one_cell}
 use Rattle.ot_c.proofs.OrderLemmas.{long, AreSorted, sorted_in, by_parts}
-use Rattle.ot_c.proofs.DependenceLemmas.{quiet, all_quiet, word_quiet, quiet_append, number_quiet, name_quiet, keep, keep_copying, kind_text, cells_text, listed_cells, SectionFits, SectionsFit, one_iterated, all_iterated, short_fit, long_fit, cells_fit, sections_fit, small_in, cells_are_small, deps_are, cells_quiet, listed_shown, iterated_rest, iterated_shown, keep_deps, Outside}
+use Rattle.ot_c.proofs.DependenceLemmas.{quiet, all_quiet, word_quiet, quiet_append, number_quiet, name_quiet, keep, keep_copying, kind_text, cells_text, listed_cells, SectionFits, SectionsFit, one_iterated, all_iterated, short_fit, long_fit, cells_fit, sections_fit, small_in, cells_are_small, deps_are, cells_quiet, listed_shown, iterated_rest, iterated_shown, keep_deps, HoldOfClauses, in_deps, Outside}
 
 -- ---- reductions are kept
 
 word_pointer : (op : Operation) → all_identifier (pointer_word op) ≡ true
 word_pointer f.Plus = refl
-word_pointer f.Times = refl
-word_pointer f.And = refl
-word_pointer f.Or = refl
-word_pointer f.Xor = refl
-word_pointer f.Min = refl
-word_pointer f.Max = refl
+word_pointer _ = refl
 
 identifier_quiet : (op : Operation) → all_quiet (identifier op) ≡ true
 identifier_quiet f.Plus = refl
-identifier_quiet f.Times = refl
-identifier_quiet f.And = refl
-identifier_quiet f.Or = refl
-identifier_quiet f.Xor = refl
-identifier_quiet f.Min = refl
-identifier_quiet f.Max = refl
+identifier_quiet _ = refl
 
 pub pointer_is_word : (names : List Text) → AreIdentifiers names → (op : Operation) (c : Cell) → c.array < length names → c.index < 2 ^ 64 → all_identifier (pointer names op c) ≡ true
 pointer_is_word names are op c array index =
@@ -102,11 +92,7 @@ abbrev pub depends : List Text → List Use → Text
 depends names us = dependences names (codes "in") us m.Reads ++ dependences names (codes "out") us m.Writes
 
 pub declared_shown : (names : List Text) (us : List Use) → declared names us ≡ depends names us ++ all_folded names us operations
-declared_shown names us =
-    parts (dependences names (codes "in") us m.Reads) (dependences names (codes "out") us m.Writes) (folded names us f.Plus) (folded names us f.Times) (folded names us f.And) (folded names us f.Or) (folded names us f.Xor) (folded names us f.Min) (folded names us f.Max)
-  where
-    parts : (i o x1 x2 x3 x4 x5 x6 x7 : Text) → i ++ o ++ x1 ++ x2 ++ x3 ++ x4 ++ x5 ++ x6 ++ x7 ≡ (i ++ o) ++ (x1 ++ (x2 ++ (x3 ++ (x4 ++ (x5 ++ (x6 ++ (x7 ++ [])))))))
-    parts i o x1 x2 x3 x4 x5 x6 x7 = simp (append_assoc, append-nil) refl
+declared_shown names us = simp (append_assoc, append-nil) refl
 
 keep_declared : (names : List Text) → AreIdentifiers names → (us : List Use) → UsesFit names us → keep Outside (declared names us) ≡ reductions names us operations
 keep_declared names are us fit =
@@ -114,6 +100,24 @@ keep_declared names are us fit =
     let two = dependences names (codes "out") us m.Writes in
     let rest = all_folded names us operations in
     ap (keep Outside) (declared_shown names us ∙ append_assoc one two rest) ∙ keep_deps names are true us m.Reads (two ++ rest) fit ∙ keep_deps names are false us m.Writes rest fit ∙ keep_folded names are us operations fit
+
+-- what holds of clauses holds of all that are declared
+pub in_declared : (names : List Text) (P : Text → Type 0) → HoldOfClauses names P → ((op : Operation) (c : Cell) (cs : List Cell) → CellsFit names (c ∷ cs) → P (one_reduction names op (c ∷ cs))) → (us : List Use) → UsesFit names us → P (declared names us)
+in_declared names P h reduces us fit =
+    subst P (sym (declared_shown names us))
+    (h.both (depends names us) (all_folded names us operations)
+    (h.both (dependences names (codes "in") us m.Reads) (dependences names (codes "out") us m.Writes) (in_deps names P h true us m.Reads fit) (in_deps names P h false us m.Writes fit)) (folds operations))
+  where
+    reduced : (op : Operation) (cs : List Cell) → CellsFit names cs → P (one_reduction names op cs)
+    reduced op [] f = h.none
+    reduced op (c ∷ cs) f = reduces op c cs f
+
+    folds : (ops : List Operation) → P (all_folded names us ops)
+    folds [] = h.none
+    folds (op ∷ ops) =
+        let cs = cells_in us (m.Folds op) in
+        h.both (folded names us op) (all_folded names us ops)
+        (h.both (dependences names (codes "in") us (m.Folds op)) (one_reduction names op cs) (in_deps names P h true us (m.Folds op) fit) (reduced op cs (cells_are_small names cs (small_in names us (m.Folds op) fit)))) (folds ops)
 
 -- ---- reductions determine what is folded
 
@@ -133,28 +137,28 @@ no_clause = refl
 op_in_front : (op : Operation) (t : Text) → first_op (codes " in_reduction(" ++ (identifier op ++ (58 ∷ t))) ≡ number_of op
 unfolding first_op op_number
 op_in_front f.Plus t = refl
-op_in_front f.Times t = refl
-op_in_front f.And t = refl
-op_in_front f.Or t = refl
-op_in_front f.Xor t = refl
-op_in_front f.Min t = refl
-op_in_front f.Max t = refl
+op_in_front _ t = refl
 
 first_reduction : (names : List Text) (op : Operation) (c : Cell) (cs : List Cell) (t : Text) → first_op (one_reduction names op (c ∷ cs) ++ t) ≡ number_of op
 first_reduction names op c cs t =
     ap first_op (reduction_shown names op c cs t) ∙ op_in_front op (tail_of (pointed names (codes ": ") op (c ∷ cs) ++ (41 ∷ t)))
 
-abbrev AreAbove : ℕ → List Operation → Type 0
-AreAbove k [] = Unit {0}
-AreAbove k (op ∷ ops) = (k < number_of op) × AreAbove k ops
+-- operations one after the other, by their numbers
+abbrev AreFrom : ℕ → List Operation → Type 0
+AreFrom n [] = Unit {0}
+AreFrom n (op ∷ ops) = (number_of op ≡ n) × AreFrom (suc n) ops
 
-later_op : (names : List Text) (us : List Use) (k : ℕ) (ops : List Operation) → k < 9 → AreAbove k ops → k < first_op (reductions names us ops)
-later_op names us k [] small above = let e = no_clause in omega (arith, e, small)
-later_op names us k (op ∷ ops) small above = at_once (cells_in us (m.Folds op)) (later_op names us k ops small above.1)
+small_number : (op : Operation) → number_of op < 9
+small_number f.Plus = omega arith
+small_number _ = omega arith
+
+later_op : (names : List Text) (us : List Use) (k n : ℕ) (ops : List Operation) → k < 9 → k < n → AreFrom n ops → k < first_op (reductions names us ops)
+later_op names us k n [] small below from = let e = no_clause in omega (arith, e, small)
+later_op names us k n (op ∷ ops) small below from = at_once (cells_in us (m.Folds op)) (later_op names us k (suc n) ops small (omega (arith, below)) from.1)
   where
     at_once : (cs : List Cell) → k < first_op (reductions names us ops) → k < first_op (one_reduction names op cs ++ reductions names us ops)
     at_once [] rest = rest
-    at_once (c ∷ cs) rest = let e = first_reduction names op c cs (reductions names us ops) in let h = above.0 in omega (arith, e, h)
+    at_once (c ∷ cs) rest = let e = first_reduction names op c cs (reductions names us ops) in let h = from.0 in omega (arith, e, h, below)
 
 -- a name and digits, with `_` between them
 no_digits : (xs d : Text) → all_digits (xs ++ (95 ∷ d)) ≡ false
@@ -174,16 +178,10 @@ same_ends (x ∷ xs) (y ∷ ys) d e hd he is =
     (ap (λ b. b ∷ xs) (ap head_of is) ∙ ap (λ bs. y ∷ bs) inner.0, inner.1)
 
 pointer_shown : (names : List Text) (w : Text) (op : Operation) (c : Cell) (cs : List Cell) (t : Text) → pointed names w op (c ∷ cs) ++ t ≡ w ++ (pointer names op c ++ (91 ∷ 48 ∷ 58 ∷ 49 ∷ 93 ∷ (pointed names (codes ", ") op cs ++ t)))
-pointer_shown names w op c cs t = parts w (pointer names op c) (pointed names (codes ", ") op cs) t
-  where
-    parts : (w p x t : Text) → (w ++ p ++ (91 ∷ 48 ∷ 58 ∷ 49 ∷ 93 ∷ []) ++ x) ++ t ≡ w ++ (p ++ (91 ∷ 48 ∷ 58 ∷ 49 ∷ 93 ∷ (x ++ t)))
-    parts w p x t = simp append_assoc refl
+pointer_shown names w op c cs t = simp append_assoc refl
 
 pointer_parts : (names : List Text) (op : Operation) (c : Cell) → pointer names op c ≡ pointer_word op ++ (name names c.array ++ (95 ∷ decimal c.index))
-pointer_parts names op c = parts (pointer_word op) (name names c.array) (decimal c.index)
-  where
-    parts : (w x d : Text) → w ++ x ++ (95 ∷ []) ++ d ≡ w ++ (x ++ (95 ∷ d))
-    parts w x d = simp append_assoc refl
+pointer_parts names op c = simp append_assoc refl
 
 pub same_pointer : (names : List Text) → AreIdentifiers names → (op : Operation) (c d : Cell) (t u : Text) → c.array < length names → c.index < 2 ^ 64 → d.array < length names → d.index < 2 ^ 64 → starts t ≡ false → starts u ≡ false
     → pointer names op c ++ t ≡ pointer names op d ++ u → (c ≡ d) × (t ≡ u)
@@ -193,26 +191,22 @@ same_pointer names are op c d t u hc ic hd id ht hu is =
     let ends = same_ends (name names c.array) (name names d.array) (decimal c.index) (decimal d.index) (only_digits c.index ic) (only_digits d.index id) inner in
     (same_cell c d (are.differ c.array d.array hc hd ends.0) (decimal_injective c.index d.index ic id ends.1), words.1)
 
+first_pointed : (names : List Text) → AreIdentifiers names → (w : Text) (op : Operation) (c d : Cell) (cs ds : List Cell) (t u : Text) → CellsFit names (c ∷ cs) → CellsFit names (d ∷ ds) → pointed names w op (c ∷ cs) ++ t ≡ pointed names w op (d ∷ ds) ++ u
+    → (c ≡ d) × (pointed names (codes ", ") op cs ++ t ≡ pointed names (codes ", ") op ds ++ u)
+first_pointed names are w op c d cs ds t u f g is =
+    let x = pointed names (codes ", ") op cs ++ t in
+    let y = pointed names (codes ", ") op ds ++ u in
+    let one = same_pointer names are op c d (codes "[0:1]" ++ x) (codes "[0:1]" ++ y) f.0.0 f.0.1 g.0.0 g.0.1 refl refl
+    (append_cancel_left w (pointer names op c ++ (codes "[0:1]" ++ x)) (pointer names op d ++ (codes "[0:1]" ++ y)) (sym (pointer_shown names w op c cs t) ∙ is ∙ pointer_shown names w op d ds u)) in
+    (one.0, append_cancel_left (codes "[0:1]") x y one.1)
+
 same_further : (names : List Text) → AreIdentifiers names → (op : Operation) (cs ds : List Cell) (r u : Text) → CellsFit names cs → CellsFit names ds → pointed names (codes ", ") op cs ++ (41 ∷ r) ≡ pointed names (codes ", ") op ds ++ (41 ∷ u) → (cs ≡ ds) × (r ≡ u)
 same_further names are op [] [] r u f g is = (refl, ap tail_of is)
 same_further names are op [] (d ∷ ds) r u f g is = absurd (omega (arith, ap head_of (is ∙ pointer_shown names (codes ", ") op d ds (41 ∷ u))))
 same_further names are op (c ∷ cs) [] r u f g is = absurd (omega (arith, ap head_of (sym is ∙ pointer_shown names (codes ", ") op c cs (41 ∷ r))))
 same_further names are op (c ∷ cs) (d ∷ ds) r u f g is =
-    let x = 91 ∷ 48 ∷ 58 ∷ 49 ∷ 93 ∷ (pointed names (codes ", ") op cs ++ (41 ∷ r)) in
-    let y = 91 ∷ 48 ∷ 58 ∷ 49 ∷ 93 ∷ (pointed names (codes ", ") op ds ++ (41 ∷ u)) in
-    let one = same_pointer names are op c d x y f.0.0 f.0.1 g.0.0 g.0.1 refl refl
-    (append_cancel_left (codes ", ") (pointer names op c ++ x) (pointer names op d ++ y) (sym (pointer_shown names (codes ", ") op c cs (41 ∷ r)) ∙ is ∙ pointer_shown names (codes ", ") op d ds (41 ∷ u))) in
-    let rest = same_further names are op cs ds r u f.1 g.1 (append_cancel_left (91 ∷ 48 ∷ 58 ∷ 49 ∷ 93 ∷ []) (pointed names (codes ", ") op cs ++ (41 ∷ r)) (pointed names (codes ", ") op ds ++ (41 ∷ u)) one.1) in
-    (ap (λ e. e ∷ cs) one.0 ∙ ap (λ es. d ∷ es) rest.0, rest.1)
-
-pub same_pointed : (names : List Text) → AreIdentifiers names → (op : Operation) (c : Cell) (cs : List Cell) (d : Cell) (ds : List Cell) (r u : Text) → CellsFit names (c ∷ cs) → CellsFit names (d ∷ ds)
-    → pointed names (codes ": ") op (c ∷ cs) ++ (41 ∷ r) ≡ pointed names (codes ": ") op (d ∷ ds) ++ (41 ∷ u) → ((c ∷ cs) ≡ (d ∷ ds)) × (r ≡ u)
-same_pointed names are op c cs d ds r u f g is =
-    let x = 91 ∷ 48 ∷ 58 ∷ 49 ∷ 93 ∷ (pointed names (codes ", ") op cs ++ (41 ∷ r)) in
-    let y = 91 ∷ 48 ∷ 58 ∷ 49 ∷ 93 ∷ (pointed names (codes ", ") op ds ++ (41 ∷ u)) in
-    let one = same_pointer names are op c d x y f.0.0 f.0.1 g.0.0 g.0.1 refl refl
-    (append_cancel_left (codes ": ") (pointer names op c ++ x) (pointer names op d ++ y) (sym (pointer_shown names (codes ": ") op c cs (41 ∷ r)) ∙ is ∙ pointer_shown names (codes ": ") op d ds (41 ∷ u))) in
-    let rest = same_further names are op cs ds r u f.1 g.1 (append_cancel_left (91 ∷ 48 ∷ 58 ∷ 49 ∷ 93 ∷ []) (pointed names (codes ", ") op cs ++ (41 ∷ r)) (pointed names (codes ", ") op ds ++ (41 ∷ u)) one.1) in
+    let one = first_pointed names are (codes ", ") op c d cs ds (41 ∷ r) (41 ∷ u) f g is in
+    let rest = same_further names are op cs ds r u f.1 g.1 one.1 in
     (ap (λ e. e ∷ cs) one.0 ∙ ap (λ es. d ∷ es) rest.0, rest.1)
 
 same_reduction : (names : List Text) → AreIdentifiers names → (op : Operation) (cs ds : List Cell) (t u : Text) → CellsFit names cs → CellsFit names ds → number_of op < first_op t → number_of op < first_op u → one_reduction names op cs ++ t ≡ one_reduction names op ds ++ u → (cs ≡ ds) × (t ≡ u)
@@ -222,53 +216,25 @@ same_reduction names are op (c ∷ cs) [] t u f g ht hu is = let e : first_op u 
 same_reduction names are op (c ∷ cs) (d ∷ ds) t u f g ht hu is =
     let x = pointed names (codes ": ") op (c ∷ cs) ++ (41 ∷ t) in
     let y = pointed names (codes ": ") op (d ∷ ds) ++ (41 ∷ u) in
-    same_pointed names are op c cs d ds t u f g
-    (append_cancel_left (identifier op) x y (append_cancel_left (codes " in_reduction(") (identifier op ++ x) (identifier op ++ y) (sym (reduction_shown names op c cs t) ∙ is ∙ reduction_shown names op d ds u)))
+    let one = first_pointed names are (codes ": ") op c d cs ds (41 ∷ t) (41 ∷ u) f g
+    (append_cancel_left (identifier op) x y (append_cancel_left (codes " in_reduction(") (identifier op ++ x) (identifier op ++ y) (sym (reduction_shown names op c cs t) ∙ is ∙ reduction_shown names op d ds u))) in
+    let rest = same_further names are op cs ds t u f.1 g.1 one.1 in
+    (ap (λ e. e ∷ cs) one.0 ∙ ap (λ es. d ∷ es) rest.0, rest.1)
 
 abbrev Agree : List Operation → List Use → List Use → Type 0
 Agree [] us vs = Unit {0}
 Agree (op ∷ ops) us vs = (cells_in us (m.Folds op) ≡ cells_in vs (m.Folds op)) × Agree ops us vs
 
--- each number is below the later ones
-abbrev AreRising : List Operation → Type 0
-AreRising [] = Unit {0}
-AreRising (op ∷ ops) = (number_of op < 9) × AreAbove (number_of op) ops × AreRising ops
-
-same_reductions : (names : List Text) → AreIdentifiers names → (us vs : List Use) (ops : List Operation) → UsesFit names us → UsesFit names vs → AreRising ops → reductions names us ops ≡ reductions names vs ops → Agree ops us vs
-same_reductions names are us vs [] f g rising is = tt
-same_reductions names are us vs (op ∷ ops) f g rising is =
+same_reductions : (names : List Text) → AreIdentifiers names → (us vs : List Use) (n : ℕ) (ops : List Operation) → UsesFit names us → UsesFit names vs → AreFrom n ops → reductions names us ops ≡ reductions names vs ops → Agree ops us vs
+same_reductions names are us vs n [] f g from is = tt
+same_reductions names are us vs n (op ∷ ops) f g from is =
     let cs = cells_in us (m.Folds op) in
     let ds = cells_in vs (m.Folds op) in
+    let e = from.0 in
+    let below : number_of op < suc n = omega (arith, e) in
     let both = same_reduction names are op cs ds (reductions names us ops) (reductions names vs ops) (cells_are_small names cs (small_in names us (m.Folds op) f)) (cells_are_small names ds (small_in names vs (m.Folds op) g))
-    (later_op names us (number_of op) ops rising.0 rising.1) (later_op names vs (number_of op) ops rising.0 rising.1) is in
-    (both.0, same_reductions names are us vs ops f g rising.2 both.1)
-
-operations_rise : AreRising operations
-operations_rise = (
-  omega arith,
-  (omega arith, (omega arith, (omega arith, (omega arith, (omega arith, (omega arith, tt)))))),
-  (
-    omega arith,
-    (omega arith, (omega arith, (omega arith, (omega arith, (omega arith, tt))))),
-    (
-      omega arith,
-      (omega arith, (omega arith, (omega arith, (omega arith, tt)))),
-      (
-        omega arith,
-        (omega arith, (omega arith, (omega arith, tt))),
-        (
-          omega arith,
-          (omega arith, (omega arith, tt)),
-          (
-            omega arith,
-            (omega arith, tt),
-            (omega arith, tt, tt),
-          ),
-        ),
-      ),
-    ),
-  ),
-)
+    (later_op names us (number_of op) (suc n) ops (small_number op) below from.1) (later_op names vs (number_of op) (suc n) ops (small_number op) below from.1) is in
+    (both.0, same_reductions names are us vs (suc n) ops f g from.1 both.1)
 
 same_folded : (names : List Text) (us vs : List Use) (ops : List Operation) → Agree ops us vs → all_folded names us ops ≡ all_folded names vs ops
 same_folded names us vs [] h = refl
@@ -312,17 +278,7 @@ first_iterator names k s t = ap clause_of (iterated_shown names k s t) ∙ itera
 -- ---- lists
 
 cells_shown : (names : List Text) (w : Text) (c : Cell) (cs : List Cell) (t : Text) → cells_text names w (c ∷ cs) ++ t ≡ w ++ (name names c.array ++ (91 ∷ (decimal c.index ++ (93 ∷ (cells_text names (codes ", ") cs ++ t)))))
-cells_shown names w c cs t = parts w (name names c.array) (decimal c.index) (cells_text names (codes ", ") cs) t
-  where
-    parts : (w x d y t : Text) → ((w ++ (x ++ (91 ∷ []) ++ d ++ (93 ∷ []))) ++ y) ++ t ≡ w ++ (x ++ (91 ∷ (d ++ (93 ∷ (y ++ t)))))
-    parts w x d y t = simp append_assoc refl
-
-pub one_cell : (names : List Text) → AreIdentifiers names → (c d : Cell) (t u : Text) → c.array < length names → c.index < 2 ^ 64 → d.array < length names → d.index < 2 ^ 64
-    → name names c.array ++ (91 ∷ (decimal c.index ++ (93 ∷ t))) ≡ name names d.array ++ (91 ∷ (decimal d.index ++ (93 ∷ u))) → (c ≡ d) × (t ≡ u)
-one_cell names are c d t u hc ic hd id is =
-    let arrays = same_array names are c.array d.array (91 ∷ (decimal c.index ++ (93 ∷ t))) (91 ∷ (decimal d.index ++ (93 ∷ u))) hc hd refl refl is in
-    let places = same_number c.index d.index (93 ∷ t) (93 ∷ u) ic id refl refl (ap tail_of arrays.1) in
-    (same_cell c d arrays.0 places.0, ap tail_of places.1)
+cells_shown names w c cs t = simp append_assoc refl
 
 first_cells : (names : List Text) → AreIdentifiers names → (w : Text) (c d : Cell) (cs ds : List Cell) (t u : Text) → CellsFit names (c ∷ cs) → CellsFit names (d ∷ ds) → cells_text names w (c ∷ cs) ++ t ≡ cells_text names w (d ∷ ds) ++ u
     → (c ≡ d) × (cells_text names (codes ", ") cs ++ t ≡ cells_text names (codes ", ") ds ++ u)
@@ -403,26 +359,26 @@ same_iterators names are k (s ∷ ss) (t ∷ ts) r u f g hr hu is =
 abbrev four : List Text → List Cell → List Section → List Cell → List Section → Text
 four names a b c d = listed_cells names true a ++ (all_iterated names true b ++ (listed_cells names false c ++ (all_iterated names false d ++ [])))
 
-no_list : (names : List Text) (k : Bool) (ss : List Section) (n : ℕ) → n ≡ list_number k → clause_of (all_iterated names k ss ++ []) ≡ n → ⊥
-no_list names true [] n h e = let z = nothing_there in omega (arith, h, e, z)
-no_list names false [] n h e = let z = nothing_there in omega (arith, h, e, z)
-no_list names true (s ∷ ss) n h e =
-    let z = ap clause_of (sym (append_assoc (one_iterated names true s) (all_iterated names true ss) [])) in
-    let y = first_iterator names true s (all_iterated names true ss ++ []) in omega (arith, h, e, sym z ∙ y)
-no_list names false (s ∷ ss) n h e =
-    let z = ap clause_of (sym (append_assoc (one_iterated names false s) (all_iterated names false ss) [])) in
-    let y = first_iterator names false s (all_iterated names false ss ++ []) in omega (arith, h, e, sym z ∙ y)
+-- behind iterators stands a clause with an iterator, or what stands behind them all
+no_iterator : (names : List Text) (k : Bool) (ss : List Section) (t : Text) (n : ℕ) → (n ≡ 2 → ⊥) → (clause_of t ≡ n → ⊥) → clause_of (all_iterated names k ss ++ t) ≡ n → ⊥
+no_iterator names k [] t n two later e = later e
+no_iterator names k (s ∷ ss) t n two later e = two (sym e ∙ ap clause_of (append_assoc (one_iterated names k s) (all_iterated names k ss) t) ∙ first_iterator names k s (all_iterated names k ss ++ t))
+
+nothing_else : (n : ℕ) → 0 < n → clause_of [] ≡ n → ⊥
+nothing_else n some e = let z = nothing_there in omega (arith, e, z, some)
+
+no_list : (names : List Text) (d : List Section) → clause_of (all_iterated names false d ++ []) ≡ 3 → ⊥
+no_list names d = no_iterator names false d [] 3 (λ e. omega (arith, e)) (nothing_else 3 (omega arith))
 
 abbrev last_two : List Text → List Cell → List Section → Text
 last_two names c d = listed_cells names false c ++ (all_iterated names false d ++ [])
 
 no_first : (names : List Text) (b : List Section) (c : List Cell) (d : List Section) → clause_of (all_iterated names true b ++ last_two names c d) ≡ 1 → ⊥
-no_first names (s ∷ ss) c d e =
-    let y = ap clause_of (append_assoc (one_iterated names true s) (all_iterated names true ss) (last_two names c d)) ∙ first_iterator names true s (all_iterated names true ss ++ last_two names c d) in omega (arith, e, y)
-no_first names [] (x ∷ xs) d e = let y = first_list names false x xs (all_iterated names false d ++ []) in omega (arith, e, y)
-no_first names [] [] [] e = let z = nothing_there in omega (arith, e, z)
-no_first names [] [] (s ∷ ss) e =
-    let y = ap clause_of (append_assoc (one_iterated names false s) (all_iterated names false ss) []) ∙ first_iterator names false s (all_iterated names false ss ++ []) in omega (arith, e, y)
+no_first names b c d = no_iterator names true b (last_two names c d) 1 (λ e. omega (arith, e)) (at_once c)
+  where
+    at_once : (c : List Cell) → clause_of (last_two names c d) ≡ 1 → ⊥
+    at_once [] e = no_iterator names false d [] 1 (λ e. omega (arith, e)) (nothing_else 1 (omega arith)) e
+    at_once (x ∷ xs) e = let y = first_list names false x xs (all_iterated names false d ++ []) in omega (arith, e, y)
 
 no_read : (names : List Text) → AreIdentifiers names → (c : List Cell) (d : List Section) → SectionsFit names d → NoMore names true (last_two names c d)
 no_read names are (x ∷ xs) d fit s r ok is = let y = sym (first_iterator names true s r) ∙ ap clause_of is ∙ first_list names false x xs (all_iterated names false d ++ []) in omega (arith, y)
@@ -439,7 +395,7 @@ same_four : (names : List Text) → AreIdentifiers names → (a : List Cell) (b 
 same_four names are a b c d w x y z fa fb fc fd fw fx fy fz is =
     let one = same_list names are true a w (all_iterated names true b ++ last_two names c d) (all_iterated names true x ++ last_two names y z) fa fw (no_first names b c d) (no_first names x y z) is in
     let two = same_iterators names are true b x (last_two names c d) (last_two names y z) fb fx (no_read names are c d fd) (no_read names are y z fz) one.1 in
-    let three = same_list names are false c y (all_iterated names false d ++ []) (all_iterated names false z ++ []) fc fy (no_list names false d 3 refl) (no_list names false z 3 refl) two.1 in
+    let three = same_list names are false c y (all_iterated names false d ++ []) (all_iterated names false z ++ []) fc fy (no_list names d) (no_list names z) two.1 in
     let last = same_iterators names are false d z [] [] fd fz (nothing_more names false) (nothing_more names false) three.1 in
     (one.0, two.0, three.0, last.0)
 
@@ -488,7 +444,7 @@ all_modes us vs r w h (m.Folds f.Max) = h.1.1.1.1.1.1.0
 
 pub declaration_law : DeclarationIsDetermined
 declaration_law names are us vs o p f g is =
-    let folds = same_reductions names are us vs operations f g operations_rise (sym (keep_declared names are us f) ∙ ap (keep Outside) is ∙ keep_declared names are vs g) in
+    let folds = same_reductions names are us vs 0 operations f g (refl, (refl, (refl, (refl, (refl, (refl, (refl, tt))))))) (sym (keep_declared names are us f) ∙ ap (keep Outside) is ∙ keep_declared names are vs g) in
     let deps : depends names us ≡ depends names vs =
     append_cancel_right (depends names us) (depends names vs) (all_folded names us operations)
     (sym (declared_shown names us) ∙ is ∙ declared_shown names vs ∙ ap (λ t. depends names vs ++ t) (sym (same_folded names us vs operations folds))) in
@@ -503,12 +459,10 @@ abbrev no_end : ℕ → Bool
 no_end b = not (b == 10)
 
 abbrev pub is_line : Text → Bool
-is_line [] = true
-is_line (b ∷ bs) = no_end b && is_line bs
+is_line t = all_of no_end t
 
 pub line_append : (xs ys : Text) → is_line xs ≡ true → is_line ys ≡ true → is_line (xs ++ ys) ≡ true
-line_append [] ys hx hy = hy
-line_append (x ∷ xs) ys hx hy = rw ((and_true (no_end x) (is_line xs) hx).0) (line_append xs ys (and_true (no_end x) (is_line xs) hx).1 hy)
+line_append = all_append no_end
 
 quiet_line : (w : Text) → all_quiet w ≡ true → is_line w ≡ true
 quiet_line [] h = refl
@@ -518,20 +472,14 @@ quiet_line (b ∷ bs) h =
 
 -- two lines, each ended
 pub same_line : (v w t u : Text) → is_line v ≡ true → is_line w ≡ true → v ++ (10 ∷ t) ≡ w ++ (10 ∷ u) → (v ≡ w) × (t ≡ u)
-same_line [] [] t u hv hw is = (refl, ap tail_of is)
-same_line [] (y ∷ ys) t u hv hw is = absurd (true≢false (sym (and_true (no_end y) (is_line ys) hw).0 ∙ sym (ap (λ x. no_end (head_of x)) is)))
-same_line (x ∷ xs) [] t u hv hw is = absurd (true≢false (sym (and_true (no_end x) (is_line xs) hv).0 ∙ ap (λ x. no_end (head_of x)) is))
-same_line (x ∷ xs) (y ∷ ys) t u hv hw is =
-    let inner = same_line xs ys t u (and_true (no_end x) (is_line xs) hv).1 (and_true (no_end y) (is_line ys) hw).1 (ap tail_of is) in
-    (ap (λ b. b ∷ xs) (ap head_of is) ∙ ap (λ bs. y ∷ bs) inner.0, inner.1)
+same_line v w t u hv hw is = let both = split_by no_end v w (10 ∷ t) (10 ∷ u) hv hw refl refl is in (both.0, ap tail_of both.1)
 
 kind_line : (k : Bool) → is_line (kind_text k) ≡ true
 kind_line true = refl
 kind_line false = refl
 
-list_line : (names : List Text) → AreIdentifiers names → (k : Bool) (cs : List Cell) → CellsFit names cs → is_line (listed_cells names k cs) ≡ true
-list_line names are k [] fit = refl
-list_line names are k (c ∷ cs) fit =
+list_line : (names : List Text) → AreIdentifiers names → (k : Bool) (c : Cell) (cs : List Cell) → CellsFit names (c ∷ cs) → is_line (listed_cells names k (c ∷ cs)) ≡ true
+list_line names are k c cs fit =
     let x = cells_text names (codes ": ") (c ∷ cs) in
     line_append (codes " depend(") (kind_text k ++ (x ++ codes ")")) refl
     (line_append (kind_text k) (x ++ codes ")") (kind_line k) (line_append x (codes ")") (quiet_line x (cells_quiet names are (codes ": ") (c ∷ cs) refl fit)) refl))
@@ -549,34 +497,11 @@ iterated_line names are k s fit =
     (line_append (decimal (s.start + s.len)) (41 ∷ 44 ∷ 32 ∷ ks) (quiet_line (decimal (s.start + s.len)) (number_quiet (s.start + s.len) (omega (arith, start, len))))
     (line_append (kind_text k) (58 ∷ 32 ∷ w) (kind_line k) (line_append (name names s.array) (codes "[at])") (quiet_line (name names s.array) (name_quiet names are s.array fit.0)) refl))))
 
-iterators_line : (names : List Text) → AreIdentifiers names → (k : Bool) (ss : List Section) → SectionsFit names ss → is_line (all_iterated names k ss) ≡ true
-iterators_line names are k [] fit = refl
-iterators_line names are k (s ∷ ss) fit = line_append (one_iterated names k s) (all_iterated names k ss) (iterated_line names are k s fit.0) (iterators_line names are k ss fit.1)
-
-deps_line : (names : List Text) → AreIdentifiers names → (k : Bool) (us : List Use) (mode : Mode) → UsesFit names us → is_line (dependences names (kind_text k) us mode) ≡ true
-deps_line names are k us mode fit =
-    ap is_line (deps_are names k us mode fit)
-    ∙ line_append (listed_cells names k (few us mode)) (all_iterated names k (many us mode)) (list_line names are k (few us mode) (few_fit names us mode fit)) (iterators_line names are k (many us mode) (many_fit names us mode fit))
-
-pub reduction_line : (names : List Text) → AreIdentifiers names → (opened : Text) (op : Operation) (cs : List Cell) → is_line opened ≡ true → CellsFit names cs → is_line (reduction names opened op cs) ≡ true
-reduction_line names are opened op [] h fit = refl
-reduction_line names are opened op (c ∷ cs) h fit =
+reduction_line : (names : List Text) → AreIdentifiers names → (op : Operation) (c : Cell) (cs : List Cell) → CellsFit names (c ∷ cs) → is_line (one_reduction names op (c ∷ cs)) ≡ true
+reduction_line names are op c cs fit =
     let x = pointed names (codes ": ") op (c ∷ cs) in
-    line_append (opened ++ identifier op ++ x) (codes ")")
-    (line_append (opened ++ identifier op) x (line_append opened (identifier op) h (quiet_line (identifier op) (identifier_quiet op))) (quiet_line x (pointed_quiet names are (codes ": ") op (c ∷ cs) refl fit))) refl
-
-folded_line : (names : List Text) → AreIdentifiers names → (us : List Use) (ops : List Operation) → UsesFit names us → is_line (all_folded names us ops) ≡ true
-folded_line names are us [] fit = refl
-folded_line names are us (op ∷ ops) fit =
-    let cs = cells_in us (m.Folds op) in
-    line_append (folded names us op) (all_folded names us ops)
-    (line_append (dependences names (codes "in") us (m.Folds op)) (one_reduction names op cs) (deps_line names are true us (m.Folds op) fit)
-    (reduction_line names are (codes " in_reduction(") op cs refl (cells_are_small names cs (small_in names us (m.Folds op) fit))))
-    (folded_line names are us ops fit)
+    line_append (codes " in_reduction(" ++ identifier op ++ x) (codes ")")
+    (line_append (codes " in_reduction(" ++ identifier op) x (line_append (codes " in_reduction(") (identifier op) refl (quiet_line (identifier op) (identifier_quiet op))) (quiet_line x (pointed_quiet names are (codes ": ") op (c ∷ cs) refl fit))) refl
 
 pub declared_line : (names : List Text) → AreIdentifiers names → (us : List Use) → UsesFit names us → is_line (declared names us) ≡ true
-declared_line names are us fit =
-    ap is_line (declared_shown names us)
-    ∙ line_append (depends names us) (all_folded names us operations)
-    (line_append (dependences names (codes "in") us m.Reads) (dependences names (codes "out") us m.Writes) (deps_line names are true us m.Reads fit) (deps_line names are false us m.Writes fit))
-    (folded_line names are us operations fit)
+declared_line names are = in_declared names (λ w. is_line w ≡ true) (record { none = refl; both = line_append; list = list_line names are; iterator = iterated_line names are }) (reduction_line names are)

@@ -1,6 +1,7 @@
 -- Arrays that a program names, one after the other.
 use Rattle.std.proofs.Common.{◌≡◌, ℕ, ◌+◌, ◌≤◌, List, [], ◌∷◌, ◌++◌, length, drop, drop-cons, get_or, suc, ◌<◌, min, Bool, true, false, ◌||◌, refl, sym, ap, ◌∙◌, append_assoc, ◌⊎◌, inl, inr, arith}
 use Rattle.std.specs.Prelude.{Vec, codes}
+use Rattle.std.proofs.Math.Bool.{or_assoc, or-false}
 use Rattle.std.proofs.lemmas.List.{append-nil, drop_all}
 use Rattle.ot_model.specs.Programs.{Expanded}
 use Rattle.ot_model.specs.ShapeView.{arrays_of}
@@ -32,23 +33,15 @@ text_step m p i xs vs a v t u all one two grown before =
     let rest = each_declared m (left p (i + 1) xs vs) in
     let word = words_if (names p i) (declaration m (declared (array_of a) v.items)) in
     let both : each_declared m (left p i xs vs) ≡ word ++ rest =
-    ap (λ ys. each_declared m (declared_from p i (arrays_of ys) (lists_of (drop i vs)))) one
-    ∙ ap (λ ws. each_declared m (declared_from p i (array_of a ∷ arrays_of (drop (i + 1) xs)) (lists_of ws))) two
-    ∙ text_of_first m p i (array_of a) (arrays_of (drop (i + 1) xs)) v.items (lists_of (drop (i + 1) vs)) (names p i) refl in
+    rw (one, two) (text_of_first m p i (array_of a) (arrays_of (drop (i + 1) xs)) v.items (lists_of (drop (i + 1) vs)) (names p i) refl) in
     ap (λ x. x ++ rest) grown ∙ append_assoc t word rest ∙ ap (λ x. t ++ x) (sym both) ∙ before
-
-or_assoc : (a b c : Bool) → ((a || b) || c) ≡ (a || (b || c))
-or_assoc true b c = refl
-or_assoc false b c = refl
 
 pub any_step : {Z : Type 0} (p : Expanded) (i : ℕ) (xs : List ArrayShape) (vs : List (Vec ℕ Z)) (a : ArrayShape) (v : Vec ℕ Z) (any all : Bool)
     → drop i xs ≡ a ∷ drop (i + 1) xs → drop i vs ≡ v ∷ drop (i + 1) vs
     → (any || any_declared (left p i xs vs)) ≡ all → ((any || names p i) || any_declared (left p (i + 1) xs vs)) ≡ all
 any_step p i xs vs a v any all one two before =
     let both : any_declared (left p i xs vs) ≡ (names p i || any_declared (left p (i + 1) xs vs)) =
-    ap (λ ys. any_declared (declared_from p i (arrays_of ys) (lists_of (drop i vs)))) one
-    ∙ ap (λ ws. any_declared (declared_from p i (array_of a ∷ arrays_of (drop (i + 1) xs)) (lists_of ws))) two
-    ∙ any_of_first p i (array_of a) (arrays_of (drop (i + 1) xs)) v.items (lists_of (drop (i + 1) vs)) (names p i) refl in
+    rw (one, two) (any_of_first p i (array_of a) (arrays_of (drop (i + 1) xs)) v.items (lists_of (drop (i + 1) vs)) (names p i) refl) in
     or_assoc any (names p i) (any_declared (left p (i + 1) xs vs)) ∙ ap (λ b. any || b) (sym both) ∙ before
 
 no_numbers : (p : Expanded) (i : ℕ) (xs : List (Text × ℕ)) → declared_from p i xs [] ≡ []
@@ -65,16 +58,12 @@ none_left p i xs vs h = elim (shorter (length xs) (length vs) i h) [
     shorter : (a b i : ℕ) → min a b ≤ i → (a ≤ i) ⊎ (b ≤ i)
     shorter a b i h = grind arith
 
-or_false : (a : Bool) → (a || false) ≡ a
-or_false true = refl
-or_false false = refl
-
 -- the text once none are left
 pub ended : (m : Text) (rest all : List Declared) (any : Bool) (t u start : Text) → rest ≡ [] → t ++ each_declared m rest ≡ start ++ each_declared m all → (any || any_declared rest) ≡ any_declared all → u ≡ t ++ words_if any (codes "\n")
     → u ≡ start ++ declarations m all
 ended m rest all any t u start none text some last =
     let t_is : t ≡ start ++ each_declared m all = sym (append-nil t) ∙ ap (λ ds. t ++ each_declared m ds) (sym none) ∙ text in
-    let any_is : any ≡ any_declared all = sym (or_false any) ∙ ap (λ ds. any || any_declared ds) (sym none) ∙ some in
+    let any_is : any ≡ any_declared all = sym (or-false any) ∙ ap (λ ds. any || any_declared ds) (sym none) ∙ some in
     last ∙ ap (λ x. x ++ words_if any (codes "\n")) t_is ∙ ap (λ b. (start ++ each_declared m all) ++ words_if b (codes "\n")) any_is ∙ append_assoc start (each_declared m all) (words_if (any_declared all) (codes "\n"))
 
 -- the element at a place, and those behind it

@@ -1,6 +1,7 @@
 -- In C, dependences by the cells that are listed and by the sections that have an iterator; a line's reductions alone.
-use Rattle.std.proofs.Common.{◌≡◌, ℕ, zero, suc, ◌+◌, ◌<◌, ◌^◌, ◌==◌, List, [], ◌∷◌, ◌++◌, length, Bool, true, false, not, ◌&&◌, if◌then◌else◌, refl, sym, ap, ◌∙◌, append_assoc, arith, true≢false}
+use Rattle.std.proofs.Common.{◌≡◌, ℕ, zero, suc, ◌+◌, ◌<◌, ◌^◌, ◌==◌, List, [], ◌∷◌, ◌++◌, length, Bool, true, false, not, ◌&&◌, if◌then◌else◌, refl, sym, ap, subst, ◌∙◌, append_assoc, arith}
 use Rattle.std.specs.Prelude.{codes, decimal}
+use Rattle.std.proofs.lemmas.Bool.{not-true}
 use Rattle.std.proofs.lemmas.Bool.Decides.{nat_tests}
 use Rattle.ot_model.specs.declared.expr.Cell.{Cell}
 use Rattle.ot_model.specs.declared.expr.Section.{Section}
@@ -14,7 +15,7 @@ use Rattle.ot_print.proofs.WordLemmas.{and_true}
 use Rattle.ot_print.proofs.SectionLemmas.{goes_on_is}
 use Rattle.ot_c.specs.Clauses.{item, row, items, is_long, short, listed, iterated, iterations, dependences}
 use Rattle.ot_c.specs.Laws.{in_identifier, all_identifier, AreIdentifiers, UsesFit}
-use Rattle.ot_c.proofs.WordLemmas.{number_word, name_word}
+use Rattle.ot_c.proofs.WordLemmas.{all_of, all_append, number_word, name_word}
 use Rattle.ot_c.proofs.OrderLemmas.{long}
 
 -- ---- bytes that are no bracket, and end no line
@@ -23,8 +24,7 @@ abbrev pub quiet : ℕ → Bool
 quiet b = (not (b == 40) && not (b == 41)) && not (b == 10)
 
 abbrev pub all_quiet : Text → Bool
-all_quiet [] = true
-all_quiet (b ∷ bs) = quiet b && all_quiet bs
+all_quiet t = all_of quiet t
 
 pub quiet_word : (b : ℕ) → in_identifier b ≡ true → quiet b ≡ true
 quiet_word b h = grind (arith, nat_tests)
@@ -36,8 +36,7 @@ word_quiet (b ∷ bs) h =
     rw (quiet_word b both.0) (word_quiet bs both.1)
 
 pub quiet_append : (xs ys : Text) → all_quiet xs ≡ true → all_quiet ys ≡ true → all_quiet (xs ++ ys) ≡ true
-quiet_append [] ys hx hy = hy
-quiet_append (x ∷ xs) ys hx hy = rw ((and_true (quiet x) (all_quiet xs) hx).0) (quiet_append xs ys (and_true (quiet x) (all_quiet xs) hx).1 hy)
+quiet_append = all_append quiet
 
 pub number_quiet : (n : ℕ) → n < 2 ^ 64 → all_quiet (decimal n) ≡ true
 number_quiet n small = word_quiet (decimal n) (number_word n small)
@@ -65,35 +64,23 @@ keep One (b ∷ t) = if b == 40 then keep Two t else (if b == 41 then keep Outsi
 keep Two (b ∷ t) = if b == 41 then keep One t else keep Two t
 keep Copying (b ∷ t) = b ∷ (if b == 41 then keep Outside t else keep Copying t)
 
-pub not_true : (b : Bool) → not b ≡ true → b ≡ false
-not_true true h = absurd (true≢false (sym h))
-not_true false h = refl
+quiet_front : (b : ℕ) (bs : Text) → all_quiet (b ∷ bs) ≡ true → ((b == 40) ≡ false) × ((b == 41) ≡ false) × (all_quiet bs ≡ true)
+quiet_front b bs h =
+    let all = and_true (quiet b) (all_quiet bs) h in
+    let both = and_true (not (b == 40)) (not (b == 41)) (and_true (not (b == 40) && not (b == 41)) (not (b == 10)) all.0).0 in
+    (not-true (b == 40) both.0, not-true (b == 41) both.1, all.1)
 
-pub no_bracket : (b : ℕ) → quiet b ≡ true → ((b == 40) ≡ false) × ((b == 41) ≡ false)
-no_bracket b h =
-    let both = and_true (not (b == 40)) (not (b == 41)) (and_true (not (b == 40) && not (b == 41)) (not (b == 10)) h).0 in
-    (not_true (b == 40) both.0, not_true (b == 41) both.1)
-
-pub keep_one : (x t : Text) → all_quiet x ≡ true → keep One (x ++ t) ≡ keep One t
+keep_one : (x t : Text) → all_quiet x ≡ true → keep One (x ++ t) ≡ keep One t
 keep_one [] t h = refl
-keep_one (b ∷ bs) t h =
-    let both = and_true (quiet b) (all_quiet bs) h in
-    let none = no_bracket b both.0 in
-    rw (none.0, none.1) (keep_one bs t both.1)
+keep_one (b ∷ bs) t h = let front = quiet_front b bs h in rw (front.0, front.1) (keep_one bs t front.2)
 
-pub keep_two : (x t : Text) → all_quiet x ≡ true → keep Two (x ++ t) ≡ keep Two t
+keep_two : (x t : Text) → all_quiet x ≡ true → keep Two (x ++ t) ≡ keep Two t
 keep_two [] t h = refl
-keep_two (b ∷ bs) t h =
-    let both = and_true (quiet b) (all_quiet bs) h in
-    let none = no_bracket b both.0 in
-    rw none.1 (keep_two bs t both.1)
+keep_two (b ∷ bs) t h = let front = quiet_front b bs h in rw front.1 (keep_two bs t front.2)
 
 pub keep_copying : (x t : Text) → all_quiet x ≡ true → keep Copying (x ++ t) ≡ x ++ keep Copying t
 keep_copying [] t h = refl
-keep_copying (b ∷ bs) t h =
-    let both = and_true (quiet b) (all_quiet bs) h in
-    let none = no_bracket b both.0 in
-    rw none.1 (ap (λ u. b ∷ u) (keep_copying bs t both.1))
+keep_copying (b ∷ bs) t h = let front = quiet_front b bs h in rw front.1 (ap (λ u. b ∷ u) (keep_copying bs t front.2))
 
 -- ---- dependences, by their cells and their long sections
 
@@ -163,21 +150,19 @@ iterations_are names k (s ∷ ss) = at_once (is_long s) refl (iterations_are nam
 
 -- ---- what fits
 
-pub short_fit : (names : List Text) (ss : List Section) → SectionsFit names ss → SectionsFit names (short ss)
-short_fit names [] fit = tt
-short_fit names (s ∷ ss) fit = at_once (is_long s) refl (short_fit names ss fit.1)
+parts_fit : (names : List Text) (ss : List Section) → SectionsFit names ss → SectionsFit names (short ss) × SectionsFit names (long ss)
+parts_fit names [] fit = (tt, tt)
+parts_fit names (s ∷ ss) fit = at_once (is_long s) refl (parts_fit names ss fit.1)
   where
-    at_once : (b : Bool) → is_long s ≡ b → SectionsFit names (short ss) → SectionsFit names (short (s ∷ ss))
-    at_once true h rest = rw h rest
-    at_once false h rest = rw h (fit.0, rest)
+    at_once : (b : Bool) → is_long s ≡ b → SectionsFit names (short ss) × SectionsFit names (long ss) → SectionsFit names (short (s ∷ ss)) × SectionsFit names (long (s ∷ ss))
+    at_once true h rest = rw h (rest.0, (fit.0, rest.1))
+    at_once false h rest = rw h ((fit.0, rest.0), rest.1)
+
+pub short_fit : (names : List Text) (ss : List Section) → SectionsFit names ss → SectionsFit names (short ss)
+short_fit names ss fit = (parts_fit names ss fit).0
 
 pub long_fit : (names : List Text) (ss : List Section) → SectionsFit names ss → SectionsFit names (long ss)
-long_fit names [] fit = tt
-long_fit names (s ∷ ss) fit = at_once (is_long s) refl (long_fit names ss fit.1)
-  where
-    at_once : (b : Bool) → is_long s ≡ b → SectionsFit names (long ss) → SectionsFit names (long (s ∷ ss))
-    at_once true h rest = rw h (fit.0, rest)
-    at_once false h rest = rw h rest
+long_fit names ss fit = (parts_fit names ss fit).1
 
 pub fit_append : (names : List Text) (xs ys : List Cell) → CellsFit names xs → CellsFit names ys → CellsFit names (xs ++ ys)
 fit_append names [] ys p q = q
@@ -231,6 +216,28 @@ deps_are names k us mode fit =
     ap (λ t. t ++ iterations names (codes " depend(iterator(at = ") (kind_text k) ss) (listed_is names k (short ss) (short_fit names ss ok))
     ∙ ap (λ t. listed_cells names k (cells_of (short ss)) ++ t) (iterations_are names k ss)
 
+-- what holds of clauses, each alone and side by side
+pub record HoldOfClauses (names : List Text) (P : Text → Type 0) : Type 0 where
+  pub none : P []
+  pub both : (x y : Text) → P x → P y → P (x ++ y)
+  pub list : (k : Bool) (c : Cell) (cs : List Cell) → CellsFit names (c ∷ cs) → P (listed_cells names k (c ∷ cs))
+  pub iterator : (k : Bool) (s : Section) → SectionFits names s → P (one_iterated names k s)
+
+-- holds of a mode's dependences
+pub in_deps : (names : List Text) (P : Text → Type 0) → HoldOfClauses names P → (k : Bool) (us : List Use) (mode : Mode) → UsesFit names us → P (dependences names (kind_text k) us mode)
+in_deps names P h k us mode fit =
+    let ss = sections_of (cells_in us mode) in
+    let ok = sections_fit names (cells_in us mode) (small_in names us mode fit) in
+    subst P (sym (deps_are names k us mode fit)) (h.both (listed_cells names k (cells_of (short ss))) (all_iterated names k (long ss)) (lists (cells_of (short ss)) (cells_fit names (short ss) (short_fit names ss ok))) (iterators (long ss) (long_fit names ss ok)))
+  where
+    lists : (cs : List Cell) → CellsFit names cs → P (listed_cells names k cs)
+    lists [] f = h.none
+    lists (c ∷ cs) f = h.list k c cs f
+
+    iterators : (ss : List Section) → SectionsFit names ss → P (all_iterated names k ss)
+    iterators [] f = h.none
+    iterators (s ∷ ss) f = h.both (one_iterated names k s) (all_iterated names k ss) (h.iterator k s f.0) (iterators ss f.1)
+
 -- ---- no dependence is kept
 
 pub item_quiet : (names : List Text) → AreIdentifiers names → (w : Text) (c : Cell) → all_quiet w ≡ true → c.array < length names → c.index < 2 ^ 64 → all_quiet (item names w c.array c.index) ≡ true
@@ -245,10 +252,7 @@ cells_quiet names are w (c ∷ cs) h fit =
     quiet_append (item names w c.array c.index) (cells_text names (codes ", ") cs) (item_quiet names are w c h fit.0.0 fit.0.1) (cells_quiet names are (codes ", ") cs refl fit.1)
 
 pub listed_shown : (names : List Text) (k : Bool) (c : Cell) (cs : List Cell) (t : Text) → listed_cells names k (c ∷ cs) ++ t ≡ codes " depend(" ++ (kind_text k ++ (cells_text names (codes ": ") (c ∷ cs) ++ (41 ∷ t)))
-listed_shown names k c cs t = parts (codes " depend(") (kind_text k) (cells_text names (codes ": ") (c ∷ cs)) t
-  where
-    parts : (a b x t : Text) → (a ++ (b ++ (x ++ (41 ∷ [])))) ++ t ≡ a ++ (b ++ (x ++ (41 ∷ t)))
-    parts a b x t = simp append_assoc refl
+listed_shown names k c cs t = simp append_assoc refl
 
 pub keep_listed : (names : List Text) → AreIdentifiers names → (k : Bool) (cs : List Cell) (t : Text) → CellsFit names cs → keep Outside (listed_cells names k cs ++ t) ≡ keep Outside t
 keep_listed names are k [] t fit = refl
@@ -261,11 +265,7 @@ abbrev pub iterated_rest : List Text → Bool → Section → Text → Text
 iterated_rest names k s t = decimal s.start ++ (58 ∷ (decimal (s.start + s.len) ++ (41 ∷ 44 ∷ 32 ∷ (kind_text k ++ (58 ∷ 32 ∷ (name names s.array ++ (91 ∷ 97 ∷ 116 ∷ 93 ∷ 41 ∷ t)))))))
 
 pub iterated_shown : (names : List Text) (k : Bool) (s : Section) (t : Text) → one_iterated names k s ++ t ≡ codes " depend(iterator(at = " ++ iterated_rest names k s t
-iterated_shown names k s t = parts (codes " depend(iterator(at = ") (decimal s.start) (decimal (s.start + s.len)) (kind_text k) (name names s.array) t
-  where
-    parts : (o ds es ks w t : Text) → (o ++ ds ++ (58 ∷ []) ++ es ++ (41 ∷ 44 ∷ 32 ∷ []) ++ ks ++ (58 ∷ 32 ∷ []) ++ w ++ (91 ∷ 97 ∷ 116 ∷ 93 ∷ 41 ∷ [])) ++ t
-        ≡ o ++ (ds ++ (58 ∷ (es ++ (41 ∷ 44 ∷ 32 ∷ (ks ++ (58 ∷ 32 ∷ (w ++ (91 ∷ 97 ∷ 116 ∷ 93 ∷ 41 ∷ t))))))))
-    parts o ds es ks w t = simp append_assoc refl
+iterated_shown names k s t = simp append_assoc refl
 
 pub keep_iterated : (names : List Text) → AreIdentifiers names → (k : Bool) (s : Section) (t : Text) → SectionFits names s → keep Outside (one_iterated names k s ++ t) ≡ keep Outside t
 keep_iterated names are k s t fit =
@@ -280,16 +280,13 @@ keep_iterated names are k s t fit =
     ∙ keep_one (kind_text k) behind_kind (kind_quiet k)
     ∙ keep_one (name names s.array) behind_name (name_quiet names are s.array fit.0)
 
-pub keep_all_iterated : (names : List Text) → AreIdentifiers names → (k : Bool) (ss : List Section) (t : Text) → SectionsFit names ss → keep Outside (all_iterated names k ss ++ t) ≡ keep Outside t
-keep_all_iterated names are k [] t fit = refl
-keep_all_iterated names are k (s ∷ ss) t fit =
-    ap (keep Outside) (append_assoc (one_iterated names k s) (all_iterated names k ss) t) ∙ keep_iterated names are k s (all_iterated names k ss ++ t) fit.0 ∙ keep_all_iterated names are k ss t fit.1
-
 pub keep_deps : (names : List Text) → AreIdentifiers names → (k : Bool) (us : List Use) (mode : Mode) (t : Text) → UsesFit names us → keep Outside (dependences names (kind_text k) us mode ++ t) ≡ keep Outside t
-keep_deps names are k us mode t fit =
-    let ss = sections_of (cells_in us mode) in
-    let ok = sections_fit names (cells_in us mode) (small_in names us mode fit) in
-    let one = listed_cells names k (cells_of (short ss)) in
-    let two = all_iterated names k (long ss) in
-    ap (λ x. keep Outside (x ++ t)) (deps_are names k us mode fit) ∙ ap (keep Outside) (append_assoc one two t)
-    ∙ keep_listed names are k (cells_of (short ss)) (two ++ t) (cells_fit names (short ss) (short_fit names ss ok)) ∙ keep_all_iterated names are k (long ss) t (long_fit names ss ok)
+keep_deps names are k us mode t fit = in_deps names (λ x. (t : Text) → keep Outside (x ++ t) ≡ keep Outside t) holds k us mode fit t
+  where
+    holds : HoldOfClauses names (λ x. (t : Text) → keep Outside (x ++ t) ≡ keep Outside t)
+    holds = record {
+      none = λ t. refl;
+      both = λ x y p q t. ap (keep Outside) (append_assoc x y t) ∙ p (y ++ t) ∙ q t;
+      list = λ k c cs f t. keep_listed names are k (c ∷ cs) t f;
+      iterator = λ k s f t. keep_iterated names are k s t f;
+    }

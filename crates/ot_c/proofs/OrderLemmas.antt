@@ -1,5 +1,6 @@
 -- Cells in order are determined by their short and their long sections.
 use Rattle.std.proofs.Common.{◌≡◌, List, [], ◌∷◌, ◌++◌, Bool, true, false, ◌||◌, if◌then◌else◌, refl, sym, ap, ◌∙◌, arith, true≢false}
+use Rattle.std.proofs.Math.Bool.{or_assoc}
 use Rattle.std.proofs.lemmas.Bool.Decides.{nat_tests}
 use Rattle.ot_model.specs.Cells.{same_cell, is_before}
 use Rattle.ot_model.specs.Uses.{Precedes, AreInOrder, same_mode}
@@ -17,10 +18,6 @@ use Rattle.ot_c.specs.Clauses.{is_long, short}
 abbrev pub has : Cell → List Cell → Bool
 has c [] = false
 has c (d ∷ ds) = same_cell c d || has c ds
-
-or_assoc : (a b c : Bool) → ((a || b) || c) ≡ (a || (b || c))
-or_assoc true b c = refl
-or_assoc false b c = refl
 
 or_swap : (a b c : Bool) → (a || (b || c)) ≡ (b || (a || c))
 or_swap true true c = refl
@@ -66,11 +63,8 @@ not_below : (c : Cell) (ds : List Cell) → Below c ds → has c ds ≡ false
 not_below c [] h = refl
 not_below c (d ∷ ds) h = rw (other_cell c d h.0 (same_cell c d) refl) (not_below c ds h.1)
 
-same_itself : (c : Cell) → same_cell c c ≡ true
-same_itself c = (cell-decides c c).1 refl
-
 has_first : (c : Cell) (cs : List Cell) → has c (c ∷ cs) ≡ true
-has_first c cs = rw (same_itself c) refl
+has_first c cs = rw ((cell-decides c c).1 refl) refl
 
 first_or_later : (c d : Cell) (ds : List Cell) → AreSorted (d ∷ ds) → Precedes c d → has c (d ∷ ds) ≡ false
 first_or_later c d ds sorted p = rw (other_cell c d p (same_cell c d) refl) (not_below c ds (below_trans c d ds p sorted.0))

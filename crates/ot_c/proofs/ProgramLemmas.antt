@@ -19,9 +19,8 @@ use Rattle.ot_c.specs.Statements.{line, deeper, block, body}
 use Rattle.ot_c.specs.Values.{constant}
 use Rattle.ot_c.specs.declared.named.Call.TheVariants as call
 use Rattle.ot_c.proofs.NameLemmas.{is_one}
-use Rattle.ot_c.proofs.WordLemmas.{starts, split, same_number, name_word}
+use Rattle.ot_c.proofs.WordLemmas.{starts, split, same_number, name_word, one_cell}
 use Rattle.ot_c.proofs.ValueLemmas.{same_literal, constant_is}
-use Rattle.ot_c.proofs.ClauseLemmas.{one_cell}
 use Rattle.ot_c.proofs.WriteLemmas.{apart}
 use Rattle.ot_c.proofs.StatementLemmas.{same_blocks}
 
@@ -84,10 +83,7 @@ further_starts [] t = refl
 further_starts (n ∷ ns) t = refl
 
 further_shown : (n : ℕ) (ns : List ℕ) (t : Text) → further (n ∷ ns) ++ t ≡ 44 ∷ 32 ∷ (constant n ++ (further ns ++ t))
-further_shown n ns t = parts (constant n) (further ns) t
-  where
-    parts : (x y t : Text) → ((44 ∷ 32 ∷ []) ++ x ++ y) ++ t ≡ 44 ∷ 32 ∷ (x ++ (y ++ t))
-    parts x y t = simp append_assoc refl
+further_shown n ns t = simp append_assoc refl
 
 same_further : (ms ns : List ℕ) (t u : Text) → NumbersFit ms → NumbersFit ns → further ms ++ (125 ∷ t) ≡ further ns ++ (125 ∷ u) → (ms ≡ ns) × (t ≡ u)
 same_further [] [] t u f g is = (refl, ap tail_of is)
@@ -102,10 +98,7 @@ same_further (m ∷ ms) (n ∷ ns) t u f g is =
     (ap (λ z. z ∷ ms) first.0 ∙ ap (λ zs. n ∷ zs) rest.0, rest.1)
 
 initial_shown : (n : ℕ) (ns : List ℕ) (t : Text) → initial (n ∷ ns) ++ t ≡ codes " = {" ++ (constant n ++ (further ns ++ (125 ∷ t)))
-initial_shown n ns t = parts (codes " = {") (constant n) (further ns) t
-  where
-    parts : (w x y t : Text) → (w ++ x ++ y ++ (125 ∷ [])) ++ t ≡ w ++ (x ++ (y ++ (125 ∷ t)))
-    parts w x y t = simp append_assoc refl
+initial_shown n ns t = simp append_assoc refl
 
 same_initial : (ms ns : List ℕ) (t u : Text) → NumbersFit ms → NumbersFit ns → initial ms ++ (59 ∷ t) ≡ initial ns ++ (59 ∷ u) → (ms ≡ ns) × (t ≡ u)
 same_initial [] [] t u f g is = (refl, ap tail_of is)
@@ -120,15 +113,7 @@ same_initial (m ∷ ms) (n ∷ ns) t u f g is =
     (ap (λ z. z ∷ ms) first.0 ∙ ap (λ zs. n ∷ zs) rest.0, ap tail_of rest.1)
 
 declaration_shown : (d : Declared) (t : Text) → declaration (codes "    ") d ++ t ≡ codes "    static uint64_t " ++ (d.name ++ (91 ∷ (decimal d.len ++ (93 ∷ (initial (up_to_last d.numbers) ++ (59 ∷ 10 ∷ t))))))
-declaration_shown d t = parts (codes "    ") (codes "static uint64_t ") d.name (decimal d.len) (initial (up_to_last d.numbers)) t
-  where
-    parts : (m w x l i t : Text) → (m ++ w ++ (x ++ (91 ∷ []) ++ l ++ (93 ∷ [])) ++ i ++ (59 ∷ 10 ∷ [])) ++ t ≡ (m ++ w) ++ (x ++ (91 ∷ (l ++ (93 ∷ (i ++ (59 ∷ 10 ∷ t))))))
-    parts m w x l i t = simp append_assoc refl
-
-told_eq : (d e : Declared) → d.name ≡ e.name → d.len ≡ e.len → up_to_last d.numbers ≡ up_to_last e.numbers → told_array d ≡ told_array e
-told_eq d e i j k =
-    let at : Text → ℕ → List ℕ → Declared = λ x l ns. record { name = x; len = l; numbers = ns } in
-    ap (λ x. at x d.len (up_to_last d.numbers)) i ∙ ap (λ l. at e.name l (up_to_last d.numbers)) j ∙ ap (at e.name e.len) k
+declaration_shown d t = simp append_assoc refl
 
 same_declaration : (d e : Declared) (t u : Text) → DeclaredFits d → DeclaredFits e → declaration (codes "    ") d ++ t ≡ declaration (codes "    ") e ++ u → (told_array d ≡ told_array e) × (t ≡ u)
 same_declaration d e t u f g is =
@@ -140,7 +125,7 @@ same_declaration d e t u f g is =
     (append_cancel_left (codes "    static uint64_t ") left right (sym (declaration_shown d t) ∙ is ∙ declaration_shown e u)) in
     let lens = same_number d.len e.len (93 ∷ x) (93 ∷ y) f.1 g.1 refl refl (ap tail_of names_are.1) in
     let numbers = same_initial (up_to_last d.numbers) (up_to_last e.numbers) (10 ∷ t) (10 ∷ u) (up_fits d.numbers f.2) (up_fits e.numbers g.2) (ap tail_of lens.1) in
-    (told_eq d e names_are.0 lens.0 numbers.0, ap tail_of numbers.1)
+    (cc (names_are.0, lens.0, numbers.0), ap tail_of numbers.1)
 
 -- the fifth byte: `s` of `static`, behind a margin
 abbrev fifth : Text → ℕ
@@ -179,10 +164,7 @@ same_declarations ds es t u f g is =
 -- ---- what is shown
 
 show_shown : (names : List Text) (s : Section) (t : Text) → show names (codes "    ") s ++ t ≡ codes "    show(&" ++ (name names s.array ++ (91 ∷ (decimal s.start ++ (93 ∷ 44 ∷ 32 ∷ (decimal s.len ++ (41 ∷ 59 ∷ 10 ∷ t))))))
-show_shown names s t = parts (codes "    ") (codes "show(&") (name names s.array) (decimal s.start) (decimal s.len) t
-  where
-    parts : (m w x d l t : Text) → (m ++ w ++ (x ++ (91 ∷ []) ++ d ++ (93 ∷ [])) ++ (44 ∷ 32 ∷ []) ++ l ++ (41 ∷ 59 ∷ 10 ∷ [])) ++ t ≡ (m ++ w) ++ (x ++ (91 ∷ (d ++ (93 ∷ 44 ∷ 32 ∷ (l ++ (41 ∷ 59 ∷ 10 ∷ t))))))
-    parts m w x d l t = simp append_assoc refl
+show_shown names s t = simp append_assoc refl
 
 abbrev ShowFits : List Text → Section → Type 0
 ShowFits names s = (s.array < length names) × (s.start < 2 ^ 64) × (s.len < 2 ^ 64)
@@ -209,10 +191,7 @@ abbrev more_lists : List Text → List Section → Text
 more_lists names ss = written.further names (codes "    ") ss
 
 more_shown : (names : List Text) (s : Section) (ss : List Section) (t : Text) → more_lists names (s ∷ ss) ++ t ≡ comma_line ++ (show names (codes "    ") s ++ (more_lists names ss ++ t))
-more_shown names s ss t = parts comma_line (show names (codes "    ") s) (more_lists names ss) t
-  where
-    parts : (a b c t : Text) → (a ++ b ++ c) ++ t ≡ a ++ (b ++ (c ++ t))
-    parts a b c t = simp append_assoc refl
+more_shown names s ss t = simp append_assoc refl
 
 -- the thirteenth byte tells the two lines apart
 abbrev thirteenth : Text → ℕ
@@ -290,12 +269,7 @@ parts_of a b c t = words_if a min_text ++ (words_if b max_text ++ (words_if c sh
 whole_shown : (arrays : List (Text × ℕ)) (numbers : List (List ℕ)) (p : Expanded)
     → whole arrays numbers p ≡ head ++ parts_of (body_calls call.Min p.body) (body_calls call.Max p.body) (any_shown p.shows)
     (declarations (codes "    ") (declared_from p 0 arrays numbers) ++ (region_text ++ (region (map (λ a. a.0) arrays) (codes "    ") p ++ last)))
-whole_shown arrays numbers p =
-    parts head (words_if (body_calls call.Min p.body) min_text) (words_if (body_calls call.Max p.body) max_text) (words_if (any_shown p.shows) show_text) main_text (declarations (codes "    ") (declared_from p 0 arrays numbers)) region_text
-    (region (map (λ a. a.0) arrays) (codes "    ") p) last
-  where
-    parts : (h a b c m d e r l : Text) → (h ++ (a ++ b ++ c) ++ m ++ d ++ e) ++ r ++ l ≡ h ++ (a ++ (b ++ (c ++ (m ++ (d ++ (e ++ (r ++ l)))))))
-    parts h a b c m d e r l = simp append_assoc refl
+whole_shown arrays numbers p = simp append_assoc refl
 
 pub program_law : ProgramIsDetermined
 program_law words are arrays others ms ns p q fa fo fp fq text is it =

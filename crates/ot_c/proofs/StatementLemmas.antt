@@ -13,24 +13,21 @@ use Rattle.ot_model.specs.Tree.{E, CellAt, S, Set, Fold, If, Task, Wait, Group, 
 use Rattle.ot_print.specs.Shown.{Text, name, cell}
 use Rattle.ot_print.specs.Laws.{Fits, CellsFit}
 use Rattle.ot_print.proofs.WordLemmas.{and_true, head_of, tail_of}
-use Rattle.ot_model.specs.declared.expr.Section.{Section}
-use Rattle.ot_model.specs.declared.stmt.Mode.{Mode}
-use Rattle.ot_model.specs.declared.stmt.Mode.TheVariants as m
-use Rattle.ot_print.specs.Sections.{cells_in, sections_of}
 use Rattle.ot_cnames.specs.Names.{name_in_c}
-use Rattle.ot_c.specs.Clauses.{is_long, short, listed, iterations, dependences, declared, pointer, reduction}
+use Rattle.ot_c.specs.Clauses.{declared, pointer, reduction}
 use Rattle.ot_c.specs.Laws.{in_identifier, all_identifier, is_identifier, AreIdentifiers, normal_fold, is_nothing, normal_statement, normal, UsesFit, StatementFits, BodyFits, BodyIsDetermined, CalledFoldIsWrittenAsSet}
 use Rattle.ot_c.specs.Statements.{fold, deeper, block, otherwise, put, put_all, each_once, pointers, statement, body}
 use Rattle.ot_c.specs.Values.{value}
 use Rattle.ot_c.proofs.WordLemmas.{name_word}
-use Rattle.ot_c.proofs.ClauseLemmas.{all_folded, operations, declared_shown, same_line, declared_line, pointer_is_word, declaration_law}
-use Rattle.ot_c.proofs.WriteLemmas.{AreApart, apart, Write, of_plain, of_own, of_call, set_write, fold_write, same_write, same_pointers, same_value, other_called}
+use Rattle.ot_c.proofs.DependenceLemmas.{HoldOfClauses}
+use Rattle.ot_c.proofs.ClauseLemmas.{in_declared, same_line, declared_line, pointer_is_word, declaration_law}
+use Rattle.ot_c.proofs.WriteLemmas.{AreApart, apart, Write, of_plain, of_own, set_write, fold_write, same_write, same_pointers, same_value}
 
 -- ---- groups: cells in order, each once
 
-abbrev is_some : List Cell → Bool
+abbrev is_some : {A : Type 0} → List A → Bool
 is_some [] = false
-is_some (c ∷ cs) = true
+is_some (x ∷ xs) = true
 
 put_some : (ds : List Cell) (c : Cell) → is_some (put ds c) ≡ true
 put_some [] c = refl
@@ -118,11 +115,7 @@ word_behind (b ∷ bs) t h = rw ((and_true (in_identifier b) (all_identifier bs)
 no_sign : (b : ℕ) → in_identifier b ≡ true → ((b == 35) ≡ false) × ((b == 123) ≡ false)
 no_sign b h = (grind (arith, nat_tests), grind (arith, nat_tests))
 
-abbrev some_word : Text → Bool
-some_word [] = false
-some_word (b ∷ bs) = true
-
-write_kind : (w t : Text) → all_identifier w ≡ true → some_word w ≡ true → kind_of (w ++ (91 ∷ t)) ≡ 0
+write_kind : (w t : Text) → all_identifier w ≡ true → is_some w ≡ true → kind_of (w ++ (91 ∷ t)) ≡ 0
 unfolding kind_of
 write_kind [] t h k = absurd (true≢false (sym k))
 write_kind (b ∷ bs) t h k =
@@ -134,44 +127,16 @@ abbrev calm : Text → Bool
 calm [] = false
 calm (b ∷ t) = b == 32 || b == 10
 
-calm_listed : (names : List Text) (k : Text) (ss : List Section) (t : Text) → calm t ≡ true → calm (listed names (codes " depend(") k ss ++ t) ≡ true
-calm_listed names k [] t h = h
-calm_listed names k (s ∷ ss) t h = refl
-
-calm_iterations : (names : List Text) (k : Text) (ss : List Section) (t : Text) → calm t ≡ true → calm (iterations names (codes " depend(iterator(at = ") k ss ++ t) ≡ true
-calm_iterations names k [] t h = h
-calm_iterations names k (s ∷ ss) t h = at_once (is_long s) refl (calm_iterations names k ss t h)
+calm_declared : (names : List Text) (us : List Use) (t : Text) → UsesFit names us → calm (declared names us ++ (10 ∷ t)) ≡ true
+calm_declared names us t fit = in_declared names (λ x. (t : Text) → calm t ≡ true → calm (x ++ t) ≡ true) holds (λ op c cs f t h. refl) us fit (10 ∷ t) refl
   where
-    at_once : (b : Bool) → is_long s ≡ b → calm (iterations names (codes " depend(iterator(at = ") k ss ++ t) ≡ true → calm (iterations names (codes " depend(iterator(at = ") k (s ∷ ss) ++ t) ≡ true
-    at_once true g rest = rw g refl
-    at_once false g rest = rw g rest
-
-calm_deps : (names : List Text) (k : Text) (us : List Use) (mode : Mode) (t : Text) → calm t ≡ true → calm (dependences names k us mode ++ t) ≡ true
-calm_deps names k us mode t h =
-    let ss = sections_of (cells_in us mode) in
-    let one = listed names (codes " depend(") k (short ss) in
-    let two = iterations names (codes " depend(iterator(at = ") k ss in
-    ap calm (append_assoc one two t) ∙ calm_listed names k (short ss) (two ++ t) (calm_iterations names k ss t h)
-
-calm_reduction : (names : List Text) (op : Operation) (cs : List Cell) (t : Text) → calm t ≡ true → calm (reduction names (codes " in_reduction(") op cs ++ t) ≡ true
-calm_reduction names op [] t h = h
-calm_reduction names op (c ∷ cs) t h = refl
-
-calm_folded : (names : List Text) (us : List Use) (ops : List Operation) (t : Text) → calm t ≡ true → calm (all_folded names us ops ++ t) ≡ true
-calm_folded names us [] t h = h
-calm_folded names us (op ∷ ops) t h =
-    let one = dependences names (codes "in") us (m.Folds op) in
-    let two = reduction names (codes " in_reduction(") op (cells_in us (m.Folds op)) in
-    let rest = all_folded names us ops in
-    ap calm (append_assoc (one ++ two) rest t ∙ append_assoc one two (rest ++ t)) ∙ calm_deps names (codes "in") us (m.Folds op) (two ++ (rest ++ t)) (calm_reduction names op (cells_in us (m.Folds op)) (rest ++ t) (calm_folded names us ops t h))
-
-calm_declared : (names : List Text) (us : List Use) (t : Text) → calm (declared names us ++ (10 ∷ t)) ≡ true
-calm_declared names us t =
-    let one = dependences names (codes "in") us m.Reads in
-    let two = dependences names (codes "out") us m.Writes in
-    let rest = all_folded names us operations in
-    ap (λ x. calm (x ++ (10 ∷ t))) (declared_shown names us) ∙ ap calm (append_assoc (one ++ two) rest (10 ∷ t) ∙ append_assoc one two (rest ++ (10 ∷ t)))
-    ∙ calm_deps names (codes "in") us m.Reads (two ++ (rest ++ (10 ∷ t))) (calm_deps names (codes "out") us m.Writes (rest ++ (10 ∷ t)) (calm_folded names us operations (10 ∷ t) refl))
+    holds : HoldOfClauses names (λ x. (t : Text) → calm t ≡ true → calm (x ++ t) ≡ true)
+    holds = record {
+      none = λ t h. h;
+      both = λ x y p q t h. ap calm (append_assoc x y t) ∙ p (y ++ t) (q t h);
+      list = λ k c cs f t h. refl;
+      iterator = λ k s f t h. refl;
+    }
 
 no_letter : (b : ℕ) → (b == 32 || b == 10) ≡ true → ((b == 119) ≡ false) × ((b == 103) ≡ false)
 no_letter b h = (grind (arith, nat_tests), grind (arith, nat_tests))
@@ -199,40 +164,16 @@ after names margin own (Task us b) r = codes "#pragma omp task" ++ task_rest nam
 after names margin own (Wait w) r = codes "#pragma omp taskwait" ++ (declared names (uses_of w) ++ (10 ∷ r))
 after names margin own (Group op cs b) r = group_after names margin own op cs b r
 
-set_shown : (m c e v t r : Text) → (m ++ c ++ e ++ v ++ t) ++ r ≡ m ++ ((c ++ e ++ v ++ t) ++ r)
-set_shown m c e v t r = simp append_assoc refl
-
-if_shown : (m w v a o r : Text) → ((m ++ w ++ v ++ (41 ∷ 32 ∷ 123 ∷ 10 ∷ [])) ++ a ++ o ++ (m ++ (125 ∷ []) ++ (10 ∷ []))) ++ r ≡ m ++ (w ++ (v ++ (41 ∷ 32 ∷ 123 ∷ 10 ∷ (a ++ (o ++ (m ++ (125 ∷ 10 ∷ r)))))))
-if_shown m w v a o r = simp append_assoc refl
-
-task_shown : (m w d b r : Text) → ((m ++ w ++ d ++ (10 ∷ [])) ++ ((m ++ (123 ∷ []) ++ (10 ∷ [])) ++ b ++ (m ++ (125 ∷ []) ++ (10 ∷ [])))) ++ r ≡ m ++ (w ++ (d ++ (10 ∷ (m ++ (123 ∷ 10 ∷ (b ++ (m ++ (125 ∷ 10 ∷ r))))))))
-task_shown m w d b r = simp append_assoc refl
-
-line_shown : (m w r : Text) → (m ++ w ++ (10 ∷ [])) ++ r ≡ m ++ (w ++ (10 ∷ r))
-line_shown m w r = simp append_assoc refl
-
-directive_shown : (m w d r : Text) → (m ++ w ++ d ++ (10 ∷ [])) ++ r ≡ m ++ (w ++ (d ++ (10 ∷ r)))
-directive_shown m w d r = simp append_assoc refl
-
-group_shown : (m w b r : Text) → ((m ++ w ++ (10 ∷ [])) ++ ((m ++ (123 ∷ []) ++ (10 ∷ [])) ++ b ++ (m ++ (125 ∷ []) ++ (10 ∷ [])))) ++ r ≡ m ++ (w ++ (10 ∷ (m ++ (123 ∷ 10 ∷ (b ++ (m ++ (125 ∷ 10 ∷ r)))))))
-group_shown m w b r = simp append_assoc refl
-
-reduced_shown : (m n ps w d b r : Text)
-    → ((m ++ (123 ∷ []) ++ (10 ∷ [])) ++ (ps ++ n ++ w ++ d ++ (10 ∷ [])) ++ ((n ++ (123 ∷ []) ++ (10 ∷ [])) ++ b ++ (n ++ (125 ∷ []) ++ (10 ∷ []))) ++ (m ++ (125 ∷ []) ++ (10 ∷ []))) ++ r
-    ≡ m ++ (123 ∷ 10 ∷ (ps ++ (n ++ (w ++ (d ++ (10 ∷ (n ++ (123 ∷ 10 ∷ (b ++ (n ++ (125 ∷ 10 ∷ (m ++ (125 ∷ 10 ∷ r)))))))))))))
-reduced_shown m n ps w d b r = simp append_assoc refl
-
 shown : (names : List Text) (margin : Text) (own : List Use) (s : S) (r : Text) → is_nothing s ≡ false → statement names margin own s ++ r ≡ margin ++ after names margin own s r
-shown names margin own (Set c e) r h = set_shown margin (cell names c) (codes " = ") (value names e) (codes ";\n") r
+shown names margin own (Set c e) r h = simp append_assoc refl
 shown names margin own (Fold op c e) r h = append_assoc margin (fold names own op c e) r
-shown names margin own (If e a b) r h = if_shown margin (codes "if (") (value names e) (body names (deeper margin) own a) (otherwise margin b (body names (deeper margin) own b)) r
-shown names margin own (Task us b) r h = task_shown margin (codes "#pragma omp task") (declared names us) (body names (deeper margin) us b) r
-shown names margin own (Wait None) r h = line_shown margin (codes "#pragma omp taskwait") r
+shown names margin own (If e a b) r h = simp append_assoc refl
+shown names margin own (Task us b) r h = simp append_assoc refl
+shown names margin own (Wait None) r h = simp append_assoc refl
 shown names margin own (Wait (Some [])) r h = absurd (true≢false h)
-shown names margin own (Wait (Some (u ∷ us))) r h = directive_shown margin (codes "#pragma omp taskwait") (declared names (u ∷ us)) r
-shown names margin own (Group op [] b) r h = group_shown margin (codes "#pragma omp taskgroup") (body names (deeper margin) own b) r
-shown names margin own (Group op (c ∷ cs) b) r h =
-    reduced_shown margin (deeper margin) (pointers names (deeper margin) op (each_once (c ∷ cs))) (codes "#pragma omp taskgroup") (reduction names (codes " task_reduction(") op (each_once (c ∷ cs))) (body names (deeper (deeper margin)) own b) r
+shown names margin own (Wait (Some (u ∷ us))) r h = simp append_assoc refl
+shown names margin own (Group op [] b) r h = simp append_assoc refl
+shown names margin own (Group op (c ∷ cs) b) r h = simp append_assoc refl
 
 abbrev group_number : List Cell → ℕ
 group_number [] = 4
@@ -246,35 +187,33 @@ number (Task us b) = 2
 number (Wait w) = 3
 number (Group op cs b) = group_number cs
 
-some_name : (w : Text) → is_identifier w ≡ true → some_word w ≡ true
+group_above : (cs : List Cell) → 3 < group_number cs
+group_above [] = omega arith
+group_above (c ∷ cs) = omega arith
+
+some_name : (w : Text) → is_identifier w ≡ true → is_some w ≡ true
 some_name [] h = h
 some_name (b ∷ bs) h = refl
 
 cell_kind : (names : List Text) → AreIdentifiers names → (c : Cell) (t : Text) → Fits names (CellAt c) → kind_of (name names c.array ++ (91 ∷ t)) ≡ 0
 cell_kind names are c t fit = write_kind (name names c.array) t (name_word (name names c.array) (are.each c.array fit.0)) (some_name (name names c.array) (are.each c.array fit.0))
 
-some_pointer : (names : List Text) (op : Operation) (c : Cell) → some_word (pointer names op c) ≡ true
+some_pointer : (names : List Text) (op : Operation) (c : Cell) → is_some (pointer names op c) ≡ true
 some_pointer names f.Plus c = refl
-some_pointer names f.Times c = refl
-some_pointer names f.And c = refl
-some_pointer names f.Or c = refl
-some_pointer names f.Xor c = refl
-some_pointer names f.Min c = refl
-some_pointer names f.Max c = refl
+some_pointer names _ c = refl
 
 pointer_kind : (names : List Text) → AreIdentifiers names → (op : Operation) (c : Cell) (t : Text) → Fits names (CellAt c) → kind_of (pointer names op c ++ (91 ∷ t)) ≡ 0
 pointer_kind names are op c t fit = write_kind (pointer names op c) t (pointer_is_word names are op c fit.0 fit.1) (some_pointer names op c)
 
 of_write : (names : List Text) → AreIdentifiers names → (told : S) (t : Text → Text) (r : Text) → Write names told t → kind_of (t r) ≡ 0
 of_write names are told t r (of_plain k c e hk fc fe is text) = ap kind_of (text r) ∙ cell_kind names are c _ fc
-of_write names are told t r (of_own op c e h fc fe is text) = ap kind_of (text r) ∙ pointer_kind names are op c _ fc
-of_write names are told t r (of_call op c e h fc fe is text) = ap kind_of (text r) ∙ pointer_kind names are op c _ fc
+of_write names are told t r (of_own op c e fc fe is text) = ap kind_of (text r) ∙ pointer_kind names are op c _ fc
 
 kinds : (names : List Text) → AreIdentifiers names → (margin : Text) (own : List Use) (s : S) (r : Text) → StatementFits names s → kind_of (after names margin own s r) ≡ number s
 kinds names are margin own (Set c e) r fit = of_write names are (Set c e) (λ t. (cell names c ++ codes " = " ++ value names e ++ codes ";\n") ++ t) r (set_write names c e fit.0 fit.1)
 kinds names are margin own (Fold op c e) r fit = of_write names are (normal_fold own op c e) (λ t. fold names own op c e ++ t) r (fold_write names own op c e fit.0 fit.1)
 kinds names are margin own (If e a b) r fit = if_kind (if_rest names margin own e a b r)
-kinds names are margin own (Task us b) r fit = calm_task (task_rest names margin us b r) (calm_declared names us (margin ++ (123 ∷ 10 ∷ (body names (deeper margin) us b ++ (margin ++ (125 ∷ 10 ∷ r))))))
+kinds names are margin own (Task us b) r fit = calm_task (task_rest names margin us b r) (calm_declared names us (block_rest names margin us b r) fit.1)
 kinds names are margin own (Wait w) r fit = wait_kind (declared names (uses_of w) ++ (10 ∷ r))
 kinds names are margin own (Group op [] b) r fit = group_kind (10 ∷ block_rest names margin own b r)
 kinds names are margin own (Group op (c ∷ cs) b) r fit = block_kind (10 ∷ group_rest names margin own op (each_once (c ∷ cs)) b r)
@@ -311,10 +250,7 @@ else_rest names margin own (Next s rest) r = codes " else {\n" ++ (body names (d
 
 else_shown : (names : List Text) (margin : Text) (own : List Use) (b : Body) (r : Text) → otherwise margin b (body names (deeper margin) own b) ++ (margin ++ (125 ∷ 10 ∷ r)) ≡ margin ++ (125 ∷ else_rest names margin own b r)
 else_shown names margin own End r = refl
-else_shown names margin own (Next s rest) r = parts margin (codes "} else {") (body names (deeper margin) own (Next s rest)) (margin ++ (125 ∷ 10 ∷ r))
-  where
-    parts : (m w b t : Text) → ((m ++ w ++ (10 ∷ [])) ++ b) ++ t ≡ m ++ (w ++ (10 ∷ (b ++ t)))
-    parts m w b t = simp append_assoc refl
+else_shown names margin own (Next s rest) r = simp append_assoc refl
 
 same_else : (names : List Text) (a b : Body) → IsByBody names a → BodyFits names b → (own : List Use) (margin : Text) (r u : Text) → else_rest names margin own a r ≡ else_rest names margin own b u → (normal own a ≡ normal own b) × (r ≡ u)
 same_else names End End by fit own margin r u is = (refl, ap tail_of is)
@@ -326,9 +262,6 @@ same_else names (Next s rest) (Next t more) by fit own margin r u is =
     let both = by own margin (Next t more) (10 ∷ r) (10 ∷ u) fit (append_cancel_left (codes " else {\n") x y is) in
     (both.0, ap tail_of both.1)
 
-if_eq : (d e : E) (a b x y : Body) → d ≡ e → a ≡ x → b ≡ y → If d a b ≡ If e x y
-if_eq d e a b x y i j k = ap (λ v. If v a b) i ∙ ap (λ v. If e v b) j ∙ ap (If e x) k
-
 both_if : (names : List Text) → AreIdentifiers names → (d : E) (a b : Body) (e : E) (x y : Body) → Fits names d → IsByBody names a → IsByBody names b → StatementFits names (If e x y) → IsAfter names (If d a b) (If e x y)
 both_if names are d a b e x y fd by_a by_b fit own margin r u is =
     let left = body names (deeper margin) own a ++ (otherwise margin b (body names (deeper margin) own b) ++ (margin ++ (125 ∷ 10 ∷ r))) in
@@ -339,10 +272,7 @@ both_if names are d a b e x y fd by_a by_b fit own margin r u is =
     let first = by_a own margin x (else_rest names margin own b r) (else_rest names margin own y u) fit.1
     (sym (ap (λ t. body names (deeper margin) own a ++ t) (else_shown names margin own b r)) ∙ bodies ∙ ap (λ t. body names (deeper margin) own x ++ t) (else_shown names margin own y u)) in
     let second = same_else names b y by_b fit.2 own margin r u first.1 in
-    (if_eq d e (normal own a) (normal own b) (normal own x) (normal own y) values.0 first.0 second.0, second.1)
-
-task_eq : (us vs : List Use) (a b : Body) → us ≡ vs → a ≡ b → Task us a ≡ Task vs b
-task_eq us vs a b i j = ap (λ ws. Task ws a) i ∙ ap (Task vs) j
+    (cc (values.0, first.0, second.0), second.1)
 
 both_tasks : (names : List Text) → AreIdentifiers names → (us : List Use) (a : Body) (vs : List Use) (b : Body) → AreInOrder us → UsesFit names us → IsByBody names a → StatementFits names (Task vs b) → IsAfter names (Task us a) (Task vs b)
 both_tasks names are us a vs b order f_us by fit own margin r u is =
@@ -350,7 +280,7 @@ both_tasks names are us a vs b order f_us by fit own margin r u is =
     (append_cancel_left (codes "#pragma omp task") (task_rest names margin us a r) (task_rest names margin vs b u) is) in
     let uses : us ≡ vs = declaration_law names are us vs order fit.0 f_us fit.1 lines.0 in
     let both = same_block names a b by fit.2 us margin r u (lines.1 ∙ ap (λ ws. block_rest names margin ws b u) (sym uses)) in
-    (task_eq us vs (normal us a) (normal vs b) uses (both.0 ∙ ap (λ ws. normal ws b) uses), both.1)
+    (cc (uses, both.0), both.1)
 
 waits_fit : (names : List Text) (w : Option (List Use)) → StatementFits names (Wait w) → AreInOrder (uses_of w) × UsesFit names (uses_of w)
 waits_fit names None fit = (tt, tt)
@@ -358,11 +288,8 @@ waits_fit names (Some us) fit = fit
 
 same_wait : (v w : Option (List Use)) → is_nothing (Wait v) ≡ false → is_nothing (Wait w) ≡ false → uses_of v ≡ uses_of w → v ≡ w
 same_wait None None h k is = refl
-same_wait None (Some []) h k is = absurd (true≢false k)
-same_wait None (Some (u ∷ us)) h k is = absurd (cc)
-same_wait (Some []) w h k is = absurd (true≢false h)
-same_wait (Some (u ∷ us)) None h k is = absurd (cc)
 same_wait (Some (u ∷ us)) (Some vs) h k is = ap Some is
+same_wait _ _ h k is = absurd (cc)
 
 both_waits : (names : List Text) → AreIdentifiers names → (v w : Option (List Use)) → is_nothing (Wait v) ≡ false → is_nothing (Wait w) ≡ false → StatementFits names (Wait v) → StatementFits names (Wait w) → IsAfter names (Wait v) (Wait w)
 both_waits names are v w h k f_v f_w own margin r u is =
@@ -375,10 +302,7 @@ both_waits names are v w h k f_v f_w own margin r u is =
 -- a pointer's declaration, and what follows
 pointer_line : (names : List Text) (m : Text) (op : Operation) (c : Cell) (cs : List Cell) (t : Text)
     → pointers names m op (c ∷ cs) ++ t ≡ m ++ (codes "uint64_t *" ++ (pointer names op c ++ (32 ∷ 61 ∷ 32 ∷ 38 ∷ (cell names c ++ (59 ∷ 10 ∷ (pointers names m op cs ++ t))))))
-pointer_line names m op c cs t = parts m (codes "uint64_t *") (pointer names op c) (cell names c) (pointers names m op cs) t
-  where
-    parts : (m w p c x t : Text) → ((m ++ w ++ p ++ (32 ∷ 61 ∷ 32 ∷ 38 ∷ []) ++ c ++ (59 ∷ 10 ∷ [])) ++ x) ++ t ≡ m ++ (w ++ (p ++ (32 ∷ 61 ∷ 32 ∷ 38 ∷ (c ++ (59 ∷ 10 ∷ (x ++ t))))))
-    parts m w p c x t = simp append_assoc refl
+pointer_line names m op c cs t = simp append_assoc refl
 
 record SameLines (op other : Operation) (cs ds : List Cell) (t u : Text) : Type 0 where
   pub cells : cs ≡ ds
@@ -387,10 +311,7 @@ record SameLines (op other : Operation) (cs ds : List Cell) (t u : Text) : Type 
 
 same_pointer_lines : (names : List Text) → AreIdentifiers names → (margin : Text) (op other : Operation) (cs ds : List Cell) (t u : Text) → CellsFit names cs → CellsFit names ds
     → pointers names margin op cs ++ (margin ++ (35 ∷ t)) ≡ pointers names margin other ds ++ (margin ++ (35 ∷ u)) → SameLines op other cs ds t u
-same_pointer_lines names are margin op other [] [] t u fc fd is = record { cells = refl; rest = ap tail_of (append_cancel_left margin (35 ∷ t) (35 ∷ u) is); ops = λ h. absurd (none h) }
-  where
-    none : is_some [] ≡ true → ⊥
-    none h = true≢false (sym h)
+same_pointer_lines names are margin op other [] [] t u fc fd is = record { cells = refl; rest = ap tail_of (append_cancel_left margin (35 ∷ t) (35 ∷ u) is); ops = λ h. absurd (true≢false (sym h)) }
 same_pointer_lines names are margin op other [] (d ∷ ds) t u fc fd is =
     let line = codes "uint64_t *" ++ (pointer names other d ++ (32 ∷ 61 ∷ 32 ∷ 38 ∷ (cell names d ++ (59 ∷ 10 ∷ (pointers names margin other ds ++ (margin ++ (35 ∷ u))))))) in
     absurd (omega (arith, ap head_of (append_cancel_left margin (35 ∷ t) line (is ∙ pointer_line names margin other d ds (margin ++ (35 ∷ u))))))
@@ -412,9 +333,6 @@ same_pointer_lines names are margin op other (c ∷ cs) (d ∷ ds) t u fc fd is 
     let more = same_pointer_lines names are margin op other cs ds t u fc.1 fd.1 (tails rest_c rest_d 59 10 59 10 behind) in
     record { cells = ap (λ z. z ∷ cs) one.1 ∙ ap (λ zs. d ∷ zs) more.cells; rest = more.rest; ops = λ h. one.0 }
 
-group_eq : (p q : Operation) (cs ds : List Cell) (a b : Body) → p ≡ q → cs ≡ ds → a ≡ b → Group p cs a ≡ Group q ds b
-group_eq p q cs ds a b i j k = ap (λ x. Group x cs a) i ∙ ap (λ x. Group q x a) j ∙ ap (Group q ds) k
-
 -- a group's text behind its first bracket
 same_group : (names : List Text) → AreIdentifiers names → (op other : Operation) (es fs : List Cell) (a b : Body) → is_some es ≡ true → CellsFit names es → CellsFit names fs → IsByBody names a → BodyFits names b → (own : List Use) (margin : Text) (r u : Text)
     → group_rest names margin own op es a r ≡ group_rest names margin own other fs b u → (Group op es (normal own a) ≡ Group other fs (normal own b)) × (r ≡ u)
@@ -430,17 +348,16 @@ same_group names are op other es fs a b some fe ff by fit own margin r u is =
     let same : clause other fs ≡ clause op es = ap (λ p. clause p fs) (sym ops) ∙ ap (clause op) (sym lines.cells) in
     let blocks = append_cancel_left (clause op es) (10 ∷ block_a) (10 ∷ block_b) (clauses ∙ ap (λ t. t ++ (10 ∷ block_b)) same) in
     let both = same_block names a b by fit own inner (margin ++ (125 ∷ 10 ∷ r)) (margin ++ (125 ∷ 10 ∷ u)) (ap tail_of blocks) in
-    (group_eq op other es fs (normal own a) (normal own b) ops lines.cells both.0, tails r u 125 10 125 10 (append_cancel_left margin (125 ∷ 10 ∷ r) (125 ∷ 10 ∷ u) both.1))
+    (cc (ops, lines.cells, both.0), tails r u 125 10 125 10 (append_cancel_left margin (125 ∷ 10 ∷ r) (125 ∷ 10 ∷ u) both.1))
 
 both_groups : (names : List Text) → AreIdentifiers names → (op : Operation) (cs : List Cell) (a : Body) (other : Operation) (ds : List Cell) (b : Body) → CellsFit names cs → IsByBody names a → StatementFits names (Group other ds b) → group_number cs ≡ group_number ds → IsAfter names (Group op cs a) (Group other ds b)
 both_groups names are op [] a other [] b f_cs by fit k own margin r u is =
     let both = same_block names a b by fit.1 own margin r u (ap tail_of (append_cancel_left (codes "#pragma omp taskgroup") (10 ∷ block_rest names margin own a r) (10 ∷ block_rest names margin own b u) is)) in
     (ap (Group f.Plus []) both.0, both.1)
-both_groups names are op [] a other (d ∷ ds) b f_cs by fit k own margin r u is = absurd (omega (arith, k))
-both_groups names are op (c ∷ cs) a other [] b f_cs by fit k own margin r u is = absurd (omega (arith, k))
 both_groups names are op (c ∷ cs) a other (d ∷ ds) b f_cs by fit k own margin r u is =
     same_group names are op other (each_once (c ∷ cs)) (each_once (d ∷ ds)) a b (some_once c cs) (once_fit names (c ∷ cs) f_cs) (once_fit names (d ∷ ds) fit.0) by fit.1 own margin r u
     (tails (group_rest names margin own op (each_once (c ∷ cs)) a r) (group_rest names margin own other (each_once (d ∷ ds)) b u) 123 10 123 10 is)
+both_groups names are op _ a other _ b f_cs by fit k own margin r u is = absurd (omega (arith, k))
 
 -- ---- a statement beside any other
 
@@ -448,51 +365,11 @@ both_groups names are op (c ∷ cs) a other (d ∷ ds) b f_cs by fit k own margi
 write_of : (names : List Text) (own : List Use) (s : S) → number s ≡ 0 → StatementFits names s → (margin : Text) → Write names (normal_statement own s) (after names margin own s)
 write_of names own (Set c e) h fit margin = set_write names c e fit.0 fit.1
 write_of names own (Fold op c e) h fit margin = fold_write names own op c e fit.0 fit.1
-write_of names own (If e a b) h fit margin = absurd (omega (arith, h))
-write_of names own (Task us b) h fit margin = absurd (omega (arith, h))
-write_of names own (Wait w) h fit margin = absurd (omega (arith, h))
-write_of names own (Group op [] b) h fit margin = absurd (omega (arith, h))
-write_of names own (Group op (c ∷ cs) b) h fit margin = absurd (omega (arith, h))
+write_of names own _ h fit margin = absurd (omega (arith, h, group_above))
 
 both_writes : (names : List Text) → AreApart names → (s t : S) → number s ≡ 0 → number t ≡ 0 → StatementFits names s → StatementFits names t → IsAfter names s t
 both_writes names are s t h k f_s f_t own margin r u is =
     same_write names are (normal_statement own s) (normal_statement own t) (after names margin own s) (after names margin own t) r u (write_of names own s h f_s margin) (write_of names own t k f_t margin) is
-
-group_some : (cs : List Cell) (n : ℕ) → n < 4 → group_number cs ≡ n → ⊥
-group_some [] n small h = omega (arith, h, small)
-group_some (c ∷ cs) n small h = omega (arith, h, small)
-
-if_beside : (names : List Text) → AreIdentifiers names → (d : E) (a b : Body) → Fits names d → IsByBody names a → IsByBody names b → (t : S) → 1 ≡ number t → StatementFits names t → IsAfter names (If d a b) t
-if_beside names are d a b fd by_a by_b (If e x y) k fit = both_if names are d a b e x y fd by_a by_b fit
-if_beside names are d a b fd by_a by_b (Set c e) k fit = absurd (omega (arith, k))
-if_beside names are d a b fd by_a by_b (Fold op c e) k fit = absurd (omega (arith, k))
-if_beside names are d a b fd by_a by_b (Task us x) k fit = absurd (omega (arith, k))
-if_beside names are d a b fd by_a by_b (Wait w) k fit = absurd (omega (arith, k))
-if_beside names are d a b fd by_a by_b (Group op cs x) k fit = absurd (group_some cs 1 (omega arith) (sym k))
-
-task_beside : (names : List Text) → AreIdentifiers names → (us : List Use) (a : Body) → AreInOrder us → UsesFit names us → IsByBody names a → (t : S) → 2 ≡ number t → StatementFits names t → IsAfter names (Task us a) t
-task_beside names are us a order f_us by (Task vs b) k fit = both_tasks names are us a vs b order f_us by fit
-task_beside names are us a order f_us by (Set c e) k fit = absurd (omega (arith, k))
-task_beside names are us a order f_us by (Fold op c e) k fit = absurd (omega (arith, k))
-task_beside names are us a order f_us by (If e x y) k fit = absurd (omega (arith, k))
-task_beside names are us a order f_us by (Wait w) k fit = absurd (omega (arith, k))
-task_beside names are us a order f_us by (Group op cs x) k fit = absurd (group_some cs 2 (omega arith) (sym k))
-
-wait_beside : (names : List Text) → AreIdentifiers names → (v : Option (List Use)) → is_nothing (Wait v) ≡ false → StatementFits names (Wait v) → (t : S) → is_nothing t ≡ false → 3 ≡ number t → StatementFits names t → IsAfter names (Wait v) t
-wait_beside names are v h f_v (Wait w) g k fit = both_waits names are v w h g f_v fit
-wait_beside names are v h f_v (Set c e) g k fit = absurd (omega (arith, k))
-wait_beside names are v h f_v (Fold op c e) g k fit = absurd (omega (arith, k))
-wait_beside names are v h f_v (If e x y) g k fit = absurd (omega (arith, k))
-wait_beside names are v h f_v (Task us x) g k fit = absurd (omega (arith, k))
-wait_beside names are v h f_v (Group op cs x) g k fit = absurd (group_some cs 3 (omega arith) (sym k))
-
-group_beside : (names : List Text) → AreIdentifiers names → (op : Operation) (cs : List Cell) (a : Body) → CellsFit names cs → IsByBody names a → (t : S) → group_number cs ≡ number t → StatementFits names t → IsAfter names (Group op cs a) t
-group_beside names are op cs a f_cs by (Group other ds b) k fit = both_groups names are op cs a other ds b f_cs by fit k
-group_beside names are op cs a f_cs by (Set c e) k fit = absurd (group_some cs 0 (omega arith) k)
-group_beside names are op cs a f_cs by (Fold p c e) k fit = absurd (group_some cs 0 (omega arith) k)
-group_beside names are op cs a f_cs by (If e x y) k fit = absurd (group_some cs 1 (omega arith) k)
-group_beside names are op cs a f_cs by (Task us x) k fit = absurd (group_some cs 2 (omega arith) k)
-group_beside names are op cs a f_cs by (Wait w) k fit = absurd (group_some cs 3 (omega arith) k)
 
 -- from what stands behind the margin
 behind_margin : (names : List Text) → AreApart names → (s : S) → is_nothing s ≡ false → StatementFits names s → ((t : S) → is_nothing t ≡ false → number s ≡ number t → StatementFits names t → IsAfter names s t) → IsByStatement names s
@@ -505,14 +382,8 @@ behind_margin names are s h f_s by own margin t r u k f_t is =
 -- ---- bodies
 
 nothing_text : (names : List Text) (margin : Text) (own : List Use) (t : S) → is_nothing t ≡ true → statement names margin own t ≡ []
-nothing_text names margin own (Set c e) h = absurd (true≢false (sym h))
-nothing_text names margin own (Fold op c e) h = absurd (true≢false (sym h))
-nothing_text names margin own (If e a b) h = absurd (true≢false (sym h))
-nothing_text names margin own (Task us b) h = absurd (true≢false (sym h))
-nothing_text names margin own (Wait None) h = absurd (true≢false (sym h))
 nothing_text names margin own (Wait (Some [])) h = refl
-nothing_text names margin own (Wait (Some (u ∷ us))) h = absurd (true≢false (sym h))
-nothing_text names margin own (Group op cs b) h = absurd (true≢false (sym h))
+nothing_text names margin own _ h = absurd (true≢false (sym h))
 
 passed : (own : List Use) (t : S) (more : Body) → is_nothing t ≡ true → normal own (Next t more) ≡ normal own more
 passed own t more h = rw h refl
@@ -533,18 +404,15 @@ end_apart names own margin t x r h is =
     let inner = append_cancel_left margin (125 ∷ x) (codes "    " ++ rest) (is ∙ shown names (deeper margin) own t r h ∙ append_assoc margin (codes "    ") rest) in
     omega (arith, ap head_of inner)
 
-end_beside : (names : List Text) (own : List Use) (margin : Text) (b : Body) (x y : Text) → margin ++ (125 ∷ x) ≡ body names (deeper margin) own b ++ (margin ++ (125 ∷ y)) → (End ≡ normal own b) × (x ≡ y)
-end_beside names own margin End x y is = (refl, ap tail_of (append_cancel_left margin (125 ∷ x) (125 ∷ y) is))
-end_beside names own margin (Next t more) x y is = at_once (is_nothing t) refl (end_beside names own margin more x y)
+end_beside : (names : List Text) (own : List Use) (margin : Text) (b : Body) (x y : Text) → BodyFits names b → margin ++ (125 ∷ x) ≡ body names (deeper margin) own b ++ (margin ++ (125 ∷ y)) → (End ≡ normal own b) × (x ≡ y)
+end_beside names own margin End x y fit is = (refl, ap tail_of (append_cancel_left margin (125 ∷ x) (125 ∷ y) is))
+end_beside names own margin (Next t more) x y fit is = at_once (is_nothing t) refl (end_beside names own margin more x y fit.1)
   where
     at_once : (b : Bool) → is_nothing t ≡ b → (margin ++ (125 ∷ x) ≡ body names (deeper margin) own more ++ (margin ++ (125 ∷ y)) → (End ≡ normal own more) × (x ≡ y)) → (End ≡ normal own (Next t more)) × (x ≡ y)
     at_once true h rest =
         let both = rest (is ∙ passed_text names (deeper margin) own t more (margin ++ (125 ∷ y)) h) in
         (both.0 ∙ sym (passed own t more h), both.1)
     at_once false h rest = absurd (end_apart names own margin t x (body names (deeper margin) own more ++ (margin ++ (125 ∷ y))) h (is ∙ told_text names (deeper margin) own t more (margin ++ (125 ∷ y))))
-
-end_of : (names : List Text) → IsByBody names End
-end_of names own margin b x y fit is = end_beside names own margin b x y is
 
 next_eq : (s t : S) (a b : Body) → s ≡ t → a ≡ b → Next s a ≡ Next t b
 next_eq s t a b i j = ap (λ x. Next x a) i ∙ ap (Next t) j
@@ -579,36 +447,27 @@ next_of names s rest by by_rest true h own margin b x y fit is =
 next_of names s rest by by_rest false h own margin b x y fit is = next_beside names s rest h (by h) by_rest own margin b x y fit is
 
 mutual
-  by_statement : (names : List Text) → AreApart names → (s : S) → StatementFits names s → is_nothing s ≡ false → IsByStatement names s
-  by_statement names are (Set c e) fit h = behind_margin names are (Set c e) h fit (λ t g k f_t. both_writes names are (Set c e) t refl (sym k) fit f_t)
-  by_statement names are (Fold op c e) fit h = behind_margin names are (Fold op c e) h fit (λ t g k f_t. both_writes names are (Fold op c e) t refl (sym k) fit f_t)
-  by_statement names are (If e a b) fit h =
-      let one = by_body names are a fit.1 in
-      let two = by_body names are b fit.2 in
-      behind_margin names are (If e a b) h fit (λ t g k f_t. if_beside names are.are e a b fit.0 one two t k f_t)
-  by_statement names are (Task us b) fit h =
-      let one = by_body names are b fit.2 in
-      behind_margin names are (Task us b) h fit (λ t g k f_t. task_beside names are.are us b fit.0 fit.1 one t k f_t)
-  by_statement names are (Wait w) fit h = behind_margin names are (Wait w) h fit (λ t g k f_t. wait_beside names are.are w h fit t g k f_t)
-  by_statement names are (Group op cs b) fit h =
-      let one = by_body names are b fit.1 in
-      behind_margin names are (Group op cs b) h fit (λ t g k f_t. group_beside names are.are op cs b fit.0 one t k f_t)
+  by_statement : (names : List Text) → AreApart names → (s t : S) → StatementFits names s → StatementFits names t → is_nothing s ≡ false → is_nothing t ≡ false → number s ≡ number t → IsAfter names s t
+  by_statement names are (Set c e) t f_s f_t h g k = both_writes names are (Set c e) t refl (sym k) f_s f_t
+  by_statement names are (Fold op c e) t f_s f_t h g k = both_writes names are (Fold op c e) t refl (sym k) f_s f_t
+  by_statement names are (If d a b) (If e x y) f_s f_t h g k = both_if names are.are d a b e x y f_s.0 (by_body names are a f_s.1) (by_body names are b f_s.2) f_t
+  by_statement names are (Task us a) (Task vs b) f_s f_t h g k = both_tasks names are.are us a vs b f_s.0 f_s.1 (by_body names are a f_s.2) f_t
+  by_statement names are (Wait v) (Wait w) f_s f_t h g k = both_waits names are.are v w h g f_s f_t
+  by_statement names are (Group op cs a) (Group other ds b) f_s f_t h g k = both_groups names are.are op cs a other ds b f_s.0 (by_body names are a f_s.1) f_t k
+  by_statement names are _ _ f_s f_t h g k = absurd (omega (arith, k, group_above))
 
   pub by_body : (names : List Text) → AreApart names → (a : Body) → BodyFits names a → IsByBody names a
-  by_body names are End fit = end_of names
-  by_body names are (Next s rest) fit =
-      let one = by_body names are rest fit.1 in
-      let two : is_nothing s ≡ false → IsByStatement names s = λ h. by_statement names are s fit.0 h in
-      next_of names s rest two one (is_nothing s) refl
+  by_body names are End fit = end_beside names
+  by_body names are (Next s rest) fit = next_of names s rest (λ h. behind_margin names are s h fit.0 (λ t g k f_t. by_statement names are s t fit.0 f_t h g k)) (by_body names are rest fit.1) (is_nothing s) refl
 
-block_shown : (m b r : Text) → ((m ++ (123 ∷ []) ++ (10 ∷ [])) ++ b ++ (m ++ (125 ∷ []) ++ (10 ∷ []))) ++ r ≡ m ++ (123 ∷ 10 ∷ (b ++ (m ++ (125 ∷ 10 ∷ r))))
-block_shown m b r = simp append_assoc refl
+block_shown : (names : List Text) (margin : Text) (own : List Use) (b : Body) (r : Text) → block margin (body names (deeper margin) own b) ++ r ≡ block_rest names margin own b r
+block_shown names margin own b r = simp append_assoc refl
 
 -- blocks, with what follows
 pub same_blocks : (names : List Text) → AreApart names → (own : List Use) (margin : Text) (a b : Body) (r u : Text) → BodyFits names a → BodyFits names b
     → block margin (body names (deeper margin) own a) ++ r ≡ block margin (body names (deeper margin) own b) ++ u → (normal own a ≡ normal own b) × (r ≡ u)
 same_blocks names are own margin a b r u f_a f_b is =
-    same_block names a b (by_body names are a f_a) f_b own margin r u (sym (block_shown margin (body names (deeper margin) own a) r) ∙ is ∙ block_shown margin (body names (deeper margin) own b) u)
+    same_block names a b (by_body names are a f_a) f_b own margin r u (sym (block_shown names margin own a r) ∙ is ∙ block_shown names margin own b u)
 
 pub body_law : BodyIsDetermined
 body_law names are own margin a b f_a f_b is =
@@ -616,14 +475,7 @@ body_law names are own margin a b f_a f_b is =
 
 -- ---- a fold that is written as a set
 
-as_set_text : (m c sg v : Text) → m ++ (c ++ (32 ∷ 61 ∷ 32 ∷ []) ++ sg ++ c ++ (44 ∷ 32 ∷ []) ++ v ++ (41 ∷ 59 ∷ 10 ∷ [])) ≡ m ++ c ++ (32 ∷ 61 ∷ 32 ∷ []) ++ (sg ++ c ++ (44 ∷ 32 ∷ []) ++ v ++ (41 ∷ [])) ++ (59 ∷ 10 ∷ [])
-as_set_text m c sg v = simp append_assoc refl
-
 pub as_set_law : CalledFoldIsWrittenAsSet
-as_set_law names margin own c e f.Min h k = ap (λ t. margin ++ t) (other_called names own f.Min c e h k) ∙ as_set_text margin (cell names c) (codes "min(") (value names e)
-as_set_law names margin own c e f.Max h k = ap (λ t. margin ++ t) (other_called names own f.Max c e h k) ∙ as_set_text margin (cell names c) (codes "max(") (value names e)
-as_set_law names margin own c e f.Plus h k = absurd (true≢false (sym h))
-as_set_law names margin own c e f.Times h k = absurd (true≢false (sym h))
-as_set_law names margin own c e f.And h k = absurd (true≢false (sym h))
-as_set_law names margin own c e f.Or h k = absurd (true≢false (sym h))
-as_set_law names margin own c e f.Xor h k = absurd (true≢false (sym h))
+as_set_law names margin own c e f.Min h k = rw k (simp append_assoc refl)
+as_set_law names margin own c e f.Max h k = rw k (simp append_assoc refl)
+as_set_law names margin own c e _ h k = absurd (true≢false (sym h))

@@ -20,9 +20,9 @@ use Rattle.ot_c.specs.Laws.{in_identifier, AreIdentifiers, normal_fold}
 use Rattle.ot_c.specs.Statements.{only_folds, fold}
 use Rattle.ot_c.specs.Values.{value}
 use Rattle.ot_c.proofs.NameLemmas.{name_of, names_law}
-use Rattle.ot_c.proofs.WordLemmas.{starts}
+use Rattle.ot_c.proofs.WordLemmas.{starts, one_cell}
 use Rattle.ot_c.proofs.ValueLemmas.{determined}
-use Rattle.ot_c.proofs.ClauseLemmas.{one_cell, same_pointer}
+use Rattle.ot_c.proofs.ClauseLemmas.{same_pointer}
 
 -- ---- pointers are no arrays
 
@@ -34,12 +34,7 @@ is_pointer (b ∷ c ∷ t) = (nat_le 65 b && nat_le b 90) && not (c == 95)
 
 pub pointer_there : (names : List Text) (op : Operation) (c : Cell) (t : Text) → is_pointer (pointer names op c ++ t) ≡ true
 pointer_there names f.Plus c t = refl
-pointer_there names f.Times c t = refl
-pointer_there names f.And c t = refl
-pointer_there names f.Or c t = refl
-pointer_there names f.Xor c t = refl
-pointer_there names f.Min c t = refl
-pointer_there names f.Max c t = refl
+pointer_there names _ c t = refl
 
 -- names of arrays that differ in C, and from pointers
 pub record AreApart (names : List Text) : Type 0 where
@@ -76,12 +71,7 @@ word_op (b ∷ c ∷ t) = if b == 83 then f.Plus else if b == 80 then f.Times el
 op_there : (names : List Text) (op : Operation) (c : Cell) (t : Text) → word_op (pointer names op c ++ t) ≡ op
 unfolding word_op
 op_there names f.Plus c t = refl
-op_there names f.Times c t = refl
-op_there names f.And c t = refl
-op_there names f.Or c t = refl
-op_there names f.Xor c t = refl
-op_there names f.Min c t = refl
-op_there names f.Max c t = refl
+op_there names _ c t = refl
 
 -- two pointers, whatever they reduce by
 pub same_pointers : (names : List Text) → AreIdentifiers names → (op other : Operation) (c d : Cell) (t u : Text) → Fits names (CellAt c) → Fits names (CellAt d) → starts t ≡ false → starts u ≡ false
@@ -97,13 +87,13 @@ same_pointers names are op other c d t u f g ht hu is =
 abbrev plain : List Text → Option Operation → Cell → E → Text → Text
 plain names k c e r = name names c.array ++ (91 ∷ (decimal c.index ++ (93 ∷ (write_sign k ++ (value names e ++ (59 ∷ 10 ∷ r))))))
 
--- a fold into the task's own copy
-abbrev own_fold : List Text → Operation → Cell → E → Text → Text
-own_fold names op c e r = pointer names op c ++ (91 ∷ 48 ∷ 93 ∷ (fold_sign op ++ (value names e ++ (59 ∷ 10 ∷ r))))
+-- behind the copy of a cell that is the task's own: what is folded into it, by a function or by a sign
+abbrev own_rest : List Text → Bool → Operation → Cell → E → Text → Text
+own_rest names true op c e r = 32 ∷ 61 ∷ 32 ∷ (fold_sign op ++ (pointer names op c ++ (91 ∷ 48 ∷ 93 ∷ 44 ∷ 32 ∷ (value names e ++ (41 ∷ 59 ∷ 10 ∷ r)))))
+own_rest names false op c e r = fold_sign op ++ (value names e ++ (59 ∷ 10 ∷ r))
 
--- the same by an operation that is a function
-abbrev own_call : List Text → Operation → Cell → E → Text → Text
-own_call names op c e r = pointer names op c ++ (91 ∷ 48 ∷ 93 ∷ 32 ∷ 61 ∷ 32 ∷ (fold_sign op ++ (pointer names op c ++ (91 ∷ 48 ∷ 93 ∷ 44 ∷ 32 ∷ (value names e ++ (41 ∷ 59 ∷ 10 ∷ r))))))
+abbrev own_fold : List Text → Operation → Cell → E → Text → Text
+own_fold names op c e r = pointer names op c ++ (91 ∷ 48 ∷ 93 ∷ own_rest names (is_called op) op c e r)
 
 abbrev as_write : Option Operation → Cell → E → S
 as_write None c e = Set c e
@@ -112,87 +102,36 @@ as_write (Some op) c e = Fold op c e
 -- what a write is told as, with its text
 pub data Write (names : List Text) (told : S) (t : Text → Text) : Type 0 where
   of_plain : (k : Option Operation) (c : Cell) (e : E) → HasSign k → Fits names (CellAt c) → Fits names e → told ≡ as_write k c e → ((r : Text) → t r ≡ plain names k c e r) → Write names told t
-  of_own : (op : Operation) (c : Cell) (e : E) → is_called op ≡ false → Fits names (CellAt c) → Fits names e → told ≡ Fold op c e → ((r : Text) → t r ≡ own_fold names op c e r) → Write names told t
-  of_call : (op : Operation) (c : Cell) (e : E) → is_called op ≡ true → Fits names (CellAt c) → Fits names e → told ≡ Fold op c e → ((r : Text) → t r ≡ own_call names op c e r) → Write names told t
-
-plain_text : (w d sg v r : Text) → (w ++ (91 ∷ []) ++ d ++ (93 ∷ []) ++ sg ++ v ++ (59 ∷ 10 ∷ [])) ++ r ≡ w ++ (91 ∷ (d ++ (93 ∷ (sg ++ (v ++ (59 ∷ 10 ∷ r))))))
-plain_text w d sg v r = simp append_assoc refl
-
-own_text : (p sg v r : Text) → (p ++ (91 ∷ 48 ∷ 93 ∷ []) ++ sg ++ v ++ (59 ∷ 10 ∷ [])) ++ r ≡ p ++ (91 ∷ 48 ∷ 93 ∷ (sg ++ (v ++ (59 ∷ 10 ∷ r))))
-own_text p sg v r = simp append_assoc refl
-
-call_text : (p sg q v r : Text) → (p ++ (91 ∷ 48 ∷ 93 ∷ []) ++ (32 ∷ 61 ∷ 32 ∷ []) ++ sg ++ (q ++ (91 ∷ 48 ∷ 93 ∷ [])) ++ (44 ∷ 32 ∷ []) ++ v ++ (41 ∷ 59 ∷ 10 ∷ [])) ++ r
-    ≡ p ++ (91 ∷ 48 ∷ 93 ∷ 32 ∷ 61 ∷ 32 ∷ (sg ++ (q ++ (91 ∷ 48 ∷ 93 ∷ 44 ∷ 32 ∷ (v ++ (41 ∷ 59 ∷ 10 ∷ r))))))
-call_text p sg q v r = simp append_assoc refl
-
--- `a = max(a, v)`: the call is a value
-set_call_text : (w d sg v r : Text) → (w ++ (91 ∷ []) ++ d ++ (93 ∷ []) ++ (32 ∷ 61 ∷ 32 ∷ []) ++ sg ++ (w ++ (91 ∷ []) ++ d ++ (93 ∷ [])) ++ (44 ∷ 32 ∷ []) ++ v ++ (41 ∷ 59 ∷ 10 ∷ [])) ++ r
-    ≡ w ++ (91 ∷ (d ++ (93 ∷ 32 ∷ 61 ∷ 32 ∷ ((sg ++ (w ++ (91 ∷ []) ++ d ++ (93 ∷ [])) ++ (44 ∷ 32 ∷ []) ++ v ++ (41 ∷ [])) ++ (59 ∷ 10 ∷ r)))))
-set_call_text w d sg v r = simp append_assoc refl
+  of_own : (op : Operation) (c : Cell) (e : E) → Fits names (CellAt c) → Fits names e → told ≡ Fold op c e → ((r : Text) → t r ≡ own_fold names op c e r) → Write names told t
 
 pub set_write : (names : List Text) (c : Cell) (e : E) → Fits names (CellAt c) → Fits names e → Write names (Set c e) (λ r. (cell names c ++ codes " = " ++ value names e ++ codes ";\n") ++ r)
-set_write names c e f g = of_plain None c e tt f g refl (λ r. plain_text (name names c.array) (decimal c.index) (codes " = ") (value names e) r)
+set_write names c e f g = of_plain None c e tt f g refl (λ r. simp append_assoc refl)
 
 as_signed : (op : Operation) (c : Cell) (e : E) → is_called op ≡ false → fold_as_shown op c e ≡ Fold op c e
-as_signed f.Plus c e h = refl
-as_signed f.Times c e h = refl
-as_signed f.And c e h = refl
-as_signed f.Or c e h = refl
-as_signed f.Xor c e h = refl
 as_signed f.Min c e h = absurd (true≢false h)
 as_signed f.Max c e h = absurd (true≢false h)
-
-told_signed : (own : List Use) (op : Operation) (c : Cell) (e : E) → is_called op ≡ false → (b : Bool) → only_folds own op c ≡ b → normal_fold own op c e ≡ Fold op c e
-told_signed own op c e sign true h = rw h refl
-told_signed own op c e sign false h = rw h (as_signed op c e sign)
-
-told_own : (own : List Use) (op : Operation) (c : Cell) (e : E) → only_folds own op c ≡ true → normal_fold own op c e ≡ Fold op c e
-told_own own op c e h = rw h refl
-
-told_other : (own : List Use) (op : Operation) (c : Cell) (e : E) → only_folds own op c ≡ false → normal_fold own op c e ≡ fold_as_shown op c e
-told_other own op c e h = rw h refl
-
--- the text of a fold, by what it is
-own_signed : (names : List Text) (own : List Use) (op : Operation) (c : Cell) (e : E) → is_called op ≡ false → only_folds own op c ≡ true → fold names own op c e ≡ (pointer names op c ++ codes "[0]") ++ fold_sign op ++ value names e ++ codes ";\n"
-own_signed names own op c e sign h = rw (sign, h) refl
-
-other_signed : (names : List Text) (own : List Use) (op : Operation) (c : Cell) (e : E) → is_called op ≡ false → only_folds own op c ≡ false → fold names own op c e ≡ cell names c ++ fold_sign op ++ value names e ++ codes ";\n"
-other_signed names own op c e sign h = rw (sign, h) refl
-
-own_called : (names : List Text) (own : List Use) (op : Operation) (c : Cell) (e : E) → is_called op ≡ true → only_folds own op c ≡ true
-    → fold names own op c e ≡ (pointer names op c ++ codes "[0]") ++ codes " = " ++ fold_sign op ++ (pointer names op c ++ codes "[0]") ++ codes ", " ++ value names e ++ codes ");\n"
-own_called names own op c e sign h = rw (sign, h) refl
-
-pub other_called : (names : List Text) (own : List Use) (op : Operation) (c : Cell) (e : E) → is_called op ≡ true → only_folds own op c ≡ false
-    → fold names own op c e ≡ cell names c ++ codes " = " ++ fold_sign op ++ cell names c ++ codes ", " ++ value names e ++ codes ");\n"
-other_called names own op c e sign h = rw (sign, h) refl
+as_signed _ c e h = refl
 
 -- an operation with a sign
 signed : (names : List Text) (own : List Use) (op : Operation) (c : Cell) (e : E) → is_called op ≡ false → Fits names (CellAt c) → Fits names e → (b : Bool) → only_folds own op c ≡ b → Write names (normal_fold own op c e) (λ r. fold names own op c e ++ r)
-signed names own op c e sign fc fe true h = of_own op c e sign fc fe (told_signed own op c e sign true h) (λ r. ap (λ t. t ++ r) (own_signed names own op c e sign h) ∙ own_text (pointer names op c) (fold_sign op) (value names e) r)
+signed names own op c e sign fc fe true h = of_own op c e fc fe (rw h refl) (λ r. rw (sign, h) (simp append_assoc refl))
 signed names own op c e sign fc fe false h =
-    of_plain (Some op) c e sign fc fe (told_signed own op c e sign false h) (λ r. ap (λ t. t ++ r) (other_signed names own op c e sign h) ∙ plain_text (name names c.array) (decimal c.index) (fold_sign op) (value names e) r)
+    of_plain (Some op) c e sign fc fe (rw h (as_signed op c e sign)) (λ r. rw (sign, h) (simp append_assoc refl))
 
-called_min : (names : List Text) (own : List Use) (c : Cell) (e : E) → Fits names (CellAt c) → Fits names e → (b : Bool) → only_folds own f.Min c ≡ b → Write names (normal_fold own f.Min c e) (λ r. fold names own f.Min c e ++ r)
-called_min names own c e fc fe true h = of_call f.Min c e refl fc fe (told_own own f.Min c e h) (λ r. ap (λ t. t ++ r) (own_called names own f.Min c e refl h) ∙ call_text (pointer names f.Min c) (codes "min(") (pointer names f.Min c) (value names e) r)
-called_min names own c e fc fe false h =
-    of_plain None c (Apply o.Min (CellAt c) e) tt fc (fc, fe) (told_other own f.Min c e h)
-    (λ r. ap (λ t. t ++ r) (other_called names own f.Min c e refl h) ∙ set_call_text (name names c.array) (decimal c.index) (codes "min(") (value names e) r)
-
-called_max : (names : List Text) (own : List Use) (c : Cell) (e : E) → Fits names (CellAt c) → Fits names e → (b : Bool) → only_folds own f.Max c ≡ b → Write names (normal_fold own f.Max c e) (λ r. fold names own f.Max c e ++ r)
-called_max names own c e fc fe true h = of_call f.Max c e refl fc fe (told_own own f.Max c e h) (λ r. ap (λ t. t ++ r) (own_called names own f.Max c e refl h) ∙ call_text (pointer names f.Max c) (codes "max(") (pointer names f.Max c) (value names e) r)
-called_max names own c e fc fe false h =
-    of_plain None c (Apply o.Max (CellAt c) e) tt fc (fc, fe) (told_other own f.Max c e h)
-    (λ r. ap (λ t. t ++ r) (other_called names own f.Max c e refl h) ∙ set_call_text (name names c.array) (decimal c.index) (codes "max(") (value names e) r)
+-- an operation that is a function
+called : (names : List Text) (own : List Use) (op : Operation) (c : Cell) (e : E) → is_called op ≡ true → Fits names (CellAt c) → Fits names e → (b : Bool) → only_folds own op c ≡ b → Write names (normal_fold own op c e) (λ r. fold names own op c e ++ r)
+called names own op c e sign fc fe true h =
+    of_own op c e fc fe (rw h refl) (λ r. rw (sign, h) (simp append_assoc refl))
+called names own f.Min c e sign fc fe false h = of_plain None c (Apply o.Min (CellAt c) e) tt fc (fc, fe) (rw h refl) (λ r. rw h (simp append_assoc refl))
+called names own f.Max c e sign fc fe false h = of_plain None c (Apply o.Max (CellAt c) e) tt fc (fc, fe) (rw h refl) (λ r. rw h (simp append_assoc refl))
+called names own _ c e sign fc fe false h = absurd (true≢false (sym sign))
 
 pub fold_write : (names : List Text) (own : List Use) (op : Operation) (c : Cell) (e : E) → Fits names (CellAt c) → Fits names e → Write names (normal_fold own op c e) (λ r. fold names own op c e ++ r)
-fold_write names own f.Plus c e fc fe = signed names own f.Plus c e refl fc fe (only_folds own f.Plus c) refl
-fold_write names own f.Times c e fc fe = signed names own f.Times c e refl fc fe (only_folds own f.Times c) refl
-fold_write names own f.And c e fc fe = signed names own f.And c e refl fc fe (only_folds own f.And c) refl
-fold_write names own f.Or c e fc fe = signed names own f.Or c e refl fc fe (only_folds own f.Or c) refl
-fold_write names own f.Xor c e fc fe = signed names own f.Xor c e refl fc fe (only_folds own f.Xor c) refl
-fold_write names own f.Min c e fc fe = called_min names own c e fc fe (only_folds own f.Min c) refl
-fold_write names own f.Max c e fc fe = called_max names own c e fc fe (only_folds own f.Max c) refl
+fold_write names own op c e fc fe = by_sign (is_called op) refl
+  where
+    by_sign : (b : Bool) → is_called op ≡ b → Write names (normal_fold own op c e) (λ r. fold names own op c e ++ r)
+    by_sign true h = called names own op c e h fc fe (only_folds own op c) refl
+    by_sign false h = signed names own op c e h fc fe (only_folds own op c) refl
 
 -- ---- two writes
 
@@ -209,56 +148,37 @@ same_plain names are k l c d a b r s hk hl fc fd fa fb is =
     let values = same_value names are a b (10 ∷ r) (10 ∷ s) fa fb 59 59 refl refl (append_cancel_left (write_sign k) x y (cells.1 ∙ ap (λ q. write_sign q ++ y) (sym kinds))) in
     (ap (λ q. as_write q c a) kinds ∙ ap (λ z. as_write l z a) cells.0 ∙ ap (as_write l d) values.0, ap (λ t. tail_of (tail_of t)) values.1)
 
-fold_eq : (p q : Operation) (c d : Cell) (a b : E) → p ≡ q → c ≡ d → a ≡ b → Fold p c a ≡ Fold q d b
-fold_eq p q c d a b i j k = ap (λ x. Fold x c a) i ∙ ap (λ x. Fold q x a) j ∙ ap (Fold q d) k
+same_rest : (names : List Text) → AreIdentifiers names → (called : Bool) (op : Operation) (c : Cell) (a b : E) (r s : Text) → Fits names a → Fits names b → own_rest names called op c a r ≡ own_rest names called op c b s → (a ≡ b) × (r ≡ s)
+same_rest names are true op c a b r s fa fb is =
+    let x = value names a ++ (41 ∷ 59 ∷ 10 ∷ r) in
+    let y = value names b ++ (41 ∷ 59 ∷ 10 ∷ s) in
+    let p = pointer names op c in
+    let values = same_value names are a b (59 ∷ 10 ∷ r) (59 ∷ 10 ∷ s) fa fb 41 41 refl refl
+    (append_cancel_left (codes "[0], ") x y (append_cancel_left p (codes "[0], " ++ x) (codes "[0], " ++ y) (append_cancel_left (fold_sign op) (p ++ (codes "[0], " ++ x)) (p ++ (codes "[0], " ++ y)) (append_cancel_left (codes " = ") (fold_sign op ++ (p ++ (codes "[0], " ++ x))) (fold_sign op ++ (p ++ (codes "[0], " ++ y))) is)))) in
+    (values.0, ap (λ t. tail_of (tail_of (tail_of t))) values.1)
+same_rest names are false op c a b r s fa fb is =
+    let values = same_value names are a b (10 ∷ r) (10 ∷ s) fa fb 59 59 refl refl (append_cancel_left (fold_sign op) (value names a ++ (59 ∷ 10 ∷ r)) (value names b ++ (59 ∷ 10 ∷ s)) is) in
+    (values.0, ap (λ t. tail_of (tail_of t)) values.1)
 
 same_own : (names : List Text) → AreIdentifiers names → (op other : Operation) (c d : Cell) (a b : E) (r s : Text) → Fits names (CellAt c) → Fits names (CellAt d) → Fits names a → Fits names b
     → own_fold names op c a r ≡ own_fold names other d b s → (Fold op c a ≡ Fold other d b) × (r ≡ s)
 same_own names are op other c d a b r s fc fd fa fb is =
-    let x = value names a ++ (59 ∷ 10 ∷ r) in
-    let y = value names b ++ (59 ∷ 10 ∷ s) in
-    let one = same_pointers names are op other c d (91 ∷ 48 ∷ 93 ∷ (fold_sign op ++ x)) (91 ∷ 48 ∷ 93 ∷ (fold_sign other ++ y)) fc fd refl refl is in
-    let rest : fold_sign op ++ x ≡ fold_sign other ++ y = ap (λ t. tail_of (tail_of (tail_of t))) one.2 in
-    let values = same_value names are a b (10 ∷ r) (10 ∷ s) fa fb 59 59 refl refl (append_cancel_left (fold_sign op) x y (rest ∙ ap (λ q. fold_sign q ++ y) (sym one.0))) in
-    (fold_eq op other c d a b one.0 one.1 values.0, ap (λ t. tail_of (tail_of t)) values.1)
-
-same_call : (names : List Text) → AreIdentifiers names → (op other : Operation) (c d : Cell) (a b : E) (r s : Text) → Fits names (CellAt c) → Fits names (CellAt d) → Fits names a → Fits names b
-    → own_call names op c a r ≡ own_call names other d b s → (Fold op c a ≡ Fold other d b) × (r ≡ s)
-same_call names are op other c d a b r s fc fd fa fb is =
-    let x = 91 ∷ 48 ∷ 93 ∷ 44 ∷ 32 ∷ (value names a ++ (41 ∷ 59 ∷ 10 ∷ r)) in
-    let y = 91 ∷ 48 ∷ 93 ∷ 44 ∷ 32 ∷ (value names b ++ (41 ∷ 59 ∷ 10 ∷ s)) in
-    let p = pointer names op c ++ x in
-    let q = pointer names other d ++ y in
-    let one = same_pointers names are op other c d (91 ∷ 48 ∷ 93 ∷ 32 ∷ 61 ∷ 32 ∷ (fold_sign op ++ p)) (91 ∷ 48 ∷ 93 ∷ 32 ∷ 61 ∷ 32 ∷ (fold_sign other ++ q)) fc fd refl refl is in
-    let rest : fold_sign op ++ p ≡ fold_sign other ++ q = ap (λ t. tail_of (tail_of (tail_of (tail_of (tail_of (tail_of t)))))) one.2 in
-    let again = same_pointers names are op other c d x y fc fd refl refl (append_cancel_left (fold_sign op) p q (rest ∙ ap (λ z. fold_sign z ++ q) (sym one.0))) in
-    let values = same_value names are a b (59 ∷ 10 ∷ r) (59 ∷ 10 ∷ s) fa fb 41 41 refl refl (ap (λ t. tail_of (tail_of (tail_of (tail_of (tail_of t))))) again.2) in
-    (fold_eq op other c d a b one.0 one.1 values.0, ap (λ t. tail_of (tail_of (tail_of t))) values.1)
+    let rest : Operation → Cell → Text = λ q z. own_rest names (is_called q) q z b s in
+    let one = same_pointers names are op other c d (91 ∷ 48 ∷ 93 ∷ own_rest names (is_called op) op c a r) (91 ∷ 48 ∷ 93 ∷ rest other d) fc fd refl refl is in
+    let values = same_rest names are (is_called op) op c a b r s fa fb (ap (λ t. tail_of (tail_of (tail_of t))) one.2 ∙ ap (λ q. rest q d) (sym one.0) ∙ ap (rest op) (sym one.1)) in
+    (cc (one.0, one.1, values.0), values.1)
 
 -- a write into an array is none into a pointer
 plain_pointer : (names : List Text) → AreApart names → (k : Option Operation) (c : Cell) (e : E) (r : Text) (op : Operation) (d : Cell) (t : Text) → Fits names (CellAt c) → plain names k c e r ≡ pointer names op d ++ t → ⊥
 plain_pointer names are k c e r op d t f is =
     true≢false (sym (pointer_there names op d t) ∙ sym (ap is_pointer is) ∙ are.array c.array (decimal c.index ++ (93 ∷ (write_sign k ++ (value names e ++ (59 ∷ 10 ∷ r))))) f.0)
 
--- one is called and the other isn't
-not_both : (op other : Operation) → op ≡ other → is_called op ≡ false → is_called other ≡ true → ⊥
-not_both op other e h k = true≢false (sym k ∙ sym (ap is_called e) ∙ h)
-
 pub same_write : (names : List Text) → AreApart names → (p q : S) (t u : Text → Text) (r s : Text) → Write names p t → Write names q u → t r ≡ u s → (p ≡ q) × (r ≡ s)
 same_write names are p q t u r s (of_plain k c a hk fc fa ip it) (of_plain l d b hl fd fb iq iu) is =
     let both = same_plain names are.are k l c d a b r s hk hl fc fd fa fb (sym (it r) ∙ is ∙ iu s) in
     (ip ∙ both.0 ∙ sym iq, both.1)
-same_write names are p q t u r s (of_own op c a h fc fa ip it) (of_own other d b k fd fb iq iu) is =
+same_write names are p q t u r s (of_own op c a fc fa ip it) (of_own other d b fd fb iq iu) is =
     let both = same_own names are.are op other c d a b r s fc fd fa fb (sym (it r) ∙ is ∙ iu s) in
     (ip ∙ both.0 ∙ sym iq, both.1)
-same_write names are p q t u r s (of_call op c a h fc fa ip it) (of_call other d b k fd fb iq iu) is =
-    let both = same_call names are.are op other c d a b r s fc fd fa fb (sym (it r) ∙ is ∙ iu s) in
-    (ip ∙ both.0 ∙ sym iq, both.1)
-same_write names are p q t u r s (of_plain k c a hk fc fa ip it) (of_own other d b l fd fb iq iu) is = absurd (plain_pointer names are k c a r other d _ fc (sym (it r) ∙ is ∙ iu s))
-same_write names are p q t u r s (of_plain k c a hk fc fa ip it) (of_call other d b l fd fb iq iu) is = absurd (plain_pointer names are k c a r other d _ fc (sym (it r) ∙ is ∙ iu s))
-same_write names are p q t u r s (of_own other d b l fd fb ip it) (of_plain k c a hk fc fa iq iu) is = absurd (plain_pointer names are k c a s other d _ fc (sym (iu s) ∙ sym is ∙ it r))
-same_write names are p q t u r s (of_call other d b l fd fb ip it) (of_plain k c a hk fc fa iq iu) is = absurd (plain_pointer names are k c a s other d _ fc (sym (iu s) ∙ sym is ∙ it r))
-same_write names are p q t u r s (of_own op c a h fc fa ip it) (of_call other d b k fd fb iq iu) is =
-    absurd (not_both op other (same_pointers names are.are op other c d _ _ fc fd refl refl (sym (it r) ∙ is ∙ iu s)).0 h k)
-same_write names are p q t u r s (of_call other d b k fd fb ip it) (of_own op c a h fc fa iq iu) is =
-    absurd (not_both op other (sym (same_pointers names are.are other op d c _ _ fd fc refl refl (sym (it r) ∙ is ∙ iu s)).0) h k)
+same_write names are p q t u r s (of_plain k c a hk fc fa ip it) (of_own other d b fd fb iq iu) is = absurd (plain_pointer names are k c a r other d _ fc (sym (it r) ∙ is ∙ iu s))
+same_write names are p q t u r s (of_own other d b fd fb ip it) (of_plain k c a hk fc fa iq iu) is = absurd (plain_pointer names are k c a s other d _ fc (sym (iu s) ∙ sym is ∙ it r))

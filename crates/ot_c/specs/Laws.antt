@@ -79,12 +79,11 @@ is_nothing _ = false
 -- what the C tells of a statement, or of a body, of a task with this declaration
 abbrev mutual
   pub normal_statement : List Use → S → S
-  normal_statement own (Set c e) = Set c e
   normal_statement own (Fold op c e) = normal_fold own op c e
   normal_statement own (If e a b) = If e (normal own a) (normal own b)
   normal_statement own (Task us b) = Task us (normal us b)
-  normal_statement own (Wait w) = Wait w
   normal_statement own (Group op cs b) = normal_group op cs (normal own b)
+  normal_statement own s = s
 
   pub normal : List Use → Body → Body
   normal own End = End

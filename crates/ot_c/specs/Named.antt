@@ -64,10 +64,9 @@ is_fold c.Max f.Max = true
 is_fold call op = false
 
 abbrev pub value_calls : Call → E → Bool
-value_calls call (Literal n) = false
-value_calls call (CellAt c) = false
 value_calls call (Apply op x y) = is_op call op || value_calls call x || value_calls call y
 value_calls call (PickFrom s e) = value_calls call e
+value_calls call _ = false
 
 -- a fold calls the function of its operation, if there is one
 abbrev mutual

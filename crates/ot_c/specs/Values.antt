@@ -21,9 +21,7 @@ is_comparison _ = false
 -- whether a value is an `int` in C
 abbrev pub is_int : E → Bool
 is_int (Apply op a b) = is_comparison op
-is_int (Literal n) = false
-is_int (CellAt c) = false
-is_int (PickFrom s e) = false
+is_int _ = false
 
 -- a value's text as a side of an operation
 abbrev pub as_operand : E → Text → Text
@@ -31,16 +29,12 @@ as_operand e t = if is_int e then codes "(uint64_t)(" ++ t ++ codes ")" else as_
 
 abbrev pub is_number : E → Bool
 is_number (Literal n) = true
-is_number (CellAt c) = false
-is_number (Apply op a b) = false
-is_number (PickFrom s e) = false
+is_number _ = false
 
 -- a value's text before a sign: of two constants the first is made unsigned
 abbrev pub as_left : E → E → Text → Text
 as_left (Literal n) b t = if is_number b then decimal n ++ codes "ULL" else t
-as_left (CellAt c) b t = as_operand (CellAt c) t
-as_left (Apply op x y) b t = as_operand (Apply op x y) t
-as_left (PickFrom s e) b t = as_operand (PickFrom s e) t
+as_left a b t = as_operand a t
 
 -- the first cell of a section, where it isn't the array's own first
 abbrev pub first_of : ℕ → Text

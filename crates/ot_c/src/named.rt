@@ -29,12 +29,7 @@ fn is_array(number: u32, array: usize) -> bool
 fn sections_name(sections: &[Section], array: usize) -> bool
     ensures { result ≡ named.sections_name array sections.now }
 {
-    for section in sections {
-        if is_array(section.array, array) {
-            return true;
-        }
-    }
-    false
+    sections.iter().any(|section| is_array(section.array, array))
 }
 
 #[cycle(names)]
@@ -82,23 +77,13 @@ fn value_names(expr: &Expr, array: usize) -> bool
 fn decl_names(decl: &Decl, array: usize) -> bool
     ensures { result ≡ named.uses_name array decl.now }
 {
-    for used in decl.uses() {
-        if is_array(used.cell.array, array) {
-            return true;
-        }
-    }
-    false
+    decl.uses().iter().any(|used| is_array(used.cell.array, array))
 }
 
 fn cells_name(cells: &[Cell], array: usize) -> bool
     ensures { result ≡ named.cells_name array cells.now }
 {
-    for cell in cells {
-        if is_array(cell.array, array) {
-            return true;
-        }
-    }
-    false
+    cells.iter().any(|cell| is_array(cell.array, array))
 }
 
 /// Whether statements call the function.
@@ -145,18 +130,12 @@ fn value_calls(expr: &Expr, call: Call) -> bool
 fn is_op(call: Call, op: Op) -> bool
     ensures { result ≡ named.is_op call op }
 {
-    match call {
-        Call::Min => matches!(op, Op::Min),
-        Call::Max => matches!(op, Op::Max),
-    }
+    matches!((call, op), (Call::Min, Op::Min) | (Call::Max, Op::Max))
 }
 
 /// Whether a fold by this operation calls the function.
 fn is_fold(call: Call, op: Fold) -> bool
     ensures { result ≡ named.is_fold call op }
 {
-    match call {
-        Call::Min => matches!(op, Fold::Min),
-        Call::Max => matches!(op, Fold::Max),
-    }
+    matches!((call, op), (Call::Min, Fold::Min) | (Call::Max, Fold::Max))
 }

@@ -120,10 +120,7 @@ fn is_number(expr: &Expr) -> bool
 fn is_int(expr: &Expr) -> bool
     ensures { result ≡ written.is_int (expr_of expr.now) }
 {
-    match expr {
-        Expr::Op(op, _, _) => is_comparison(*op),
-        _ => false,
-    }
+    matches!(expr, Expr::Op(op, _, _) if is_comparison(*op))
 }
 
 fn is_comparison(op: Op) -> bool

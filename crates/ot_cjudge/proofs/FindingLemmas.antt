@@ -1,13 +1,14 @@
 -- What is found where no way races.
-use Rattle.std.proofs.Common.{◌≡◌, ◌⊎◌, inl, inr, refl, ℕ, List, true, false}
+use Rattle.std.proofs.Common.{◌≡◌, ◌∙◌, ◌⊎◌, inl, inr, refl, sym, ℕ, List, true, false, true≢false}
 use Rattle.std.proofs.lemmas.Bool.{both_ways}
 use Rattle.ot_model.specs.Tree.{Body}
 use Rattle.ot_model.specs.Cells.{cell_of, lengths}
 use Rattle.ot_model.specs.Names.{NamedIn}
 use Rattle.ot_model.specs.Value.{val}
 use Rattle.ot_corder.specs.declared.order.Order.{Order}
-use Rattle.ot_ways.specs.Laws.{RunsAreWays}
+use Rattle.ot_ways.specs.Laws.{RunsAreWays, StraightWaysAreRuns}
 use Rattle.ot_race.specs.Races.{NothingRaces}
+use Rattle.ot_ways.specs.Straight.{is_straight}
 use Rattle.ot_ways.specs.Verdicts.{AreFew, NoWayRaces, Tells}
 use Rattle.ot_ways.specs.declared.verdict.Verdict.{Verdict}
 use Rattle.ot_ways.specs.declared.verdict.Verdict.TheVariants.{RacesOnNoWay, RacesOnWay, TooManyWays}
@@ -24,12 +25,17 @@ finds_nowhere order body cells RacesOnNoWay laws named tells is = (run_races_not
 finds_nowhere order body cells (RacesOnWay taken race) laws named tells is = absurd (both_ways false refl is)
 finds_nowhere order body cells TooManyWays laws named tells is = absurd (both_ways false refl is)
 
-unknown : (order : Order) (body : Body) → (AreFew body → ⊥) → (IsAccepted order body → ⊥) → AreKnown order body → ⊥
-unknown order body many refused (inl few) = many few
-unknown order body many refused (inr accepted) = refused accepted
+unknown : (order : Order) (body : Body) → is_straight body ≡ false → (AreFew body → ⊥) → (IsAccepted order body → ⊥) → AreKnown order body → ⊥
+unknown order body bends many refused (inl few) = many few
+unknown order body bends many refused (inr (inl accepted)) = refused accepted
+unknown order body bends many refused (inr (inr straight)) = true≢false (sym straight ∙ bends)
 
--- where the run doesn't race, what the ways tell is found
-pub finds_told : (order : Order) (body : Body) (cells : List (List ℕ)) (told : Verdict) → NothingRaces (events_by order body cells) → Tells order body told → (IsAccepted order body → ⊥) → Finds order body cells (finding_of told)
-finds_told order body cells RacesOnNoWay none tells refused = (none, inl tells.0, tells.1)
-finds_told order body cells (RacesOnWay taken race) none tells refused = (none, tells.0, taken.items, tells.1)
-finds_told order body cells TooManyWays none tells refused = (none, unknown order body tells refused)
+-- where the run of a straight body doesn't race, no way does
+pub finds_straight : (order : Order) (body : Body) (cells : List (List ℕ)) → StraightWaysAreRuns → is_straight body ≡ true → NothingRaces (events_by order body cells) → Finds order body cells Nowhere
+finds_straight order body cells laws straight none = (none, inr (inr straight), laws order body cells straight none)
+
+-- where the run of another one doesn't race, what the ways tell is found
+pub finds_told : (order : Order) (body : Body) (cells : List (List ℕ)) (told : Verdict) → is_straight body ≡ false → NothingRaces (events_by order body cells) → Tells order body told → (IsAccepted order body → ⊥) → Finds order body cells (finding_of told)
+finds_told order body cells RacesOnNoWay bends none tells refused = (none, inl tells.0, tells.1)
+finds_told order body cells (RacesOnWay taken race) bends none tells refused = (none, tells.0, taken.items, tells.1)
+finds_told order body cells TooManyWays bends none tells refused = (none, unknown order body bends tells refused)

@@ -6,6 +6,7 @@ use Rattle.ot_race.specs.Events.{Event, this_way, events_of}
 use Rattle.ot_race.specs.Races.{NothingRaces, IsFirstRace}
 use Rattle.ot_corder.specs.Orders.{ordered_by, is_alike}
 use Rattle.ot_corder.specs.declared.order.Order.{Order}
+use Rattle.ot_ways.specs.Straight.{is_straight}
 use Rattle.ot_ways.specs.Verdicts.{AreFew, NoWayRaces, IsRaceOn}
 use Rattle.ot_ways.specs.declared.verdict.Turn.{Turn}
 use Rattle.ot_ways.specs.declared.verdict.Verdict.{Verdict}
@@ -21,9 +22,13 @@ events_by order body cells = ordered_by order (events_of this_way body cells)
 abbrev pub IsAccepted : Order → Body → Type 0
 IsAccepted order body = OffendsNowhere body × (is_alike order body ≡ true)
 
--- all its ways are known: they are few, or it is accepted, so that none of them races
+-- it has no branches and no picks, so that its ways do what its run does
+abbrev pub IsStraight : Body → Type 0
+IsStraight body = is_straight body ≡ true
+
+-- all its ways are known: they are few, or it is accepted, so that none of them races, or it is straight
 abbrev pub AreKnown : Order → Body → Type 0
-AreKnown order body = AreFew body ⊎ IsAccepted order body
+AreKnown order body = AreFew body ⊎ (IsAccepted order body ⊎ IsStraight body)
 
 -- the first race of the run; where nothing races in it, the first race of a way, from any cells; or that no way races, or that
 -- there are too many ways to know

@@ -10,8 +10,8 @@ use ot_corder::{Order, is_alike, judge_by};
 use ot_model::{Cells, Program};
 use ot_race::{Race, run_events};
 use ot_raceless::laws::checked_races_on_no_way_by;
-use ot_ways::laws::runs_are_ways;
-use ot_ways::{Verdict as WaysVerdict, any_way};
+use ot_ways::laws::{runs_are_ways, straight_ways_are_runs};
+use ot_ways::{Verdict as WaysVerdict, any_way, is_straight};
 use std::alloc::{AllocError, Global};
 
 /// What is found of a program that begins with the C's numbers.
@@ -59,11 +59,30 @@ pub(crate) fn find_in_refused(
 {
     match race_in_run(alloc, order, program, cells)? {
         Some(race) => Ok(Finding::InRun(race)),
-        None => Ok(finding_of(any_way(alloc, order, program)?)),
+        None => find_on_ways(alloc, order, program),
     }
 }
 
-/// The same, but that it looks on all ways first. The run goes a way itself: where no way races it isn't judged.
+ghost use Rattle.std.specs.Prelude.{ℕ, List};
+ghost use Rattle.ot_race.specs.Races.{NothingRaces};
+
+/// Looks on the ways of a program whose run doesn't race. Where it is straight they do what the run does, and none is judged.
+fn find_on_ways(alloc: Global, order: Order, program: &Program) -> Result<Finding, AllocError>
+    requires { (lens : List ℕ) × NamedIn lens (stmts_of program.now.body.items) }
+    ensures { (cells : List (List ℕ)) → NothingRaces (events_by order (stmts_of program.now.body.items) cells) → (IsAccepted order (stmts_of program.now.body.items) → ⊥)
+        → IfOk result (Finds order (stmts_of program.now.body.items) cells) }
+{
+    let straight = is_straight(&program.body);
+    if straight {
+        straight_ways_are_runs();
+        return Ok(Finding::Nowhere);
+    }
+    let told = any_way(alloc, order, program)?;
+    Ok(finding_of(told))
+}
+
+/// The same, but that it looks on all ways first, unless the program is straight. The run goes a way itself: where no way races it
+/// isn't judged.
 fn find_race(
     alloc: Global,
     order: Order,
@@ -73,6 +92,9 @@ fn find_race(
     requires { NamedIn (lengths cells) (stmts_of program.now.body.items) }
     ensures { (IsAccepted order (stmts_of program.now.body.items) → ⊥) → IfOk result (Finds order (stmts_of program.now.body.items) cells) }
 {
+    if is_straight(&program.body) {
+        return find_in_refused(alloc, order, program, cells);
+    }
     runs_are_ways();
     let told = any_way(alloc, order, program)?;
     if is_clean(&told) {

@@ -5,12 +5,12 @@ use Rattle.std.specs.Coded.{Coded, Coded-set, codes}
 use Rattle.std.specs.Prelude.{Option, Some, None, IsSome, is_some, nat_le, if◌then◌else◌, slice_get, unwrap_or}
 use Rattle.std.proofs.lemmas.Bool.{le-leb}
 use Rattle.std.proofs.lemmas.Bool.Decides.{leb_tells}
-use Rattle.std.proofs.lemmas.Option.{same_Some, slice_get_within, slice_get-get_or, get_or_from_slice_get, unwrap_or-slice_get}
+use Rattle.std.proofs.lemmas.Option.{none-some, same_Some, slice_get_within, slice_get-get_or, get_or_from_slice_get, unwrap_or-slice_get}
 use Rattle.std.proofs.lemmas.List.{length-map, length-take, length-append, map-append, take-append-le, take_more, get_or_append_left}
 use Rattle.ot_model.specs.Programs.{expanded_of}
 use Rattle.ot_check.specs.Jobs.{Spec}
 use Rattle.ot_book.specs.Answers.{State, opening, answers, answer_or_lost, is_checkpoint}
-use Rattle.ot_book.specs.Books.{Register, IsOpenFor, max_number, appended, cleared, logged, opened, open_line, refused, state_in}
+use Rattle.ot_book.specs.Books.{Register, IsOpenFor, max_number, appended, cleared, logged, opened, open_line, state_in}
 use Rattle.ot_book.specs.Opening.{IsFullFor, AnswersNow, OpensLine}
 use Rattle.ot_book.specs.declared.book.Opened.{Opened}
 use Rattle.ot_book.specs.declared.book.Opened.TheVariants.{Full, Answered, ToRun}
@@ -19,13 +19,12 @@ use Rattle.ot_book.specs.Room.{Room, takes, with_entry, empty_room, room_after, 
 use Rattle.ot_book.proofs.BookLemmas.{answers-more, is_lost-answer_or_lost, state-cleared, state-logged, logged-by, runs-other}
 use Rattle.ot_book.proofs.RoomLemmas.{room-logged, takes-free, room_after-append, takes_all-more, takes_all-at}
 use Rattle.ot_core.specs.Accounts.{Account, told, answered, marked, first_room, room_asked, IsSound}
+use Rattle.ot_core.specs.AccountView.{account_of, IsTenant}
+use Rattle.ot_core.specs.declared.tenant.Tenant.TheInside.{Inside}
 use Rattle.ot_core.specs.Asking.{IsUnopened, Waits, with_reply, with_open, next_line}
 
 bool_code : Coded Bool
 bool_code = Prim.hlevel codes
-
-absent : {X : Type 0} {A : Type 0} (x : A) → None ≡ Some x → X
-absent x e = absurd (true≢false (sym (ap is_some e)))
 
 pub the_some : {A : Type 0} (o : Option A) → IsSome o → (x : A) × (o ≡ Some x)
 the_some None some = absurd (true≢false (sym some))
@@ -40,6 +39,9 @@ answered-≤ a sound = sound.within
 
 pub length-told : (a : Account) → length (told a) ≡ answered a
 length-told a = omega (arith, length-append a.kept (map (λ (e : List ℕ × Told). e.1) a.book.log), length-map a.book.log (λ (e : List ℕ × Told). e.1))
+
+next-asked : (a : Account) → answered a < length a.asked → slice_get a.asked (answered a) ≡ Some (next_line a)
+next-asked a below = slice_get-get_or a.asked (answered a) [] below ∙ ap Some (sym (unwrap_or-slice_get a.asked (answered a) []))
 
 line-next : (a : Account) (line : List ℕ) → slice_get a.asked (answered a) ≡ Some line → next_line a ≡ line
 line-next a line is = ap (λ o. unwrap_or o []) is
@@ -80,54 +82,43 @@ sound-admitted a line sound room =
 abbrev pub said_next : Account → Bool → Told
 said_next a lost = (answer_or_lost a.book.limits (state_in a.book) (next_line a) lost).0
 
-told-by : (a : Account) (lost : Bool) (test : Bool) → is_checkpoint (next_line a) ≡ test → told (with_reply a lost) ≡ told a ++ said_next a lost ∷ []
-told-by a lost true is =
-    let line = next_line a in
-    ap (λ t. (if t then told a else a.kept) ++ map (λ (e : List ℕ × Told). e.1) (if t then appended (cleared a.book) line lost else appended a.book line lost).log) is
-    ∙ ap (λ s. told a ++ (answer_or_lost a.book.limits s line lost).0 ∷ []) (state-cleared a.book)
-told-by a lost false is =
-    let line = next_line a in
-    ap (λ t. (if t then told a else a.kept) ++ map (λ (e : List ℕ × Told). e.1) (if t then appended (cleared a.book) line lost else appended a.book line lost).log) is
-    ∙ ap (λ l. a.kept ++ l) (map-append (λ (e : List ℕ × Told). e.1) a.book.log ((line, said_next a lost) ∷ []))
-    ∙ sym (append_assoc a.kept (map (λ (e : List ℕ × Told). e.1) a.book.log) (said_next a lost ∷ []))
-
 pub told-replied : (a : Account) (lost : Bool) → told (with_reply a lost) ≡ told a ++ said_next a lost ∷ []
-told-replied a lost = told-by a lost (is_checkpoint (next_line a)) refl
+told-replied a lost = by (is_checkpoint (next_line a))
+  where
+    by : (test : Bool) → (if test then told a else a.kept) ++ map (λ (e : List ℕ × Told). e.1) (if test then appended (cleared a.book) (next_line a) lost else appended a.book (next_line a) lost).log ≡ told a ++ said_next a lost ∷ []
+    by true = ap (λ s. told a ++ (answer_or_lost a.book.limits s (next_line a) lost).0 ∷ []) (state-cleared a.book)
+    by false = ap (λ l. a.kept ++ l) (map-append (λ (e : List ℕ × Told). e.1) a.book.log ((next_line a, said_next a lost) ∷ []))
+        ∙ sym (append_assoc a.kept (map (λ (e : List ℕ × Told). e.1) a.book.log) (said_next a lost ∷ []))
 
 pub answered-replied : (a : Account) (lost : Bool) → answered (with_reply a lost) ≡ answered a + 1
 answered-replied a lost =
     omega (arith, length-told (with_reply a lost), length-told a, ap length (told-replied a lost), length-append (told a) (said_next a lost ∷ []))
 
--- the marks of lines that were all answered, and of one more
-marked-snoc : (lines : List (List ℕ)) (says : List Told) (line : List ℕ) (said : Told) → length lines ≡ length says →
-    marked (lines ++ line ∷ []) (says ++ said ∷ []) ≡ marked lines says ++ (line, is_lost said) ∷ []
-marked-snoc [] [] line said many = refl
-marked-snoc [] (s ∷ says) line said many = absurd (omega (arith, many))
-marked-snoc (l ∷ lines) [] line said many = absurd (omega (arith, many))
-marked-snoc (l ∷ lines) (s ∷ says) line said many = ap (λ (r : List (List ℕ × Bool)). (l, is_lost s) ∷ r) (marked-snoc lines says line said (omega (arith, many)))
+-- the marks of lines that were all answered, and of further ones
+pub marked-append : (lines rest : List (List ℕ)) (says more : List Told) → length lines ≡ length says → marked (lines ++ rest) (says ++ more) ≡ marked lines says ++ marked rest more
+marked-append [] rest [] more many = refl
+marked-append [] rest (s ∷ says) more many = absurd (omega (arith, many))
+marked-append (l ∷ lines) rest [] more many = absurd (omega (arith, many))
+marked-append (l ∷ lines) rest (s ∷ says) more many = ap (λ (r : List (List ℕ × Bool)). (l, is_lost s) ∷ r) (marked-append lines rest says more (omega (arith, many)))
 
 -- the lines answered are one more
 taken-more : (a : Account) → answered a < length a.asked → take (answered a + 1) a.asked ≡ take (answered a) a.asked ++ next_line a ∷ []
 taken-more a below =
     take_more a.asked (answered a) [] below ∙ ap (λ l. take (answered a) a.asked ++ l ∷ []) (sym (unwrap_or-slice_get a.asked (answered a) []))
 
-limits-replied : (a : Account) (lost : Bool) → (with_reply a lost).book.limits ≡ a.book.limits
-limits-replied a lost =
-    logged-by (λ r. r.limits ≡ a.book.limits) a.book (next_line a) lost (is_checkpoint (next_line a)) refl (λ _. refl) (λ _. refl)
+book-replied : (a : Account) (lost : Bool) → ((with_reply a lost).book.limits ≡ a.book.limits) × ((with_reply a lost).book.pending ≡ None)
+book-replied a lost =
+    logged-by (λ r. (r.limits ≡ a.book.limits) × (r.pending ≡ None)) a.book (next_line a) lost (is_checkpoint (next_line a)) refl (λ _. (refl, refl)) (λ _. (refl, refl))
 
-pending-replied : (a : Account) (lost : Bool) → (with_reply a lost).book.pending ≡ None
-pending-replied a lost =
-    logged-by (λ r. r.pending ≡ None) a.book (next_line a) lost (is_checkpoint (next_line a)) refl (λ _. refl) (λ _. refl)
-
-pub entries-replied : (a : Account) (lost : Bool) → (room_asked (with_reply a lost)).entries ≡ (room_asked a).entries
-entries-replied a lost = ap (λ l. (room_after (empty_room l) a.asked).entries) (limits-replied a lost)
+entries-replied : (a : Account) (lost : Bool) → (room_asked (with_reply a lost)).entries ≡ (room_asked a).entries
+entries-replied a lost = ap (λ l. (room_after (empty_room l) a.asked).entries) (book-replied a lost).0
 
 -- an open request is no checkpoint
 pub open-other : (b : Register) (s : Spec) → IsOpenFor b s → is_checkpoint (open_line b) ≡ false
 open-other b s opens =
     ∥∥₁_elim opens.asks (Coded-set bool_code (is_checkpoint (open_line b)) false) (λ asks. runs-other b.limits b.store b.used (open_line b) (expanded_of s.checked.program) asks)
 
-pub sound-replied : (a : Account) (lost : Bool) → IsSound a → answered a < length a.asked → IsSound (with_reply a lost)
+sound-replied : (a : Account) (lost : Bool) → IsSound a → answered a < length a.asked → IsSound (with_reply a lost)
 sound-replied a lost sound below =
     let n = answered a in
     let line = next_line a in
@@ -137,12 +128,13 @@ sound-replied a lost sound below =
     let count : answered b ≡ n + 1 = answered-replied a lost in
     let lines : take (answered b) a.asked ≡ take n a.asked ++ line ∷ [] = ap (λ k. take k a.asked) count ∙ taken-more a below in
     let many : length (take n a.asked) ≡ length (told a) = omega (arith, sound.within, length-take n a.asked, length-told a) in
-    let now : b.book.limits ≡ limits = limits-replied a lost in record {
+    let now : b.book.limits ≡ limits = (book-replied a lost).0 in
+    let pending = (book-replied a lost).1 in record {
       whole =
           ap (λ l. answers l (opening a.base) (marked (take (answered b) a.asked) (told b))) now
           ∙ ap (λ ls. answers limits (opening a.base) (marked ls (told b))) lines
           ∙ ap (λ says. answers limits (opening a.base) (marked (take n a.asked ++ line ∷ []) says)) (told-replied a lost)
-          ∙ ap (answers limits (opening a.base)) (marked-snoc (take n a.asked) (told a) line said many)
+          ∙ ap (answers limits (opening a.base)) (marked-append (take n a.asked) (line ∷ []) (told a) (said ∷ []) many)
           ∙ ap (λ m. answers limits (opening a.base) (marked (take n a.asked) (told a) ++ (line, m) ∷ [])) (is_lost-answer_or_lost limits (state_in a.book) line lost)
           ∙ answers-more limits (opening a.base) (marked (take n a.asked) (told a)) (line, lost)
           ∙ ap (λ (r : List Told × State). (r.0 ++ (answer_or_lost limits r.1 line lost).0 ∷ [], (answer_or_lost limits r.1 line lost).1)) sound.whole
@@ -157,10 +149,21 @@ sound-replied a lost sound below =
           ∙ ap (λ l. room_after (empty_room l) (take (answered b) a.asked)) (sym now);
       taken = subst (λ l. TakesAll (empty_room l) a.asked) (sym now) sound.taken;
       few = sound.few;
-      next = λ l is. absent l (sym (pending-replied a lost) ∙ is);
-      open_both = ((λ some. absurd (true≢false (sym some ∙ ap is_some (pending-replied a lost)))), (λ some. absurd (true≢false (sym some))));
-      waits = λ s is. absent s is;
+      next = λ l is. absurd (none-some l (sym pending ∙ is));
+      open_both = ((λ some. absurd (true≢false (sym some ∙ ap is_some pending))), (λ some. absurd (true≢false (sym some))));
+      waits = λ s is. absurd (none-some s is);
     }
+
+-- and so is the tenant
+pub tenant-replied : (a : Account) (lost : Bool) (t : Inside) → IsSound a → answered a < length a.asked → t.since ≡ (room_asked a).entries → account_of t ≡ with_reply a lost → IsTenant t
+tenant-replied a lost t sound below since is = record {
+  sound = subst IsSound (sym is) (sound-replied a lost sound below);
+  since = since ∙ sym (entries-replied a lost) ∙ ap (λ b. (room_asked b).entries) (sym is);
+}
+
+-- the line that was read is the next one
+pub read-next : (a now : Account) (line : List ℕ) (n : ℕ) → a ≡ now → line ≡ unwrap_or (slice_get a.asked n) [] → n ≡ answered now → line ≡ next_line a
+read-next a now line n is read next = read ∙ ap (λ k. unwrap_or (slice_get a.asked k) []) (next ∙ ap answered (sym is))
 
 -- the next line's request is open
 pub sound-opened : (a : Account) (s : Spec) → IsSound a → answered a < length a.asked → IsOpenFor (opened a.book (next_line a)) s → IsSound (with_open a s)
@@ -170,7 +173,7 @@ sound-opened a s sound below runs = record {
   room = sound.room;
   taken = sound.taken;
   few = sound.few;
-  next = λ l is. slice_get-get_or a.asked (answered a) [] below ∙ ap Some (sym (unwrap_or-slice_get a.asked (answered a) [])) ∙ is;
+  next = λ l is. next-asked a below ∙ is;
   open_both = ((λ _. refl), (λ _. refl));
   waits = λ t is. subst (IsOpenFor (opened a.book (next_line a))) (same_Some s t is) runs;
 }
@@ -178,8 +181,7 @@ sound-opened a s sound below runs = record {
 -- the book takes the next line
 pub free-next : (a : Account) → IsSound a → IsUnopened a → ¬ (IsFullFor a.book (next_line a))
 free-next a sound unopened =
-    let at : slice_get a.asked (answered a) ≡ Some (next_line a) =
-    slice_get-get_or a.asked (answered a) [] unopened.0 ∙ ap Some (sym (unwrap_or-slice_get a.asked (answered a) [])) in
+    let at = next-asked a unopened.0 in
     let closed : a.book.pending ≡ None = none-from a.book.pending (λ some. absurd (true≢false (sym (sound.open_both.0 some) ∙ ap is_some unopened.1))) in
     takes-free a.book (next_line a) closed (ap (λ r. takes r (next_line a)) sound.room ∙ takes_all-at (first_room a) a.asked (answered a) (next_line a) sound.taken at)
 
@@ -198,9 +200,7 @@ below-open a sound waiting =
 pub reply-kept : (a : Account) (lost : Bool) (book : Register) (spec : Option Spec) → is_checkpoint (next_line a) ≡ false → book ≡ logged a.book (next_line a) lost → spec ≡ None →
     with_reply a lost ≡ record a { book = book; spec = spec }
 reply-kept a lost book spec other logs gone =
-    ap (λ t. record a { book = logged a.book (next_line a) lost; kept = if t then told a else a.kept; spec = None }) other
-    ∙ ap (λ b. record a { book = b; spec = None }) (sym logs)
-    ∙ ap (λ s. record a { book = book; spec = s }) (sym gone)
+    rw (logs, gone, other) refl
 
 -- the open request is answered
 pub closed-is : (a : Account) (lost : Bool) (book : Register) (spec : Option Spec) → IsSound a → IsSome a.spec
@@ -221,10 +221,7 @@ answered-is a book line lost other at is closed =
 pub checkpoint-is : (a : Account) (book : Register) (kept : List Told) (line : List ℕ) → is_checkpoint line ≡ true → line ≡ next_line a → book ≡ logged a.book line false →
     kept ≡ told a → a.spec ≡ None → record a { book = book; kept = kept } ≡ with_reply a false
 checkpoint-is a book kept line asks at is all closed =
-    ap (λ k. record a { book = book; kept = k }) all
-    ∙ ap (λ b. record a { book = b; kept = told a }) (is ∙ ap (λ l. logged a.book l false) at)
-    ∙ ap (λ s. record a { book = logged a.book (next_line a) false; kept = told a; spec = s }) closed
-    ∙ ap (λ t. record a { book = logged a.book (next_line a) false; kept = if t then told a else a.kept; spec = None }) (sym (ap is_checkpoint (sym at) ∙ asks))
+    rw (all, is, at, ← closed, ap is_checkpoint (sym at) ∙ asks) refl
 
 -- its request is open
 pub opened-is : (a : Account) (book : Register) (line : List ℕ) (s : Spec) → line ≡ next_line a → book ≡ opened a.book line
@@ -234,10 +231,6 @@ opened-is a book line s at is = ap (λ b. record a { book = b; spec = Some s }) 
 -- a line whose request waits for a job is no checkpoint
 pub never-waits : (a b : Account) (s : Spec) (lost : Bool) → Waits a s b → is_checkpoint (next_line a) ≡ true → lost ≡ false
 never-waits a b s lost waits asks = absurd (true≢false (sym asks ∙ open-other (opened a.book (next_line a)) waits.spec waits.runs))
-
--- a request that was opened is answered for want of memory
-pub lost-again : (a : Account) (line : List ℕ) (new book : Register) → new ≡ opened a.book line → book ≡ refused new → book ≡ logged a.book line true
-lost-again a line new book is refuses = refuses ∙ ap refused is
 
 -- ---- a line is asked
 
@@ -263,20 +256,16 @@ pub test-takes : (a : Account) (line : List ℕ) (log since : ℕ) (checkpoint t
     test ≡ (if nat_le log since then checkpoint else true) → log ≡ a.book.limits.log → since ≡ (room_asked a).entries → checkpoint ≡ is_checkpoint line →
     test ≡ takes (room_asked a) line
 test-takes a line log since checkpoint test left is logs sinces asks =
-    is
-    ∙ ap (λ l. if nat_le l since then checkpoint else true) logs
-    ∙ ap (λ n. if nat_le a.book.limits.log n then checkpoint else true) sinces
-    ∙ ap (λ t. if nat_le a.book.limits.log (room_asked a).entries then t else true) asks
-    ∙ sym (takes-is a line left)
+    rw (is, logs, sinces, asks) (sym (takes-is a line left))
 
 -- a line more may be counted
-entry_by-≤ : (t : Bool) (n : ℕ) → (if t then 1 else n + 1) ≤ n + 1
-entry_by-≤ true n = omega arith
-entry_by-≤ false n = omega arith
-
 entries-≤ : (r : Room) (ls : List (List ℕ)) → (room_after r ls).entries ≤ r.entries + length ls
 entries-≤ r [] = omega arith
-entries-≤ r (l ∷ ls) = omega (arith, entries-≤ (with_entry r l) ls, entry_by-≤ (is_checkpoint l) r.entries)
+entries-≤ r (l ∷ ls) = omega (arith, entries-≤ (with_entry r l) ls, one (is_checkpoint l))
+  where
+    one : (t : Bool) → (if t then 1 else r.entries + 1) ≤ r.entries + 1
+    one true = omega arith
+    one false = omega arith
 
 pub entries-asked : (a : Account) → (room_asked a).entries ≤ length a.asked
 entries-asked a = omega (arith, entries-≤ (first_room a) a.asked)

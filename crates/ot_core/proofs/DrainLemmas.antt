@@ -6,11 +6,11 @@ use Rattle.std.proofs.lemmas.Nat.{mul-le}
 use Rattle.std.proofs.lemmas.Bool.{cases_lt, cases_eq}
 use Rattle.std.proofs.lemmas.Bool.Decides.{nat_tests}
 use Rattle.std.proofs.lemmas.List.Sums.{sum_by-set, sum_by-cons}
-use Rattle.std.proofs.lemmas.Option.{slice_get_within, get_or_from_slice_get, same_Some}
+use Rattle.std.proofs.lemmas.Option.{slice_get_within, get_or_from_slice_get, none-some, same_Some}
 use Rattle.ot_check.specs.Jobs.{Spec}
 use Rattle.ot_job.specs.Live.{Live}
 use Rattle.ot_job.specs.States.{claimable_in}
-use Rattle.ot_job.specs.Dealings.{NoneOut, Work, after_failure, state_of, weight_of, out_of, work_at}
+use Rattle.ot_job.specs.Dealings.{NoneOut, after_failure, state_of, weight_of, out_of, work_at}
 use Rattle.ot_job.specs.declared.state.State.{State}
 use Rattle.ot_job.specs.declared.state.State.TheVariants.{Working, Failing, Ended, Failed}
 use Rattle.ot_job.proofs.DealingsLemmas.{starts-fresh, claimed-gives, settles-pays, fails-breaks}
@@ -18,7 +18,7 @@ use Rattle.ot_core.specs.Accounts.{Account, answered}
 use Rattle.ot_core.specs.Asking.{IsUnopened, with_reply}
 use Rattle.ot_core.specs.Index.{job_of}
 use Rattle.ot_core.specs.Floors.{units_of}
-use Rattle.ot_core.specs.Scenes.{Scene, IsScene, IsHeld, Pairs, hand_of, out_at, seat_of}
+use Rattle.ot_core.specs.Scenes.{Scene, IsScene, IsHeld, hand_of, out_at, seat_of}
 use Rattle.ot_core.specs.Steps.{moved, handed, OpensFor, RepliesTo, StartsFor, Finishes, CanOpen, CannotReply, Steps}
 use Rattle.ot_core.specs.Toil.{toil, toil_of, toil_by, unopened, one_if, free_hand}
 use Rattle.ot_core.specs.Draining.{opens_of, closed_by, over_of, over_by, claimable_of, moves_at, full_hand, sum_below, count_of, IsMove, MayStart, MayFinish, IsLively, LivelyAt, AllAnswered}
@@ -27,37 +27,32 @@ use Rattle.ot_core.specs.declared.event.Event.{Event}
 use Rattle.ot_core.specs.declared.event.Event.TheVariants as event
 use Rattle.ot_core.specs.declared.event.Stepped.{Stepped}
 use Rattle.ot_core.specs.declared.event.Stepped.TheVariants.{Answered, Job, Replied, Started, Finished, FinishedFailed, NotNow}
-use Rattle.ot_core.proofs.AccountLemmas.{answered-≤, answered-replied}
+use Rattle.ot_core.proofs.AccountLemmas.{answered-≤, answered-replied, none-from, the_some}
 use Rattle.ot_core.proofs.FloorLemmas.{job-within}
-use Rattle.ot_core.proofs.SceneLemmas.{there}
+use Rattle.ot_core.proofs.SceneLemmas.{there, both-none}
 
 -- ---- less to do
+
+unopened-set : (s : Scene) (t : ℕ) (a b : Account) → slice_get s.accounts t ≡ Some a → sum_by unopened (set s.accounts t b) + unopened a ≡ sum_by unopened s.accounts + unopened b
+unopened-set s t a b at =
+    ap (λ x. sum_by unopened (set s.accounts t b) + unopened x) (sym (get_or_from_slice_get s.accounts t a a at))
+    ∙ sum_by-set unopened s.accounts t b a (slice_get_within s.accounts t a at)
 
 -- one tenant moves
 falls-moved : (s : Scene) (t : ℕ) (a b : Account) (job : Option Live) (units : List ℕ) → slice_get s.accounts t ≡ Some a → t < length s.floor.jobs
     → 200000 * unopened b + toil_of job < 200000 * unopened a + toil_of (job_of s.floor.jobs t) → toil (moved s t b (record { jobs = set s.floor.jobs t job; units = units })) < toil s
 falls-moved s t a b job units at within less =
-    let accounts : sum_by unopened (set s.accounts t b) + unopened a ≡ sum_by unopened s.accounts + unopened b =
-    ap (λ x. sum_by unopened (set s.accounts t b) + unopened x) (sym (get_or_from_slice_get s.accounts t a a at))
-    ∙ sum_by-set unopened s.accounts t b a (slice_get_within s.accounts t a at) in
-    let jobs = sum_by-set toil_of s.floor.jobs t job None within in
-    omega (arith, less, accounts, jobs)
+    omega (arith, less, unopened-set s t a b at, sum_by-set toil_of s.floor.jobs t job None within)
 
 -- a tenant's account alone moves
 falls-account : (s : Scene) (t : ℕ) (a b : Account) → slice_get s.accounts t ≡ Some a → unopened b < unopened a → toil (moved s t b s.floor) < toil s
-falls-account s t a b at less =
-    let accounts : sum_by unopened (set s.accounts t b) + unopened a ≡ sum_by unopened s.accounts + unopened b =
-    ap (λ x. sum_by unopened (set s.accounts t b) + unopened x) (sym (get_or_from_slice_get s.accounts t a a at))
-    ∙ sum_by-set unopened s.accounts t b a (slice_get_within s.accounts t a at) in
-    omega (arith, less, accounts)
+falls-account s t a b at less = omega (arith, less, unopened-set s t a b at)
 
 -- one worker takes a piece or gives it back
 falls-handed : (s : Scene) (t w : ℕ) (job : Option Live) (units : List ℕ) (hand : Option Held) → t < length s.floor.jobs → w < length s.hands
     → toil_of job + free_hand hand < toil_of (job_of s.floor.jobs t) + free_hand (hand_of s.hands w) → toil (handed s (record { jobs = set s.floor.jobs t job; units = units }) w hand) < toil s
 falls-handed s t w job units hand within below less =
-    let jobs = sum_by-set toil_of s.floor.jobs t job None within in
-    let hands = sum_by-set free_hand s.hands w hand None below in
-    omega (arith, less, jobs, hands)
+    omega (arith, less, sum_by-set toil_of s.floor.jobs t job None within, sum_by-set free_hand s.hands w hand None below)
 
 -- a piece settles
 settled-less : (j k : Live) → state_of j ≡ Working → weight_of k < weight_of j → (state_of k ≡ Working) ⊎ (state_of k ≡ Ended) → toil_by (state_of k) k + 1 < toil_by (state_of j) j
@@ -70,15 +65,12 @@ settled-less j k working less after = elim after [
 failed-less : (j k : Live) → ((state_of j ≡ Working) × (out_of j ≤ weight_of j)) ⊎ (state_of j ≡ Failing) → out_of k + 1 ≡ out_of j → (state_of k ≡ Failing) ⊎ (state_of k ≡ Failed)
     → toil_by (state_of k) k + 1 < toil_by (state_of j) j
 failed-less j k before out after = elim before [
-  | inl working ↦ elim after [
-    | inl failing ↦ rw (failing, working.0) (omega (arith, working.1, out))
-    | inr over ↦ rw (over, working.0) (omega (arith, working.1, out))
-  ]
-  | inr was ↦ elim after [
-    | inl failing ↦ rw (failing, was) (omega (arith, out))
-    | inr over ↦ rw (over, was) (omega (arith, out))
-  ]
+  | inl working ↦ rw working.0 (omega (arith, working.1, out, most))
+  | inr was ↦ rw was (omega (arith, out, most))
 ]
+  where
+    most : toil_by (state_of k) k ≤ 1 + 2 * out_of k
+    most = elim after [ inl failing ↦ rw failing (omega arith) | inr over ↦ rw over (omega arith) ]
 
 after-failing : (n : ℕ) → (after_failure n ≡ Failing) ⊎ (after_failure n ≡ Failed)
 after-failing n = elim (cases_eq n 0) [
@@ -222,32 +214,23 @@ toil-falls old new (event.Abort t) stepped scene move did = absurd move
 
 -- ---- where no move is left
 
-none-out : (o : Option Work) → ((work : Work) → o ≡ Some work → ⊥) → o ≡ None
-none-out None not = refl
-none-out (Some work) not = absurd (not work refl)
-
 -- no piece is out
 calm : (s : Scene) → IsScene s → ((w : ℕ) → hand_of s.hands w ≡ None) → (t : ℕ) (j : Live) → job_of s.floor.jobs t ≡ Some j → NoneOut j
-calm s scene free t j job = λ k. none-out (work_at j k) (λ work is.
-    let held : IsHeld s.hands t k = scene.held.all t k work (ap (λ o. out_at o k) job ∙ is) in
-    true≢false (sym (ap is_some held.is) ∙ ap is_some (free held.hand)))
+calm s scene free t j job = λ k. none-from (work_at j k) (λ some.
+    let out = the_some (work_at j k) some in
+    let held : IsHeld s.hands t k = scene.held.all t k out.0 (ap (λ o. out_at o k) job ∙ out.1) in
+    none-some held.held (sym (free held.hand) ∙ held.is))
 
 -- a job with no piece out has a move
 state-of : (j : Live) → IsLively j → NoneOut j → (st : State) → state_of j ≡ st → 0 < over_by (state_of j) + length (claimable_in j)
 state-of j lively none Working is = omega (arith, lively.works is none)
 state-of j lively none Failing is = absurd (lively.fails is none)
-state-of j lively none Ended is = omega (arith, ap over_by is)
-state-of j lively none Failed is = omega (arith, ap over_by is)
+state-of j lively none over is = omega (arith, ap over_by is)
 
 no-job : (s : Scene) (t : ℕ) (o : Option Live) → IsScene s → ((w : ℕ) → hand_of s.hands w ≡ None) → job_of s.floor.jobs t ≡ o → LivelyAt o → over_of o ≡ 0 → claimable_of o ≡ 0 → o ≡ None
 no-job s t None scene free is lively over none = refl
 no-job s t (Some j) scene free is lively over none =
     absurd (omega (arith, state-of j lively (calm s scene free t j is) (state_of j) refl, over, none))
-
-closed : (o : Option Spec) (job : Option Live) → Pairs o job → job ≡ None → o ≡ None
-closed None job pairs is = refl
-closed (Some x) None pairs is = absurd pairs
-closed (Some x) (Some j) pairs is = absurd (true≢false (ap is_some is))
 
 opens-one : (a : Account) → a.spec ≡ None → answered a < length a.asked → opens_of (Some a) ≡ 1
 opens-one a free below =
@@ -262,7 +245,7 @@ all-answered s scene lively none t a at =
     let hands : sum_by free_hand s.hands ≡ 16 = omega (arith, free-full s.hands, full, scene.hands_many) in
     let starts : 16 * claimable_of (job_of s.floor.jobs t) ≡ sum_by free_hand s.hands * claimable_of (job_of s.floor.jobs t) = ap (λ n. n * claimable_of (job_of s.floor.jobs t)) (sym hands) in
     let gone : job_of s.floor.jobs t ≡ None = no-job s t (job_of s.floor.jobs t) scene (all-free s.hands full) refl (lively t within) (omega (arith, moves)) (omega (arith, moves, starts)) in
-    let free : a.spec ≡ None = closed a.spec (job_of s.floor.jobs t) (scene.each t a at).pairs gone in
+    let free : a.spec ≡ None = (both-none a.spec (job_of s.floor.jobs t) (scene.each t a at).pairs).1 gone in
     elim (cases_lt (answered a) (length a.asked)) [
       | inl more ↦ absurd (omega (arith, moves, ap opens_of at, opens-one a free more))
       | inr all ↦ omega (arith, all, answered-≤ a (scene.each t a at).sound)
@@ -274,11 +257,11 @@ all-answered s scene lively none t a at =
 pub moves-few : (opens over free claimable : ℕ) → opens ≤ 1 → over ≤ 1 → free ≤ 16 → claimable ≤ 20001 → opens + over + free * claimable ≤ 400000
 moves-few opens over free claimable one two few some = omega (arith, one, two, mul-le free claimable 16 20001 few some)
 
-pub free-few : (hands : List (Option Held)) → length hands ≡ 16 → sum_by free_hand hands ≤ 16
-free-few hands many = omega (arith, free-full hands, many)
+pub free-few : (s now : Scene) (free : ℕ) → s ≡ now → length s.hands ≡ 16 → free ≡ sum_by free_hand now.hands → free ≤ 16
+free-few s now free is many free_is = omega (arith, free-full now.hands, subst (λ (x : Scene). length x.hands ≡ 16) is many, free_is)
 
-pub count-is : (s : Scene) (count tenant free : ℕ) → IsScene s → tenant ≡ length s.accounts → count ≡ sum_below (moves_at s) tenant → free ≡ sum_by free_hand s.hands
-    → count + (16 - free) ≡ count_of s
-count-is s count tenant free scene all is free_is =
-    let counted : count ≡ sum_below (moves_at s) (length s.accounts) = is ∙ ap (sum_below (moves_at s)) all in
-    omega (arith, counted, free_is, free-full s.hands, scene.hands_many)
+pub count-is : (s now : Scene) (count tenant free : ℕ) → s ≡ now → IsScene s → tenant ≡ length s.accounts → count ≡ sum_below (moves_at now) tenant → free ≡ sum_by free_hand now.hands
+    → count + (16 - free) ≡ count_of now
+count-is s now count tenant free same scene all is free_is =
+    let counted : count ≡ sum_below (moves_at now) (length now.accounts) = is ∙ ap (sum_below (moves_at now)) (all ∙ ap (λ (x : Scene). length x.accounts) same) in
+    omega (arith, counted, free_is, free-full now.hands, subst (λ (x : Scene). length x.hands ≡ 16) same scene.hands_many)

@@ -1,5 +1,5 @@
 -- What a call on one tenant's job is to the floor.
-use Rattle.std.proofs.Common.{◌≡◌, ◌<◌, ◌+◌, ◌⊎◌, get_or, inl, inr, ℕ, List, [], length, set, refl, sym, ap, ◌∙◌, subst, arith, true, false, true≢false}
+use Rattle.std.proofs.Common.{◌≡◌, ◌<◌, ◌+◌, ◌⊎◌, get_or, inl, inr, ℕ, List, [], length, set, refl, sym, ap, ◌∙◌, subst, arith, true≢false}
 use Rattle.std.specs.Prelude.{is_some, IsSome, Option, Some, None, Result, Ok, Err, IfOk, OnErr, slice_get}
 use Rattle.std.proofs.lemmas.Bool.{cases_lt}
 use Rattle.std.proofs.lemmas.List.{get_or_past, get_or_default, set-get_or}
@@ -121,9 +121,9 @@ enters f now t job jobs is free with_it = subst (λ o. EntersFor o t job (record
   new_is = ap (λ js. let r : Floor = record { jobs = js; units = f.units } in r) with_it;
 })
 
--- a tenant that is there and has no job is free
-pub is-free : (jobs : List (Option Live)) (t : ℕ) → t < length jobs → job_of jobs t ≡ None → slice_get jobs t ≡ Some None
-is-free jobs t within none = slice_get_read jobs (length jobs) t None refl within (sym none)
+-- what was read of a tenant that is there
+pub seen : {X : Type 0} (xs : List X) (t : ℕ) (x : X) → t < length xs → x ≡ get_or xs t x → slice_get xs t ≡ Some x
+seen xs t x = slice_get_read xs (length xs) t x refl
 
 pub settles : (f now : Floor) (t : ℕ) (done : Done) (n x : ℕ) (job next : Live) → f ≡ now → job_of f.jobs t ≡ Some job
     → HasSettled job done n next → x ≡ units_of f t + n → SettlesFor now t done n (record { jobs = set f.jobs t (Some next); units = set f.units t x })

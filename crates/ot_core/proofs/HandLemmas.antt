@@ -1,16 +1,13 @@
 -- The pieces in hands stay those that are out.
-use Rattle.std.proofs.Common.{◌≡◌, ◌≢◌, ◌<◌, ◌⊎◌, inl, inr, ℕ, List, length, set, refl, sym, ap, ◌∙◌, subst, true≢false}
-use Rattle.std.specs.Prelude.{Option, Some, None, is_some}
+use Rattle.std.proofs.Common.{◌≡◌, ◌≢◌, ◌<◌, ◌⊎◌, inl, inr, ℕ, List, length, set, refl, sym, ap, ◌∙◌, subst}
+use Rattle.std.specs.Prelude.{Option, Some, None}
 use Rattle.std.proofs.lemmas.Bool.{cases_eq}
-use Rattle.std.proofs.lemmas.Option.{same_Some}
+use Rattle.std.proofs.lemmas.Option.{none-some, same_Some}
 use Rattle.std.proofs.lemmas.List.{get_or-set_same, get_or-set_other}
 use Rattle.ot_job.specs.Live.{Live}
 use Rattle.ot_core.specs.Index.{job_of}
 use Rattle.ot_core.specs.Scenes.{AreHeld, IsHeld, hand_of, held_work, out_at}
 use Rattle.ot_core.specs.declared.held.Held.{Held}
-
-nothing : {X A : Type 0} (x : A) → None ≡ Some x → X
-nothing x e = absurd (true≢false (sym (ap is_some e)))
 
 -- the same two numbers, or not
 both_or_not : (u t j k : ℕ) → ((u ≡ t) × (j ≡ k)) ⊎ (u ≡ t → j ≡ k → ⊥)
@@ -38,7 +35,7 @@ pub held-taken : (old new : List (Option Live)) (hands : List (Option Held)) (w 
     → OthersOut old new h.tenant h.piece.task → AreHeld new (set hands w (Some h))
 held-taken old new hands w h held below free was now others =
     let fresh : (v : ℕ) (g : Held) → hand_of hands v ≡ Some g → g.tenant ≡ h.tenant → g.piece.task ≡ h.piece.task → ⊥ =
-    λ v g is t k. nothing (held_work g) (sym was ∙ ap (λ u. out_at (job_of old u) h.piece.task) (sym t) ∙ ap (out_at (job_of old g.tenant)) (sym k) ∙ held.out v g is) in
+    λ v g is t k. none-some (held_work g) (sym was ∙ ap (λ u. out_at (job_of old u) h.piece.task) (sym t) ∙ ap (out_at (job_of old g.tenant)) (sym k) ∙ held.out v g is) in
     let mine : (v : ℕ) (g : Held) → v ≡ w → hand_of (set hands w (Some h)) v ≡ Some g → h ≡ g =
     λ v g here is. same_Some h g (sym (hand-same hands w v (Some h) below here) ∙ is) in
     let theirs : (v : ℕ) (g : Held) → v ≢ w → hand_of (set hands w (Some h)) v ≡ Some g → hand_of hands v ≡ Some g =
@@ -69,7 +66,7 @@ held-taken old new hands w h held below free was now others =
             record {
               hand = was_held.hand;
               held = was_held.held;
-              is = hand-other hands w was_held.hand (Some h) (λ e. nothing was_held.held (sym free ∙ ap (hand_of hands) (sym e) ∙ was_held.is)) ∙ was_held.is;
+              is = hand-other hands w was_held.hand (Some h) (λ e. none-some was_held.held (sym free ∙ ap (hand_of hands) (sym e) ∙ was_held.is)) ∙ was_held.is;
               tenant_is = was_held.tenant_is;
               task_is = was_held.task_is;
             }
@@ -82,7 +79,7 @@ pub held-given : (old new : List (Option Live)) (hands : List (Option Held)) (w 
 held-given old new hands w h held below mine gone others =
     let theirs : (v : ℕ) (g : Held) → hand_of (set hands w None) v ≡ Some g → (v ≢ w) × (hand_of hands v ≡ Some g) =
     λ v g is. elim (cases_eq v w) [
-      | inl here ↦ nothing g (sym (hand-same hands w v None below here) ∙ is)
+      | inl here ↦ absurd (none-some g (sym (hand-same hands w v None below here) ∙ is))
       | inr other ↦ (other, sym (hand-other hands w v None other) ∙ is)
     ] in
     record {
@@ -91,7 +88,7 @@ held-given old new hands w h held below mine gone others =
           others g.tenant g.piece.task (λ t k. was.0 (held.one v w g h was.1 mine t k)) ∙ held.out v g was.1;
       one = λ u v f g at_u at_v t k. held.one u v f g (theirs u f at_u).1 (theirs v g at_v).1 t k;
       all = λ u j work is. elim (both_or_not u h.tenant j h.piece.task) [
-        | inl same ↦ nothing work (sym gone ∙ ap (λ t. out_at (job_of new t) h.piece.task) (sym same.0) ∙ ap (out_at (job_of new u)) (sym same.1) ∙ is)
+        | inl same ↦ absurd (none-some work (sym gone ∙ ap (λ t. out_at (job_of new t) h.piece.task) (sym same.0) ∙ ap (out_at (job_of new u)) (sym same.1) ∙ is))
         | inr not ↦
             let was_held : IsHeld hands u j = held.all u j work (sym (others u j not) ∙ is) in
             record {

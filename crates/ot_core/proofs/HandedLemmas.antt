@@ -1,6 +1,6 @@
 -- A world stays right when a worker takes a piece or gives one back, and when a job ends or fails.
 use Rattle.std.proofs.Common.{◌≡◌, ◌≢◌, ◌<◌, ◌≤◌, ◌+◌, ◌^◌, ◌⊎◌, inl, inr, ℕ, List, length, get_or, set, refl, sym, ap, ◌∙◌, subst, arith, true≢false, Bool, true, false}
-use Rattle.std.specs.Prelude.{Option, Some, None, is_some, option_map, slice_get, All, Result, Ok, Err, OnErr}
+use Rattle.std.specs.Prelude.{Option, Some, None, is_some, option_map, slice_get, All}
 use Rattle.std.proofs.lemmas.Bool.{cases_eq}
 use Rattle.std.proofs.lemmas.Option.{same_Some, slice_get_within, slice_get_cases}
 use Rattle.std.proofs.lemmas.List.{get_or-set_same, get_or-set_other, get_or_default, length-set, set-get_or}
@@ -22,7 +22,7 @@ use Rattle.ot_core.specs.Floors.{Floor, ClaimsFor, SettlesFor, FailsIn, AbortsJo
 use Rattle.ot_core.specs.Scenes.{Scene, IsScene, Pairs, Agrees, hand_of, held_work, out_at}
 use Rattle.ot_core.specs.Steps.{handed, moved, HandTakes, GivesBack, BreaksJob, EndsJob, StopsJob, CannotReply, CannotStart, MayTake}
 use Rattle.ot_core.specs.declared.held.Held.{Held}
-use Rattle.ot_core.proofs.AccountLemmas.{answered-≤}
+use Rattle.ot_core.proofs.AccountLemmas.{answered-≤, none-from}
 use Rattle.ot_core.proofs.FloorLemmas.{job-within}
 use Rattle.ot_core.proofs.HandLemmas.{OthersOut, held-taken, held-given}
 use Rattle.ot_core.proofs.SceneLemmas.{SameBut, but-none, but-set, job-set, scene-handed, scene-replied, agrees-same, agrees-job, held-same, out-but}
@@ -50,13 +50,9 @@ total-small s scene =
 pub hand-read : (hands : List (Option Held)) (w : ℕ) (x r o : Option Held) → w < 16 → length hands ≡ 16 → x ≡ get_or hands w x → r ≡ x → r ≡ o → hand_of hands w ≡ o
 hand-read hands w x r o below many read was is = get_or_default hands w None x (omega (arith, below, many)) ∙ sym read ∙ sym was ∙ is
 
-is-none : {X : Type 0} (o : Option X) → is_some o ≡ false → o ≡ None
-is-none None empty = refl
-is-none (Some x) empty = absurd (true≢false empty)
-
 -- a hand that was read is free
 pub hand-free : (hands : List (Option Held)) (w : ℕ) (x : Option Held) → w < 16 → length hands ≡ 16 → x ≡ get_or hands w x → is_some x ≡ false → hand_of hands w ≡ None
-hand-free hands w x below many read empty = hand-read hands w x x None below many read refl (is-none x empty)
+hand-free hands w x below many read empty = hand-read hands w x x None below many read refl (none-from x (λ some. true≢false (sym some ∙ empty)))
 
 others-out : (jobs : List (Option Live)) (t task : ℕ) (j k : Live) → job_of jobs t ≡ Some j → ((i : ℕ) → i ≢ task → work_at k i ≡ work_at j i)
     → OthersOut jobs (set jobs t (Some k)) t task
@@ -168,7 +164,7 @@ given s now w h done n floor hand is scene below mine task ran does gone =
     let right : IsScene (handed s (with_settled s.floor t k n) w None) =
     scene-given s w h j k (set s.floor.units t more) scene below mine does.is (returned j k done h task ran pays.returns) (but-set s.floor.units t more)
     (λ a at. subst (Agrees a (Some k)) (sym (get_or-set_same s.floor.units t more 0 (omega (arith, slice_get_within s.accounts t a at, scene.units_many))))
-    (agrees-job a j k (units_of s.floor t) n (was s t j a scene does.is at) pays.returns.same pays.units pays.few)) in
+    (agrees-job a j k (units_of s.floor t) more (was s t j a scene does.is at) pays.returns.same (omega (arith, pays.units)) pays.few)) in
     let back : GivesBack s w (λ f t d g. SettlesFor f t d n g) (handed s floor w None) =
     record { held = h; is = mine; done = done; task_is = task; ran = ran; floor = floor; does_so = does; new_is = refl } in
     subst (λ o. IsScene (handed s floor w o) × GivesBack now w (λ f t d g. SettlesFor f t d n g) (handed s floor w o)) (sym gone)
@@ -261,7 +257,3 @@ cannot-start s now w t is none = subst (λ o. CannotStart o w t) is (inr none)
 -- a piece may be taken
 pub may-take : (s now : Scene) (w t : ℕ) → s ≡ now → hand_of s.hands w ≡ None → IsWorking s.floor t → ¬ (NothingAt s.floor.jobs t) → MayTake now (Some w) t
 may-take s now w t is free working some = subst (λ o. MayTake o (Some w) t) is (free, working, some)
-
-pub on_err_always : {T E P : Type 0} (r : Result T E) → P → OnErr r P
-on_err_always (Ok x) p = tt
-on_err_always (Err e) p = p

@@ -3,11 +3,22 @@ use Rattle.std.proofs.Common.{◌≡◌, ◌≢◌, ◌<◌, ◌⊎◌, inl, inr
 use Rattle.std.proofs.lemmas.Bool.{cases_eq, cases_lt}
 use Rattle.std.proofs.lemmas.List.{get_or-set_same, get_or-set_other, set-get_or, length-map, get_or_default, get_or_past, get_or-replicate, length-replicate}
 use Rattle.std.specs.Prelude.{Option, Some, None, IsSome, is_some, slice_get}
-use Rattle.std.proofs.lemmas.Option.{same_Some, slice_get_within}
+use Rattle.std.proofs.lemmas.Option.{none-some, same_Some, slice_get_within}
 use Rattle.std.proofs.Math.ListN.{get_or-map}
 use Rattle.slab.specs.Slab.{Slab, get, with_value}
 use Rattle.ot_job.specs.Live.{Live}
 use Rattle.ot_core.specs.Index.{job_at, key_of, Indexes}
+
+-- what is read of many of the same
+pub replicated-at : {X : Type 0} (x : X) (n u : ℕ) → get_or (replicate n x) u x ≡ x
+replicated-at x n u = elim (cases_lt u n) [
+  | inl within ↦ get_or-replicate n u x x within
+  | inr past ↦ get_or_past (replicate n x) u x (omega (arith, past, length-replicate n x))
+]
+
+pub map-replicate : {X Y : Type 0} (f : X → Y) (x : X) (n : ℕ) → map f (replicate n x) ≡ replicate n (f x)
+map-replicate f x zero = refl
+map-replicate f x (suc n) = ap (λ l. f x ∷ l) (map-replicate f x n)
 
 map-same : {X Y : Type 0} (f g : X → Y) (d : X) (xs : List X) → ((u : ℕ) → u < length xs → f (get_or xs u d) ≡ g (get_or xs u d)) → map f xs ≡ map g xs
 map-same f g d [] same = refl
@@ -38,9 +49,6 @@ jobs-changed old new keys t key p others other =
 pub not_vacant : (slab : Slab Live) (keys : List (Option ℕ)) (key : ℕ) → Indexes slab keys → get slab key ≡ None → (u : ℕ) → key_of keys u ≢ Some key
 not_vacant slab keys key index vacant u is = absurd (true≢false (sym (index.there u key is) ∙ ap is_some vacant))
 
-pub is_some-of : {X : Type 0} (o : Option X) (x : X) → o ≡ Some x → IsSome o
-is_some-of o x is = ap is_some is
-
 -- a place after one was changed
 place-set : (keys : List (Option ℕ)) (t : ℕ) (p : Option ℕ) (u k : ℕ) → t < length keys → key_of (set keys t p) u ≡ Some k
     → ((u ≡ t) × (p ≡ Some k)) ⊎ ((u ≡ t → ⊥) × (key_of keys u ≡ Some k))
@@ -56,7 +64,7 @@ indexes-more old new keys t key job index vacant within is others =
     let free = not_vacant old keys key index vacant in
     record {
       there = λ u k e. elim (place-set keys t (Some key) u k within e) [
-        | inl same ↦ is_some-of (get new k) job (ap (get new) (sym (same_Some key k same.1)) ∙ is)
+        | inl same ↦ ap is_some (ap (get new) (sym (same_Some key k same.1)) ∙ is)
         | inr other ↦ subst IsSome (sym (others k (λ q. absurd (free u (other.1 ∙ ap Some q))))) (index.there u k other.1)
       ];
       apart = λ t' u k e f. elim (place-set keys t (Some key) t' k within e) [
@@ -71,25 +79,28 @@ indexes-more old new keys t key job index vacant within is others =
       ];
     }
 
-no_key : {X : Type 0} (k : ℕ) → None ≡ Some k → X
-no_key k e = absurd (true≢false (sym (ap is_some e)))
-
 -- a tenant gives its key up
 pub indexes-fewer : (old new : Slab Live) (keys : List (Option ℕ)) (t key : ℕ) → Indexes old keys → t < length keys → key_of keys t ≡ Some key
     → ((k : ℕ) → k ≢ key → get new k ≡ get old k) → Indexes new (set keys t None)
 indexes-fewer old new keys t key index within mine others = record {
   there = λ u k e. elim (place-set keys t None u k within e) [
-    | inl same ↦ no_key k same.1
+    | inl same ↦ absurd (none-some k same.1)
     | inr o ↦ subst IsSome (sym (others k (λ q. o.0 (index.apart u t key (o.1 ∙ ap Some q) mine)))) (index.there u k o.1)
   ];
   apart = λ t' u k e f. elim (place-set keys t None t' k within e) [
-    | inl same ↦ no_key k same.1
+    | inl same ↦ absurd (none-some k same.1)
     | inr one ↦ elim (place-set keys t None u k within f) [
-      | inl same ↦ no_key k same.1
+      | inl same ↦ absurd (none-some k same.1)
       | inr two ↦ index.apart t' u k one.1 two.1
     ]
   ];
 }
+
+-- and its job is there
+pub jobs-more : (old new : Slab Live) (keys : List (Option ℕ)) (t key : ℕ) (job : Live) (jobs : List (Option Live)) → Indexes old keys → get old key ≡ None
+    → get new key ≡ Some job → ((k : ℕ) → k ≢ key → get new k ≡ get old k) → map (job_at old) keys ≡ jobs → map (job_at new) (set keys t (Some key)) ≡ set jobs t (Some job)
+jobs-more old new keys t key job jobs index vacant is others was =
+    jobs-changed old new keys t key (Some key) others (λ u _. not_vacant old keys key index vacant u) ∙ ap (set _ t) is ∙ ap (λ l. set l t (Some job)) was
 
 -- where a tenant has a job, it has a key
 pub at_key : (slab : Slab Live) (keys : List (Option ℕ)) (t key : ℕ) (p : Option ℕ) → IsSome (get_or (map (job_at slab) keys) t None) → p ≡ get_or keys t p → p ≡ Some key
@@ -124,18 +135,8 @@ jobs-written slab keys t key w index within mine =
 pub within-jobs : (slab : Slab Live) (keys : List (Option ℕ)) (t : ℕ) (o : Option Live) → slice_get (map (job_at slab) keys) t ≡ Some o → t < length keys
 within-jobs slab keys t o is = omega (arith, slice_get_within (map (job_at slab) keys) t o is, length-map keys (job_at slab))
 
-nobody's : (n u k : ℕ) → key_of (replicate n None) u ≢ Some k
-nobody's n u k is = elim (cases_lt u n) [
-  | inl within ↦ no_key k (sym (get_or-replicate n u None None within) ∙ is)
-  | inr past ↦ no_key k (sym (get_or_past (replicate n None) u None (omega (arith, past, length-replicate n (key_of [] 0)))) ∙ is)
-]
-
 pub indexes-none : (slab : Slab Live) (n : ℕ) → Indexes slab (replicate n None)
 indexes-none slab n = record {
-  there = λ t k is. absurd (nobody's n t k is);
-  apart = λ t u k is _. absurd (nobody's n t k is);
+  there = λ t k is. absurd (none-some k (sym (replicated-at None n t) ∙ is));
+  apart = λ t u k is _. absurd (none-some k (sym (replicated-at None n t) ∙ is));
 }
-
-pub jobs-none : (slab : Slab Live) (n : ℕ) → map (job_at slab) (replicate n None) ≡ replicate n None
-jobs-none slab zero = refl
-jobs-none slab (suc n) = ap (λ (l : List (Option Live)). None ∷ l) (jobs-none slab n)

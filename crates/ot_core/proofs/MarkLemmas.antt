@@ -10,6 +10,7 @@ use Rattle.std.proofs.lemmas.List.FromFn.{length-map-range_with_len, get_or-map-
 use Rattle.std.proofs.lemmas.Nat.{and_le_l}
 use Rattle.std.proofs.lemmas.Grind.{div_ceil_times}
 use Rattle.std.proofs.lemmas.Nat.Bits.{bit_at_and, bit_at-zero, bit_at-lt, bit_at_mask_inside, bit_at_mask_below, bit_at-trailing_zeros, ones_shl}
+use Rattle.ot_core.proofs.IndexLemmas.{replicated-at}
 use Rattle.ot_core.specs.Marking.{is_marked, IsFirst, has_bit, IsLowest, mark_in}
 
 -- ---- one word
@@ -69,16 +70,7 @@ marked words count k clean = elim (cases_lt k count) [
 ]
 
 pub none-in : (n k : ℕ) → mark_in (replicate n 0) k ≡ false
-none-in n k = clear (get_or (replicate n 0) (k / 64) 0) (k % 64) (ap (λ (w : ℕ). bit_at w (k % 64)) zero_there ∙ bit_at-zero (k % 64))
-  where
-    zeros : List ℕ
-    zeros = replicate n 0
-
-    zero_there : get_or zeros (k / 64) 0 ≡ 0
-    zero_there = elim (cases_lt (k / 64) n) [
-      | inl within ↦ get_or-replicate n (k / 64) 0 0 within
-      | inr past ↦ get_or_past zeros (k / 64) 0 (omega (arith, length-replicate {A = ℕ} n 0))
-    ]
+none-in n k = clear (get_or (replicate n 0) (k / 64) 0) (k % 64) (ap (λ (w : ℕ). bit_at w (k % 64)) (replicated-at {X = ℕ} 0 n (k / 64)) ∙ bit_at-zero (k % 64))
 
 pub none-set : (n count : ℕ) → map (mark_in (replicate n 0)) (range_with_len 0 count) ≡ replicate count false
 none-set n count = marks-are (replicate n 0) count (replicate count false) (length-replicate count false) (λ k within. none-in n k ∙ sym (get_or-replicate count k false false within))

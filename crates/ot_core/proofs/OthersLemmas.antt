@@ -17,7 +17,7 @@ use Rattle.ot_core.specs.declared.event.Event.{Event}
 use Rattle.ot_core.specs.declared.event.Event.TheVariants as event
 use Rattle.ot_core.specs.declared.event.Stepped.{Stepped}
 use Rattle.ot_core.specs.declared.event.Stepped.TheVariants.{Asked, Full, Answered, Job, Replied, Started, Finished, FinishedFailed, Aborted, NotNow}
-use Rattle.ot_core.proofs.SceneLemmas.{SameBut, but-none, but-set, but-read, slice_get-set_other}
+use Rattle.ot_core.proofs.SceneLemmas.{SameBut, but-none, but-set, but-read}
 
 -- two floors that differ at one tenant at most
 pub record FloorBut (f : Floor) (t : ℕ) (g : Floor) : Type 0 where
@@ -41,13 +41,18 @@ same u old new is = record {
   hands = λ w. ap (λ (s : Scene). of_tenant u (hand_of s.hands w)) is;
 }
 
-by-moved : (u t : ℕ) (old new : Scene) (b : Account) (floor : Floor) → u ≢ t → FloorBut old.floor t floor → new ≡ moved old t b floor → IsAsItWas u old new
-by-moved u t old new b floor other but is = subst (IsAsItWas u old) (sym is) (record {
-  account = slice_get-set_other old.accounts t u b other;
-  job = but-read old.floor.jobs floor.jobs t None u but.jobs other;
-  units = but-read old.floor.units floor.units t 0 u but.units other;
-  hands = λ w. refl;
+-- one tenant's account, job, units and hands change
+by-one : (u t : ℕ) (old new is : Scene) → u ≢ t → SameBut old.accounts t is.accounts → FloorBut old.floor t is.floor → ((w : ℕ) → of_tenant u (hand_of is.hands w) ≡ of_tenant u (hand_of old.hands w))
+    → new ≡ is → IsAsItWas u old new
+by-one u t old new is other accounts but hands new_is = subst (IsAsItWas u old) (sym new_is) (record {
+  account = accounts.others u other;
+  job = but-read old.floor.jobs is.floor.jobs t None u but.jobs other;
+  units = but-read old.floor.units is.floor.units t 0 u but.units other;
+  hands = hands;
 })
+
+by-moved : (u t : ℕ) (old new : Scene) (b : Account) (floor : Floor) → u ≢ t → FloorBut old.floor t floor → new ≡ moved old t b floor → IsAsItWas u old new
+by-moved u t old new b floor other but = by-one u t old new (moved old t b floor) other (but-set old.accounts t b) but (λ w. refl)
 
 -- a piece of another tenant
 not_own : (u : ℕ) (h : Held) → u ≢ h.tenant → of_tenant u (Some h) ≡ None
@@ -69,20 +74,7 @@ hand-other u w v hands hand was now = elim (cases_eq v w) [
 
 by-handed : (u t w : ℕ) (old new : Scene) (floor : Floor) (hand : Option Held) → u ≢ t → FloorBut old.floor t floor → of_tenant u (hand_of old.hands w) ≡ None → of_tenant u hand ≡ None
     → new ≡ handed old floor w hand → IsAsItWas u old new
-by-handed u t w old new floor hand other but was now is = subst (IsAsItWas u old) (sym is) (record {
-  account = refl;
-  job = but-read old.floor.jobs floor.jobs t None u but.jobs other;
-  units = but-read old.floor.units floor.units t 0 u but.units other;
-  hands = λ v. hand-other u w v old.hands hand was now;
-})
-
-by-floor : (u t : ℕ) (old new : Scene) (floor : Floor) → u ≢ t → FloorBut old.floor t floor → new ≡ record old { floor = floor } → IsAsItWas u old new
-by-floor u t old new floor other but is = subst (IsAsItWas u old) (sym is) (record {
-  account = refl;
-  job = but-read old.floor.jobs floor.jobs t None u but.jobs other;
-  units = but-read old.floor.units floor.units t 0 u but.units other;
-  hands = λ v. refl;
-})
+by-handed u t w old new floor hand other but was now = by-one u t old new (handed old floor w hand) other (but-none old.accounts t) but (λ v. hand-other u w v old.hands hand was now)
 
 some-other : (u t : ℕ) → Some u ≢ Some t → u ≢ t
 some-other u t not is = not (ap Some is)
@@ -130,7 +122,7 @@ others-reply t old new other did = absurd did
 
 others-abort : (t : ℕ) (old new : Scene) (stepped : Stepped) → AbortsFor old t stepped new → (u : ℕ) → u ≢ t → IsAsItWas u old new
 others-abort t old new NotNow did = λ u not. same u old new did.1
-others-abort t old new Aborted did = λ u not. by-floor u t old new did.floor not (job-floor old.floor did.floor t (Some (aborted did.aborts.job)) did.aborts.new_is) did.new_is
+others-abort t old new Aborted did = λ u not. by-one u t old new (record old { floor = did.floor }) not (but-none old.accounts t) (job-floor old.floor did.floor t (Some (aborted did.aborts.job)) did.aborts.new_is) (λ v. refl) did.new_is
 others-abort t old new other did = absurd did
 
 pub others : (e : Event) (old new : Scene) (stepped : Stepped) → Steps old e stepped new → LeavesOthers e old new

@@ -1,7 +1,7 @@
 -- The replies from a place on.
 use Rattle.std.proofs.Common.{◌≡◌, ◌<◌, ◌+◌, ◌-◌, ◌++◌, min, inl, inr, ℕ, zero, suc, List, [], ◌∷◌, length, map, take, drop, refl, sym, ap, ◌∙◌, arith, true≢false}
 use Rattle.std.specs.Prelude.{Option, Some, None, is_some, option_map, slice_get}
-use Rattle.std.proofs.lemmas.List.{at_drop_more, drop-drop, length-drop, length-take}
+use Rattle.std.proofs.lemmas.List.{at_drop_more, drop_min, nil_from_length, drop-drop, length-drop, length-take}
 use Rattle.std.proofs.lemmas.Option.{same_Some, slice_get_cases, slice_get-map}
 use Rattle.ot_book.specs.Answers.{numbered}
 use Rattle.ot_book.specs.Books.{number_at, reply_at}
@@ -18,14 +18,10 @@ length-numbered n (said ∷ says) = omega (arith, length-numbered (n + 1) says)
 pub length-replies_from : (a : Account) (n : ℕ) → length (replies_from a n) ≡ answered a - n
 length-replies_from a n = omega (arith, length-numbered (n + 1) (drop n (told a)), length-drop n (told a), length-told a)
 
-nothing-left : (n : ℕ) (says : List Told) → length says ≡ 0 → numbered n says ≡ []
-nothing-left n [] none = refl
-nothing-left n (said ∷ says) none = absurd (omega (arith, none))
-
 pub replies-end : (a : Account) (n : ℕ) → None ≡ reply_in a n → replies_from a n ≡ []
 replies-end a n none = elim ((slice_get_cases (told a) n).1) [
   | inl at ↦ absurd (true≢false (sym (ap is_some (none ∙ ap (option_map (λ (said : Told). (n + 1, said))) at.2))))
-  | inr past ↦ nothing-left (n + 1) (drop n (told a)) (omega (arith, past.0, length-drop n (told a)))
+  | inr past ↦ ap (numbered (n + 1)) (nil_from_length (drop n (told a)) (omega (arith, past.0, length-drop n (told a))))
 ]
 
 pub replies-step : (a : Account) (n : ℕ) (x : ℕ × Told) → Some x ≡ reply_in a n → (n < answered a) × (replies_from a n ≡ x ∷ replies_from a (n + 1))
@@ -43,11 +39,6 @@ numbered-drop (suc k) n [] = refl
 numbered-drop (suc k) n (said ∷ says) =
     let same : n + suc k ≡ (n + 1) + k = omega arith in ap (λ m. numbered m (drop k says)) same ∙ numbered-drop k (n + 1) says
 
-drop-min : {X : Type 0} (k : ℕ) (xs : List X) → drop (min k (length xs)) xs ≡ drop k xs
-drop-min zero xs = let none : min 0 (length xs) ≡ 0 = omega arith in ap (λ m. drop m xs) none
-drop-min {X} (suc k) [] = let none : min (suc k) 0 ≡ 0 = omega arith in ap (λ m. drop {A = X} m []) none
-drop-min (suc k) (x ∷ xs) = let more : min (suc k) (suc (length xs)) ≡ suc (min k (length xs)) = omega arith in ap (λ m. drop m (x ∷ xs)) more ∙ drop-min k xs
-
 -- those behind so many, or behind all
 pub replies-behind : (a : Account) (n k : ℕ) → replies_from a (n + min k (answered a - n)) ≡ drop k (replies_from a n)
 replies-behind a n k =
@@ -59,7 +50,7 @@ replies-behind a n k =
     ∙ ap (numbered ((n + 1) + few)) (sym (drop-drop few n (told a)))
     ∙ numbered-drop few (n + 1) (drop n (told a))
     ∙ ap (λ m. drop m rest) same
-    ∙ drop-min k rest
+    ∙ drop_min k rest
 
 -- ---- the reply at a place
 

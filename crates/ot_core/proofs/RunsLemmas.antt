@@ -16,11 +16,8 @@ runs-more old mid new (x ∷ es) e stepped runs step = (runs.0, runs.1, runs.2, 
 -- a move is no Admit and no Abort
 drainable : (s : Scene) (e : Event) → IsMove s e → IsDrainable e
 drainable s (event.Admit t line) move = move
-drainable s (event.Open t) move = tt
-drainable s (event.Start w t pick) move = tt
-drainable s (event.Finish w) move = tt
-drainable s (event.Reply t) move = tt
 drainable s (event.Abort t) move = move
+drainable s e move = tt
 
 pub drains-more : (old mid new : Scene) (e : Event) (stepped : Stepped) → Drains old mid → IsMove mid e → Steps mid e stepped new → Drains old new
 drains-more old mid new e stepped drains move step = record {

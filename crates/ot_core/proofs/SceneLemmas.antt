@@ -1,10 +1,11 @@
 -- A world stays right when one tenant's account, job and units change.
-use Rattle.std.proofs.Common.{◌≡◌, ◌≢◌, ◌<◌, ◌≤◌, ◌+◌, inl, inr, ℕ, zero, suc, List, [], ◌∷◌, length, get_or, set, refl, sym, ap, ◌∙◌, subst, arith, true≢false}
-use Rattle.std.specs.Prelude.{Option, Some, None, is_some, slice_get, unwrap_or, Bool, true}
+use Rattle.std.proofs.Common.{◌≡◌, ◌≢◌, ◌<◌, ◌≤◌, ◌+◌, inl, inr, ℕ, List, length, get_or, set, refl, sym, ap, ◌∙◌, subst, arith}
+use Rattle.std.specs.Prelude.{Option, Some, None, is_some, slice_get, unwrap_or, Bool, true, ◌↔◌}
 use Rattle.std.proofs.lemmas.Bool.{cases_eq}
-use Rattle.std.proofs.lemmas.Option.{same_Some, slice_get_within, unwrap_or-slice_get}
+use Rattle.std.proofs.lemmas.Option.{none-some, same_Some, slice_get_within, unwrap_or-slice_get}
 use Rattle.std.proofs.lemmas.List.{get_or-set_same, length-set}
 use Rattle.ot_check.specs.Jobs.{Spec}
+use Rattle.ot_check.proofs.GridLemmas.{slice_get-set_same, slice_get-set_other}
 use Rattle.ot_job.specs.Live.{Live}
 use Rattle.ot_job.specs.Dealings.{IsFresh, SameSpec, NoneOut, settled_units}
 use Rattle.ot_job.proofs.DealingsLemmas.{starts-fresh}
@@ -15,19 +16,7 @@ use Rattle.ot_core.specs.Floors.{Floor, with_job, units_of, SubmitsFor}
 use Rattle.ot_core.specs.Scenes.{Scene, Pairs, Agrees, AreHeld, IsScene, out_at}
 use Rattle.ot_core.specs.Steps.{moved, HasTenant, Moves, CanOpen, StartsJob}
 use Rattle.ot_core.specs.declared.held.Held.{Held}
-use Rattle.ot_core.proofs.AccountLemmas.{answered-replied}
-
-pub slice_get-set_same : {X : Type 0} (xs : List X) (t : ℕ) (x : X) → t < length xs → slice_get (set xs t x) t ≡ Some x
-slice_get-set_same [] t x below = absurd (omega (arith, below))
-slice_get-set_same (y ∷ xs) zero x below = refl
-slice_get-set_same (y ∷ xs) (suc t) x below = slice_get-set_same xs t x (omega (arith, below))
-
-pub slice_get-set_other : {X : Type 0} (xs : List X) (t u : ℕ) (x : X) → u ≢ t → slice_get (set xs t x) u ≡ slice_get xs u
-slice_get-set_other [] t u x other = refl
-slice_get-set_other (y ∷ xs) zero zero x other = absurd (other refl)
-slice_get-set_other (y ∷ xs) zero (suc u) x other = refl
-slice_get-set_other (y ∷ xs) (suc t) zero x other = refl
-slice_get-set_other (y ∷ xs) (suc t) (suc u) x other = slice_get-set_other xs t u x (λ e. other (omega (arith, e)))
+use Rattle.ot_core.proofs.AccountLemmas.{answered-replied, never-waits}
 
 -- ---- two lists that differ at one place at most
 
@@ -39,7 +28,7 @@ pub but-none : {X : Type 0} (xs : List X) (t : ℕ) → SameBut xs t xs
 but-none xs t = record { many = refl; others = λ u other. refl }
 
 pub but-set : {X : Type 0} (xs : List X) (t : ℕ) (x : X) → SameBut xs t (set xs t x)
-but-set xs t x = record { many = length-set xs t x; others = λ u other. slice_get-set_other xs t u x other }
+but-set xs t x = record { many = length-set xs t x; others = λ u other. slice_get-set_other xs t u x (λ e. other (sym e)) }
 
 pub but-read : {X : Type 0} (xs ys : List X) (t : ℕ) (d : X) (u : ℕ) → SameBut xs t ys → u ≢ t → get_or ys u d ≡ get_or xs u d
 but-read xs ys t d u but other = sym (unwrap_or-slice_get ys u d) ∙ ap (λ o. unwrap_or o d) (but.others u other) ∙ unwrap_or-slice_get xs u d
@@ -80,25 +69,19 @@ pairs-same : (o : Option Spec) (j k : Live) → SameSpec j k → Pairs o (Some j
 pairs-same None j k same pairs = pairs
 pairs-same (Some x) j k same pairs = record { program = pairs.program ∙ sym same.program; before = pairs.before ∙ sym same.before }
 
--- the same job later, with more units
-pub agrees-job : (a : Account) (j k : Live) (units more : ℕ) → Agrees a (Some j) units → SameSpec j k
-    → settled_units k ≡ settled_units j + more → settled_units k ≤ 20000 → Agrees a (Some k) (units + more)
-agrees-job a j k units more agrees same settled few = record {
+-- the same job later, with as many more units
+pub agrees-job : (a : Account) (j k : Live) (units now : ℕ) → Agrees a (Some j) units → SameSpec j k
+    → now + settled_units j ≡ units + settled_units k → settled_units k ≤ 20000 → Agrees a (Some k) now
+agrees-job a j k units now agrees same settled few = record {
   sound = agrees.sound;
   pairs = pairs-same a.spec j k same agrees.pairs;
   paid = omega (arith, agrees.paid, settled);
   bounded = few;
 }
 
--- and with as many
-pub agrees-same : (a : Account) (j k : Live) (units : ℕ) → Agrees a (Some j) units → SameSpec j k
-    → settled_units k ≡ settled_units j → Agrees a (Some k) units
-agrees-same a j k units agrees same settled = record {
-  sound = agrees.sound;
-  pairs = pairs-same a.spec j k same agrees.pairs;
-  paid = omega (arith, agrees.paid, settled);
-  bounded = omega (arith, agrees.bounded, settled);
-}
+-- and with none
+pub agrees-same : (a : Account) (j k : Live) (units : ℕ) → Agrees a (Some j) units → SameSpec j k → settled_units k ≡ settled_units j → Agrees a (Some k) units
+agrees-same a j k units agrees same settled = agrees-job a j k units units agrees same (omega (arith, settled)) (omega (arith, agrees.bounded, settled))
 
 -- ---- worlds
 
@@ -142,7 +125,7 @@ scene-changed s new t scene accounts jobs units mine hands held = record {
 pub scene-moved : (s : Scene) (t : ℕ) (a b : Account) (floor : Floor) → IsScene s → slice_get s.accounts t ≡ Some a → SameBut s.floor.jobs t floor.jobs → SameBut s.floor.units t floor.units
     → Agrees b (job_of floor.jobs t) (units_of floor t) → ((k : ℕ) → out_at (job_of floor.jobs t) k ≡ out_at (job_of s.floor.jobs t) k) → IsScene (moved s t b floor)
 scene-moved s t a b floor scene is jobs units agrees same =
-    let here = slice_get-set_same s.accounts t b (slice_get_within s.accounts t a is) in
+    let here = slice_get-set_same s.accounts t b (ap is_some is) in
     scene-changed s (moved s t b floor) t scene (but-set s.accounts t b) jobs units
     (λ c at. subst (λ (o : Account). Agrees o (job_of floor.jobs t) (units_of floor t)) (same_Some b c (sym here ∙ at)) agrees)
     scene.hands_many (held-same s.floor.jobs floor.jobs s.hands (out-but s.floor.jobs floor.jobs t jobs same) scene.held)
@@ -161,15 +144,15 @@ scene-account s t a b scene at sound spec same =
     scene-moved s t a b s.floor scene at (but-none s.floor.jobs t) (but-none s.floor.units t)
     (agrees-account a b (job_of s.floor.jobs t) (units_of s.floor t) (scene.each t a at) sound spec same) (λ k. refl)
 
--- a tenant with no open request has no job
+-- a tenant has a job just where a request is open
+pub both-none : (spec : Option Spec) (job : Option Live) → Pairs spec job → (spec ≡ None) ↔ (job ≡ None)
+both-none None None pairs = ((λ e. refl), (λ e. refl))
+both-none None (Some j) pairs = absurd pairs
+both-none (Some x) None pairs = absurd pairs
+both-none (Some x) (Some j) pairs = ((λ e. absurd (none-some x (sym e))), (λ e. absurd (none-some j (sym e))))
+
 pub jobless : (s : Scene) (t : ℕ) (a : Account) → IsScene s → slice_get s.accounts t ≡ Some a → a.spec ≡ None → job_of s.floor.jobs t ≡ None
-jobless s t a scene at free = no-job a.spec (job_of s.floor.jobs t) (scene.each t a at).pairs free
-  where
-    no-job : (spec : Option Spec) (job : Option Live) → Pairs spec job → spec ≡ None → job ≡ None
-    no-job None None pairs is = refl
-    no-job None (Some j) pairs is = absurd pairs
-    no-job (Some s) None pairs is = refl
-    no-job (Some s) (Some j) pairs is = absurd (true≢false (ap is_some is))
+jobless s t a scene at = (both-none a.spec (job_of s.floor.jobs t) (scene.each t a at).pairs).0
 
 pub there : (s : Scene) (t : ℕ) (a : Account) → IsScene s → slice_get s.accounts t ≡ Some a → t < length s.floor.jobs
 there s t a scene at = omega (arith, slice_get_within s.accounts t a at, scene.jobs_many)
@@ -203,8 +186,9 @@ scene-opened s t a b spec floor scene at free sound waits submits =
     (λ k. ap (λ o. out_at o k) mine ∙ fresh.none k ∙ sym (ap (λ o. out_at o k) none)))
 
 -- opened, and answered for want of memory
-pub reply-opened : (a b : Account) (spec : Spec) → Waits a spec b → with_reply b true ≡ with_reply a true
-reply-opened a b spec waits = ap (λ o. with_reply o true) waits.new_is
+pub answered-lost : (a b now : Account) (spec : Spec) → Waits a spec b → now ≡ with_reply b true → IsAnswered a now
+answered-lost a b now spec waits is =
+    record { lost = true; new_is = is ∙ ap (λ o. with_reply o true) waits.new_is; never = never-waits a b spec true waits; at_once = inl refl }
 
 -- a tenant is told what its job came to
 pub scene-replied : (s : Scene) (t : ℕ) (a : Account) (j : Live) (lost : Bool) → IsScene s → slice_get s.accounts t ≡ Some a → IsSound (with_reply a lost)

@@ -1,8 +1,8 @@
 -- The replies given are the first of those that the lines give.
-use Rattle.std.proofs.Common.{◌≡◌, ℕ, zero, suc, List, [], ◌∷◌, ◌++◌, length, map, take, drop, get_or, refl, sym, ap, ◌∙◌, subst, arith, Bool, false, true≢false}
-use Rattle.std.specs.Prelude.{Some, None, slice_get, is_some}
-use Rattle.std.proofs.lemmas.Option.{same_Some}
-use Rattle.std.proofs.lemmas.List.{take-append-drop, take_all, length-map, length-take}
+use Rattle.std.proofs.Common.{◌≡◌, ℕ, zero, suc, List, [], ◌∷◌, ◌++◌, length, map, take, drop, get_or, refl, sym, ap, ◌∙◌, subst, arith, Bool, false}
+use Rattle.std.specs.Prelude.{slice_get}
+use Rattle.std.proofs.lemmas.Option.{none-some, same_Some}
+use Rattle.std.proofs.lemmas.List.{append-nil, take-append-drop, take_all, length-map, length-take}
 use Rattle.std.proofs.Math.Seq.{take-append_seam}
 use Rattle.ot_book.specs.Replies.{Told, is_lost}
 use Rattle.ot_book.specs.Answers.{State, opening, answer_or_lost, answers}
@@ -10,18 +10,10 @@ use Rattle.ot_book.specs.Books.{state_in}
 use Rattle.ot_book.proofs.BookLemmas.{answers-append}
 use Rattle.ot_store.specs.declared.limits.Limits.{Limits}
 use Rattle.ot_core.specs.Accounts.{Account, told, answered, marked, IsSound}
-use Rattle.ot_core.proofs.AccountLemmas.{length-told}
+use Rattle.ot_core.proofs.AccountLemmas.{length-told, marked-append}
 use Rattle.ot_core.specs.Scenes.{Scene}
 use Rattle.ot_core.specs.Draining.{AllAnswered}
 use Rattle.ot_core.specs.Headline.{due, due_whole, AreFirst, IsTold, IsToldWhole, IsToldAll, Tells, TellsAll, NoneLost, SameLosses, AgreeAt, AsksSame}
-
--- the marks of lines that were answered, and of further ones
-marked-front : (lines rest : List (List ℕ)) (says : List Told) → length lines ≡ length says → marked (lines ++ rest) says ≡ marked lines says ++ marked rest []
-marked-front [] [] [] many = refl
-marked-front [] (line ∷ rest) [] many = refl
-marked-front [] rest (s ∷ says) many = absurd (omega (arith, many))
-marked-front (l ∷ lines) rest [] many = absurd (omega (arith, many))
-marked-front (l ∷ lines) rest (s ∷ says) many = ap (λ (ls : List (List ℕ × Bool)). (l, is_lost s) ∷ ls) (marked-front lines rest says (omega (arith, many)))
 
 -- the headline of one tenant
 pub told-first : (a : Account) → IsSound a → IsTold a
@@ -33,7 +25,7 @@ told-first a sound =
     let more = answers limits (state_in a.book) (marked rest []) in
     let all : due limits a.base a.asked (told a) ≡ told a ++ more.0 =
     ap (λ ls. due limits a.base ls (told a)) (sym (take-append-drop n a.asked))
-    ∙ ap (λ ls. (answers limits (opening a.base) ls).0) (marked-front (take n a.asked) rest (told a) many)
+    ∙ ap (λ ls. (answers limits (opening a.base) ls).0) (ap (marked (take n a.asked ++ rest)) (sym (append-nil (told a))) ∙ marked-append (take n a.asked) rest (told a) [] many)
     ∙ ap (λ (r : List Told × State). r.0) (answers-append limits (opening a.base) (marked (take n a.asked) (told a)) (marked rest []))
     ∙ ap (λ (r : List Told × State). r.0 ++ (answers limits r.1 (marked rest [])).0) sound.whole in
     sym (ap (take (length (told a))) all ∙ take-append_seam (told a) more.0)
@@ -50,9 +42,6 @@ pub told-whole : (a : Account) → IsSound a → NoneLost (told a) → IsToldWho
 told-whole a sound none =
     told-first a sound ∙ ap (λ ls. take (length (told a)) (answers a.book.limits (opening a.base) ls).0) (marked-whole a.asked (told a) none)
 
-no_reply : {X : Type 0} (x : Told) → None ≡ Some x → X
-no_reply x e = absurd (true≢false (sym (ap is_some e)))
-
 nothing_first : (xs : List Told) → AreFirst xs [] → xs ≡ []
 nothing_first [] first = refl
 nothing_first (x ∷ xs) first = first
@@ -66,9 +55,9 @@ first-tail x a xs all first = ap (drop 1) first
 
 agree : (limits : Limits) (s : State) (lines : List (List ℕ)) (xs ys : List Told) (i : ℕ)
     → AreFirst xs (answers limits s (marked lines xs)).0 → AreFirst ys (answers limits s (marked lines ys)).0 → SameLosses xs ys i → AgreeAt xs ys i
-agree limits s [] xs ys i fx fy same = λ x y at _. no_reply x (ap (λ l. slice_get l i) (sym (nothing_first xs fx)) ∙ at)
-agree limits s (l ∷ lines) [] ys i fx fy same = λ x y at _. no_reply x at
-agree limits s (l ∷ lines) (x ∷ xs) [] i fx fy same = λ p q _ at. no_reply q at
+agree limits s [] xs ys i fx fy same = λ x y at _. absurd (none-some x (ap (λ l. slice_get l i) (sym (nothing_first xs fx)) ∙ at))
+agree limits s (l ∷ lines) [] ys i fx fy same = λ x y at _. absurd (none-some x at)
+agree limits s (l ∷ lines) (x ∷ xs) [] i fx fy same = λ p q _ at. absurd (none-some q at)
 agree limits s (l ∷ lines) (x ∷ xs) (y ∷ ys) zero fx fy same = λ p q p_is q_is.
     sym (same_Some x p p_is) ∙ first-head x _ xs _ fx ∙ ap (λ lost. (answer_or_lost limits s l lost).0) (same zero x y (omega arith) refl refl)
     ∙ sym (first-head y _ ys _ fy) ∙ same_Some y q q_is

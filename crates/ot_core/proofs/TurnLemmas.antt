@@ -4,7 +4,7 @@ use Rattle.std.specs.Prelude.{Option, None, Some, is_some, nat_lt}
 use Rattle.std.specs.Slice.Scan.{HoldsNowhere}
 use Rattle.std.proofs.Math.ListN.{get_or-map}
 use Rattle.std.proofs.lemmas.Bool.{cases_lt, ltb-false}
-use Rattle.std.proofs.lemmas.List.{ext_get_or, get_or_past, get_or-replicate, get_or-set_same, length-map, length-replicate, length-set, map-set, nil_from_length}
+use Rattle.std.proofs.lemmas.List.{get_or_past, get_or-set_same, length-map, length-set, map-set, nil_from_length}
 use Rattle.ot_job.specs.Live.{Live}
 use Rattle.ot_job.specs.States.{claimable_in}
 use Rattle.ot_core.specs.Index.{job_of, has_claimable}
@@ -13,6 +13,8 @@ use Rattle.ot_core.specs.FloorView.{IsHall}
 use Rattle.ot_core.specs.Turns.{NothingIn, NothingAnywhere, IsNext}
 use Rattle.ot_core.specs.Marking.{is_marked, IsFirst}
 use Rattle.ot_core.specs.declared.hall.Hall.TheInside.{Inside}
+use Rattle.ot_core.proofs.FloorLemmas.{job-within}
+use Rattle.ot_core.proofs.IndexLemmas.{map-replicate}
 
 -- ---- the marks
 
@@ -20,13 +22,10 @@ abbrev pub AreMarked : List Bool → List (Option Live) → Type 0
 AreMarked marks jobs = marks ≡ map has_claimable jobs
 
 -- the tenant's job has become another, and its mark is put anew
-pub marked-anew : (marks : List Bool) (jobs : List (Option Live)) (t : ℕ) (job : Option Live) → AreMarked marks jobs → AreMarked (set marks t (has_claimable job)) (set jobs t job)
-marked-anew marks jobs t job are = ap (λ m. set m t (has_claimable job)) are ∙ sym (map-set has_claimable jobs t job)
-
-pub marked-read : (marks : List Bool) (jobs : List (Option Live)) (t : ℕ) (job : Option Live) → AreMarked marks jobs → t < length jobs
+marked-read : (marks : List Bool) (jobs : List (Option Live)) (t : ℕ) (job : Option Live) → AreMarked marks jobs → t < length jobs
     → AreMarked (set marks t (has_claimable (job_of (set jobs t job) t))) (set jobs t job)
 marked-read marks jobs t job are within =
-    subst (λ j. AreMarked (set marks t (has_claimable j)) (set jobs t job)) (sym (get_or-set_same jobs t job None within)) (marked-anew marks jobs t job are)
+    ap (λ j. set marks t (has_claimable j)) (get_or-set_same jobs t job None within) ∙ ap (λ m. set m t (has_claimable job)) are ∙ sym (map-set has_claimable jobs t job)
 
 pub as-many-marks : (marks : List Bool) (jobs : List (Option Live)) → AreMarked marks jobs → length marks ≡ length jobs
 as-many-marks marks jobs are = ap length are ∙ length-map jobs has_claimable
@@ -73,33 +72,25 @@ none-marked marks jobs (Some t) are first not_so = absurd (true≢false not_so)
 
 -- ---- the hall, where a tenant's job has become another
 
-pub noted : (h : Inside) (t : ℕ) (job : Option Live) (jobs : List (Option Live)) (claims : Bool) (marks : List Bool) → IsHall h → t < length h.jobs → jobs ≡ set h.jobs t job
-    → claims ≡ has_claimable (job_of jobs t) → marks ≡ set h.marks t claims → AreMarked marks jobs
-noted h t job jobs claims marks is within jobs_are claims_is marks_are =
-    marks_are ∙ ap (set h.marks t) claims_is
-    ∙ subst (λ js. AreMarked (set h.marks t (has_claimable (job_of js t))) js) (sym jobs_are) (marked-read h.marks h.jobs t job is.marks within)
-
 pub hall-noted : (h : Inside) (t : ℕ) (job : Option Live) (jobs : List (Option Live)) (claims : Bool) (marks : List Bool) → IsHall h → t < length h.jobs → jobs ≡ set h.jobs t job
     → claims ≡ has_claimable (job_of jobs t) → marks ≡ set h.marks t claims → IsHall (record { jobs = jobs; marks = marks; units = h.units; total = h.total })
 hall-noted h t job jobs claims marks is within jobs_are claims_is marks_are =
     let many : length jobs ≡ length h.jobs = ap length jobs_are ∙ length-set h.jobs t job in record {
       total = is.total;
-      marks = noted h t job jobs claims marks is within jobs_are claims_is marks_are;
+      marks =
+          marks_are ∙ ap (set h.marks t) claims_is
+          ∙ subst (λ js. AreMarked (set h.marks t (has_claimable (job_of js t))) js) (sym jobs_are) (marked-read h.marks h.jobs t job is.marks within);
       as_many = is.as_many ∙ sym many;
       few = omega (arith, many, is.few);
     }
 
+-- and where it has none
+pub hall-left : (h : Inside) (t : ℕ) (job : Live) (jobs : List (Option Live)) (marks : List Bool) → IsHall h → job_of h.jobs t ≡ Some job → jobs ≡ set h.jobs t None
+    → marks ≡ set h.marks t false → IsHall (record { jobs = jobs; marks = marks; units = h.units; total = h.total })
+hall-left h t job jobs marks is at left =
+    let within = job-within h.jobs t job at in
+    hall-noted h t None jobs false marks is within left (sym (ap has_claimable (ap (λ js. job_of js t) left ∙ get_or-set_same h.jobs t None None within)))
+
 -- nobody has a job, and no mark is set
 pub none-at-first : (n : ℕ) (jobs : List (Option Live)) (marks : List Bool) → jobs ≡ replicate n None → marks ≡ replicate n false → AreMarked marks jobs
-none-at-first n jobs marks jobs_are marks_are = marks_are ∙ sym none ∙ ap (map has_claimable) (sym jobs_are)
-  where
-    empty : List (Option Live)
-    empty = replicate n None
-
-    many : length (map has_claimable empty) ≡ n
-    many = length-map empty has_claimable ∙ length-replicate n None
-
-    none : map has_claimable empty ≡ replicate n false
-    none = ext_get_or false (map has_claimable empty) (replicate n false) (many ∙ sym (length-replicate n false)) (λ t within.
-        let below : t < n = omega (arith, within, many) in
-        get_or-map has_claimable empty t None ∙ ap has_claimable (get_or-replicate n t None None below) ∙ sym (get_or-replicate n t false false below))
+none-at-first n jobs marks jobs_are marks_are = marks_are ∙ sym (map-replicate has_claimable None n) ∙ ap (map has_claimable) (sym jobs_are)

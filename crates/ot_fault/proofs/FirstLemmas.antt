@@ -3,12 +3,12 @@ use Rattle.std.proofs.Common.{◌≡◌, ℕ, ◌+◌, ◌≤◌, Bool, true, fa
 use Rattle.std.specs.Prelude.{option_map}
 use Rattle.std.specs.Option.{option_or, option_to_list}
 use Rattle.std.proofs.lemmas.Bool.{cases_lt, le-ltb}
-use Rattle.std.proofs.lemmas.List.{map-append}
+use Rattle.std.proofs.lemmas.List.{map-append, length-append}
 use Rattle.serde_json.specs.Data.{Data}
 use Rattle.serde_json.specs.View.{view}
 use Rattle.serde_json.specs.declared.value.Value.{Value}
 use Rattle.ot_model.specs.Shapes.{Arrays}
-use Rattle.ot_program.specs.Copies.{Text, SetText, AddText, FoldText, IfText, ForText, Turn, TaskText, WaitText, WaitForText, GroupText, GroupByText, ProgramText, NoForm, Placed, Copy, At, Copies, Done, Then, in_copy, in_order}
+use Rattle.ot_program.specs.Copies.{Text, IfText, ForText, TaskText, GroupText, GroupByText, ProgramText, Placed, Copy, At, Copies, Done, Then, in_copy, in_order}
 use Rattle.ot_program.specs.Limits.{Tally, total, plus, own_tally}
 use Rattle.ot_program.specs.Meanings.{Bindings}
 use Rattle.ot_program.specs.Profiles.{profile_of}
@@ -22,7 +22,7 @@ use Rattle.ot_fault.specs.Counting.{counts_of, counts_with, past_limits}
 use Rattle.ot_fault.specs.Entries.{mixed_why, mixed_whys, whys_at, whys_behind, first_behind, first_among}
 use Rattle.ot_mixed.specs.Mixed.{mixed_of}
 use Rattle.ot_fault.specs.Walk.{Walked, Passed, Met, unless_told, counted, walk}
-use Rattle.ot_fault.specs.Why.{Why, Form, NoStatement, Unbound, TooGreat, NotExact, Unknown, NoCell, NoCells, Empty, Nested, Deep, TooMany, TooManyTasks, Mixed, long, short, earlier, after}
+use Rattle.ot_fault.specs.Why.{Why, Mixed, long, short, earlier, after}
 use Rattle.ot_fault.specs.Whys.{nested, text_whys}
 use Rattle.ot_fault.specs.declared.own.Tally.{Tally as CodeTally}
 use Rattle.ot_fault.proofs.AfterLemmas.{after-append}
@@ -50,20 +50,7 @@ told_three a b c t1 t2 t3 one two three = rw (after-append None a (b ++ c), ← 
 
 -- a cell under `red` and otherwise is told behind all others
 mixed_last : (why : Why) (name : List ℕ) (index : ℕ) → earlier why (Mixed name index) ≡ why
-mixed_last (Form part wanted) name index = refl
-mixed_last NoStatement name index = refl
-mixed_last (Unbound it) name index = refl
-mixed_last (TooGreat n) name index = refl
-mixed_last (NotExact sign a b) name index = refl
-mixed_last (Unknown it) name index = refl
-mixed_last (NoCell it at has) name index = refl
-mixed_last (NoCells it start len has) name index = refl
-mixed_last (Empty it start) name index = refl
-mixed_last (Nested level) name index = refl
-mixed_last (Deep part depth) name index = refl
-mixed_last (TooMany count has may) name index = refl
-mixed_last (TooManyTasks has may) name index = refl
-mixed_last (Mixed it at) name index = refl
+mixed_last why name index = grind arith
 
 pub behind_others : (why : Why) (found : Option (List ℕ × ℕ)) → after (Some why) (option_to_list (option_map mixed_why found)) ≡ Some why
 behind_others why None = refl
@@ -97,19 +84,13 @@ nested-short n =
     ]
 
 pub level_told : (shape : Arrays) (n : ℕ) (variables : Bindings) (text : Text) → text_whys shape (short n) variables text ≡ text_whys shape n variables text
-level_told shape n variables (SetText a b) = refl
-level_told shape n variables (AddText a b) = refl
-level_told shape n variables (FoldText op a b) = refl
 level_told shape n variables (IfText a b c) = rw (nested-short n) refl
 level_told shape n variables (ForText a b c d) = rw (nested-short n) refl
-level_told shape n variables Turn = refl
 level_told shape n variables (TaskText profile a b) = rw (nested-short n) refl
-level_told shape n variables WaitText = refl
-level_told shape n variables (WaitForText a) = refl
 level_told shape n variables (GroupText a b) = rw (nested-short n) refl
 level_told shape n variables (GroupByText op a b) = rw (nested-short n) refl
 level_told shape n variables (ProgramText a b) = rw (nested-short n) refl
-level_told shape n variables NoForm = refl
+level_told shape n variables _ = refl
 
 -- ---- an entry, one step after the other
 
@@ -193,12 +174,8 @@ counted-one shape before p =
     counts-plus (total shape before) (own_tally shape p.variables p.text)
     ∙ ap counts_of (ap (plus (total shape before)) (sym (plus-nothing (own_tally shape p.variables p.text))) ∙ sym (total-append shape before (p ∷ [])))
 
-length-one : (before : List Placed) (p : Placed) → length (before ++ p ∷ []) ≡ length before + 1
-length-one [] p = refl
-length-one (q ∷ before) p = let h = length-one before p in omega (arith, h)
-
 short-one : (before : List Placed) (p : Placed) → short (short (length before) + 1) ≡ short (length (before ++ p ∷ []))
-short-one before p = omega (arith, length-one before p)
+short-one before p = omega (arith, length-append before (p ∷ []))
 
 walk_first : (shape : Arrays) (before ps : List Placed)
     → met_in (walk shape (short (length before)) (counts_of (total shape before)) ps) ≡ first_behind shape before ps

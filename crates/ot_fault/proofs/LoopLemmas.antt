@@ -4,15 +4,14 @@ use Rattle.std.proofs.Math.Seq.{drop-cons}
 use Rattle.std.proofs.lemmas.List.{drop_all}
 use Rattle.std.proofs.lemmas.List.Sums.{sum_by-cons}
 use Rattle.std.specs.Prelude.{flat_map}
-use Rattle.serde_json.specs.Data.{Data, Items, array}
+use Rattle.serde_json.specs.Data.{Data}
 use Rattle.serde_json.specs.View.{view, items_view}
 use Rattle.serde_json.specs.declared.value.Value.{Value, the_lemmas, Array as JsonArray}
 use Rattle.ot_model.specs.declared.expr.Section.{Section}
 use Rattle.ot_program.specs.Limits.{cells_in}
 use Rattle.ot_program.specs.Meanings.{items, each, Clause}
 use Rattle.ot_fault.specs.Why.{Why, after, long}
-use Rattle.ot_fault.specs.Whys.{no_list, list_whys}
-use Rattle.ot_fault.proofs.AfterLemmas.{after-append, told_two}
+use Rattle.ot_fault.proofs.AfterLemmas.{after-append}
 
 each-next : (vs : List Value) (i : ℕ) (v : Value) → i < length vs → v ≡ get_or vs i v
     → each (items_view (drop i vs)) ≡ view v ∷ each (items_view (drop (i + 1) vs))
@@ -61,29 +60,5 @@ clause_cells_end clause_at n vs i past fits = rw (drop_all i vs past) (omega (ar
 
 -- ---- a list as a part
 
-no_items : (v : Value) → ((w : Vec Value Global) → v ≢ JsonArray w) → items (view v) ≡ []
+pub no_items : (v : Value) → ((w : Vec Value Global) → v ≢ JsonArray w) → items (view v) ≡ []
 no_items v other = search (rules, the_lemmas)
-
-pub list_told : (whys : Data → List Why) (d : Data) (ds : Items) (t0 t1 t2 : Option Why) → d ≡ array ds → t1 ≡ after t0 (no_list d)
-    → t2 ≡ after t1 (flat_map whys (each ds)) → t2 ≡ after t0 (list_whys whys d)
-list_told whys d ds t0 t1 t2 is h j = told_two t0 t1 t2 (no_list d) (flat_map whys (items d)) h (rw is j)
-
-pub no_list_told : (whys : Data → List Why) (v : Value) (t0 t1 : Option Why) → ((w : Vec Value Global) → v ≢ JsonArray w) → t1 ≡ after t0 (no_list (view v))
-    → t1 ≡ after t0 (list_whys whys (view v))
-no_list_told whys v t0 t1 other h = told_two t0 t1 t1 (no_list (view v)) (flat_map whys (items (view v))) h (rw (no_items v other) refl)
-
-pub list_cells : (section_at : Data → Section) (d : Data) (ds : Items) (n : ℕ) → d ≡ array ds → n ≡ long (cells_in (map section_at (each ds)))
-    → n ≡ long (cells_in (map section_at (items d)))
-list_cells section_at d ds n is h = rw is h
-
-pub no_list_cells : (section_at : Data → Section) (v : Value) → ((w : Vec Value Global) → v ≢ JsonArray w)
-    → 0 ≡ long (cells_in (map section_at (items (view v))))
-no_list_cells section_at v other = rw (no_items v other) refl
-
-pub clause_list_cells : (clause_at : Data → Clause) (d : Data) (ds : Items) (n : ℕ) → d ≡ array ds
-    → n ≡ long (cells_in (map (λ c. c.section) (map clause_at (each ds)))) → n ≡ long (cells_in (map (λ c. c.section) (map clause_at (items d))))
-clause_list_cells clause_at d ds n is h = rw is h
-
-pub no_clause_list_cells : (clause_at : Data → Clause) (v : Value) → ((w : Vec Value Global) → v ≢ JsonArray w)
-    → 0 ≡ long (cells_in (map (λ c. c.section) (map clause_at (items (view v)))))
-no_clause_list_cells clause_at v other = rw (no_items v other) refl

@@ -1,5 +1,5 @@
 -- What is told of a part, from what is told of its parts one after the other.
-use Rattle.std.proofs.Common.{◌≡◌, ℕ, ◌+◌, ◌-◌, ◌^◌, ◌<◌, min, Bool, true, false, cond, ◌||◌, nat_lt, nat_le, List, [], ◌∷◌, ◌++◌, length, get_or, drop, Option, Some, None, codes, refl, sym, ap, ◌∙◌, arith}
+use Rattle.std.proofs.Common.{◌≡◌, ℕ, ◌+◌, ◌-◌, ◌^◌, ◌<◌, min, Bool, true, false, cond, ◌||◌, nat_lt, nat_le, List, [], ◌∷◌, ◌++◌, length, get_or, drop, Option, Some, None, codes, refl, ap, ◌∙◌, arith}
 use Rattle.std.proofs.Math.Seq.{drop-cons}
 use Rattle.std.proofs.lemmas.Grind.{common_steps}
 use Rattle.std.specs.Prelude.{find, is_some, unwrap_or, option_map, bytes_eq, string_bytes, not, ◌==◌}
@@ -14,12 +14,13 @@ use Rattle.ot_model.specs.declared.expr.Op.{Op}
 use Rattle.ot_model.specs.declared.expr.Op.TheVariants.{Plus}
 use Rattle.ot_model.specs.declared.shape.ArrayShape.{ArrayShape}
 use Rattle.ot_program.specs.Limits.{size_depth}
-use Rattle.ot_program.specs.Meanings.{Bindings, letters, bound, sign_of, in_range, exact, size, is_called, length_of, op_of, indexed, section, value}
+use Rattle.ot_program.specs.Meanings.{Bindings, letters, bound, sign_of, in_range, exact, size, length_of, op_of, indexed, section, value}
 use Rattle.ot_program.specs.Names.{whole_number, is_word}
 use Rattle.ot_fault.specs.Why.{Why, Form, TooGreat, NotExact, Unknown, NoCell, NoCells, Empty, after}
-use Rattle.ot_fault.specs.Whys.{unless, name_whys, variable_whys, size_whys, deep, array_whys, indexed_whys, cell_whys, section_of_whys, section_whys, value_whys}
+use Rattle.ot_fault.specs.Whys.{unless, name_whys, variable_whys, size_whys, deep, array_whys, indexed_whys, section_of_whys, section_whys, value_whys}
 use Rattle.ot_fault.specs.declared.why.Wanted.TheVariants as wanted
-use Rattle.ot_fault.proofs.AfterLemmas.{told_two, three_items}
+use Rattle.ot_mixed.proofs.ClauseLemmas.{three_items}
+use Rattle.ot_fault.proofs.AfterLemmas.{after-append}
 
 -- ---- sizes
 
@@ -40,7 +41,7 @@ pub number_told : (variables : Bindings) (d : Data) (n : Num) (t0 t1 t2 : Option
     → t2 ≡ after t0 (size_whys variables d)
 number_told variables d n t0 t1 t2 found has k small is found_is has_is k_is small_is h j =
     rw (size_whys-number variables d n is, ← found_is, ← k_is, is-in_range (nat_lt k (2 ^ 32)) k, ← has_is, ← small_is)
-    (told_two t0 t1 t2 (unless has (Form d wanted.Size)) (unless small (TooGreat k)) h j)
+    (simp (after-append, ← h, ← j))
 
 pub size_whys-string : (variables : Bindings) (d : Data) (s : List ℕ) → d ≡ string s → size_whys variables d ≡ variable_whys variables s
 unfolding size_whys
@@ -64,10 +65,7 @@ pub operation_told : (variables : Bindings) (xs : List Value) (t a b : Value) (t
     → t4 ≡ after t0 (size_whys variables (array (items_view xs)))
 operation_told variables xs t a b t0 t1 t2 t3 t4 sign has fits one two result op three p q r sign_is has_is h one_is j two_is k result_is fits_is op_is l =
     rw (size_whys-three variables xs t a b three p q r, ← sign_is, ← one_is, ← two_is, ← result_is, ← op_is, ← has_is, ← fits_is)
-    (told_two t0 t1 t4 (unless has (Form (view t) wanted.Sign))
-    ((size_whys variables (view a) ++ size_whys variables (view b)) ++ unless fits (NotExact op one two)) h
-    (told_two t1 t3 t4 (size_whys variables (view a) ++ size_whys variables (view b)) (unless fits (NotExact op one two))
-    (told_two t1 t2 t3 (size_whys variables (view a)) (size_whys variables (view b)) j k) l))
+    (simp (after-append, ← h, ← j, ← k, ← l))
 
 -- ---- arrays
 
@@ -92,13 +90,7 @@ pub array_told : (shape : Arrays) (part : Data) (t0 t1 t2 : Option Why) (name : 
     → t1 ≡ after t0 (name_whys part) → has ≡ is_some len → t2 ≡ after t1 (unless has (Unknown name))
     → t2 ≡ after t0 (array_whys shape part)
 array_told shape part t0 t1 t2 name len has name_is len_is h has_is j =
-    let known : list_any (is_called part) shape.arrays ≡ has =
-    sym (is-known (letters part) shape.arrays)
-    ∙ ap (λ (it : List ℕ). is_some (option_map (λ (a : List ℕ × ℕ). a.1) (find (λ (a : List ℕ × ℕ). bytes_eq a.0 it) shape.arrays))) (sym name_is)
-    ∙ sym (has_is ∙ ap (λ (o : Option ℕ). is_some o) len_is) in
-    told_two t0 t1 t2 (name_whys part) (unless (list_any (is_called part) shape.arrays) (Unknown (letters part))) h
-    (j ∙ ap (λ (b : Bool). after t1 (unless b (Unknown name))) (sym known)
-    ∙ ap (λ (it : List ℕ). after t1 (unless (list_any (is_called part) shape.arrays) (Unknown it))) name_is)
+    rw (j, h, has_is, len_is, name_is, is-known (letters part) shape.arrays) (simp after-append)
 
 pub indexed_told : (shape : Arrays) (variables : Bindings) (name index : Data) (t0 t1 t2 t3 t4 : Option Why) (named : List ℕ) (len at : ℕ) (test : Bool)
     → named ≡ letters name → len ≡ length_of shape name → t1 ≡ after t0 (array_whys shape name)
@@ -106,22 +98,9 @@ pub indexed_told : (shape : Arrays) (variables : Bindings) (name index : Data) (
     → test ≡ nat_lt at len → t3 ≡ after t2 (unless test (NoCell named at len)) → t4 ≡ after t3 (deep index (size_depth index))
     → t4 ≡ after t0 (indexed_whys shape variables name index)
 indexed_told shape variables name index t0 t1 t2 t3 t4 named len at test named_is len_is h at_is j test_is k l =
-    let k' : t3 ≡ after t2 (unless (nat_lt (size variables index) (length_of shape name)) (NoCell (letters name) (size variables index) (length_of shape name))) =
-    rw (← at_is, ← len_is, ← named_is, ← test_is) k in
-    told_two t0 t2 t4 (array_whys shape name ++ size_whys variables index)
-    (unless (nat_lt (size variables index) (length_of shape name)) (NoCell (letters name) (size variables index) (length_of shape name))
-    ++ deep index (size_depth index))
-    (told_two t0 t1 t2 (array_whys shape name) (size_whys variables index) h j)
-    (told_two t2 t3 t4
-    (unless (nat_lt (size variables index) (length_of shape name)) (NoCell (letters name) (size variables index) (length_of shape name)))
-    (deep index (size_depth index)) k' l)
+    rw (l, k, test_is, j, h, at_is, len_is, named_is) (simp after-append)
 
 -- ---- cells and sections
-
-pub cell_whys-three : (shape : Arrays) (variables : Bindings) (xs : List Value) (t a b : Value) → length xs ≡ 3 → t ≡ get_or xs 0 t → a ≡ get_or xs 1 a → b ≡ get_or xs 2 b
-    → cell_whys shape variables (array (items_view xs))
-    ≡ unless (is_word (view t) (codes "c")) (Form (array (items_view xs)) wanted.Cell) ++ indexed_whys shape variables (view a) (view b)
-cell_whys-three shape variables xs t a b three p q r = rw (three_items xs t a b three p q r) refl
 
 le-capped : (n len : ℕ) → len < 2 ^ 32 → nat_le (min n (2 ^ 64 - 1)) len ≡ nat_le n len
 le-capped n len short = grind (arith, common_steps)
@@ -137,25 +116,7 @@ pub section_told : (shape : Arrays) (variables : Bindings) (a b c : Data) (t0 t1
     → t7 ≡ after t0 (section_of_whys shape variables a b c)
 section_told shape variables a b c t0 t1 t2 t3 t4 t5 t6 t7 named len from count sum fits some named_is len_is short h from_is j count_is k sum_is fits_is l some_is m n o =
     let test : fits ≡ nat_le (from + count) len = fits_is ∙ ap (λ (s : ℕ). nat_le s len) sum_is ∙ le-capped (from + count) len short in
-    let l' : t4 ≡ after t3 (unless (nat_le (size variables b + size variables c) (length_of shape a)) (NoCells (letters a) (size variables b) (size variables c) (length_of shape a))) =
-    rw (← from_is, ← count_is, ← len_is, ← named_is, ← test) l in
-    let m' : t5 ≡ after t4 (unless (not (size variables c == 0)) (Empty (letters a) (size variables b))) = rw (← from_is, ← count_is, ← named_is, ← some_is) m in
-    let beyond = unless (nat_le (size variables b + size variables c) (length_of shape a)) (NoCells (letters a) (size variables b) (size variables c) (length_of shape a)) in
-    let empty = unless (not (size variables c == 0)) (Empty (letters a) (size variables b)) in
-    told_two t0 t3 t7 (array_whys shape a ++ (size_whys variables b ++ size_whys variables c))
-    ((beyond ++ empty) ++ (deep b (size_depth b) ++ deep c (size_depth c)))
-    (told_two t0 t1 t3 (array_whys shape a) (size_whys variables b ++ size_whys variables c) h
-    (told_two t1 t2 t3 (size_whys variables b) (size_whys variables c) j k))
-    (told_two t3 t5 t7 (beyond ++ empty) (deep b (size_depth b) ++ deep c (size_depth c))
-    (told_two t3 t4 t5 beyond empty l' m') (told_two t5 t6 t7 (deep b (size_depth b)) (deep c (size_depth c)) n o))
-
-pub section_whys-three : (shape : Arrays) (variables : Bindings) (xs : List Value) (a b c : Value) → length xs ≡ 3 → a ≡ get_or xs 0 a → b ≡ get_or xs 1 b → c ≡ get_or xs 2 c
-    → section_whys shape variables (array (items_view xs)) ≡ section_of_whys shape variables (view a) (view b) (view c)
-section_whys-three shape variables xs a b c three p q r = rw (three_items xs a b c three p q r) refl
-
-pub section_len-three : (shape : Arrays) (variables : Bindings) (xs : List Value) (a b c : Value) → length xs ≡ 3 → a ≡ get_or xs 0 a → b ≡ get_or xs 1 b → c ≡ get_or xs 2 c
-    → (section shape variables (array (items_view xs))).len ≡ size variables (view c)
-section_len-three shape variables xs a b c three p q r = rw (three_items xs a b c three p q r) refl
+    rw (o, n, m, l, test, some_is, k, j, h, from_is, count_is, len_is, named_is) (simp after-append)
 
 -- ---- values
 

@@ -1,20 +1,13 @@
 -- A greeting, and what stands behind it.
 use Rattle.std.proofs.Common.{ℕ, List, Option, inl, inr}
-use Rattle.std.specs.Prelude.{⊤, Some, None, Result, Ok, Err}
+use Rattle.std.specs.Prelude.{⊤, None, Result, Ok}
 use Rattle.ot_book.specs.Books.{Register}
 use Rattle.ot_front.specs.Greetings.{NeverAsks, AnswersFirstLine, Greets}
 use Rattle.ot_front.specs.declared.fault.FrontFault.{FrontFault}
-use Rattle.ot_front.specs.declared.fault.FrontFault.TheVariants.{ReadFailed, WriteFailed, Memory, Stranger, TooManyTurns, SocketFailed}
 
 never_asks : (bytes : List ℕ) (left : Option (List ℕ)) (ended : Type 0) (result : Result (Option Register) FrontFault) → NeverAsks bytes left ended result → NeverAsks bytes left ⊤ result
 never_asks bytes left ended (Ok None) never = (never.0, tt)
-never_asks bytes left ended (Ok (Some book)) never = never
-never_asks bytes left ended (Err ReadFailed) never = never
-never_asks bytes left ended (Err WriteFailed) never = never
-never_asks bytes left ended (Err Memory) never = never
-never_asks bytes left ended (Err Stranger) never = never
-never_asks bytes left ended (Err TooManyTurns) never = never
-never_asks bytes left ended (Err SocketFailed) never = never
+never_asks bytes left ended result never = never
 
 tells : (names : List (List ℕ)) (bytes : List ℕ) (left : Option (List ℕ)) (ended : Type 0) (start held : Option (List ℕ)) (result : Result (Option Register) FrontFault) →
     AnswersFirstLine names bytes left ended start held result → AnswersFirstLine names bytes left ⊤ start held result

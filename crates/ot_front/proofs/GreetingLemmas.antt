@@ -16,7 +16,7 @@ use Rattle.ot_lines.specs.declared.source.Failed.{Failed}
 use Rattle.ot_lines.specs.declared.lines.Heard.{Heard}
 use Rattle.ot_lines.specs.declared.lines.Heard.TheVariants.{Line, Long}
 use Rattle.ot_front.specs.declared.fault.FrontFault.{FrontFault}
-use Rattle.ot_front.specs.declared.fault.FrontFault.TheVariants.{ReadFailed, WriteFailed, Memory, Stranger, TooManyTurns, SocketFailed}
+use Rattle.ot_front.specs.declared.fault.FrontFault.TheVariants.{WriteFailed, Memory}
 use Rattle.ot_front.specs.declared.refusal.Refusal.{Refusal}
 use Rattle.ot_front.specs.declared.refusal.Refusal.TheVariants.{NotGreeting}
 
@@ -53,10 +53,7 @@ answers_refused names greeting why start held (Ok None) refused writes none = (w
 answers_refused names greeting why start held (Ok (Some book)) refused writes none = absurd (cc)
 answers_refused names greeting why start held (Err WriteFailed) refused writes none = (refusal_text why, inl (why, refused, refl), writes)
 answers_refused names greeting why start held (Err Memory) refused writes none = writes
-answers_refused names greeting why start held (Err ReadFailed) refused writes none = absurd writes
-answers_refused names greeting why start held (Err Stranger) refused writes none = absurd writes
-answers_refused names greeting why start held (Err TooManyTurns) refused writes none = absurd writes
-answers_refused names greeting why start held (Err SocketFailed) refused writes none = absurd writes
+answers_refused names greeting why start held (Err other) refused writes none = absurd writes
 
 -- a book is given
 pub answers_given : (names : List (List ℕ)) (greeting : Greeting) (book : Register) (start held : Option (List ℕ)) (result : Result (Option Register) FrontFault) →
@@ -67,10 +64,7 @@ answers_given names greeting book start held (Ok (Some other)) is writes given =
     subst (λ b. Answers names greeting start held (Ok (Some b))) same (is, writes)
 answers_given names greeting book start held (Err WriteFailed) is writes given = (hello_text book, inr (book, is, refl), writes)
 answers_given names greeting book start held (Err Memory) is writes given = writes
-answers_given names greeting book start held (Err ReadFailed) is writes given = absurd writes
-answers_given names greeting book start held (Err Stranger) is writes given = absurd writes
-answers_given names greeting book start held (Err TooManyTurns) is writes given = absurd writes
-answers_given names greeting book start held (Err SocketFailed) is writes given = absurd writes
+answers_given names greeting book start held (Err other) is writes given = absurd writes
 
 -- ---- the connection
 

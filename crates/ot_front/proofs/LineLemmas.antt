@@ -4,7 +4,7 @@ use Rattle.std.specs.Prelude.{All, Option, Some, None, Result, Ok, Err, ⊤, OnO
 use Rattle.std.specs.Io.KnownBytes.{Appends, Consumes, IsAtEnd}
 use Rattle.std.proofs.KnownBytes.{Appends-nil}
 use Rattle.ot_lines.specs.Counts.{Flow, next_count, count_after}
-use Rattle.ot_lines.specs.Lines.{Hearing, HasNoEnd, opened, IsIdle, IsAmid, stream}
+use Rattle.ot_lines.specs.Lines.{Hearing, HasNoEnd, opened, IsIdle}
 use Rattle.ot_lines.specs.Listening.{ended, IsLine, Went, Through, Ends, Listens, Stops as StopsAt}
 use Rattle.ot_lines.specs.declared.lines.LineFault.{LineFault}
 use Rattle.ot_lines.specs.declared.lines.LineFault.TheVariants as lines
@@ -14,7 +14,7 @@ use Rattle.ot_book.specs.Books.{Register, next_number}
 use Rattle.ot_front.specs.Device.{AppendsFront}
 use Rattle.ot_front.specs.Heard.{Heard, max_line}
 use Rattle.ot_front.specs.Session.{heard_in, closing, Session, Serves}
-use Rattle.ot_front.specs.Serving.{Going, Goes, Serving, TakesLine, IsServed, result_of, failed_writes, session_bounds}
+use Rattle.ot_front.specs.Serving.{Going, TakesLine, IsServed, result_of, failed_writes, session_bounds}
 use Rattle.ot_front.specs.declared.fault.End.{End}
 use Rattle.ot_front.specs.declared.fault.End.TheVariants as end
 use Rattle.ot_front.specs.declared.fault.FrontFault.{FrontFault}
@@ -72,22 +72,12 @@ write_failures (Err fault.WriteFailed) = 1
 write_failures result = 0
 
 no_read_failed : (r : Result End FrontFault) → r ≢ Err fault.ReadFailed → read_failures r ≡ 0
-no_read_failed (Ok e) other = refl
 no_read_failed (Err fault.ReadFailed) other = absurd (other refl)
-no_read_failed (Err fault.WriteFailed) other = refl
-no_read_failed (Err fault.Memory) other = refl
-no_read_failed (Err fault.Stranger) other = refl
-no_read_failed (Err fault.TooManyTurns) other = refl
-no_read_failed (Err fault.SocketFailed) other = refl
+no_read_failed result other = refl
 
 no_write_failed : (r : Result End FrontFault) → r ≢ Err fault.WriteFailed → write_failures r ≡ 0
-no_write_failed (Ok e) other = refl
-no_write_failed (Err fault.ReadFailed) other = refl
 no_write_failed (Err fault.WriteFailed) other = absurd (other refl)
-no_write_failed (Err fault.Memory) other = refl
-no_write_failed (Err fault.Stranger) other = refl
-no_write_failed (Err fault.TooManyTurns) other = refl
-no_write_failed (Err fault.SocketFailed) other = refl
+no_write_failed result other = refl
 
 served : {first new : Register} {f h : Flow} {start held : Option (List ℕ)} {result : Result End FrontFault} (before later reads left : ℕ) → first.pending ≡ None →
     Serves first new f.ahead h.ahead h.latest start held result → reads + left ≡ 1000000 → h.reads ≡ count_after reads f.reads → (result ≡ Err fault.TooManyTurns → left ≡ 0) →
@@ -143,74 +133,10 @@ module _ {A : Type 0} (contents : A → Option (List ℕ)) (failures : A → ℕ
 
   -- ---- it is stopped by a line
 
-  result_writes : (why : Stop) → failed_writes (Err why) ≡ write_failures (result_of why)
-  result_writes stop.Bye = refl
-  result_writes stop.Full = refl
-  result_writes stop.LongLine = refl
-  result_writes stop.Closed = refl
-  result_writes stop.Stranger = refl
-  result_writes stop.WriteFailed = refl
-  result_writes stop.Memory = refl
-
-  result_stops : (why : Stop) → Stops (result_of why)
-  result_stops stop.Bye = tt
-  result_stops stop.Full = tt
-  result_stops stop.LongLine = tt
-  result_stops stop.Closed = tt
-  result_stops stop.Stranger = tt
-  result_stops stop.WriteFailed = tt
-  result_stops stop.Memory = tt
-
-  result_ends : (why : Stop) → ends_of (result_of why) ≡ 0
-  result_ends stop.Bye = refl
-  result_ends stop.Full = refl
-  result_ends stop.LongLine = refl
-  result_ends stop.Closed = refl
-  result_ends stop.Stranger = refl
-  result_ends stop.WriteFailed = refl
-  result_ends stop.Memory = refl
-
-  result_reads : (why : Stop) → read_failures (result_of why) ≡ 0
-  result_reads stop.Bye = refl
-  result_reads stop.Full = refl
-  result_reads stop.LongLine = refl
-  result_reads stop.Closed = refl
-  result_reads stop.Stranger = refl
-  result_reads stop.WriteFailed = refl
-  result_reads stop.Memory = refl
-
-  no_turns : (why : Stop) → result_of why ≢ Err fault.TooManyTurns
-  no_turns stop.Bye is = cc
-  no_turns stop.Full is = cc
-  no_turns stop.LongLine is = cc
-  no_turns stop.Closed is = cc
-  no_turns stop.Stranger is = cc
-  no_turns stop.WriteFailed is = cc
-  no_turns stop.Memory is = cc
-
-  no_end : (why : Stop) → result_of why ≢ Ok end.EndOfInput
-  no_end stop.Bye is = cc
-  no_end stop.Full is = cc
-  no_end stop.LongLine is = cc
-  no_end stop.Closed is = cc
-  no_end stop.Stranger is = cc
-  no_end stop.WriteFailed is = cc
-  no_end stop.Memory is = cc
-
-  pub served_stopped : {to : Hearing} {f h : Flow} {first new : Register} {a b : A} (why : Stop) → first.pending ≡ None → StopsAt Took (opened session_bounds) f first a to h new b why →
-      IsServed first new f h (contents a) (contents b) (failures a) (failures b) (result_of why)
-  served_stopped {to} {f} {h} {first} {new} {a} {b} why closed s =
-      let t = s.through in
-      let lines = ended t.lines in
-      let begun = going_piece to.line (through_going closed t) s.is.clean (omega (arith, s.is.short)) in
-      let bytes : lines ++ (to.line ++ 10 ∷ []) ≡ (lines ++ to.line) ++ 10 ∷ [] = sym (append_assoc lines to.line (10 ∷ [])) in
-      let serves = serves_in begun 10 f.ahead h.ahead h.latest t.passes.earlier to.since to.ahead new (contents b) (result_of why) (result_stops why)
-      (sym bytes ∙ t.passes.since) s.amid.some (t.passes.latest (omega arith))
-      (subst (λ bs. Consumes f.ahead h.ahead (bs ++ to.ahead)) bytes (consumed f.ahead h.ahead to.ahead (lines ++ (to.line ++ 10 ∷ [])) t.passes.heard))
-      (s.last.goes first (contents a) (lines ++ to.line) closed begun) s.last.grows in
-      served (failures a) (failures b) t.passes.reads to.left closed serves t.passes.left t.passes.counted (λ is. absurd (no_turns why is)) (λ is. absurd (no_end why is))
-      (t.passes.ended ∙ ap (λ n. count_after n f.ends) (sym (result_ends why))) (t.passes.failed ∙ ap (λ n. count_after n f.failures) (sym (result_reads why)))
-      (s.last.failures ∙ ap (λ n. count_after n (failures s.more)) (result_writes why) ∙ ap (count_after (write_failures (result_of why))) (went_failures t.lines first a s.mid s.more t.went))
+  what_stops : (why : Stop) → Stops (result_of why) × (failed_writes (Err why) ≡ write_failures (result_of why)) × (ends_of (result_of why) ≡ 0) × (read_failures (result_of why) ≡ 0)
+      × (result_of why ≢ Err fault.TooManyTurns) × (result_of why ≢ Ok end.EndOfInput)
+  what_stops stop.Bye = (tt, refl, refl, refl, (λ is. cc), (λ is. cc))
+  what_stops why = (tt, refl, refl, refl, (λ is. cc), (λ is. cc))
 
   -- ---- it hears no more
 
@@ -224,27 +150,6 @@ module _ {A : Type 0} (contents : A → Option (List ℕ)) (failures : A → ℕ
       let reads : Consumes f.ahead h.ahead bytes =
       subst (Consumes f.ahead h.ahead) (append-nil bytes) (subst (λ ahead. Consumes f.ahead h.ahead (bytes ++ ahead)) idle.none (consumed f.ahead h.ahead to.ahead bytes t.passes.heard)) in
       serves_idle h.ahead h.latest result (record { bytes = bytes; reads = reads; going = going }) reads ends
-
-  pub served_end : {to : Hearing} {f h : Flow} {first new : Register} {a b : A} → first.pending ≡ None → Ends Took (opened session_bounds) f first a to h new b (Ok ended_as.End) →
-      IsServed first new f h (contents a) (contents b) (failures a) (failures b) (Ok end.EndOfInput)
-  served_end {to} {f} {h} {first} {new} {a} {b} closed s =
-      let t = s.through in
-      served (failures a) (failures b) t.passes.reads to.left closed (serves_all (Ok end.EndOfInput) closed t s.clean s.is.0 tt) t.passes.left t.passes.counted (λ is. absurd (cc)) (λ is. s.is.1)
-      t.passes.ended t.passes.failed (went_failures t.lines first a new b t.went)
-
-  pub served_read_failed : {to : Hearing} {f h : Flow} {first new : Register} {a b : A} → first.pending ≡ None → Ends Took (opened session_bounds) f first a to h new b (Err lines.ReadFailed) →
-      IsServed first new f h (contents a) (contents b) (failures a) (failures b) (Err fault.ReadFailed)
-  served_read_failed {to} {f} {h} {first} {new} {a} {b} closed s =
-      let t = s.through in
-      served (failures a) (failures b) t.passes.reads to.left closed (serves_all (Err fault.ReadFailed) closed t s.clean s.is tt) t.passes.left t.passes.counted (λ is. absurd (cc)) (λ is. absurd (cc))
-      t.passes.ended t.passes.failed (went_failures t.lines first a new b t.went)
-
-  pub served_turns : {to : Hearing} {f h : Flow} {first new : Register} {a b : A} → first.pending ≡ None → Ends Took (opened session_bounds) f first a to h new b (Err lines.TooManyReads) →
-      IsServed first new f h (contents a) (contents b) (failures a) (failures b) (Err fault.TooManyTurns)
-  served_turns {to} {f} {h} {first} {new} {a} {b} closed s =
-      let t = s.through in
-      served (failures a) (failures b) t.passes.reads to.left closed (serves_all (Err fault.TooManyTurns) closed t s.clean s.is.0 tt) t.passes.left t.passes.counted (λ is. s.is.1) (λ is. absurd (cc))
-      t.passes.ended t.passes.failed (went_failures t.lines first a new b t.went)
 
   -- ---- it hears a line that is too long
 
@@ -286,20 +191,37 @@ module _ {A : Type 0} (contents : A → Option (List ℕ)) (failures : A → ℕ
 
   -- ---- by how it was listened to
 
+  listened : (from to : Hearing) (f h : Flow) (first new : Register) (a b : A) (told is : Result (Ended Stop) LineFault) → told ≡ is → from ≡ opened session_bounds →
+      Listens Took from f first a to h new b told → Listens Took (opened session_bounds) f first a to h new b is
+  listened from to f h first new a b told is same begun l =
+      subst (λ r. Listens Took (opened session_bounds) f first a to h new b r) same (subst (λ x. Listens Took x f first a to h new b told) begun l)
+
   pub by_stop : (from to : Hearing) (f h : Flow) (first new : Register) (a b : A) (field : Ended Stop) (why : Stop) (result : Result End FrontFault) →
       field ≡ ended_as.Stopped why → result ≡ result_of why → from ≡ opened session_bounds → first.pending ≡ None → Listens Took from f first a to h new b (Ok field) →
       IsServed first new f h (contents a) (contents b) (failures a) (failures b) result
   by_stop from to f h first new a b field why result is told begun closed l =
+      let s : StopsAt Took (opened session_bounds) f first a to h new b why = listened from to f h first new a b (Ok field) (Ok (ended_as.Stopped why)) (ap Ok is) begun l in
+      let t = s.through in
+      let lines = ended t.lines in
+      let begun = going_piece to.line (through_going closed t) s.is.clean (omega (arith, s.is.short)) in
+      let bytes : lines ++ (to.line ++ 10 ∷ []) ≡ (lines ++ to.line) ++ 10 ∷ [] = sym (append_assoc lines to.line (10 ∷ [])) in
+      let serves = serves_in begun 10 f.ahead h.ahead h.latest t.passes.earlier to.since to.ahead new (contents b) (result_of why) (what_stops why).0
+      (sym bytes ∙ t.passes.since) s.amid.some (t.passes.latest (omega arith))
+      (subst (λ bs. Consumes f.ahead h.ahead (bs ++ to.ahead)) bytes (consumed f.ahead h.ahead to.ahead (lines ++ (to.line ++ 10 ∷ [])) t.passes.heard))
+      (s.last.goes first (contents a) (lines ++ to.line) closed begun) s.last.grows in
       subst (λ r. IsServed first new f h (contents a) (contents b) (failures a) (failures b) r) (sym told)
-      (served_stopped why closed
-      (subst (λ (e : Ended Stop). Listens Took (opened session_bounds) f first a to h new b (Ok e)) is (subst (λ x. Listens Took x f first a to h new b (Ok field)) begun l)))
+      (served (failures a) (failures b) t.passes.reads to.left closed serves t.passes.left t.passes.counted (λ is. absurd ((what_stops why).4 is)) (λ is. absurd ((what_stops why).5 is))
+      (t.passes.ended ∙ ap (λ n. count_after n f.ends) (sym (what_stops why).2)) (t.passes.failed ∙ ap (λ n. count_after n f.failures) (sym (what_stops why).3))
+      (s.last.failures ∙ ap (λ n. count_after n (failures s.more)) (what_stops why).1 ∙ ap (count_after (write_failures (result_of why))) (went_failures t.lines first a s.mid s.more t.went)))
 
   pub by_end : (from to : Hearing) (f h : Flow) (first new : Register) (a b : A) (field : Ended Stop) →
       field ≡ ended_as.End → from ≡ opened session_bounds → first.pending ≡ None → Listens Took from f first a to h new b (Ok field) →
       IsServed first new f h (contents a) (contents b) (failures a) (failures b) (Ok end.EndOfInput)
   by_end from to f h first new a b field is begun closed l =
-      served_end closed
-      (subst (λ (e : Ended Stop). Listens Took (opened session_bounds) f first a to h new b (Ok e)) is (subst (λ x. Listens Took x f first a to h new b (Ok field)) begun l))
+      let s : Ends Took (opened session_bounds) f first a to h new b (Ok ended_as.End) = listened from to f h first new a b (Ok field) (Ok ended_as.End) (ap Ok is) begun l in
+      let t = s.through in
+      served (failures a) (failures b) t.passes.reads to.left closed (serves_all (Ok end.EndOfInput) closed t s.clean s.is.0 tt) t.passes.left t.passes.counted (λ is. absurd (cc)) (λ is. s.is.1)
+      t.passes.ended t.passes.failed (went_failures t.lines first a new b t.went)
 
   pub by_long : (from to : Hearing) (f h : Flow) (first new : Register) (a b c : A) (field : Ended Stop) (r : Result End FrontFault) →
       field ≡ ended_as.Long → from ≡ opened session_bounds → first.pending ≡ None → Listens Took from f first a to h new b (Ok field) →
@@ -308,18 +230,22 @@ module _ {A : Type 0} (contents : A → Option (List ℕ)) (failures : A → ℕ
       OnOk r (failures c ≡ failures b) → OnErr r (failures c ≡ next_count (failures b)) → IsServed first new f h (contents a) (contents c) (failures a) (failures c) r
   by_long from to f h first new a b c field r is begun closed l =
       served_long r closed
-      (subst (λ (e : Ended Stop). Listens Took (opened session_bounds) f first a to h new b (Ok e)) is (subst (λ x. Listens Took x f first a to h new b (Ok field)) begun l))
+      (listened from to f h first new a b (Ok field) (Ok ended_as.Long) (ap Ok is) begun l)
 
   pub by_read_failed : (from to : Hearing) (f h : Flow) (first new : Register) (a b : A) (field : LineFault) →
       field ≡ lines.ReadFailed → from ≡ opened session_bounds → first.pending ≡ None → Listens Took from f first a to h new b (Err field) →
       IsServed first new f h (contents a) (contents b) (failures a) (failures b) (Err fault.ReadFailed)
   by_read_failed from to f h first new a b field is begun closed l =
-      served_read_failed closed
-      (subst (λ (e : LineFault). Listens Took (opened session_bounds) f first a to h new b (Err e)) is (subst (λ x. Listens Took x f first a to h new b (Err field)) begun l))
+      let s : Ends Took (opened session_bounds) f first a to h new b (Err lines.ReadFailed) = listened from to f h first new a b (Err field) (Err lines.ReadFailed) (ap Err is) begun l in
+      let t = s.through in
+      served (failures a) (failures b) t.passes.reads to.left closed (serves_all (Err fault.ReadFailed) closed t s.clean s.is tt) t.passes.left t.passes.counted (λ is. absurd (cc)) (λ is. absurd (cc))
+      t.passes.ended t.passes.failed (went_failures t.lines first a new b t.went)
 
   pub by_turns : (from to : Hearing) (f h : Flow) (first new : Register) (a b : A) (field : LineFault) →
       field ≡ lines.TooManyReads → from ≡ opened session_bounds → first.pending ≡ None → Listens Took from f first a to h new b (Err field) →
       IsServed first new f h (contents a) (contents b) (failures a) (failures b) (Err fault.TooManyTurns)
   by_turns from to f h first new a b field is begun closed l =
-      served_turns closed
-      (subst (λ (e : LineFault). Listens Took (opened session_bounds) f first a to h new b (Err e)) is (subst (λ x. Listens Took x f first a to h new b (Err field)) begun l))
+      let s : Ends Took (opened session_bounds) f first a to h new b (Err lines.TooManyReads) = listened from to f h first new a b (Err field) (Err lines.TooManyReads) (ap Err is) begun l in
+      let t = s.through in
+      served (failures a) (failures b) t.passes.reads to.left closed (serves_all (Err fault.TooManyTurns) closed t s.clean s.is.0 tt) t.passes.left t.passes.counted (λ is. s.is.1) (λ is. absurd (cc))
+      t.passes.ended t.passes.failed (went_failures t.lines first a new b t.went)

@@ -1,5 +1,5 @@
 -- What was heard before the last byte.
-use Rattle.std.proofs.Common.{◌≡◌, ℕ, suc, ◌+◌, ◌-◌, ◌<◌, ◌≤◌, List, [], ◌∷◌, ◌++◌, length, take, drop, length-append, length-drop, append_assoc, refl, sym, ap, subst, ◌∙◌, arith}
+use Rattle.std.proofs.Common.{◌≡◌, ℕ, suc, ◌+◌, ◌-◌, ◌<◌, ◌≤◌, List, [], ◌∷◌, ◌++◌, length, take, drop, length-append, length-drop, append_assoc, refl, sym, ap, ◌∙◌, arith}
 use Rattle.std.specs.Prelude.{Option, Some, None}
 use Rattle.std.specs.Io.KnownBytes.{Consumes, prepend_known}
 use Rattle.std.proofs.Math.ListN.{take-append-drop}
@@ -7,7 +7,7 @@ use Rattle.std.proofs.Math.Seq.{take-append_seam, take-append-add}
 use Rattle.std.proofs.lemmas.List.{get_or-take, length-take-le}
 use Rattle.ot_book.specs.Books.{Register}
 use Rattle.ot_book.specs.Room.{room_in}
-use Rattle.ot_front.specs.Heard.{Heard, HasNoEnd, hear}
+use Rattle.ot_front.specs.Heard.{Heard, HasNoEnd}
 use Rattle.ot_front.specs.Session.{heard_in}
 use Rattle.ot_front.specs.declared.fault.End.{End}
 use Rattle.ot_front.proofs.HeardLemmas.{heard-append, heard_ended, lines_grow}

@@ -1,19 +1,18 @@
 -- What a session is between its reads and where it ends.
-use Rattle.std.proofs.Common.{◌≡◌, ℕ, zero, suc, ◌≤◌, List, [], ◌∷◌, ◌++◌, length, take, refl, sym, ap, ◌∙◌, subst, arith, append-nil, le_refl, Bool}
+use Rattle.std.proofs.Common.{◌≡◌, ℕ, ◌≤◌, List, [], ◌++◌, length, refl, sym, ap, ◌∙◌, subst, arith, append-nil, le_refl, Bool}
 use Rattle.std.specs.Prelude.{Option, None, Result, Ok, Err}
-use Rattle.std.specs.Io.KnownBytes.{Appends, Consumes, Keeps}
-use Rattle.std.proofs.KnownBytes.{Appends-nil, Consumes-nil, Consumes-trans, Consumes-kept}
+use Rattle.std.specs.Io.KnownBytes.{Appends, Consumes}
+use Rattle.std.proofs.KnownBytes.{Appends-nil, Consumes-nil}
 use Rattle.std.proofs.lemmas.List.{length-take-le}
 use Rattle.ot_book.specs.Books.{Register, next_number}
 use Rattle.ot_front.specs.Heard.{Heard}
 use Rattle.ot_front.specs.Told.{Lines, texts, marks, marked, after, told}
 use Rattle.ot_front.specs.Session.{heard_in, logged_lines, SessionTells, Session, Serves}
-use Rattle.ot_front.specs.Serving.{result_of, Going, Serving}
+use Rattle.ot_front.specs.Serving.{Going, Serving}
 use Rattle.ot_front.specs.declared.fault.End.{End}
-use Rattle.ot_front.specs.declared.fault.End.TheVariants.{Bye, EndOfInput, Full, LongLine, Closed}
+use Rattle.ot_front.specs.declared.fault.End.TheVariants.{EndOfInput}
 use Rattle.ot_front.specs.declared.fault.FrontFault.{FrontFault}
-use Rattle.ot_front.specs.declared.fault.FrontFault.TheVariants.{ReadFailed, WriteFailed, Memory, Stranger, TooManyTurns, SocketFailed}
-use Rattle.ot_front.specs.declared.stop.Stop.{Stop}
+use Rattle.ot_front.specs.declared.fault.FrontFault.TheVariants.{ReadFailed, Memory, TooManyTurns}
 use Rattle.ot_front.proofs.ToldLemmas.{pending-after, length-texts, length-marked, next-after}
 use Rattle.ot_front.proofs.SessionLemmas.{session_of, tells_all, breaks_between, breaks_closing}
 
@@ -66,16 +65,10 @@ IsIdle result = ⊥
 tells_idle : (first : Register) (bytes : List ℕ) (lines : Lines) (partial : List ℕ) (result : Result End FrontFault) → IsIdle result →
     heard_in first bytes ≡ record { lines = texts lines; partial = partial; end = None } → SessionTells first bytes (marks lines) (told first lines ++ []) result
 tells_idle first bytes lines partial (Ok EndOfInput) idle hears = tells_all first bytes lines partial None hears
-tells_idle first bytes lines partial (Ok Bye) idle hears = absurd idle
-tells_idle first bytes lines partial (Ok Full) idle hears = absurd idle
-tells_idle first bytes lines partial (Ok LongLine) idle hears = absurd idle
-tells_idle first bytes lines partial (Ok Closed) idle hears = absurd idle
 tells_idle first bytes lines partial (Err ReadFailed) idle hears = tells_all first bytes lines partial None hears
 tells_idle first bytes lines partial (Err TooManyTurns) idle hears = tells_all first bytes lines partial None hears
 tells_idle first bytes lines partial (Err Memory) idle hears = breaks_closing first bytes lines partial None 0 hears
-tells_idle first bytes lines partial (Err WriteFailed) idle hears = absurd idle
-tells_idle first bytes lines partial (Err Stranger) idle hears = absurd idle
-tells_idle first bytes lines partial (Err SocketFailed) idle hears = absurd idle
+tells_idle first bytes lines partial result idle hears = absurd idle
 
 pub serves_idle : {first : Register} {ahead left start : Option (List ℕ)} {partial : List ℕ} {book : Register} {held : Option (List ℕ)} →
     (next : Option (List ℕ)) (latest : ℕ) (result : Result End FrontFault) → (s : Serving first ahead left start partial book held) → Consumes ahead next s.bytes → IsIdle result →

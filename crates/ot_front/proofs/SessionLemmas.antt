@@ -9,6 +9,7 @@ use Rattle.std.proofs.lemmas.List.{take-append-le}
 use Rattle.ot_book.specs.Books.{Register, next_number, logged}
 use Rattle.ot_book.specs.Room.{room_in, takes, room_after}
 use Rattle.ot_book.proofs.RoomLemmas.{full-takes, free-takes}
+use Rattle.ot_check.proofs.SetLemmas.{slice_get-more}
 use Rattle.ot_front.specs.Device.{AppendsFront}
 use Rattle.ot_front.specs.Heard.{Heard, hear, with_line, is_bye, max_line, HasNoEnd}
 use Rattle.ot_front.specs.Told.{Lines, texts, marks, marked, after, told, reply_line, last_reply, RunsProgram}
@@ -21,7 +22,7 @@ use Rattle.ot_front.specs.declared.fault.FrontFault.TheVariants as fault
 use Rattle.ot_front.specs.declared.stop.Stop.{Stop}
 use Rattle.ot_front.specs.declared.stop.Stop.TheVariants.{Bye, Full, LongLine, Closed, Stranger, WriteFailed, Memory}
 use Rattle.ot_front.proofs.HeardLemmas.{heard-more, at_line, with_line-bye, with_line-full, with_line-request, heard-append, heard_ended, lines_grow, heard-piece, heard-long}
-use Rattle.ot_front.proofs.ToldLemmas.{length-texts, length-marks, texts-more, marked-texts, marked-append, length-marked, after-more, told-more, told-append, told-take, room-after, next-after, pending-after, slice_get-front, slice_get-seam}
+use Rattle.ot_front.proofs.ToldLemmas.{length-texts, length-marks, texts-more, marked-texts, marked-append, length-marked, after-more, told-more, told-append, told-take, room-after, next-after, pending-after, slice_get-seam}
 
 -- ---- the marks of logged lines
 
@@ -178,13 +179,6 @@ stops_bye {first} {start} {bytes} {line} {book} {held} going bye =
     session_all first start (bytes ++ 10 ∷ []) book held held going.lines [] (Some end.Bye) (Ok end.Bye)
     (hears_line going ∙ with_line-bye (room_in first) (texts going.lines) line bye) going.logs going.writes (Appends-nil held) (λ all. all)
 
-pub stops_full : {first : Register} {start : Option (List ℕ)} {bytes line : List ℕ} {book : Register} {held now : Option (List ℕ)} →
-    Going first start bytes line book held → is_bye line ≡ false → takes (room_in book) line ≡ false → Appends held now (closing (Some end.Full)) →
-    Session first book (bytes ++ 10 ∷ []) start now (Ok end.Full)
-stops_full {first} {start} {bytes} {line} {book} {held} {now} going bye full writes =
-    session_all first start (bytes ++ 10 ∷ []) book held now going.lines [] (Some end.Full) (Ok end.Full)
-    (hears_full going bye full) going.logs going.writes writes (λ all. all)
-
 -- the session broke off where it was to close
 stops_in_closing : (first : Register) (start : Option (List ℕ)) (bytes : List ℕ) (book : Register) (held now : Option (List ℕ)) (lines : Lines) (partial : List ℕ) (end : Option End) →
     heard_in first bytes ≡ record { lines = texts lines; partial = partial; end = end } → book ≡ after first lines → Appends start held (told first lines) →
@@ -194,12 +188,6 @@ stops_in_closing first start bytes book held now lines partial end hears logs wr
     (ap (λ (h : Heard). h.lines) hears ∙ sym (append-nil (texts lines))) logs
     (Appends-trans start held now (told first lines) (take front.0 (closing end)) writes front.2)
     (breaks_closing first bytes lines partial end front.0 hears)
-
-pub stops_in_full : {first : Register} {start : Option (List ℕ)} {bytes line : List ℕ} {book : Register} {held now : Option (List ℕ)} →
-    Going first start bytes line book held → is_bye line ≡ false → takes (room_in book) line ≡ false → AppendsFront held now (closing (Some end.Full)) →
-    Session first book (bytes ++ 10 ∷ []) start now (Err fault.WriteFailed)
-stops_in_full {first} {start} {bytes} {line} {book} {held} {now} going bye full front =
-    stops_in_closing first start (bytes ++ 10 ∷ []) book held now going.lines [] (Some end.Full) (hears_full going bye full) going.logs going.writes front
 
 -- the line is logged and its reply written
 pub going_on : {first : Register} {start : Option (List ℕ)} {bytes line : List ℕ} {book : Register} {held : Option (List ℕ)} →
@@ -274,16 +262,6 @@ leaves_run {first} {start} {bytes} {line} going bye free runs =
       tells = ap (told first) logged_is;
     }
 
-pub stops_closed : {first : Register} {start : Option (List ℕ)} {bytes line : List ℕ} {book : Register} {held : Option (List ℕ)} →
-    (new : Register) → Going first start bytes line book held → is_bye line ≡ false → takes (room_in book) line ≡ true → new ≡ book → RunsProgram book line →
-    Session first new (bytes ++ 10 ∷ []) start held (Ok end.Closed)
-stops_closed new going bye free is runs = stops_unlogged new (Ok end.Closed) going bye free is (leaves_run going bye free runs)
-
-pub stops_stranger : {first : Register} {start : Option (List ℕ)} {bytes line : List ℕ} {book : Register} {held : Option (List ℕ)} →
-    (new : Register) → Going first start bytes line book held → is_bye line ≡ false → takes (room_in book) line ≡ true → new ≡ book → RunsProgram book line →
-    Session first new (bytes ++ 10 ∷ []) start held (Err fault.Stranger)
-stops_stranger new going bye free is runs = stops_unlogged new (Err fault.Stranger) going bye free is (leaves_run going bye free runs)
-
 -- ---- a piece of a line
 
 hears_piece : {first : Register} {start : Option (List ℕ)} {bytes partial : List ℕ} {book : Register} {held : Option (List ℕ)} →
@@ -341,11 +319,7 @@ goes_reply {first} {start} {bytes} {line} {book} {held} new now (Err WriteFailed
 goes_reply {first} {start} {bytes} {line} {book} {held} new now (Err Memory) going bye free is written cut stops =
     stops_in_reply new now is.0 (Err fault.Memory) going bye free is.1
     (cut.0, subst (λ text. Appends held now (take cut.0 text)) (ap last_reply is.1) cut.1) (λ lost written off. off)
-goes_reply new now (Err Bye) going bye free is written cut stops = elim stops [ inl same ↦ absurd (cc) | inr same ↦ absurd (cc) ]
-goes_reply new now (Err Full) going bye free is written cut stops = elim stops [ inl same ↦ absurd (cc) | inr same ↦ absurd (cc) ]
-goes_reply new now (Err LongLine) going bye free is written cut stops = elim stops [ inl same ↦ absurd (cc) | inr same ↦ absurd (cc) ]
-goes_reply new now (Err Closed) going bye free is written cut stops = elim stops [ inl same ↦ absurd (cc) | inr same ↦ absurd (cc) ]
-goes_reply new now (Err Stranger) going bye free is written cut stops = elim stops [ inl same ↦ absurd (cc) | inr same ↦ absurd (cc) ]
+goes_reply new now (Err other) going bye free is written cut stops = elim stops [ inl same ↦ absurd (cc) | inr same ↦ absurd (cc) ]
 
 -- ---- a line that was offered to the book
 
@@ -357,17 +331,19 @@ pub offered_full : {first : Register} {start : Option (List ℕ)} {bytes line : 
     (new : Register) (now : Option (List ℕ)) (took : Bool) → Going first start bytes line book held → first.pending ≡ None → is_bye line ≡ false →
     LogsLine book line took new → took ≡ false → Appends held now (closing (Some end.Full)) → Session first new (bytes ++ 10 ∷ []) start now (Ok end.Full)
 offered_full new now true going closed bye does so writes = absurd (true≢false so)
-offered_full {first} {start} {bytes} {line} {book} new now false going closed bye does so writes =
+offered_full {first} {start} {bytes} {line} {book} {held} new now false going closed bye does so writes =
     subst (λ b. Session first b (bytes ++ 10 ∷ []) start now (Ok end.Full)) (sym does.1)
-    (stops_full going bye (full-takes book line (closed_going going closed) does.0) writes)
+    (session_all first start (bytes ++ 10 ∷ []) book held now going.lines [] (Some end.Full) (Ok end.Full)
+    (hears_full going bye (full-takes book line (closed_going going closed) does.0)) going.logs going.writes writes (λ all. all))
 
 pub offered_full_cut : {first : Register} {start : Option (List ℕ)} {bytes line : List ℕ} {book : Register} {held : Option (List ℕ)} →
     (new : Register) (now : Option (List ℕ)) (took : Bool) → Going first start bytes line book held → first.pending ≡ None → is_bye line ≡ false →
     LogsLine book line took new → took ≡ false → AppendsFront held now (closing (Some end.Full)) → Session first new (bytes ++ 10 ∷ []) start now (Err fault.WriteFailed)
 offered_full_cut new now true going closed bye does so front = absurd (true≢false so)
-offered_full_cut {first} {start} {bytes} {line} {book} new now false going closed bye does so front =
+offered_full_cut {first} {start} {bytes} {line} {book} {held} new now false going closed bye does so front =
     subst (λ b. Session first b (bytes ++ 10 ∷ []) start now (Err fault.WriteFailed)) (sym does.1)
-    (stops_in_full going bye (full-takes book line (closed_going going closed) does.0) front)
+    (stops_in_closing first start (bytes ++ 10 ∷ []) book held now going.lines [] (Some end.Full)
+    (hears_full going bye (full-takes book line (closed_going going closed) does.0)) going.logs going.writes front)
 
 pub offered_taken : {first : Register} {start : Option (List ℕ)} {bytes line : List ℕ} {book : Register} {held : Option (List ℕ)} →
     (new : Register) (now : Option (List ℕ)) (took : Bool) (r : Result ⊤ Stop) → Going first start bytes line book held → is_bye line ≡ false →
@@ -380,12 +356,16 @@ offered_taken new now false r going bye does so written cut stops = absurd (true
 pub offered_closed : {first : Register} {start : Option (List ℕ)} {bytes line : List ℕ} {book : Register} {held : Option (List ℕ)} →
     (new : Register) → Going first start bytes line book held → is_bye line ≡ false → new ≡ book → WouldRun book line →
     Session first new (bytes ++ 10 ∷ []) start held (Ok end.Closed)
-offered_closed {line = line} {book = book} new going bye is would = stops_closed new going bye (free-takes book line would.room) is would.runs
+offered_closed {line = line} {book = book} new going bye is would =
+    let free = free-takes book line would.room in
+    stops_unlogged new (Ok end.Closed) going bye free is (leaves_run going bye free would.runs)
 
 pub offered_stranger : {first : Register} {start : Option (List ℕ)} {bytes line : List ℕ} {book : Register} {held : Option (List ℕ)} →
     (new : Register) → Going first start bytes line book held → is_bye line ≡ false → new ≡ book → WouldRun book line →
     Session first new (bytes ++ 10 ∷ []) start held (Err fault.Stranger)
-offered_stranger {line = line} {book = book} new going bye is would = stops_stranger new going bye (free-takes book line would.room) is would.runs
+offered_stranger {line = line} {book = book} new going bye is would =
+    let free = free-takes book line would.room in
+    stops_unlogged new (Err fault.Stranger) going bye free is (leaves_run going bye free would.runs)
 
 -- ---- more bytes behind those in which a session stopped
 
@@ -424,7 +404,7 @@ run_more first bytes more lost written few t =
       next = t.next;
       is_next =
           ap (λ ls. slice_get ls (length lost)) grows.1
-          ∙ slice_get-front (heard_in first bytes).lines grows.0 (length lost) t.next t.is_next;
+          ∙ slice_get-more (heard_in first bytes).lines grows.0 (length lost) t.next t.is_next;
       runs = subst (λ ls. RunsProgram (after first ls) t.next) logged_is t.runs;
       tells = t.tells ∙ ap (told first) logged_is;
     }

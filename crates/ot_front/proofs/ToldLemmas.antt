@@ -1,10 +1,10 @@
 -- A book after more lines, and the replies to them.
 use Rattle.std.proofs.Common.{◌≡◌, ℕ, suc, ◌+◌, ◌≤◌, ◌<◌, List, [], ◌∷◌, ◌++◌, length, take, drop, refl, sym, ap, ◌∙◌, arith, append_assoc, append-nil, length-append, Bool, true, false, true≢false}
 use Rattle.std.specs.Prelude.{Some, None, slice_get}
-use Rattle.std.proofs.Math.ListN.{length-map, get_or-append, take-append-drop}
+use Rattle.std.proofs.Math.ListN.{length-map, take-append-drop}
 use Rattle.std.proofs.Math.Seq.{get_or-append_seam}
 use Rattle.std.proofs.lemmas.List.{map-append}
-use Rattle.std.proofs.lemmas.Option.{slice_get-get_or, slice_get_within, get_or_from_slice_get}
+use Rattle.std.proofs.lemmas.Option.{slice_get-get_or}
 use Rattle.ot_book.specs.Books.{Register, next_number, state_in, logged}
 use Rattle.ot_book.specs.Answers.{is_checkpoint, answer_or_lost}
 use Rattle.ot_book.specs.Room.{Room, room_in, room_after}
@@ -95,12 +95,6 @@ pending-after book [] closed = closed
 pending-after book (l ∷ lines) closed = pending-after (logged book l.0 l.1) lines (pending-logged book l.0 l.1)
 
 -- ---- places of a list
-
-pub slice_get-front : {A : Type 0} (xs ys : List A) (n : ℕ) (x : A) → slice_get xs n ≡ Some x → slice_get (xs ++ ys) n ≡ Some x
-slice_get-front xs ys n x is =
-    let within = slice_get_within xs n x is in
-    slice_get-get_or (xs ++ ys) n x (omega (arith, within, length-append xs ys))
-    ∙ ap Some (get_or-append xs ys x n within ∙ get_or_from_slice_get xs n x x is)
 
 pub slice_get-seam : {A : Type 0} (xs : List A) (y : A) (ys : List A) → slice_get (xs ++ y ∷ ys) (length xs) ≡ Some y
 slice_get-seam xs y ys =

@@ -2,7 +2,7 @@
 use Rattle.std.proofs.Common.{◌≡◌, ℕ, zero, suc, ◌+◌, ◌^◌, ◌<◌, ◌≤◌, Bool, true, false, cond, ◌&&◌, List, [], ◌∷◌, map, Option, Some, None, nat_eq, refl, sym, ap, subst, ◌∙◌, inl, inr, arith}
 use Rattle.std.specs.Prelude.{◌⊎◌, nat_lt, not, flat_map, find, option_map}
 use Rattle.std.specs.List.{list_any, fold, range_with_len}
-use Rattle.std.proofs.lemmas.Bool.{lt-ltb, ltb-true, cases_lt}
+use Rattle.std.proofs.lemmas.Bool.{lt-ltb, ltb-true, cases_lt, or_cases, or_left, or_right, and_parts, and_from, not-true, not_from_false, false_from_ne_true, both_ways}
 use Rattle.ot_model.specs.Cells.{same_cell, is_before}
 use Rattle.ot_model.specs.Shapes.{Arrays}
 use Rattle.ot_model.specs.Uses.{Precedes, is_fold, same_mode}
@@ -16,7 +16,7 @@ use Rattle.ot_program.specs.Meanings.{Clause}
 use Rattle.ot_program.proofs.Declared.{same_keys, keys_same}
 use Rattle.ot_mixed.specs.Mixed.{first_mixed, named}
 use Rattle.ot_mixed.specs.Rows.{Row, address, row_of, Fits, same_operation}
-use Rattle.ot_mixed.proofs.InLemmas.{In, in_left, in_right, in_either, or_either, or_left, or_right, and_both, any_in, in_any, not_true}
+use Rattle.ot_mixed.proofs.InLemmas.{In, in_left, in_right, in_either, any_in, in_any}
 use Rattle.ot_mixed.proofs.SweepLemmas.{Covers, Clear, Outcome, operation_differs}
 
 -- ---- cells
@@ -41,7 +41,7 @@ named_from : (c : Cell) (s : Section) (i n : ℕ) → list_any (same_cell c) (ma
     → (c.array ≡ s.array) × ((s.start + i ≤ c.index) × (c.index < s.start + i + n))
 named_from c s i zero h = absurd cc
 named_from c s i (suc n) h =
-    elim (or_either (same_cell c (cell_at s i)) (list_any (same_cell c) (map (cell_at s) (range_with_len (i + 1) n))) h) [
+    elim (or_cases (same_cell c (cell_at s i)) (list_any (same_cell c) (map (cell_at s) (range_with_len (i + 1) n))) h) [
       | inl here ↦ let e = cell_is c (cell_at s i) here in (e.0, (omega (arith, e.1), omega (arith, e.1)))
       | inr later ↦ let r = named_from c s (i + 1) n later in (r.0, (omega (arith, r.1.0), omega (arith, r.1.1)))
     ]
@@ -81,19 +81,8 @@ record AreMixed (clauses : List Clause) (c : Cell) : Type 0 where
   two_names : names c two ≡ true
   differ : same_operation (operation_in one.mode) (operation_in two.mode) ≡ false
 
-not_same : (b : Bool) → not b ≡ true → b ≡ false
-not_same true h = absurd cc
-not_same false h = refl
-
-same_not : (b : Bool) → b ≡ false → not b ≡ true
-same_not b h = rw h refl
-
 modes_differ : (m n : Mode) → is_fold m ≡ true → same_mode m n ≡ false → same_operation (operation_in m) (operation_in n) ≡ false
-modes_differ Reads n h k = absurd cc
-modes_differ Writes n h k = absurd cc
-modes_differ (Folds a) Reads h k = refl
-modes_differ (Folds a) Writes h k = refl
-modes_differ (Folds a) (Folds b) h k = k
+modes_differ m n h k = grind arith
 
 operations_differ : (m n : Mode) → same_operation (operation_in m) (operation_in n) ≡ false
     → ((is_fold m ≡ true) × (same_mode m n ≡ false)) ⊎ ((is_fold n ≡ true) × (same_mode n m ≡ false))
@@ -110,10 +99,10 @@ operations_differ (Folds a) (Folds b) h = inl (refl, h)
 mixed_two : (clauses : List Clause) (c : Cell) → is_mixed clauses c ≡ true → AreMixed clauses c
 mixed_two clauses c h =
     let k = any_in (λ k. names c k && (is_fold k.mode && named_otherwise k.mode clauses c)) clauses h in
-    let n = and_both (names c k.0) (is_fold k.0.mode && named_otherwise k.0.mode clauses c) k.1.1 in
-    let f = and_both (is_fold k.0.mode) (named_otherwise k.0.mode clauses c) n.1 in
+    let n = and_parts (names c k.0) (is_fold k.0.mode && named_otherwise k.0.mode clauses c) k.1.1 in
+    let f = and_parts (is_fold k.0.mode) (named_otherwise k.0.mode clauses c) n.1 in
     let l = any_in (λ l. names c l && not (same_mode k.0.mode l.mode)) clauses f.1 in
-    let o = and_both (names c l.0) (not (same_mode k.0.mode l.0.mode)) l.1.1 in
+    let o = and_parts (names c l.0) (not (same_mode k.0.mode l.0.mode)) l.1.1 in
     record {
       one = k.0;
       two = l.0;
@@ -121,20 +110,17 @@ mixed_two clauses c h =
       two_in = l.1.0;
       one_names = n.0;
       two_names = o.0;
-      differ = modes_differ k.0.mode l.0.mode f.0 (not_same (same_mode k.0.mode l.0.mode) o.1);
+      differ = modes_differ k.0.mode l.0.mode f.0 (not-true (same_mode k.0.mode l.0.mode) o.1);
     }
-
-and_true : (a b : Bool) → a ≡ true → b ≡ true → a && b ≡ true
-and_true a b h k = rw (h, k) refl
 
 folded : (clauses : List Clause) (c : Cell) (k l : Clause) → In k clauses → In l clauses → names c k ≡ true → names c l ≡ true
     → is_fold k.mode ≡ true → same_mode k.mode l.mode ≡ false → is_mixed clauses c ≡ true
 folded clauses c k l k_in l_in k_names l_names fold differ =
     in_any (λ k. names c k && (is_fold k.mode && named_otherwise k.mode clauses c)) k clauses k_in
-    (and_true (names c k) (is_fold k.mode && named_otherwise k.mode clauses c) k_names
-    (and_true (is_fold k.mode) (named_otherwise k.mode clauses c) fold
+    (and_from (names c k) (is_fold k.mode && named_otherwise k.mode clauses c) k_names
+    (and_from (is_fold k.mode) (named_otherwise k.mode clauses c) fold
     (in_any (λ l. names c l && not (same_mode k.mode l.mode)) l clauses l_in
-    (and_true (names c l) (not (same_mode k.mode l.mode)) l_names (same_not (same_mode k.mode l.mode) differ)))))
+    (and_from (names c l) (not (same_mode k.mode l.mode)) l_names (not_from_false (same_mode k.mode l.mode) differ)))))
 
 two_mixed : (clauses : List Clause) (c : Cell) → AreMixed clauses c → is_mixed clauses c ≡ true
 two_mixed clauses c m =
@@ -157,94 +143,77 @@ precedes_on a b c (inr h) (inr k) = inr (h.0 ∙ k.0, omega (arith, h.1, k.1))
 
 before_is : (c d : Cell) → is_before c d ≡ true → Precedes c d
 before_is c d h =
-    elim (or_either (nat_lt c.array d.array) (nat_eq c.array d.array && nat_lt c.index d.index) h) [
+    elim (or_cases (nat_lt c.array d.array) (nat_eq c.array d.array && nat_lt c.index d.index) h) [
       | inl lt ↦ inl (ltb-true c.array d.array lt)
       | inr same ↦
-          let t = and_both (nat_eq c.array d.array) (nat_lt c.index d.index) same in
+          let t = and_parts (nat_eq c.array d.array) (nat_lt c.index d.index) same in
           let e = same_keys (c.array, 0) (d.array, 0) (rw t.0 refl) in
           inr (ap (λ (k : ℕ × ℕ). k.0) e, ltb-true c.index d.index t.1)
     ]
 
 array_same : (c d : Cell) → c.array ≡ d.array → nat_eq c.array d.array ≡ true
-array_same c d e = (and_both (nat_eq c.array d.array) (nat_eq 0 0) (keys_same (c.array, 0) (d.array, 0) (pair_is (c.array, 0) (d.array, 0) e refl))).0
+array_same c d e = (and_parts (nat_eq c.array d.array) (nat_eq 0 0) (keys_same (c.array, 0) (d.array, 0) (pair_is (c.array, 0) (d.array, 0) e refl))).0
 
 is_before_is : (c d : Cell) → Precedes c d → is_before c d ≡ true
 is_before_is c d (inl lt) = or_left (nat_lt c.array d.array) (nat_eq c.array d.array && nat_lt c.index d.index) (lt-ltb c.array d.array lt)
 is_before_is c d (inr same) =
     or_right (nat_lt c.array d.array) (nat_eq c.array d.array && nat_lt c.index d.index)
-    (and_true (nat_eq c.array d.array) (nat_lt c.index d.index) (array_same c d same.0) (lt-ltb c.index d.index same.1))
-
-contrary : {A : Type 0} (b : Bool) → b ≡ true → b ≡ false → A
-contrary b h k = absurd (let e : true ≡ false = sym h ∙ k in cc)
+    (and_from (nat_eq c.array d.array) (nat_lt c.index d.index) (array_same c d same.0) (lt-ltb c.index d.index same.1))
 
 else_behind : (c d : Cell) → is_before c d ≡ false → same_cell c d ≡ false → Precedes d c
 else_behind c d not_before not_same =
     elim (cases_lt d.array c.array) [
       | inl lt ↦ inl lt
       | inr ge ↦ elim (cases_lt c.array d.array) [
-        | inl gt ↦ contrary (is_before c d) (is_before_is c d (inl gt)) not_before
+        | inl gt ↦ absurd (both_ways (is_before c d) not_before (is_before_is c d (inl gt)))
         | inr le ↦
             let e : c.array ≡ d.array = omega (arith, ge, le) in
             elim (cases_lt d.index c.index) [
               | inl lt ↦ inr (sym e, lt)
               | inr past ↦ elim (cases_lt c.index d.index) [
-                | inl gt ↦ contrary (is_before c d) (is_before_is c d (inr (e, gt))) not_before
-                | inr equal ↦ contrary (same_cell c d) (cell_same c d e (omega (arith, past, equal))) not_same
+                | inl gt ↦ absurd (both_ways (is_before c d) not_before (is_before_is c d (inr (e, gt))))
+                | inr equal ↦ absurd (both_ways (same_cell c d) not_same (cell_same c d e (omega (arith, past, equal))))
               ]
             ]
       ]
     ]
 
+-- a cell goes before the next one, or is it, or goes behind it
+placed_case : (P : List Cell → Type 0) (c x : Cell) (cs : List Cell) → (is_before c x ≡ true → P (c ∷ x ∷ cs)) → (same_cell c x ≡ true → P (x ∷ cs))
+    → (is_before c x ≡ false → same_cell c x ≡ false → P (x ∷ placed cs c)) → P (placed (x ∷ cs) c)
+placed_case P c x cs before same behind = by (is_before c x) (same_cell c x) refl refl
+  where
+    by : (a b : Bool) → is_before c x ≡ a → same_cell c x ≡ b → P (cond a (c ∷ x ∷ cs) (cond b (x ∷ cs) (x ∷ placed cs c)))
+    by true b h k = before h
+    by false true h k = same k
+    by false false h k = behind h k
+
 -- what stands there with one more
-placed_by : (c x d : Cell) (cs : List Cell) (a b : Bool) → (In d (placed cs c) → (d ≡ c) ⊎ In d cs)
-    → In d (cond a (c ∷ x ∷ cs) (cond b (x ∷ cs) (x ∷ placed cs c))) → (d ≡ c) ⊎ In d (x ∷ cs)
-placed_by c x d cs true b rest h = h
-placed_by c x d cs false true rest h = inr h
-placed_by c x d cs false false rest (inl e) = inr (inl e)
-placed_by c x d cs false false rest (inr h) = elim (rest h) [ inl e ↦ inl e | inr k ↦ inr (inr k) ]
-
 placed_in : (cs : List Cell) (c d : Cell) → In d (placed cs c) → (d ≡ c) ⊎ In d cs
-placed_in [] c d h = h
-placed_in (x ∷ cs) c d h = placed_by c x d cs (is_before c x) (same_cell c x) (placed_in cs c d) h
-
-new_by : (c x : Cell) (cs : List Cell) (a b : Bool) → same_cell c x ≡ b → In c (placed cs c) → In c (cond a (c ∷ x ∷ cs) (cond b (x ∷ cs) (x ∷ placed cs c)))
-new_by c x cs true b is rest = inl refl
-new_by c x cs false true is rest = let e = cell_is c x is in inl (one_cell c x e.0 e.1)
-new_by c x cs false false is rest = inr rest
+placed_in [] c d = λ h. h
+placed_in (x ∷ cs) c d =
+    placed_case (λ l. In d l → (d ≡ c) ⊎ In d (x ∷ cs)) c x cs (λ e h. h) (λ e h. inr h) (λ e f h.
+    elim h [ inl is ↦ inr (inl is) | inr there ↦ elim (placed_in cs c d there) [ inl is ↦ inl is | inr k ↦ inr (inr k) ] ])
 
 new_in : (cs : List Cell) (c : Cell) → In c (placed cs c)
 new_in [] c = inl refl
-new_in (x ∷ cs) c = new_by c x cs (is_before c x) (same_cell c x) refl (new_in cs c)
-
-old_by : (c x d : Cell) (cs : List Cell) (a b : Bool) → (In d cs → In d (placed cs c)) → In d (x ∷ cs) → In d (cond a (c ∷ x ∷ cs) (cond b (x ∷ cs) (x ∷ placed cs c)))
-old_by c x d cs true b rest h = inr h
-old_by c x d cs false true rest h = h
-old_by c x d cs false false rest (inl e) = inl e
-old_by c x d cs false false rest (inr h) = inr (rest h)
+new_in (x ∷ cs) c = placed_case (In c) c x cs (λ e. inl refl) (λ e. let is = cell_is c x e in inl (one_cell c x is.0 is.1)) (λ e f. inr (new_in cs c))
 
 old_in : (cs : List Cell) (c d : Cell) → In d cs → In d (placed cs c)
 old_in [] c d h = absurd h
-old_in (x ∷ cs) c d h = old_by c x d cs (is_before c x) (same_cell c x) (old_in cs c d) h
-
-ascending_by : (c x : Cell) (cs : List Cell) (a b : Bool) → is_before c x ≡ a → same_cell c x ≡ b → Ascending (x ∷ cs) → Ascending (placed cs c)
-    → Ascending (cond a (c ∷ x ∷ cs) (cond b (x ∷ cs) (x ∷ placed cs c)))
-ascending_by c x cs true b is same up rest = (all_behind, up)
-  where
-    first : Precedes c x
-    first = before_is c x is
-
-    all_behind : (d : Cell) → In d (x ∷ cs) → Precedes c d
-    all_behind d (inl e) = subst (Precedes c) (sym e) first
-    all_behind d (inr h) = precedes_on c x d first (up.0 d h)
-ascending_by c x cs false true is same up rest = up
-ascending_by c x cs false false is same up rest = (all_behind, rest)
-  where
-    all_behind : (d : Cell) → In d (placed cs c) → Precedes x d
-    all_behind d h = elim (placed_in cs c d h) [ inl e ↦ subst (Precedes x) (sym e) (else_behind c x is same) | inr k ↦ up.0 d k ]
+old_in (x ∷ cs) c d h = placed_case (In d) c x cs (λ e. inr h) (λ e. h) (λ e f. elim h [ inl is ↦ inl is | inr k ↦ inr (old_in cs c d k) ])
 
 ascending_placed : (cs : List Cell) (c : Cell) → Ascending cs → Ascending (placed cs c)
 ascending_placed [] c up = (λ d h. absurd h, tt)
-ascending_placed (x ∷ cs) c up = ascending_by c x cs (is_before c x) (same_cell c x) refl refl up (ascending_placed cs c up.1)
+ascending_placed (x ∷ cs) c up =
+    placed_case Ascending c x cs (λ e. (first (before_is c x e), up)) (λ e. up) (λ e f. (behind (else_behind c x e f), ascending_placed cs c up.1))
+  where
+    first : Precedes c x → (d : Cell) → In d (x ∷ cs) → Precedes c d
+    first p d (inl e) = subst (Precedes c) (sym e) p
+    first p d (inr h) = precedes_on c x d p (up.0 d h)
+
+    behind : Precedes x c → (d : Cell) → In d (placed cs c) → Precedes x d
+    behind p d h = elim (placed_in cs c d h) [ inl e ↦ subst (Precedes x) (sym e) p | inr k ↦ up.0 d k ]
 
 all_ascending : (cs ds : List Cell) → Ascending cs → Ascending (fold placed cs ds)
 all_ascending cs [] up = up
@@ -309,7 +278,7 @@ named_short clauses sound c h =
 -- where rows don't differ no cell is mixed
 none_mixed : (shape : Arrays) (clauses : List Clause) (rows : List Row) → ((k : Clause) → In k clauses → In (row_of shape k) rows)
     → (c : Cell) → Clear rows (address c.array c.index) → is_mixed clauses c ≡ false
-none_mixed shape clauses rows there c clear = not_true (is_mixed clauses c) (λ h. absurd (differing (mixed_two clauses c h)))
+none_mixed shape clauses rows there c clear = false_from_ne_true (is_mixed clauses c) (λ h. absurd (differing (mixed_two clauses c h)))
   where
     differing : AreMixed clauses c → ⊥
     differing m =

@@ -1,5 +1,5 @@
 -- A clause without a fault: its section is there, and by what it folds.
-use Rattle.std.proofs.Common.{◌≡◌, ◌≢◌, ℕ, zero, suc, ◌+◌, ◌*◌, ◌^◌, ◌<◌, ◌≤◌, Bool, true, false, cond, ◌||◌, min, List, [], ◌∷◌, ◌++◌, length, get_or, Option, Some, None, codes, true≢false, refl, sym, ap, ◌∙◌, arith}
+use Rattle.std.proofs.Common.{◌≡◌, ◌≢◌, ℕ, zero, suc, ◌+◌, ◌*◌, ◌^◌, ◌<◌, ◌≤◌, Bool, true, false, cond, ◌||◌, min, List, [], ◌∷◌, ◌++◌, length, get_or, Option, Some, None, codes, refl, sym, ap, ◌∙◌, arith}
 use Rattle.std.specs.Prelude.{◌==◌, not, nat_le, find, slice_get, bytes_eq, is_some, option_map, unwrap_or}
 use Rattle.std.specs.List.{list_any, position_or_len}
 use Rattle.std.proofs.lemmas.Bool.{leb-true}
@@ -10,14 +10,12 @@ use Rattle.serde_json.specs.declared.value.Value.{Value}
 use Rattle.ot_model.specs.Shapes.{Arrays}
 use Rattle.ot_model.specs.declared.fold.Fold.{Fold}
 use Rattle.ot_model.specs.declared.fold.Fold.TheVariants as by
-use Rattle.ot_model.specs.declared.stmt.Mode.{Mode}
-use Rattle.ot_model.specs.declared.stmt.Mode.TheVariants.{Reads, Writes, Folds}
+use Rattle.ot_model.specs.declared.stmt.Mode.TheVariants.{Reads, Folds}
 use Rattle.ot_program.specs.Declarations.{operation_in}
 use Rattle.ot_program.specs.Faults.{unless, deep, array_faults, size_faults, section_faults, clause_faults}
 use Rattle.ot_program.specs.Limits.{size_depth}
-use Rattle.ot_program.specs.Meanings.{letters, Bindings, size, is_called, position_of, length_of, section, fold_of, mode_of, red_of, red_by, clause}
+use Rattle.ot_program.specs.Meanings.{letters, Bindings, size, is_called, position_of, length_of, section, fold_of, mode_of, red_by, clause}
 use Rattle.ot_program.specs.Names.{is_word}
-use Rattle.ot_program.specs.Profiles.{profile_of}
 use Rattle.ot_program.specs.declared.fault.Refusal.{Refusal}
 use Rattle.ot_program.specs.declared.fault.Refusal.TheVariants.{Form, UnknownArray, OutOfRange, EmptySection}
 use Rattle.ot_place.specs.Texts.{Profile}
@@ -29,11 +27,11 @@ pub no_fault : (b : Bool) (c : Refusal) → unless b c ≡ [] → b ≡ true
 no_fault true c h = refl
 no_fault false c h = absurd cc
 
-pub none_first : (xs ys : List Refusal) → xs ++ ys ≡ [] → xs ≡ []
+pub none_first : {A : Type 0} (xs ys : List A) → xs ++ ys ≡ [] → xs ≡ []
 none_first [] ys h = refl
 none_first (x ∷ xs) ys h = absurd cc
 
-pub none_second : (xs ys : List Refusal) → xs ++ ys ≡ [] → ys ≡ []
+pub none_second : {A : Type 0} (xs ys : List A) → xs ++ ys ≡ [] → ys ≡ []
 none_second [] ys h = h
 none_second (x ∷ xs) ys h = absurd cc
 
@@ -106,30 +104,10 @@ section_there shape variables a b c h =
 
 -- ---- by what a clause folds
 
-pub by_profile : (P : Profile → Type 0) (b c : Bool) (x y profile : Profile) → cond b (Some x) (cond c (Some y) None) ≡ Some profile → P x → P y → P profile
-by_profile P true c x y profile is h k = let e : x ≡ profile = cc in rw (← e) h
-by_profile P false true x y profile is h k = let e : y ≡ profile = cc in rw (← e) k
-by_profile P false false x y profile is h k = absurd cc
-
-mode_by : (a b c : Bool) (r : Option Mode) → is_some (cond a (Some Reads) (cond b (Some Writes) (cond c (Some Writes) r))) ≡ true
-    → (is_some r ≡ true → r ≡ Some (Folds by.Plus))
-    → operation_in (unwrap_or (cond a (Some Reads) (cond b (Some Writes) (cond c (Some Writes) r))) Reads) ≡ cond (a || (b || c)) None (Some by.Plus)
-mode_by true b c r h plus = refl
-mode_by false true c r h plus = refl
-mode_by false false true r h plus = refl
-mode_by false false false r h plus = rw (plus h) refl
-
-red_plus : (b : Bool) → is_some (cond b (Some (Folds by.Plus)) None) ≡ true → cond b (Some (Folds by.Plus)) None ≡ Some (Folds by.Plus)
-red_plus true h = refl
-red_plus false h = absurd cc
-
-pub mode_operation : (profile : Profile) (w t : Data) → profile_of w ≡ Some profile → is_some (mode_of profile t) ≡ true
+pub mode_operation : (profile : Profile) (t : Data) → is_some (mode_of profile t) ≡ true
     → operation_in (unwrap_or (mode_of profile t) Reads)
     ≡ cond (is_word t (codes "in") || (is_word t (codes "out") || is_word t (codes "inout"))) None (Some by.Plus)
-mode_operation profile w t named h =
-    mode_by (is_word t (codes "in")) (is_word t (codes "out")) (is_word t (codes "inout")) (red_of profile t) h
-    (by_profile (λ (it : Profile). is_some (red_of it t) ≡ true → red_of it t ≡ Some (Folds by.Plus))
-    (is_word w (codes "program")) (is_word w (codes "program2")) _ _ profile named (red_plus (is_word t (codes "red"))) (λ k. absurd (true≢false (sym k))))
+mode_operation profile t h = grind arith
 
 red_operation : (b : Bool) (o : Option Fold) → is_some (cond b (option_map Folds o) None) ≡ true
     → operation_in (unwrap_or (cond b (option_map Folds o) None) Reads) ≡ o
@@ -145,32 +123,31 @@ pub record FoldsBy (shape : Arrays) (profile : Profile) (variables : Bindings) (
   pub section_is : (clause shape profile variables d).section ≡ section shape variables s
   pub fold_is : operation_in (clause shape profile variables d).mode ≡ fold
 
-pub two_folds : (shape : Arrays) (profile : Profile) (w : Data) (variables : Bindings) (t a : Data) → profile_of w ≡ Some profile
+pub two_folds : (shape : Arrays) (profile : Profile) (variables : Bindings) (t a : Data)
     → clause_faults shape profile variables (array (item t (item a no_items))) ≡ []
     → FoldsBy shape profile variables (array (item t (item a no_items))) a
     (cond (is_word t (codes "in") || (is_word t (codes "out") || is_word t (codes "inout"))) None (Some by.Plus))
-two_folds shape profile w variables t a named h =
+two_folds shape profile variables t a h =
     let known = no_fault (is_some (mode_of profile t)) Form (none_first (unless (is_some (mode_of profile t)) Form) (section_faults shape variables a) h) in
     record {
       faultless = none_second (unless (is_some (mode_of profile t)) Form) (section_faults shape variables a) h;
       section_is = refl;
-      fold_is = mode_operation profile w t named known;
+      fold_is = mode_operation profile t known;
     }
 
-pub three_folds : (shape : Arrays) (profile : Profile) (w : Data) (variables : Bindings) (t op a : Data) → profile_of w ≡ Some profile
+pub three_folds : (shape : Arrays) (profile : Profile) (variables : Bindings) (t op a : Data)
     → clause_faults shape profile variables (array (item t (item op (item a no_items)))) ≡ []
     → FoldsBy shape profile variables (array (item t (item op (item a no_items)))) a (fold_of op)
-three_folds shape profile w variables t op a named =
-    by_profile (λ (it : Profile). clause_faults shape it variables (array (item t (item op (item a no_items)))) ≡ []
-    → FoldsBy shape it variables (array (item t (item op (item a no_items)))) a (fold_of op))
-    (is_word w (codes "program")) (is_word w (codes "program2")) _ _ profile named (λ h. absurd cc)
-    (λ h.
-    let known = no_fault (is_some (red_by t op)) Form (none_first (unless (is_some (red_by t op)) Form) (section_faults shape variables a) h) in
+three_folds shape profile variables t op a h =
+    let none : unless (is_some (red_by t op)) Form ++ section_faults shape variables a ≡ [] = grind arith in
+    let section_is : (clause shape profile variables (array (item t (item op (item a no_items))))).section ≡ section shape variables a = grind arith in
+    let mode_is : (clause shape profile variables (array (item t (item op (item a no_items))))).mode ≡ unwrap_or (red_by t op) Reads = grind arith in
+    let known = no_fault (is_some (red_by t op)) Form (none_first (unless (is_some (red_by t op)) Form) (section_faults shape variables a) none) in
     record {
-      faultless = none_second (unless (is_some (red_by t op)) Form) (section_faults shape variables a) h;
-      section_is = refl;
-      fold_is = red_operation (is_word t (codes "red")) (fold_of op) known;
-    })
+      faultless = none_second (unless (is_some (red_by t op)) Form) (section_faults shape variables a) none;
+      section_is = section_is;
+      fold_is = ap operation_in mode_is ∙ red_operation (is_word t (codes "red")) (fold_of op) known;
+    }
 
 pub two_items : (vs : List Value) (a b : Value) → length vs ≡ 2 → a ≡ get_or vs 0 a → b ≡ get_or vs 1 b
     → array (items_view vs) ≡ array (item (view a) (item (view b) no_items))
@@ -183,26 +160,15 @@ three_items (x ∷ y ∷ z ∷ []) a b c three p q r = rw (sym p, sym q, sym r) 
 three_items _ a b c three p q r = absurd (omega arith)
 
 -- a clause has two items or three, and a section three
-pub clause_wrong : (shape : Arrays) (profile : Profile) (w : Data) (variables : Bindings) (vs : List Value) → profile_of w ≡ Some profile → length vs ≢ 2 → length vs ≢ 3
+pub clause_wrong : (shape : Arrays) (profile : Profile) (variables : Bindings) (vs : List Value) → length vs ≢ 2 → length vs ≢ 3
     → clause_faults shape profile variables (array (items_view vs)) ≡ [] → ⊥
-clause_wrong shape profile w variables [] named two three h =
-    by_profile (λ (it : Profile). clause_faults shape it variables (array no_items) ≡ [] → ⊥)
-    (is_word w (codes "program")) (is_word w (codes "program2")) _ _ profile named (λ k. absurd cc) (λ k. absurd cc) h
-clause_wrong shape profile w variables (a ∷ []) named two three h =
-    by_profile (λ (it : Profile). clause_faults shape it variables (array (item (view a) no_items)) ≡ [] → ⊥)
-    (is_word w (codes "program")) (is_word w (codes "program2")) _ _ profile named (λ k. absurd cc) (λ k. absurd cc) h
-clause_wrong shape profile w variables (a ∷ b ∷ []) named two three h = absurd (two refl)
-clause_wrong shape profile w variables (a ∷ b ∷ c ∷ []) named two three h = absurd (three refl)
-clause_wrong shape profile w variables (a ∷ b ∷ c ∷ d ∷ vs) named two three h =
-    by_profile (λ (it : Profile). clause_faults shape it variables (array (item (view a) (item (view b) (item (view c) (item (view d) (items_view vs)))))) ≡ [] → ⊥)
-    (is_word w (codes "program")) (is_word w (codes "program2")) _ _ profile named (λ k. absurd cc) (λ k. absurd cc) h
+clause_wrong shape profile variables (a ∷ b ∷ []) two three h = absurd (two refl)
+clause_wrong shape profile variables (a ∷ b ∷ c ∷ []) two three h = absurd (three refl)
+clause_wrong shape profile variables _ two three h = grind arith
 
 pub section_wrong : (shape : Arrays) (variables : Bindings) (vs : List Value) → length vs ≢ 3 → section_faults shape variables (array (items_view vs)) ≡ [] → ⊥
-section_wrong shape variables [] three h = absurd cc
-section_wrong shape variables (a ∷ []) three h = absurd cc
-section_wrong shape variables (a ∷ b ∷ []) three h = absurd cc
 section_wrong shape variables (a ∷ b ∷ c ∷ []) three h = absurd (three refl)
-section_wrong shape variables (a ∷ b ∷ c ∷ d ∷ vs) three h = absurd cc
+section_wrong shape variables _ three h = absurd cc
 
 -- ---- the row of a clause
 

@@ -1,7 +1,8 @@
 -- What stands in a list.
-use Rattle.std.proofs.Common.{◌≡◌, zero, suc, Bool, true, false, ◌&&◌, ◌||◌, List, [], ◌∷◌, ◌++◌, map, refl, sym, ap, subst, inl, inr, arith}
+use Rattle.std.proofs.Common.{◌≡◌, zero, suc, Bool, true, List, [], ◌∷◌, ◌++◌, map, refl, sym, ap, subst, inl, inr, arith}
 use Rattle.std.specs.Prelude.{◌⊎◌, All}
 use Rattle.std.specs.List.{list_any}
+use Rattle.std.proofs.lemmas.Bool.{or_cases, or_left, or_right}
 use Rattle.std.specs.List.Sorted.{IsPermutation}
 use Rattle.std.proofs.lemmas.List.Sorted.{All-permutation}
 
@@ -39,25 +40,10 @@ map_in f y (x ∷ xs) (inr h) = let r = map_in f y xs h in (r.0, (inr r.1.0, r.1
 
 -- ---- tests
 
-pub or_either : (a b : Bool) → a || b ≡ true → (a ≡ true) ⊎ (b ≡ true)
-or_either true b h = inl refl
-or_either false b h = inr h
-
-pub or_left : (a b : Bool) → a ≡ true → a || b ≡ true
-or_left a b h = rw h refl
-
-pub or_right : (a b : Bool) → b ≡ true → a || b ≡ true
-or_right true b h = refl
-or_right false b h = h
-
-pub and_both : (a b : Bool) → a && b ≡ true → (a ≡ true) × (b ≡ true)
-and_both true b h = (refl, h)
-and_both false b h = absurd cc
-
 pub any_in : {A : Type 0} (p : A → Bool) (xs : List A) → list_any p xs ≡ true → (x : A) × (In x xs × (p x ≡ true))
 any_in p [] h = absurd cc
 any_in p (x ∷ xs) h =
-    elim (or_either (p x) (list_any p xs) h) [
+    elim (or_cases (p x) (list_any p xs) h) [
       | inl k ↦ (x, (inl refl, k))
       | inr k ↦ let r = any_in p xs k in (r.0, (inr r.1.0, r.1.1))
     ]
@@ -66,10 +52,6 @@ pub in_any : {A : Type 0} (p : A → Bool) (x : A) (xs : List A) → In x xs →
 in_any p x [] h k = absurd h
 in_any p x (y ∷ ys) (inl e) k = or_left (p y) (list_any p ys) (subst (λ z. p z ≡ true) e k)
 in_any p x (y ∷ ys) (inr h) k = or_right (p y) (list_any p ys) (in_any p x ys h k)
-
-pub not_true : (b : Bool) → (b ≡ true → ⊥) → b ≡ false
-not_true true h = absurd (h refl)
-not_true false h = refl
 
 -- ---- all of them
 

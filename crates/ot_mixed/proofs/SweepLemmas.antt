@@ -1,7 +1,7 @@
 -- Along the row of cells, the first clause that folds otherwise than one that it shares a cell with begins at the first mixed cell.
 use Rattle.std.proofs.Common.{◌≡◌, ℕ, ◌<◌, ◌≤◌, Bool, true, false, cond, ◌&&◌, List, [], ◌∷◌, ◌++◌, Option, Some, None, refl, sym, ap, subst, ◌∙◌, inl, inr, append-nil, append_assoc, arith}
 use Rattle.std.specs.Prelude.{nat_lt, not}
-use Rattle.std.proofs.lemmas.Bool.{lt-ltb, ltb-true, cases_lt}
+use Rattle.std.proofs.lemmas.Bool.{lt-ltb, ltb-true, and_parts, not-true, not-false, ltb-false}
 use Rattle.ot_model.specs.declared.fold.Fold.{Fold}
 use Rattle.ot_model.proofs.EqualLemmas.{fold-decides}
 use Rattle.ot_mixed.specs.Rows.{Row, same_operation, sweep}
@@ -102,17 +102,8 @@ clear_before seen rest r clear later x below p q p_in q_in p_over q_over =
 
 -- ---- one row after the other
 
-both : (a s : Bool) → a && not s ≡ true → (a ≡ true) × (s ≡ false)
-both true true h = absurd cc
-both true false h = (refl, refl)
-both false s h = absurd cc
-
 same_where : (r : Row) (reach : ℕ) (fold : Option Fold) → nat_lt r.from reach && not (same_operation r.fold fold) ≡ false → r.from < reach → r.fold ≡ fold
-same_where r reach fold h below = operation_is r.fold fold (by (same_operation r.fold fold) (rw (lt-ltb r.from reach below) at h))
-  where
-    by : (s : Bool) → true && not s ≡ false → s ≡ true
-    by true h = refl
-    by false h = absurd cc
+same_where r reach fold h below = operation_is r.fold fold (not-false (same_operation r.fold fold) (rw (lt-ltb r.from reach below) at h))
 
 met : (seen rest : List Row) (reach : ℕ) (fold : Option Fold) (r : Row) → Seen seen reach fold → ((q : Row) → In q seen → q.from ≤ r.from)
     → ((q : Row) → In q rest → r.from ≤ q.from) → nat_lt r.from reach ≡ true → same_operation r.fold fold ≡ false → IsFirst (seen ++ r ∷ rest) r
@@ -136,8 +127,8 @@ step : (seen rest : List Row) (reach : ℕ) (fold : Option Fold) (r : Row) → S
     → (a b : Bool) → nat_lt r.from reach && not (same_operation r.fold fold) ≡ a → nat_lt reach r.to ≡ b
     → Outcome (seen ++ r ∷ rest) (cond a (Some r) (cond b (sweep r.to r.fold rest) (sweep reach fold rest)))
 step seen rest reach fold r s earlier later on true b is far =
-    let t = both (nat_lt r.from reach) (same_operation r.fold fold) is in
-    met seen rest reach fold r s earlier later t.0 t.1
+    let t = and_parts (nat_lt r.from reach) (not (same_operation r.fold fold)) is in
+    met seen rest reach fold r s earlier later t.0 (not-true (same_operation r.fold fold) t.1)
 step seen rest reach fold r s earlier later on false true is far =
     let more : reach < r.to = ltb-true reach r.to far in
     on r.to r.fold (record {
@@ -148,12 +139,9 @@ step seen rest reach fold r s earlier later on false true is far =
 step seen rest reach fold r s earlier later on false false is far =
     on reach fold (record {
       clear = λ x. clear_more seen r x (s.clear x) (agrees seen reach fold r s earlier (same_where r reach fold is) x);
-      ends = ends_more seen r reach s.ends (not_below reach r.to far);
+      ends = ends_more seen r reach s.ends (ltb-false reach r.to far);
       holds = λ some. let h = s.holds some in (h.0, (in_left h.0 seen (r ∷ []) h.1.0, h.1.1));
     })
-  where
-    not_below : (a b : ℕ) → nat_lt a b ≡ false → b ≤ a
-    not_below a b h = elim (cases_lt a b) [ inl lt ↦ absurd (let e : true ≡ false = sym (lt-ltb a b lt) ∙ h in cc) | inr ge ↦ ge ]
 
 earlier_more : (seen rest : List Row) (r : Row) → ((q p : Row) → In q seen → In p (r ∷ rest) → q.from ≤ p.from) → ((p : Row) → In p rest → r.from ≤ p.from)
     → (q p : Row) → In q (seen ++ r ∷ []) → In p rest → q.from ≤ p.from

@@ -1,6 +1,6 @@
 //! A clause, by where its section stands in one row of all cells.
 ghost use Rattle.std.specs.Prelude.{◌≡◌, [], ◌||◌, if◌then◌else◌, length, Some, None, option_map, codes};
-ghost use Rattle.serde_json.specs.Data.{Data, array, no_items, item};
+ghost use Rattle.serde_json.specs.Data.{array, no_items, item};
 ghost use Rattle.serde_json.specs.View.{view, items_view};
 ghost use Rattle.ot_model.specs.Shapes.{Arrays};
 ghost use Rattle.ot_model.specs.ShapeView.{arrays_of};
@@ -8,7 +8,6 @@ ghost use Rattle.ot_model.specs.declared.fold.Fold.TheVariants.{Plus};
 ghost use Rattle.ot_program.specs.Faults.{section_faults, clause_faults};
 ghost use Rattle.ot_program.specs.Meanings.{section, clause, fold_of};
 ghost use Rattle.ot_program.specs.Names.{is_word};
-ghost use Rattle.ot_program.specs.Profiles.{profile_of};
 ghost use Rattle.ot_place.specs.Seeking.{bindings_of};
 ghost use Rattle.ot_place.specs.Texts.{Profile};
 ghost use Rattle.ot_mixed.specs.Rows.{row_at, row_of, row_by, Fits, place_from};
@@ -37,11 +36,9 @@ pub(crate) fn clause_of<'a>(
     part: &'a Value,
     trail: &Trail<'_, 'a>,
 ) -> Option<Named<'a>>
-    ensures row { (shape : Arrays) (profile : Profile) (word : Data) → shape.arrays ≡ arrays_of arrays.now → profile_of word ≡ Some profile
-        → clause_faults shape profile (bindings_of trail.now) (view part.now) ≡ []
+    ensures row { (shape : Arrays) (profile : Profile) → shape.arrays ≡ arrays_of arrays.now → clause_faults shape profile (bindings_of trail.now) (view part.now) ≡ []
         → option_map row_by result ≡ Some (row_of shape (clause shape profile (bindings_of trail.now) (view part.now))) }
-    ensures fits { (shape : Arrays) (profile : Profile) (word : Data) → shape.arrays ≡ arrays_of arrays.now → profile_of word ≡ Some profile
-        → clause_faults shape profile (bindings_of trail.now) (view part.now) ≡ []
+    ensures fits { (shape : Arrays) (profile : Profile) → shape.arrays ≡ arrays_of arrays.now → clause_faults shape profile (bindings_of trail.now) (view part.now) ≡ []
         → Fits (clause shape profile (bindings_of trail.now) (view part.now)).section }
 {
     match part {
@@ -55,11 +52,9 @@ fn clause_of_items<'a>(
     items: &'a [Value],
     trail: &Trail<'_, 'a>,
 ) -> Option<Named<'a>>
-    ensures row { (shape : Arrays) (profile : Profile) (word : Data) → shape.arrays ≡ arrays_of arrays.now → profile_of word ≡ Some profile
-        → clause_faults shape profile (bindings_of trail.now) (array (items_view items.now)) ≡ []
+    ensures row { (shape : Arrays) (profile : Profile) → shape.arrays ≡ arrays_of arrays.now → clause_faults shape profile (bindings_of trail.now) (array (items_view items.now)) ≡ []
         → option_map row_by result ≡ Some (row_of shape (clause shape profile (bindings_of trail.now) (array (items_view items.now)))) }
-    ensures fits { (shape : Arrays) (profile : Profile) (word : Data) → shape.arrays ≡ arrays_of arrays.now → profile_of word ≡ Some profile
-        → clause_faults shape profile (bindings_of trail.now) (array (items_view items.now)) ≡ []
+    ensures fits { (shape : Arrays) (profile : Profile) → shape.arrays ≡ arrays_of arrays.now → clause_faults shape profile (bindings_of trail.now) (array (items_view items.now)) ≡ []
         → Fits (clause shape profile (bindings_of trail.now) (array (items_view items.now))).section }
 {
     if items.len() == 2 {
@@ -77,11 +72,9 @@ fn clause_of_two<'a>(
     trail: &Trail<'_, 'a>,
 ) -> Option<Named<'a>>
     requires { length items.now ≡ 2 }
-    ensures row { (shape : Arrays) (profile : Profile) (word : Data) → shape.arrays ≡ arrays_of arrays.now → profile_of word ≡ Some profile
-        → clause_faults shape profile (bindings_of trail.now) (array (items_view items.now)) ≡ []
+    ensures row { (shape : Arrays) (profile : Profile) → shape.arrays ≡ arrays_of arrays.now → clause_faults shape profile (bindings_of trail.now) (array (items_view items.now)) ≡ []
         → option_map row_by result ≡ Some (row_of shape (clause shape profile (bindings_of trail.now) (array (items_view items.now)))) }
-    ensures fits { (shape : Arrays) (profile : Profile) (word : Data) → shape.arrays ≡ arrays_of arrays.now → profile_of word ≡ Some profile
-        → clause_faults shape profile (bindings_of trail.now) (array (items_view items.now)) ≡ []
+    ensures fits { (shape : Arrays) (profile : Profile) → shape.arrays ≡ arrays_of arrays.now → clause_faults shape profile (bindings_of trail.now) (array (items_view items.now)) ≡ []
         → Fits (clause shape profile (bindings_of trail.now) (array (items_view items.now))).section }
 {
     match items {
@@ -96,11 +89,9 @@ fn clause_of_three<'a>(
     trail: &Trail<'_, 'a>,
 ) -> Option<Named<'a>>
     requires { length items.now ≡ 3 }
-    ensures row { (shape : Arrays) (profile : Profile) (word : Data) → shape.arrays ≡ arrays_of arrays.now → profile_of word ≡ Some profile
-        → clause_faults shape profile (bindings_of trail.now) (array (items_view items.now)) ≡ []
+    ensures row { (shape : Arrays) (profile : Profile) → shape.arrays ≡ arrays_of arrays.now → clause_faults shape profile (bindings_of trail.now) (array (items_view items.now)) ≡ []
         → option_map row_by result ≡ Some (row_of shape (clause shape profile (bindings_of trail.now) (array (items_view items.now)))) }
-    ensures fits { (shape : Arrays) (profile : Profile) (word : Data) → shape.arrays ≡ arrays_of arrays.now → profile_of word ≡ Some profile
-        → clause_faults shape profile (bindings_of trail.now) (array (items_view items.now)) ≡ []
+    ensures fits { (shape : Arrays) (profile : Profile) → shape.arrays ≡ arrays_of arrays.now → clause_faults shape profile (bindings_of trail.now) (array (items_view items.now)) ≡ []
         → Fits (clause shape profile (bindings_of trail.now) (array (items_view items.now))).section }
 {
     match items {

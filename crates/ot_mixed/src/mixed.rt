@@ -44,8 +44,7 @@ fn mixed_among<'a>(
     items: &'a [Value],
     trail: &Trail<'_, 'a>,
 ) -> Result<Option<(&'a str, u32)>, AllocError>
-    ensures { (shape : Arrays) (profile : Profile) (word : Data) → shape.arrays ≡ arrays_of arrays.now → profile_of word ≡ Some profile
-        → faults_of shape profile (bindings_of trail.now) (array (items_view items.now)) ≡ []
+    ensures { (shape : Arrays) (profile : Profile) → shape.arrays ≡ arrays_of arrays.now → faults_of shape profile (bindings_of trail.now) (array (items_view items.now)) ≡ []
         → IfOk result (λ found. option_map named_by found ≡ mixed_of shape profile (bindings_of trail.now) (array (items_view items.now))) }
 {
     let mut named = each_clause(alloc, arrays, items, trail)?;
@@ -62,11 +61,9 @@ fn each_clause<'a>(
     items: &'a [Value],
     trail: &Trail<'_, 'a>,
 ) -> Result<Vec<Named<'a>>, AllocError>
-    ensures rows { (shape : Arrays) (profile : Profile) (word : Data) → shape.arrays ≡ arrays_of arrays.now → profile_of word ≡ Some profile
-        → flat_map (clause_faults shape profile (bindings_of trail.now)) (each (items_view items.now)) ≡ []
+    ensures rows { (shape : Arrays) (profile : Profile) → shape.arrays ≡ arrays_of arrays.now → flat_map (clause_faults shape profile (bindings_of trail.now)) (each (items_view items.now)) ≡ []
         → IfOk result (λ v. map row_by v.items ≡ map (λ d. row_of shape (clause shape profile (bindings_of trail.now) d)) (each (items_view items.now))) }
-    ensures fits { (shape : Arrays) (profile : Profile) (word : Data) → shape.arrays ≡ arrays_of arrays.now → profile_of word ≡ Some profile
-        → flat_map (clause_faults shape profile (bindings_of trail.now)) (each (items_view items.now)) ≡ []
+    ensures fits { (shape : Arrays) (profile : Profile) → shape.arrays ≡ arrays_of arrays.now → flat_map (clause_faults shape profile (bindings_of trail.now)) (each (items_view items.now)) ≡ []
         → IfOk result (λ v. AllByRecursion (λ d. Fits (clause shape profile (bindings_of trail.now) d).section) (each (items_view items.now))) }
 {
     let mut named = Vec::new(alloc);

@@ -1,11 +1,11 @@
 -- A run of sim over the lines that were heard.
-use Rattle.std.proofs.Common.{◌≡◌, ◌≢◌, ℕ, ◌+◌, ◌<◌, ◌≤◌, List, [], ◌∷◌, ◌++◌, length, append_assoc, append-nil, refl, sym, ap, ◌∙◌, subst, arith}
-use Rattle.std.specs.Prelude.{All, Option, Result, Ok, Err, OnOk, ⊤}
-use Rattle.std.specs.Io.KnownBytes.{Appends, Consumes, IsAtEnd}
-use Rattle.std.proofs.KnownBytes.{Appends-nil, Appends-trans, Consumes-nil}
+use Rattle.std.proofs.Common.{◌≡◌, ◌≢◌, ℕ, ◌+◌, List, [], ◌∷◌, ◌++◌, append_assoc, append-nil, refl, sym, ap, ◌∙◌, subst, arith}
+use Rattle.std.specs.Prelude.{Option, Result, Ok, Err, OnOk, ⊤}
+use Rattle.std.specs.Io.KnownBytes.{Appends, IsAtEnd}
+use Rattle.std.proofs.KnownBytes.{Appends-nil, Appends-trans}
 use Rattle.ot_lines.specs.Counts.{Flow, next_count, count_after}
-use Rattle.ot_lines.specs.Lines.{Hearing, HasNoEnd, opened, Passes, IsIdle}
-use Rattle.ot_lines.specs.Listening.{ended, Went, Through, Ends, Listens, Stops as StopsAt, IsLine as IsOneLine}
+use Rattle.ot_lines.specs.Lines.{Hearing, HasNoEnd, opened, IsIdle}
+use Rattle.ot_lines.specs.Listening.{ended, Went, Through, Ends, Listens, Stops as StopsAt}
 use Rattle.ot_lines.specs.declared.lines.LineFault.{LineFault}
 use Rattle.ot_lines.specs.declared.lines.LineFault.TheVariants as lines
 use Rattle.ot_lines.specs.declared.listener.Ended.{Ended}
@@ -16,8 +16,8 @@ use Rattle.ot_sim.specs.declared.fault.Untold.{Untold}
 use Rattle.ot_sim.specs.declared.fault.Untold.TheVariants as untold
 use Rattle.ot_sim.specs.declared.fault.SimFault.{SimFault}
 use Rattle.ot_sim.specs.declared.fault.SimFault.TheVariants as fault
-use Rattle.ot_sim.specs.Playing.{PlaysLine, empty_play}
-use Rattle.ot_sim.specs.Talk.{max_line, IsLine, PlaysAll, Talks, TalksAll, StopsAtLong, TalksBy, TalksOver}
+use Rattle.ot_sim.specs.Playing.{empty_play}
+use Rattle.ot_sim.specs.Talk.{PlaysAll, Talks, TalksAll, StopsAtLong, TalksBy, TalksOver}
 use Rattle.ot_sim.specs.Running.{untold_fault, untold_writes, sim_bounds, TakesLine, IsRun}
 
 -- ---- what is told
@@ -31,20 +31,12 @@ write_failures (Err fault.WriteFailed) = 1
 write_failures result = 0
 
 no_read_failed : (r : Result ⊤ SimFault) → r ≢ Err fault.ReadFailed → read_failures r ≡ 0
-no_read_failed (Ok done) other = refl
 no_read_failed (Err fault.ReadFailed) other = absurd (other refl)
-no_read_failed (Err fault.WriteFailed) other = refl
-no_read_failed (Err fault.Memory) other = refl
-no_read_failed (Err fault.LongLine) other = refl
-no_read_failed (Err fault.TooManyTurns) other = refl
+no_read_failed result other = refl
 
 no_write_failed : (r : Result ⊤ SimFault) → r ≢ Err fault.WriteFailed → write_failures r ≡ 0
-no_write_failed (Ok done) other = refl
-no_write_failed (Err fault.ReadFailed) other = refl
 no_write_failed (Err fault.WriteFailed) other = absurd (other refl)
-no_write_failed (Err fault.Memory) other = refl
-no_write_failed (Err fault.LongLine) other = refl
-no_write_failed (Err fault.TooManyTurns) other = refl
+no_write_failed result other = refl
 
 run : {f h : Flow} {start held : Option (List ℕ)} {result : Result ⊤ SimFault} (before later reads left : ℕ) → TalksOver f.ahead h.ahead start held result → reads + left ≡ 1000000 →
     h.reads ≡ count_after reads f.reads → (result ≡ Err fault.TooManyTurns → left ≡ 0) → OnOk result (IsAtEnd h.ahead) → OnOk result (h.ends ≡ next_count f.ends) →
@@ -117,71 +109,53 @@ module _ {A : Type 0} (contents : A → Option (List ℕ)) (failures : A → ℕ
             (ap (λ ahead. to.line ++ ahead) idle.none ∙ append-nil to.line) (talks to.ahead t);
       }
 
-  reads : {to : Hearing} {f h : Flow} {bytes : List ℕ} {n m : ℕ} → Passes (opened sim_bounds) f to h bytes n m → Consumes f.ahead h.ahead (bytes ++ to.ahead)
-  reads {to} {f} {h} {bytes} p = consumed f.ahead h.ahead to.ahead bytes p.heard
+  over : {to : Hearing} {f h : Flow} {new : Play} {a b : A} {rest : List ℕ} {n m : ℕ} (held : Option (List ℕ)) (result : Result ⊤ SimFault) (t : Through Took (opened sim_bounds) f empty_play a to h new b rest n m) →
+      TalksBy ((ended t.lines ++ rest) ++ to.ahead) (contents a) held result → TalksOver f.ahead h.ahead (contents a) held result
+  over {to} {f} {h} {rest = rest} held result t talks = record {
+    bytes = (ended t.lines ++ rest) ++ to.ahead;
+    reads = consumed f.ahead h.ahead to.ahead (ended t.lines ++ rest) t.passes.heard;
+    talks = talks;
+  }
 
   -- ---- by how it was listened to
 
   -- lines that are listened to from the start
-  begun : (from to : Hearing) (f h : Flow) (first new : Play) (a b : A) (result : Result (Ended Untold) LineFault) → from ≡ opened sim_bounds → first ≡ empty_play →
-      Listens Took from f first a to h new b result → Listens Took (opened sim_bounds) f empty_play a to h new b result
-  begun from to f h first new a b result begins nobody l =
-      subst (λ p. Listens Took (opened sim_bounds) f p a to h new b result) nobody (subst (λ x. Listens Took x f first a to h new b result) begins l)
+  begun : (from to : Hearing) (f h : Flow) (first new : Play) (a b : A) (told is : Result (Ended Untold) LineFault) → told ≡ is → from ≡ opened sim_bounds → first ≡ empty_play →
+      Listens Took from f first a to h new b told → Listens Took (opened sim_bounds) f empty_play a to h new b is
+  begun from to f h first new a b told is same begins nobody l =
+      subst (λ r. Listens Took (opened sim_bounds) f empty_play a to h new b r) same
+      (subst (λ p. Listens Took (opened sim_bounds) f p a to h new b told) nobody (subst (λ x. Listens Took x f first a to h new b told) begins l))
 
-  stop_writes : (why : Untold) → untold_writes (Err why) ≡ write_failures (Err (untold_fault why))
-  stop_writes untold.WriteFailed = refl
-  stop_writes untold.Memory = refl
-
-  stop_reads : (why : Untold) → read_failures (Err (untold_fault why)) ≡ 0
-  stop_reads untold.WriteFailed = refl
-  stop_reads untold.Memory = refl
-
-  no_turns : (why : Untold) (r : Result ⊤ SimFault) → r ≡ Err (untold_fault why) → r ≢ Err fault.TooManyTurns
-  no_turns untold.WriteFailed r is same = cc
-  no_turns untold.Memory r is same = cc
-
-  stop_talks : (bytes : List ℕ) (start held : Option (List ℕ)) (why : Untold) → TalksBy bytes start held (Err (untold_fault why))
-  stop_talks bytes start held untold.WriteFailed = tt
-  stop_talks bytes start held untold.Memory = tt
+  what_stops : (why : Untold) → (untold_writes (Err why) ≡ write_failures (Err (untold_fault why))) × (read_failures (Err (untold_fault why)) ≡ 0) × (untold_fault why ≢ fault.TooManyTurns)
+      × ((bytes : List ℕ) (start held : Option (List ℕ)) → TalksBy bytes start held (Err (untold_fault why)))
+  what_stops untold.WriteFailed = (refl, refl, (λ is. cc), (λ bytes start held. tt))
+  what_stops untold.Memory = (refl, refl, (λ is. cc), (λ bytes start held. tt))
 
   pub by_stop : (from to : Hearing) (f h : Flow) (first new : Play) (a b : A) (field : Ended Untold) (why : Untold) (told : SimFault) →
       field ≡ ended_as.Stopped why → told ≡ untold_fault why → from ≡ opened sim_bounds → first ≡ empty_play → Listens Took from f first a to h new b (Ok field) →
       IsRun f h (contents a) (contents b) (failures a) (failures b) (Err told)
   by_stop from to f h first new a b field why told is fault_is begins nobody l =
-      let s : StopsAt Took (opened sim_bounds) f empty_play a to h new b why =
-      subst (λ (e : Ended Untold). Listens Took (opened sim_bounds) f empty_play a to h new b (Ok e)) is (begun from to f h first new a b (Ok field) begins nobody l) in
+      let s : StopsAt Took (opened sim_bounds) f empty_play a to h new b why = begun from to f h first new a b (Ok field) (Ok (ended_as.Stopped why)) (ap Ok is) begins nobody l in
       let t = s.through in
-      let bytes = (ended t.lines ++ (to.line ++ 10 ∷ [])) ++ to.ahead in
-      let over : TalksOver f.ahead h.ahead (contents a) (contents b) (Err (untold_fault why)) = record {
-        bytes = bytes;
-        reads = reads t.passes;
-        talks = stop_talks bytes (contents a) (contents b) why;
-      } in
       subst (λ e. IsRun f h (contents a) (contents b) (failures a) (failures b) (Err e)) (sym fault_is)
-      (run {result = Err (untold_fault why)} (failures a) (failures b) t.passes.reads to.left over t.passes.left t.passes.counted (λ same. absurd (no_turns why (Err (untold_fault why)) refl same)) tt tt
-      (t.passes.failed ∙ ap (λ n. count_after n f.failures) (sym (stop_reads why)))
-      (s.last.failures ∙ ap (λ n. count_after n (failures s.more)) (stop_writes why) ∙ ap (count_after (write_failures (Err (untold_fault why)))) (worked t)))
+      (run (failures a) (failures b) t.passes.reads to.left (over (contents b) (Err (untold_fault why)) t ((what_stops why).3 _ (contents a) (contents b))) t.passes.left t.passes.counted
+      (λ same. absurd ((what_stops why).2 (cc))) tt tt
+      (t.passes.failed ∙ ap (λ n. count_after n f.failures) (sym (what_stops why).1))
+      (s.last.failures ∙ ap (λ n. count_after n (failures s.more)) (what_stops why).0 ∙ ap (count_after (write_failures (Err (untold_fault why)))) (worked t)))
 
   pub by_end : (from to : Hearing) (f h : Flow) (first new : Play) (a b : A) (field : Ended Untold) →
       field ≡ ended_as.End → from ≡ opened sim_bounds → first ≡ empty_play → Listens Took from f first a to h new b (Ok field) →
       IsRun f h (contents a) (contents b) (failures a) (failures b) (Ok tt)
   by_end from to f h first new a b field is begins nobody l =
-      let s : Ends Took (opened sim_bounds) f empty_play a to h new b (Ok ended_as.End) =
-      subst (λ (e : Ended Untold). Listens Took (opened sim_bounds) f empty_play a to h new b (Ok e)) is (begun from to f h first new a b (Ok field) begins nobody l) in
+      let s : Ends Took (opened sim_bounds) f empty_play a to h new b (Ok ended_as.End) = begun from to f h first new a b (Ok field) (Ok ended_as.End) (ap Ok is) begins nobody l in
       let t = s.through in
-      let over : TalksOver f.ahead h.ahead (contents a) (contents b) (Ok tt) = record {
-        bytes = (ended t.lines ++ to.line) ++ to.ahead;
-        reads = reads t.passes;
-        talks = talks_all t s.clean s.is.0;
-      } in
-      run {result = Ok tt} (failures a) (failures b) t.passes.reads to.left over t.passes.left t.passes.counted (λ same. absurd (cc)) s.is.1 t.passes.ended t.passes.failed (worked t)
+      run (failures a) (failures b) t.passes.reads to.left (over (contents b) (Ok tt) t (talks_all t s.clean s.is.0)) t.passes.left t.passes.counted (λ same. absurd (cc)) s.is.1 t.passes.ended t.passes.failed (worked t)
 
   pub by_long : (from to : Hearing) (f h : Flow) (first new : Play) (a b : A) (field : Ended Untold) →
       field ≡ ended_as.Long → from ≡ opened sim_bounds → first ≡ empty_play → Listens Took from f first a to h new b (Ok field) →
       IsRun f h (contents a) (contents b) (failures a) (failures b) (Err fault.LongLine)
   by_long from to f h first new a b field is begins nobody l =
-      let s : Ends Took (opened sim_bounds) f empty_play a to h new b (Ok ended_as.Long) =
-      subst (λ (e : Ended Untold). Listens Took (opened sim_bounds) f empty_play a to h new b (Ok e)) is (begun from to f h first new a b (Ok field) begins nobody l) in
+      let s : Ends Took (opened sim_bounds) f empty_play a to h new b (Ok ended_as.Long) = begun from to f h first new a b (Ok field) (Ok ended_as.Long) (ap Ok is) begins nobody l in
       let t = s.through in
       let top : to.longest ≡ 65600 = t.passes.longest in
       let stops : StopsAtLong ((ended t.lines ++ to.line) ++ to.ahead) (contents a) (contents b) = record {
@@ -192,37 +166,20 @@ module _ {A : Type 0} (contents : A → Option (List ℕ)) (failures : A → ℕ
         play = new;
         talks = talks to.ahead t;
       } in
-      let over : TalksOver f.ahead h.ahead (contents a) (contents b) (Err fault.LongLine) = record {
-        bytes = (ended t.lines ++ to.line) ++ to.ahead;
-        reads = reads t.passes;
-        talks = stops;
-      } in
-      run {result = Err fault.LongLine} (failures a) (failures b) t.passes.reads to.left over t.passes.left t.passes.counted (λ same. absurd (cc)) tt tt t.passes.failed (worked t)
+      run (failures a) (failures b) t.passes.reads to.left (over (contents b) (Err fault.LongLine) t stops) t.passes.left t.passes.counted (λ same. absurd (cc)) tt tt t.passes.failed (worked t)
 
   pub by_read_failed : (from to : Hearing) (f h : Flow) (first new : Play) (a b : A) (field : LineFault) →
       field ≡ lines.ReadFailed → from ≡ opened sim_bounds → first ≡ empty_play → Listens Took from f first a to h new b (Err field) →
       IsRun f h (contents a) (contents b) (failures a) (failures b) (Err fault.ReadFailed)
   by_read_failed from to f h first new a b field is begins nobody l =
-      let s : Ends Took (opened sim_bounds) f empty_play a to h new b (Err lines.ReadFailed) =
-      subst (λ (e : LineFault). Listens Took (opened sim_bounds) f empty_play a to h new b (Err e)) is (begun from to f h first new a b (Err field) begins nobody l) in
+      let s : Ends Took (opened sim_bounds) f empty_play a to h new b (Err lines.ReadFailed) = begun from to f h first new a b (Err field) (Err lines.ReadFailed) (ap Err is) begins nobody l in
       let t = s.through in
-      let over : TalksOver f.ahead h.ahead (contents a) (contents b) (Err fault.ReadFailed) = record {
-        bytes = (ended t.lines ++ to.line) ++ to.ahead;
-        reads = reads t.passes;
-        talks = talks_all t s.clean s.is;
-      } in
-      run {result = Err fault.ReadFailed} (failures a) (failures b) t.passes.reads to.left over t.passes.left t.passes.counted (λ same. absurd (cc)) tt tt t.passes.failed (worked t)
+      run (failures a) (failures b) t.passes.reads to.left (over (contents b) (Err fault.ReadFailed) t (talks_all t s.clean s.is)) t.passes.left t.passes.counted (λ same. absurd (cc)) tt tt t.passes.failed (worked t)
 
   pub by_turns : (from to : Hearing) (f h : Flow) (first new : Play) (a b : A) (field : LineFault) →
       field ≡ lines.TooManyReads → from ≡ opened sim_bounds → first ≡ empty_play → Listens Took from f first a to h new b (Err field) →
       IsRun f h (contents a) (contents b) (failures a) (failures b) (Err fault.TooManyTurns)
   by_turns from to f h first new a b field is begins nobody l =
-      let s : Ends Took (opened sim_bounds) f empty_play a to h new b (Err lines.TooManyReads) =
-      subst (λ (e : LineFault). Listens Took (opened sim_bounds) f empty_play a to h new b (Err e)) is (begun from to f h first new a b (Err field) begins nobody l) in
+      let s : Ends Took (opened sim_bounds) f empty_play a to h new b (Err lines.TooManyReads) = begun from to f h first new a b (Err field) (Err lines.TooManyReads) (ap Err is) begins nobody l in
       let t = s.through in
-      let over : TalksOver f.ahead h.ahead (contents a) (contents b) (Err fault.TooManyTurns) = record {
-        bytes = (ended t.lines ++ to.line) ++ to.ahead;
-        reads = reads t.passes;
-        talks = talks_all t s.clean s.is.0;
-      } in
-      run {result = Err fault.TooManyTurns} (failures a) (failures b) t.passes.reads to.left over t.passes.left t.passes.counted (λ same. s.is.1) tt tt t.passes.failed (worked t)
+      run (failures a) (failures b) t.passes.reads to.left (over (contents b) (Err fault.TooManyTurns) t (talks_all t s.clean s.is.0)) t.passes.left t.passes.counted (λ same. s.is.1) tt tt t.passes.failed (worked t)

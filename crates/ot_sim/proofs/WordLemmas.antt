@@ -3,22 +3,18 @@ use Rattle.std.proofs.Common.{◌≡◌, ℕ, zero, suc, ◌-◌, ◌<◌, ◌�
 use Rattle.std.specs.Prelude.{Some, None, ◌==◌, ◌&&◌, nat_lt, nat_le, slice_index}
 use Rattle.memchr.specs.Find.{Nowhere, Passes, is_byte}
 use Rattle.std.proofs.lemmas.Bool.Decides.{nat_tests}
-use Rattle.std.proofs.lemmas.Bool.{false≢true}
+use Rattle.std.proofs.lemmas.Bool.{false≢true, false_from_ne_true}
 use Rattle.std.proofs.lemmas.Str.{IsUtf8-from_ascii}
 use Rattle.std.specs.Str.{IsAscii, IsUtf8}
 use Rattle.std.specs.List.{list_all}
 use Rattle.ot_program.specs.Names.{is_digit, is_name, is_name_byte, is_letter}
 use Rattle.ot_sim.specs.Words.{word, behind}
 
-not_true : (b : Bool) → ¬ (b ≡ true) → b ≡ false
-not_true true other = absurd (other refl)
-not_true false other = refl
-
 below : (b : ℕ) (bs : List ℕ) (j : ℕ) → Nowhere (Passes (is_byte 32) (b ∷ bs)) 0 (suc j) → Nowhere (Passes (is_byte 32) bs) 0 j
 below b bs j none = λ k low high. none (suc k) (omega arith) (omega (arith, high))
 
 other : (b : ℕ) (bs : List ℕ) (j : ℕ) → Nowhere (Passes (is_byte 32) (b ∷ bs)) 0 (suc j) → (b == 32) ≡ false
-other b bs j none = not_true (b == 32) (none 0 (omega arith) (omega arith))
+other b bs j none = false_from_ne_true (b == 32) (none 0 (omega arith) (omega arith))
 
 -- before the first space, and behind it
 pub word-front : (bytes : List ℕ) (at : ℕ) → at < length bytes → Nowhere (Passes (is_byte 32) bytes) 0 at → Passes (is_byte 32) bytes at → word bytes ≡ take at bytes
@@ -64,4 +60,4 @@ bytes-small (b ∷ bs) all zero = byte-small b (and_left (is_name_byte b) (list_
 bytes-small (b ∷ bs) all (suc i) = bytes-small bs (and_right (is_name_byte b) (list_all is_name_byte bs) all) i
 
 pub other-bytes : (bs : List ℕ) → ¬ (IsUtf8 bs) → is_name bs ≡ false
-other-bytes bs other = not_true (is_name bs) (λ is. other (IsUtf8-from_ascii bs (bytes-small bs (and_right (nat_lt 0 (length bs) && nat_le (length bs) 16 && is_letter (slice_index bs 0)) (list_all is_name_byte bs) is))))
+other-bytes bs other = false_from_ne_true (is_name bs) (λ is. other (IsUtf8-from_ascii bs (bytes-small bs (and_right (nat_lt 0 (length bs) && nat_le (length bs) 16 && is_letter (slice_index bs 0)) (list_all is_name_byte bs) is))))

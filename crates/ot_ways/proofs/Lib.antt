@@ -5,3 +5,4 @@ pub mod FollowLemmas
 pub mod TellLemmas
 pub mod LikeLemmas
 pub mod RunLemmas
+pub mod StraightLemmas

@@ -7,7 +7,9 @@ mod judging;
 pub mod laws;
 mod naming;
 mod reads;
+mod straight;
 mod verdict;
 
 pub use judging::any_way;
+pub use straight::is_straight;
 pub use verdict::{Turn, Verdict};

@@ -1,4 +1,4 @@
-use Rattle.std.proofs.Common.{◌∙◌, sym, inr, true≢false}
+use Rattle.std.proofs.Common.{◌∙◌, sym, inl, inr, true≢false}
 use Rattle.ot_model.specs.View.{stmts_of}
 use Rattle.ot_cjudge.proofs.FindingLemmas.{run_races_not}
 use Rattle.ot_cjudge.proofs.finding.find_in_checked.Goals as goal
@@ -10,7 +10,7 @@ pub returns-then-is_alike : goal.returns-then-is_alike
 returns-then-is_alike c =
     let body = stmts_of c.args.checked.now.program.body.items in (
       run_races_not c.args.order body c.args.cells c.runs_are_ways.ensures c.requires c.checked_races_on_no_way_by.ensures,
-      inr (c.args.checked.now.disciplined, sym c.is_alike.ensures ∙ c.if-is_alike.true),
+      inr (inl (c.args.checked.now.disciplined, sym c.is_alike.ensures ∙ c.if-is_alike.true)),
       c.checked_races_on_no_way_by.ensures,
     )
 

@@ -1,5 +1,5 @@
 use Rattle.ot_model.specs.Cells.{lengths}
 use Rattle.ot_cjudge.proofs.finding.find_in_refused.Goals as goal
 
-pub any_way-requires : goal.any_way-requires
-any_way-requires c = (lengths c.args.cells, c.requires)
+pub find_on_ways-requires : goal.find_on_ways-requires
+find_on_ways-requires c = (lengths c.args.cells, c.requires)

@@ -4,9 +4,9 @@ use Rattle.ot_mixed.proofs.ClauseLemmas.{clause_wrong}
 use Rattle.ot_mixed.proofs.clause.clause_of_items.Goals as goal
 
 pub returns-clause-row : goal.returns-clause-row
-returns-clause-row c shape profile word arrays known none =
-    absurd (clause_wrong shape profile word (bindings_of c.args.trail.now) c.args.items.now known (search rules) (search rules) none)
+returns-clause-row c shape profile arrays none =
+    absurd (clause_wrong shape profile (bindings_of c.args.trail.now) c.args.items.now (search rules) (search rules) none)
 
 pub returns-clause-fits : goal.returns-clause-fits
-returns-clause-fits c shape profile word arrays known none =
-    absurd (clause_wrong shape profile word (bindings_of c.args.trail.now) c.args.items.now known (search rules) (search rules) none)
+returns-clause-fits c shape profile arrays none =
+    absurd (clause_wrong shape profile (bindings_of c.args.trail.now) c.args.items.now (search rules) (search rules) none)

@@ -1,13 +1,11 @@
 use Rattle.std.proofs.Common.{◌≡◌, ◌++◌, [], drop}
-use Rattle.std.specs.Prelude.{map, flat_map, Some}
+use Rattle.std.specs.Prelude.{map, flat_map}
 use Rattle.std.specs.List.{AllByRecursion}
-use Rattle.serde_json.specs.Data.{Data}
 use Rattle.serde_json.specs.View.{items_view}
 use Rattle.ot_model.specs.Shapes.{Arrays}
 use Rattle.ot_model.specs.ShapeView.{arrays_of}
 use Rattle.ot_program.specs.Faults.{clause_faults}
 use Rattle.ot_program.specs.Meanings.{each, clause}
-use Rattle.ot_program.specs.Profiles.{profile_of}
 use Rattle.ot_place.specs.Seeking.{bindings_of}
 use Rattle.ot_place.specs.Texts.{Profile}
 use Rattle.ot_mixed.specs.Rows.{row_of, row_by, Fits}
@@ -17,12 +15,10 @@ use Rattle.ot_mixed.proofs.mixed.each_clause.Given as goal
 abbrev pub invariant-loop-item : goal.invariant-loop-item
 invariant-loop-item l =
     record {
-      rows : (shape : Arrays) (profile : Profile) (word : Data) → shape.arrays ≡ arrays_of l.arrays → profile_of word ≡ Some profile
-          → flat_map (clause_faults shape profile (bindings_of l.trail)) (each (items_view l.items)) ≡ []
+      rows : (shape : Arrays) (profile : Profile) → shape.arrays ≡ arrays_of l.arrays → flat_map (clause_faults shape profile (bindings_of l.trail)) (each (items_view l.items)) ≡ []
           → map row_by l.named.items ++ map (λ d. row_of shape (clause shape profile (bindings_of l.trail) d)) (each (items_view (drop l.item-index l.items)))
           ≡ map (λ d. row_of shape (clause shape profile (bindings_of l.trail) d)) (each (items_view l.items));
-      fits : (shape : Arrays) (profile : Profile) (word : Data) → shape.arrays ≡ arrays_of l.arrays → profile_of word ≡ Some profile
-          → flat_map (clause_faults shape profile (bindings_of l.trail)) (each (items_view l.items)) ≡ []
+      fits : (shape : Arrays) (profile : Profile) → shape.arrays ≡ arrays_of l.arrays → flat_map (clause_faults shape profile (bindings_of l.trail)) (each (items_view l.items)) ≡ []
           → AllByRecursion (λ d. Fits (clause shape profile (bindings_of l.trail) d).section) (each (items_view (drop l.item-index l.items)))
           → AllByRecursion (λ d. Fits (clause shape profile (bindings_of l.trail) d).section) (each (items_view l.items));
     }

@@ -1,4 +1,4 @@
-use Rattle.std.proofs.Common.{arith, ℕ, inl, inr, ap, subst, sym, ◌∙◌}
+use Rattle.std.proofs.Common.{arith, ℕ, inl, inr, subst, sym}
 use Rattle.std.proofs.lemmas.Bool.{cases_eq}
 use Rattle.std.specs.Prelude.{None}
 use Rattle.ot_model.specs.View.{stmts_of}

@@ -1,8 +1,7 @@
 use Rattle.ot_core.specs.FloorView.{floor_of}
-use Rattle.ot_core.proofs.FloorLemmas.{aborts-job}
+use Rattle.ot_core.proofs.FloorLemmas.{job-within, aborts-job}
 use Rattle.std.proofs.Common.{refl}
 use Rattle.std.specs.Prelude.{Some}
-use Rattle.ot_core.proofs.FloorLemmas.{job-within}
 use Rattle.ot_core.proofs.TurnLemmas.{hall-noted}
 use Rattle.ot_core.proofs.hall.Hall.abort.Goals as goal
 

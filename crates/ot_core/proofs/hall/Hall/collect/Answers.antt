@@ -1,15 +1,11 @@
-use Rattle.std.proofs.Common.{◌≡◌, ◌⊎◌, false, refl, sym, ap, ◌∙◌, subst}
+use Rattle.std.proofs.Common.{◌≡◌, ◌⊎◌, refl, sym, ◌∙◌, subst}
 use Rattle.ot_job.specs.declared.state.State.TheVariants.{Working, Failing}
 use Rattle.std.proofs.lemmas.Option.{same_Some}
 use Rattle.ot_job.specs.Live.{Live}
 use Rattle.ot_job.specs.Dealings.{IsOf, NoneOut, IsOver}
 use Rattle.ot_core.specs.FloorView.{floor_of}
 use Rattle.ot_core.proofs.FloorLemmas.{collects-pending, collects-ended, collects-failed}
-use Rattle.std.proofs.lemmas.List.{get_or-set_same}
-use Rattle.std.specs.Prelude.{None}
-use Rattle.ot_core.specs.Index.{job_of, has_claimable}
-use Rattle.ot_core.proofs.FloorLemmas.{job-within}
-use Rattle.ot_core.proofs.TurnLemmas.{hall-noted}
+use Rattle.ot_core.proofs.TurnLemmas.{hall-left}
 use Rattle.ot_core.proofs.hall.Hall.collect.Goals as goal
 
 pub returns-in-Working : goal.returns-in-Working
@@ -34,14 +30,8 @@ returns-in-Failed c =
 
 pub invariant_of-self : goal.invariant_of-self
 invariant_of-self c =
-    let jobs = c.self.inside.jobs in
-    let within = job-within jobs c.args.tenant c.in-Some.job.now (sym c.in-Some.ensures) in
-    hall-noted c.self.inside c.args.tenant None c.take-job.new.self false c.put.new.self c.self.invariant within c.take-job.ensures.left
-    (sym (ap has_claimable (ap (λ js. job_of js c.args.tenant) c.take-job.ensures.left ∙ get_or-set_same jobs c.args.tenant None None within))) c.put.ensures
+    hall-left c.self.inside c.args.tenant c.in-Some.job.now c.take-job.new.self c.put.new.self c.self.invariant (sym c.in-Some.ensures) c.take-job.ensures.left c.put.ensures
 
 pub invariant_of-self-in-Failed : goal.invariant_of-self-in-Failed
 invariant_of-self-in-Failed c =
-    let jobs = c.self.inside.jobs in
-    let within = job-within jobs c.args.tenant c.in-Some.job.now (sym c.in-Some.ensures) in
-    hall-noted c.self.inside c.args.tenant None c.take-job-in-Failed.new.self false c.put-in-Failed.new.self c.self.invariant within c.take-job-in-Failed.ensures.left
-    (sym (ap has_claimable (ap (λ js. job_of js c.args.tenant) c.take-job-in-Failed.ensures.left ∙ get_or-set_same jobs c.args.tenant None None within))) c.put-in-Failed.ensures
+    hall-left c.self.inside c.args.tenant c.in-Some.job.now c.take-job-in-Failed.new.self c.put-in-Failed.new.self c.self.invariant (sym c.in-Some.ensures) c.take-job-in-Failed.ensures.left c.put-in-Failed.ensures

@@ -1,15 +1,15 @@
-use Rattle.std.proofs.Common.{arith, sym}
-use Rattle.std.specs.Prelude.{Some}
+use Rattle.std.proofs.Common.{arith}
+use Rattle.std.specs.Prelude.{None, Some}
 use Rattle.ot_core.specs.Floors.{IsFree}
 use Rattle.ot_core.specs.FloorView.{floor_of}
-use Rattle.ot_core.proofs.FloorLemmas.{enters, is-free}
+use Rattle.ot_core.proofs.FloorLemmas.{enters, seen}
 use Rattle.ot_core.proofs.TurnLemmas.{hall-noted}
 use Rattle.ot_core.proofs.hall.Hall.enter.Goals as goal
 
 pub returns-clause-entered : goal.returns-clause-entered
 returns-clause-entered c =
     let f = floor_of c.self.inside in
-    let free : IsFree f c.args.tenant = is-free f.jobs c.args.tenant (omega (arith, c.if-tenant-tenants.false, c.tenants.ensures)) (sym c.in_default.ensures) in
+    let free : IsFree f c.args.tenant = seen f.jobs c.args.tenant None (omega (arith, c.if-tenant-tenants.false, c.tenants.ensures)) c.in_default.ensures in
     enters f _ c.args.tenant c.args.job c.enter.new.self c.self.view_is free c.in_default-enter.ensures.entered
 
 pub invariant_of-self-2 : goal.invariant_of-self-2

@@ -3,7 +3,7 @@ use Rattle.std.proofs.lemmas.Grind.{common_steps}
 use Rattle.ot_core.specs.FloorView.{floor_of}
 use Rattle.ot_core.proofs.FloorLemmas.{job-within, settles, written-again, units-read}
 use Rattle.std.specs.Prelude.{Some}
-use Rattle.ot_core.proofs.TurnLemmas.{hall-noted, noted}
+use Rattle.ot_core.proofs.TurnLemmas.{hall-noted}
 use Rattle.ot_core.proofs.hall.Hall.settle.Goals as goal
 
 pub returns-in-Err-clause-refused : goal.returns-in-Err-clause-refused
@@ -24,6 +24,6 @@ invariant_of-self c =
 pub invariant_of-self-2 : goal.invariant_of-self-2
 invariant_of-self-2 c =
     let marks =
-    noted c.self.inside c.args.tenant (Some c.settle-settled.new.self) _ c.has_claimable.result c.put.new.self c.self.invariant (job-within c.self.inside.jobs c.args.tenant c.get_mut.result.now c.get_mut.ensures.value) refl
-    c.has_claimable.ensures c.put.ensures in
+    (hall-noted c.self.inside c.args.tenant (Some c.settle-settled.new.self) _ c.has_claimable.result c.put.new.self c.self.invariant (job-within c.self.inside.jobs c.args.tenant c.get_mut.result.now c.get_mut.ensures.value) refl
+    c.has_claimable.ensures c.put.ensures).marks in
     grind (arith, common_steps, marks)

@@ -1,7 +1,7 @@
-use Rattle.std.proofs.Common.{◌≡◌, sym, ap, ◌∙◌, subst, Some, None, set}
+use Rattle.std.proofs.Common.{◌≡◌, sym, ap, ◌∙◌, subst, Some, None}
 use Rattle.std.specs.Prelude.{slice_get}
 use Rattle.slab.specs.Slab.{get}
-use Rattle.ot_core.proofs.IndexLemmas.{jobs-changed, indexes-more, not_vacant, within-jobs}
+use Rattle.ot_core.proofs.IndexLemmas.{jobs-more, indexes-more, within-jobs}
 use Rattle.ot_core.proofs.live.Jobs.begin.Goals as goal
 
 kept : (c : goal.After-self-1) → (k : _) → get c.reserve.new.self k ≡ get c.self.inside.slab k
@@ -22,8 +22,6 @@ returns-clause-begun c =
       job = c.in_ok-job.job;
       starts = c.in_ok-job.ensures.starts;
       new_is =
-          jobs-changed inside.slab put.new.self inside.keys.items c.args.tenant put.result (Some put.result)
-          (λ k other. put.ensures.updates.others k other ∙ kept c k)
-          (λ u _. not_vacant inside.slab inside.keys.items put.result c.self.invariant (sym (kept c put.result) ∙ put.ensures.was_vacant) u)
-          ∙ ap (set _ c.args.tenant) put.ensures.updates.changed ∙ ap (λ jobs. set jobs c.args.tenant (Some c.in_ok-job.job)) c.self.view_is;
+          jobs-more inside.slab put.new.self inside.keys.items c.args.tenant put.result _ _ c.self.invariant (sym (kept c put.result) ∙ put.ensures.was_vacant) put.ensures.updates.changed
+          (λ k other. put.ensures.updates.others k other ∙ kept c k) c.self.view_is;
     }

@@ -1,7 +1,7 @@
-use Rattle.std.proofs.Common.{◌≡◌, sym, ap, ◌∙◌, subst, Some, None, set}
+use Rattle.std.proofs.Common.{◌≡◌, sym, ap, ◌∙◌, subst, Some, None}
 use Rattle.std.specs.Prelude.{slice_get}
 use Rattle.slab.specs.Slab.{get}
-use Rattle.ot_core.proofs.IndexLemmas.{jobs-changed, indexes-more, not_vacant, within-jobs}
+use Rattle.ot_core.proofs.IndexLemmas.{jobs-more, indexes-more, within-jobs}
 use Rattle.ot_core.proofs.live.Jobs.enter.Goals as goal
 
 kept : (c : goal.After-self-1) → (k : _) → get c.reserve.new.self k ≡ get c.self.inside.slab k
@@ -19,7 +19,5 @@ pub returns-clause-entered : goal.returns-clause-entered
 returns-clause-entered c =
     let inside = c.self.inside in
     let put = c.insert_reserved-key in
-    jobs-changed inside.slab put.new.self inside.keys.items c.args.tenant put.result (Some put.result)
-    (λ k other. put.ensures.updates.others k other ∙ kept c k)
-    (λ u _. not_vacant inside.slab inside.keys.items put.result c.self.invariant (sym (kept c put.result) ∙ put.ensures.was_vacant) u)
-    ∙ ap (set _ c.args.tenant) put.ensures.updates.changed ∙ ap (λ jobs. set jobs c.args.tenant (Some c.args.job)) c.self.view_is
+    jobs-more inside.slab put.new.self inside.keys.items c.args.tenant put.result _ _ c.self.invariant (sym (kept c put.result) ∙ put.ensures.was_vacant) put.ensures.updates.changed
+    (λ k other. put.ensures.updates.others k other ∙ kept c k) c.self.view_is

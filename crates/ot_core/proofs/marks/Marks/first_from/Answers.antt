@@ -7,21 +7,15 @@ use Rattle.ot_core.proofs.marks.Marks.first_from.Goals as goal
 
 pub overflow_cast-result : goal.overflow_cast-result
 overflow_cast-result c =
-    let inside = c.self.inside in
-    let fits = place-fits inside.words.items inside.count c.loop-place.place 0 c.self.invariant.many c.self.invariant.few (omega (arith, c.loop-place-test.true, c.len-place-end.ensures, c.loop-place.auto.place-end, inside.words.ok.0)) (omega arith) in
-    omega (arith, fits)
+    omega (arith, place-fits _ _ c.loop-place.place 0 c.self.invariant.many c.self.invariant.few (omega (arith, c.loop-place-test.true, c.len-place-end.ensures, c.loop-place.auto.place-end, c.self.inside.words.ok.0)) (omega arith))
 
 pub overflow_add-result : goal.overflow_add-result
 overflow_add-result c =
-    let inside = c.self.inside in
-    let fits = place-fits inside.words.items inside.count c.loop-place.place c.in-Some.bit c.self.invariant.many c.self.invariant.few (omega (arith, c.loop-place-test.true, c.len-place-end.ensures, c.loop-place.auto.place-end, inside.words.ok.0)) c.in-Some.ensures.0 in
-    omega (arith, fits)
+    omega (arith, place-fits _ _ c.loop-place.place c.in-Some.bit c.self.invariant.many c.self.invariant.few (omega (arith, c.loop-place-test.true, c.len-place-end.ensures, c.loop-place.auto.place-end, c.self.inside.words.ok.0)) c.in-Some.ensures.0)
 
 pub overflow_mul-next : goal.overflow_mul-next
 overflow_mul-next c =
-    let inside = c.self.inside in
-    let fits = place-fits inside.words.items inside.count c.loop-place.place 0 c.self.invariant.many c.self.invariant.few (omega (arith, c.loop-place-test.true, c.len-place-end.ensures, c.loop-place.auto.place-end, inside.words.ok.0)) (omega arith) in
-    omega (arith, fits)
+    omega (arith, place-fits _ _ c.loop-place.place 0 c.self.invariant.many c.self.invariant.few (omega (arith, c.loop-place-test.true, c.len-place-end.ensures, c.loop-place.auto.place-end, c.self.inside.words.ok.0)) (omega arith))
 
 pub returns-in-Some : goal.returns-in-Some
 returns-in-Some c =

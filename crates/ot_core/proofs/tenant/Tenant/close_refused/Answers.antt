@@ -1,9 +1,8 @@
-use Rattle.std.proofs.Common.{sym, ap, ◌∙◌, subst}
+use Rattle.std.proofs.Common.{sym, ap, ◌∙◌}
 use Rattle.std.specs.Prelude.{IsSome, is_some, true}
-use Rattle.ot_core.specs.Accounts.{IsSound, room_asked}
 use Rattle.ot_core.specs.AccountView.{account_of}
 use Rattle.ot_core.specs.Asking.{with_reply}
-use Rattle.ot_core.proofs.AccountLemmas.{sound-replied, below-open, closed-is, entries-replied}
+use Rattle.ot_core.proofs.AccountLemmas.{tenant-replied, below-open, closed-is}
 use Rattle.ot_core.proofs.tenant.Tenant.close_refused.Goals as goal
 
 open_at : (c : goal.After-close_refused) → IsSome c.self.inside.spec
@@ -12,10 +11,8 @@ open_at c = ap is_some (sym c.take.ensures.value ∙ c.in-Some.is)
 pub invariant_of-self : goal.invariant_of-self
 invariant_of-self c =
     let a = account_of c.self.inside in
-    let is = closed-is a true _ _ c.self.invariant.sound (open_at c) c.close_refused.ensures c.take.ensures.after in record {
-      sound = subst IsSound is (sound-replied a true c.self.invariant.sound (below-open a c.self.invariant.sound (open_at c)));
-      since = c.self.invariant.since ∙ sym (entries-replied a true) ∙ ap (λ b. (room_asked b).entries) is;
-    }
+    tenant-replied a true _ c.self.invariant.sound (below-open a c.self.invariant.sound (open_at c)) c.self.invariant.since
+    (sym (closed-is a true _ _ c.self.invariant.sound (open_at c) c.close_refused.ensures c.take.ensures.after))
 
 pub returns-clause-sound : goal.returns-clause-sound
 returns-clause-sound c = (invariant_of-self c).sound

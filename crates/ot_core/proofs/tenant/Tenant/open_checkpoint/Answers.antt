@@ -1,20 +1,19 @@
-use Rattle.std.proofs.Common.{◌≡◌, ◌++◌, sym, ap, ◌∙◌, subst, map, [], true, false}
-use Rattle.std.specs.Prelude.{slice_get, unwrap_or}
+use Rattle.std.proofs.Common.{◌≡◌, ◌++◌, sym, ap, ◌∙◌, subst, map, true, false}
 use Rattle.std.proofs.lemmas.List.{map-append}
 use Rattle.ot_book.specs.Answers.{is_checkpoint}
 use Rattle.ot_book.specs.Opening.{IsFullFor, OpensLine, AnswersNow}
 use Rattle.ot_book.specs.ReplyView.{told_of}
-use Rattle.ot_core.specs.Accounts.{IsSound, answered, told, room_asked}
+use Rattle.ot_core.specs.Accounts.{told}
 use Rattle.ot_core.specs.AccountView.{account_of}
 use Rattle.ot_core.specs.Asking.{next_line, IsUnopened, with_reply}
-use Rattle.ot_core.proofs.AccountLemmas.{checkpoint-answered, checkpoint-logged, checkpoint-is, free-next, sound-replied, entries-replied}
+use Rattle.ot_core.proofs.AccountLemmas.{checkpoint-answered, checkpoint-logged, checkpoint-is, free-next, tenant-replied, read-next}
 use Rattle.ot_core.proofs.tenant.Tenant.open_checkpoint.Goals as goal
 
 pub unreachable-requires : goal.unreachable-requires
 unreachable-requires c =
     let a = account_of c.self.inside in
     let unopened : IsUnopened a = subst IsUnopened (sym c.self.view_is) c.requires.unopened in
-    let line : c.line_at.result.now ≡ next_line a = c.line_at.ensures ∙ ap (λ n. unwrap_or (slice_get a.asked n) []) (c.answered-next.ensures ∙ ap answered (sym c.self.view_is)) in
+    let line = read-next a _ _ _ c.self.view_is c.line_at.ensures c.answered-next.ensures in
     let asks : is_checkpoint c.line_at.result.now ≡ true = ap is_checkpoint line ∙ ap (λ b. is_checkpoint (next_line b)) c.self.view_is ∙ c.requires.checkpoint in
     checkpoint-answered a.book c.open.new.self c.line_at.result.now _ asks
     (λ full. free-next a c.self.invariant.sound unopened (subst (IsFullFor a.book) line full)) c.in_ok-open.ensures.opened c.in_default.not-Answered
@@ -23,7 +22,7 @@ is_replied : (c : goal.After-put_behind) → account_of (record c.self.inside { 
 is_replied c =
     let a = account_of c.self.inside in
     let unopened : IsUnopened a = subst IsUnopened (sym c.self.view_is) c.requires.unopened in
-    let line : c.line_at.result.now ≡ next_line a = c.line_at.ensures ∙ ap (λ n. unwrap_or (slice_get a.asked n) []) (c.answered-next.ensures ∙ ap answered (sym c.self.view_is)) in
+    let line = read-next a _ _ _ c.self.view_is c.line_at.ensures c.answered-next.ensures in
     let asks : is_checkpoint c.line_at.result.now ≡ true = ap is_checkpoint line ∙ ap (λ b. is_checkpoint (next_line b)) c.self.view_is ∙ c.requires.checkpoint in
     let now : AnswersNow a.book c.line_at.result.now c.open.new.self = (subst (OpensLine a.book c.line_at.result.now c.open.new.self) c.in-Answered.is c.in_ok-open.ensures.opened).1 in
     let kept : map told_of c.put_behind.new.kept.items ≡ told a =
@@ -36,10 +35,8 @@ is_replied c =
 pub invariant_of-self-2 : goal.invariant_of-self-2
 invariant_of-self-2 c =
     let a = account_of c.self.inside in
-    let unopened : IsUnopened a = subst IsUnopened (sym c.self.view_is) c.requires.unopened in record {
-      sound = subst IsSound (sym (is_replied c)) (sound-replied a false c.self.invariant.sound unopened.0);
-      since = c.self.invariant.since ∙ sym (entries-replied a false) ∙ ap (λ b. (room_asked b).entries) (sym (is_replied c));
-    }
+    let unopened : IsUnopened a = subst IsUnopened (sym c.self.view_is) c.requires.unopened in
+    tenant-replied a false _ c.self.invariant.sound unopened.0 c.self.invariant.since (is_replied c)
 
 pub returns-clause-sound : goal.returns-clause-sound
 returns-clause-sound c = (invariant_of-self-2 c).sound

@@ -10,28 +10,20 @@ settle-requires c = total-small (scene_of c.self.inside) c.self.invariant
 
 pub invariant_of-self-in-Ok : goal.invariant_of-self-in-Ok
 invariant_of-self-in-Ok c =
-    let s = scene_of c.self.inside in
-    let mine = hand-read s.hands c.args.hand c.index_mut.result.now c.take.result _ c.requires c.self.invariant.hands_many c.index_mut.ensures.value c.take.ensures.value c.in-Some.is in
-    (given s _ c.args.hand c.in-Some.held c.run.result c.in-Ok.units c.settle.new.self c.take.new.self c.self.view_is c.self.invariant c.requires mine
+    (given _ _ c.args.hand c.in-Some.held c.run.result c.in-Ok.units _ _ c.self.view_is c.self.invariant c.requires (hand-read _ _ _ _ _ c.requires c.self.invariant.hands_many c.index_mut.ensures.value c.take.ensures.value c.in-Some.is)
     (c.run.ensures.task ∙ ap (λ (p : Piece). p.task) c.into_piece-piece.ensures) (c.run.ensures.ran ∙ ap work_of c.into_piece-piece.ensures) c.in-Ok.ensures.settled c.take.ensures.after).0
 
 pub returns-in-Ok : goal.returns-in-Ok
 returns-in-Ok c =
-    let s = scene_of c.self.inside in
-    let mine = hand-read s.hands c.args.hand c.index_mut.result.now c.take.result _ c.requires c.self.invariant.hands_many c.index_mut.ensures.value c.take.ensures.value c.in-Some.is in
-    (given s _ c.args.hand c.in-Some.held c.run.result c.in-Ok.units c.settle.new.self c.take.new.self c.self.view_is c.self.invariant c.requires mine
+    (given _ _ c.args.hand c.in-Some.held c.run.result c.in-Ok.units _ _ c.self.view_is c.self.invariant c.requires (hand-read _ _ _ _ _ c.requires c.self.invariant.hands_many c.index_mut.ensures.value c.take.ensures.value c.in-Some.is)
     (c.run.ensures.task ∙ ap (λ (p : Piece). p.task) c.into_piece-piece.ensures) (c.run.ensures.ran ∙ ap work_of c.into_piece-piece.ensures) c.in-Ok.ensures.settled c.take.ensures.after).1
 
 pub invariant_of-self-in-Err : goal.invariant_of-self-in-Err
 invariant_of-self-in-Err c =
-    let s = scene_of c.self.inside in
-    let mine = hand-read s.hands c.args.hand c.index_mut.result.now c.take.result _ c.requires c.self.invariant.hands_many c.index_mut.ensures.value c.take.ensures.value c.in-Some.is in
-    (broken s _ c.args.hand c.in-Some.held c.run.result c.in-Err.done c.settle.new.self c.fail.new.self c.take.new.self c.self.view_is c.self.invariant c.requires mine
+    (broken _ _ c.args.hand c.in-Some.held c.run.result c.in-Err.done _ _ _ c.self.view_is c.self.invariant c.requires (hand-read _ _ _ _ _ c.requires c.self.invariant.hands_many c.index_mut.ensures.value c.take.ensures.value c.in-Some.is)
     (c.run.ensures.task ∙ ap (λ (p : Piece). p.task) c.into_piece-piece.ensures) (c.run.ensures.ran ∙ ap work_of c.into_piece-piece.ensures) c.in-Err.ensures.refused c.in-Err.ensures.same c.fail.ensures c.take.ensures.after).0
 
 pub returns : goal.returns
 returns c =
-    let s = scene_of c.self.inside in
-    let mine = hand-read s.hands c.args.hand c.index_mut.result.now c.take.result _ c.requires c.self.invariant.hands_many c.index_mut.ensures.value c.take.ensures.value c.in-Some.is in
-    (broken s _ c.args.hand c.in-Some.held c.run.result c.in-Err.done c.settle.new.self c.fail.new.self c.take.new.self c.self.view_is c.self.invariant c.requires mine
+    (broken _ _ c.args.hand c.in-Some.held c.run.result c.in-Err.done _ _ _ c.self.view_is c.self.invariant c.requires (hand-read _ _ _ _ _ c.requires c.self.invariant.hands_many c.index_mut.ensures.value c.take.ensures.value c.in-Some.is)
     (c.run.ensures.task ∙ ap (λ (p : Piece). p.task) c.into_piece-piece.ensures) (c.run.ensures.ran ∙ ap work_of c.into_piece-piece.ensures) c.in-Err.ensures.refused c.in-Err.ensures.same c.fail.ensures c.take.ensures.after).1

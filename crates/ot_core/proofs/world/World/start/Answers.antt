@@ -1,7 +1,8 @@
 use Rattle.std.proofs.Common.{◌+◌, sym, ◌∙◌, subst}
 use Rattle.ot_core.specs.Floors.{ClaimsOf}
 use Rattle.ot_core.specs.SceneView.{scene_of}
-use Rattle.ot_core.proofs.HandedLemmas.{hand-read, hand-free, as-before, taken, cannot-start, may-take, on_err_always}
+use Rattle.ot_job.proofs.ViewLemmas.{on_err_always}
+use Rattle.ot_core.proofs.HandedLemmas.{hand-read, hand-free, as-before, taken, cannot-start, may-take}
 use Rattle.ot_core.proofs.world.World.start.Goals as goal
 
 pub invariant_of-self : goal.invariant_of-self
@@ -30,14 +31,12 @@ returns-in_default-clause-stepped c =
 
 pub invariant_of-self-2 : goal.invariant_of-self-2
 invariant_of-self-2 c =
-    let s = scene_of c.self.inside in
     let claims = subst (λ p. ClaimsOf c.self.inside.hall c.args.tenant c.args.pick (c.args.hand + 1) p c.claim_of.new.self) c.in-Some.is c.in_ok-piece.ensures.claimed in
-    let free = hand-read s.hands c.args.hand c.index_mut.result.now c.replace.result _ c.requires c.self.invariant.hands_many c.index_mut.ensures.value c.replace.ensures.value c.in_default-replace.is in
-    (taken s _ c.args.hand c.args.tenant c.args.pick c.task-task.result c.in-Some.piece c.claim_of.new.self c.replace.new.self c.self.view_is c.self.invariant c.requires free claims c.task-task.ensures c.replace.ensures.after).0
+    let free = hand-read _ _ _ _ _ c.requires c.self.invariant.hands_many c.index_mut.ensures.value c.replace.ensures.value c.in_default-replace.is in
+    (taken _ _ c.args.hand c.args.tenant c.args.pick _ c.in-Some.piece _ _ c.self.view_is c.self.invariant c.requires free claims c.task-task.ensures c.replace.ensures.after).0
 
 pub returns-clause-stepped : goal.returns-clause-stepped
 returns-clause-stepped c =
-    let s = scene_of c.self.inside in
     let claims = subst (λ p. ClaimsOf c.self.inside.hall c.args.tenant c.args.pick (c.args.hand + 1) p c.claim_of.new.self) c.in-Some.is c.in_ok-piece.ensures.claimed in
-    let free = hand-read s.hands c.args.hand c.index_mut.result.now c.replace.result _ c.requires c.self.invariant.hands_many c.index_mut.ensures.value c.replace.ensures.value c.in_default-replace.is in
-    (taken s _ c.args.hand c.args.tenant c.args.pick c.task-task.result c.in-Some.piece c.claim_of.new.self c.replace.new.self c.self.view_is c.self.invariant c.requires free claims c.task-task.ensures c.replace.ensures.after).1
+    let free = hand-read _ _ _ _ _ c.requires c.self.invariant.hands_many c.index_mut.ensures.value c.replace.ensures.value c.in_default-replace.is in
+    (taken _ _ c.args.hand c.args.tenant c.args.pick _ c.in-Some.piece _ _ c.self.view_is c.self.invariant c.requires free claims c.task-task.ensures c.replace.ensures.after).1

@@ -1,7 +1,7 @@
 use Rattle.std.proofs.Common.{of_calls}
 use Rattle.ot_core.proofs.DrainLemmas.{toil-falls}
 use Rattle.ot_core.proofs.RunsLemmas.{drains-more}
-use Rattle.ot_core.proofs.HandedLemmas.{on_err_always}
+use Rattle.ot_job.proofs.ViewLemmas.{on_err_always}
 use Rattle.ot_core.proofs.world.World.take_moves.Goals as goal
 
 pub loop-alloc-smaller : goal.loop-alloc-smaller

@@ -1,96 +1,61 @@
-use Rattle.std.proofs.Common.{◌≡◌, ◌∙◌, ◌+◌, ◌*◌, ◌∷◌, max, sym, ap, arith}
-use Rattle.serde_json.specs.Data.{depth, items_depth}
-use Rattle.serde_json.specs.View.{view, items_view}
+use Rattle.std.proofs.Common.{◌≡◌, ◌∙◌, ◌+◌, ◌∷◌, sym, ap, arith}
+use Rattle.serde_json.specs.Data.{depth}
+use Rattle.serde_json.specs.View.{view}
 use Rattle.ot_program.specs.Copies.{copies, in_order, Turn}
 use Rattle.ot_program.proofs.Seen.{array_seen}
 use Rattle.ot_place.specs.Seeking.{bindings_of}
 use Rattle.ot_place.specs.Texts.{depth_of}
 use Rattle.ot_place.proofs.CopyLemmas.{no_list, a_list, item_depth}
-use Rattle.ot_fault.specs.First.{shape_of, why_by}
+use Rattle.ot_fault.specs.First.{shape_of}
 use Rattle.ot_fault.specs.Why.{short}
 use Rattle.ot_fault.specs.Walk.{step_by}
-use Rattle.ot_fault.proofs.WalkLemmas.{seen_as, items_pass, items_end, items_none, turns_pass, turns_end, turns_none, if_passes, if_ends, for_is, statement_passes, statement_ends, one_passes, one_ends}
+use Rattle.ot_fault.proofs.WalkLemmas.{seen_as, items_on, items_none, turns_on, turns_none, if_on, for_is, statement_on, one_on}
 use Rattle.ot_fault.proofs.find.Finder.+find.Goals as goal
 
 pub bodies-body-requires : goal.bodies-body-requires
-bodies-body-requires t c =
-    let e : depth_of c.args.text ≡ max (depth (view c.in-If.one.now)) (depth (view c.in-If.two.now)) = ap depth_of c.in-If.is in
-    let m : 6 * depth_of c.args.text + 3 ≡ t = c.decreases in
-    (omega (arith, e, m), tt)
+bodies-body-requires t c = (omega (arith, ap depth_of c.in-If.is, c.decreases), tt)
 
 pub bodies-body-requires-in-Passed : goal.bodies-body-requires-in-Passed
-bodies-body-requires-in-Passed t c =
-    let e : depth_of c.args.text ≡ max (depth (view c.in-If.one.now)) (depth (view c.in-If.two.now)) = ap depth_of c.in-If.is in
-    let m : 6 * depth_of c.args.text + 3 ≡ t = c.decreases in
-    (omega (arith, e, m), tt)
+bodies-body-requires-in-Passed t c = (omega (arith, ap depth_of c.in-If.is, c.decreases), tt)
 
 pub bodies-turns-requires : goal.bodies-turns-requires
-bodies-turns-requires t c =
-    let e : depth_of c.args.text ≡ depth (view c.in-For.body.now) = ap depth_of c.in-For.is in
-    let m : 6 * depth_of c.args.text + 3 ≡ t = c.decreases in
-    (omega (arith, e, m), tt)
+bodies-turns-requires t c = (omega (arith, ap depth_of c.in-For.is, c.decreases), tt)
 
 pub bodies-body-requires-in-GroupBy : goal.bodies-body-requires-in-GroupBy
-bodies-body-requires-in-GroupBy t c =
-    let e : depth_of c.args.text ≡ depth (view c.in-GroupBy.body.now) = ap depth_of c.in-GroupBy.is in
-    let m : 6 * depth_of c.args.text + 3 ≡ t = c.decreases in
-    (omega (arith, e, m), tt)
+bodies-body-requires-in-GroupBy t c = (omega (arith, ap depth_of c.in-GroupBy.is, c.decreases), tt)
 
 pub bodies-body-requires-in-Task : goal.bodies-body-requires-in-Task
-bodies-body-requires-in-Task t c =
-    let e : depth_of c.args.text ≡ depth (view c.in-Task.body.now) = ap depth_of c.in-Task.is in
-    let m : 6 * depth_of c.args.text + 3 ≡ t = c.decreases in
-    (omega (arith, e, m), tt)
+bodies-body-requires-in-Task t c = (omega (arith, ap depth_of c.in-Task.is, c.decreases), tt)
 
 pub bodies-body-requires-in-Group : goal.bodies-body-requires-in-Group
-bodies-body-requires-in-Group t c =
-    let e : depth_of c.args.text ≡ depth (view c.in-Group.body.now) = ap depth_of c.in-Group.is in
-    let m : 6 * depth_of c.args.text + 3 ≡ t = c.decreases in
-    (omega (arith, e, m), tt)
+bodies-body-requires-in-Group t c = (omega (arith, ap depth_of c.in-Group.is, c.decreases), tt)
 
 pub body-items-requires : goal.body-items-requires
-body-items-requires t c =
-    let e : depth (view c.args.body.now) ≡ items_depth (items_view c.deref.result.now) + 1 =
-    ap depth (array_seen _ _ _ c.in-Array.is c.deref.ensures.value) ∙ omega arith in
-    let m : 6 * depth (view c.args.body.now) ≡ t = c.decreases in
-    (omega (arith, e, m), tt)
+body-items-requires t c = (omega (arith, ap depth (array_seen _ _ _ c.in-Array.is c.deref.ensures.value), c.decreases), tt)
 
 pub items-statement-requires : goal.items-statement-requires
-items-statement-requires t c =
-    let e = item_depth c.args.items.now _ _ c.loop-item-test.true c.item-item.is in
-    let m : 6 * items_depth (items_view c.args.items.now) + 5 ≡ t = c.decreases in
-    (omega (arith, e, m), tt)
+items-statement-requires t c = (omega (arith, item_depth c.args.items.now _ _ c.loop-item-test.true c.item-item.is, c.decreases), tt)
 
 pub statement-bodies-requires : goal.statement-bodies-requires
-statement-bodies-requires t c =
-    let e = c.text_of-text.ensures.shallow in
-    let m : 6 * depth (view c.args.statement.now) + 4 ≡ t = c.decreases in
-    (omega (arith, e, m), tt)
+statement-bodies-requires t c = (omega (arith, c.text_of-text.ensures.shallow, c.decreases), tt)
 
 pub turn-body-requires : goal.turn-body-requires
-turn-body-requires t c =
-    let m : 6 * depth (view c.args.body.now) + 1 ≡ t = c.decreases in
-    (omega (arith, m), tt)
+turn-body-requires t c = (omega (arith, c.decreases), tt)
 
 pub turns-turn-requires : goal.turns-turn-requires
-turns-turn-requires t c =
-    let m : 6 * depth (view c.args.body.now) + 2 ≡ t = c.decreases in
-    (omega (arith, m), tt)
+turns-turn-requires t c = (omega (arith, c.decreases), tt)
 
 pub bodies-returns-in-Passed : goal.bodies-returns-in-Passed
 bodies-returns-in-Passed t c defined nested p level =
-    let variables = bindings_of c.args.trail.now in
     let inner : _ ≡ short (nested + 1) = omega (arith, level) in
     seen_as c.body-in-Passed.result _ _
-    (if_passes (shape_of c.args.self.now.arrays.now c.args.self.now.tasks) defined nested variables c.args.text _ _ _ _ _ _ _ c.in-If.is
-    (sym (ap step_by c.in-Passed.is) ∙ c.in_ok-passed-in-If.ensures defined (nested + 1) p inner))
+    (if_on (shape_of c.args.self.now.arrays.now c.args.self.now.tasks) defined nested (bindings_of c.args.trail.now) c.args.text _ _ _ _ _ _ c.in-If.is (sym (ap step_by c.in-Passed.is) ∙ c.in_ok-passed-in-If.ensures defined (nested + 1) p inner))
     (c.body-in-Passed.ensures defined (nested + 1) p inner)
 
 pub bodies-returns-in-Met : goal.bodies-returns-in-Met
 bodies-returns-in-Met t c defined nested p level =
-    let variables = bindings_of c.args.trail.now in
-    if_ends (shape_of c.args.self.now.arrays.now c.args.self.now.tasks) defined nested variables c.args.text _ _ _ _ _ _ _ c.in-If.is
-    (sym (ap step_by c.in-Met.is) ∙ c.in_ok-passed-in-If.ensures defined (nested + 1) p (omega (arith, level)))
+    sym (if_on (shape_of c.args.self.now.arrays.now c.args.self.now.tasks) defined nested (bindings_of c.args.trail.now) c.args.text _ _ _ _ _ _ c.in-If.is
+    (sym (ap step_by c.in-Met.is) ∙ c.in_ok-passed-in-If.ensures defined (nested + 1) p (omega (arith, level))))
 
 pub bodies-returns-in-For : goal.bodies-returns-in-For
 bodies-returns-in-For t c defined nested p level =
@@ -109,15 +74,15 @@ body-returns-in_default t c defined nested p level =
 
 pub items-returns-in-Met : goal.items-returns-in-Met
 items-returns-in-Met t c defined nested p level =
-    items_end (shape_of c.args.self.now.arrays.now c.args.self.now.tasks) defined nested (bindings_of c.args.trail.now) c.args.items.now _ _ _ _ _ _
-    c.loop-item-test.true c.item-item.is (sym (ap step_by c.in-Met.is) ∙ c.in_ok-more.ensures defined nested p level)
-    ∙ sym (c.loop-item.invariant defined nested p level)
+    sym (c.loop-item.invariant defined nested p level
+    ∙ items_on (shape_of c.args.self.now.arrays.now c.args.self.now.tasks) defined nested (bindings_of c.args.trail.now) c.args.items.now _ _ _ _ _ c.loop-item-test.true c.item-item.is
+    (sym (ap step_by c.in-Met.is) ∙ c.in_ok-more.ensures defined nested p level))
 
 pub items-loop-item-preserved : goal.items-loop-item-preserved
 items-loop-item-preserved t c defined nested p level =
     c.loop-item.invariant defined nested p level
-    ∙ items_pass (shape_of c.args.self.now.arrays.now c.args.self.now.tasks) defined nested (bindings_of c.args.trail.now) c.args.items.now _ _ _ _ _ _
-    c.loop-item-test.true c.item-item.is (sym (ap step_by c.in-Passed.is) ∙ c.in_ok-more.ensures defined nested p level)
+    ∙ items_on (shape_of c.args.self.now.arrays.now c.args.self.now.tasks) defined nested (bindings_of c.args.trail.now) c.args.items.now _ _ _ _ _ c.loop-item-test.true c.item-item.is
+    (sym (ap step_by c.in-Passed.is) ∙ c.in_ok-more.ensures defined nested p level)
 
 pub items-returns : goal.items-returns
 items-returns t c defined nested p level =
@@ -127,42 +92,42 @@ items-returns t c defined nested p level =
 pub statement-returns-in-Passed : goal.statement-returns-in-Passed
 statement-returns-in-Passed t c defined nested p level =
     seen_as c.bodies.result _ _
-    (statement_passes (shape_of c.args.self.now.arrays.now c.args.self.now.tasks) defined nested (bindings_of c.args.trail.now) (view c.args.statement.now) c.text_of-text.result _ _ _ _
+    (statement_on (shape_of c.args.self.now.arrays.now c.args.self.now.tasks) defined nested (bindings_of c.args.trail.now) (view c.args.statement.now) c.text_of-text.result _ _ _
     (c.text_of-text.ensures.is defined p.0) (sym (ap step_by c.in-Passed.is) ∙ c.in_ok-passed.ensures defined nested p level))
     (c.bodies.ensures defined nested p level)
 
 pub statement-returns-in-Met : goal.statement-returns-in-Met
 statement-returns-in-Met t c defined nested p level =
-    statement_ends (shape_of c.args.self.now.arrays.now c.args.self.now.tasks) defined nested (bindings_of c.args.trail.now) (view c.args.statement.now) c.text_of-text.result _ _ _ _
-    (c.text_of-text.ensures.is defined p.0) (sym (ap step_by c.in-Met.is) ∙ c.in_ok-passed.ensures defined nested p level)
+    sym (statement_on (shape_of c.args.self.now.arrays.now c.args.self.now.tasks) defined nested (bindings_of c.args.trail.now) (view c.args.statement.now) c.text_of-text.result _ _ _
+    (c.text_of-text.ensures.is defined p.0) (sym (ap step_by c.in-Met.is) ∙ c.in_ok-passed.ensures defined nested p level))
 
 pub turn-returns-in-Passed : goal.turn-returns-in-Passed
 turn-returns-in-Passed t c defined nested p level =
     seen_as c.body.result _ _
-    (one_passes (shape_of c.args.self.now.arrays.now c.args.self.now.tasks) (record { level = nested; variables = bindings_of c.args.trail.now; text = Turn })
+    (one_on (shape_of c.args.self.now.arrays.now c.args.self.now.tasks) (record { level = nested; variables = bindings_of c.args.trail.now; text = Turn })
     (in_order (copies defined (nested + 1) (view c.args.body.now) ((c.args.turn.name.now, c.args.turn.number) ∷ bindings_of c.args.trail.now)))
-    c.args.passed.entries c.in-Passed.passed.entries c.args.passed.counts c.in-Passed.passed.counts (sym (ap step_by c.in-Passed.is) ∙ c.in_ok-passed.ensures defined nested p level))
+    c.args.passed.entries c.args.passed.counts _ (sym (ap step_by c.in-Passed.is) ∙ c.in_ok-passed.ensures defined nested p level))
     (c.body.ensures defined (nested + 1) p (omega (arith, level)))
 
 pub turn-returns-in-Met : goal.turn-returns-in-Met
 turn-returns-in-Met t c defined nested p level =
-    one_ends (shape_of c.args.self.now.arrays.now c.args.self.now.tasks) (record { level = nested; variables = bindings_of c.args.trail.now; text = Turn })
+    sym (one_on (shape_of c.args.self.now.arrays.now c.args.self.now.tasks) (record { level = nested; variables = bindings_of c.args.trail.now; text = Turn })
     (in_order (copies defined (nested + 1) (view c.args.body.now) ((c.args.turn.name.now, c.args.turn.number) ∷ bindings_of c.args.trail.now)))
-    c.args.passed.entries c.in-Met.found.index c.args.passed.counts (why_by c.in-Met.found.why) (sym (ap step_by c.in-Met.is) ∙ c.in_ok-passed.ensures defined nested p level)
+    c.args.passed.entries c.args.passed.counts _ (sym (ap step_by c.in-Met.is) ∙ c.in_ok-passed.ensures defined nested p level))
 
 pub turns-returns-in-Met : goal.turns-returns-in-Met
 turns-returns-in-Met t c defined nested p level =
-    turns_end (shape_of c.args.self.now.arrays.now c.args.self.now.tasks) nested (bindings_of c.args.trail.now)
-    (λ n. copies defined (nested + 1) (view c.args.body.now) ((c.args.turns.variable.now, n) ∷ bindings_of c.args.trail.now)) _ _ _ _ _ _
-    c.loop-number-test.true (sym (ap step_by c.in-Met.is) ∙ c.in_ok-more.ensures defined nested p level)
-    ∙ sym (c.loop-number.invariant defined nested p level)
+    sym (c.loop-number.invariant defined nested p level
+    ∙ turns_on (shape_of c.args.self.now.arrays.now c.args.self.now.tasks) nested (bindings_of c.args.trail.now)
+    (λ n. copies defined (nested + 1) (view c.args.body.now) ((c.args.turns.variable.now, n) ∷ bindings_of c.args.trail.now)) _ _ _ _ _ c.loop-number-test.true
+    (sym (ap step_by c.in-Met.is) ∙ c.in_ok-more.ensures defined nested p level))
 
 pub turns-loop-number-preserved : goal.turns-loop-number-preserved
 turns-loop-number-preserved t c defined nested p level =
     c.loop-number.invariant defined nested p level
-    ∙ turns_pass (shape_of c.args.self.now.arrays.now c.args.self.now.tasks) nested (bindings_of c.args.trail.now)
-    (λ n. copies defined (nested + 1) (view c.args.body.now) ((c.args.turns.variable.now, n) ∷ bindings_of c.args.trail.now)) _ _ _ _ _ _
-    c.loop-number-test.true (sym (ap step_by c.in-Passed.is) ∙ c.in_ok-more.ensures defined nested p level)
+    ∙ turns_on (shape_of c.args.self.now.arrays.now c.args.self.now.tasks) nested (bindings_of c.args.trail.now)
+    (λ n. copies defined (nested + 1) (view c.args.body.now) ((c.args.turns.variable.now, n) ∷ bindings_of c.args.trail.now)) _ _ _ _ _ c.loop-number-test.true
+    (sym (ap step_by c.in-Passed.is) ∙ c.in_ok-more.ensures defined nested p level)
 
 pub turns-returns : goal.turns-returns
 turns-returns t c defined nested p level =

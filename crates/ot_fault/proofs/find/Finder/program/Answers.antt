@@ -3,9 +3,9 @@ use Rattle.std.specs.Prelude.{IfOk}
 use Rattle.serde_json.specs.View.{view}
 use Rattle.ot_program.specs.Copies.{ProgramText, copies, in_copy, in_order}
 use Rattle.ot_program.specs.Programs.{program_copy}
-use Rattle.ot_fault.specs.First.{shape_of, why_by}
+use Rattle.ot_fault.specs.First.{shape_of}
 use Rattle.ot_fault.specs.Walk.{walk, step_by}
-use Rattle.ot_fault.proofs.WalkLemmas.{seen_as, one_passes, one_ends}
+use Rattle.ot_fault.proofs.WalkLemmas.{seen_as, one_on}
 use Rattle.ot_fault.proofs.find.Finder.program.Goals as goal
 
 pub returns-in-Passed : goal.returns-in-Passed
@@ -13,15 +13,13 @@ returns-in-Passed c defined p =
     let shape = (shape_of c.args.self.now.arrays.now c.args.self.now.tasks) in
     subst (λ n. IfOk c.body.result (λ step. step_by step ≡ walk shape 0 n (in_copy (program_copy defined (view c.args.shows.now) (view c.args.body.now))))) c.none.ensures
     (seen_as c.body.result _ _
-    (one_passes shape (record { level = 0; variables = []; text = ProgramText (view c.args.shows.now) (view c.args.body.now) })
-    (in_order (copies defined 1 (view c.args.body.now) [])) 0 c.in-Passed.passed.entries c.none.result c.in-Passed.passed.counts
+    (one_on shape (record { level = 0; variables = []; text = ProgramText (view c.args.shows.now) (view c.args.body.now) }) (in_order (copies defined 1 (view c.args.body.now) [])) 0 c.none.result _
     (sym (ap step_by c.in-Passed.is) ∙ c.in_ok-passed.ensures defined 0 p (omega arith)))
     (c.body.ensures defined 1 p (omega arith)))
 
 pub returns-in-Met : goal.returns-in-Met
 returns-in-Met c defined p =
     let shape = (shape_of c.args.self.now.arrays.now c.args.self.now.tasks) in
-    one_ends shape (record { level = 0; variables = []; text = ProgramText (view c.args.shows.now) (view c.args.body.now) })
-    (in_order (copies defined 1 (view c.args.body.now) [])) 0 c.in-Met.found.index c.none.result (why_by c.in-Met.found.why)
-    (sym (ap step_by c.in-Met.is) ∙ c.in_ok-passed.ensures defined 0 p (omega arith))
+    sym (one_on shape (record { level = 0; variables = []; text = ProgramText (view c.args.shows.now) (view c.args.body.now) }) (in_order (copies defined 1 (view c.args.body.now) [])) 0 c.none.result _
+    (sym (ap step_by c.in-Met.is) ∙ c.in_ok-passed.ensures defined 0 p (omega arith)))
     ∙ ap (λ n. walk shape 0 n (in_copy (program_copy defined (view c.args.shows.now) (view c.args.body.now)))) c.none.ensures

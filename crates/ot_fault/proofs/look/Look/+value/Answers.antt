@@ -1,14 +1,11 @@
-use Rattle.std.proofs.Common.{◌∙◌, ◌++◌, ap, rules}
+use Rattle.std.proofs.Common.{◌∙◌, ap, rules}
 use Rattle.serde_json.specs.View.{view}
 use Rattle.std.specs.Prelude.{unwrap_or}
 use Rattle.ot_model.specs.declared.expr.Op.TheVariants.{Plus}
 use Rattle.ot_program.specs.Meanings.{op_of, section}
 use Rattle.ot_place.proofs.SizeLemmas.{view-Number, view-String}
-use Rattle.ot_fault.specs.Why.{Form}
-use Rattle.ot_fault.specs.Whys.{unless, section_whys, value_whys}
-use Rattle.ot_fault.specs.declared.why.Wanted.TheVariants as wanted
-use Rattle.ot_fault.specs.First.{told_by, shape_by, variables_by}
-use Rattle.ot_fault.proofs.AfterLemmas.{told_two}
+use Rattle.ot_fault.specs.First.{shape_by, variables_by}
+use Rattle.ot_fault.proofs.AfterLemmas.{after-append}
 use Rattle.ot_fault.proofs.FormLemmas.{no_value, zero_value, no_value_but_three, zero_but_three}
 use Rattle.ot_fault.proofs.PartLemmas.{value_whys-number, value-number, value_whys-string, value-string, value_whys-cell, value-cell, value_whys-pick, value-pick, value_whys-operation, value-operation}
 use Rattle.ot_fault.proofs.look.Look.+value.Goals as goal
@@ -69,10 +66,7 @@ pub value_of_items-returns-then-is_word-2-clause-first : goal.value_of_items-ret
 value_of_items-returns-then-is_word-2-clause-first t c =
     rw (value_whys-pick (shape_by c.args.self.now) (variables_by c.args.self.now) c.args.items.now _ _ _ (search rules)
     c.tag-item.is c.one-item.is c.two-item.is (search rules) (search rules))
-    (told_two (told_by c.args.first.now) (told_by c.section-cells.new.first) (told_by c.value.new.first)
-    (section_whys (shape_by c.args.self.now) (variables_by c.args.self.now) (view c.one-item.result))
-    (value_whys (shape_by c.args.self.now) (variables_by c.args.self.now) (view c.two-item.result))
-    c.section-cells.ensures.first c.value.ensures.first)
+    (rw (c.value.ensures.first, c.section-cells.ensures.first) (simp after-append))
 
 pub value_of_items-returns-clause-measure : goal.value_of_items-returns-clause-measure
 value_of_items-returns-clause-measure t c =
@@ -87,12 +81,4 @@ value_of_items-returns-clause-first t c =
           c.tag-item.is c.one-item.is c.two-item.is (search rules) (search rules),
       ← c.is_operation.ensures,
     )
-    (told_two (told_by c.args.first.now) (told_by c.unless.new.self) (told_by c.value-in-len3.new.first)
-    (unless c.is_operation.result (Form (view c.tag-item.result) wanted.Operation))
-    (value_whys (shape_by c.args.self.now) (variables_by c.args.self.now) (view c.one-item.result)
-    ++ value_whys (shape_by c.args.self.now) (variables_by c.args.self.now) (view c.two-item.result))
-    c.unless.ensures
-    (told_two (told_by c.unless.new.self) (told_by c.value-one.new.first) (told_by c.value-in-len3.new.first)
-    (value_whys (shape_by c.args.self.now) (variables_by c.args.self.now) (view c.one-item.result))
-    (value_whys (shape_by c.args.self.now) (variables_by c.args.self.now) (view c.two-item.result))
-    c.value-one.ensures.first c.value-in-len3.ensures.first))
+    (rw (c.value-in-len3.ensures.first, c.value-one.ensures.first, c.unless.ensures) (simp after-append))

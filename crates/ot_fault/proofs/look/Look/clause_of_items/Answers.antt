@@ -5,7 +5,7 @@ use Rattle.ot_fault.proofs.look.Look.clause_of_items.Goals as goal
 
 pub returns-clause-len : goal.returns-clause-len
 returns-clause-len c defined s =
-    no_clause_len (shape_by c.args.self.now) defined (variables_by c.args.self.now) c.args.items.now s.1.0 (search rules) (search rules) s.1.1
+    no_clause_len (shape_by c.args.self.now) defined (variables_by c.args.self.now) c.args.items.now (search rules) (search rules)
 
 pub returns-clause-first : goal.returns-clause-first
 returns-clause-first c defined s =

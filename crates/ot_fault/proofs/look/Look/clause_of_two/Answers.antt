@@ -1,25 +1,19 @@
-use Rattle.serde_json.specs.View.{view}
-use Rattle.ot_fault.specs.Why.{Form}
-use Rattle.ot_fault.specs.Whys.{unless, section_whys}
+use Rattle.std.proofs.Common.{◌≡◌, ◌∙◌, subst, sym, ap}
+use Rattle.serde_json.specs.Data.{Data}
+use Rattle.ot_program.specs.Meanings.{clause}
+use Rattle.ot_fault.specs.Why.{after}
+use Rattle.ot_fault.specs.Whys.{clause_whys}
 use Rattle.ot_fault.specs.First.{told_by, shape_by, variables_by}
-use Rattle.ot_fault.specs.declared.why.Wanted.TheVariants as wanted
-use Rattle.ot_fault.proofs.AfterLemmas.{told_two}
-use Rattle.ot_fault.proofs.ClauseLemmas.{clause_whys-two, clause_section-two}
+use Rattle.ot_mixed.proofs.ClauseLemmas.{two_items}
+use Rattle.ot_fault.proofs.AfterLemmas.{after-append}
 use Rattle.ot_fault.proofs.look.Look.clause_of_two.Goals as goal
 
 pub returns-clause-len : goal.returns-clause-len
 returns-clause-len c defined s =
-    rw (clause_section-two (shape_by c.args.self.now) defined (variables_by c.args.self.now) c.args.items.now _ _ c.requires.two
-    c.tag-item.is c.section-item.is) c.section.ensures.len
+    c.section.ensures.len ∙ ap (λ (d : Data). (clause (shape_by c.args.self.now) defined (variables_by c.args.self.now) d).section.len) (sym (two_items c.args.items.now _ _ c.requires.two c.tag-item.is c.section-item.is))
 
 pub returns-clause-first : goal.returns-clause-first
 returns-clause-first c defined s =
-    rw (
-      clause_whys-two (shape_by c.args.self.now) defined (variables_by c.args.self.now) c.args.items.now _ _ c.requires.two
-          c.tag-item.is c.section-item.is,
-      ← c.requires.part,
-      ← c.is_mode.ensures defined s,
-    ) (told_two (told_by c.args.first.now) (told_by c.unless.new.self) (told_by c.section.new.first)
-    (unless c.is_mode.result (Form (view c.args.part.now) wanted.Clause))
-    (section_whys (shape_by c.args.self.now) (variables_by c.args.self.now) (view c.section-item.result))
-    c.unless.ensures c.section.ensures.first)
+    let two = two_items c.args.items.now _ _ c.requires.two c.tag-item.is c.section-item.is in
+    subst (λ d. told_by c.section.new.first ≡ after (told_by c.args.first.now) (clause_whys (shape_by c.args.self.now) defined (variables_by c.args.self.now) d)) (sym two)
+    (rw (c.section.ensures.first, c.unless.ensures, c.is_mode.ensures defined s, c.requires.part, two) (simp after-append))

@@ -1,7 +1,11 @@
-use Rattle.std.proofs.Common.{rules, sym}
-use Rattle.ot_fault.specs.First.{shape_by, variables_by}
+use Rattle.std.proofs.Common.{◌∙◌, rules, sym, ap}
+use Rattle.serde_json.specs.Data.{Data}
+use Rattle.ot_program.specs.Meanings.{section}
+use Rattle.ot_fault.specs.Why.{after}
+use Rattle.ot_fault.specs.Whys.{section_whys}
+use Rattle.ot_fault.specs.First.{told_by, shape_by, variables_by}
+use Rattle.ot_mixed.proofs.ClauseLemmas.{three_items}
 use Rattle.ot_fault.proofs.FormLemmas.{no_section_but_three, no_len_but_three}
-use Rattle.ot_fault.proofs.PartLemmas.{section_whys-three, section_len-three}
 use Rattle.ot_fault.proofs.look.Look.section_of_items.Goals as goal
 
 pub returns-then-items-ne3-clause-len : goal.returns-then-items-ne3-clause-len
@@ -14,10 +18,9 @@ returns-then-items-ne3-clause-first c =
 
 pub returns-clause-len : goal.returns-clause-len
 returns-clause-len c =
-    rw (section_len-three (shape_by c.args.self.now) (variables_by c.args.self.now) c.args.items.now _ _ _ (search rules)
-    c.name-item.is c.start-item.is c.len-item.is) c.section_of.ensures.len
+    c.section_of.ensures.len ∙ ap (λ (d : Data). (section (shape_by c.args.self.now) (variables_by c.args.self.now) d).len) (sym (three_items c.args.items.now _ _ _ (search rules) c.name-item.is c.start-item.is c.len-item.is))
 
 pub returns-clause-first : goal.returns-clause-first
 returns-clause-first c =
-    rw (section_whys-three (shape_by c.args.self.now) (variables_by c.args.self.now) c.args.items.now _ _ _ (search rules)
-    c.name-item.is c.start-item.is c.len-item.is) c.section_of.ensures.first
+    c.section_of.ensures.first
+    ∙ ap (λ (d : Data). after (told_by c.args.first.now) (section_whys (shape_by c.args.self.now) (variables_by c.args.self.now) d)) (sym (three_items c.args.items.now _ _ _ (search rules) c.name-item.is c.start-item.is c.len-item.is))

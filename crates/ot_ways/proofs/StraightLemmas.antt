@@ -1,0 +1,96 @@
+-- The way through a straight body does what its run does.
+use Rattle.std.proofs.Common.{◌≡◌, ◌∙◌, ◌+◌, ℕ, true, false, ◌&&◌, List, [], ◌∷◌, ◌++◌, length, map, refl, sym, ap, subst, arith}
+use Rattle.std.specs.Prelude.{Option, Some, None}
+use Rattle.ot_model.specs.Tree.{E, Literal, CellAt, Apply, PickFrom, S, Set, Fold, If, Task, Wait, Group, Body, End, Next}
+use Rattle.ot_model.specs.Cells.{cell_of}
+use Rattle.ot_model.specs.Counts.{size_one}
+use Rattle.ot_model.specs.Value.{cells_named}
+use Rattle.ot_model.specs.Serial.{State, bump}
+use Rattle.ot_model.specs.declared.expr.Cell.{Cell}
+use Rattle.ot_model.specs.declared.stmt.Mode.TheVariants.{Reads, Writes}
+use Rattle.ot_check.specs.Paths.{use_as}
+use Rattle.ot_check.specs.Offences.{Declared}
+use Rattle.ot_race.specs.Events.{event, Touches, Begins, Leaves, fold_as, events, events_one, events_of, beginning, after, after_one, reads_now, this_way}
+use Rattle.ot_race.specs.Races.{NothingRaces}
+use Rattle.ot_corder.specs.Orders.{ordered_by}
+use Rattle.ot_corder.specs.declared.order.Order.{Order}
+use Rattle.ot_ways.specs.Straight.{has_no_pick, is_straight, is_straight_one}
+use Rattle.ot_ways.specs.Verdicts.{NoWayRaces}
+use Rattle.ot_ways.specs.Ways.{way_by}
+use Rattle.ot_ways.proofs.TellLemmas.{left_of, right_of}
+
+-- a value without picks reads what it names
+reads_named : (look : Cell → Option ℕ) (e : E) → has_no_pick e ≡ true → reads_now look e ≡ cells_named e
+reads_named look (Literal n) h = refl
+reads_named look (CellAt c) h = refl
+reads_named look (Apply o a b) h =
+    ap (λ cs. cs ++ reads_now look b) (reads_named look a (left_of (has_no_pick a) (has_no_pick b) h))
+    ∙ ap (λ cs. cells_named a ++ cs) (reads_named look b (right_of (has_no_pick a) (has_no_pick b) h))
+reads_named look (PickFrom s e) h = cc
+
+-- the run from one state and a way from another one, in which as many tasks were executed
+record IsSameOne (condition : State → E → ℕ) (own : Declared) (me k : ℕ) (x : S) (s t : State) : Type 0 where
+  events_same : events_one this_way own me k x s ≡ events_one (way_by condition) own me k x t
+  tasks_same : (after_one this_way x s).tasks ≡ (after_one (way_by condition) x t).tasks
+
+record IsSame (condition : State → E → ℕ) (own : Declared) (me k : ℕ) (b : Body) (s t : State) : Type 0 where
+  events_same : events this_way own me k b s ≡ events (way_by condition) own me k b t
+  tasks_same : (after this_way b s).tasks ≡ (after (way_by condition) b t).tasks
+
+more_tasks : (n m k : ℕ) → n ≡ m → n + k ≡ m + k
+more_tasks n m k h = omega (arith, h)
+
+mutual
+  same_one : (condition : State → E → ℕ) (own : Declared) (me k : ℕ) (x : S) (s t : State) → is_straight_one x ≡ true → s.tasks ≡ t.tasks
+      → IsSameOne condition own me k x s t
+  same_one condition own me k (Set c e) s t h tasks = record {
+    events_same = ap (λ cs. event me k Touches (map (use_as Reads) cs ++ use_as Writes c ∷ []) ∷ []) (reads_named (cell_of s.cells) e h);
+    tasks_same = more_tasks s.tasks t.tasks 0 tasks;
+  }
+  same_one condition own me k (Fold o c e) s t h tasks = record {
+    events_same = ap (λ cs. event me k Touches (map (use_as Reads) cs ++ use_as (fold_as own o c) c ∷ []) ∷ []) (reads_named (cell_of s.cells) e h);
+    tasks_same = more_tasks s.tasks t.tasks 0 tasks;
+  }
+  same_one condition own me k (If e a b) s t h tasks = cc
+  same_one condition own me k (Task d b) s t h tasks =
+      let i = same condition (Some d) (s.tasks + 1) (k + 1) b (bump 1 1 s) (bump 1 1 t) h (more_tasks s.tasks t.tasks 1 tasks) in
+      record {
+        events_same = ap (λ es. event (s.tasks + 1) k (Begins me d) [] ∷ es) i.events_same
+            ∙ ap (λ n. event (n + 1) k (Begins me d) [] ∷ events (way_by condition) (Some d) (n + 1) (k + 1) b (bump 1 1 t)) tasks;
+        tasks_same = i.tasks_same;
+      }
+  same_one condition own me k (Wait w) s t h tasks = record { events_same = refl; tasks_same = more_tasks s.tasks t.tasks 0 tasks }
+  same_one condition own me k (Group o cs b) s t h tasks =
+      let i = same condition own me (k + 1) b (bump 0 1 s) (bump 0 1 t) h (more_tasks s.tasks t.tasks 0 tasks) in
+      record {
+        events_same = ap (λ es. es ++ event me k (Leaves (length es)) (map (use_as Writes) cs) ∷ []) i.events_same;
+        tasks_same = i.tasks_same;
+      }
+
+  same : (condition : State → E → ℕ) (own : Declared) (me k : ℕ) (b : Body) (s t : State) → is_straight b ≡ true → s.tasks ≡ t.tasks
+      → IsSame condition own me k b s t
+  same condition own me k End s t h tasks = record { events_same = refl; tasks_same = tasks }
+  same condition own me k (Next x rest) s t h tasks =
+      let i = same_one condition own me k x s t (left_of (is_straight_one x) (is_straight rest) h) tasks in
+      let j = same condition own me (k + size_one x) rest (after_one this_way x s) (after_one (way_by condition) x t)
+      (right_of (is_straight_one x) (is_straight rest) h) i.tasks_same in
+      record {
+        events_same = ap (λ es. es ++ events this_way own me (k + size_one x) rest (after_one this_way x s)) i.events_same
+            ∙ ap (λ es. events_one (way_by condition) own me k x t ++ es) j.events_same;
+        tasks_same = j.tasks_same;
+      }
+
+pub no_way_races : (order : Order) (body : Body) (cells : List (List ℕ)) → is_straight body ≡ true
+    → NothingRaces (ordered_by order (events_of this_way body cells)) → NoWayRaces order body
+no_way_races order body cells h none condition from =
+    subst (λ es. NothingRaces (ordered_by order es)) (same condition None 0 1 body (beginning cells) (beginning from) h refl).events_same none
+
+-- ---- the walk
+
+-- a statement is straight: all is said of those behind it
+pub past : (x : S) (rest left body : Body) → left ≡ Next x rest → is_straight_one x ≡ true → is_straight left ≡ is_straight body → is_straight rest ≡ is_straight body
+past x rest left body split h so_far = ap (λ b. b && is_straight rest) (sym h) ∙ ap is_straight (sym split) ∙ so_far
+
+-- or it isn't
+pub here : (x : S) (rest left body : Body) → left ≡ Next x rest → is_straight_one x ≡ false → is_straight left ≡ is_straight body → false ≡ is_straight body
+here x rest left body split h so_far = ap (λ b. b && is_straight rest) (sym h) ∙ ap is_straight (sym split) ∙ so_far

@@ -1,0 +1,42 @@
+//! Whether a program is straight.
+ghost use Rattle.std.specs.Prelude.{◌≡◌};
+ghost use Rattle.ot_model.specs.View.{expr_of, stmt_of, stmts_of};
+ghost use Rattle.ot_ways.specs.Straight.{has_no_pick, is_straight, is_straight_one};
+
+use ot_model::{Expr, Stmt};
+
+/// Whether a body has no branches and no picks: the way through it does what its run does.
+#[cycle(straight)]
+pub fn is_straight(body: &Vec<Stmt>) -> bool
+    ensures { result ≡ is_straight (stmts_of body.now.items) }
+{
+    for stmt in body {
+        if !is_straight_one(stmt) {
+            return false;
+        }
+    }
+    true
+}
+
+#[cycle(straight)]
+fn is_straight_one(stmt: &Stmt) -> bool
+    ensures { result ≡ is_straight_one (stmt_of stmt.now) }
+{
+    match stmt {
+        Stmt::Set(_, expr) | Stmt::Fold(_, _, expr) => has_no_pick(expr),
+        Stmt::If(_, _, _) => false,
+        Stmt::Wait(_) => true,
+        Stmt::Task(_, body) | Stmt::Group(_, _, body) => is_straight(body),
+    }
+}
+
+/// Whether no pick is in a value.
+fn has_no_pick(expr: &Expr) -> bool
+    ensures { result ≡ has_no_pick (expr_of expr.now) }
+{
+    match expr {
+        Expr::Number(_) | Expr::Cell(_) => true,
+        Expr::Op(_, one, two) => has_no_pick(one) && has_no_pick(two),
+        Expr::Pick(_, _) => false,
+    }
+}
