@@ -56,8 +56,8 @@ abbrev pub with_group : Operation → List Cell → List Grouped → List Groupe
 with_group op [] gs = gs
 with_group op (c ∷ cs) gs = with_group op cs (record { operation = op; cell = c } ∷ gs)
 
--- A cell that a group around is over is named by tasks that fold it alone, by the group's operation, and no wait folds. So in the
--- body of a task with this declaration, inside of these groups.
+-- Nobody touches a cell that a group around is over but a task that folds it, by the group's operation, and what a task folds is such a cell. A
+-- group inside is over other cells, and no wait folds. So in the body of a task with this declaration, inside of these groups.
 abbrev mutual
   pub StatementReduces : List Grouped → List Use → S → Type 0
   StatementReduces gs own (Set c e) = IsFree gs c × ReadsFree gs e
