@@ -29,7 +29,9 @@ fn is_array(number: u32, array: usize) -> bool
 fn sections_name(sections: &[Section], array: usize) -> bool
     ensures { result ≡ named.sections_name array sections.now }
 {
-    sections.iter().any(|section| is_array(section.array, array))
+    sections
+        .iter()
+        .any(|section| is_array(section.array, array))
 }
 
 #[cycle(names)]
@@ -77,7 +79,9 @@ fn value_names(expr: &Expr, array: usize) -> bool
 fn decl_names(decl: &Decl, array: usize) -> bool
     ensures { result ≡ named.uses_name array decl.now }
 {
-    decl.uses().iter().any(|used| is_array(used.cell.array, array))
+    decl.uses()
+        .iter()
+        .any(|used| is_array(used.cell.array, array))
 }
 
 fn cells_name(cells: &[Cell], array: usize) -> bool
