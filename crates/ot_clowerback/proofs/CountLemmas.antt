@@ -18,7 +18,7 @@ use Rattle.ot_print.specs.Sections.{cells_in, sections_of, cells_of, row}
 use Rattle.ot_print.proofs.SectionLemmas.{comes_back}
 use Rattle.ot_c.specs.Clauses.{is_long, short}
 use Rattle.ot_c.specs.Statements.{is_mode, only_folds}
-use Rattle.ot_c.proofs.OrderLemmas.{has, Below, AreSorted, sorted_in}
+use Rattle.ot_c.proofs.OrderLemmas.{has, AreSorted, sorted_in}
 use Rattle.ot_clowerback.proofs.UsesLemmas.{same_itself, not_below, below_in, sorted_cells, cells, in_row}
 
 -- ---- what is true of cells
@@ -123,17 +123,6 @@ times_sorted c (d ∷ ds) sorted = by (same_cell c d) refl (times_sorted c ds so
     by false is rest = rw (sym (swapped c d), is) (omega (arith, rest))
 
 -- ---- cells of a declaration, by their modes
-
-modes_below : (c : Cell) (us : List Use) → Below c (cells us) → mode_in us c ≡ None
-modes_below c [] below = refl
-modes_below c (u ∷ us) below = ap (λ b. if b then Some u.mode else mode_in us c) (first_no (not_below c (cells (u ∷ us)) below)) ∙ modes_below c us below.1
-  where
-    first_no : (same_cell c u.cell || has c (cells us)) ≡ false → same_cell c u.cell ≡ false
-    first_no h = by (same_cell c u.cell) h
-      where
-        by : (b : Bool) → (b || has c (cells us)) ≡ false → b ≡ false
-        by true h = h
-        by false h = refl
 
 pub modes_by : (us : List Use) (c : Cell) (m : Mode) → AreSorted (cells us) → has c (cells_in us m) ≡ is_mode (mode_in us c) m
 modes_by [] c m sorted = refl

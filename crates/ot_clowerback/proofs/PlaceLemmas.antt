@@ -120,10 +120,6 @@ module _ (a : Around) (o : Opening) where
 
 -- ---- cells of sections
 
-or_false : (a b : Bool) → (a || b) ≡ false → (a ≡ false) × (b ≡ false)
-or_false true b is = absurd (true≢false is)
-or_false false b is = (refl, is)
-
 pub in_section : (s : Section) (c : Cell) → has_cell s c ≡ ((c.array == s.array) && (nat_le s.start c.index && nat_lt (c.index - s.start) s.len))
 in_section s c = ap (list_any (same_cell c)) (cells_row s) ∙ in_row s.array s.start s.len c
 

@@ -163,10 +163,6 @@ module _ (gs : List Grouped) (own : Declared) (opened : Openings) (stands : Stan
   or_left : (a b : Bool) → a ≡ true → (a || b) ≡ true
   or_left a b is = rw is refl
 
-  or_right : (a b : Bool) → b ≡ true → (a || b) ≡ true
-  or_right true b is = refl
-  or_right false b is = is
-
   fold_itself : (op : Operation) → same_fold op op ≡ true
   fold_itself op = (fold-decides op op).1 refl
 
@@ -231,10 +227,6 @@ module _ (gs : List Grouped) (own : Declared) (opened : Openings) (stands : Stan
       by modes.Reads is = tt
       by modes.Writes is = tt
       by (modes.Folds op) is = either op (folds_to own op u.cell) (opened op u.cell) refl refl is
-
-  and_false : (a : Bool) → (a && false) ≡ false
-  and_false true = refl
-  and_false false = refl
 
   none_allowed : (wanted : Mode) (us : List Use) (op : Operation) (c : Cell) → ((p : Operation) → covers (modes.Folds p) wanted ≡ false) → grouped_by gs c ≡ Some op → AllOf (λ u. misfits own opened u ≡ false) us → AllOf (λ u. exceeds own u ≡ false) us → allows (Some us) (use_as wanted c) ≡ false
   none_allowed wanted [] op c uncovered is fit within = refl

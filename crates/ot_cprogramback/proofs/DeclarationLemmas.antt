@@ -157,11 +157,6 @@ module _ (number : Text → ℕ) (words : List (String Global)) where
       })
   all_known ms (d ∷ ds) text fits new (inr is) = all_known (slice_set ms (number d.name) (cells d)) ds text fits.2 (still_new ms d ds fits.0 fits.1 fits.2 new.1) is
 
-  -- inside of regions and outside of them
-  pub cells_known : (inside : Bool) (ms : List Meaning) (ds : List Declared) (text : Text) → DeclarationsFit number words ds → AreNew ms ds → IsDeclared text ds
-      → (count : ℕ) × (sense (outside words (with_all ms ds) inside) (name_of number text) ≡ s.Cells t.UnsignedLong (Some count))
-  cells_known inside ms ds text fits new is = let known = all_known ms ds text fits new is in (known.count, rw (known.free, known.meaning) refl)
-
   -- ---- one declaration
 
   pub variable_is : (at : ℕ) (d : Declared) (before : D) → DeclarationFits number words d → is_declared before.arrays (own_name d.name) ≡ false → slice_get before.meanings (number d.name) ≡ Some m.Nothing
