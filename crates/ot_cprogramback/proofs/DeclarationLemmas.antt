@@ -16,12 +16,10 @@ use Rattle.ot_words.specs.Names.{known_words, known_of}
 use Rattle.ot_words.specs.declared.word.IntegerType.TheVariants as t
 use Rattle.ot_cscope.specs.declared.scope.Meaning.{Meaning}
 use Rattle.ot_cscope.specs.declared.scope.Meaning.TheVariants as m
-use Rattle.ot_cscope.specs.declared.scope.Sense.TheVariants as s
 use Rattle.ot_cscope.specs.Constants.{constant}
-use Rattle.ot_cscope.specs.Scopes.{Around, sense}
+use Rattle.ot_cscope.specs.Scopes.{Around}
 use Rattle.ot_cdeclare.specs.Each.{each}
 use Rattle.ot_cdeclare.specs.Arrays.{Arr, D, first, number_step, begun as begun_by, cells_in, outside, is_declared, variable_step}
-use Rattle.ot_cback.specs.Numbering.{name_of}
 use Rattle.ot_cback.specs.Values.{constant_tree}
 use Rattle.ot_cfileback.specs.Parts.{start, cells_of}
 use Rattle.ot_clowerback.proofs.HeadingLemmas.{no_more, one_more}
