@@ -1,5 +1,5 @@
 -- What is found where no way races.
-use Rattle.std.proofs.Common.{◌≡◌, ◌∙◌, ◌⊎◌, inl, inr, refl, sym, ℕ, List, true, false, true≢false}
+use Rattle.std.proofs.Common.{◌≡◌, ◌∙◌, inl, inr, refl, sym, ℕ, List, true, false, true≢false}
 use Rattle.std.proofs.lemmas.Bool.{both_ways}
 use Rattle.ot_model.specs.Tree.{Body}
 use Rattle.ot_model.specs.Cells.{cell_of, lengths}

@@ -4,7 +4,6 @@ use Rattle.std.specs.Fmt.{decimal}
 use Rattle.serde_json.specs.Data.{Data, string, array, no_items, item}
 use Rattle.serde_json.specs.View.{view}
 use Rattle.ot_model.specs.Programs.{Expanded}
-use Rattle.ot_model.specs.Shapes.{Arrays}
 use Rattle.ot_model.specs.Tree.{Body}
 use Rattle.ot_model.specs.declared.stmt.Mode.{Mode}
 use Rattle.ot_model.specs.declared.stmt.Mode.TheVariants.{Reads, Writes, Folds}
@@ -143,10 +142,6 @@ ReportsProgram s cells body verdict text =
 -- the request that runs a program
 abbrev pub run_of : Data → Data
 run_of program = array (item (string (codes "run")) (item program no_items))
-
--- the request of a source runs a text that is this program over these arrays
-abbrev pub HasProgram : Source → Arrays → Expanded → Type 0
-HasProgram s shape program = (text : Data) × (s.request ≡ run_of text) × (program_of shape text ≡ Ok program)
 
 -- which entry of a program that isn't read is told: the first one that has a fault
 unfoldable pub faulty : Source → ℕ

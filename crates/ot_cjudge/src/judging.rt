@@ -1,6 +1,5 @@
 //! A C text, judged over the program that stands for it.
-ghost use Rattle.std.specs.Prelude.{◌≡◌, ◌++◌, ℕ, List, IfOk, Some, Ok, Result};
-ghost use Rattle.serde_json.specs.Data.{Data};
+ghost use Rattle.std.specs.Prelude.{◌≡◌, ◌++◌, ℕ, List, IfOk, Some, Result};
 ghost use Rattle.serde_json.specs.View.{view};
 ghost use Rattle.ot_model.specs.View.{stmts_of};
 ghost use Rattle.ot_model.specs.Cells.{lengths};
@@ -16,7 +15,7 @@ ghost use Rattle.ot_cjudge.specs.Sites.{entry_site};
 ghost use Rattle.ot_cjudge.specs.SiteView.{source_by};
 ghost use Rattle.ot_cjudge.specs.Fits.{Fits};
 ghost use Rattle.ot_cjudge.specs.Lacks.{lacks};
-ghost use Rattle.ot_cjudge.specs.Reports.{HasProgram, Reports, ReportsRead, ReportsProgram, ReportsRun, ReportsFinding, race_text, warning_text, only_run_line, faulty, outside_line, overlaps, reason_of, run_of};
+ghost use Rattle.ot_cjudge.specs.Reports.{Reports, ReportsRead, ReportsProgram, ReportsRun, ReportsFinding, race_text, warning_text, only_run_line, faulty, outside_line, overlaps, reason_of, run_of};
 
 use crate::finding::{Finding, find_in_checked, find_in_refused};
 use crate::found::find_in;
@@ -33,7 +32,6 @@ use ot_check::{CheckFault, Checked, Offence, check};
 use ot_fault::first_fault;
 use ot_model::{Cells, Program, Shape, Use};
 use ot_overlap::first_overlap;
-use ot_place::value_at;
 use ot_program::{ProgramFault, Refusal, read_program};
 use ot_race::Race;
 use serde_json::Value;
@@ -83,7 +81,6 @@ fn report_read(
 ) -> Result<Report, AllocError>
     requires named { IfOk read (λ program. IsNamedIn (array_lengths shape.now) (expanded_of program)) }
     requires cells { lengths cells ≡ array_lengths shape.now }
-    requires again { (text : Data) × (view source.now.request.now ≡ run_of text) × Gives expanded_of read (program_of shape.now text) }
     ensures { (program : Result Expanded Refusal) → Gives expanded_of read program → IfOk result (λ report. ReportsRead (source_by source.now) cells program report.verdict report.text.items) }
 {
     match read {
@@ -124,7 +121,6 @@ fn report_program(
 ) -> Result<Report, AllocError>
     requires named { IsNamedIn (array_lengths shape.now) (expanded_of program) }
     requires cells { lengths cells ≡ array_lengths shape.now }
-    requires again { HasProgram (source_by source.now) shape.now (expanded_of program) }
     ensures { IfOk result (λ report. ReportsProgram (source_by source.now) cells (stmts_of program.body.items) report.verdict report.text.items) }
 {
     match first_overlap(alloc, source.request, source.arrays)? {
@@ -154,7 +150,7 @@ fn report_overlap(alloc: Global, source: &Source<'_>, entry: u32) -> Result<Repo
 }
 
 /// What is written of a program in which no items of which one writes overlap in part. What a server refuses is asked first: a
-/// program that isn't refused may race nowhere.
+/// program that isn't refused may race nowhere. That takes the program, and gives up one that offends, so a copy is kept.
 fn report_run(
     alloc: Global,
     source: &Source<'_>,
@@ -164,13 +160,13 @@ fn report_run(
 ) -> Result<Report, AllocError>
     requires named { IsNamedIn (array_lengths shape.now) (expanded_of program) }
     requires cells { lengths cells ≡ array_lengths shape.now }
-    requires again { HasProgram (source_by source.now) shape.now (expanded_of program) }
     ensures { IfOk result (λ report. ReportsRun (source_by source.now) cells (stmts_of program.body.items) report.verdict report.text.items) }
 {
+    let kept = program.copy(alloc)?;
     match check(alloc, program, shape) {
         Ok(checked) => report_accepted(alloc, source, &checked, cells),
         Err(CheckFault::Offence(offence, place)) => {
-            report_offending(alloc, source, shape, cells, (place, offence))
+            report_offending(alloc, source, &kept, cells, (place, offence))
         }
         Err(CheckFault::Memory) => Err(AllocError),
     }
@@ -190,43 +186,20 @@ fn report_accepted(
     report_finding(alloc, source, &checked.program, None, finding)
 }
 
-/// What is written of a program that a server refuses for this first offence, with its place. The program was given up, and is read
-/// again.
+/// What is written of a program that a server refuses for this first offence, with its place.
 fn report_offending(
     alloc: Global,
     source: &Source<'_>,
-    shape: &Shape,
+    program: &Program,
     cells: Cells,
     first: (u32, Offence),
 ) -> Result<Report, AllocError>
-    requires { lengths cells ≡ array_lengths shape.now }
-    ensures { (program : Expanded) → HasProgram (source_by source.now) shape.now program → IsFirstOf (Offends program.body) (Some first)
-        → IfOk result (λ report. ReportsRun (source_by source.now) cells program.body report.verdict report.text.items) }
+    requires { NamedIn (lengths cells) (stmts_of program.now.body.items) }
+    ensures { IsFirstOf (Offends (stmts_of program.now.body.items)) (Some first)
+        → IfOk result (λ report. ReportsRun (source_by source.now) cells (stmts_of program.now.body.items) report.verdict report.text.items) }
 {
-    let program = read_again(alloc, source, shape)?;
-    let finding = find_in_refused(alloc, source.order, &program, cells)?;
-    report_finding(alloc, source, &program, Some(first), finding)
-}
-
-/// The program of a request that was read before: it is wanting only where memory is.
-fn read_again(alloc: Global, source: &Source<'_>, shape: &Shape) -> Result<Program, AllocError>
-    ensures named { IfOk result (λ again. IsNamedIn (array_lengths shape.now) (expanded_of again)) }
-    ensures same { (program : Expanded) → HasProgram (source_by source.now) shape.now program → IfOk result (λ again. expanded_of again ≡ program) }
-{
-    match value_at(source.request, &[1]) {
-        Some(text) => read_whole(alloc, text, shape),
-        None => Err(AllocError),
-    }
-}
-
-fn read_whole(alloc: Global, text: &Value, shape: &Shape) -> Result<Program, AllocError>
-    ensures named { IfOk result (λ again. IsNamedIn (array_lengths shape.now) (expanded_of again)) }
-    ensures same { (program : Expanded) → program_of shape.now (view text.now) ≡ Ok program → IfOk result (λ again. expanded_of again ≡ program) }
-{
-    match read_program(alloc, text, shape) {
-        Ok(program) => Ok(program),
-        Err(_) => Err(AllocError),
-    }
+    let finding = find_in_refused(alloc, source.order, program, cells)?;
+    report_finding(alloc, source, program, Some(first), finding)
 }
 
 /// What is written of what is found, and of the first offence, with its place.

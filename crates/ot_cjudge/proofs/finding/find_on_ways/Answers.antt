@@ -1,4 +1,4 @@
-use Rattle.std.proofs.Common.{◌≡◌, ◌∙◌, sym, subst, false}
+use Rattle.std.proofs.Common.{◌∙◌, sym, subst}
 use Rattle.ot_model.specs.View.{stmts_of}
 use Rattle.ot_cjudge.specs.Findings.{Finds}
 use Rattle.ot_cjudge.proofs.FindingLemmas.{finds_straight, finds_told}

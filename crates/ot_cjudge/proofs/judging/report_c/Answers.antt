@@ -14,9 +14,6 @@ pub report_read-requires-clause-cells : goal.report_read-requires-clause-cells
 report_read-requires-clause-cells c =
     ap lengths c.in_ok-cells.ensures ∙ same_lengths c.as_slice-given.result.now ∙ sym (ap array_lengths c.in_ok-shape.ensures)
 
-pub report_read-requires-clause-again : goal.report_read-requires-clause-again
-report_read-requires-clause-again c = (view c.args.lowered.program, c.in_ok-request.ensures, c.read_program-read.ensures.read)
-
 pub returns : goal.returns
 returns c =
     let l = c.args.lowered in

@@ -2,7 +2,6 @@ use Rattle.std.proofs.Common.{sym, subst}
 use Rattle.std.specs.Prelude.{IfOk}
 use Rattle.ot_model.specs.Programs.{IsNamedIn, expanded_of}
 use Rattle.ot_model.specs.Shapes.{array_lengths}
-use Rattle.ot_program.specs.Programs.{program_of}
 use Rattle.ot_program.specs.Returned.{Gives}
 use Rattle.ot_check.proofs.Cited.{if_ok}
 use Rattle.ot_cjudge.specs.Reports.{ReportsRead}
@@ -11,11 +10,6 @@ use Rattle.ot_cjudge.proofs.judging.report_read.Goals as goal
 
 pub report_program-requires-clause-named : goal.report_program-requires-clause-named
 report_program-requires-clause-named c = subst (λ r. IfOk r (λ program. IsNamedIn (array_lengths c.args.shape.now) (expanded_of program))) c.in-Ok.is c.requires.named
-
-pub report_program-requires-clause-again : goal.report_program-requires-clause-again
-report_program-requires-clause-again c =
-    let again = c.requires.again in
-    (again.0, again.1, subst (λ r. Gives expanded_of r (program_of c.args.shape.now again.0)) c.in-Ok.is again.2)
 
 pub returns-in-Ok : goal.returns-in-Ok
 returns-in-Ok c = λ program gives.
