@@ -1,5 +1,5 @@
 //! What a judge keeps of tasks: which events are before their next one.
-ghost use Rattle.std.specs.Prelude.{◌≡◌, ◌≢◌, ◌<◌, ◌≤◌, ◌||◌, ◌⊎◌, ◌↔◌, ◌++◌, ℕ, OnOk, true, [], ◌∷◌, length};
+ghost use Rattle.std.specs.Prelude.{◌≡◌, ◌≢◌, ◌<◌, ◌≤◌, ◌||◌, ◌⊎◌, ◌↔◌, ◌++◌, ◌==◌, ℕ, OnOk, true, [], ◌∷◌, length};
 ghost use Rattle.ot_race.specs.Ends.{going_on};
 ghost use Rattle.ot_sets.specs.Sets.{has, words_of};
 ghost use Rattle.ot_race.specs.Standings.{kept_at, knows, last_of, pending_of, IsWhole, AreNested, IsOfListed, IsInside};
@@ -183,11 +183,29 @@ pub(crate) fn settle(
     ensures last { OnOk result (last_of tasks.new.items task ≡ number) }
     ensures pending { OnOk result ((t : ℕ) → pending_of tasks.new.items t ≡ pending_of tasks.old.items t) }
     ensures others { OnOk result ((t : ℕ) → t ≢ task → kept_at tasks.new.items t ≡ kept_at tasks.old.items t) }
-    ensures there { OnOk result (task < length tasks.new.items) }
 {
     reach(alloc, tasks, task)?;
     let standing = &mut tasks[task as usize];
     standing.known = known;
+    standing.last = number;
+    Ok(())
+}
+
+/// A task has an event more, before which is just what it knows.
+pub(crate) fn add_touch(
+    alloc: Global,
+    tasks: &mut Vec<Standing>,
+    task: u32,
+    number: u32,
+) -> Result<(), AllocError>
+    ensures known { OnOk result ((i : ℕ) → knows tasks.new.items task i ≡ (knows tasks.old.items task i || (i == number))) }
+    ensures last { OnOk result (last_of tasks.new.items task ≡ number) }
+    ensures pending { OnOk result ((t : ℕ) → pending_of tasks.new.items t ≡ pending_of tasks.old.items t) }
+    ensures others { OnOk result ((t : ℕ) → t ≢ task → kept_at tasks.new.items t ≡ kept_at tasks.old.items t) }
+{
+    reach(alloc, tasks, task)?;
+    let standing = &mut tasks[task as usize];
+    standing.known.insert(number as usize)?;
     standing.last = number;
     Ok(())
 }
