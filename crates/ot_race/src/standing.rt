@@ -22,31 +22,7 @@ pub(crate) struct Standing {
     pending: Vec<u32>,
 }
 
-/// Whether a set has all that a task knows: it does where it has the task's last event.
-fn is_joined(known: &Numbers, tasks: &[Standing], task: u32) -> bool
-    requires { IsWhole tasks.now known.now }
-    ensures { result ≡ true → (i : ℕ) → knows tasks.now task i ≡ true → has known.now i ≡ true }
-{
-    match tasks.get(task as usize) {
-        Some(standing) => known.has(standing.last as usize),
-        None => true,
-    }
-}
-
-/// Puts all that a task knows into a set.
-fn join(known: &mut Numbers, tasks: &[Standing], task: u32) -> Result<(), AllocError>
-    requires nested { AreNested tasks.now }
-    requires whole { IsWhole tasks.now known.old }
-    ensures joined { OnOk result ((i : ℕ) → has known.new i ≡ (has known.old i || knows tasks.now task i)) }
-    ensures whole { OnOk result (IsWhole tasks.now known.new) }
-{
-    match tasks.get(task as usize) {
-        Some(standing) => known.join(&standing.known),
-        None => Ok(()),
-    }
-}
-
-/// Puts all that a task knows into a set, where it isn't there.
+/// Puts all that a task knows into a set. It is there where the set has the task's last event.
 pub(crate) fn join_task(
     known: &mut Numbers,
     tasks: &[Standing],
@@ -57,10 +33,16 @@ pub(crate) fn join_task(
     ensures joined { OnOk result ((i : ℕ) → (has known.new i ≡ true) ↔ ((has known.old i ≡ true) ⊎ (knows tasks.now task i ≡ true))) }
     ensures whole { OnOk result (IsWhole tasks.now known.new) }
 {
-    if is_joined(&*known, tasks, task) {
-        return Ok(());
+    match tasks.get(task as usize) {
+        Some(standing) => {
+            if known.has(standing.last as usize) {
+                Ok(())
+            } else {
+                known.join(&standing.known)
+            }
+        }
+        None => Ok(()),
     }
-    join(known, tasks, task)
 }
 
 /// The same for each of these tasks. They are looked at from the last: so of a chain of children, each
