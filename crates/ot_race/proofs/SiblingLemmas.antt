@@ -1,6 +1,6 @@
 -- Children that are listed, and what an event changes of them.
-use Rattle.std.proofs.Common.{◌≡◌, ◌≢◌, ◌∙◌, ℕ, zero, suc, ◌+◌, ◌%◌, ◌==◌, ◌<◌, true, false, List, [], ◌∷◌, get_or, refl, sym, ap, subst, inl, inr, arith}
-use Rattle.std.specs.Prelude.{◌⊎◌, Contains, Option, Some, None, slice_get}
+use Rattle.std.proofs.Common.{◌≡◌, ◌≢◌, ◌∙◌, ℕ, zero, suc, ◌+◌, ◌%◌, ◌==◌, ◌<◌, true, false, List, [], ◌∷◌, length, get_or, refl, sym, ap, subst, inl, inr, arith}
+use Rattle.std.specs.Prelude.{◌⊎◌, ◌↔◌, Contains, Option, Some, None, slice_get}
 use Rattle.std.proofs.lemmas.Bool.{cases_eq}
 use Rattle.std.proofs.lemmas.Nat.Bits.{bit_at-zero}
 use Rattle.std.proofs.lemmas.List.Elements.{Contains-append_left, Contains-append_right, Contains-append_cases, Contains-push}
@@ -9,8 +9,9 @@ use Rattle.ot_race.specs.Ends.{HasEnded, AreEnds}
 use Rattle.ot_race.specs.Events.{Begins, Awaits, Event}
 use Rattle.ot_race.specs.Order.{Does}
 use Rattle.ot_race.specs.Siblings.{seen, seen_by_all, IsLedTo, HasDeclared, IsStoodFor, AreSiblings}
-use Rattle.ot_race.specs.Standings.{knows, pending_of, IsUpTo, IsWithin, AreKept, ArePending, IsOfListed, IsOfChild}
+use Rattle.ot_race.specs.Standings.{kept_at, knows, last_of, pending_of, IsUpTo, IsWithin, AreKept, ArePending, IsOfListed, IsOfChild}
 use Rattle.ot_race.specs.Stands.{Stands, IsPassedBy, SiblingsNote, PendingNote}
+use Rattle.ot_sets.specs.Sets.{bit_in}
 use Rattle.ot_race.specs.declared.order.Standings.{Standings}
 use Rattle.ot_race.specs.declared.siblings.Siblings.{Siblings}
 use Rattle.ot_race.specs.declared.standing.Standing.{Standing}
@@ -18,7 +19,7 @@ use Rattle.ot_race.proofs.PlaceLemmas.{place_read, place_within}
 use Rattle.ot_race.proofs.DependsLemmas.{depends_by, depended}
 use Rattle.ot_race.proofs.OrderLemmas.{does_by, does_deed}
 use Rattle.ot_race.proofs.RowLemmas.{is_over, is_used}
-use Rattle.ot_race.proofs.StandingLemmas.{deed_before, known_before, no_bit}
+use Rattle.ot_race.proofs.StandingLemmas.{deed_before, kept_more, known_before, known_up, no_bit}
 
 -- ---- lists
 
@@ -106,7 +107,7 @@ children_pending es n p i tasks a o =
 -- ---- an event more
 
 -- what an event does to what tasks know: its own task then knows all that is up to the event, and the others what they knew
-pub record Grows (es : List Event) (n : ℕ) (e : Event) (tasks new : List Standing) : Type 0 where
+record Grows (es : List Event) (n : ℕ) (e : Event) (tasks new : List Standing) : Type 0 where
   pub at : slice_get es n ≡ Some e
   pub kept : AreKept es n tasks
   pub here : (i : ℕ) → IsUpTo es i n → knows new e.task i ≡ true
@@ -151,7 +152,7 @@ begun_known es n e tasks new g p t i d does o =
     let before = deed_before es n i e (Begins p d) tasks g.at (does_deed es t n (Begins p d) e g.at does) g.kept (inr o) in
     subst (λ x. knows new x i ≡ true) is (g.here i (inr before))
 
-pub pending_more : (es : List Event) (n : ℕ) (e : Event) (tasks new : List Standing) (ends : List ℕ) → Grows es n e tasks new → AreEnds es ends
+pending_more : (es : List Event) (n : ℕ) (e : Event) (tasks new : List Standing) (ends : List ℕ) → Grows es n e tasks new → AreEnds es ends
     → PendingNote es n ends tasks new → ArePending es n tasks → ArePending es (n + 1) new
 pending_more es n e tasks new ends g are-ends note a = record {
   sound = λ p c h. elim (note.only p c h) [
@@ -217,7 +218,7 @@ stood_more es n e tasks new s t ends g are-ends note a p c u stood = record {
   ];
 }
 
-pub siblings_more : (es : List Event) (n : ℕ) (e : Event) (tasks new : List Standing) (s t : Siblings) (ends : List ℕ) → Grows es n e tasks new
+siblings_more : (es : List Event) (n : ℕ) (e : Event) (tasks new : List Standing) (s t : Siblings) (ends : List ℕ) → Grows es n e tasks new
     → AreEnds es ends → SiblingsNote es n ends s t → AreSiblings es n tasks s → AreSiblings es (n + 1) new t
 siblings_more es n e tasks new s t ends g are-ends note a = record {
   sound = λ p c u h. elim (note.only p c u h) [
@@ -246,10 +247,40 @@ siblings_more es n e tasks new s t ends g are-ends note a = record {
   ];
 }
 
+-- an event more is taken in
+pub stands_more : (es : List Event) (n : ℕ) (e : Event) (old new : Standings) → slice_get es n ≡ Some e → Stands es n old
+    → ((i : ℕ) → (knows new.tasks.items e.task i ≡ true) ↔ IsUpTo es i n) → last_of new.tasks.items e.task ≡ n
+    → ((t : ℕ) → t ≢ e.task → (kept_at new.tasks.items t).known ≡ (kept_at old.tasks.items t).known)
+    → ((t : ℕ) → t ≢ e.task → last_of new.tasks.items t ≡ last_of old.tasks.items t) → PendingNote es n old.ends.items old.tasks.items new.tasks.items
+    → SiblingsNote es n old.ends.items old.siblings new.siblings → new.ends ≡ old.ends → Stands es (n + 1) new
+stands_more es n e old new at s up last others lasts pending siblings ends =
+    let is : Grows es n e old.tasks.items new.tasks.items = record {
+      at = at;
+      kept = s.kept;
+      here = λ i u. (up i).1 u;
+      others = λ t apart i. ap (λ ws. bit_in ws i) (others t apart);
+    } in
+    record {
+      kept = kept_more es n e old.tasks.items new.tasks.items at s.kept up last others lasts;
+      pending = pending_more es n e old.tasks.items new.tasks.items old.ends.items is s.ends pending s.pending;
+      siblings = siblings_more es n e old.tasks.items new.tasks.items old.siblings new.siblings old.ends.items is s.ends siblings s.siblings;
+      ends = subst (λ x. AreEnds es x.items) (sym ends) s.ends;
+    }
+
 -- ---- before the first event
 
 knows_none : (t i : ℕ) → knows [] t i ≡ false
 knows_none t i = ap (λ b. b == 1) (bit_at-zero (i % 64))
+
+-- a task that knows an event stands at its place
+knower_there : (tasks : List Standing) (t i : ℕ) → knows tasks t i ≡ true → t < length tasks
+knower_there [] t i h = no_bit (knows [] t i) h (knows_none t i)
+knower_there (st ∷ tasks) zero i h = omega arith
+knower_there (st ∷ tasks) (suc t) i h = let l = knower_there tasks t i h in omega (arith, l)
+
+-- so does the task of the event that was taken in last
+pub doer_there : (es : List Event) (n : ℕ) (e : Event) (tasks : List Standing) → slice_get es n ≡ Some e → AreKept es (n + 1) tasks → e.task < length tasks
+doer_there es n e tasks at s = knower_there tasks e.task n ((known_up es n n e tasks at s).1 (inl refl))
 
 pub stands_none : (es : List Event) (s : Standings) → s.tasks.items ≡ [] → ((p : ℕ) (u : Use) → seen s.siblings p u ≡ []) → AreEnds es s.ends.items
     → Stands es 0 s

@@ -1,13 +1,13 @@
 -- What is kept of tasks, and what is before an event.
 use Rattle.std.proofs.Common.{◌≡◌, ◌≢◌, ℕ, zero, suc, ◌+◌, ◌-◌, ◌<◌, ◌≤◌, true, false, List, [], ◌∷◌, length, set, get_or, refl, sym, ap, subst, ◌∙◌, inl, inr, arith}
-use Rattle.std.specs.Prelude.{◌⊎◌, ◌↔◌, Bool, ◌||◌, Option, Some, None, slice_get}
-use Rattle.std.proofs.lemmas.Bool.{cases_eq, cases_lt}
+use Rattle.std.specs.Prelude.{◌⊎◌, ◌↔◌, Bool, ◌||◌, ◌==◌, Option, Some, None, slice_get}
+use Rattle.std.proofs.lemmas.Bool.{cases_eq, cases_lt, eqb-true}
 use Rattle.ot_model.specs.declared.stmt.Use.{Use}
 use Rattle.ot_check.specs.Offences.{awaits}
-use Rattle.ot_check.proofs.Cited.{or_true, true_or, or_right}
+use Rattle.ot_check.proofs.Cited.{or_true, true_or, or_right, eq_itself}
 use Rattle.ot_race.specs.Events.{Deed, Touches, Begins, Awaits, Leaves, Event}
 use Rattle.ot_race.specs.Order.{IsBy, Does, Leads, InTurn, ByCreation, ByDependence, ByWait, ByEnd, IsBefore, Once}
-use Rattle.ot_sets.specs.Sets.{bit_in, has, words_of}
+use Rattle.ot_sets.specs.Sets.{bit_in, has}
 use Rattle.ot_race.specs.Standings.{Kept, kept_of, nothing, kept_at, knows, last_of, pending_of, IsUpTo, IsLastFrom, AreKept, IsWhole, AreNested, IsOfListed, IsOfChild, IsInside}
 use Rattle.ot_sets.specs.declared.numbers.Numbers.{Numbers}
 use Rattle.ot_race.specs.declared.standing.Standing.{Standing}
@@ -268,14 +268,47 @@ earlier es n t k e at apart by l =
       | inr other ↦ omega (arith, l, other)
     ]
 
-pub kept_more : (es : List Event) (n : ℕ) (e : Event) (tasks new : List Standing) (known : Numbers) → slice_get es n ≡ Some e → AreKept es n tasks
-    → ((i : ℕ) → (has known i ≡ true) ↔ IsUpTo es i n) → (kept_at new e.task).known ≡ words_of known
-    → last_of new e.task ≡ n → ((t : ℕ) → t ≢ e.task → (kept_at new t).known ≡ (kept_at tasks t).known)
+-- behind an event its task knows just what is up to it
+pub known_up : (es : List Event) (n i : ℕ) (e : Event) (tasks : List Standing) → slice_get es n ≡ Some e → AreKept es (n + 1) tasks
+    → (knows tasks e.task i ≡ true) ↔ IsUpTo es i n
+known_up es n i e tasks at s =
+    let mine : IsBy es e.task n = is_by es n e at in (
+      λ h. let k = (s.known e.task i).0 h in up_trans es i k.own n k.reached (in_turn es e.task k.own n k.done mine (omega (arith, k.early))),
+      λ u. known_by es (n + 1) tasks e.task i n s (omega arith) mine u,
+    )
+
+-- before a touch is just what its task knows
+pub touch_known : (es : List Event) (n i : ℕ) (e : Event) (tasks : List Standing) → slice_get es n ≡ Some e → e.deed ≡ Touches → AreKept es n tasks
+    → (knows tasks e.task i ≡ true) ↔ IsBefore es i n
+touch_known es n i e tasks at is s = (
+  λ k. known_before es n i e tasks at s (inl k),
+  λ b. elim (before_known es n i e tasks at s b) [
+    | inl k ↦ k
+    | inr x ↦ absurd (subst (λ d. ByDeed es tasks n e.task d i) is x)
+  ],
+)
+
+-- one more in a set of what is before an event
+pub one_more : (es : List Event) (n i : ℕ) (old new : Bool) → new ≡ (old || (i == n)) → ((old ≡ true) ↔ IsBefore es i n) → (new ≡ true) ↔ IsUpTo es i n
+one_more es n i old new is b = (
+  λ h. elim (or_true old (i == n) (sym is ∙ h)) [
+    | inl past ↦ inr (b.0 past)
+    | inr here ↦ inl (eqb-true i n here)
+  ],
+  λ h. elim h [
+    | inl here ↦ is ∙ or_right old (i == n) (ap (λ k. k == n) here ∙ eq_itself n)
+    | inr past ↦ is ∙ true_or old (i == n) (b.1 past)
+  ],
+)
+
+pub kept_more : (es : List Event) (n : ℕ) (e : Event) (tasks new : List Standing) → slice_get es n ≡ Some e → AreKept es n tasks
+    → ((i : ℕ) → (knows new e.task i ≡ true) ↔ IsUpTo es i n) → last_of new e.task ≡ n
+    → ((t : ℕ) → t ≢ e.task → (kept_at new t).known ≡ (kept_at tasks t).known)
     → ((t : ℕ) → t ≢ e.task → last_of new t ≡ last_of tasks t) → AreKept es (n + 1) new
-kept_more es n e tasks new known at s up here last others lasts = record {
+kept_more es n e tasks new at s up last others lasts = record {
   known = λ t i. elim (cases_eq t e.task) [
     | inl same ↦
-        let is : knows new t i ≡ has known i = ap (λ x. knows new x i) same ∙ ap (λ ws. bit_in ws i) here in
+        let is : knows new t i ≡ knows new e.task i = ap (λ x. knows new x i) same in
         let mine : IsBy es t n = subst (λ x. IsBy es x n) (sym same) (is_by es n e at) in (
           λ h. record { own = n; early = omega arith; done = mine; reached = (up i).0 (sym is ∙ h) },
           λ k. is ∙ (up i).1 (up_trans es i k.own n k.reached (in_turn es t k.own n k.done mine (omega (arith, k.early)))),

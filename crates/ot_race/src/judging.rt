@@ -18,15 +18,15 @@ pub fn judge(alloc: Global, events: &[Event<'_>]) -> Result<Option<Race>, AllocE
     let mut standings = Standings::new(alloc, events)?;
     let mut histories = Histories::new(alloc);
     for number in 0..events.len() as u32 {
-        let known = standings.gather(alloc, events, number)?;
-        if let Some((cell, earlier)) = touch(alloc, &mut histories, events, number, &known)? {
+        standings.take_in(alloc, events, number)?;
+        let known = standings.up_to(events, number);
+        if let Some((cell, earlier)) = touch(alloc, &mut histories, events, number, known)? {
             return Ok(Some(Race {
                 cell,
                 place: events[earlier as usize].place,
                 later: events[number as usize].place,
             }));
         }
-        standings.take_in(alloc, events, number, known)?;
     }
     Ok(None)
 }

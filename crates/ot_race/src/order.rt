@@ -11,7 +11,8 @@ use crate::ends::ends_of;
 use crate::event::{Deed, Event};
 use crate::siblings::{Moment, Siblings};
 use crate::standing::{
-    Standing, add_pending, join_inside, join_listed, join_pending, join_task, pass_pending, settle,
+    Standing, add_pending, add_touch, join_inside, join_listed, join_pending, join_task,
+    pass_pending, settle,
 };
 use ot_sets::Numbers;
 use std::alloc::{AllocError, Global};
@@ -39,58 +40,44 @@ impl Standings {
         })
     }
 
-    /// The events that are before this one, and itself, where what is kept is that of all events before
-    /// it.
-    pub(crate) fn gather(
-        &self,
-        alloc: Global,
-        events: &[Event<'_>],
-        number: u32,
-    ) -> Result<Numbers, AllocError>
-        requires there { number < length events.now }
-        requires stands { Stands (events_in events.now) number self.now }
-        ensures { IfOk result (λ known. (i : ℕ) → (has known i ≡ true) ↔ IsUpTo (events_in events.now) i number) }
-    {
-        let mut known = Numbers::new(alloc);
-        join_before(
-            alloc,
-            &mut known,
-            &self.tasks,
-            &self.siblings,
-            events,
-            number,
-        )?;
-        known.insert(number as usize)?;
-        Ok(known)
-    }
-
-    /// Takes an event in, before which these are or which is one of these.
+    /// Takes an event in, where what is kept is that of all events before it. Before a touch is just what
+    /// its task knows: so the touch is put into the task's own set.
     pub(crate) fn take_in(
         &mut self,
         alloc: Global,
         events: &[Event<'_>],
         number: u32,
-        known: Numbers,
     ) -> Result<(), AllocError>
         requires there { number < length events.now }
-        requires known { (i : ℕ) → (has known i ≡ true) ↔ IsUpTo (events_in events.now) i number }
         requires stands { Stands (events_in events.now) number self.old }
         ensures { OnOk result (Stands (events_in events.now) (number + 1) self.new) }
     {
+        let event = &events[number as usize];
+        if let Deed::Touches = event.deed {
+            add_touch(alloc, &mut self.tasks, event.task, number)?;
+            return Ok(());
+        }
+        let (tasks, siblings) = (&self.tasks, &self.siblings);
+        let mut known = Numbers::new(alloc);
+        join_before(alloc, &mut known, tasks, siblings, events, number)?;
+        known.insert(number as usize)?;
         let at = Moment {
             number,
             ends: &self.ends,
         };
         note_siblings(alloc, &mut self.siblings, events, at)?;
         note_pending(alloc, &mut self.tasks, events, at)?;
-        settle(
-            alloc,
-            &mut self.tasks,
-            events[number as usize].task,
-            known,
-            number,
-        )?;
+        settle(alloc, &mut self.tasks, event.task, known, number)?;
         Ok(())
+    }
+
+    /// The event that was taken in last, and those that are before it.
+    pub(crate) fn up_to(&self, events: &[Event<'_>], number: u32) -> &Numbers
+        requires there { number < length events.now }
+        requires stands { Stands (events_in events.now) (number + 1) self.now }
+        ensures { (i : ℕ) → (has result.now i ≡ true) ↔ IsUpTo (events_in events.now) i number }
+    {
+        &self.tasks[events[number as usize].task as usize].known
     }
 }
 

@@ -1,5 +1,5 @@
 //! What a judge keeps of tasks: which events are before their next one.
-ghost use Rattle.std.specs.Prelude.{◌≡◌, ◌≢◌, ◌<◌, ◌≤◌, ◌||◌, ◌⊎◌, ◌↔◌, ◌++◌, ℕ, OnOk, true, [], ◌∷◌, length};
+ghost use Rattle.std.specs.Prelude.{◌≡◌, ◌≢◌, ◌<◌, ◌≤◌, ◌||◌, ◌⊎◌, ◌↔◌, ◌++◌, ◌==◌, ℕ, OnOk, true, [], ◌∷◌, length};
 ghost use Rattle.ot_race.specs.Ends.{going_on};
 ghost use Rattle.ot_sets.specs.Sets.{has, words_of};
 ghost use Rattle.ot_race.specs.Standings.{kept_at, knows, last_of, pending_of, IsWhole, AreNested, IsOfListed, IsInside};
@@ -22,31 +22,7 @@ pub(crate) struct Standing {
     pending: Vec<u32>,
 }
 
-/// Whether a set has all that a task knows: it does where it has the task's last event.
-fn is_joined(known: &Numbers, tasks: &[Standing], task: u32) -> bool
-    requires { IsWhole tasks.now known.now }
-    ensures { result ≡ true → (i : ℕ) → knows tasks.now task i ≡ true → has known.now i ≡ true }
-{
-    match tasks.get(task as usize) {
-        Some(standing) => known.has(standing.last as usize),
-        None => true,
-    }
-}
-
-/// Puts all that a task knows into a set.
-fn join(known: &mut Numbers, tasks: &[Standing], task: u32) -> Result<(), AllocError>
-    requires nested { AreNested tasks.now }
-    requires whole { IsWhole tasks.now known.old }
-    ensures joined { OnOk result ((i : ℕ) → has known.new i ≡ (has known.old i || knows tasks.now task i)) }
-    ensures whole { OnOk result (IsWhole tasks.now known.new) }
-{
-    match tasks.get(task as usize) {
-        Some(standing) => known.join(&standing.known),
-        None => Ok(()),
-    }
-}
-
-/// Puts all that a task knows into a set, where it isn't there.
+/// Puts all that a task knows into a set. It is there where the set has the task's last event.
 pub(crate) fn join_task(
     known: &mut Numbers,
     tasks: &[Standing],
@@ -57,10 +33,16 @@ pub(crate) fn join_task(
     ensures joined { OnOk result ((i : ℕ) → (has known.new i ≡ true) ↔ ((has known.old i ≡ true) ⊎ (knows tasks.now task i ≡ true))) }
     ensures whole { OnOk result (IsWhole tasks.now known.new) }
 {
-    if is_joined(&*known, tasks, task) {
-        return Ok(());
+    match tasks.get(task as usize) {
+        Some(standing) => {
+            if known.has(standing.last as usize) {
+                Ok(())
+            } else {
+                known.join(&standing.known)
+            }
+        }
+        None => Ok(()),
     }
-    join(known, tasks, task)
 }
 
 /// The same for each of these tasks. They are looked at from the last: so of a chain of children, each
@@ -183,11 +165,29 @@ pub(crate) fn settle(
     ensures last { OnOk result (last_of tasks.new.items task ≡ number) }
     ensures pending { OnOk result ((t : ℕ) → pending_of tasks.new.items t ≡ pending_of tasks.old.items t) }
     ensures others { OnOk result ((t : ℕ) → t ≢ task → kept_at tasks.new.items t ≡ kept_at tasks.old.items t) }
-    ensures there { OnOk result (task < length tasks.new.items) }
 {
     reach(alloc, tasks, task)?;
     let standing = &mut tasks[task as usize];
     standing.known = known;
+    standing.last = number;
+    Ok(())
+}
+
+/// A task has an event more, before which is just what it knows.
+pub(crate) fn add_touch(
+    alloc: Global,
+    tasks: &mut Vec<Standing>,
+    task: u32,
+    number: u32,
+) -> Result<(), AllocError>
+    ensures known { OnOk result ((i : ℕ) → knows tasks.new.items task i ≡ (knows tasks.old.items task i || (i == number))) }
+    ensures last { OnOk result (last_of tasks.new.items task ≡ number) }
+    ensures pending { OnOk result ((t : ℕ) → pending_of tasks.new.items t ≡ pending_of tasks.old.items t) }
+    ensures others { OnOk result ((t : ℕ) → t ≢ task → kept_at tasks.new.items t ≡ kept_at tasks.old.items t) }
+{
+    reach(alloc, tasks, task)?;
+    let standing = &mut tasks[task as usize];
+    standing.known.insert(number as usize)?;
     standing.last = number;
     Ok(())
 }
