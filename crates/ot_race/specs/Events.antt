@@ -1,7 +1,7 @@
 -- What happens when a program goes one way: its events, in the order of the serial run, each task where it is created.
 use Rattle.std.specs.Prelude.{ℕ, ◌+◌, ◌%◌, ◌++◌, length, if◌then◌else◌, List, [], ◌∷◌, map, Option, Some, None}
 use Rattle.ot_model.specs.Tree.{E, Literal, CellAt, Apply, PickFrom, S, Set, Fold, If, Task, Wait, Group, Body, End, Next}
-use Rattle.ot_model.specs.Value.{val, cell_at, cells_named}
+use Rattle.ot_model.specs.Value.{val, cell_at}
 use Rattle.ot_model.specs.Cells.{cell_of}
 use Rattle.ot_model.specs.Counts.{size, size_one}
 use Rattle.ot_model.specs.Joining.{join_by}

@@ -78,7 +78,7 @@ impl Row {
         ensures others { OnOk result ((i : ℕ) → i ≢ index → get_or (row_of self.new) i untouched ≡ get_or (row_of self.old) i untouched) }
     {
         self.reach(alloc, index)?;
-        self.histories[index as usize].add(alloc, mode, event)
+        self.histories[index as usize].add(mode, event)
     }
 
     /// Makes a history for the cell.

@@ -51,16 +51,14 @@ impl History {
     }
 
     /// A touch by an event that comes behind all that it conflicts with.
-    pub(crate) fn add(&mut self, alloc: Global, mode: Mode, event: u32) -> Result<(), AllocError>
+    pub(crate) fn add(&mut self, mode: Mode, event: u32) -> Result<(), AllocError>
         ensures { OnOk result (phases_of self.new ≡ touched_by (phases_of self.old) mode event) }
     {
         if self.mode.conflicts(mode) {
-            let mut last = Vec::new(alloc);
-            last.push(event)?;
-            self.before = std::mem::replace(&mut self.last, last);
-        } else {
-            self.last.push(event)?;
+            std::mem::swap(&mut self.before, &mut self.last);
+            self.last.clear();
         }
+        self.last.push(event)?;
         self.mode = mode;
         Ok(())
     }
