@@ -5,6 +5,7 @@
 ghost use Rattle.std.specs.Prelude.{◌≡◌, ◌+◌, ◌++◌, ◌≤◌, [], vec_len, vec_capacity, IfOk};
 ghost use Rattle.ot_lines.specs.Counts.{flow};
 ghost use Rattle.ot_lines.specs.Lines.{heard_by, Hears};
+ghost use Rattle.ot_ask.specs.Streams.{Incoming, IsStreamOver, ReadsLine, incoming};
 
 use ot_lines::{Bounds, Heard, LineFault, Lines, Source};
 use std::alloc::{AllocError, Global};
@@ -35,8 +36,6 @@ pub enum ReadFault {
 
 /// Lines that come in.
 pub trait LineSource {
-    ghost use Rattle.ot_ask.specs.Streams.{Incoming, IsStreamOver, ReadsLine};
-
     // What is still to come, and what happened.
     ghost coming: { Self → Incoming };
 
@@ -61,9 +60,6 @@ pub struct LinesOf<R: Source> {
 }
 
 impl<R: Source + Drop> LinesOf<R> {
-    ghost use Rattle.std.specs.Prelude.{◌≡◌, IfOk};
-    ghost use Rattle.ot_ask.specs.Streams.{incoming};
-
     /// Nothing is read yet.
     pub fn new(alloc: Global, source: R) -> Result<LinesOf<R>, AllocError>
         ensures { IfOk result (λ lines. ⟦<LinesOf<R> as LineSource>⟧.coming lines ≡ incoming (R.ahead source) 0 0) }
@@ -85,7 +81,6 @@ impl<R: Source + Drop> LinesOf<R> {
 
 impl<R: Source> LineSource for LinesOf<R> {
     ghost use Rattle.std.specs.Io.KnownBytes.{prepend_known};
-    ghost use Rattle.ot_ask.specs.Streams.{incoming};
 
     ghost coming = { λ s. incoming (prepend_known s.lines.ahead (R.ahead s.source)) s.ends s.failures };
 

@@ -1,3 +1,7 @@
+ghost use Rattle.std.specs.Prelude.{◌≡◌, IfOk, IfErr};
+ghost use Rattle.ot_book.specs.declared.executor.NotDone.TheVariants.{Memory};
+ghost use Rattle.ot_check.specs.Jobs.{Spec, IsMeaning};
+
 use ot_check::{JobSpec, Outcome};
 use ot_model::plain_run;
 use std::alloc::{AllocError, Global};
@@ -17,9 +21,6 @@ pub enum NotDone {
 }
 
 impl From<AllocError> for NotDone {
-    ghost use Rattle.std.specs.Prelude.{◌≡◌};
-    ghost use Rattle.ot_book.specs.declared.executor.NotDone.TheVariants.{Memory};
-
     ghost from_gives = { λ _ e. e ≡ Memory };
 
     fn from(_error: AllocError) -> NotDone {
@@ -29,9 +30,6 @@ impl From<AllocError> for NotDone {
 
 /// What runs jobs.
 pub trait Executor {
-    ghost use Rattle.std.specs.Prelude.{IfOk};
-    ghost use Rattle.ot_check.specs.Jobs.{Spec, IsMeaning};
-
     /// Runs the job whole: the outcome is the serial meaning of its program from its cells.
     fn perform(&mut self, alloc: Global, spec: &JobSpec) -> Result<Outcome, NotDone>
         ensures { IfOk result (λ outcome. IsMeaning spec.now outcome) };
@@ -42,10 +40,6 @@ pub trait Executor {
 pub struct Solo;
 
 impl Executor for Solo {
-    ghost use Rattle.std.specs.Prelude.{◌≡◌, IfOk, IfErr};
-    ghost use Rattle.ot_check.specs.Jobs.{IsMeaning};
-    ghost use Rattle.ot_book.specs.declared.executor.NotDone.TheVariants.{Memory};
-
     /// It refuses for want of memory alone.
     fn perform(&mut self, alloc: Global, spec: &JobSpec) -> Result<Outcome, NotDone>
         ensures meaning { IfOk result (λ outcome. IsMeaning spec.now outcome) }

@@ -1,4 +1,4 @@
-ghost use Rattle.std.specs.Prelude.{◌≡◌, IsTrue, string_bytes};
+ghost use Rattle.std.specs.Prelude.{◌≡◌, IsTrue, string_bytes, IfSome};
 ghost use Rattle.ot_model.specs.ShapeView.{arrays_of};
 
 use ot_check::Checked;
@@ -32,7 +32,6 @@ impl Model for Kept {
 }
 
 impl Kept {
-    ghost use Rattle.std.specs.Prelude.{IfSome};
     ghost use Rattle.std.specs.Arc.{arc_value};
     ghost use Rattle.ot_book.specs.Readings.{IsReading};
 

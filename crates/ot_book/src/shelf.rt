@@ -1,5 +1,5 @@
-ghost use Rattle.std.specs.Prelude.{◌≡◌, ◌+◌, ◌≤◌, ◌⊎◌, length, take};
-ghost use Rattle.ot_book.specs.Shelves.{FitOn};
+ghost use Rattle.std.specs.Prelude.{◌≡◌, ◌+◌, ◌≤◌, ◌⊎◌, length, take, ◌<◌, ◌∷◌, [], Some, slice_get, remove, IfSome, MatchOption};
+ghost use Rattle.ot_book.specs.Shelves.{FitOn, Keeps, Uses};
 
 use crate::kept::Kept;
 use ot_check::Checked;
@@ -45,10 +45,8 @@ impl fmt::Debug for Shelf {
 }
 
 impl Shelf {
-    ghost use Rattle.std.specs.Prelude.{◌≡◌, ◌<◌, ◌⊎◌, ◌∷◌, [], Some, length, slice_get, remove, IfSome, MatchOption};
     ghost use Rattle.std.specs.Arc.{arc_value};
     ghost use Rattle.ot_book.specs.Readings.{Reading, IsReading};
-    ghost use Rattle.ot_book.specs.Shelves.{Keeps, Uses};
 
     /// An empty one. It takes no memory.
     pub(crate) fn new(alloc: Global) -> Shelf

@@ -1,5 +1,7 @@
 ghost use Rattle.std.specs.Prelude.{◌≡◌, IfOk, map};
 ghost use Rattle.ot_model.specs.ShapeView.{arrays_of};
+ghost use Rattle.ot_book.specs.declared.told.Told.TheVariants.{Lost, Refused};
+ghost use Rattle.ot_book.specs.Faults.{told_by_store, told_by_program, told_by_check};
 
 use crate::code::Code;
 use ot_check::{CheckFault, Offence};
@@ -28,7 +30,6 @@ pub enum Told {
 }
 
 impl Told {
-    ghost use Rattle.std.specs.Prelude.{◌≡◌, IfOk};
     ghost use Rattle.ot_book.specs.ReplyView.{told_of};
 
     /// An equal one.
@@ -51,9 +52,6 @@ impl Told {
 }
 
 impl From<AllocError> for Told {
-    ghost use Rattle.std.specs.Prelude.{◌≡◌};
-    ghost use Rattle.ot_book.specs.declared.told.Told.TheVariants.{Lost};
-
     ghost from_gives = { λ _ told. told ≡ Lost };
 
     fn from(_error: AllocError) -> Told {
@@ -62,9 +60,6 @@ impl From<AllocError> for Told {
 }
 
 impl<T: Drop> From<AllocFailed<T>> for Told {
-    ghost use Rattle.std.specs.Prelude.{◌≡◌};
-    ghost use Rattle.ot_book.specs.declared.told.Told.TheVariants.{Lost};
-
     ghost from_gives = { λ _ told. told ≡ Lost };
 
     fn from(_error: AllocFailed<T>) -> Told {
@@ -73,9 +68,7 @@ impl<T: Drop> From<AllocFailed<T>> for Told {
 }
 
 impl From<StoreRefusal> for Told {
-    ghost use Rattle.std.specs.Prelude.{◌≡◌};
     ghost use Rattle.ot_book.specs.declared.code.Code.TheVariants.{Store};
-    ghost use Rattle.ot_book.specs.declared.told.Told.TheVariants.{Refused};
 
     ghost from_gives = { λ refusal told. told ≡ Refused (Store refusal) };
 
@@ -85,9 +78,6 @@ impl From<StoreRefusal> for Told {
 }
 
 impl From<StoreFault> for Told {
-    ghost use Rattle.std.specs.Prelude.{◌≡◌};
-    ghost use Rattle.ot_book.specs.Faults.{told_by_store};
-
     ghost from_gives = { λ fault told. told ≡ told_by_store fault };
 
     fn from(fault: StoreFault) -> Told {
@@ -99,9 +89,6 @@ impl From<StoreFault> for Told {
 }
 
 impl From<ProgramFault> for Told {
-    ghost use Rattle.std.specs.Prelude.{◌≡◌};
-    ghost use Rattle.ot_book.specs.Faults.{told_by_program};
-
     ghost from_gives = { λ fault told. told ≡ told_by_program fault };
 
     fn from(fault: ProgramFault) -> Told {
@@ -113,9 +100,6 @@ impl From<ProgramFault> for Told {
 }
 
 impl From<CheckFault> for Told {
-    ghost use Rattle.std.specs.Prelude.{◌≡◌};
-    ghost use Rattle.ot_book.specs.Faults.{told_by_check};
-
     ghost from_gives = { λ fault told. told ≡ told_by_check fault };
 
     fn from(fault: CheckFault) -> Told {

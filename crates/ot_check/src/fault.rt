@@ -1,3 +1,5 @@
+ghost use Rattle.std.specs.Prelude.{◌≡◌};
+
 use std::alloc::AllocError;
 
 /// What a program does that it may not do: with it, the answer could depend on the order in which
@@ -19,7 +21,6 @@ pub enum Offence {
 }
 
 impl Offence {
-    ghost use Rattle.std.specs.Prelude.{◌≡◌};
     ghost use Rattle.ot_check.specs.Codes.{code_of};
 
     /// The number that a client is told.
@@ -46,7 +47,6 @@ pub enum CheckFault {
 }
 
 impl From<AllocError> for CheckFault {
-    ghost use Rattle.std.specs.Prelude.{◌≡◌};
     ghost use Rattle.ot_check.specs.declared.fault.CheckFault.TheVariants.{Memory};
 
     ghost from_gives = { λ _ fault. fault ≡ Memory };

@@ -30,9 +30,7 @@ impl Model for JobSpec {
 }
 
 impl JobSpec {
-    ghost use Rattle.std.specs.Prelude.{◌≡◌, ◌↔◌, IsTrue, IfOk};
     ghost use Rattle.ot_model.specs.Cells.{lengths};
-    ghost use Rattle.ot_model.specs.Programs.{expanded_of, IsNamedIn};
     ghost use Rattle.ot_check.specs.Jobs.{AreSame};
     ghost use Rattle.std.specs.Arc.{arc_value};
 
@@ -86,8 +84,8 @@ impl JobSpec {
     }
 }
 
-ghost use Rattle.std.specs.Prelude.{◌≡◌, ◌↔◌, IsTrue};
-ghost use Rattle.ot_model.specs.Programs.{expanded_of};
+ghost use Rattle.std.specs.Prelude.{◌≡◌, ◌↔◌, IsTrue, IfOk};
+ghost use Rattle.ot_model.specs.Programs.{expanded_of, IsNamedIn};
 
 /// Whether two programs are the same. What they count follows from their bodies.
 fn same_program(one: &Program, other: &Program) -> bool

@@ -1,3 +1,7 @@
+ghost use Rattle.std.specs.Prelude.{◌≡◌, ◌+◌, ◌<◌, ◌≤◌, ◌^◌, ◌||◌, ◌==◌, ◌∷◌, ◌++◌, List, ℕ, [], IfOk, OnOk, None, Some, false, true, not};
+ghost use Rattle.ot_check.specs.Offences.{allows, exceeds, folds_to, misfits, awaits};
+ghost use Rattle.ot_check.specs.walk.States.{is_open, AreOf, IsBegun, Leads, Whatever, lens_of, with_others};
+
 use crate::fault::Offence;
 use crate::modes::{covers, folds_by};
 use crate::opened::Opened;
@@ -34,10 +38,7 @@ pub(crate) struct Standing {
 }
 
 impl Region {
-    ghost use Rattle.std.specs.Prelude.{◌≡◌};
     ghost use Rattle.std.specs.List.{list_any};
-    ghost use Rattle.ot_check.specs.Offences.{allows, exceeds, folds_to, misfits};
-    ghost use Rattle.ot_check.specs.walk.States.{is_open};
 
     /// Whether the body may use a cell so.
     fn allows(&self, used: Use) -> bool
@@ -108,7 +109,6 @@ impl Region {
 }
 
 impl Standing {
-    ghost use Rattle.std.specs.Prelude.{◌≡◌, ◌+◌, ◌<◌, ◌≤◌, ◌^◌, ◌||◌, ◌==◌, ◌∷◌, ◌++◌, List, ℕ, [], IfOk, OnOk, None, Some, false, true, not};
     ghost use Rattle.ot_model.specs.Shapes.{array_lengths};
     ghost use Rattle.ot_model.specs.Names.{IsInShape, OneNamedIn, AreInShape, AreDeclaredIn};
     ghost use Rattle.ot_check.specs.Paths.{Touch, Enter};
@@ -116,10 +116,8 @@ impl Standing {
     ghost use Rattle.ot_model.specs.declared.expr.Cell.{Cell};
     ghost use Rattle.ot_model.specs.declared.fold.Fold.{Fold as Operation};
     ghost use Rattle.ot_model.specs.declared.stmt.Use.{Use};
-    ghost use Rattle.ot_check.specs.Offences.{awaits};
     ghost use Rattle.ot_check.specs.Discipline.{anyone, behind_one, with_group, may_break};
     ghost use Rattle.ot_sets.specs.Sets.{has};
-    ghost use Rattle.ot_check.specs.walk.States.{AreOf, IsBegun, Leads, Whatever, is_open, lens_of, with_others};
 
     /// What stands at the beginning of a program: its body may use each cell.
     pub(crate) fn of_root(alloc: Global, shape: &Shape) -> Result<Standing, AllocError>

@@ -1,5 +1,5 @@
-ghost use Rattle.std.specs.Prelude.{◌≡◌, IfOk, map};
-ghost use Rattle.ot_check.specs.walk.Grids.{widths};
+ghost use Rattle.std.specs.Prelude.{◌≡◌, IfOk, map, ◌≢◌, IsSome, Some};
+ghost use Rattle.ot_check.specs.walk.Grids.{widths, found_at, filled};
 
 use ot_model::{ArrayShape, Cell};
 use std::alloc::{AllocError, Global};
@@ -20,10 +20,8 @@ impl Model for Table {
 }
 
 impl Table {
-    ghost use Rattle.std.specs.Prelude.{◌≢◌, IsSome, Some};
     ghost use Rattle.ot_model.specs.ShapeView.{arrays_of};
     ghost use Rattle.ot_model.specs.declared.expr.Cell.{Cell};
-    ghost use Rattle.ot_check.specs.walk.Grids.{found_at, filled};
 
     /// 0 for each cell of these arrays.
     pub(crate) fn new(alloc: Global, arrays: &[ArrayShape]) -> Result<Table, AllocError>

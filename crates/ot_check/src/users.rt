@@ -1,7 +1,9 @@
-ghost use Rattle.std.specs.Prelude.{◌≡◌, ◌||◌, Bool, IfOk, OnOk};
+ghost use Rattle.std.specs.Prelude.{◌≡◌, ◌||◌, Bool, IfOk, OnOk, ◌&&◌, ℕ, not, IfSome, slice_get, ◌≢◌, [], IsSome, map};
 ghost use Rattle.std.specs.List.{list_any};
 ghost use Rattle.ot_check.specs.declared.users.User.{User};
 ghost use Rattle.ot_check.specs.walk.Grids.{found_at, filled, widths};
+ghost use Rattle.ot_sets.specs.Sets.{has};
+ghost use Rattle.ot_check.specs.walk.Rows.{awaited_as, users_of_row, IsRoom};
 
 use crate::block::Block;
 use crate::table::Table;
@@ -28,10 +30,7 @@ pub(crate) struct Row {
 }
 
 impl Row {
-    ghost use Rattle.std.specs.Prelude.{◌&&◌, ℕ, not, IfSome, slice_get};
     ghost use Rattle.ot_model.specs.Uses.{conflicts};
-    ghost use Rattle.ot_sets.specs.Sets.{has};
-    ghost use Rattle.ot_check.specs.walk.Rows.{awaited_as, users_of_row, IsRoom};
 
     /// One task alone. It takes no memory.
     fn of(alloc: Global, cell: Cell, user: User) -> Row
@@ -130,11 +129,8 @@ impl Model for Users {
 }
 
 impl Users {
-    ghost use Rattle.std.specs.Prelude.{◌≢◌, ◌&&◌, ℕ, [], IsSome, map, not};
     ghost use Rattle.ot_model.specs.ShapeView.{arrays_of};
     ghost use Rattle.ot_model.specs.declared.expr.Cell.{Cell};
-    ghost use Rattle.ot_sets.specs.Sets.{has};
-    ghost use Rattle.ot_check.specs.walk.Rows.{awaited_as};
     ghost use Rattle.ot_check.specs.walk.States.{met, users_at};
 
     /// No task declares a cell of these arrays.

@@ -1,4 +1,4 @@
-ghost use Rattle.std.specs.Prelude.{◌≡◌, ◌<◌, length};
+ghost use Rattle.std.specs.Prelude.{◌≡◌, ◌<◌, length, ◌≢◌, ◌↔◌, ◌≤◌, ◌+◌, ◌^◌, [], None, Some, IfOk, IfErr, OnErr, IsTrue, IsSome, false, option_map};
 
 use crate::live::Jobs;
 use crate::marks::Marks;
@@ -62,7 +62,6 @@ impl Model for Hall {
 }
 
 impl Hall {
-    ghost use Rattle.std.specs.Prelude.{◌≡◌, ◌≢◌, ◌↔◌, ◌<◌, ◌≤◌, ◌+◌, ◌^◌, [], None, Some, IfOk, IfErr, OnErr, IsTrue, IsSome, false, length, option_map};
     ghost use Rattle.ot_job.specs.States.{claimable_in};
     ghost use Rattle.ot_job.specs.Dealings.{state_of};
     ghost use Rattle.ot_core.specs.Index.{job_of};

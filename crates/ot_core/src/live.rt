@@ -1,4 +1,4 @@
-ghost use Rattle.std.specs.Prelude.{◌≡◌, ◌<◌, length};
+ghost use Rattle.std.specs.Prelude.{◌≡◌, ◌<◌, length, None, Some, IfOk, IfErr, IsSome, replicate, slice_set, slice_get, option_copied};
 
 use ot_check::JobSpec;
 use ot_job::Job;
@@ -32,7 +32,6 @@ impl Model for Jobs {
 }
 
 impl Jobs {
-    ghost use Rattle.std.specs.Prelude.{◌≡◌, None, Some, IfOk, IfErr, IsSome, length, replicate, slice_set, slice_get, option_copied};
     ghost use Rattle.std.specs.Borrow.{sem};
     ghost use Rattle.ot_core.specs.Lending.{LendsJob};
     ghost use Rattle.ot_core.specs.Index.{job_of, has_claimable, Begins};

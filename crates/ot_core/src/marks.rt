@@ -1,5 +1,5 @@
-ghost use Rattle.std.specs.Prelude.{◌≡◌, ◌≢◌, ◌<◌, ℕ};
-ghost use Rattle.ot_core.specs.Marking.{has_bit, IsLowest};
+ghost use Rattle.std.specs.Prelude.{◌≡◌, ◌≢◌, ◌<◌, ℕ, false, IfOk, length, replicate, slice_set};
+ghost use Rattle.ot_core.specs.Marking.{has_bit, IsLowest, IsFirst};
 
 use std::alloc::{AllocError, Global};
 use std::marker::Model;
@@ -23,9 +23,6 @@ impl Model for Marks {
 }
 
 impl Marks {
-    ghost use Rattle.std.specs.Prelude.{false, IfOk, length, replicate, slice_set};
-    ghost use Rattle.ot_core.specs.Marking.{IsFirst};
-
     /// None is set.
     pub(crate) fn new(alloc: Global, count: u32) -> Result<Marks, AllocError>
         ensures { IfOk result (λ marks. marks ≡ replicate count false) }

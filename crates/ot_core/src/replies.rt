@@ -1,4 +1,4 @@
-ghost use Rattle.std.specs.Prelude.{◌≡◌};
+ghost use Rattle.std.specs.Prelude.{◌≡◌, drop, length};
 ghost use Rattle.std.specs.Iterator.{YieldsFirstBy, item_count};
 ghost use Rattle.ot_book.specs.ReplyView.{reply_of};
 
@@ -28,7 +28,6 @@ impl<'a> Model for Replies<'a> {
 }
 
 impl<'a> Replies<'a> {
-    ghost use Rattle.std.specs.Prelude.{◌≡◌, drop, length};
     ghost use Rattle.ot_core.specs.Given.{replies_of};
 
     /// All that this tenant was given.

@@ -1,4 +1,4 @@
-ghost use Rattle.std.specs.Prelude.{◌≡◌, ◌<◌, length};
+ghost use Rattle.std.specs.Prelude.{◌≡◌, ◌<◌, length, ◌↔◌, ◌^◌, None, Some, [], map, IsTrue, false, true, IfOk, OnOk, OnErr, IsSome, option_copied, option_map, slice_get, ◌+◌, unwrap_or, nat_le, if◌then◌else◌, ◌-◌, ◌≤◌, ◌++◌, vec_len, vec_capacity};
 
 use ot_book::{Book, Entry, Opened, Reply, Told, is_checkpoint};
 use ot_check::{JobSpec, Outcome};
@@ -41,11 +41,9 @@ impl Model for Tenant {
 }
 
 impl Tenant {
-    ghost use Rattle.std.specs.Prelude.{◌≡◌, ◌↔◌, ◌<◌, ◌^◌, None, Some, [], map, IsTrue, false, true, IfOk, OnOk, OnErr, IsSome, option_copied, option_map, slice_get, ◌+◌};
     ghost use Rattle.ot_check.specs.Jobs.{IsMeaning};
     ghost use Rattle.ot_book.specs.Answers.{is_checkpoint};
     ghost use Rattle.ot_book.specs.Books.{new_register};
-    ghost use Rattle.ot_book.specs.ReplyView.{told_of, reply_of};
     ghost use Rattle.ot_core.specs.Accounts.{Account, IsSound, answered};
     ghost use Rattle.ot_core.specs.Given.{reply_in};
     ghost use Rattle.ot_core.specs.Headline.{IsTold};
@@ -222,8 +220,7 @@ impl Tenant {
     }
 }
 
-ghost use Rattle.std.specs.Prelude.{slice_get, unwrap_or, nat_le, true, if◌then◌else◌, ◌<◌, ◌^◌, [], ◌+◌, ◌-◌, ◌≤◌, ◌++◌, map, vec_len, vec_capacity, IfOk};
-ghost use Rattle.ot_book.specs.ReplyView.{told_of};
+ghost use Rattle.ot_book.specs.ReplyView.{told_of, reply_of};
 ghost use Rattle.ot_book.specs.BookView.{entries_of};
 
 // What the entries tell, once more.

@@ -1,5 +1,5 @@
 //! The children of a body with what is kept beside them: the rows of the cells and the counters.
-ghost use Rattle.std.specs.Prelude.{◌≡◌, ◌++◌, ◌∷◌, [], ◌↔◌, ◌+◌, ◌<◌, ◌≤◌, ℕ, IsTrue, OnOk, Some, true, false, length, take, slice_get};
+ghost use Rattle.std.specs.Prelude.{◌≡◌, ◌++◌, ◌∷◌, [], ◌↔◌, ◌+◌, ◌<◌, ◌≤◌, ℕ, IsTrue, OnOk, Some, true, false, length, take, slice_get, All};
 ghost use Rattle.ot_model.specs.declared.stmt.Use.{Use};
 ghost use Rattle.ot_depend.specs.Direct.{waiting_for};
 ghost use Rattle.ot_depend.specs.Siblings.{created, with_finished, IsReady, IsUnfinished, waits_for, AreFree};
@@ -28,7 +28,6 @@ pub(crate) struct Kept {
 
 impl Kept {
     ghost use Rattle.ot_depend.specs.View.{kids_in, siblings_in, IsKept, IsPlanned};
-    ghost use Rattle.std.specs.Prelude.{All};
     ghost use Rattle.ot_model.specs.Cells.{updated};
     ghost use Rattle.ot_depend.specs.Kept.{woken, waiters_of, ended};
     ghost use Rattle.ot_depend.specs.Waiting.{LetsTheSame, WaitForLess};

@@ -1,3 +1,5 @@
+ghost use Rattle.std.specs.Prelude.{◌≡◌, ◌+◌, ◌<◌, ◌≤◌, ◌++◌, ◌↔◌, [], ◌∷◌, ℕ, Some, true, false, IsTrue, IfOk, OnOk, OnErr, length, take, slice_get, count_by, All};
+
 use crate::kept::Kept;
 use ot_model::Decl;
 use std::alloc::{AllocError, Global};
@@ -25,8 +27,6 @@ impl Model for Siblings {
 
 impl Siblings {
     ghost use Rattle.ot_model.specs.declared.stmt.Use.{Use};
-    ghost use Rattle.std.specs.Prelude.{◌≡◌, ◌+◌, ◌<◌, ◌≤◌, ◌++◌, ◌↔◌, [], ◌∷◌, ℕ, Some, true, false, IsTrue, IfOk, OnOk, OnErr, length, take, slice_get, count_by};
-    ghost use Rattle.std.specs.Prelude.{All};
     ghost use Rattle.ot_depend.specs.Direct.{waiting_for};
     ghost use Rattle.ot_depend.specs.Waiting.{LetsTheSame, WaitForLess};
     ghost use Rattle.ot_depend.specs.Siblings.{IsReady, IsUnfinished, FinishedAreReady, created, with_finished, is_ready, is_unfinished, is_unfinished_in, waits_for, AreFree};

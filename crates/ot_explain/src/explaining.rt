@@ -5,7 +5,7 @@ ghost use Rattle.ot_book.specs.Books.{Register, next_number};
 ghost use Rattle.ot_front.specs.Heard.{HasNoEnd, max_line};
 ghost use Rattle.ot_front.specs.Serving.{session_bounds};
 ghost use Rattle.ot_front.specs.declared.fault.End.{End};
-ghost use Rattle.ot_explain.specs.Explaining.{beginner, Explains, Explaining, GoesOn, Remarks, said_at};
+ghost use Rattle.ot_explain.specs.Explaining.{beginner, Explains, Explaining, GoesOn, Remarks, said_at, ExplainsLine};
 ghost use Rattle.ot_explain.specs.declared.explaining.Explained.TheVariants.{AllTaken};
 
 use crate::telling::tell_last;
@@ -102,8 +102,6 @@ struct Explainer {
 }
 
 impl<W: Sink> Listener<Talk, W, Result<End, FrontFault>> for Explainer {
-    ghost use Rattle.ot_explain.specs.Explaining.{ExplainsLine};
-
     ghost took = { λ old sink line new next result. ExplainsLine old.book old.said (W.contents sink) line new.book new.said (W.contents next) result };
 
     fn take(

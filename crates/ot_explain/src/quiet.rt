@@ -6,7 +6,7 @@ ghost use Rattle.ot_front.specs.Heard.{HasNoEnd, max_line};
 ghost use Rattle.ot_front.specs.Serving.{session_bounds};
 ghost use Rattle.ot_front.specs.declared.fault.End.{End};
 ghost use Rattle.ot_explain.specs.Explaining.{beginner, said_at};
-ghost use Rattle.ot_explain.specs.Quiet.{RemarksAlone, Hushed, HushedOn};
+ghost use Rattle.ot_explain.specs.Quiet.{RemarksAlone, Hushed, HushedOn, HushesLine};
 ghost use Rattle.ot_explain.specs.declared.explaining.Explained.TheVariants.{AllTaken};
 
 use crate::explaining::{Explained, Talk, said_at};
@@ -74,8 +74,6 @@ struct Remarker {
 }
 
 impl<W: Sink> Listener<Talk, W, Result<End, FrontFault>> for Remarker {
-    ghost use Rattle.ot_explain.specs.Quiet.{HushesLine};
-
     ghost took = { λ old sink line new next result. HushesLine old.book old.said (W.contents sink) line new.book new.said (W.contents next) result };
 
     fn take(
@@ -119,8 +117,6 @@ fn remark_line<W: Sink>(
 struct Unkept;
 
 impl Sink for Unkept {
-    ghost use Rattle.std.specs.Prelude.{None};
-
     ghost contents = { λ s. None };
 
     ghost failures = { λ s. 0 };

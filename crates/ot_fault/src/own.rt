@@ -3,13 +3,13 @@ ghost use Rattle.std.specs.Prelude.{◌≡◌, ℕ, ◌++◌, length, is_some, m
 ghost use Rattle.serde_json.specs.Data.{array};
 ghost use Rattle.serde_json.specs.View.{view, items_view};
 ghost use Rattle.ot_program.specs.Copies.{IfText, ForText, TaskText};
-ghost use Rattle.ot_program.specs.Limits.{cells_in, own_tally, with_value};
+ghost use Rattle.ot_program.specs.Limits.{cells_in, own_tally, with_value, tally};
 ghost use Rattle.ot_program.specs.Meanings.{items, each, fold_of, section, value, clause, wait_clause};
 ghost use Rattle.ot_place.specs.Texts.{Profile as Defined, text_by};
 ghost use Rattle.ot_fault.specs.Why.{after, long};
 ghost use Rattle.ot_fault.specs.Whys.{is_depend, is_mode, no_list, name_whys, fold_whys, red_whys, clause_whys, wait_clause_whys, section_whys, list_whys, nested, target_whys, group_whys, text_whys};
 ghost use Rattle.ot_fault.specs.First.{IsProfile, told_by, shape_by, variables_by};
-ghost use Rattle.ot_fault.specs.Counting.{counts_of, counts_with};
+ghost use Rattle.ot_fault.specs.Counting.{counts_of, counts_with, measure_of};
 
 use crate::look::{Look, Measure};
 use crate::why::{First, Wanted, Why};
@@ -32,8 +32,6 @@ pub(crate) struct Tally {
 
 impl Tally {
     ghost use Rattle.ot_model.specs.Tree.{E};
-    ghost use Rattle.ot_program.specs.Limits.{tally};
-    ghost use Rattle.ot_fault.specs.Counting.{measure_of};
 
     pub(crate) const fn none() -> Tally
         ensures { result ≡ counts_of (tally 0 0 0 0 0) }

@@ -1,7 +1,7 @@
 //! What is at fault in a program.
-ghost use Rattle.std.specs.Prelude.{◌≡◌};
-ghost use Rattle.ot_fault.specs.Why.{refusal_of};
-ghost use Rattle.ot_fault.specs.First.{why_by};
+ghost use Rattle.std.specs.Prelude.{◌≡◌, None};
+ghost use Rattle.ot_fault.specs.Why.{refusal_of, noted, after};
+ghost use Rattle.ot_fault.specs.First.{why_by, told_by};
 
 use ot_model::Op;
 use ot_program::Refusal;
@@ -92,10 +92,7 @@ pub(crate) struct First<'a> {
 }
 
 impl<'a> First<'a> {
-    ghost use Rattle.std.specs.Prelude.{None};
-    ghost use Rattle.ot_fault.specs.Why.{noted, after};
     ghost use Rattle.ot_fault.specs.Whys.{unless};
-    ghost use Rattle.ot_fault.specs.First.{told_by};
 
     /// Of none.
     pub(crate) fn new() -> First<'a>

@@ -3,7 +3,7 @@ ghost use Rattle.std.specs.Prelude.{◌≡◌, ◌≤◌, ◌++◌, ◌∷◌, [
 ghost use Rattle.std.specs.Io.KnownBytes.{Appends};
 ghost use Rattle.ot_book.specs.Books.{Register, next_number};
 ghost use Rattle.ot_front.specs.Device.{AppendsFront, next_count, count_after};
-ghost use Rattle.ot_front.specs.Serving.{failed_writes, Going, Goes};
+ghost use Rattle.ot_front.specs.Serving.{failed_writes, Going, Goes, TakesLine};
 ghost use Rattle.ot_front.specs.Session.{closing};
 ghost use Rattle.ot_front.specs.declared.fault.End.TheVariants as end;
 ghost use Rattle.ot_front.specs.declared.fault.FrontFault.TheVariants as fault;
@@ -25,8 +25,6 @@ pub(crate) struct Turn<'a, E: Executor> {
 }
 
 impl<'a, E: Executor, W: Sink> Listener<Book, W, Stop> for Turn<'a, E> {
-    ghost use Rattle.ot_front.specs.Serving.{TakesLine};
-
     ghost took = { λ old sink line new next result. TakesLine old (W.contents sink) (W.failures sink) line new (W.contents next) (W.failures next) result };
 
     fn take(&mut self, book: &mut Book, sink: &mut W, line: &[u8]) -> Result<(), Stop> {

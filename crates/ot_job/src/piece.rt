@@ -1,7 +1,8 @@
-ghost use Rattle.std.specs.Prelude.{◌≡◌, IfSome, option_map};
+ghost use Rattle.std.specs.Prelude.{◌≡◌, IfSome, option_map, ◌∷◌, ◌↔◌, IsTrue, All, Contains, IsSome, IsPermutation};
 ghost use Rattle.ot_model.specs.View.{expr_of};
 ghost use Rattle.ot_model.specs.Value.{val, HasAll};
 ghost use Rattle.ot_owner.specs.Lending.{value_at};
+ghost use Rattle.ot_job.specs.Taken.{IsRun, taken_by};
 
 use ot_model::{Cells, Expr, value};
 use ot_owner::{Lent, Owners};
@@ -64,10 +65,7 @@ impl Model for Done {
 }
 
 impl Piece {
-    ghost use Rattle.std.specs.Prelude.{◌≡◌, option_map};
-    ghost use Rattle.ot_model.specs.View.{expr_of};
     ghost use Rattle.ot_task.specs.Assigns.{CanRun};
-    ghost use Rattle.ot_job.specs.Taken.{IsRun};
     ghost use Rattle.ot_job.specs.Dealings.{brought, work_of};
 
     /// A piece that may be run on these copies.
@@ -138,7 +136,6 @@ fn answer(condition: Option<&Expr>, lent: &Lent) -> Option<u64>
 }
 
 impl Done {
-    ghost use Rattle.std.specs.Prelude.{◌≡◌, ◌∷◌, ◌↔◌, IsTrue, All, Contains, IfSome, IsSome, IsPermutation};
     ghost use Rattle.ot_model.specs.Cells.{cell_of, lengths};
     ghost use Rattle.ot_model.specs.declared.stmt.Mode.TheVariants.{Writes};
     ghost use Rattle.ot_owner.specs.Back.{AreStored, all_back};
@@ -147,7 +144,6 @@ impl Done {
     ghost use Rattle.ot_owner.specs.Rows.{IsSummed};
     ghost use Rattle.ot_owner.specs.Worth.{AreJoined, worth};
     ghost use Rattle.ot_task.specs.Pieces.{Runs, leading_len};
-    ghost use Rattle.ot_job.specs.Taken.{IsRun, taken_by};
 
     /// The number of its task.
     pub(crate) fn task(&self) -> u32

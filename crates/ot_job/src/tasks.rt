@@ -1,3 +1,5 @@
+ghost use Rattle.ot_task.specs.Regions.{executed, over, stopped, tasks_next, without, root_region};
+
 use crate::arena::execute;
 use crate::listing::refresh_children;
 use crate::pick::is_claimable;
@@ -40,11 +42,8 @@ impl Tasks {
     ghost use Rattle.ot_parts.specs.Parts.{parts_of};
     ghost use Rattle.ot_job.specs.Numbered.{at, parent_of};
     ghost use Rattle.ot_task.specs.Pieces.{leading, awake, begun};
-    ghost use Rattle.ot_task.specs.Regions.{executed};
     ghost use Rattle.ot_job.specs.Settling.{CreatesInOrder, closed, moved_on, settled};
-    ghost use Rattle.ot_task.specs.Regions.{over, stopped, tasks_next, without};
     ghost use Rattle.ot_job.specs.Claiming.{claimable_of, picked};
-    ghost use Rattle.ot_task.specs.Regions.{root_region};
     ghost use Rattle.ot_job.specs.States.{any_out, all_ended};
     ghost use Rattle.ot_job.specs.Calls.{HasPiece, MayEnd, MayFinish};
 

@@ -1,8 +1,8 @@
 //! The requests of a file that are refused, one after another.
-ghost use Rattle.std.specs.Prelude.{◌≡◌, ◌≤◌, ◌<◌, [], ◌∷◌, None, List, length, IfOk, IfSome, MatchOption};
-ghost use Rattle.ot_judge.specs.Judging.{Refusal};
-ghost use Rattle.ot_judge.specs.Places.{IsPlaced};
-ghost use Rattle.ot_judge.specs.Going.{Goes, standing};
+ghost use Rattle.std.specs.Prelude.{◌≡◌, ◌≤◌, ◌<◌, [], ◌∷◌, None, List, length, IfOk, IfSome, MatchOption, ℕ, Ok, option_and_then};
+ghost use Rattle.ot_judge.specs.Judging.{Refusal, refusals_in, finds, made, code_in, told_in};
+ghost use Rattle.ot_judge.specs.Places.{IsPlaced, statement_position};
+ghost use Rattle.ot_judge.specs.Going.{Goes, standing, IsBehind, IsSeen, bytes_left};
 
 use crate::arrays::book_with;
 use crate::fault::JudgeFault;
@@ -52,12 +52,8 @@ impl<'a> Model for Findings<'a> {
 }
 
 impl<'a> Findings<'a> {
-    ghost use Rattle.std.specs.Prelude.{◌≡◌, ◌≤◌, ◌<◌, [], ◌∷◌, ℕ, Ok, List, length, IfOk, IfSome, MatchOption};
     ghost use Rattle.ot_store.specs.Arrays.{Named};
     ghost use Rattle.ot_model.specs.ShapeView.{arrays_of};
-    ghost use Rattle.ot_judge.specs.Judging.{Refusal, refusals_in, finds, made};
-    ghost use Rattle.ot_judge.specs.Places.{IsPlaced, statement_position};
-    ghost use Rattle.ot_judge.specs.Going.{Goes, IsBehind, IsSeen, bytes_left};
 
     /// Those of a file without comments, where these arrays are there before it, each cell 0.
     pub fn new(
@@ -134,10 +130,6 @@ struct Found {
 ghost use Rattle.ot_judge.specs.Found.{found_as};
 
 impl Found {
-    ghost use Rattle.std.specs.Prelude.{◌≡◌, option_and_then};
-    ghost use Rattle.ot_judge.specs.Judging.{code_in, told_in};
-    ghost use Rattle.ot_judge.specs.Found.{found_as};
-
     /// The code that is told.
     fn code(self, book: &Book) -> Option<u32>
         ensures { result ≡ option_and_then code_in (told_in (found_as self book.now)) }

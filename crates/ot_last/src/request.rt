@@ -7,7 +7,7 @@ ghost use Rattle.ot_book.specs.ReplyView.{told_of};
 ghost use Rattle.ot_book.specs.Books.{IsOpenFor, closed};
 ghost use Rattle.ot_last.specs.LastRuns.{run_with};
 ghost use Rattle.ot_last.specs.declared.stop.Stop.TheVariants.{Memory};
-ghost use Rattle.ot_last.specs.Going.{Going, Goes, run_in, last_told, judged};
+ghost use Rattle.ot_last.specs.Going.{Going, Goes, run_in, last_told, judged, TakesLine};
 
 use crate::fault::Untaken;
 use crate::found::LastRun;
@@ -24,8 +24,6 @@ pub(crate) struct Runner {
 }
 
 impl Listener<Book, Option<LastRun>, Stop> for Runner {
-    ghost use Rattle.ot_last.specs.Going.{TakesLine, run_in};
-
     ghost took = { λ old last line new next result. TakesLine old (run_in last) line new (run_in next) result };
 
     fn take(

@@ -1,5 +1,5 @@
 //! Lines, one by one.
-ghost use Rattle.std.specs.Prelude.{◌≡◌, ◌<◌, ◌≤◌, ◌++◌, ◌+◌, suc, length, take, drop, vec_len, IfOk, OnErr, OnOk};
+ghost use Rattle.std.specs.Prelude.{◌≡◌, ◌<◌, ◌≤◌, ◌++◌, ◌+◌, suc, length, take, drop, vec_len, IfOk, OnErr, OnOk, []};
 ghost use Rattle.ot_lines.specs.Counts.{flow};
 ghost use Rattle.ot_lines.specs.Lines.{opened, Hears, Cuts, Fills, taken, passed};
 
@@ -66,10 +66,6 @@ impl Model for Lines {
 }
 
 impl Lines {
-    ghost use Rattle.std.specs.Prelude.{◌≡◌, ◌<◌, ◌≤◌, [], ◌+◌, suc, length, IfOk, OnOk};
-    ghost use Rattle.ot_lines.specs.Counts.{flow};
-    ghost use Rattle.ot_lines.specs.Lines.{opened, taken, passed, Hears, Cuts, Fills};
-
     /// Nothing is heard yet.
     pub fn new(alloc: Global, bounds: Bounds) -> Result<Lines, AllocError>
         requires { 0 < bounds.read }

@@ -1,5 +1,5 @@
 //! A tenant's arrays as far as a server's replies tell.
-ghost use Rattle.ot_mirror.specs.Mirrors.{MirrorFollows};
+ghost use Rattle.ot_mirror.specs.Mirrors.{MirrorFollows, MayHave, Sizes, behind};
 
 use crate::heard::{Heard, hear};
 use crate::remarks::remarks_on_refusal;
@@ -28,7 +28,6 @@ impl Mirror {
     ghost use Rattle.ot_explain.specs.Remarks.{AreOn, code_in};
     ghost use Rattle.ot_book.specs.Replies.{Arrays};
     ghost use Rattle.ot_mirror.specs.Heard.{told_in};
-    ghost use Rattle.ot_mirror.specs.Mirrors.{MayHave, Sizes, behind};
 
     /// The arrays that the reply to `["list"]` tells, where it is such a reply, and a tenant with the usual limits may have
     /// such arrays.

@@ -1,3 +1,5 @@
+ghost use Rattle.ot_model.specs.Cells.{cell_of, with_cell, lengths};
+
 use crate::expr::{Cell, Look};
 use std::alloc::{AllocError, Global};
 use std::marker::Model;
@@ -18,7 +20,6 @@ impl Model for Cells {
 
 impl Cells {
     ghost use Rattle.std.specs.Prelude.{◌≡◌, ◌≢◌, map, IsSome, IfOk, Some};
-    ghost use Rattle.ot_model.specs.Cells.{cell_of, with_cell, lengths};
     ghost use Rattle.ot_model.specs.declared.expr.Cell.{Cell};
 
     /// The cells of these arrays. It takes no memory.
@@ -68,8 +69,6 @@ impl Cells {
 }
 
 impl Look for Cells {
-    ghost use Rattle.ot_model.specs.Cells.{cell_of};
-
     ghost found = { cell_of };
 
     fn at(&self, cell: Cell) -> u64 {

@@ -1,6 +1,6 @@
 ghost use Rattle.std.specs.Prelude.{◌≡◌, ◌↔◌, IsTrue, ℕ, ◌<◌, Option, Some, IsSome, IfOk};
 ghost use Rattle.ot_model.specs.View.{expr_of};
-ghost use Rattle.ot_model.specs.Value.{val, HasAll};
+ghost use Rattle.ot_model.specs.Value.{val, HasAll, applied};
 
 use std::alloc::{AllocError, Global};
 
@@ -12,7 +12,6 @@ pub struct Cell {
 }
 
 impl Cell {
-    ghost use Rattle.std.specs.Prelude.{◌≡◌};
     ghost use Rattle.ot_model.specs.Cells.{is_before};
 
     /// Whether it comes before another: by its array, then by its index.
@@ -102,7 +101,6 @@ impl Expr {
 /// What a value is read from.
 pub trait Look {
     ghost use Rattle.ot_model.specs.declared.expr.Cell.{Cell};
-    ghost use Rattle.std.specs.Prelude.{ℕ, Option};
 
     /// The cell's number, where the cell is there.
     ghost found: { Self → Cell → Option ℕ };
@@ -136,8 +134,6 @@ pub fn value<L: Look>(expr: &Expr, look: &L) -> u64
         }
     }
 }
-
-ghost use Rattle.ot_model.specs.Value.{applied};
 
 fn apply(op: Op, one: u64, two: u64) -> u64
     ensures { result ≡ applied op one two }

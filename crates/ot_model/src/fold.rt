@@ -1,9 +1,10 @@
 ghost use Rattle.std.specs.Prelude.{◌≡◌, ℕ};
+ghost use Rattle.ot_model.specs.Joining.{IsAssociative, IsCommutative, IsNeutral, IsAbsorbed, join_by, unit_of};
+ghost use Rattle.ot_model.specs.Monoids.{join-associative, join-commutative, join-neutral, join-absorbed};
+ghost use Rattle.ot_model.specs.declared.fold.Fold.TheVariants.{Plus, Times, And, Or, Xor, Min, Max};
 
 /// What joins numbers in any order: copies of a cell may come back to it in any order.
 pub trait Monoid {
-    ghost use Rattle.ot_model.specs.Joining.{IsAssociative, IsCommutative, IsNeutral, IsAbsorbed};
-
     ghost unit_is: { Self → ℕ };
 
     ghost join_is: { Self → ℕ → ℕ → ℕ };
@@ -55,10 +56,6 @@ pub enum Fold {
 pub struct Sum {}
 
 impl Monoid for Sum {
-    ghost use Rattle.ot_model.specs.Joining.{join_by, unit_of};
-    ghost use Rattle.ot_model.specs.Monoids.{join-associative, join-commutative, join-neutral, join-absorbed};
-    ghost use Rattle.ot_model.specs.declared.fold.Fold.TheVariants.{Plus};
-
     ghost unit_is = { λ _. unit_of Plus };
 
     ghost join_is = { λ _. join_by Plus };
@@ -85,10 +82,6 @@ impl Monoid for Sum {
 pub struct Product {}
 
 impl Monoid for Product {
-    ghost use Rattle.ot_model.specs.Joining.{join_by, unit_of};
-    ghost use Rattle.ot_model.specs.Monoids.{join-associative, join-commutative, join-neutral, join-absorbed};
-    ghost use Rattle.ot_model.specs.declared.fold.Fold.TheVariants.{Times};
-
     ghost unit_is = { λ _. unit_of Times };
 
     ghost join_is = { λ _. join_by Times };
@@ -115,10 +108,6 @@ impl Monoid for Product {
 pub struct Conjunction {}
 
 impl Monoid for Conjunction {
-    ghost use Rattle.ot_model.specs.Joining.{join_by, unit_of};
-    ghost use Rattle.ot_model.specs.Monoids.{join-associative, join-commutative, join-neutral, join-absorbed};
-    ghost use Rattle.ot_model.specs.declared.fold.Fold.TheVariants.{And};
-
     ghost unit_is = { λ _. unit_of And };
 
     ghost join_is = { λ _. join_by And };
@@ -145,10 +134,6 @@ impl Monoid for Conjunction {
 pub struct Disjunction {}
 
 impl Monoid for Disjunction {
-    ghost use Rattle.ot_model.specs.Joining.{join_by, unit_of};
-    ghost use Rattle.ot_model.specs.Monoids.{join-associative, join-commutative, join-neutral, join-absorbed};
-    ghost use Rattle.ot_model.specs.declared.fold.Fold.TheVariants.{Or};
-
     ghost unit_is = { λ _. unit_of Or };
 
     ghost join_is = { λ _. join_by Or };
@@ -175,10 +160,6 @@ impl Monoid for Disjunction {
 pub struct Parity {}
 
 impl Monoid for Parity {
-    ghost use Rattle.ot_model.specs.Joining.{join_by, unit_of};
-    ghost use Rattle.ot_model.specs.Monoids.{join-associative, join-commutative, join-neutral, join-absorbed};
-    ghost use Rattle.ot_model.specs.declared.fold.Fold.TheVariants.{Xor};
-
     ghost unit_is = { λ _. unit_of Xor };
 
     ghost join_is = { λ _. join_by Xor };
@@ -205,10 +186,6 @@ impl Monoid for Parity {
 pub struct Minimum {}
 
 impl Monoid for Minimum {
-    ghost use Rattle.ot_model.specs.Joining.{join_by, unit_of};
-    ghost use Rattle.ot_model.specs.Monoids.{join-associative, join-commutative, join-neutral, join-absorbed};
-    ghost use Rattle.ot_model.specs.declared.fold.Fold.TheVariants.{Min};
-
     ghost unit_is = { λ _. unit_of Min };
 
     ghost join_is = { λ _. join_by Min };
@@ -235,10 +212,6 @@ impl Monoid for Minimum {
 pub struct Maximum {}
 
 impl Monoid for Maximum {
-    ghost use Rattle.ot_model.specs.Joining.{join_by, unit_of};
-    ghost use Rattle.ot_model.specs.Monoids.{join-associative, join-commutative, join-neutral, join-absorbed};
-    ghost use Rattle.ot_model.specs.declared.fold.Fold.TheVariants.{Max};
-
     ghost unit_is = { λ _. unit_of Max };
 
     ghost join_is = { λ _. join_by Max };
@@ -261,9 +234,6 @@ impl Monoid for Maximum {
 }
 
 impl Monoid for Fold {
-    ghost use Rattle.ot_model.specs.Joining.{join_by, unit_of};
-    ghost use Rattle.ot_model.specs.Monoids.{join-associative, join-commutative, join-neutral, join-absorbed};
-
     ghost unit_is = { unit_of };
 
     ghost join_is = { join_by };

@@ -1,11 +1,11 @@
 //! How operations are written.
+ghost use Rattle.std.specs.Prelude.{◌≡◌};
+ghost use Rattle.ot_model.specs.Signs as written;
+
 use crate::expr::Op;
 use crate::fold::Fold;
 
 impl Op {
-    ghost use Rattle.std.specs.Prelude.{◌≡◌};
-    ghost use Rattle.ot_model.specs.Signs as written;
-
     /// The operation that has this word in a program: `=`, or `min`.
     pub fn of_word(text: &str) -> Option<Op>
         ensures { result ≡ written.op_with text.now }
@@ -52,9 +52,6 @@ impl Op {
 }
 
 impl Fold {
-    ghost use Rattle.std.specs.Prelude.{◌≡◌};
-    ghost use Rattle.ot_model.specs.Signs as written;
-
     /// The operation of folds that is called so in a clause: `+`, or `min`.
     pub fn of_identifier(text: &str) -> Option<Fold>
         ensures { result ≡ written.fold_with text.now }

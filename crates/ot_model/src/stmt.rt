@@ -1,5 +1,6 @@
 ghost use Rattle.std.specs.Prelude.{◌≡◌, ◌↔◌, IsTrue, IfOk, map};
 ghost use Rattle.ot_model.specs.View.{stmt_of, stmts_of};
+ghost use Rattle.ot_model.specs.Uses.{conflicts, one_writes, first_of, joined, AreInOrder, mode_in, DependsOn, Conflict};
 
 use crate::declared::mode_in;
 use crate::expr::{Cell, Expr};
@@ -21,8 +22,6 @@ pub enum Mode {
 }
 
 impl Mode {
-    ghost use Rattle.ot_model.specs.Uses.{conflicts, one_writes, first_of, joined};
-
     /// Whether uses of one cell in these modes conflict: they do unless both read or both fold by one
     /// operation.
     pub fn conflicts(self, other: Mode) -> bool
@@ -93,9 +92,6 @@ impl Model for Decl {
 }
 
 impl Decl {
-    ghost use Rattle.std.specs.Prelude.{IsTrue, ◌↔◌};
-    ghost use Rattle.ot_model.specs.Uses.{AreInOrder, mode_in, DependsOn, Conflict};
-
     /// The declaration of these uses, which are to be in order, each cell once. It takes no memory.
     pub fn new(uses: Vec<Use>) -> Decl
         requires { AreInOrder uses.items }

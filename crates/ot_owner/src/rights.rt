@@ -1,7 +1,7 @@
 //! The rights that are out.
-ghost use Rattle.std.specs.Prelude.{◌≡◌, ◌↔◌, Contains, IsTrue, Some};
+ghost use Rattle.std.specs.Prelude.{◌≡◌, ◌↔◌, Contains, IsTrue, Some, ◌≤◌, ◌+◌, ◌∷◌, [], OnOk, None, IsPermutation};
 ghost use Rattle.slab.specs.Slab.{get, values};
-ghost use Rattle.ot_owner.specs.Owning.{loan_of};
+ghost use Rattle.ot_owner.specs.Owning.{loan_of, IsFreeFor};
 
 use crate::lent::{Keyed, LentCell};
 use crate::right::Right;
@@ -26,7 +26,6 @@ impl Model for Loan {
 }
 
 impl Loan {
-    ghost use Rattle.std.specs.Prelude.{◌↔◌, IsTrue};
     ghost use Rattle.ot_model.specs.Uses.{Conflict};
 
     /// Whether what may be done by it conflicts with the declaration.
@@ -45,8 +44,6 @@ pub(crate) struct Rights {
 }
 
 impl Rights {
-    ghost use Rattle.std.specs.Prelude.{◌≡◌, ◌↔◌, ◌≤◌, ◌+◌, ◌∷◌, [], IsTrue, OnOk, Some, None, Contains, IsPermutation};
-    ghost use Rattle.ot_owner.specs.Owning.{loan_of, IsFreeFor};
     ghost use Rattle.ot_owner.specs.Kept.{loans_in, loan_at, spare_in};
 
     /// No right is out. It takes no memory.

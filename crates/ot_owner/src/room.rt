@@ -4,7 +4,7 @@ ghost use Rattle.ot_model.specs.Cells.{is_before};
 ghost use Rattle.ot_model.specs.Uses.{AreInOrder};
 ghost use Rattle.ot_model.specs.declared.expr.Cell.{Cell};
 ghost use Rattle.ot_model.specs.declared.stmt.Mode.TheVariants.{Writes};
-ghost use Rattle.ot_owner.specs.Kept.{rows_of};
+ghost use Rattle.ot_owner.specs.Kept.{rows_of, summed_of};
 ghost use Rattle.ot_owner.specs.Rows.{IsNamed};
 
 use crate::rows::{Group, Row};
@@ -37,12 +37,6 @@ impl Model for Room {
 }
 
 impl Room {
-    ghost use Rattle.std.specs.Prelude.{◌≡◌, ◌↔◌, IfOk, All, Contains, None, replicate};
-    ghost use Rattle.ot_model.specs.declared.expr.Cell.{Cell};
-    ghost use Rattle.ot_model.specs.declared.stmt.Mode.TheVariants.{Writes};
-    ghost use Rattle.ot_owner.specs.Kept.{summed_of};
-    ghost use Rattle.ot_owner.specs.Rows.{IsNamed};
-
     /// Room for a group that names these cells, in any order, and as often as they come.
     pub(crate) fn of(alloc: Global, cells: &[Cell]) -> Result<Room, AllocError>
         ensures { IfOk result (λ room. (c : Cell) → IsNamed room c ↔ Contains cells.now c) }

@@ -1,12 +1,12 @@
 //! The private copies that workers keep of the cells of an open group.
-ghost use Rattle.std.specs.Prelude.{◌≡◌, ℕ, IsSome, OnOk, All, length, position, option_map, true};
-ghost use Rattle.ot_model.specs.Cells.{cell_of, lengths, updated};
+ghost use Rattle.std.specs.Prelude.{◌≡◌, ℕ, IsSome, OnOk, All, length, position, option_map, true, ◌<◌, false, if◌then◌else◌, is_some, Some};
+ghost use Rattle.ot_model.specs.Cells.{cell_of, lengths, updated, is_before};
 ghost use Rattle.ot_model.specs.Joining.{join_by};
-ghost use Rattle.ot_model.specs.Uses.{AreInOrder};
+ghost use Rattle.ot_model.specs.Uses.{AreInOrder, is_fold};
 ghost use Rattle.ot_model.specs.declared.expr.Cell.{Cell};
-ghost use Rattle.ot_owner.specs.Rows.{is_of, copy_in, copies_at, copies_where, begun_row};
-ghost use Rattle.ot_owner.specs.Kept.{row_of, rows_of};
-ghost use Rattle.ot_owner.specs.Worth.{combined_by};
+ghost use Rattle.ot_owner.specs.Rows.{is_of, copy_in, copies_at, copies_where, begun_row, place_in, folds_in, row_in, folded_in, begun_in, copies_in};
+ghost use Rattle.ot_owner.specs.Kept.{row_of, rows_of, summed_of, made_of};
+ghost use Rattle.ot_owner.specs.Worth.{combined_by, combined};
 
 use ot_model::fold::{Conjunction, Disjunction, Maximum, Minimum, Parity, Product, Sum};
 use ot_model::{Cell, Cells, Decl, Fold, Look, Mode, Monoid, Use};
@@ -104,15 +104,8 @@ pub(crate) struct Group {
 }
 
 impl Group {
-    ghost use Rattle.std.specs.Prelude.{◌≡◌, ◌<◌, true, false, if◌then◌else◌, is_some, Some, IsSome, OnOk, All, option_map};
     ghost use Rattle.std.specs.List.Sorted.{IsPartitionPoint};
-    ghost use Rattle.ot_model.specs.Cells.{cell_of, lengths, is_before};
-    ghost use Rattle.ot_model.specs.declared.expr.Cell.{Cell};
-    ghost use Rattle.ot_model.specs.Uses.{is_fold};
     ghost use Rattle.ot_owner.specs.Keeping.{HasRow, IsRegular};
-    ghost use Rattle.ot_owner.specs.Kept.{summed_of, made_of};
-    ghost use Rattle.ot_owner.specs.Rows.{place_in, folds_in, copy_in, row_in, folded_in, begun_in, copies_in};
-    ghost use Rattle.ot_owner.specs.Worth.{combined};
 
     /// How many cells that it names come before this one. It halves the list.
     fn before(&self, cell: Cell) -> usize

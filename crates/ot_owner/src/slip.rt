@@ -1,4 +1,4 @@
-ghost use Rattle.std.specs.Prelude.{◌≡◌, List, IfOk};
+ghost use Rattle.std.specs.Prelude.{◌≡◌, List, IfOk, ◌<◌, IsSome, All};
 ghost use Rattle.ot_model.specs.declared.stmt.Use.{Use};
 ghost use Rattle.ot_owner.specs.Rows.{folds_in};
 
@@ -34,9 +34,6 @@ impl Model for Slip {
 }
 
 impl Slip {
-    ghost use Rattle.std.specs.Prelude.{◌≡◌, ◌<◌, List, IfOk, IsSome, All};
-    ghost use Rattle.ot_model.specs.declared.stmt.Use.{Use};
-    ghost use Rattle.ot_owner.specs.Rows.{folds_in};
     ghost use Rattle.ot_model.specs.Cells.{cell_of};
     ghost use Rattle.ot_model.specs.Uses.{AreInOrder};
     ghost use Rattle.ot_owner.specs.Leases.{lent_from};

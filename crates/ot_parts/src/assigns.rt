@@ -1,4 +1,4 @@
-ghost use Rattle.std.specs.Prelude.{◌≡◌, ◌↔◌, IsTrue};
+ghost use Rattle.std.specs.Prelude.{◌≡◌, ◌↔◌, IsTrue, IfOk, MatchResult};
 ghost use Rattle.ot_parts.specs.Assigns.{assign_of, assigns_of};
 
 use crate::assign::Assign;
@@ -29,9 +29,7 @@ impl Model for Assigns {
 }
 
 impl Assigns {
-    ghost use Rattle.std.specs.Prelude.{◌≡◌, ◌↔◌, IsTrue, IfOk, MatchResult};
     ghost use Rattle.ot_model.specs.Tree.{End};
-    ghost use Rattle.ot_parts.specs.Assigns.{assigns_of};
     ghost use Rattle.ot_parts.specs.Leading.{leading, leading_len};
 
     /// None. It takes no memory.

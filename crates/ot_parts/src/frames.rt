@@ -1,3 +1,7 @@
+ghost use Rattle.std.specs.Prelude.{◌≡◌, ◌+◌, ◌<◌, ◌≤◌, false, IsTrue, length, option_map, ◌∷◌, ◌++◌, ◌^◌, [], List, Some, None, IfOk, OnOk, OnErr, MatchOption, vec_len};
+ghost use Rattle.std.specs.Arc.{arc_value};
+ghost use Rattle.ot_parts.specs.Left.{next_at, frame_parts, outer_parts, parts_left, rest_left, comes, IsTrim, IsShown, IsHidden, steps_left};
+
 use crate::assign::Assign;
 use crate::gather::gather;
 use crate::part::Part;
@@ -14,10 +18,6 @@ pub(crate) struct Frame {
 }
 
 impl Frame {
-    ghost use Rattle.std.specs.Prelude.{◌≡◌, ◌+◌, ◌<◌, ◌≤◌, false, IsTrue, length, option_map};
-    ghost use Rattle.std.specs.Arc.{arc_value};
-    ghost use Rattle.ot_parts.specs.Left.{next_at};
-
     /// Whether no part comes any more.
     fn is_over(&self) -> bool
         ensures over { IsTrue result → length (arc_value self.now.body).items ≤ self.now.at }
@@ -51,12 +51,9 @@ pub(crate) struct Frames {
 }
 
 impl Frames {
-    ghost use Rattle.std.specs.Prelude.{◌≡◌, ◌∷◌, ◌++◌, ◌<◌, ◌^◌, [], false, List, Some, None, IsTrue, IfOk, OnOk, OnErr, MatchOption, option_map, vec_len};
-    ghost use Rattle.std.specs.Arc.{arc_value};
     ghost use Rattle.ot_model.specs.Tree.{append};
     ghost use Rattle.ot_parts.specs.Assigns.{assigns_of};
     ghost use Rattle.ot_parts.specs.Leading.{leading, behind, test_of};
-    ghost use Rattle.ot_parts.specs.Left.{next_at, frame_parts, outer_parts, parts_left, rest_left, comes, IsTrim, IsShown, IsHidden, steps_left};
     ghost use Rattle.ot_parts.specs.Parts.{part_of, parts_of, condition_of, IsPart};
     ghost use Rattle.ot_parts.specs.Weighing.{weight};
     ghost use Rattle.ot_parts.specs.declared.part.Part.{Part};

@@ -1,6 +1,6 @@
-ghost use Rattle.std.specs.Prelude.{◌≡◌, IfOk, option_map};
+ghost use Rattle.std.specs.Prelude.{◌≡◌, IfOk, option_map, IfSome};
 ghost use Rattle.ot_model.specs.View.{expr_of};
-ghost use Rattle.ot_parts.specs.Parts.{part_of, condition_at};
+ghost use Rattle.ot_parts.specs.Parts.{part_of, condition_at, condition_of};
 
 use crate::assign::Assign;
 use crate::assigns::Assigns;
@@ -20,12 +20,9 @@ pub struct Leading {
 }
 
 impl Leading {
-    ghost use Rattle.std.specs.Prelude.{◌≡◌, IfOk, IfSome, option_map};
     ghost use Rattle.ot_model.specs.Uses.{AreInOrder};
-    ghost use Rattle.ot_model.specs.View.{expr_of};
     ghost use Rattle.ot_parts.specs.Assigns.{assigns_of};
     ghost use Rattle.ot_parts.specs.Modes.{AssignsFit, PicksFit};
-    ghost use Rattle.ot_parts.specs.Parts.{part_of, condition_of};
     ghost use Rattle.ot_parts.specs.Runs.{AreHeldBy};
 
     /// A part's run and condition, where a body declares this.

@@ -1,4 +1,7 @@
-ghost use Rattle.std.specs.Prelude.{◌≡◌};
+ghost use Rattle.std.specs.Prelude.{◌≡◌, IfOk, None, Some};
+ghost use Rattle.ot_parts.specs.Assigns.{assigns_of};
+ghost use Rattle.ot_parts.specs.Modes.{AssignsFit, PicksFit};
+ghost use Rattle.ot_parts.specs.Runs.{AreTouched};
 
 use crate::assign::Assign;
 use crate::assigns::Assigns;
@@ -59,11 +62,6 @@ impl Model for Tested {
 }
 
 impl Run {
-    ghost use Rattle.std.specs.Prelude.{◌≡◌, IfOk, None};
-    ghost use Rattle.ot_parts.specs.Assigns.{assigns_of};
-    ghost use Rattle.ot_parts.specs.Modes.{AssignsFit};
-    ghost use Rattle.ot_parts.specs.Runs.{AreTouched};
-
     /// The run of these sets and folds. Of none it takes no memory.
     pub(crate) fn new(alloc: Global, assigns: Vec<Assign>) -> Result<Run, AllocError>
         requires { AssignsFit (assigns_of assigns.items) }
@@ -91,11 +89,7 @@ impl Run {
 }
 
 impl Tested {
-    ghost use Rattle.std.specs.Prelude.{◌≡◌, IfOk, Some};
     ghost use Rattle.ot_model.specs.View.{expr_of};
-    ghost use Rattle.ot_parts.specs.Assigns.{assigns_of};
-    ghost use Rattle.ot_parts.specs.Modes.{AssignsFit, PicksFit};
-    ghost use Rattle.ot_parts.specs.Runs.{AreTouched};
 
     /// The run of these sets and folds and this condition.
     pub(crate) fn new(alloc: Global, assigns: Vec<Assign>, test: Expr) -> Result<Tested, AllocError>

@@ -3,8 +3,8 @@ ghost use Rattle.std.specs.Prelude.{◌≡◌, IfOk, option_map, slice_get};
 ghost use Rattle.serde_json.specs.Data.{array};
 ghost use Rattle.serde_json.specs.View.{view, items_view};
 ghost use Rattle.ot_program.specs.Meanings.{items};
-ghost use Rattle.ot_place.specs.Spots.{spots_of, statements_of, numbered, place_at, value_at};
-ghost use Rattle.ot_place.specs.Seeking.{place_by};
+ghost use Rattle.ot_place.specs.Spots.{spots_of, statements_of, numbered, place_at, value_at, text_spots, program_spots};
+ghost use Rattle.ot_place.specs.Seeking.{place_by, seek, met_in, counts_by};
 
 use crate::text::read_profile;
 use crate::trail::{Place, Trail};
@@ -69,9 +69,6 @@ fn item_of<'a>(list: &'a [Value], index: usize) -> Option<&'a Value>
     }
 }
 
-ghost use Rattle.ot_place.specs.Seeking.{seek, met_in, counts_by};
-ghost use Rattle.ot_place.specs.Spots.{text_spots};
-
 fn sought<'a>(
     alloc: Global,
     request: &'a Value,
@@ -135,8 +132,6 @@ fn in_items<'a>(
         _ => unreachable!(),
     }
 }
-
-ghost use Rattle.ot_place.specs.Spots.{program_spots};
 
 fn in_body<'a>(
     alloc: Global,

@@ -1,4 +1,4 @@
-ghost use Rattle.std.specs.Prelude.{◌≡◌, ◌+◌, ◌<◌, vec_len};
+ghost use Rattle.std.specs.Prelude.{◌≡◌, ◌+◌, ◌<◌, vec_len, ◌≤◌, true, false, IfOk, IfErr, IfSome, IfNone, IsTrue, sum, ℕ, Some, Ok, Err, ◌↔◌};
 ghost use Rattle.std.specs.List.{sum_by};
 
 use crate::usage::Usage;
@@ -40,8 +40,6 @@ pub enum Claimed {
 }
 
 impl Claimed {
-    ghost use Rattle.ot_pool.specs.Shared.{is_aborted};
-
     // Whether a job was aborted.
     pub(crate) fn is_aborted(&self) -> bool
         ensures { result ≡ is_aborted self.now }
@@ -65,11 +63,7 @@ impl<L: Ledger> Model for Hub<L> {
 }
 
 impl<L: Ledger> Hub<L> {
-    ghost use Rattle.std.specs.Prelude.{◌≤◌, true, false, IfOk, IfErr, IfSome, IfNone, IsTrue, sum};
-    ghost use Rattle.ot_check.specs.Jobs.{IsMeaning};
-    ghost use Rattle.ot_pool.specs.Shared.{new_shared, Submits, Enters, RefusesSpec, ClaimsAny, ReturnsPiece, Collects, Leaves, is_pending};
     ghost use Rattle.ot_job.specs.States.{Starts};
-    ghost use Rattle.ot_check.specs.Jobs.{Spec};
     ghost use Rattle.ot_core.specs.Turns.{NothingAnywhere};
 
     /// Nobody has a job, nothing was settled, and the mark isn't set.
@@ -271,11 +265,10 @@ impl<L: Ledger> Hub<L> {
     }
 }
 
-ghost use Rattle.std.specs.Prelude.{ℕ, Some, Ok, Err, IfOk};
-ghost use Rattle.ot_check.specs.Jobs.{IsMeaning};
+ghost use Rattle.ot_check.specs.Jobs.{IsMeaning, Spec};
 ghost use Rattle.ot_job.specs.Dealings.{IsOf, IsOver, state_of};
 ghost use Rattle.ot_book.specs.declared.executor.NotDone.TheVariants.{Stranger};
-ghost use Rattle.ot_pool.specs.Shared.{Shared, Leaves, Collects};
+ghost use Rattle.ot_pool.specs.Shared.{is_aborted, new_shared, Submits, Enters, RefusesSpec, ClaimsAny, ReturnsPiece, Collects, Leaves, is_pending, Shared, HasRoomForUnits};
 
 /// What whoever submitted this spec is told of a job that is over and was taken out. It takes no lock: with the turn
 /// that took the job out it is a collect. `Stranger` comes where the job is of another spec, which is let go then, and
@@ -295,9 +288,6 @@ pub fn outcome_of(job: Job, spec: &JobSpec) -> Result<Outcome, NotDone>
         State::Working | State::Failing => unreachable!(),
     }
 }
-
-ghost use Rattle.std.specs.Prelude.{◌↔◌, IsTrue};
-ghost use Rattle.ot_pool.specs.Shared.{HasRoomForUnits};
 
 // Whether the total has room for the units of one more piece.
 fn has_room(hall: &Hall) -> bool

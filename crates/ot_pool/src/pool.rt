@@ -1,5 +1,5 @@
-ghost use Rattle.std.specs.Prelude.{◌≡◌, ◌<◌, vec_len, IfOk, sum};
-ghost use Rattle.std.specs.List.{sum_by};
+ghost use Rattle.std.specs.Prelude.{◌≡◌, ◌<◌, vec_len, IfOk, sum, ◌≤◌, IfSome};
+ghost use Rattle.std.specs.List.{sum_by, All};
 
 use crate::hub::{Claimed, Hub, outcome_of};
 use crate::locked::Locked;
@@ -25,8 +25,6 @@ pub struct Pool<L: Ledger> {
 }
 
 impl<L: Ledger> Pool<L> {
-    ghost use Rattle.std.specs.Prelude.{◌≤◌, IfSome};
-    ghost use Rattle.std.specs.List.{All};
     ghost use Rattle.ot_check.specs.Jobs.{IsMeaning};
 
     /// A pool where nobody has a job, and a share of the ledger for each of 1 to 16 workers. There are at most

@@ -1,5 +1,5 @@
 //! Statements as people who write OpenMP read them.
-ghost use Rattle.std.specs.Prelude.{◌≡◌, ◌++◌, OnOk, Some, None};
+ghost use Rattle.std.specs.Prelude.{◌≡◌, ◌++◌, OnOk, Some, None, [], string_bytes};
 ghost use Rattle.std.specs.Fmt.{decimal};
 ghost use Rattle.ot_print.specs.Shown as shown;
 ghost use Rattle.ot_print.specs.Sections as rows;
@@ -29,7 +29,6 @@ impl<'a> Model for Printer<'a> {
 }
 
 impl<'a> Printer<'a> {
-    ghost use Rattle.std.specs.Prelude.{[], string_bytes};
     ghost use Rattle.ot_print.specs.Shown.{names_of};
 
     /// No text yet. It takes no memory.

@@ -1,4 +1,4 @@
-ghost use Rattle.std.specs.Prelude.{◌≡◌, codes};
+ghost use Rattle.std.specs.Prelude.{◌≡◌, codes, ◌-◌, ◌^◌, min, map};
 ghost use Rattle.serde_json.specs.Data.{string, array};
 ghost use Rattle.serde_json.specs.View.{view, items_view};
 ghost use Rattle.ot_program.specs.walk.Reading.{each_of};
@@ -133,7 +133,6 @@ fn read_folded(profile: Profile, tag: &Value, op: &Value) -> Option<Mode>
     read_operation(op).map(Mode::Folds)
 }
 
-ghost use Rattle.std.specs.Prelude.{◌-◌, ◌^◌, min, map};
 ghost use Rattle.ot_program.specs.Limits.{cells_in};
 
 /// How many cells the sections of clauses have, or the greatest number of 32 bits where they have

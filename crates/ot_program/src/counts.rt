@@ -21,7 +21,6 @@ pub(crate) struct Counts {
 }
 
 impl Counts {
-    ghost use Rattle.std.specs.Prelude.{◌≡◌};
     ghost use Rattle.ot_program.specs.walk.Counting.{no_counts, counted, within_limits, one_turn, one_task};
 
     pub(crate) fn none() -> Counts

@@ -1,3 +1,6 @@
+ghost use Rattle.std.specs.Prelude.{◌≡◌};
+ghost use Rattle.ot_program.specs.declared.fault.ProgramFault.TheVariants.{Memory, Refused};
+
 use std::alloc::{AllocError, AllocFailed};
 
 /// Why a text is no program over a shape.
@@ -22,7 +25,6 @@ pub enum Refusal {
 }
 
 impl Refusal {
-    ghost use Rattle.std.specs.Prelude.{◌≡◌};
     ghost use Rattle.ot_program.specs.Refusals.{rank, code_of, least};
 
     /// The number that a client is told.
@@ -78,9 +80,6 @@ pub enum ProgramFault {
 }
 
 impl From<AllocError> for ProgramFault {
-    ghost use Rattle.std.specs.Prelude.{◌≡◌};
-    ghost use Rattle.ot_program.specs.declared.fault.ProgramFault.TheVariants.{Memory};
-
     ghost from_gives = { λ _ e. e ≡ Memory };
 
     fn from(_e: AllocError) -> ProgramFault {
@@ -89,9 +88,6 @@ impl From<AllocError> for ProgramFault {
 }
 
 impl<T: Drop> From<AllocFailed<T>> for ProgramFault {
-    ghost use Rattle.std.specs.Prelude.{◌≡◌};
-    ghost use Rattle.ot_program.specs.declared.fault.ProgramFault.TheVariants.{Memory};
-
     ghost from_gives = { λ _ e. e ≡ Memory };
 
     fn from(_e: AllocFailed<T>) -> ProgramFault {
@@ -100,9 +96,6 @@ impl<T: Drop> From<AllocFailed<T>> for ProgramFault {
 }
 
 impl From<Refusal> for ProgramFault {
-    ghost use Rattle.std.specs.Prelude.{◌≡◌};
-    ghost use Rattle.ot_program.specs.declared.fault.ProgramFault.TheVariants.{Refused};
-
     ghost from_gives = { λ c e. e ≡ Refused c };
 
     fn from(refusal: Refusal) -> ProgramFault {

@@ -1,6 +1,6 @@
-ghost use Rattle.std.specs.Prelude.{◌≡◌};
+ghost use Rattle.std.specs.Prelude.{◌≡◌, ◌&&◌};
 ghost use Rattle.serde_json.specs.View.{view};
-ghost use Rattle.ot_program.specs.Profiles.{profile_of};
+ghost use Rattle.ot_program.specs.Profiles.{profile_of, is_one, is_two};
 
 use crate::name::is_word;
 use serde_json::Value;
@@ -15,9 +15,7 @@ pub(crate) enum Profile {
 }
 
 impl Profile {
-    ghost use Rattle.std.specs.Prelude.{◌&&◌};
     ghost use Rattle.ot_program.specs.Names.{is_word};
-    ghost use Rattle.ot_program.specs.Profiles.{is_one, is_two};
 
     /// Whether a value is a word that profile 1 alone has for its form, in that profile.
     pub(crate) fn one_has(self, value: &Value, word: &str) -> bool

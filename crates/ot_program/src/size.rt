@@ -1,9 +1,9 @@
-ghost use Rattle.std.specs.Prelude.{◌≡◌, ◌-◌, ◌^◌, min};
+ghost use Rattle.std.specs.Prelude.{◌≡◌, ◌-◌, ◌^◌, min, Some};
 ghost use Rattle.serde_json.specs.Data.{array};
 ghost use Rattle.serde_json.specs.View.{view, items_view};
 ghost use Rattle.ot_program.specs.walk.Variables.{bindings_of};
 ghost use Rattle.ot_program.specs.Limits.{size_depth};
-ghost use Rattle.ot_program.specs.walk.Sizes.{sign_named, sign_of, exact, size_of, shallow};
+ghost use Rattle.ot_program.specs.walk.Sizes.{sign_named, sign_of, exact, size_of, shallow, size_operation};
 
 use crate::both::both;
 use crate::fault::Refusal;
@@ -60,9 +60,6 @@ fn size_form(items: &[Value], variables: &Variables) -> Result<u32, Refusal>
         _ => unreachable!(),
     }
 }
-
-ghost use Rattle.std.specs.Prelude.{Some};
-ghost use Rattle.ot_program.specs.walk.Sizes.{size_operation};
 
 fn operation(
     sign: Sign,

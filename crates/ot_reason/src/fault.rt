@@ -3,7 +3,7 @@ ghost use Rattle.std.specs.Prelude.{◌≡◌, ◌<◌, ◌^◌, Some, bytes_eq,
 ghost use Rattle.std.specs.Map.{lookup};
 ghost use Rattle.serde_json.specs.View.{view, items_view};
 ghost use Rattle.ot_model.specs.ShapeView.{arrays_of};
-ghost use Rattle.ot_book.specs.Requests.{request_of, form_of};
+ghost use Rattle.ot_book.specs.Requests.{request_of, form_of, new_of, free_of, put_of, get_of};
 ghost use Rattle.ot_reason.specs.Faults.{cells_of, fault_in, free_fault, new_fault, reach_fault};
 ghost use Rattle.ot_reason.specs.FaultView.{fault_by};
 
@@ -80,8 +80,6 @@ fn of_form<'a>(items: &'a [Value], arrays: &'a [ArrayShape], limits: &Limits) ->
         _ => unreachable!(),
     }
 }
-
-ghost use Rattle.ot_book.specs.Requests.{new_of, free_of, put_of, get_of};
 
 fn of_free<'a>(name: &'a Value, arrays: &[ArrayShape]) -> Option<Fault<'a>>
     ensures { (l : Limits) → option_map fault_by result ≡ option_and_then (fault_in l (arrays_of arrays.now)) (free_of (view name.now)) }

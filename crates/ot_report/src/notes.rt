@@ -1,8 +1,8 @@
 //! The notes behind a refusal.
-ghost use Rattle.std.specs.Prelude.{◌≡◌, ◌++◌, ◌≤◌, ℕ, List, OnOk, IfOk, length, map, string_bytes, option_and_then};
+ghost use Rattle.std.specs.Prelude.{◌≡◌, ◌++◌, ◌≤◌, ℕ, List, OnOk, IfOk, length, map, string_bytes, option_and_then, Some, option_map, [], ◌∷◌};
 ghost use Rattle.ot_judge.specs.Judging.{Refusal, code_in, told_in};
 ghost use Rattle.ot_judge.specs.Going.{IsBehind};
-ghost use Rattle.ot_report.specs.Names.{Names};
+ghost use Rattle.ot_report.specs.Names.{Names, NamesBy, StandIn, last_entry};
 ghost use Rattle.ot_report.specs.NoteView.{note_by, stands_of};
 ghost use Rattle.ot_report.specs.Report.{notes_text};
 
@@ -57,9 +57,7 @@ pub(crate) fn notes_of(
     }
 }
 
-ghost use Rattle.std.specs.Prelude.{Some, option_map};
 ghost use Rattle.ot_book.specs.ReplyView.{told_of};
-ghost use Rattle.ot_report.specs.Names.{NamesBy, StandIn, last_entry};
 
 /// The last line of a book's log.
 fn last_entry(book: &Book) -> Option<&Entry>
@@ -108,8 +106,6 @@ fn blame_notes(
         None => Ok(Vec::new(alloc)),
     }
 }
-
-ghost use Rattle.std.specs.Prelude.{[], ◌∷◌};
 
 /// The note on a statement, and that on the other one, which has a part in its offence.
 fn two_notes(alloc: Global, line: &[u8], place: u32, blame: &Blame) -> Result<Vec<Note>, AllocError>

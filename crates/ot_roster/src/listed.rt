@@ -1,6 +1,6 @@
-ghost use Rattle.std.specs.Prelude.{◌≡◌, ◌≢◌, ◌<◌, ℕ, length, get_or};
+ghost use Rattle.std.specs.Prelude.{◌≡◌, ◌≢◌, ◌<◌, ℕ, length, get_or, ◌≤◌, ◌^◌, [], true, false, slice_get, OnOk};
 ghost use Rattle.std.specs.Int.{bit_at};
-ghost use Rattle.ot_roster.specs.Listed.{has_bit, bits_in};
+ghost use Rattle.ot_roster.specs.Listed.{has_bit, bits_in, has, IsListBelow};
 
 use std::alloc::{AllocError, Global};
 use std::marker::Model;
@@ -26,10 +26,6 @@ impl Model for Listed {
 }
 
 impl Listed {
-    ghost use Rattle.std.specs.Prelude.{◌≡◌, ◌≢◌, ◌<◌, ◌≤◌, ◌^◌, ℕ, [], true, false, length, slice_get, OnOk};
-    ghost use Rattle.ot_roster.specs.Listed.{has};
-    ghost use Rattle.ot_roster.specs.Listed.{IsListBelow};
-
     /// No number, and room for none.
     pub fn new(alloc: Global) -> Listed
         ensures none { result.listed ≡ [] }

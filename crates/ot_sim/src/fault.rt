@@ -1,6 +1,7 @@
 //! How sim goes wrong.
 ghost use Rattle.std.specs.Prelude.{◌≡◌};
 ghost use Rattle.ot_sim.specs.Running.{untold_fault};
+ghost use Rattle.ot_sim.specs.declared.fault.Untold.TheVariants.{Memory};
 
 use std::alloc::{AllocError, AllocFailed};
 
@@ -35,9 +36,6 @@ impl Untold {
 }
 
 impl From<AllocError> for Untold {
-    ghost use Rattle.std.specs.Prelude.{◌≡◌};
-    ghost use Rattle.ot_sim.specs.declared.fault.Untold.TheVariants.{Memory};
-
     ghost from_gives = { λ _ untold. untold ≡ Memory };
 
     fn from(_error: AllocError) -> Untold {
@@ -46,9 +44,6 @@ impl From<AllocError> for Untold {
 }
 
 impl<T: Drop> From<AllocFailed<T>> for Untold {
-    ghost use Rattle.std.specs.Prelude.{◌≡◌};
-    ghost use Rattle.ot_sim.specs.declared.fault.Untold.TheVariants.{Memory};
-
     ghost from_gives = { λ _ untold. untold ≡ Memory };
 
     fn from(_error: AllocFailed<T>) -> Untold {

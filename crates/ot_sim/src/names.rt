@@ -1,6 +1,6 @@
 //! The tenants by name, in the order made.
-ghost use Rattle.std.specs.Prelude.{◌≡◌, ◌≤◌, map, length, string_bytes};
-ghost use Rattle.ot_sim.specs.Tables.{place_of};
+ghost use Rattle.std.specs.Prelude.{◌≡◌, ◌≤◌, map, length, string_bytes, [], IfOk, OnErr, vec_len};
+ghost use Rattle.ot_sim.specs.Tables.{place_of, Adds};
 
 use ot_store::{Limits, Store};
 use std::alloc::{AllocError, Global};
@@ -26,9 +26,7 @@ impl Model for Names {
 }
 
 impl Names {
-    ghost use Rattle.std.specs.Prelude.{◌≡◌, ◌≤◌, [], IfOk, OnErr, vec_len, length, map, string_bytes};
     ghost use Rattle.ot_core.specs.Openings.{new_scene};
-    ghost use Rattle.ot_sim.specs.Tables.{place_of, Adds};
     ghost use Rattle.ot_sim.specs.Playing.{opening};
 
     pub(crate) fn new(alloc: Global) -> Names

@@ -6,9 +6,9 @@ ghost use Rattle.ot_front.specs.Device.{count_after};
 ghost use Rattle.ot_sim.specs.declared.line.Line.TheVariants as line;
 ghost use Rattle.ot_sim.specs.Tables.{place_of};
 ghost use Rattle.ot_sim.specs.Texts.{answer_text};
-ghost use Rattle.ot_sim.specs.Running.{untold_writes, WritesText, counts_at};
+ghost use Rattle.ot_sim.specs.Running.{untold_writes, WritesText, counts_at, begun};
 ghost use Rattle.ot_sim.specs.Asking.{event_of, answer_of, saying_of};
-ghost use Rattle.ot_sim.specs.Playing.{PlaysIn, Happens, replies_at, count_at, last_reply, reply_lines, news, usage_text};
+ghost use Rattle.ot_sim.specs.Playing.{PlaysIn, Happens, replies_at, count_at, last_reply, reply_lines, news, usage_text, Plays, PlaysLine, PlaysOn, empty_play};
 
 use crate::answer::{Answer, write_answer};
 use crate::fault::Untold;
@@ -34,12 +34,6 @@ pub(crate) enum Saying<'a> {
 }
 
 impl Play {
-    ghost use Rattle.std.specs.Prelude.{◌≡◌, OnOk, IfOk};
-    ghost use Rattle.ot_front.specs.Device.{count_after};
-    ghost use Rattle.ot_sim.specs.declared.line.Line.TheVariants as line;
-    ghost use Rattle.ot_sim.specs.Running.{untold_writes, WritesText, begun};
-    ghost use Rattle.ot_sim.specs.Playing.{Plays, PlaysLine, PlaysOn, empty_play};
-
     /// Nobody is there.
     pub(crate) fn new(alloc: Global) -> Play
         ensures { result ≡ empty_play }

@@ -6,7 +6,7 @@ ghost use Rattle.ot_lines.specs.Lines.{opened};
 ghost use Rattle.ot_front.specs.Device.{next_count, count_after};
 ghost use Rattle.ot_sim.specs.Playing.{empty_play};
 ghost use Rattle.ot_sim.specs.Talk.{TalksOver};
-ghost use Rattle.ot_sim.specs.Running.{sim_bounds, IsRun};
+ghost use Rattle.ot_sim.specs.Running.{sim_bounds, IsRun, TakesLine};
 ghost use Rattle.ot_sim.specs.declared.fault.SimFault.TheVariants.{ReadFailed, WriteFailed, TooManyTurns};
 
 use crate::fault::{SimFault, Untold};
@@ -82,8 +82,6 @@ struct Player {
 }
 
 impl<W: Sink> Listener<Play, W, Untold> for Player {
-    ghost use Rattle.ot_sim.specs.Running.{TakesLine};
-
     ghost took = { λ old sink line new next result. TakesLine old (W.contents sink) (W.failures sink) line new (W.contents next) (W.failures next) result };
 
     fn take(&mut self, play: &mut Play, sink: &mut W, line: &[u8]) -> Result<(), Untold> {

@@ -1,3 +1,6 @@
+ghost use Rattle.std.specs.Prelude.{◌≡◌};
+ghost use Rattle.ot_store.specs.declared.fault.StoreFault.TheVariants.{Memory};
+
 use std::alloc::{AllocError, AllocFailed};
 
 /// Why a call on the arrays was refused. Nothing has changed then.
@@ -16,7 +19,6 @@ pub enum StoreRefusal {
 }
 
 impl StoreRefusal {
-    ghost use Rattle.std.specs.Prelude.{◌≡◌};
     ghost use Rattle.ot_store.specs.Refusals.{code_of};
 
     /// The number that a client is told, 412 to 416.
@@ -42,9 +44,6 @@ pub enum StoreFault {
 }
 
 impl From<AllocError> for StoreFault {
-    ghost use Rattle.std.specs.Prelude.{◌≡◌};
-    ghost use Rattle.ot_store.specs.declared.fault.StoreFault.TheVariants.{Memory};
-
     ghost from_gives = { λ _ e. e ≡ Memory };
 
     fn from(_error: AllocError) -> StoreFault {
@@ -53,9 +52,6 @@ impl From<AllocError> for StoreFault {
 }
 
 impl<T: Drop> From<AllocFailed<T>> for StoreFault {
-    ghost use Rattle.std.specs.Prelude.{◌≡◌};
-    ghost use Rattle.ot_store.specs.declared.fault.StoreFault.TheVariants.{Memory};
-
     ghost from_gives = { λ _ e. e ≡ Memory };
 
     fn from(_error: AllocFailed<T>) -> StoreFault {

@@ -1,5 +1,5 @@
-ghost use Rattle.std.specs.Prelude.{◌≡◌, ◌+◌, ◌≤◌, length, vec_len};
-ghost use Rattle.ot_store.specs.Arrays.{overwritten};
+ghost use Rattle.std.specs.Prelude.{◌≡◌, ◌+◌, ◌≤◌, length, vec_len, ◌<◌, [], IfOk, IfErr, OnOk, OnErr, Ok, Err};
+ghost use Rattle.ot_store.specs.Arrays.{overwritten, created, freed, put, got, listed, shape_in, cells_in, recelled, AreSound};
 
 use crate::fault::{StoreFault, StoreRefusal};
 use crate::limits::Limits;
@@ -31,10 +31,8 @@ impl Model for Store {
 }
 
 impl Store {
-    ghost use Rattle.std.specs.Prelude.{◌≡◌, ◌<◌, [], IfOk, IfErr, OnOk, OnErr, Ok, Err};
     ghost use Rattle.ot_model.specs.Cells.{lengths};
     ghost use Rattle.ot_model.specs.ShapeView.{arrays_of};
-    ghost use Rattle.ot_store.specs.Arrays.{created, freed, put, got, listed, shape_in, cells_in, recelled, AreSound};
     ghost use Rattle.ot_store.specs.Refusals.{Fails};
 
     /// No arrays. It takes no memory.

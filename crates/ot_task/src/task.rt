@@ -1,3 +1,5 @@
+ghost use Rattle.ot_task.specs.Regions.{Region, root_region, new_region, child_of, stepped, next_task, with_noted, is_control, tasks_next, group_next, with_child, with_rest, without, over, stopped};
+
 use crate::place::Place;
 use crate::running::Running;
 use crate::waiting::Waiting;
@@ -54,8 +56,6 @@ impl Task {
     ghost use Rattle.ot_depend.specs.Siblings.{IsReady, IsUnfinished, is_ready, with_finished};
     ghost use Rattle.ot_depend.specs.Waiting.{LetsTheSame, WaitForLess};
     ghost use Rattle.ot_task.specs.Pieces.{leading, behind, test_of, awake, begun, Runs, group_passed};
-    ghost use Rattle.ot_task.specs.Regions.{Region, root_region, new_region, child_of, stepped, next_task, with_noted};
-    ghost use Rattle.ot_task.specs.Regions.{is_control, tasks_next, group_next, with_child, with_rest, without, over, stopped};
     ghost use Rattle.ot_task.specs.Standing.{is_at_end};
     ghost use Rattle.ot_task.specs.Waits.{is_let_go, end_lets_go};
     ghost use Rattle.ot_task.specs.Weighing.{region_weight};
